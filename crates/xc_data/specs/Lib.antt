@@ -1,0 +1,4 @@
+pub mod Limits
+pub mod Private
+pub mod Spelling
+pub mod Standing

@@ -1,0 +1,26 @@
+-- What a script without its statements keeps to.
+use Rattle.std.specs.Prelude.{ℕ, ◌+◌, ◌≤◌, Bool, true, false, length, All, count_by}
+use Rattle.xc_data.specs.declared.script.Opened.{Opened}
+use Rattle.xc_data.specs.declared.script.Opened.TheVariants.{File, Pipe, Pair}
+use Rattle.xc_data.specs.declared.script.Script0.{Script0}
+
+abbrev pub IsOpenedFit : Opened → Type 0
+IsOpenedFit (File name bytes) = length bytes ≤ 65536
+IsOpenedFit (Pipe bytes) = length bytes ≤ 4096
+IsOpenedFit Pair = Unit {0}
+
+abbrev pub is_pipe_line : Opened → Bool
+is_pipe_line (Pipe bytes) = true
+is_pipe_line _ = false
+
+abbrev pub is_pair_line : Opened → Bool
+is_pair_line Pair = true
+is_pair_line _ = false
+
+pub record KeepsLimits (script : Script0) : Type 0 where
+  pub words : length script.words ≤ 4096
+  pub objects : length script.prologue.objects ≤ 4096
+  pub contents : All IsOpenedFit script.prologue.objects
+  pub pipes : count_by is_pipe_line script.prologue.objects ≤ 64
+  pub pairs : count_by is_pair_line script.prologue.objects ≤ 32
+  pub blocks : length script.jobs + length script.bodies ≤ 1000

@@ -1,0 +1,19 @@
+-- A job's handles.
+use Rattle.std.specs.Prelude.{ℕ, Bool, true, false, List, unwrap_or, slice_get, slice_set, position, Option}
+use Rattle.xc_data.specs.declared.private.Place.{Place}
+use Rattle.xc_data.specs.declared.private.Place.TheVariants.{Vacant}
+use Rattle.xc_data.specs.declared.private.Private.{Private}
+
+-- what stands at a handle
+abbrev pub place_of : List Place → ℕ → Place
+place_of places h = unwrap_or (slice_get places h) Vacant
+
+abbrev pub is_vacant : Place → Bool
+is_vacant Vacant = true
+is_vacant _ = false
+
+abbrev pub lowest_vacant : List Place → Option ℕ
+lowest_vacant places = position is_vacant places
+
+abbrev pub with_place : Private → ℕ → Place → Private
+with_place me h place = record me { places = slice_set me.places h place }

@@ -1,0 +1,147 @@
+use crate::{Chunk, Ident, Name, Num, Object};
+
+/// A call as a transaction makes it. A handle is the number of a place of the job's; 65,535 stands
+/// for a variable that holds no handle.
+#[derive(Debug, Drop, PartialEq)]
+pub enum Call {
+    Load {
+        at: u64,
+    },
+    Store {
+        at: u64,
+        value: u64,
+    },
+    XOpen {
+        name: Name,
+    },
+    XCreate {
+        name: Name,
+    },
+    XRead {
+        h: u16,
+        n: u64,
+    },
+    XWriteOvr {
+        h: u16,
+        bytes: Chunk,
+    },
+    XWriteSeq {
+        h: u16,
+        bytes: Chunk,
+    },
+    XSeek {
+        h: u16,
+        to: u64,
+    },
+    XLen {
+        h: u16,
+    },
+    XRename {
+        from: Name,
+        to: Name,
+    },
+    XClose {
+        h: u16,
+    },
+    XPipe,
+    XReadPipe {
+        h: u16,
+        n: u64,
+    },
+    XPair,
+    XRecvmsg {
+        h: u16,
+    },
+    XUnlink {
+        name: Name,
+        slot: Option<Ident>,
+    },
+    XSync {
+        h: u16,
+        slot: Option<Ident>,
+    },
+    XWritePipe {
+        h: u16,
+        bytes: Chunk,
+        slot: Option<Ident>,
+    },
+    XShutdown {
+        h: u16,
+        slot: Option<Ident>,
+    },
+    XSendmsg {
+        h: u16,
+        bytes: Chunk,
+        slot: Option<Ident>,
+    },
+    XThreadCreate {
+        body: Ident,
+        slot: Option<Ident>,
+    },
+}
+
+/// What a call replies.
+#[derive(Debug, Drop, PartialEq)]
+pub enum Reply {
+    Number(u64),
+    Got(Chunk),
+    Made(u16),
+    /// The handles of side 0 and of side 1.
+    MadePair(u16, u16),
+    Done,
+    /// The end of a file, or of a pipe or pair that is shut.
+    End,
+    /// Nothing is there yet.
+    Empty,
+    NoName,
+    Exists,
+    BadHandle,
+    PastEnd,
+    TooBig,
+    TooMuch,
+    BadWord,
+    /// The host failed after so many bytes were done.
+    Fault(u32),
+    /// The call is kept until the commit.
+    Late,
+}
+
+/// What a call met at the host. `Fault` has the number of bytes that were done.
+#[derive(Clone, Copy)]
+pub enum Answer {
+    Fine,
+    Fault(u32),
+}
+
+/// A call that is done after the commit, on the object that was fixed when it was made.
+#[derive(Debug, Drop)]
+pub enum LateCall {
+    Unlink(Name),
+    Sync(Num),
+    WritePipe(Num, Chunk),
+    /// Of a pipe or a pair.
+    Shutdown(Object),
+    /// A message from this side, for the other one.
+    Send { pair: Num, side: u8, bytes: Chunk },
+    Thread(Ident),
+}
+
+/// How a late call ended. A number is that of the bytes done.
+#[derive(Clone, Copy, Debug, PartialEq, Eq)]
+pub enum LateEnd {
+    Done,
+    Full(u32),
+    Shut,
+    NoName,
+    NoScript,
+    Fault(u32),
+    NoMemory(u32),
+}
+
+/// What a late call met at the host. A number is that of the bytes done.
+#[derive(Clone, Copy)]
+pub enum LateAnswer {
+    Fine,
+    Fault(u32),
+    NoMemory(u32),
+}

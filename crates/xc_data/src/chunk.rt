@@ -1,0 +1,78 @@
+ghost use Rattle.std.specs.Prelude.{◌≡◌, ◌↔◌, [], IsTrue, ◌≤◌, ◌<◌, ◌^◌, List, ℕ, length, slice_range, IfOk};
+
+use crate::NoMemory;
+use bytes::Bytes;
+use std::alloc::Global;
+use std::marker::Model;
+
+/// Bytes that may have several owners. Another owner shares them and copies none.
+#[derive(Clone, Debug, Drop, PartialEq, Eq)]
+pub struct Chunk {
+    bytes: Bytes,
+}
+
+impl Model for Chunk {
+    ghost use Rattle.std.specs.Prelude.{List, ℕ};
+
+    ghost Value = { List ℕ };
+
+    ghost view = { λ a. a.bytes };
+
+    ghost inverse = { λ xs. record { bytes = xs } };
+}
+
+impl Chunk {
+    pub fn new(alloc: Global, bytes: &[u8]) -> Result<Chunk, NoMemory>
+        ensures { IfOk result (λ chunk. chunk ≡ bytes.now) }
+    {
+        Ok(Chunk {
+            bytes: Bytes::copy_from_slice(alloc, bytes)?,
+        })
+    }
+
+    /// The vector's bytes. It copies none.
+    pub fn from_vec(bytes: Vec<u8>) -> Result<Chunk, NoMemory>
+        ensures { IfOk result (λ chunk. chunk ≡ bytes.items) }
+    {
+        Ok(Chunk {
+            bytes: Bytes::from_vec(bytes)?,
+        })
+    }
+
+    /// A front of the bytes from a place on. It copies none.
+    pub fn part(&self, from: usize, to: usize) -> Result<Chunk, NoMemory>
+        requires order { from ≤ to }
+        requires within { to ≤ length self.now }
+        ensures { IfOk result (λ chunk. chunk ≡ slice_range self.now from to) }
+    {
+        Ok(Chunk {
+            bytes: self.bytes.slice(from..to)?,
+        })
+    }
+
+    pub fn len(&self) -> usize
+        ensures value { result ≡ length self.now }
+        ensures bound { result < 2 ^ 63 }
+    {
+        self.bytes.len()
+    }
+
+    pub fn is_empty(&self) -> bool
+        ensures { IsTrue result ↔ (self.now ≡ []) }
+    {
+        self.bytes.is_empty()
+    }
+
+    pub fn as_slice(&self) -> &[u8]
+        ensures { result.now ≡ self.now }
+    {
+        self.bytes.as_slice()
+    }
+
+    /// Another owner of the same bytes.
+    pub fn share(&self) -> Result<Chunk, NoMemory>
+        ensures { IfOk result (λ chunk. chunk ≡ self.now) }
+    {
+        Ok(self.clone()?)
+    }
+}

@@ -1,0 +1,37 @@
+//! Plain data of the runtime: names, objects, calls and replies, entries of the journal, prologues.
+//!
+//! Nothing here acts. Contracts see the list types as lists, a `Name`, an `Ident` and a `Chunk` as
+//! their bytes, and every other type as it stands.
+#![tactic(auto)]
+
+mod call;
+mod chunk;
+mod entry;
+mod ident;
+mod items;
+mod memory;
+mod name;
+mod object;
+mod private;
+mod script;
+#[cfg(test)]
+mod tests;
+mod undo;
+
+pub use call::{Answer, Call, LateAnswer, LateCall, LateEnd, Reply};
+pub use chunk::Chunk;
+pub use entry::{
+    CallList, Cause, Entry, Event, HeldList, JobEnd, JobLine, JobList, JobNumbers, KeptItem,
+    KeptList, LateList, Outcome, ReplyList, Report, Text, Turn,
+};
+pub use ident::Ident;
+pub use items::Items;
+pub use memory::NoMemory;
+pub use name::Name;
+pub use object::{Num, Object};
+pub use private::{Place, Private};
+pub use script::{
+    CallNumbers, FaultLine, FaultList, IdentList, Kind, Opened, OpenedList, Prologue, Script0,
+    WordList,
+};
+pub use undo::{RecordList, Undo, UndoEnd};
