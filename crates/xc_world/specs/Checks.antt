@@ -1,0 +1,84 @@
+-- The private checks of a call: what refuses it before anything is touched.
+use Rattle.std.specs.Prelude.{ℕ, ◌+◌, ◌||◌, Bool, true, false, not, is_none, List, [], length, count_by, nat_lt, nat_le}
+use Rattle.xc_data.specs.declared.call.Call.{Call}
+use Rattle.xc_data.specs.declared.call.Call.TheVariants.{Load, Store, XOpen, XCreate, XRead, XWriteOvr, XWriteSeq, XSeek, XLen, XClose, XPipe, XReadPipe, XPair, XRecvmsg, XSync, XWritePipe, XShutdown, XSendmsg}
+use Rattle.xc_data.specs.declared.private.Place.{Place}
+use Rattle.xc_data.specs.declared.private.Place.TheVariants as place
+use Rattle.xc_data.specs.declared.private.Private.{Private}
+use Rattle.xc_data.specs.Private.{place_of, is_vacant, lowest_vacant}
+
+abbrev pub is_file : Place → Bool
+is_file (place.File num at) = true
+is_file _ = false
+
+abbrev pub is_pipe : Place → Bool
+is_pipe (place.Pipe num) = true
+is_pipe _ = false
+
+abbrev pub is_pair : Place → Bool
+is_pair (place.Pair num side) = true
+is_pair _ = false
+
+-- the bytes that a call carries
+abbrev pub bytes_of : Call → List ℕ
+bytes_of (XWriteOvr h bytes) = bytes
+bytes_of (XWriteSeq h bytes) = bytes
+bytes_of (XWritePipe h bytes slot) = bytes
+bytes_of (XSendmsg h bytes slot) = bytes
+bytes_of _ = []
+
+-- the handle isn't open, or is of another kind than the call needs
+abbrev pub is_bad_handle : Call → Private → Bool
+is_bad_handle (XRead h n) me = not (is_file (place_of me.places h))
+is_bad_handle (XWriteOvr h bytes) me = not (is_file (place_of me.places h))
+is_bad_handle (XWriteSeq h bytes) me = not (is_file (place_of me.places h))
+is_bad_handle (XSeek h to) me = not (is_file (place_of me.places h))
+is_bad_handle (XLen h) me = not (is_file (place_of me.places h))
+is_bad_handle (XClose h) me = is_vacant (place_of me.places h)
+is_bad_handle (XReadPipe h n) me = not (is_pipe (place_of me.places h))
+is_bad_handle (XRecvmsg h) me = not (is_pair (place_of me.places h))
+is_bad_handle (XSync h slot) me = not (is_file (place_of me.places h))
+is_bad_handle (XWritePipe h bytes slot) me = not (is_pipe (place_of me.places h))
+is_bad_handle (XShutdown h slot) me = not (is_pipe (place_of me.places h) || is_pair (place_of me.places h))
+is_bad_handle (XSendmsg h bytes slot) me = not (is_pair (place_of me.places h))
+is_bad_handle _ me = false
+
+-- bytes or a read of more than 1,024, a seek past 65,536
+abbrev pub is_too_big : Call → Bool
+is_too_big (XRead h n) = nat_lt 1024 n
+is_too_big (XReadPipe h n) = nat_lt 1024 n
+is_too_big (XSeek h to) = nat_lt 65536 to
+is_too_big call = nat_lt 1024 (length (bytes_of call))
+
+-- so many more bytes would pass what a transaction may store
+abbrev pub passes_store : Private → ℕ → Bool
+passes_store me n = nat_lt 16384 (me.stored + n)
+
+-- sixteen objects are made already
+abbrev pub has_made_all : Private → Bool
+has_made_all me = nat_le 16 me.made
+
+-- the bytes or a read would pass the store; an object or a handle too many
+abbrev pub is_too_much : Call → Private → Bool
+is_too_much (XRead h n) me = passes_store me n
+is_too_much (XReadPipe h n) me = passes_store me n
+is_too_much (XRecvmsg h) me = passes_store me 1024
+is_too_much (XWriteOvr h bytes) me = passes_store me (length bytes)
+is_too_much (XWriteSeq h bytes) me = passes_store me (length bytes)
+is_too_much (XWritePipe h bytes slot) me = passes_store me (length bytes)
+is_too_much (XSendmsg h bytes slot) me = passes_store me (length bytes)
+is_too_much (XOpen name) me = is_none (lowest_vacant me.places)
+is_too_much (XCreate name) me = has_made_all me || is_none (lowest_vacant me.places)
+is_too_much XPipe me = has_made_all me || is_none (lowest_vacant me.places)
+is_too_much XPair me = has_made_all me || nat_lt (count_by is_vacant me.places) 2
+is_too_much _ me = false
+
+-- there is no such word
+abbrev pub is_bad_word : Call → ℕ → Bool
+is_bad_word (Load at) words = nat_le words at
+is_bad_word (Store at value) words = nat_le words at
+is_bad_word _ words = false
+
+-- one of the checks refuses the call
+abbrev pub is_refused : Call → Private → ℕ → Bool
+is_refused call me words = is_bad_handle call me || is_too_big call || is_too_much call me || is_bad_word call words

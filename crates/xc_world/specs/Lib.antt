@@ -1,0 +1,13 @@
+pub mod World
+pub mod Sound
+pub mod Checks
+pub mod Act
+pub mod Late
+pub mod Fits
+pub mod Touch
+pub mod Run
+pub mod Trail
+pub mod Ends
+pub mod Opening
+pub mod Laws
+pub mod Undoing

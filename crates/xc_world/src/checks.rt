@@ -1,0 +1,118 @@
+ghost use Rattle.std.specs.Prelude.{◌≡◌, ◌<◌, ◌^◌, length, count_by};
+ghost use Rattle.xc_data.specs.Private.{is_vacant};
+ghost use Rattle.xc_world.specs.Checks as check;
+
+use xc_data::{Call, Place, Private, Reply};
+
+fn is_file(place: Place) -> bool
+    ensures { result ≡ check.is_file place }
+{
+    matches!(place, Place::File { .. })
+}
+
+fn is_pipe(place: Place) -> bool
+    ensures { result ≡ check.is_pipe place }
+{
+    matches!(place, Place::Pipe(_))
+}
+
+fn is_pair(place: Place) -> bool
+    ensures { result ≡ check.is_pair place }
+{
+    matches!(place, Place::Pair { .. })
+}
+
+/// The handle isn't open, or is of another kind than the call needs.
+pub(crate) fn is_bad_handle(call: &Call, me: &Private) -> bool
+    ensures { result ≡ check.is_bad_handle call.now me.now }
+{
+    match call {
+        Call::XRead { h, .. } | Call::XSeek { h, .. } => !is_file(me.place(*h)),
+        Call::XWriteOvr { h, .. } | Call::XWriteSeq { h, .. } => !is_file(me.place(*h)),
+        Call::XLen { h } | Call::XSync { h, .. } => !is_file(me.place(*h)),
+        Call::XClose { h } => me.place(*h).is_vacant(),
+        Call::XReadPipe { h, .. } | Call::XWritePipe { h, .. } => !is_pipe(me.place(*h)),
+        Call::XRecvmsg { h } | Call::XSendmsg { h, .. } => !is_pair(me.place(*h)),
+        Call::XShutdown { h, .. } => !(is_pipe(me.place(*h)) || is_pair(me.place(*h))),
+        _ => false,
+    }
+}
+
+/// Bytes or a read of more than 1,024, a seek past 65,536.
+pub(crate) fn is_too_big(call: &Call) -> bool
+    ensures { result ≡ check.is_too_big call.now }
+{
+    match call {
+        Call::XRead { n, .. } | Call::XReadPipe { n, .. } => *n > 1024,
+        Call::XSeek { to, .. } => *to > 65536,
+        _ => bytes_len(call) > 1024,
+    }
+}
+
+/// The length of the bytes that a call carries.
+pub(crate) fn bytes_len(call: &Call) -> usize
+    ensures value { result ≡ length (check.bytes_of call.now) }
+    ensures bound { result < 2 ^ 63 }
+{
+    match call {
+        Call::XWriteOvr { bytes, .. } | Call::XWriteSeq { bytes, .. } => bytes.len(),
+        Call::XWritePipe { bytes, .. } | Call::XSendmsg { bytes, .. } => bytes.len(),
+        _ => 0,
+    }
+}
+
+// So many more bytes would pass what a transaction may store.
+fn passes_store(me: &Private, n: u64) -> bool
+    ensures { result ≡ check.passes_store me.now n }
+{
+    (me.stored as u64).saturating_add(n) > 16384
+}
+
+fn has_made_all(me: &Private) -> bool
+    ensures { result ≡ check.has_made_all me.now }
+{
+    me.made >= 16
+}
+
+fn vacant_count(places: &[Place]) -> usize
+    ensures { result ≡ count_by is_vacant places.now }
+{
+    places.iter().filter(|place| place.is_vacant()).count()
+}
+
+/// The bytes or a read would pass the store; an object or a handle too many.
+pub(crate) fn is_too_much(call: &Call, me: &Private) -> bool
+    ensures { result ≡ check.is_too_much call.now me.now }
+{
+    match call {
+        Call::XRead { n, .. } | Call::XReadPipe { n, .. } => passes_store(me, *n),
+        Call::XRecvmsg { .. } => passes_store(me, 1024),
+        Call::XWriteOvr { bytes, .. } | Call::XWriteSeq { bytes, .. } => {
+            passes_store(me, bytes.len() as u64)
+        }
+        Call::XWritePipe { bytes, .. } | Call::XSendmsg { bytes, .. } => {
+            passes_store(me, bytes.len() as u64)
+        }
+        Call::XOpen { .. } => me.vacant().is_none(),
+        Call::XCreate { .. } | Call::XPipe => has_made_all(me) || me.vacant().is_none(),
+        Call::XPair => has_made_all(me) || vacant_count(&me.places) < 2,
+        _ => false,
+    }
+}
+
+/// There is no such word.
+pub(crate) fn is_bad_word(call: &Call, words: u64) -> bool
+    ensures { result ≡ check.is_bad_word call.now words }
+{
+    match call {
+        Call::Load { at } | Call::Store { at, .. } => *at >= words,
+        _ => false,
+    }
+}
+
+/// One of the checks refuses the call.
+pub(crate) fn is_refused(call: &Call, me: &Private, words: u64) -> bool
+    ensures { result ≡ check.is_refused call.now me.now words }
+{
+    is_bad_handle(call, me) || is_too_big(call) || is_too_much(call, me) || is_bad_word(call, words)
+}

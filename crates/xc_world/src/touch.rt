@@ -1,0 +1,123 @@
+ghost use Rattle.std.specs.Prelude.{◌≡◌, [], ◌∷◌, IfOk, MatchOption, nat_eq, if◌then◌else◌};
+ghost use Rattle.std.specs.Cmp.Lexicographic.{pointwise};
+ghost use Rattle.xc_data.specs.declared.object.Object.TheVariants as object;
+ghost use Rattle.xc_world.specs.Touch.{touch, object_at};
+ghost use Rattle.xc_world.specs.Late.{late_call, sync_of, shutdown_of, write_pipe_of, send_of};
+
+use crate::checks::is_refused;
+use smallvec::SmallVec;
+use std::alloc::Global;
+use xc_data::{Call, Chunk, LateCall, Name, NoMemory, Object, Place, Private};
+
+fn one(alloc: Global, object: Object) -> SmallVec<Object, 2>
+    ensures { result.items ≡ object ∷ [] }
+{
+    let mut objects = SmallVec::new(alloc);
+    objects.push_reserved(object);
+    objects
+}
+
+// Two names, once where they are equal.
+fn both_names(alloc: Global, from: Name, to: Name) -> SmallVec<Object, 2>
+    ensures { result.items ≡ (if pointwise nat_eq from to then object.Name from ∷ [] else object.Name from ∷ object.Name to ∷ []) }
+{
+    let mut objects = one(alloc, Object::Name(from));
+    if from != to {
+        objects.push_reserved(Object::Name(to));
+    }
+    objects
+}
+
+// What a handle holds.
+fn object_at(alloc: Global, place: Place) -> SmallVec<Object, 2>
+    ensures { result.items ≡ object_at place }
+{
+    match place {
+        Place::Vacant => SmallVec::new(alloc),
+        Place::File { num, .. } => one(alloc, Object::File(num)),
+        Place::Pipe(num) => one(alloc, Object::Pipe(num)),
+        Place::Pair { num, .. } => one(alloc, Object::Pair(num)),
+    }
+}
+
+/// The objects that a call touches, in its order. It takes no memory.
+pub fn touched(alloc: Global, call: &Call, me: &Private, words: u32) -> SmallVec<Object, 2>
+    ensures { result.items ≡ touch call.now me.now words }
+{
+    if is_refused(call, me, words as u64) {
+        return SmallVec::new(alloc);
+    }
+    match call {
+        Call::Load { at } | Call::Store { at, .. } => one(alloc, Object::Word(*at as u32)),
+        Call::XOpen { name } | Call::XCreate { name } | Call::XUnlink { name, .. } => {
+            one(alloc, Object::Name(*name))
+        }
+        Call::XRename { from, to } => both_names(alloc, *from, *to),
+        Call::XRead { h, .. } | Call::XWriteOvr { h, .. } => object_at(alloc, me.place(*h)),
+        Call::XWriteSeq { h, .. } | Call::XLen { h } => object_at(alloc, me.place(*h)),
+        Call::XReadPipe { h, .. } | Call::XRecvmsg { h } => object_at(alloc, me.place(*h)),
+        Call::XSync { h, .. } | Call::XWritePipe { h, .. } => object_at(alloc, me.place(*h)),
+        Call::XShutdown { h, .. } | Call::XSendmsg { h, .. } => object_at(alloc, me.place(*h)),
+        Call::XThreadCreate { .. } => one(alloc, Object::Jobs),
+        Call::XSeek { .. } | Call::XClose { .. } | Call::XPipe | Call::XPair => {
+            SmallVec::new(alloc)
+        }
+    }
+}
+
+// The late call of a call on a handle.
+fn sync_of(place: Place) -> Option<LateCall>
+    ensures { MatchOption result (sync_of place ≡ []) (λ late. sync_of place ≡ late ∷ []) }
+{
+    match place {
+        Place::File { num, .. } => Some(LateCall::Sync(num)),
+        _ => None,
+    }
+}
+
+fn shutdown_of(place: Place) -> Option<LateCall>
+    ensures { MatchOption result (shutdown_of place ≡ []) (λ late. shutdown_of place ≡ late ∷ []) }
+{
+    match place {
+        Place::Pipe(num) => Some(LateCall::Shutdown(Object::Pipe(num))),
+        Place::Pair { num, .. } => Some(LateCall::Shutdown(Object::Pair(num))),
+        _ => None,
+    }
+}
+
+fn write_pipe_of(place: Place, bytes: &Chunk) -> Result<Option<LateCall>, NoMemory>
+    ensures { IfOk result (λ found. MatchOption found (write_pipe_of place bytes.now ≡ []) (λ late. write_pipe_of place bytes.now ≡ late ∷ [])) }
+{
+    match place {
+        Place::Pipe(num) => Ok(Some(LateCall::WritePipe(num, bytes.share()?))),
+        _ => Ok(None),
+    }
+}
+
+fn send_of(place: Place, bytes: &Chunk) -> Result<Option<LateCall>, NoMemory>
+    ensures { IfOk result (λ found. MatchOption found (send_of place bytes.now ≡ []) (λ late. send_of place bytes.now ≡ late ∷ [])) }
+{
+    match place {
+        Place::Pair { num, side } => Ok(Some(LateCall::Send {
+            pair: num,
+            side,
+            bytes: bytes.share()?,
+        })),
+        _ => Ok(None),
+    }
+}
+
+/// The late call that a call leaves, its object fixed by the handle as it is now.
+pub fn late_call(call: &Call, me: &Private) -> Result<Option<LateCall>, NoMemory>
+    ensures { IfOk result (λ found. MatchOption found (late_call call.now me.now ≡ []) (λ late. late_call call.now me.now ≡ late ∷ [])) }
+{
+    match call {
+        Call::XUnlink { name, .. } => Ok(Some(LateCall::Unlink(*name))),
+        Call::XSync { h, .. } => Ok(sync_of(me.place(*h))),
+        Call::XWritePipe { h, bytes, .. } => write_pipe_of(me.place(*h), bytes),
+        Call::XShutdown { h, .. } => Ok(shutdown_of(me.place(*h))),
+        Call::XSendmsg { h, bytes, .. } => send_of(me.place(*h), bytes),
+        Call::XThreadCreate { body, .. } => Ok(Some(LateCall::Thread(*body))),
+        _ => Ok(None),
+    }
+}

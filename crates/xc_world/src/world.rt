@@ -1,0 +1,133 @@
+ghost use Rattle.std.specs.Prelude.{◌≡◌};
+ghost use Rattle.xc_world.specs.World.{file_of, pipe_of, pair_of, waiting};
+
+mod act;
+mod files;
+mod late;
+mod names;
+mod opening;
+mod pipes;
+mod shared;
+
+use std::alloc::Global;
+use std::marker::Model;
+use xc_data::{Chunk, IdentList, Items, Num, WordList};
+use xc_maps::{NameMap, NumMap};
+
+/// A pipe's bytes, and whether it is shut.
+#[derive(Drop)]
+pub(crate) struct PipeBody {
+    held: Chunk,
+    shut: bool,
+}
+
+impl Model for PipeBody {
+    ghost use Rattle.xc_world.specs.World.{Pipe, coded_pipe};
+
+    ghost Value = { Pipe };
+
+    ghost coded = { coded_pipe };
+
+    ghost view = { λ a. record { held = a.held; shut = a.shut } };
+}
+
+/// A pair's messages that wait for side 0 and for side 1, and whether it is shut.
+#[derive(Drop)]
+pub(crate) struct PairBody {
+    first: Items<Chunk>,
+    second: Items<Chunk>,
+    shut: bool,
+}
+
+impl Model for PairBody {
+    ghost use Rattle.xc_world.specs.World.{Pair, coded_pair};
+
+    ghost Value = { Pair };
+
+    ghost coded = { coded_pair };
+
+    ghost view = { λ a. record { first = a.first; second = a.second; shut = a.shut } };
+}
+
+/// The world of the plain machine.
+#[derive(Drop)]
+pub struct World {
+    alloc: Global,
+    words: WordList,
+    names: NameMap<Num>,
+    files: NumMap<Chunk>,
+    pipes: NumMap<PipeBody>,
+    pairs: NumMap<PairBody>,
+    started: IdentList,
+    blocks: IdentList,
+}
+
+impl Model for World {
+    ghost use Rattle.xc_world.specs.World.{World as PlainWorld, coded_world};
+
+    ghost Value = { PlainWorld };
+
+    ghost coded = { coded_world };
+
+    ghost view = { λ a. record { words = a.words; names = a.names; files = a.files; pipes = a.pipes; pairs = a.pairs; started = a.started; blocks = a.blocks } };
+}
+
+impl World {
+    fn file(&self, num: Num) -> &[u8]
+        ensures { result.now ≡ file_of self.now num }
+    {
+        match self.files.get(num) {
+            Some(file) => file.as_slice(),
+            None => &[],
+        }
+    }
+
+    fn held(&self, num: Num) -> &[u8]
+        ensures { result.now ≡ (pipe_of self.now num).held }
+    {
+        match self.pipes.get(num) {
+            Some(pipe) => pipe.held.as_slice(),
+            None => &[],
+        }
+    }
+
+    fn is_pipe_shut(&self, num: Num) -> bool
+        ensures { result ≡ (pipe_of self.now num).shut }
+    {
+        match self.pipes.get(num) {
+            Some(pipe) => pipe.shut,
+            None => false,
+        }
+    }
+
+    // The messages that wait for a side.
+    fn waiting(&self, num: Num, side: u8) -> &[Chunk]
+        ensures { result.now ≡ waiting (pair_of self.now num) side }
+    {
+        match self.pairs.get(num) {
+            Some(pair) => pair.waiting(side),
+            None => &[],
+        }
+    }
+
+    fn is_pair_shut(&self, num: Num) -> bool
+        ensures { result ≡ (pair_of self.now num).shut }
+    {
+        match self.pairs.get(num) {
+            Some(pair) => pair.shut,
+            None => false,
+        }
+    }
+}
+
+impl PairBody {
+    fn waiting(&self, side: u8) -> &[Chunk]
+        ensures { result.now ≡ waiting self.now side }
+    {
+        if side == 0 {
+            self.first.as_slice()
+        } else {
+            self.second.as_slice()
+        }
+    }
+}
