@@ -1,0 +1,10 @@
+-- A reader or a writer, and how often it failed.
+use Rattle.std.specs.Prelude.{ℕ, refl}
+use Rattle.std.specs.Coded.{Coded, code_by, coded×, coded_ℕ}
+
+pub record Counting (T : Type 0) : Type 0 where
+  pub inner : T
+  pub faults : ℕ
+
+abbrev pub coded_counting : {T : Type 0} → Coded T → Coded (Counting T)
+coded_counting {T} code = code_by (T × ℕ) (coded× code coded_ℕ) (λ c. (c.inner, c.faults)) (λ p. record { inner = p.0; faults = p.1 }) (λ _. refl)

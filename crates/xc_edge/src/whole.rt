@@ -1,0 +1,76 @@
+ghost use Rattle.std.specs.Prelude.{◌≤◌, IfOk, OnOk, OnErr, IsErrOf};
+ghost use Rattle.std.specs.Io.KnownBytes.{Appends};
+ghost use Rattle.xc_edge.specs.Counts.{Rose, HasCause};
+ghost use Rattle.xc_edge.specs.Streams.{Came, ConsumesUpTo, AppendsPart};
+
+use crate::{Failed, Sink, Source};
+use std::alloc::{AllocError, Global};
+use thiserror::Error;
+
+/// Why a source wasn't read.
+#[derive(Clone, Copy, Debug, PartialEq, Eq, Error)]
+pub enum ReadErr {
+    #[error("a read failed")]
+    Failed,
+    #[error("no memory")]
+    NoMemory,
+}
+
+impl From<Failed> for ReadErr {
+    ghost use Rattle.std.specs.Prelude.{◌≡◌};
+    ghost use Rattle.xc_edge.specs.declared.whole.ReadErr.TheVariants.{Failed};
+
+    ghost from_gives = { λ _ e. e ≡ Failed };
+
+    fn from(_: crate::Failed) -> Self {
+        ReadErr::Failed
+    }
+}
+
+impl From<AllocError> for ReadErr {
+    ghost use Rattle.std.specs.Prelude.{◌≡◌};
+    ghost use Rattle.xc_edge.specs.declared.whole.ReadErr.TheVariants.{NoMemory};
+
+    ghost from_gives = { λ _ e. e ≡ NoMemory };
+
+    fn from(_: AllocError) -> Self {
+        ReadErr::NoMemory
+    }
+}
+
+/// Reads a source to its end, or until `limit` bytes came. What came before an error is lost.
+pub fn read_up_to<S: Source>(
+    alloc: Global,
+    source: &mut S,
+    limit: usize,
+) -> Result<Vec<u8>, ReadErr>
+    ensures came { IfOk result (λ bytes. Came limit (S.left source.old) (S.left source.new) bytes.items) }
+    ensures lost { OnErr result (ConsumesUpTo limit (S.left source.old) (S.left source.new)) }
+    ensures later { S.fault_count source.old ≤ S.fault_count source.new }
+    ensures cause { IsErrOf result ReadErr.Failed → Rose (S.fault_count source.old) (S.fault_count source.new) }
+{
+    let mut bytes = Vec::new(alloc);
+    let mut buffer = [0; 1024];
+    while bytes.len() < limit {
+        let room = (limit - bytes.len()).min(1024);
+        let count = source.read(&mut buffer[..room])?;
+        if count == 0 {
+            return Ok(bytes);
+        }
+        bytes.extend_from_slice(&buffer[..count])?;
+    }
+    Ok(bytes)
+}
+
+/// Writes a whole text, in as many writes as it takes.
+pub fn write_whole<K: Sink>(sink: &mut K, text: &[u8]) -> Result<(), Failed>
+    ensures whole { OnOk result (Appends (K.taken sink.old) (K.taken sink.new) text.now) }
+    ensures part { OnErr result (AppendsPart (K.taken sink.old) (K.taken sink.new) text.now) }
+    ensures cause { HasCause (K.fault_count sink.old) (K.fault_count sink.new) result }
+{
+    let mut done = 0;
+    while done < text.len() {
+        done += sink.write(&text[done..])?;
+    }
+    Ok(())
+}

@@ -1,0 +1,9 @@
+//! A list that only grows, into room that was made before: what has to be noted once an effect is
+//! done has its place before the effect is begun.
+#![tactic(auto)]
+
+mod roomy;
+#[cfg(test)]
+mod tests;
+
+pub use roomy::{Journal, Roomy};
