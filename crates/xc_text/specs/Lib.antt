@@ -1,0 +1,10 @@
+pub mod Answers
+pub mod Cutting
+pub mod Grammar
+pub mod Lines
+pub mod Numbers
+pub mod Places
+pub mod Scripts
+pub mod Steps
+pub mod Terms
+pub mod Tokens

@@ -1,0 +1,57 @@
+-- What a script says, and what a script that was read keeps to.
+use Rattle.std.specs.Prelude.{◌≡◌, ℕ, ◌+◌, ◌≤◌, List, [], ◌∷◌, length, map, All, nat_lt, None, Result, Ok, Err, if◌then◌else◌}
+use Rattle.xc_text.specs.declared.script.Block.{Block as OneBlock}
+use Rattle.xc_text.specs.declared.script.Script.{Script}
+use Rattle.xc_text.specs.declared.reading.Reading.{Reading}
+use Rattle.xc_text.specs.declared.why.Why.{Why}
+use Rattle.xc_text.specs.declared.why.Why.TheVariants.{TooLong, Unclosed}
+use Rattle.xc_text.specs.Answers.{Refusal, and_then}
+use Rattle.xc_text.specs.Lines.{lines_of}
+use Rattle.xc_text.specs.Places.{is_outside}
+use Rattle.xc_text.specs.Steps.{opening, after_bytes}
+
+-- a reason against the line of that number
+abbrev pub at_line : {A : Type 0} → ℕ → Result A Why → Result A Refusal
+at_line n (Ok x) = Ok x
+at_line n (Err e) = Err (n, e)
+
+-- the names of blocks, in their order
+abbrev pub names_of : List OneBlock → List (List ℕ)
+names_of blocks = map (λ b. b.name) blocks
+
+-- the whole script
+abbrev pub script_of : Reading → Script
+script_of r = record {
+  plain = record { words = r.words; prologue = record { objects = []; faults = []; grain = None }; bodies = []; jobs = names_of r.blocks };
+  blocks = r.blocks;
+}
+
+-- a script ends behind its prologue or behind a block
+abbrev pub closed : Reading → Result Script Why
+closed r = if is_outside r.place then Ok (script_of r) else Err Unclosed
+
+-- the script of what n lines have said and of the lines behind them
+abbrev pub read_from : ℕ → Reading → List (List ℕ) → Result Script Refusal
+read_from n r [] = at_line n (closed r)
+read_from n r (bytes ∷ lines) = and_then (at_line (n + 1) (after_bytes r bytes)) (λ (next : Reading). read_from (n + 1) next lines)
+
+-- the script that these bytes are, or the first bad line with its first reason
+abbrev pub parse_of : List ℕ → Result Script Refusal
+parse_of bytes = if nat_lt 1048576 (length bytes) then Err (0, TooLong) else read_from 0 opening (lines_of bytes)
+
+-- a block keeps the limits
+pub record IsBlock (b : OneBlock) : Type 0 where
+  pub transactions : length b.transactions ≤ 1000
+  pub calls : All (λ body. length body ≤ 256) b.transactions
+
+-- a script that was read
+pub record IsScript (s : Script) : Type 0 where
+  pub some_words : 1 ≤ length s.plain.words
+  pub few_words : length s.plain.words ≤ 4096
+  pub one_block : length s.blocks ≤ 1
+  pub jobs : s.plain.jobs ≡ names_of s.blocks
+  pub bodies : s.plain.bodies ≡ []
+  pub objects : s.plain.prologue.objects ≡ []
+  pub faults : s.plain.prologue.faults ≡ []
+  pub grain : s.plain.prologue.grain ≡ None
+  pub each_block : All IsBlock s.blocks

@@ -1,0 +1,63 @@
+-- Numbers, identifiers, terms and expressions in a line.
+use Rattle.std.specs.Prelude.{ℕ, Bool, false, List, [], ◌∷◌, nat_eq, codes, ok_or, Result, Ok, Err, if◌then◌else◌}
+use Rattle.std.specs.Cmp.Lexicographic.{pointwise}
+use Rattle.xc_data.specs.Spelling.{is_ident}
+use Rattle.xc_text.specs.declared.script.Term.{Term}
+use Rattle.xc_text.specs.declared.script.Term.TheVariants.{Number, Variable}
+use Rattle.xc_text.specs.declared.script.Expression.{Expression}
+use Rattle.xc_text.specs.declared.script.Expression.TheVariants.{Term as OneTerm, Sum, Difference}
+use Rattle.xc_text.specs.declared.why.Why.{Why}
+use Rattle.xc_text.specs.declared.why.Why.TheVariants.{BadForm, BadNumber, BadName}
+use Rattle.xc_text.specs.Answers.{both, seen}
+use Rattle.xc_text.specs.Numbers.{is_digit, number_of}
+use Rattle.xc_text.specs.Tokens.{Lexeme, Word, Literal}
+
+-- a word is spelled so
+abbrev pub spells : List ℕ → List ℕ → Bool
+spells word text = pointwise nat_eq word text
+
+-- a token is this sign
+abbrev pub is_sign : Lexeme → List ℕ → Bool
+is_sign (Word word) text = spells word text
+is_sign Literal text = false
+
+-- the number that a word spells
+abbrev pub number_in : List ℕ → Result ℕ Why
+number_in word = ok_or (number_of word) BadNumber
+
+-- the identifier that a word spells
+abbrev pub ident_in : List ℕ → Result (List ℕ) Why
+ident_in word = if is_ident word then Ok word else Err BadName
+
+-- every word in the place of a number is meant as one
+abbrev pub number : Lexeme → Result ℕ Why
+number (Word word) = number_in word
+number Literal = Err BadForm
+
+-- every word in the place of an identifier is meant as one
+abbrev pub ident : Lexeme → Result (List ℕ) Why
+ident (Word word) = ident_in word
+ident Literal = Err BadForm
+
+-- the first byte is a digit
+abbrev pub begins_with_digit : List ℕ → Bool
+begins_with_digit [] = false
+begins_with_digit (b ∷ bs) = is_digit b
+
+-- a word in a term's place is meant as a number where it begins with a digit, and else as a variable
+abbrev pub term_in : List ℕ → Result Term Why
+term_in word = if begins_with_digit word then seen Number (number_in word) else seen Variable (ident_in word)
+
+-- what stands in a term's place
+abbrev pub term : Lexeme → Result Term Why
+term (Word word) = term_in word
+term Literal = Err BadForm
+
+-- a term, or two with `+` or `-` between them
+abbrev pub expression_of : List Lexeme → Result Expression Why
+expression_of (a ∷ []) = seen OneTerm (term a)
+expression_of (a ∷ sign ∷ b ∷ []) =
+    if is_sign sign (codes "+") then seen (λ (p : Term × Term). Sum p.0 p.1) (both (term a) (term b))
+    else if is_sign sign (codes "-") then seen (λ (p : Term × Term). Difference p.0 p.1) (both (term a) (term b))
+    else Err BadForm
+expression_of _ = Err BadForm

@@ -1,0 +1,25 @@
+//! The script: its lines, its grammar, and what a script says.
+//!
+//! `parse` reads a script exactly where the grammar of `specs/` has one, and else answers the first
+//! bad line with its first reason.
+#![tactic(auto)]
+
+mod grammar;
+mod line;
+mod lines;
+mod names;
+mod number;
+mod parser;
+mod reading;
+mod reason;
+mod script;
+mod term;
+mod token;
+mod why;
+
+pub use parser::parse;
+pub use script::{Block, Body, Expression, Script, Statement, Term};
+pub use why::{ParseErr, Why};
+
+#[cfg(test)]
+mod tests;

@@ -1,0 +1,65 @@
+ghost use Rattle.std.specs.Prelude.{◌≡◌};
+ghost use Rattle.xc_text.specs.Places.{block_in, is_outside, transaction_in};
+
+use crate::script::Statement;
+use xc_data::Ident;
+
+/// Where in a script a line stands.
+#[derive(Clone, Copy, Debug, PartialEq)]
+pub enum Place {
+    /// Before the first block.
+    Prologue,
+    /// Behind a block.
+    Between,
+    /// In the block of that name.
+    Block(Ident),
+    /// In a transaction of the block of that name.
+    Transaction(Ident),
+}
+
+impl Place {
+    /// The name of the block, outside of its transactions.
+    pub fn block(&self) -> Option<Ident>
+        ensures { result ≡ block_in self.now }
+    {
+        match self {
+            Place::Block(name) => Some(*name),
+            _ => None,
+        }
+    }
+
+    /// It is outside of all blocks.
+    pub fn is_outside(&self) -> bool
+        ensures { result ≡ is_outside self.now }
+    {
+        matches!(self, Place::Prologue | Place::Between)
+    }
+
+    /// The name of the block of the transaction.
+    pub fn transaction(&self) -> Option<Ident>
+        ensures { result ≡ transaction_in self.now }
+    {
+        match self {
+            Place::Transaction(name) => Some(*name),
+            _ => None,
+        }
+    }
+}
+
+/// What a line says.
+#[derive(Clone, Copy, Debug, PartialEq)]
+pub enum Line {
+    /// The number of words.
+    Words(u64),
+    /// A word opens with a value.
+    Word { at: u64, value: u64 },
+    /// A `job` block begins.
+    Job(Ident),
+    /// A transaction begins.
+    Begin,
+    Statement(Statement),
+    /// The transaction ends.
+    Commit,
+    /// The block ends.
+    End,
+}

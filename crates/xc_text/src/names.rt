@@ -1,0 +1,73 @@
+ghost use Rattle.std.specs.Prelude.{◌≡◌, nat_eq, OnOk};
+ghost use Rattle.std.specs.List.{list_any};
+ghost use Rattle.std.specs.Cmp.Lexicographic.{pointwise};
+ghost use Rattle.xc_text.specs.Steps.{with_name, with_term, with_expression, with_target, with_statement};
+
+use crate::script::{Expression, Statement, Term};
+use xc_data::{Ident, IdentList, NoMemory};
+
+fn is_named(names: &[Ident], name: &Ident) -> bool
+    ensures { result ≡ list_any (λ other. pointwise nat_eq other name.now) names.now }
+{
+    names.iter().any(|other| other == name)
+}
+
+fn add_name(names: &mut IdentList, name: Ident) -> Result<(), NoMemory>
+    ensures { OnOk result (names.new ≡ with_name names.old name) }
+{
+    if is_named(names.as_slice(), &name) {
+        return Ok(());
+    }
+    names.push(name)
+}
+
+fn add_term(names: &mut IdentList, term: &Term) -> Result<(), NoMemory>
+    ensures { OnOk result (names.new ≡ with_term names.old term.now) }
+{
+    match term {
+        Term::Number(_) => Ok(()),
+        Term::Variable(name) => add_name(names, *name),
+    }
+}
+
+fn add_terms(names: &mut IdentList, a: &Term, b: &Term) -> Result<(), NoMemory>
+    ensures { OnOk result (names.new ≡ with_term (with_term names.old a.now) b.now) }
+{
+    add_term(names, a)?;
+    add_term(names, b)
+}
+
+fn add_expression(names: &mut IdentList, value: &Expression) -> Result<(), NoMemory>
+    ensures { OnOk result (names.new ≡ with_expression names.old value.now) }
+{
+    match value {
+        Expression::Term(a) => add_term(names, a),
+        Expression::Sum(a, b) => add_terms(names, a, b),
+        Expression::Difference(a, b) => add_terms(names, a, b),
+    }
+}
+
+fn add_target(names: &mut IdentList, into: &Option<Ident>) -> Result<(), NoMemory>
+    ensures { OnOk result (names.new ≡ with_target names.old into.now) }
+{
+    match into {
+        Some(name) => add_name(names, *name),
+        None => Ok(()),
+    }
+}
+
+/// Adds the variables of a statement, read or written, where they are new.
+pub fn add_statement(names: &mut IdentList, statement: &Statement) -> Result<(), NoMemory>
+    ensures { OnOk result (names.new ≡ with_statement names.old statement.now) }
+{
+    match statement {
+        Statement::Load { at, into } => {
+            add_term(names, at)?;
+            add_target(names, into)
+        }
+        Statement::Store { at, value } => {
+            add_term(names, at)?;
+            add_expression(names, value)
+        }
+    }
+}

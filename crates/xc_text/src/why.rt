@@ -1,0 +1,88 @@
+use std::alloc::AllocFailed;
+use thiserror::Error;
+use xc_data::NoMemory;
+
+/// Why a line is refused. Of several reasons the one that stands first here decides.
+#[derive(Clone, Copy, Debug, PartialEq, Eq)]
+pub enum Why {
+    /// The script has more than 1,048,576 bytes.
+    TooLong,
+    /// A byte that may not stand in a line.
+    BadByte,
+    /// A literal that isn't one, or a quote within a word.
+    BadLiteral,
+    /// The first token is no line of this place.
+    UnknownLine,
+    /// Wrong number or kind of tokens.
+    BadForm,
+    /// A number that isn't one, or that is out of its range.
+    BadNumber,
+    /// A name that breaks its limit.
+    BadName,
+    /// A line that may stand once stands again.
+    Twice,
+    /// The line passes a limit.
+    TooMany,
+    /// The script ends within a block.
+    Unclosed,
+}
+
+/// Why a script is not read. Lines are numbered from 1; line 0 is the script as a whole.
+#[derive(Debug, Drop, Error)]
+pub enum ParseErr {
+    #[error("line {line}: refused")]
+    Refused { line: u32, why: Why },
+    #[error("no memory")]
+    NoMemory,
+}
+
+// What ends the reading of a line.
+#[derive(Debug, Drop)]
+pub enum Stop {
+    Refused(Why),
+    NoMemory,
+}
+
+impl From<NoMemory> for ParseErr {
+    ghost use Rattle.std.specs.Prelude.{◌≡◌};
+    ghost use Rattle.xc_text.specs.declared.why.ParseErr.TheVariants.{NoMemory};
+
+    ghost from_gives = { λ _ e. e ≡ NoMemory };
+
+    fn from(_: NoMemory) -> Self {
+        ParseErr::NoMemory
+    }
+}
+
+impl From<Why> for Stop {
+    ghost use Rattle.std.specs.Prelude.{◌≡◌};
+    ghost use Rattle.xc_text.specs.declared.why.Stop.TheVariants.{Refused};
+
+    ghost from_gives = { λ why e. e ≡ Refused why };
+
+    fn from(why: Why) -> Self {
+        Stop::Refused(why)
+    }
+}
+
+impl<T: Drop> From<AllocFailed<T>> for Stop {
+    ghost use Rattle.std.specs.Prelude.{◌≡◌};
+    ghost use Rattle.xc_text.specs.declared.why.Stop.TheVariants.{NoMemory};
+
+    ghost from_gives = { λ _ e. e ≡ NoMemory };
+
+    fn from(_: AllocFailed<T>) -> Self {
+        Stop::NoMemory
+    }
+}
+
+impl From<NoMemory> for Stop {
+    ghost use Rattle.std.specs.Prelude.{◌≡◌};
+    ghost use Rattle.xc_text.specs.declared.why.Stop.TheVariants.{NoMemory};
+
+    ghost from_gives = { λ _ e. e ≡ NoMemory };
+
+    fn from(_: NoMemory) -> Self {
+        Stop::NoMemory
+    }
+}
