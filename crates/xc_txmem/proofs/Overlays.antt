@@ -1,0 +1,32 @@
+-- A word under stores is what they leave at its place.
+use Rattle.std.proofs.Common.{◌≡◌, ℕ, ◌<◌, List, [], ◌∷◌, ◌++◌, zero, suc, length, refl, ap, sym, ◌∙◌, arith}
+use Rattle.std.specs.Prelude.{slice_index, slice_set, ◌==◌, if◌then◌else◌}
+use Rattle.xc_txmem.specs.Overlay.{overlaid, left_at}
+
+-- one store at one place
+index-set : (words : List ℕ) (place at value : ℕ) → at < length words → slice_index (slice_set words place value) at ≡ (if place == at then value else slice_index words at)
+index-set [] place at value lt = grind arith
+index-set (w ∷ words) zero zero value lt = refl
+index-set (w ∷ words) zero (suc at) value lt = grind arith
+index-set (w ∷ words) (suc place) zero value lt = grind arith
+index-set (w ∷ words) (suc place) (suc at) value lt = let before = index-set words place at value (omega arith) in grind (arith, before)
+
+length-set : (words : List ℕ) (place value : ℕ) → length (slice_set words place value) ≡ length words
+length-set [] place value = refl
+length-set (w ∷ words) zero value = refl
+length-set (w ∷ words) (suc place) value = ap suc (length-set words place value)
+
+pub index-overlaid : (words : List ℕ) (stores : List (ℕ × ℕ)) (at : ℕ) → at < length words → left_at at (slice_index words at) stores ≡ slice_index (overlaid words stores) at
+index-overlaid words [] at lt = refl
+index-overlaid words ((place, value) ∷ stores) at lt =
+    ap (λ v. left_at at v stores) (sym (index-set words place at value lt)) ∙ index-overlaid (slice_set words place value) stores at (omega (arith, length-set words place value))
+
+-- stores change no count
+pub overlay_count : (words : List ℕ) (stores : List (ℕ × ℕ)) → length (overlaid words stores) ≡ length words
+overlay_count words [] = refl
+overlay_count words ((place, value) ∷ stores) = overlay_count (slice_set words place value) stores ∙ length-set words place value
+
+-- one store more
+pub overlay_adds : (words : List ℕ) (stores : List (ℕ × ℕ)) (place value : ℕ) → overlaid words (stores ++ (place, value) ∷ []) ≡ slice_set (overlaid words stores) place value
+overlay_adds words [] place value = refl
+overlay_adds words ((at, v) ∷ stores) place value = overlay_adds (slice_set words at v) stores place value

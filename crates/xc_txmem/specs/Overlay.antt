@@ -1,0 +1,17 @@
+-- Words with stores laid over them.
+use Rattle.std.specs.Prelude.{◌≡◌, ℕ, ◌==◌, true, List, [], ◌∷◌, nat_lt, slice_set, if◌then◌else◌}
+use Rattle.std.specs.List.{list_all}
+
+-- the words after these stores, the oldest first
+abbrev pub overlaid : List ℕ → List (ℕ × ℕ) → List ℕ
+overlaid words [] = words
+overlaid words ((at, value) ∷ stores) = overlaid (slice_set words at value) stores
+
+-- what these stores leave at a place that had this value
+abbrev pub left_at : ℕ → ℕ → List (ℕ × ℕ) → ℕ
+left_at at value [] = value
+left_at at value ((place, stored) ∷ stores) = left_at at (if place == at then stored else value) stores
+
+-- every stored place is in range of so many words
+abbrev pub AreWithin : ℕ → List (ℕ × ℕ) → Type 0
+AreWithin count stores = list_all (λ (s : ℕ × ℕ). nat_lt s.0 count) stores ≡ true

@@ -1,0 +1,10 @@
+//! The words of memory, and a transaction's stores laid over them until it commits.
+#![tactic(auto)]
+
+#[cfg(test)]
+mod tests;
+mod words;
+mod writes;
+
+pub use words::Words;
+pub use writes::WriteSet;

@@ -1,0 +1,15 @@
+use crate::{Words, WriteSet};
+use std::test::Fail;
+
+#[test]
+fn stores_wait_until_they_are_applied(rt: HostRuntime) -> Result<(), Fail> {
+    let mut words = Words::new(rt.alloc(), &[3, 4, 5])?;
+    assert_eq!(rt; words.count(), 3);
+    let mut writes = WriteSet::new(rt.alloc());
+    writes.store(1, 40)?;
+    writes.store(1, 41)?;
+    assert_eq!(rt; words.get(1), 4);
+    assert_eq!(rt; writes.load(&words, 1), 41);
+    assert_eq!(rt; writes.load(&words, 2), 5);
+    Ok(())
+}

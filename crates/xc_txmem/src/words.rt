@@ -1,0 +1,56 @@
+ghost use Rattle.std.specs.Prelude.{◌≡◌, ◌<◌, length, slice_index, slice_set, IfOk};
+
+use std::alloc::Global;
+use std::marker::Model;
+use xc_data::{Items, NoMemory, WordList};
+
+/// The shared words.
+#[derive(Drop)]
+pub struct Words {
+    values: Vec<u64>,
+}
+
+impl Model for Words {
+    ghost use Rattle.std.specs.Prelude.{List, ℕ};
+
+    ghost Value = { List ℕ };
+
+    ghost view = { λ w. w.values.items };
+}
+
+impl Words {
+    pub fn new(alloc: Global, values: &[u64]) -> Result<Words, NoMemory>
+        ensures { IfOk result (λ words. words ≡ values.now) }
+    {
+        Ok(Words {
+            values: Vec::from_slice(alloc, values)?,
+        })
+    }
+
+    pub fn count(&self) -> usize
+        ensures { result ≡ length self.now }
+    {
+        self.values.len()
+    }
+
+    pub fn get(&self, at: usize) -> u64
+        requires { at < length self.now }
+        ensures { result ≡ slice_index self.now at }
+    {
+        self.values[at]
+    }
+
+    pub fn set(&mut self, at: usize, value: u64)
+        requires { at < length self.old }
+        ensures { self.new ≡ slice_set self.old at value }
+    {
+        self.values[at] = value;
+    }
+
+    /// It takes no memory.
+    pub fn list(self) -> WordList
+        ensures { result ≡ self }
+    {
+        Items::from_vec(self.values)
+    }
+}
