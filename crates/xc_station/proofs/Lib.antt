@@ -1,0 +1,9 @@
+pub mod Bodies
+pub mod Stories
+pub mod Touching
+pub mod Steps
+pub mod Closing
+pub mod Asking
+pub mod Keeping
+pub mod Lefts
+pub mod Bounds

@@ -1,0 +1,52 @@
+-- How jobs end, and what a whole run ends in.
+use Rattle.std.specs.Prelude.{◌≡◌, ℕ, ◌+◌, Bool, true, false, List, [], ◌∷◌, length, map, IsSome}
+use Rattle.std.specs.List.{list_all}
+use Rattle.std.specs.declared.option.Option.TheVariants.{None}
+use Rattle.xc_data.specs.declared.entry.JobEnd.{JobEnd}
+use Rattle.xc_data.specs.declared.entry.JobEnd.TheVariants as job_end
+use Rattle.xc_data.specs.declared.entry.JobLine.{JobLine}
+use Rattle.xc_data.specs.declared.entry.Entry.{Entry}
+use Rattle.xc_text.specs.declared.script.Script.{Script}
+use Rattle.xc_script.specs.Ask.{next_body, transactions_at}
+use Rattle.xc_station.specs.Progress.{Following, progress_of}
+use Rattle.xc_station.specs.Truth.{IsTrueJournal, AreInOrder, all_committed}
+
+-- done where no transaction is left; without memory only where one is. Giving up and a full journal
+-- come with conflicts and with several jobs
+abbrev pub IsEnd : Script → Following → JobEnd → Type 0
+IsEnd script f job_end.Done = (f.starved ≡ false) × (next_body script f.job ≡ None)
+IsEnd script f job_end.NoMemory = IsSome (next_body script f.job)
+IsEnd script f _ = ⊥
+
+-- each job has its end
+abbrev pub AreEnds : Script → List Following → List JobLine → Type 0
+AreEnds script [] lines = lines ≡ []
+AreEnds script (f ∷ jobs) [] = ⊥
+AreEnds script (f ∷ jobs) (line ∷ lines) = IsEnd script f line.end × AreEnds script jobs lines
+
+abbrev pub is_done : JobEnd → Bool
+is_done job_end.Done = true
+is_done _ = false
+
+-- no job ended but by its last transaction
+abbrev pub all_done : List JobLine → Bool
+all_done lines = list_all (λ (line : JobLine). is_done line.end) lines
+
+-- how many transactions the started jobs have
+abbrev pub transactions_of_jobs : Script → List Following → ℕ
+transactions_of_jobs script [] = 0
+transactions_of_jobs script (f ∷ jobs) = length (transactions_at script f.job.block) + transactions_of_jobs script jobs
+
+-- each transaction of each started job has its one entry, which is a commit
+pub record IsComplete (script : Script) (entries : List Entry) : Type 0 where
+  pub committed : all_committed entries ≡ true
+  pub count : length entries ≡ transactions_of_jobs script (progress_of script entries).jobs
+
+-- what a run ends in: a true journal, the words that it leads to, and each started job's block and end
+pub record IsTrueEnd (script : Script) (tries : ℕ) (entries : List Entry) (values : List ℕ) (lines : List JobLine) : Type 0 where
+  pub journal : IsTrueJournal script tries entries
+  pub in_order : AreInOrder 0 entries
+  pub words : values ≡ (progress_of script entries).state.world.words
+  pub blocks : map (λ (line : JobLine). line.block) lines ≡ (progress_of script entries).state.world.started
+  pub ends : AreEnds script (progress_of script entries).jobs lines
+  pub complete : all_done lines ≡ true → IsComplete script entries

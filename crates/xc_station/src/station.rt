@@ -1,0 +1,302 @@
+ghost use Rattle.std.specs.Prelude.{◌≡◌, ◌<◌, ◌≤◌, length, ℕ, [], ◌&&◌, ◌||◌, not, true, false, Some, None, IfOk, slice_get, if◌then◌else◌};
+ghost use Rattle.xc_text.specs.Scripts.{IsScript};
+ghost use Rattle.xc_station.specs.declared.job.Doing.TheVariants as doing;
+ghost use Rattle.xc_station.specs.Doing.{doing_of, doing_in, is_live, EndsIn, EndsWith, Grows, IsLineOf, AreLinesOf, opened_job};
+ghost use Rattle.xc_station.specs.Ending.{IsTrueEnd};
+ghost use Rattle.xc_station.specs.Flight.{HasLine};
+ghost use Rattle.xc_station.specs.Turns.{KeepsOpening, turns_left};
+
+use crate::begin::begin;
+use crate::calls::run;
+use crate::close::{abort, commit, end};
+use crate::job::{Activity, Doing, Job, doing_now};
+use crate::rules::{End, Opening, Rules};
+use std::alloc::Global;
+use std::marker::Model;
+use xc_data::{JobEnd, JobLine, JobList, NoMemory, Turn};
+use xc_journal::{Journal, Roomy};
+use xc_script::JobState;
+use xc_text::Script;
+use xc_txmem::Words;
+
+/// The core. Jobs are numbered from 1; a script has one job at most so far.
+#[derive(Drop)]
+pub struct Station {
+    alloc: Global,
+    opening: Opening,
+    rules: Rules,
+    words: Words,
+    journal: Journal,
+    job: Option<Job>,
+    lines: Roomy<JobLine>,
+    taken: bool,
+}
+
+impl Model for Station {
+    ghost use Rattle.xc_station.specs.Turns.{Seen};
+    ghost use Rattle.xc_station.specs.Flight.{InFlight, HasLine};
+    ghost use Rattle.std.specs.Coded.{codes};
+    ghost use Rattle.xc_script.specs.Place.{coded_place};
+
+    ghost Value = { Seen };
+
+    ghost coded = { Prim.hlevel (codes, coded_place) };
+
+    ghost view = { λ s. record {
+      opening = s.opening;
+      rules = s.rules;
+      words = s.words;
+      journal = s.journal.items;
+      job = s.job;
+      taken = s.taken;
+    } };
+
+    ghost invariant = { λ s. InFlight s.opening.script s.rules.undo_tries s.words s.journal.items s.journal.spare s.job × HasLine s.lines };
+}
+
+impl Station {
+    /// Whether the job exists and hasn't ended.
+    pub fn live(&self, job: u32) -> bool
+        ensures { result ≡ is_live self.now.job job }
+    {
+        job == 1 && !matches!(doing_now(&self.job), Doing::Ended)
+    }
+
+    /// The smallest live job that isn't taken. It is taken from then on.
+    pub fn next_job(&mut self) -> Option<u32>
+        ensures first { result ≡ (if is_live self.old.job 1 && not self.old.taken then Some 1 else None) }
+        ensures taken { self.new ≡ record self.old { taken = self.old.taken || is_live self.old.job 1 } }
+    {
+        if self.taken || !self.live(1) {
+            return None;
+        }
+        self.taken = true;
+        Some(1)
+    }
+
+    // The job's next transaction begins, or the job ends.
+    fn idle(&mut self) -> Turn
+        requires { doing_of self.old.job ≡ doing.Idle }
+        ensures same { KeepsOpening self.old self.new }
+        ensures journal { Grows self.old.journal self.new.journal }
+        ensures falls { turns_left self.new.opening.script self.new.job < turns_left self.old.opening.script self.old.job }
+        ensures answer { EndsWith result self.new.job }
+        ensures memory { result ≡ Turn.NoMemory → ⊥ }
+    {
+        let Some(job) = self.job.take() else {
+            unreachable!()
+        };
+        let script = &self.opening.script;
+        let job = begin(self.alloc, script, &mut self.journal, job);
+        let turn = turn_of(&job.activity);
+        self.job = Some(job);
+        turn
+    }
+
+    // A running transaction does its next call, or enters its commit.
+    fn running(&mut self) -> Turn
+        requires { doing_of self.old.job ≡ doing.Running }
+        ensures same { KeepsOpening self.old self.new }
+        ensures journal { Grows self.old.journal self.new.journal }
+        ensures falls { turns_left self.new.opening.script self.new.job < turns_left self.old.opening.script self.old.job }
+        ensures answer { EndsWith result self.new.job }
+        ensures memory { result ≡ Turn.NoMemory → doing_of self.new.job ≡ doing.Undoing }
+    {
+        let Some(job) = self.job.take() else {
+            unreachable!()
+        };
+        let script = &self.opening.script;
+        let (job, turn) = run(self.alloc, &mut self.words, script, job);
+        self.job = Some(job);
+        turn
+    }
+
+    // Enters the entry of a committing transaction, into the room that was made at its begin. The job
+    // goes on to its next transaction.
+    fn committing(&mut self) -> Turn
+        requires { doing_of self.old.job ≡ doing.Committing }
+        ensures same { KeepsOpening self.old self.new }
+        ensures journal { Grows self.old.journal self.new.journal }
+        ensures falls { turns_left self.new.opening.script self.new.job < turns_left self.old.opening.script self.old.job }
+        ensures answer { EndsWith result self.new.job }
+        ensures memory { result ≡ Turn.NoMemory → ⊥ }
+    {
+        let Some(job) = self.job.take() else {
+            unreachable!()
+        };
+        let (job, entry) = commit(self.alloc, job);
+        self.journal.enter(entry);
+        self.job = Some(job);
+        Turn::Went
+    }
+
+    // Enters the entry of an undoing transaction, into the room that was made at its begin. It took
+    // effect nowhere: its stores were never written.
+    fn undoing(&mut self) -> Turn
+        requires { doing_of self.old.job ≡ doing.Undoing }
+        ensures same { KeepsOpening self.old self.new }
+        ensures journal { Grows self.old.journal self.new.journal }
+        ensures falls { turns_left self.new.opening.script self.new.job < turns_left self.old.opening.script self.old.job }
+        ensures answer { EndsWith result self.new.job }
+        ensures memory { result ≡ Turn.NoMemory → ⊥ }
+    {
+        let Some(job) = self.job.take() else {
+            unreachable!()
+        };
+        let (job, entry) = abort(self.alloc, job);
+        self.journal.enter(entry);
+        self.job = Some(job);
+        Turn::Went
+    }
+
+    // A job whose transaction was aborted for want of memory ends.
+    fn starved(&mut self) -> Turn
+        requires { doing_of self.old.job ≡ doing.Starved }
+        ensures same { KeepsOpening self.old self.new }
+        ensures journal { Grows self.old.journal self.new.journal }
+        ensures falls { turns_left self.new.opening.script self.new.job < turns_left self.old.opening.script self.old.job }
+        ensures answer { EndsWith result self.new.job }
+        ensures memory { result ≡ Turn.NoMemory → ⊥ }
+    {
+        let Some(job) = self.job.take() else {
+            unreachable!()
+        };
+        self.job = Some(end(job, JobEnd::NoMemory));
+        Turn::Ended(JobEnd::NoMemory)
+    }
+
+    /// One event of the job.
+    ///
+    /// | The job | What the turn does | Answer |
+    /// |---|---|---|
+    /// | idle, no transaction left | it ends | Ended(Done) |
+    /// | idle, no memory for a begin | it ends | Ended(NoMemory) |
+    /// | idle otherwise | its next transaction begins | Went |
+    /// | running, a call is asked | the call is done and noted | Went |
+    /// | running, no memory for it | the transaction undoes | NoMemory |
+    /// | running, the commit is asked | its stores are written | Went |
+    /// | committing | the Committed entry | Went |
+    /// | undoing | the Aborted entry | Went |
+    /// | starved by that | it ends | Ended(NoMemory) |
+    pub fn turn(&mut self, job: u32) -> Turn
+        requires { is_live self.old.job job ≡ true }
+        ensures same { KeepsOpening self.old self.new }
+        ensures journal { Grows self.old.journal self.new.journal }
+        ensures falls { turns_left self.new.opening.script self.new.job < turns_left self.old.opening.script self.old.job }
+        ensures answer { EndsWith result self.new.job }
+
+        // Memory is wanting for a running transaction's call alone, which then undoes.
+        ensures memory { result ≡ Turn.NoMemory → (doing_of self.old.job ≡ doing.Running) × (doing_of self.new.job ≡ doing.Undoing) }
+    {
+        match doing_now(&self.job) {
+            Doing::Idle => self.idle(),
+            Doing::Running => self.running(),
+            Doing::Committing => self.committing(),
+            Doing::Undoing => self.undoing(),
+            Doing::Starved => self.starved(),
+            Doing::Ended => unreachable!(),
+        }
+    }
+}
+
+// The answer of an idle job's turn.
+fn turn_of(activity: &Activity) -> Turn
+    ensures ends { EndsIn result activity.now }
+    ensures memory { result ≡ Turn.NoMemory → ⊥ }
+{
+    match activity {
+        Activity::Ended(end) => Turn::Ended(*end),
+        _ => Turn::Went,
+    }
+}
+
+// The script's job at its begin, where it has one.
+fn first_job(alloc: Global, script: &Script) -> Option<Job>
+    ensures { result ≡ opened_job script.now (slice_get script.now.plain.jobs 0) }
+{
+    match script.plain().jobs.get(0) {
+        Some(block) => Some(Job {
+            block: *block,
+            place: JobState::new(alloc, script, *block),
+            activity: Activity::Idle,
+        }),
+        None => None,
+    }
+}
+
+impl Station {
+    /// A station before its first turn: the script's words, and its jobs started.
+    pub fn start(alloc: Global, script: Script, rules: Rules) -> Result<Station, NoMemory>
+        requires { IsScript script }
+        ensures { IfOk result (λ s. (s.opening ≡ record { script = script; faults = 0 }) × (s.rules ≡ rules) × (s.journal ≡ []) × (s.taken ≡ false)) }
+    {
+        let words = Words::new(alloc, script.plain().words.as_slice())?;
+        let mut lines = Roomy::new(alloc);
+        lines.reserve(1)?;
+        let job = first_job(alloc, &script);
+        let journal = Journal::new(alloc);
+        let opening = Opening { script, faults: 0 };
+        Ok(Station {
+            alloc,
+            opening,
+            rules,
+            words,
+            journal,
+            job,
+            lines,
+            taken: false,
+        })
+    }
+
+    /// What the run leaves. It takes no memory.
+    pub fn finish(self) -> End
+        requires { is_live self.job 1 ≡ false }
+        ensures opening { result.opening ≡ self.opening }
+        ensures journal { result.journal.items ≡ self.journal }
+        ensures few { length result.journal.items ≤ 1000 }
+        ensures whole { IsTrueEnd self.opening.script self.rules.undo_tries result.journal.items result.words result.jobs }
+    {
+        let Station {
+            opening,
+            words,
+            journal,
+            job,
+            lines,
+            ..
+        } = self;
+        End {
+            opening,
+            words: words.list(),
+            journal,
+            jobs: lines_of(job, lines),
+        }
+    }
+}
+
+// The job's line, into the room for it.
+fn lines_of(job: Option<Job>, lines: Roomy<JobLine>) -> JobList
+    requires over { doing_of job ≡ doing.Ended }
+    requires line { HasLine lines }
+    ensures { AreLinesOf job result }
+{
+    let Some(job) = job else {
+        return lines.into_items();
+    };
+    let mut lines = lines;
+    lines.enter(line_of(&job));
+    lines.into_items()
+}
+
+// An ended job's line.
+fn line_of(job: &Job) -> JobLine
+    requires { doing_in job.now.activity ≡ doing.Ended }
+    ensures { IsLineOf job.now result }
+{
+    match &job.activity {
+        Activity::Ended(end) => JobLine {
+            block: job.block,
+            end: *end,
+        },
+        _ => unreachable!(),
+    }
+}

@@ -1,0 +1,26 @@
+ghost use Rattle.std.specs.Prelude.{◌≡◌, false};
+ghost use Rattle.xc_station.specs.Doing.{is_live};
+ghost use Rattle.xc_station.specs.Turns.{KeepsOrigin};
+
+use crate::Station;
+
+/// Takes jobs and their turns, each job to its end, on this thread alone.
+pub fn work_alone(station: &mut Station)
+    requires { station.old.taken ≡ false }
+    ensures origin { KeepsOrigin station.old station.new }
+    ensures ended { is_live station.new.job 1 ≡ false }
+{
+    if let Some(job) = station.next_job() {
+        work_job(station, job);
+    }
+}
+
+// Takes a job's turns to its end.
+fn work_job(station: &mut Station, job: u32)
+    ensures origin { KeepsOrigin station.old station.new }
+    ensures ended { is_live station.new.job job ≡ false }
+{
+    while station.live(job) {
+        station.turn(job);
+    }
+}

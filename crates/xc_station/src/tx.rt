@@ -1,0 +1,123 @@
+ghost use Rattle.std.specs.Prelude.{◌≡◌, ◌≤◌, ◌+◌, ◌-◌, [], length, OnOk, IsTrue};
+ghost use Rattle.std.specs.List.{list_any};
+ghost use Rattle.xc_world.specs.Touch.{holding_one, holding, is_object};
+ghost use Rattle.xc_station.specs.Notes.{KeepsNotes, Notes, HasRoom, entry_of};
+
+use std::alloc::Global;
+use xc_data::{Call, Cause, Entry, NoMemory, Object, Outcome, Private, Reply};
+use xc_journal::Roomy;
+use xc_txmem::WriteSet;
+
+/// What an active transaction does. Its claims are held in each phase.
+///
+/// | Phase | Facts | Left by |
+/// |---|---|---|
+/// | Running | its stores wait in the write set; the job stands behind its replies | the commit that is asked, an abort |
+/// | Committing | its stores are written | the Committed entry |
+/// | Undoing | its stores are dropped | the Aborted entry |
+#[derive(Clone, Copy)]
+pub enum Phase {
+    Running,
+    Committing,
+    Undoing(Cause),
+}
+
+/// An active transaction, with what its entry will say.
+#[derive(Drop)]
+pub struct Tx {
+    pub number: u32,
+    /// The length that the journal had at its begin.
+    pub began: u32,
+    pub phase: Phase,
+    pub me: Private,
+    pub writes: WriteSet,
+    pub calls: Roomy<Call>,
+    pub replies: Roomy<Reply>,
+    pub held: Roomy<Object>,
+}
+
+impl Tx {
+    /// A transaction of this private state, which has done nothing yet. It takes no memory.
+    pub fn begin(alloc: Global, number: u32, began: u32, me: &Private) -> Tx
+        ensures number { (result.number ≡ number) × (result.began ≡ began) × (result.me ≡ me.now) }
+        ensures running { result.phase ≡ Phase.Running }
+        ensures nothing { (result.calls.items ≡ []) × (result.replies.items ≡ []) × (result.held.items ≡ []) × (result.writes ≡ []) }
+    {
+        Tx {
+            number,
+            began,
+            phase: Phase::Running,
+            me: *me,
+            writes: WriteSet::new(alloc),
+            calls: Roomy::new(alloc),
+            replies: Roomy::new(alloc),
+            held: Roomy::new(alloc),
+        }
+    }
+
+    /// Makes room for one call, its reply and its objects.
+    pub fn room(&mut self) -> Result<(), NoMemory>
+        ensures ok { OnOk result (HasRoom self.new) }
+        ensures same { KeepsNotes self.old self.new }
+        ensures stores { self.new.writes ≡ self.old.writes }
+    {
+        self.calls.reserve(1)?;
+        self.replies.reserve(1)?;
+        self.held.reserve(2)?;
+        Ok(())
+    }
+
+    /// Notes a call with its reply, and holds the objects that it touched. It takes no memory.
+    pub fn note(&mut self, call: Call, reply: Reply, objects: &[Object])
+        requires room { HasRoom self.old }
+        requires few { length objects.now ≤ 2 }
+        ensures notes { Notes self.old self.new call reply objects.now }
+        ensures stores { self.new.writes ≡ self.old.writes }
+    {
+        self.calls.enter(call);
+        self.replies.enter(reply);
+        hold(&mut self.held, objects);
+    }
+
+    /// The entry of a transaction that ended so. It takes no memory.
+    pub fn close(self, job: u32, outcome: Outcome) -> Entry
+        ensures { result ≡ entry_of self job outcome }
+    {
+        Entry {
+            tx: self.number,
+            job,
+            rank: self.number,
+            began: self.began,
+            calls: self.calls.into_items(),
+            replies: self.replies.into_items(),
+            held: self.held.into_items(),
+            outcome,
+        }
+    }
+}
+
+fn holds(held: &[Object], object: &Object) -> bool
+    ensures { result ≡ list_any (is_object object.now) held.now }
+{
+    held.iter().any(|other| object == other)
+}
+
+fn hold_one(held: &mut Roomy<Object>, object: &Object)
+    requires { 1 ≤ held.old.spare }
+    ensures held { held.new.items ≡ holding_one held.old.items object.now }
+    ensures spare { held.old.spare ≤ held.new.spare + 1 }
+{
+    if !holds(held.as_slice(), object) {
+        held.enter(*object);
+    }
+}
+
+// Holds the objects that aren't held yet.
+fn hold(held: &mut Roomy<Object>, objects: &[Object])
+    requires { length objects.now ≤ held.old.spare }
+    ensures { held.new.items ≡ holding held.old.items objects.now }
+{
+    for object in objects {
+        hold_one(held, object);
+    }
+}
