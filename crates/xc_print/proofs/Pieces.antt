@@ -1,0 +1,6 @@
+-- Texts printed piece by piece.
+use Rattle.std.proofs.Common.{◌≡◌, ◌++◌, ℕ, List, append_assoc}
+
+-- four pieces printed one after the other are their text
+pub four_pieces : (out a b c d : List ℕ) → out ++ a ++ b ++ c ++ d ≡ out ++ (a ++ b ++ c ++ d)
+four_pieces out a b c d = simp append_assoc

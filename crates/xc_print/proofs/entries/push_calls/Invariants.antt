@@ -1,0 +1,7 @@
+use Rattle.std.proofs.Common.{◌≡◌, ◌++◌, drop}
+use Rattle.xc_print.specs.Entries.{call_lines}
+use Rattle.xc_print.proofs.entries.push_calls.Given as goal
+
+-- what is printed and what is left are all
+abbrev pub invariant-loop-at : goal.invariant-loop-at
+invariant-loop-at l = l.out ++ call_lines (drop l.at l.calls) (drop l.at l.replies) ≡ l.fn.out ++ call_lines l.calls l.replies

@@ -1,0 +1,54 @@
+-- How compensations and the effects that stand after them are printed.
+use Rattle.std.specs.Prelude.{ℕ, ◌+◌, List, [], ◌∷◌, ◌++◌, codes, take, drop, Option}
+use Rattle.std.specs.declared.option.Option.TheVariants.{None, Some}
+use Rattle.std.specs.Fmt.{decimal}
+use Rattle.xc_data.specs.Standing.{stands_from}
+use Rattle.xc_data.specs.declared.undo.Undo.{Undo}
+use Rattle.xc_data.specs.declared.undo.Undo.TheVariants.{Bytes, Tail, Made, Moved, NewPipe, NewPair}
+use Rattle.xc_data.specs.declared.undo.UndoEnd.{UndoEnd}
+use Rattle.xc_data.specs.declared.undo.UndoEnd.TheVariants.{Undone, Failed, Blocked}
+use Rattle.xc_print.specs.Bytes.{bytes_text}
+use Rattle.xc_print.specs.Objects.{num_text}
+
+abbrev pub kind_text : Undo → List ℕ
+kind_text (Bytes file at before after n) = codes "bytes"
+kind_text (Tail file from after n) = codes "tail"
+kind_text (Made name num) = codes "made"
+kind_text (Moved from to) = codes "moved"
+kind_text (NewPipe num) = codes "pipe"
+kind_text (NewPair num) = codes "pair"
+
+abbrev pub undo_end_text : UndoEnd → List ℕ
+undo_end_text (Undone faults) = codes "done faults " ++ decimal faults
+undo_end_text (Failed done faults) = codes "failed restored " ++ decimal done ++ codes " faults " ++ decimal faults
+undo_end_text (Blocked by) = codes "blocked by " ++ decimal by
+
+-- the line of the record of this number
+abbrev pub undo_line : ℕ → Undo × UndoEnd → List ℕ
+undo_line number (undo, end) = codes "  undo " ++ decimal number ++ codes " " ++ kind_text undo ++ codes " " ++ undo_end_text end ++ codes "\n"
+
+-- the lines of the records from the newest to the oldest, which has this number
+abbrev pub undo_lines : ℕ → List (Undo × UndoEnd) → List ℕ
+undo_lines number [] = []
+undo_lines number (record_end ∷ records) = undo_lines (number + 1) records ++ undo_line number record_end
+
+-- an effect of which the covered bytes stand from the k-th on
+abbrev pub effect_text : Undo → ℕ → List ℕ
+effect_text (Bytes file at before after n) k = codes "bytes file " ++ num_text file ++ codes " at "
+    ++ decimal (at + k) ++ codes " " ++ bytes_text (drop k (take n after))
+effect_text (Tail file from after n) k = codes "tail file " ++ num_text file ++ codes " from "
+    ++ decimal from ++ codes " " ++ bytes_text (take n after)
+effect_text (Made name num) k = codes "made " ++ name ++ codes " file " ++ num_text num
+effect_text (Moved from to) k = codes "moved " ++ from ++ codes " " ++ to
+effect_text (NewPipe num) k = codes "pipe " ++ num_text num
+effect_text (NewPair num) k = codes "pair " ++ num_text num
+
+-- the line of an effect that stands from a place on, none where it doesn't stand
+abbrev pub standing_line : Undo → Option ℕ → List ℕ
+standing_line undo None = []
+standing_line undo (Some k) = codes "  remains " ++ effect_text undo k ++ codes "\n"
+
+-- the lines of the standing effects in the order of the calls
+abbrev pub remains_lines : List (Undo × UndoEnd) → List ℕ
+remains_lines [] = []
+remains_lines ((undo, end) ∷ records) = standing_line undo (stands_from undo end) ++ remains_lines records

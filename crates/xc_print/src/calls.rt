@@ -1,0 +1,122 @@
+ghost use Rattle.std.specs.Prelude.{◌≡◌, ◌++◌, List, ℕ, OnOk, codes};
+ghost use Rattle.std.specs.Fmt.{decimal};
+ghost use Rattle.xc_print.specs.Bytes.{bytes_text};
+ghost use Rattle.xc_print.specs.Objects.{handle_text};
+ghost use Rattle.xc_print.specs.Calls.{slot_text, call_text};
+
+use crate::bytes::push_bytes;
+use crate::objects::push_handle;
+use crate::page::Page;
+use xc_data::{Call, Chunk, Ident, NoMemory};
+
+fn push_named(out: &mut Page, before: &str, name: &[u8]) -> Result<(), NoMemory>
+    ensures { OnOk result (out.new ≡ out.old ++ (before.now ++ name.now)) }
+{
+    write!(out, "{before}")?;
+    out.push(name)
+}
+
+fn push_handled(out: &mut Page, before: &str, h: u16) -> Result<(), NoMemory>
+    ensures { OnOk result (out.new ≡ out.old ++ (before.now ++ handle_text h)) }
+{
+    write!(out, "{before}")?;
+    push_handle(out, h)
+}
+
+fn push_numbered(out: &mut Page, before: &str, h: u16, n: u64) -> Result<(), NoMemory>
+    ensures { OnOk result (out.new ≡ out.old ++ (before.now ++ handle_text h ++ codes " " ++ decimal n)) }
+{
+    push_handled(out, before, h)?;
+    write!(out, " {n}")
+}
+
+fn push_written(out: &mut Page, before: &str, h: u16, bytes: &Chunk) -> Result<(), NoMemory>
+    ensures { OnOk result (out.new ≡ out.old ++ (before.now ++ handle_text h ++ codes " " ++ bytes_text bytes.now)) }
+{
+    push_handled(out, before, h)?;
+    write!(out, " ")?;
+    push_bytes(out, bytes.as_slice())
+}
+
+fn push_slot(out: &mut Page, slot: &Option<Ident>) -> Result<(), NoMemory>
+    ensures { OnOk result (out.new ≡ out.old ++ slot_text slot.now) }
+{
+    match slot {
+        None => Ok(()),
+        Some(slot) => push_named(out, " slot ", slot.as_slice()),
+    }
+}
+
+fn push_named_late(
+    out: &mut Page,
+    before: &str,
+    name: &[u8],
+    slot: &Option<Ident>,
+) -> Result<(), NoMemory>
+    ensures { OnOk result (out.new ≡ out.old ++ (before.now ++ name.now ++ slot_text slot.now)) }
+{
+    push_named(out, before, name)?;
+    push_slot(out, slot)
+}
+
+fn push_handled_late(
+    out: &mut Page,
+    before: &str,
+    h: u16,
+    slot: &Option<Ident>,
+) -> Result<(), NoMemory>
+    ensures { OnOk result (out.new ≡ out.old ++ (before.now ++ handle_text h ++ slot_text slot.now)) }
+{
+    push_handled(out, before, h)?;
+    push_slot(out, slot)
+}
+
+fn push_written_late(
+    out: &mut Page,
+    before: &str,
+    h: u16,
+    bytes: &Chunk,
+    slot: &Option<Ident>,
+) -> Result<(), NoMemory>
+    ensures { OnOk result (out.new ≡ out.old ++ (before.now ++ handle_text h ++ codes " " ++ bytes_text bytes.now ++ slot_text slot.now)) }
+{
+    push_written(out, before, h, bytes)?;
+    push_slot(out, slot)
+}
+
+pub fn push_call(out: &mut Page, call: &Call) -> Result<(), NoMemory>
+    ensures { OnOk result (out.new ≡ out.old ++ call_text call.now) }
+{
+    match call {
+        Call::Load { at } => write!(out, "load {at}"),
+        Call::Store { at, value } => write!(out, "store {at} {value}"),
+        Call::XOpen { name } => push_named(out, "x_open ", name.as_slice()),
+        Call::XCreate { name } => push_named(out, "x_create ", name.as_slice()),
+        Call::XRead { h, n } => push_numbered(out, "x_read ", *h, *n),
+        Call::XWriteOvr { h, bytes } => push_written(out, "x_write_ovr ", *h, bytes),
+        Call::XWriteSeq { h, bytes } => push_written(out, "x_write_seq ", *h, bytes),
+        Call::XSeek { h, to } => push_numbered(out, "x_seek ", *h, *to),
+        Call::XLen { h } => push_handled(out, "x_len ", *h),
+        Call::XRename { from, to } => {
+            push_named(out, "x_rename ", from.as_slice())?;
+            push_named(out, " ", to.as_slice())
+        }
+        Call::XClose { h } => push_handled(out, "x_close ", *h),
+        Call::XPipe => write!(out, "x_pipe"),
+        Call::XReadPipe { h, n } => push_numbered(out, "x_read_pipe ", *h, *n),
+        Call::XPair => write!(out, "x_pair"),
+        Call::XRecvmsg { h } => push_handled(out, "x_recvmsg ", *h),
+        Call::XUnlink { name, slot } => push_named_late(out, "x_unlink ", name.as_slice(), slot),
+        Call::XSync { h, slot } => push_handled_late(out, "x_sync ", *h, slot),
+        Call::XWritePipe { h, bytes, slot } => {
+            push_written_late(out, "x_write_pipe ", *h, bytes, slot)
+        }
+        Call::XShutdown { h, slot } => push_handled_late(out, "x_shutdown ", *h, slot),
+        Call::XSendmsg { h, bytes, slot } => {
+            push_written_late(out, "x_sendmsg ", *h, bytes, slot)
+        }
+        Call::XThreadCreate { body, slot } => {
+            push_named_late(out, "x_thread_create ", body.as_slice(), slot)
+        }
+    }
+}

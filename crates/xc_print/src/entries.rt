@@ -1,0 +1,137 @@
+ghost use Rattle.std.specs.Prelude.{◌≡◌, ◌++◌, OnOk};
+ghost use Rattle.xc_print.specs.Entries.{cause_text, attempt_text, outcome_word, outcome_cause, head_line, call_line, call_lines, late_line, late_lines, outcome_lines, entry_text, journal_text};
+
+use crate::calls::push_call;
+use crate::objects::{push_held, push_object};
+use crate::page::Page;
+use crate::records::{push_remains, push_undos};
+use crate::replies::{push_late_end, push_reply};
+use xc_data::{Call, Cause, Entry, LateEnd, NoMemory, Outcome, Reply};
+
+fn push_cause(out: &mut Page, cause: &Cause) -> Result<(), NoMemory>
+    ensures { OnOk result (out.new ≡ out.old ++ cause_text cause.now) }
+{
+    match cause {
+        Cause::Asked => write!(out, "asked"),
+        Cause::Conflict { object, holder, at } => {
+            write!(out, "conflict ")?;
+            push_object(out, object)?;
+            write!(out, " holder t{holder} at {at}")
+        }
+        Cause::Revoked { object, by, at } => {
+            write!(out, "revoked ")?;
+            push_object(out, object)?;
+            write!(out, " by t{by} at {at}")
+        }
+        Cause::NoMemory => write!(out, "no memory"),
+    }
+}
+
+fn push_attempt(out: &mut Page, entry: &Entry) -> Result<(), NoMemory>
+    ensures { OnOk result (out.new ≡ out.old ++ attempt_text entry.now) }
+{
+    let (tx, job) = (entry.tx, entry.job);
+    let (rank, began) = (entry.rank, entry.began);
+    write!(out, " t{tx} job {job}")?;
+    write!(out, " rank {rank} began {began}")
+}
+
+fn push_word(out: &mut Page, outcome: &Outcome) -> Result<(), NoMemory>
+    ensures { OnOk result (out.new ≡ out.old ++ outcome_word outcome.now) }
+{
+    match outcome {
+        Outcome::Committed { .. } => write!(out, "commit"),
+        Outcome::Aborted(_) => write!(out, "abort"),
+    }
+}
+
+fn push_outcome_cause(out: &mut Page, outcome: &Outcome) -> Result<(), NoMemory>
+    ensures { OnOk result (out.new ≡ out.old ++ outcome_cause outcome.now) }
+{
+    match outcome {
+        Outcome::Committed { .. } => Ok(()),
+        Outcome::Aborted(report) => {
+            write!(out, " ")?;
+            push_cause(out, &report.cause)
+        }
+    }
+}
+
+fn push_head(out: &mut Page, entry: &Entry) -> Result<(), NoMemory>
+    ensures { OnOk result (out.new ≡ out.old ++ head_line entry.now) }
+{
+    push_word(out, &entry.outcome)?;
+    push_attempt(out, entry)?;
+    push_outcome_cause(out, &entry.outcome)?;
+    write!(out, "\n")
+}
+
+fn push_call_line(out: &mut Page, call: &Call, reply: &Reply) -> Result<(), NoMemory>
+    ensures { OnOk result (out.new ≡ out.old ++ call_line call.now reply.now) }
+{
+    write!(out, "  ")?;
+    push_call(out, call)?;
+    write!(out, " = ")?;
+    push_reply(out, reply)?;
+    write!(out, "\n")
+}
+
+fn push_calls(out: &mut Page, calls: &[Call], replies: &[Reply]) -> Result<(), NoMemory>
+    ensures { OnOk result (out.new ≡ out.old ++ call_lines calls.now replies.now) }
+{
+    for (at, call) in calls.iter().enumerate() {
+        let Some(reply) = replies.get(at) else {
+            return Ok(());
+        };
+        push_call_line(out, call, reply)?;
+    }
+    Ok(())
+}
+
+fn push_late(out: &mut Page, number: usize, end: LateEnd) -> Result<(), NoMemory>
+    ensures { OnOk result (out.new ≡ out.old ++ late_line number end) }
+{
+    write!(out, "  late {number} = ")?;
+    push_late_end(out, end)?;
+    write!(out, "\n")
+}
+
+fn push_lates(out: &mut Page, ends: &[LateEnd]) -> Result<(), NoMemory>
+    ensures { OnOk result (out.new ≡ out.old ++ late_lines 1 ends.now) }
+{
+    for (at, end) in ends.iter().enumerate() {
+        push_late(out, at + 1, *end)?;
+    }
+    Ok(())
+}
+
+fn push_outcome(out: &mut Page, outcome: &Outcome) -> Result<(), NoMemory>
+    ensures { OnOk result (out.new ≡ out.old ++ outcome_lines outcome.now) }
+{
+    match outcome {
+        Outcome::Committed { late } => push_lates(out, late.as_slice()),
+        Outcome::Aborted(report) => {
+            push_undos(out, report.records.as_slice())?;
+            push_remains(out, report.records.as_slice())
+        }
+    }
+}
+
+#[tactic(auto, using(crate::proofs::Pieces::four_pieces))]
+fn push_entry(out: &mut Page, entry: &Entry) -> Result<(), NoMemory>
+    ensures { OnOk result (out.new ≡ out.old ++ entry_text entry.now) }
+{
+    push_head(out, entry)?;
+    push_calls(out, entry.calls.as_slice(), entry.replies.as_slice())?;
+    push_outcome(out, &entry.outcome)?;
+    push_held(out, entry.held.as_slice())
+}
+
+pub fn push_journal(out: &mut Page, journal: &[Entry]) -> Result<(), NoMemory>
+    ensures { OnOk result (out.new ≡ out.old ++ journal_text journal.now) }
+{
+    for entry in journal {
+        push_entry(out, entry)?;
+    }
+    Ok(())
+}

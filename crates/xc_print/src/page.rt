@@ -1,0 +1,52 @@
+ghost use Rattle.std.specs.Prelude.{◌≡◌, ◌++◌, [], OnOk};
+ghost use Rattle.std.specs.Fmt.{AppendsText};
+
+use std::alloc::Global;
+use std::fmt::Display;
+use std::io::Write;
+use std::marker::Model;
+use xc_data::{NoMemory, Text};
+
+/// A text that grows at its end. Contracts see its bytes.
+#[derive(Drop)]
+pub struct Page {
+    bytes: Vec<u8>,
+}
+
+impl Model for Page {
+    ghost use Rattle.std.specs.Prelude.{List, ℕ};
+
+    ghost Value = { List ℕ };
+
+    ghost view = { λ a. a.bytes.items };
+}
+
+impl Page {
+    pub fn new(alloc: Global) -> Page
+        ensures { result ≡ [] }
+    {
+        Page {
+            bytes: Vec::new(alloc),
+        }
+    }
+
+    /// It takes no memory.
+    pub fn into_text(self) -> Text
+        ensures { result ≡ self }
+    {
+        Text::from_vec(self.bytes)
+    }
+
+    pub fn push(&mut self, bytes: &[u8]) -> Result<(), NoMemory>
+        ensures { OnOk result (self.new ≡ self.old ++ bytes.now) }
+    {
+        Ok(self.bytes.extend_from_slice(bytes)?)
+    }
+
+    // What `write!` calls. A vector refuses bytes for want of memory alone.
+    pub fn write_fmt<D: Display + Drop>(&mut self, text: D) -> Result<(), NoMemory>
+        ensures { OnOk result (AppendsText self.old self.new (D.output text)) }
+    {
+        self.bytes.write_fmt(text).map_err(|_| NoMemory)
+    }
+}

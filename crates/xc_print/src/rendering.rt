@@ -1,0 +1,103 @@
+ghost use Rattle.std.specs.Prelude.{◌≡◌, ◌++◌, ◌≤◌, length, IfOk, OnOk};
+ghost use Rattle.xc_print.specs.Text.{job_end_text, job_line, job_lines, word_line, word_lines, text as whole_text};
+ghost use Rattle.xc_print.specs.Totals.{totals_line, totals_of};
+
+use crate::Totals;
+use crate::entries::push_journal;
+use crate::page::Page;
+use std::alloc::Global;
+use xc_data::{Entry, JobEnd, JobLine, NoMemory, Text};
+
+fn push_job_end(out: &mut Page, end: &JobEnd) -> Result<(), NoMemory>
+    ensures { OnOk result (out.new ≡ out.old ++ job_end_text end.now) }
+{
+    match end {
+        JobEnd::Done => write!(out, "done"),
+        JobEnd::GaveUp(_) => write!(out, "gave up"),
+        JobEnd::JournalFull => write!(out, "journal full"),
+        JobEnd::NoMemory => write!(out, "no memory"),
+    }
+}
+
+fn push_job(out: &mut Page, number: usize, job: &JobLine) -> Result<(), NoMemory>
+    ensures { OnOk result (out.new ≡ out.old ++ job_line number job.now) }
+{
+    write!(out, "job {number} ")?;
+    out.push(job.block.as_slice())?;
+    write!(out, " ")?;
+    push_job_end(out, &job.end)?;
+    write!(out, "\n")
+}
+
+fn push_jobs(out: &mut Page, jobs: &[JobLine]) -> Result<(), NoMemory>
+    ensures { OnOk result (out.new ≡ out.old ++ job_lines 1 jobs.now) }
+{
+    for (at, job) in jobs.iter().enumerate() {
+        push_job(out, at + 1, job)?;
+    }
+    Ok(())
+}
+
+fn push_word(out: &mut Page, at: usize, value: u64) -> Result<(), NoMemory>
+    ensures { OnOk result (out.new ≡ out.old ++ word_line at value) }
+{
+    if value == 0 {
+        return Ok(());
+    }
+    write!(out, "word {at} {value}\n")
+}
+
+fn push_words(out: &mut Page, words: &[u64]) -> Result<(), NoMemory>
+    ensures { OnOk result (out.new ≡ out.old ++ word_lines 0 words.now) }
+{
+    for (at, value) in words.iter().enumerate() {
+        push_word(out, at, *value)?;
+    }
+    Ok(())
+}
+
+fn push_totals(out: &mut Page, totals: Totals) -> Result<(), NoMemory>
+    ensures { OnOk result (out.new ≡ out.old ++ totals_line totals) }
+{
+    let Totals {
+        committed,
+        aborted,
+        faults,
+        remains,
+    } = totals;
+    write!(
+        out,
+        "total {committed} committed, {aborted} aborted, {faults} faults, {remains} remains\n"
+    )
+}
+
+#[tactic(auto, using(crate::proofs::Pieces::four_pieces))]
+fn push_text(
+    out: &mut Page,
+    journal: &[Entry],
+    jobs: &[JobLine],
+    words: &[u64],
+) -> Result<(), NoMemory>
+    requires { length journal.now ≤ 10000 }
+    ensures { OnOk result (out.new ≡ out.old ++ whole_text journal.now jobs.now words.now) }
+{
+    push_journal(out, journal)?;
+    push_jobs(out, jobs)?;
+    push_words(out, words)?;
+    push_totals(out, Totals::of(journal))
+}
+
+/// The text of a run: its journal, its jobs in the order of their numbers and its words.
+pub fn render(
+    alloc: Global,
+    journal: &[Entry],
+    jobs: &[JobLine],
+    words: &[u64],
+) -> Result<Text, NoMemory>
+    requires few { length journal.now ≤ 10000 }
+    ensures { IfOk result (λ text. text ≡ whole_text journal.now jobs.now words.now) }
+{
+    let mut out = Page::new(alloc);
+    push_text(&mut out, journal, jobs, words)?;
+    Ok(out.into_text())
+}

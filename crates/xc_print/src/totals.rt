@@ -1,0 +1,169 @@
+ghost use Rattle.std.specs.Prelude.{◌≡◌, ◌≤◌, ◌<◌, ◌^◌, length, count_by, sum_by};
+ghost use Rattle.xc_print.specs.Totals.{is_committed, is_aborted, is_fault_reply, is_fault_end, undo_faults, outcome_faults, entry_faults, stands, outcome_remains, entry_remains, totals_of};
+
+use crate::records::stands_from;
+use xc_data::{Entry, LateEnd, Outcome, Reply, Undo, UndoEnd};
+
+/// What the last line of a text counts.
+#[derive(Clone, Copy, Debug, PartialEq, Eq)]
+pub struct Totals {
+    pub committed: usize,
+    pub aborted: usize,
+    /// Fault replies, late calls that ended in a fault, and faults of compensations.
+    pub faults: u128,
+    /// The effects of aborted transactions that stand.
+    pub remains: u128,
+}
+
+fn is_commit(entry: &Entry) -> bool
+    ensures { result ≡ is_committed entry.now }
+{
+    matches!(entry.outcome, Outcome::Committed { .. })
+}
+
+fn is_abort(entry: &Entry) -> bool
+    ensures { result ≡ is_aborted entry.now }
+{
+    matches!(entry.outcome, Outcome::Aborted(_))
+}
+
+fn count_committed(journal: &[Entry]) -> usize
+    ensures { result ≡ count_by is_committed journal.now }
+{
+    let mut count = 0;
+    for entry in journal {
+        if is_commit(entry) {
+            count += 1;
+        }
+    }
+    count
+}
+
+fn count_aborted(journal: &[Entry]) -> usize
+    ensures { result ≡ count_by is_aborted journal.now }
+{
+    let mut count = 0;
+    for entry in journal {
+        if is_abort(entry) {
+            count += 1;
+        }
+    }
+    count
+}
+
+fn count_fault_replies(replies: &[Reply]) -> usize
+    ensures { result ≡ count_by is_fault_reply replies.now }
+{
+    replies
+        .iter()
+        .filter(|reply| matches!(reply, Reply::Fault(_)))
+        .count()
+}
+
+fn count_fault_ends(ends: &[LateEnd]) -> usize
+    ensures { result ≡ count_by is_fault_end ends.now }
+{
+    ends.iter()
+        .filter(|end| matches!(end, LateEnd::Fault(_)))
+        .count()
+}
+
+fn faults_of(ended: &(Undo, UndoEnd)) -> u32
+    ensures { result ≡ undo_faults ended.now }
+{
+    match &ended.1 {
+        UndoEnd::Undone { faults } | UndoEnd::Failed { faults, .. } => *faults,
+        UndoEnd::Blocked { .. } => 0,
+    }
+}
+
+fn sum_faults(records: &[(Undo, UndoEnd)]) -> u128
+    ensures value { result ≡ sum_by undo_faults records.now }
+    ensures bound { result ≤ 2 ^ 96 }
+{
+    let mut faults = 0;
+    for ended in records {
+        faults += faults_of(ended) as u128;
+    }
+    faults
+}
+
+fn outcome_faults_of(outcome: &Outcome) -> u128
+    ensures value { result ≡ outcome_faults outcome.now }
+    ensures bound { result ≤ 2 ^ 96 }
+{
+    match outcome {
+        Outcome::Committed { late } => count_fault_ends(late.as_slice()) as u128,
+        Outcome::Aborted(report) => sum_faults(report.records.as_slice()),
+    }
+}
+
+fn entry_faults_of(entry: &Entry) -> u128
+    ensures value { result ≡ entry_faults entry.now }
+    ensures bound { result ≤ 2 ^ 97 }
+{
+    count_fault_replies(entry.replies.as_slice()) as u128 + outcome_faults_of(&entry.outcome)
+}
+
+fn is_standing(ended: &(Undo, UndoEnd)) -> bool
+    ensures { result ≡ stands ended.now }
+{
+    stands_from(&ended.0, &ended.1).is_some()
+}
+
+fn count_standing(records: &[(Undo, UndoEnd)]) -> usize
+    ensures { result ≡ count_by stands records.now }
+{
+    let mut count = 0;
+    for ended in records {
+        if is_standing(ended) {
+            count += 1;
+        }
+    }
+    count
+}
+
+fn entry_remains_of(entry: &Entry) -> usize
+    ensures { result ≡ entry_remains entry.now }
+{
+    match &entry.outcome {
+        Outcome::Committed { .. } => 0,
+        Outcome::Aborted(report) => count_standing(report.records.as_slice()),
+    }
+}
+
+fn journal_faults(journal: &[Entry]) -> u128
+    requires { length journal.now ≤ 10000 }
+    ensures { result ≡ sum_by entry_faults journal.now }
+{
+    let mut faults = 0;
+    for entry in journal {
+        faults += entry_faults_of(entry);
+    }
+    faults
+}
+
+fn journal_remains(journal: &[Entry]) -> u128
+    requires { length journal.now ≤ 10000 }
+    ensures { result ≡ sum_by entry_remains journal.now }
+{
+    let mut remains = 0;
+    for entry in journal {
+        remains += entry_remains_of(entry) as u128;
+    }
+    remains
+}
+
+impl Totals {
+    pub fn of(journal: &[Entry]) -> Totals
+        requires few { length journal.now ≤ 10000 }
+        ensures { result ≡ totals_of journal.now }
+    {
+        Totals {
+            committed: count_committed(journal),
+            aborted: count_aborted(journal),
+            faults: journal_faults(journal),
+            remains: journal_remains(journal),
+        }
+    }
+}
