@@ -1,0 +1,47 @@
+ghost use Rattle.std.specs.Prelude.{◌≡◌};
+ghost use Rattle.xc_app.specs.Status.{status_number};
+
+use xc_station::End;
+use xc_text::Why;
+
+/// The most bytes that are read: one more than a script may have.
+pub const LIMIT: usize = 1_048_577;
+
+/// How a run ended.
+#[derive(Clone, Copy, Debug, PartialEq, Eq)]
+pub enum Status {
+    Done,
+    /// The bytes read are no script: the first bad line, 0 for the whole, and its first reason.
+    Refused { line: u32, why: Why },
+    /// The words of the command line are refused.
+    Usage,
+    /// A read failed.
+    ReadFault,
+    /// A write failed.
+    WriteFault,
+    /// Memory was wanting, in the run or in one of its jobs.
+    NoMemory,
+}
+
+impl Status {
+    /// The exit status of the program.
+    pub fn number(self) -> u8
+        ensures { result ≡ status_number self }
+    {
+        match self {
+            Status::Done => 0,
+            Status::Refused { .. } => 1,
+            Status::Usage => 2,
+            Status::ReadFault => 3,
+            Status::WriteFault => 4,
+            Status::NoMemory => 5,
+        }
+    }
+}
+
+/// What a run leaves. The end is there once the script was run.
+#[derive(Debug, Drop)]
+pub struct Finish {
+    pub status: Status,
+    pub end: Option<End>,
+}
