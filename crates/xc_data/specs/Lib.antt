@@ -1,3 +1,5 @@
+pub mod Counts
+pub mod Faults
 pub mod Limits
 pub mod Private
 pub mod Spelling

@@ -1,7 +1,9 @@
 -- What a script without its statements keeps to.
-use Rattle.std.specs.Prelude.{ℕ, ◌+◌, ◌≤◌, Bool, true, false, length, All, count_by}
+use Rattle.std.specs.Prelude.{ℕ, ◌+◌, ◌≤◌, Bool, true, false, length, All, count_by, Option}
+use Rattle.std.specs.declared.option.Option.TheVariants.{None, Some}
 use Rattle.xc_data.specs.declared.script.Opened.{Opened}
 use Rattle.xc_data.specs.declared.script.Opened.TheVariants.{File, Pipe, Pair}
+use Rattle.xc_data.specs.declared.script.Prologue.{Prologue}
 use Rattle.xc_data.specs.declared.script.Script0.{Script0}
 
 abbrev pub IsOpenedFit : Opened → Type 0
@@ -17,10 +19,19 @@ abbrev pub is_pair_line : Opened → Bool
 is_pair_line Pair = true
 is_pair_line _ = false
 
+abbrev pub IsGrain : Option ℕ → Type 0
+IsGrain None = Unit {0}
+IsGrain (Some grain) = (1 ≤ grain) × (grain ≤ 65536)
+
+-- what a host may be opened with
+pub record IsPrologue (prologue : Prologue) : Type 0 where
+  pub objects : length prologue.objects ≤ 4096
+  pub contents : All IsOpenedFit prologue.objects
+  pub pipes : count_by is_pipe_line prologue.objects ≤ 64
+  pub pairs : count_by is_pair_line prologue.objects ≤ 32
+  pub grain : IsGrain prologue.grain
+
 pub record KeepsLimits (script : Script0) : Type 0 where
   pub words : length script.words ≤ 4096
-  pub objects : length script.prologue.objects ≤ 4096
-  pub contents : All IsOpenedFit script.prologue.objects
-  pub pipes : count_by is_pipe_line script.prologue.objects ≤ 64
-  pub pairs : count_by is_pair_line script.prologue.objects ≤ 32
+  pub prologue : IsPrologue script.prologue
   pub blocks : length script.jobs + length script.bodies ≤ 1000

@@ -1,6 +1,6 @@
 -- A source and a sink in memory.
 use Rattle.std.specs.Prelude.{◌≡◌, ◌⊎◌, ℕ, List, [], Contains, length, drop, take, Result, Ok, Err, ◌++◌}
-use Rattle.xc_edge.specs.Counts.{counted}
+use Rattle.xc_data.specs.Counts.{counted}
 
 -- what is left to be read; the numbers of the reads that fail; how many bytes a read gives at most
 pub record MemSource : Type 0 where

@@ -1,6 +1,7 @@
 ghost use Rattle.std.specs.Prelude.{◌≤◌, IfOk, OnOk, OnErr, IsErrOf};
 ghost use Rattle.std.specs.Io.KnownBytes.{Appends};
-ghost use Rattle.xc_edge.specs.Counts.{Rose, HasCause};
+ghost use Rattle.xc_data.specs.Counts.{Rose};
+ghost use Rattle.xc_edge.specs.Counts.{HasCause};
 ghost use Rattle.xc_edge.specs.Streams.{Came, ConsumesUpTo, AppendsPart};
 
 use crate::{Failed, Sink, Source};

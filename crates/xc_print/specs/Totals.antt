@@ -1,50 +1,20 @@
 -- What the last line counts.
 use Rattle.std.specs.Prelude.{ℕ, ◌+◌, Bool, true, false, not, is_some, List, ◌++◌, codes, count_by, sum_by}
 use Rattle.std.specs.Fmt.{decimal}
+use Rattle.xc_data.specs.Faults.{is_commit, entry_faults}
 use Rattle.xc_data.specs.Standing.{stands_from}
-use Rattle.xc_data.specs.declared.call.Reply.{Reply}
-use Rattle.xc_data.specs.declared.call.Reply.TheVariants as reply
-use Rattle.xc_data.specs.declared.call.LateEnd.{LateEnd}
-use Rattle.xc_data.specs.declared.call.LateEnd.TheVariants as late_end
 use Rattle.xc_data.specs.declared.entry.Entry.{Entry}
 use Rattle.xc_data.specs.declared.entry.Outcome.{Outcome}
 use Rattle.xc_data.specs.declared.entry.Outcome.TheVariants.{Committed, Aborted}
 use Rattle.xc_data.specs.declared.undo.Undo.{Undo}
 use Rattle.xc_data.specs.declared.undo.UndoEnd.{UndoEnd}
-use Rattle.xc_data.specs.declared.undo.UndoEnd.TheVariants.{Undone, Failed, Blocked}
 use Rattle.xc_print.specs.declared.totals.Totals.{Totals}
-
-abbrev pub is_commit : Outcome → Bool
-is_commit (Committed late) = true
-is_commit (Aborted report) = false
 
 abbrev pub is_committed : Entry → Bool
 is_committed entry = is_commit entry.outcome
 
 abbrev pub is_aborted : Entry → Bool
 is_aborted entry = not (is_commit entry.outcome)
-
-abbrev pub is_fault_reply : Reply → Bool
-is_fault_reply (reply.Fault n) = true
-is_fault_reply _ = false
-
-abbrev pub is_fault_end : LateEnd → Bool
-is_fault_end (late_end.Fault n) = true
-is_fault_end _ = false
-
--- the faults that a compensation met
-abbrev pub undo_faults : Undo × UndoEnd → ℕ
-undo_faults (undo, Undone faults) = faults
-undo_faults (undo, Failed done faults) = faults
-undo_faults (undo, Blocked by) = 0
-
-abbrev pub outcome_faults : Outcome → ℕ
-outcome_faults (Committed late) = count_by is_fault_end late
-outcome_faults (Aborted report) = sum_by undo_faults report.records
-
--- the fault replies, the late calls that ended in a fault and the faults of the compensations
-abbrev pub entry_faults : Entry → ℕ
-entry_faults entry = count_by is_fault_reply entry.replies + outcome_faults entry.outcome
 
 -- whether the effect of a record stands
 abbrev pub stands : Undo × UndoEnd → Bool

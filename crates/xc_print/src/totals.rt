@@ -1,5 +1,6 @@
 ghost use Rattle.std.specs.Prelude.{◌≡◌, ◌≤◌, ◌<◌, ◌^◌, length, count_by, sum_by};
-ghost use Rattle.xc_print.specs.Totals.{is_committed, is_aborted, is_fault_reply, is_fault_end, undo_faults, outcome_faults, entry_faults, stands, outcome_remains, entry_remains, totals_of};
+ghost use Rattle.xc_data.specs.Faults.{is_fault_reply, is_fault_end, undo_faults, outcome_faults, entry_faults};
+ghost use Rattle.xc_print.specs.Totals.{is_committed, is_aborted, stands, outcome_remains, entry_remains, totals_of};
 
 use crate::records::stands_from;
 use xc_data::{Entry, LateEnd, Outcome, Reply, Undo, UndoEnd};

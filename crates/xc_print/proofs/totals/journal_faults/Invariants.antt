@@ -1,5 +1,5 @@
 use Rattle.std.proofs.Common.{◌≡◌, ◌+◌, ◌*◌, ◌≤◌, ◌^◌, drop, sum_by}
-use Rattle.xc_print.specs.Totals.{entry_faults}
+use Rattle.xc_data.specs.Faults.{entry_faults}
 use Rattle.xc_print.proofs.totals.journal_faults.Given as goal
 
 -- what is counted and what is left are all, and each one counted is below a bound

@@ -1,5 +1,5 @@
 use Rattle.std.proofs.Common.{◌≡◌, ◌+◌, ◌*◌, ◌≤◌, ◌^◌, drop, sum_by}
-use Rattle.xc_print.specs.Totals.{undo_faults}
+use Rattle.xc_data.specs.Faults.{undo_faults}
 use Rattle.xc_print.proofs.totals.sum_faults.Given as goal
 
 -- what is counted and what is left are all, and each one counted is below a bound
