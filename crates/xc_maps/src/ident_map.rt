@@ -64,3 +64,15 @@ impl<V: Drop> IdentMap<V> {
         self.entries.remove(&ident)
     }
 }
+
+impl<V: Clone + Drop> IdentMap<V> {
+    /// Another map with the same entries, whose values' clones are equal to them.
+    pub fn copied(&self) -> Result<Self, NoMemory>
+        requires { (a : V) (b : V) → V.is_clone a b → b ≡ a }
+        ensures { IfOk result (λ copy. copy ≡ self.now) }
+    {
+        Ok(IdentMap {
+            entries: self.entries.clone()?,
+        })
+    }
+}

@@ -1,4 +1,4 @@
-ghost use Rattle.std.specs.Prelude.{◌≡◌, IfOk, OnOk, OnErr, None, is_some};
+ghost use Rattle.std.specs.Prelude.{◌≡◌, IfOk, OnOk, OnErr, None, is_some, true};
 ghost use Rattle.std.specs.Option.{option_copied};
 ghost use Rattle.std.specs.FinMap as map;
 ghost use Rattle.xc_maps.specs.Keys.{num_cmp};
@@ -51,6 +51,18 @@ impl<V: Drop> NumMap<V> {
         match self.entries.insert(num, value) {
             Ok(_) => Ok(()),
             Err(_) => Err(NoMemory),
+        }
+    }
+
+    /// Sets the value of a number that is there, and gives the old one. It takes no memory.
+    pub fn replace(&mut self, num: Num, value: V) -> Option<V>
+        requires there { is_some (map.get self.old num) ≡ true }
+        ensures value { result ≡ map.get self.old num }
+        ensures replaced { self.new ≡ map.insert self.old num value }
+    {
+        match self.entries.insert(num, value) {
+            Ok(held) => held,
+            Err(_) => None,
         }
     }
 
