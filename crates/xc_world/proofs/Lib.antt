@@ -16,6 +16,12 @@ pub mod Refused
 pub mod UndoingParts
 pub mod UndoingCalls
 pub mod UndoingBody
+pub mod EffectsParts
+pub mod EffectsCalls
+pub mod EffectsBody
+pub mod EffectsMade
+pub mod EffectsRemains
+pub mod EffectsUndone
 pub mod LocalParts
 pub mod LocalCalls
 pub mod Local

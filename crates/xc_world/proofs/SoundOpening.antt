@@ -89,12 +89,12 @@ bare_free script q = record { file = map.get-empty num_cmp q; pipe = map.get-emp
 pub opening_sound : (script : Script0) → KeepsLimits script → (tx : ℕ) → 0 < tx → IsSound (opening script) (beginning (opening_handles script)) tx
 opening_sound script limits tx lt =
     let objects = script.prologue.objects in
-    let all = all_opened (bare script) 0 objects limits.contents (bare_fit script) in
+    let all = all_opened (bare script) 0 objects limits.prologue.contents (bare_fit script) in
     let handles = handles_of 0 objects in
     record {
       world = all.fit;
       made = omega arith;
       stored = omega arith;
       new = λ k le. all.free (record { tx = tx; k = k }) lt (bare_free script (record { tx = tx; k = k }));
-      handles = λ h. place_in (IsKnown (opening script)) handles (256 - length handles) h tt (handles_known (bare script) 0 objects limits.contents (bare_fit script));
+      handles = λ h. place_in (IsKnown (opening script)) handles (256 - length handles) h tt (handles_known (bare script) 0 objects limits.prologue.contents (bare_fit script));
     }

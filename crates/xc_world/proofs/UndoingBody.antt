@@ -18,7 +18,7 @@ use Rattle.xc_world.specs.World.{World}
 use Rattle.xc_world.specs.Sound.{IsFree, IsSound}
 use Rattle.xc_world.specs.Act.Names.{next_num}
 use Rattle.xc_world.specs.Checks.{is_bad_handle, is_too_big, is_too_much, is_bad_word, is_refused}
-use Rattle.xc_world.specs.Act.Step.{Stepped}
+use Rattle.xc_world.specs.Act.Step.{Stepped, stays, counted}
 use Rattle.xc_world.specs.Act.Files.{overwrite_at}
 use Rattle.xc_world.specs.Act.{fine, faulty, done, act}
 use Rattle.xc_world.specs.Fits.{fits, asks_host, may_stop, is_done}
@@ -47,13 +47,13 @@ append_record-none w bytes (Pipe num) = refl
 append_record-none w bytes (Pair num side) = refl
 
 -- a refused call records nothing
-record NoneRecorded (w : World) (me : Private) (tx : ℕ) (c : Call) : Type 0 where
-  bad_handle : recorded w me tx c reply.BadHandle ≡ []
-  too_big : recorded w me tx c reply.TooBig ≡ []
-  too_much : recorded w me tx c reply.TooMuch ≡ []
-  bad_word : recorded w me tx c reply.BadWord ≡ []
+pub record NoneRecorded (w : World) (me : Private) (tx : ℕ) (c : Call) : Type 0 where
+  pub bad_handle : recorded w me tx c reply.BadHandle ≡ []
+  pub too_big : recorded w me tx c reply.TooBig ≡ []
+  pub too_much : recorded w me tx c reply.TooMuch ≡ []
+  pub bad_word : recorded w me tx c reply.BadWord ≡ []
 
-refusal-none : (w : World) (me : Private) (tx : ℕ) (c : Call) → NoneRecorded w me tx c
+pub refusal-none : (w : World) (me : Private) (tx : ℕ) (c : Call) → NoneRecorded w me tx c
 refusal-none w me tx (call.XWriteOvr h bytes) =
     let e = overwrite_record-none w bytes (place_of me.places h) in
     record { bad_handle = e; too_big = e; too_much = e; bad_word = e }
@@ -100,7 +100,7 @@ fine-undoes w me tx (call.XRecvmsg h) sound = receive_at-undoes w me (place_of m
 fine-undoes w me tx _ sound = as_is w
 
 -- a fault behind the first byte stops an overwrite that would be done
-stops : (w : World) (me : Private) (tx h : ℕ) (bytes : List ℕ) (n : ℕ) → IsTrue (fits w me tx (call.XWriteOvr h bytes) (answer.Fault n))
+pub stops : (w : World) (me : Private) (tx h : ℕ) (bytes : List ℕ) (n : ℕ) → IsTrue (fits w me tx (call.XWriteOvr h bytes) (answer.Fault n))
     → (n == 0) ≡ false → Stops n bytes (overwrite_at w me h bytes (place_of me.places h))
 stops w me tx h bytes n fit some =
     let c = call.XWriteOvr h bytes in
@@ -121,16 +121,22 @@ done-undoes : (w : World) (me : Private) (tx : ℕ) (c : Call) (a : Answer) → 
 done-undoes w me tx c answer.Fine sound fit = fine-undoes w me tx c sound
 done-undoes w me tx c (answer.Fault n) sound fit = faulty-undoes w me tx c n sound fit
 
+-- a call is refused by a check, or is done
+pub act-cases : (w : World) (me : Private) (tx : ℕ) (c : Call) (a : Answer) (P : Stepped → Type 0)
+    → P (stays w me reply.BadHandle) → P (stays w me reply.TooBig) → P (stays w me reply.TooMuch) → P (stays w me reply.BadWord)
+    → P (counted c (done w me tx c a)) → P (act w me tx c a)
+act-cases w me tx c a P bad_handle too_big too_much bad_word passed =
+    cond_both (is_bad_handle c me) _ _ P (λ _. bad_handle) (λ _.
+    cond_both (is_too_big c) _ _ P (λ _. too_big) (λ _.
+    cond_both (is_too_much c me) _ _ P (λ _. too_much) (λ _.
+    cond_both (is_bad_word c (length w.words)) _ _ P (λ _. bad_word) (λ _. passed))))
+
 act-undoes : (w : World) (me : Private) (tx : ℕ) (c : Call) (a : Answer) → IsSound w me tx → IsTrue (fits w me tx c a)
     → UndoesCall w me tx c (act w me tx c a)
 act-undoes w me tx c a sound fit =
-    let P = UndoesCall w me tx c in
     let none = refusal-none w me tx c in
-    cond_both (is_bad_handle c me) _ _ P (λ _. refused-undoes w _ none.bad_handle) (λ _.
-    cond_both (is_too_big c) _ _ P (λ _. refused-undoes w _ none.too_big) (λ _.
-    cond_both (is_too_much c me) _ _ P (λ _. refused-undoes w _ none.too_much) (λ _.
-    cond_both (is_bad_word c (length w.words)) _ _ P (λ _. refused-undoes w _ none.bad_word) (λ _.
-    done-undoes w me tx c a sound fit))))
+    act-cases w me tx c a (UndoesCall w me tx c) (refused-undoes w _ none.bad_handle) (refused-undoes w _ none.too_big)
+    (refused-undoes w _ none.too_much) (refused-undoes w _ none.bad_word) (done-undoes w me tx c a sound fit)
 
 -- ---- all calls of a body
 -- the later records are undone first

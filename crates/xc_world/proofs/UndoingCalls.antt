@@ -72,7 +72,7 @@ overwrite_at-undoes w me h bytes (Pipe num) known = as_is w
 overwrite_at-undoes w me h bytes (Pair num side) known = as_is w
 
 -- an overwrite that would be done is within the file
-done-inside : (w : World) (me : Private) (h : ℕ) (bytes : List ℕ) (num : Num) (at : ℕ) → 0 < length bytes
+pub done-inside : (w : World) (me : Private) (h : ℕ) (bytes : List ℕ) (num : Num) (at : ℕ) → 0 < length bytes
     → IsTrue (is_done (overwrite_at w me h bytes (File num at)).reply)
     → at + length bytes ≤ length (file_of w num)
 done-inside w me h bytes num at some =

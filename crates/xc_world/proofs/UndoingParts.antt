@@ -22,7 +22,7 @@ back : (to : ℕ) (p b q : List ℕ) → length p + length b ≡ to → drop to 
 back to p b q e = ap (λ n. drop n ((p ++ b) ++ q)) (sym e ∙ sym (length-append p b)) ∙ drop-append_seam (p ++ b) q
 
 -- a middle is written over by one as long
-swapped : (at : ℕ) (p b m q : List ℕ) → length p ≡ at → length b ≡ length m → overwritten at m ((p ++ b) ++ q) ≡ (p ++ m) ++ q
+pub swapped : (at : ℕ) (p b m q : List ℕ) → length p ≡ at → length b ≡ length m → overwritten at m ((p ++ b) ++ q) ≡ (p ++ m) ++ q
 swapped at p b m q e l = ap₂ (λ x y. (x ++ m) ++ y) (front at p b q e) (back (at + length m) p b q (omega arith))
 
 -- the list in three parts

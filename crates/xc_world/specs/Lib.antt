@@ -8,6 +8,7 @@ pub mod Touch
 pub mod Run
 pub mod Trail
 pub mod Ends
+pub mod Effects
 pub mod Opening
 pub mod Laws
 pub mod Undoing

@@ -7,6 +7,7 @@ ghost use Rattle.xc_world.specs.Ends.{remains, AreLegal};
 ghost use Rattle.xc_world.specs.Opening.{opening_state};
 
 mod checks;
+pub mod effects;
 mod handles;
 pub mod laws;
 mod run;

@@ -3,7 +3,7 @@ ghost use Rattle.xc_world.specs.Sound.{IsSound, IsShortCall, names_there};
 ghost use Rattle.xc_world.specs.Fits.{late_fits};
 ghost use Rattle.xc_data.specs.Limits.{KeepsLimits, IsOpenedFit};
 
-use crate::{World, late_call, opening_private};
+use crate::{World, late_call, opening_private, run_body};
 use std::alloc::Global;
 use xc_data::{
     Answer, Call, Chunk, Ident, Items, LateAnswer, LateCall, LateEnd, Name, NoMemory, Opened,
@@ -19,10 +19,20 @@ struct Transaction {
     fails: bool,
 }
 
-// Transactions one after another in the world that these lines open.
+// A body that is run whole, its replies, and how its late calls end.
+#[derive(Drop)]
+struct Whole {
+    asked: Vec<(Call, Answer)>,
+    replies: Vec<Reply>,
+    ends: Vec<LateEnd>,
+}
+
+// Transactions one after another in the world that these lines open, behind a body that is run
+// whole there, if there is one.
 #[derive(Drop)]
 struct Row {
     opened: Vec<Opened>,
+    whole: Option<Whole>,
     transactions: Vec<Transaction>,
 }
 
@@ -54,7 +64,7 @@ fn keeps_limits(script: &Script0) -> bool
     if script.words.len() > 4096 || script.prologue.objects.len() > 32 {
         return false;
     }
-    if script.jobs.len() > 1 || script.bodies.len() > 1 {
+    if script.jobs.len() > 1 || script.bodies.len() > 1 || script.prologue.grain.is_some() {
         return false;
     }
     are_fit(script.prologue.objects.as_slice())
@@ -156,6 +166,58 @@ fn plays(
     Ok(end_so(world, me, late.as_slice(), ends, transaction.fails)? && same)
 }
 
+fn is_fine(answer: Answer) -> bool
+    ensures { IsTrue result → answer ≡ Answer.Fine }
+{
+    matches!(answer, Answer::Fine)
+}
+
+// The host does its part in each call.
+fn are_fine(asked: &[(Call, Answer)]) -> bool
+    ensures { IsTrue result → All (λ c. c.1 ≡ Answer.Fine) asked.now }
+{
+    for call in asked {
+        if !is_fine(call.1) {
+            return false;
+        }
+    }
+    true
+}
+
+// The body that is run whole replies and ends so.
+fn runs_so(
+    alloc: Global,
+    world: &mut World,
+    me: &mut Private,
+    whole: &Whole,
+) -> Result<bool, NoMemory>
+    requires { IsSound world.old me.old 1 }
+    ensures { OnOk result (IsSound world.new me.new 1) }
+{
+    let asked = whole.asked.as_slice();
+    if !are_fine(asked) {
+        return Ok(false);
+    }
+    let replied = run_body(alloc, world, me, 1, asked)?;
+    let same = replied.replies.as_slice() == whole.replies.as_slice();
+    Ok(end_so(world, me, replied.late.as_slice(), &whole.ends, false)? && same)
+}
+
+fn runs_if_any(
+    alloc: Global,
+    world: &mut World,
+    me: &mut Private,
+    whole: &Option<Whole>,
+) -> Result<bool, NoMemory>
+    requires { IsSound world.old me.old 1 }
+    ensures { OnOk result (IsSound world.new me.new 1) }
+{
+    match whole {
+        Some(whole) => runs_so(alloc, world, me, whole),
+        None => Ok(true),
+    }
+}
+
 fn script_of(alloc: Global, opened: Vec<Opened>) -> Result<Script0, NoMemory> {
     Ok(Script0 {
         words: Items::from_vec(vec![in alloc; 0; 16]?),
@@ -169,7 +231,7 @@ fn script_of(alloc: Global, opened: Vec<Opened>) -> Result<Script0, NoMemory> {
     })
 }
 
-// All transactions of the row reply and end so.
+// The body that is run whole and all transactions of the row reply and end so.
 fn plays_row(alloc: Global, row: Row) -> Result<bool, NoMemory> {
     let script = script_of(alloc, row.opened)?;
     if !keeps_limits(&script) {
@@ -177,7 +239,7 @@ fn plays_row(alloc: Global, row: Row) -> Result<bool, NoMemory> {
     }
     let mut world = World::of(alloc, &script)?;
     let mut me = opening_private(alloc, &script)?;
-    let mut same = true;
+    let mut same = runs_if_any(alloc, &mut world, &mut me, &row.whole)?;
     for transaction in &row.transactions {
         same &= plays(alloc, &mut world, &mut me, transaction)?;
     }
@@ -259,6 +321,7 @@ fn committed(steps: Vec<(Call, Reply)>, ends: Vec<LateEnd>) -> Transaction {
 fn alone(alloc: Global, opened: Opened, transaction: Transaction) -> Result<Row, NoMemory> {
     Ok(Row {
         opened: vec![in alloc; opened]?,
+        whole: None,
         transactions: vec![in alloc; transaction]?,
     })
 }
@@ -287,6 +350,7 @@ fn late_unlink(alloc: Global) -> Result<Row, NoMemory> {
     let second = vec![in alloc; (open_a()?, Reply::NoName), (read, hello)]?;
     Ok(Row {
         opened: vec![in alloc; file(alloc, b"a", b"hello")?]?,
+        whole: None,
         transactions: vec![in alloc;
             committed(first, vec![in alloc; LateEnd::Done]?),
             committed(second, Vec::new(alloc)),
@@ -308,6 +372,7 @@ fn failed_message(alloc: Global) -> Result<Row, NoMemory> {
     let second = vec![in alloc; (Call::XRecvmsg { h: 1 }, Reply::Empty)]?;
     Ok(Row {
         opened: vec![in alloc; Opened::Pair]?,
+        whole: None,
         transactions: vec![in alloc; first, committed(second, Vec::new(alloc))]?,
     })
 }
@@ -325,6 +390,7 @@ fn refused_renames(alloc: Global) -> Result<Row, NoMemory> {
     ]?;
     Ok(Row {
         opened: vec![in alloc; file(alloc, b"a", b"1")?, file(alloc, b"b", b"2")?]?,
+        whole: None,
         transactions: vec![in alloc; aborted(steps)]?,
     })
 }
@@ -348,6 +414,7 @@ fn full_pipe(alloc: Global) -> Result<Row, NoMemory> {
     let first = vec![in alloc; (first, Reply::Late)]?;
     Ok(Row {
         opened: vec![in alloc; pipe(alloc, &filling)?]?,
+        whole: None,
         transactions: vec![in alloc;
             committed(first, vec![in alloc; LateEnd::Full(1)]?),
             committed(second, ends),
@@ -372,6 +439,7 @@ fn refusals(alloc: Global) -> Result<Row, NoMemory> {
     ]?;
     Ok(Row {
         opened: vec![in alloc; file(alloc, b"a", b"hello")?, pipe(alloc, b"")?]?,
+        whole: None,
         transactions: vec![in alloc; committed(steps, Vec::new(alloc))]?,
     })
 }
@@ -384,7 +452,64 @@ fn seventeen_pipes(alloc: Global) -> Result<Row, NoMemory> {
     steps.push((Call::XPipe, Reply::TooMuch))?;
     Ok(Row {
         opened: Vec::new(alloc),
+        whole: None,
         transactions: vec![in alloc; committed(steps, Vec::new(alloc))]?,
+    })
+}
+
+// Calls on a file, a pipe and a word, and an unlink at the end.
+fn asked(alloc: Global) -> Result<Vec<(Call, Answer)>, NoMemory> {
+    let append = Call::XWriteSeq {
+        h: 1,
+        bytes: Chunk::new(alloc, b"!")?,
+    };
+    let unlink = Call::XUnlink {
+        name: name(b"a")?,
+        slot: None,
+    };
+    Ok(vec![in alloc;
+        (open_a()?, Answer::Fine),
+        (overwrite(alloc, 1, b"HE")?, Answer::Fine),
+        (Call::XReadPipe { h: 0, n: 2 }, Answer::Fine),
+        (append, Answer::Fine),
+        (Call::Store { at: 3, value: 7 }, Answer::Fine),
+        (Call::XSeek { h: 1, to: 4 }, Answer::Fine),
+        (Call::XRead { h: 1, n: 9 }, Answer::Fine),
+        (unlink, Answer::Fine),
+    ]?)
+}
+
+// Run whole, it leaves the file, the pipe and the word as the second transaction finds them.
+fn whole_body(alloc: Global) -> Result<Row, NoMemory> {
+    let replies = vec![in alloc;
+        Reply::Made(1),
+        Reply::Done,
+        got(alloc, b"xy")?,
+        Reply::Done,
+        Reply::Done,
+        Reply::Done,
+        got(alloc, b"o!")?,
+        Reply::Late,
+    ]?;
+    let whole = Whole {
+        asked: asked(alloc)?,
+        replies,
+        ends: vec![in alloc; LateEnd::Done]?,
+    };
+    let left = vec![in alloc;
+        (open_a()?, Reply::NoName),
+        (Call::XLen { h: 1 }, Reply::Number(6)),
+        (Call::XSeek { h: 1, to: 0 }, Reply::Done),
+        (Call::XRead { h: 1, n: 9 }, got(alloc, b"HEllo!")?),
+        (Call::XReadPipe { h: 0, n: 9 }, got(alloc, b"z")?),
+        (Call::XReadPipe { h: 0, n: 9 }, Reply::Empty),
+        (Call::Load { at: 3 }, Reply::Number(7)),
+        (Call::Load { at: 2 }, Reply::Number(0)),
+    ]?;
+    Ok(Row {
+        opened: vec![in alloc; file(alloc, b"a", b"hello")?, pipe(alloc, b"xyz")?]?,
+        whole: Some(whole),
+        transactions: vec![in alloc; committed(left, Vec::new(alloc))]?,
     })
 }
 
@@ -403,6 +528,7 @@ fn worked_rows(rt: HostRuntime) -> Result<(), NoMemory> {
         ("full pipe", full_pipe(alloc)?),
         ("refusals", refusals(alloc)?),
         ("seventeen pipes", seventeen_pipes(alloc)?),
+        ("whole body", whole_body(alloc)?),
     ]?;
     for (row, told) in rows {
         assert!(rt; plays_row(alloc, told)?, "{row}");

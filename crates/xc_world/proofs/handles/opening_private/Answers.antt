@@ -10,4 +10,4 @@ holding-requires c =
     let len = length-handles_of 0 c.args.script.now.prologue.objects in
     let same : length c.as_slice-2.result.now ≡ length (handles_of 0 c.args.script.now.prologue.objects) =
     ap (λ (xs : List Place). length xs) (c.as_slice-2.ensures ∙ c.in_ok-places.ensures ∙ ap (λ (xs : List Opened). handles_of 0 xs) c.as_slice.ensures) in
-    omega (arith, c.requires.pipes, c.requires.pairs)
+    omega (arith, c.requires.prologue.pipes, c.requires.prologue.pairs)

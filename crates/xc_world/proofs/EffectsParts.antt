@@ -1,0 +1,57 @@
+-- Effects of records one behind another, and in a world with other words.
+use Rattle.std.proofs.Common.{◌≡◌, ℕ, Option, Some, None, List, [], ◌∷◌, ◌++◌, refl, ap, ◌∙◌}
+use Rattle.std.proofs.lemmas.List.{map-append}
+use Rattle.xc_data.specs.declared.object.Num.{Num}
+use Rattle.xc_data.specs.declared.undo.Undo.{Undo}
+use Rattle.xc_data.specs.declared.undo.Undo.TheVariants.{Bytes, Tail, Made, Moved, NewPipe, NewPair}
+use Rattle.std.specs.FinMap as finite
+use Rattle.xc_world.specs.World.{World}
+use Rattle.xc_world.specs.Trail.{move_name, with_effect}
+use Rattle.xc_world.specs.Ends.{with_remains}
+use Rattle.xc_world.specs.Effects.{whole, AreMadeIn}
+
+-- the world with other words
+abbrev pub with_words : World → List ℕ → World
+with_words w words = record w { words = words }
+
+move_name-words : (w : World) (words from to : List ℕ) (o : Option Num) → move_name (with_words w words) from to o ≡ with_words (move_name w from to o) words
+move_name-words w words from to None = refl
+move_name-words w words from to (Some num) = refl
+
+-- an effect asks for no word
+effect-words : (w : World) (words : List ℕ) (u : Undo) (k : ℕ) → with_effect (with_words w words) u k ≡ with_words (with_effect w u k) words
+effect-words w words (Bytes file at before after n) k = refl
+effect-words w words (Tail file from after n) k = refl
+effect-words w words (Made name num) k = refl
+effect-words w words (Moved from to) k = move_name-words w words from to (finite.get w.names from)
+effect-words w words (NewPipe num) k = refl
+effect-words w words (NewPair num) k = refl
+
+pub remains-words : (w : World) (words : List ℕ) (us : List (Undo × ℕ)) → with_remains (with_words w words) us ≡ with_words (with_remains w us) words
+remains-words w words [] = refl
+remains-words w words ((u, k) ∷ us) = ap (λ v. with_remains v us) (effect-words w words u k) ∙ remains-words (with_effect w u k) words us
+
+-- ---- one behind another
+pub remains-append : (w : World) (us vs : List (Undo × ℕ)) → with_remains w (us ++ vs) ≡ with_remains (with_remains w us) vs
+remains-append w [] vs = refl
+remains-append w ((u, k) ∷ us) vs = remains-append (with_effect w u k) us vs
+
+pub whole-append : (us vs : List Undo) → whole (us ++ vs) ≡ whole us ++ whole vs
+whole-append us vs = map-append (λ (u : Undo). (u, 0)) us vs
+
+-- records that stand whole, and then others
+pub whole-remains : (w : World) (older : List Undo) (u : Undo) (rest : List (Undo × ℕ))
+    → with_remains w (whole (older ++ u ∷ []) ++ rest) ≡ with_remains (with_effect (with_remains w (whole older)) u 0) rest
+whole-remains w older u rest =
+    remains-append w (whole (older ++ u ∷ [])) rest
+    ∙ ap (λ us. with_remains (with_remains w us) rest) (whole-append older (u ∷ []))
+    ∙ ap (λ v. with_remains v rest) (remains-append w (whole older) ((u, 0) ∷ []))
+
+-- the later records were made in the world that the earlier ones left
+pub made-behind : (w : World) (us vs : List Undo) → AreMadeIn w (us ++ vs) → AreMadeIn (with_remains w (whole us)) vs
+made-behind w [] vs made = made
+made-behind w (u ∷ us) vs made = made-behind (with_effect w u 0) us vs made.1
+
+pub made-append : (w : World) (us vs : List Undo) → AreMadeIn w us → AreMadeIn (with_remains w (whole us)) vs → AreMadeIn w (us ++ vs)
+made-append w [] vs first later = later
+made-append w (u ∷ us) vs first later = (first.0, made-append (with_effect w u 0) us vs first.1 later)

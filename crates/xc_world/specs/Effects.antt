@@ -1,0 +1,66 @@
+-- The effects that records have in a world, and where undoing them one by one leads.
+use Rattle.std.specs.Prelude.{◌≡◌, ℕ, ◌+◌, ◌≤◌, ◌==◌, Bool, true, false, is_some, List, [], ◌∷◌, length, map, take, drop, if◌then◌else◌}
+use Rattle.std.specs.FinMap as finite
+use Rattle.xc_data.specs.declared.object.Num.{Num}
+use Rattle.xc_data.specs.declared.call.Call.{Call}
+use Rattle.xc_data.specs.declared.call.Call.TheVariants as call
+use Rattle.xc_data.specs.declared.undo.Undo.{Undo}
+use Rattle.xc_data.specs.declared.undo.Undo.TheVariants.{Bytes}
+use Rattle.xc_data.specs.declared.undo.UndoEnd.{UndoEnd}
+use Rattle.xc_data.specs.declared.undo.UndoEnd.TheVariants.{Undone, Failed, Blocked}
+use Rattle.xc_world.specs.World.{World, file_of, with_file}
+use Rattle.xc_world.specs.Act.Files.{overwritten}
+use Rattle.xc_world.specs.Trail.{with_effect, undone}
+
+-- records that stand whole
+abbrev pub whole : List Undo → List (Undo × ℕ)
+whole us = map (λ u. (u, 0)) us
+
+-- a call that takes bytes or a message, which no record tells
+abbrev pub takes_data : Call → Bool
+takes_data (call.XReadPipe h n) = true
+takes_data (call.XRecvmsg h) = true
+takes_data _ = false
+
+-- a call that leaves no record but of an overwrite
+abbrev pub only_overwrites : Call → Bool
+only_overwrites (call.XCreate name) = false
+only_overwrites (call.XWriteSeq h bytes) = false
+only_overwrites (call.XRename from to) = false
+only_overwrites call.XPipe = false
+only_overwrites call.XPair = false
+only_overwrites _ = true
+
+-- ---- records that were made one after another, each in the world that the ones before it left
+pub record IsOverwriteIn (w : World) (file : Num) (at : ℕ) (before after : List ℕ) (n : ℕ) : Type 0 where
+  pub there : is_some (finite.get w.files file) ≡ true
+  pub inside : at + length after ≤ length (file_of w file)
+  pub old : before ≡ take (length after) (drop at (file_of w file))
+  pub some : 1 ≤ n
+  pub within : n ≤ length after
+
+-- overwrites are the records that can be undone so far
+abbrev pub IsMadeIn : World → Undo → Type 0
+IsMadeIn w (Bytes file at before after n) = IsOverwriteIn w file at before after n
+IsMadeIn w _ = ⊥
+
+abbrev pub AreMadeIn : World → List Undo → Type 0
+AreMadeIn w [] = Unit {0}
+AreMadeIn w (u ∷ us) = IsMadeIn w u × AreMadeIn (with_effect w u 0) us
+
+-- ---- one record's compensation
+-- the first bytes of an overwrite are the old ones again
+abbrev pub restored : World → Undo → ℕ → World
+restored w (Bytes file at before after n) done = if done == 0 then w else with_file w file (overwritten at (take done before) (file_of w file))
+restored w _ done = w
+
+-- what a compensation with this end did: all, a front, or nothing
+abbrev pub undone_to : World → Undo → UndoEnd → World
+undone_to w u (Undone faults) = undone w u
+undone_to w u (Failed done faults) = restored w u done
+undone_to w u (Blocked by) = w
+
+-- the bytes that a record covers are in its file
+abbrev pub IsCovered : World → Undo → Type 0
+IsCovered w (Bytes file at before after n) = (is_some (finite.get w.files file) ≡ true) × (at + n ≤ length (file_of w file))
+IsCovered w _ = ⊥

@@ -1,0 +1,65 @@
+ghost use Rattle.std.specs.Prelude.{◌≡◌, ◌≢◌, ℕ, ◌+◌, true, false, List, [], ◌∷◌, ◌++◌, length, map, All, IsTrue};
+ghost use Rattle.xc_data.specs.declared.call.Call.{Call};
+ghost use Rattle.xc_data.specs.declared.call.Answer.{Answer};
+ghost use Rattle.xc_data.specs.declared.undo.Undo.{Undo};
+ghost use Rattle.xc_data.specs.declared.undo.UndoEnd.{UndoEnd};
+ghost use Rattle.xc_data.specs.declared.private.Private.{Private};
+ghost use Rattle.xc_world.specs.World.{World};
+ghost use Rattle.xc_world.specs.Act.{act};
+ghost use Rattle.xc_world.specs.Sound.{IsSound};
+ghost use Rattle.xc_world.specs.Run.{Asked, body, body_fits};
+ghost use Rattle.xc_world.specs.Trail.{recorded};
+ghost use Rattle.xc_world.specs.Ends.{Ending, blocker, IsLegalEnd, remains, with_remains};
+ghost use Rattle.xc_world.specs.Effects.{whole, takes_data, only_overwrites, AreMadeIn, undone_to, IsCovered};
+
+/// Outside the words, the effects of its records are all that a call does, unless it takes bytes or
+/// a message.
+pub fn a_call_has_the_effects_of_its_records()
+    ensures { (w : World) (me : Private) (tx : ℕ) (call : Call) (answer : Answer) → takes_data call ≡ false
+        → (act w me tx call answer).world ≡ record (with_remains w (whole (recorded w me tx call (act w me tx call answer).reply))) { words = (act w me tx call answer).world.words } }
+{}
+
+/// The same of a body none of whose calls does.
+pub fn a_body_has_the_effects_of_its_records()
+    ensures { (w : World) (me : Private) (tx : ℕ) (asked : List Asked) → All (λ c. takes_data c.0 ≡ false) asked
+        → (body w me tx asked).world ≡ record (with_remains w (whole (body w me tx asked).trail)) { words = (body w me tx asked).world.words } }
+{}
+
+/// A body that leaves no record but of overwrites: each fits the file as the ones before it left it.
+pub fn an_overwriting_body_leaves_a_trail()
+    ensures { (w : World) (me : Private) (tx : ℕ) (asked : List Asked) → IsSound w me tx → IsTrue (body_fits w me tx asked) → All (λ c. only_overwrites c.0 ≡ true) asked
+        → AreMadeIn w (body w me tx asked).trail }
+{}
+
+/// A compensation with a legal end leaves what remains with that end: as if the record had not been
+/// made, or only so much of it, whatever newer records still stand.
+pub fn a_record_is_undone()
+    ensures { (w : World) (older : List Undo) (u : Undo) (newer : List Ending) (tries : ℕ) (end : UndoEnd) → AreMadeIn w (older ++ u ∷ map (λ r. r.0) newer)
+        → IsLegalEnd tries u end (blocker (length older + 1 + 1) u newer)
+        → undone_to (with_remains w (whole (older ++ u ∷ []) ++ remains newer)) u end ≡ with_remains w (whole older ++ remains ((u, end) ∷ newer)) }
+{}
+
+/// The bytes that the newest record covers that still stands whole are in its file, however the
+/// newer ones ended.
+pub fn the_newest_record_is_covered()
+    ensures { (w : World) (older : List Undo) (u : Undo) (newer : List Ending) → AreMadeIn w (older ++ u ∷ map (λ r. r.0) newer)
+        → IsCovered (with_remains w (whole (older ++ u ∷ []) ++ remains newer)) u }
+{}
+
+/// Whatever remains of them, records leave a sound world sound.
+pub fn what_remains_is_sound()
+    ensures { (w : World) (me : Private) (tx : ℕ) (records : List Ending) → AreMadeIn w (map (λ r. r.0) records) → IsSound w me tx
+        → IsSound (with_remains w (remains records)) me tx }
+{}
+
+/// A body with answers that fit keeps a world and its private state sound.
+pub fn a_body_keeps_all_sound()
+    ensures { (w : World) (me : Private) (tx : ℕ) (asked : List Asked) → IsSound w me tx → IsTrue (body_fits w me tx asked)
+        → IsSound (body w me tx asked).world (body w me tx asked).me tx }
+{}
+
+/// It keeps every other transaction's private state sound too.
+pub fn a_body_keeps_others_sound()
+    ensures { (w : World) (me you : Private) (tx ty : ℕ) (asked : List Asked) → IsSound w me tx → IsTrue (body_fits w me tx asked) → IsSound w you ty → (ty ≢ tx)
+        → IsSound (body w me tx asked).world you ty }
+{}
