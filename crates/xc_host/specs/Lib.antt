@@ -1,0 +1,3 @@
+pub mod Contents
+pub mod Cause
+pub mod Fronts
