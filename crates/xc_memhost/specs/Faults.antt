@@ -1,0 +1,45 @@
+-- Which calls fail, and how many bytes one call does.
+use Rattle.std.specs.Prelude.{ℕ, ◌||◌, ◌&&◌, Bool, Option, nat_le, min, slice_index, slice_set, if◌then◌else◌}
+use Rattle.std.specs.List.{list_any}
+use Rattle.std.specs.declared.option.Option.TheVariants.{None, Some}
+use Rattle.xc_data.specs.declared.script.FaultLine.{FaultLine}
+use Rattle.xc_data.specs.declared.script.Kind.{Kind}
+use Rattle.xc_data.specs.declared.script.Kind.TheVariants.{Any}
+use Rattle.xc_data.specs.Counts.{counted}
+use Rattle.xc_memhost.specs.Kinds.{is_kind, place_of}
+use Rattle.xc_memhost.specs.State.{HostState}
+
+-- ---- the call that comes next
+-- its number among those of its kind, from 1
+abbrev pub next_of : Kind → HostState → ℕ
+next_of kind s = counted (slice_index s.calls (place_of kind))
+
+-- its number among all, from 1
+abbrev pub next_of_all : HostState → ℕ
+next_of_all s = counted s.all
+
+-- the state with a call of this kind counted
+abbrev pub called : Kind → HostState → HostState
+called kind s = record s { calls = slice_set s.calls (place_of kind) (next_of kind s); all = next_of_all s }
+
+-- ---- a fault
+abbrev pub is_within : FaultLine → ℕ → Bool
+is_within line n = nat_le line.first n && nat_le n line.last
+
+-- a line lists call number n of this kind, which is number a of all
+abbrev pub lists : Kind → ℕ → ℕ → FaultLine → Bool
+lists kind n a line = (is_kind line.kind kind && is_within line n) || (is_kind line.kind Any && is_within line a)
+
+-- a line lists the next call, if it is of this kind
+abbrev pub is_listed : Kind → HostState → Bool
+is_listed kind s = list_any (lists kind (next_of kind s) (next_of_all s)) s.lines
+
+-- the state with a call of this kind counted, and its fault
+abbrev pub begun : Kind → HostState → HostState
+begun kind s = record (called kind s) { fault_count = if is_listed kind s then counted s.fault_count else s.fault_count }
+
+-- ---- the grain
+-- the smaller of the grain and n
+abbrev pub grained : Option ℕ → ℕ → ℕ
+grained None n = n
+grained (Some grain) n = min n grain

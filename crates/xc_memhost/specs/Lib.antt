@@ -1,0 +1,4 @@
+pub mod Kinds
+pub mod State
+pub mod Faults
+pub mod Machine

@@ -1,0 +1,56 @@
+-- What a host in memory keeps.
+use Rattle.std.specs.Prelude.{ℕ, List, [], Option, replicate, refl}
+use Rattle.std.specs.declared.option.Option.TheVariants.{None}
+use Rattle.std.specs.Coded.{Coded, code_by, coded×, coded_ℕ, coded_list, coded_option}
+use Rattle.std.specs.FinMap as map
+use Rattle.xc_data.specs.declared.object.Num.{Num}
+use Rattle.xc_data.specs.declared.script.FaultLine.{FaultLine}
+use Rattle.xc_data.specs.declared.script.Prologue.{Prologue}
+use Rattle.xc_data.specs.contracts.script.FaultLine as fault_line
+use Rattle.xc_maps.specs.Keys.{name_cmp, num_cmp, coded_name, coded_num}
+use Rattle.xc_world.specs.World.{Pipe, Pair, coded_pipe, coded_pair}
+use Rattle.xc_host.specs.Contents.{Contents, nothing, opened}
+
+-- the contents, the lines that say which calls fail, the most bytes of one call, how many calls there
+-- were of each kind and of all, and how many of them failed
+pub record HostState : Type 0 where
+  pub contents : Contents
+  pub lines : List FaultLine
+  pub grain : Option ℕ
+  pub calls : List ℕ
+  pub all : ℕ
+  pub fault_count : ℕ
+
+-- no call of any kind; the place of `Any` stays at 0, since `all` counts them all
+abbrev pub no_calls : List ℕ
+no_calls = replicate 25 0
+
+-- holds nothing, and nothing fails
+abbrev pub empty_state : HostState
+empty_state = record { contents = nothing; lines = []; grain = None; calls = no_calls; all = 0; fault_count = 0 }
+
+-- opened with a prologue, after so many faults
+abbrev pub opened_state : Prologue → ℕ → HostState
+opened_state prologue n = record { contents = opened prologue.objects; lines = prologue.faults; grain = prologue.grain; calls = no_calls; all = 0; fault_count = n }
+
+-- ---- how a proof stores a state
+abbrev pub coded_contents : Coded Contents
+coded_contents =
+    code_by
+    (map.FinMap name_cmp Num × (map.FinMap num_cmp (List ℕ) × (map.FinMap num_cmp Pipe × map.FinMap num_cmp Pair)))
+    (coded× (map.code coded_name coded_num) (coded× (map.code coded_num coded_name) (coded× (map.code coded_num coded_pipe) (map.code coded_num coded_pair))))
+    (λ c. (c.names, (c.files, (c.pipes, c.pairs))))
+    (λ p. record { names = p.0; files = p.1.0; pipes = p.1.1.0; pairs = p.1.1.1 })
+    (λ _. refl)
+
+abbrev pub coded_line : Coded FaultLine
+coded_line = fault_line.the_row.coded
+
+abbrev pub coded_state : Coded HostState
+coded_state =
+    code_by
+    (Contents × (List FaultLine × (Option ℕ × (List ℕ × (ℕ × ℕ)))))
+    (coded× coded_contents (coded× (coded_list coded_line) (coded× (coded_option coded_ℕ) (coded× coded_name (coded× coded_ℕ coded_ℕ)))))
+    (λ s. (s.contents, (s.lines, (s.grain, (s.calls, (s.all, s.fault_count))))))
+    (λ p. record { contents = p.0; lines = p.1.0; grain = p.1.1.0; calls = p.1.1.1.0; all = p.1.1.1.1.0; fault_count = p.1.1.1.1.1 })
+    (λ _. refl)

@@ -1,0 +1,186 @@
+ghost use Rattle.std.specs.Prelude.{◌≡◌, ◌+◌, ◌≤◌, true, length, take, drop, All, IfOk, IfSome, OnOk, is_some};
+ghost use Rattle.std.specs.FinMap as map;
+ghost use Rattle.xc_data.specs.Limits.{IsOpenedFit};
+ghost use Rattle.xc_world.specs.Opening.{with_opened};
+ghost use Rattle.xc_world.specs.World.{empty_pair};
+ghost use Rattle.xc_host.specs.Contents.{nothing, opened, file_in, has_file, wrote, world_of, contents_of};
+
+use crate::file_body::FileBody;
+use std::alloc::Global;
+use std::marker::Model;
+use xc_data::{Chunk, Items, Name, NoMemory, Num, Opened, Text};
+use xc_maps::{NameMap, NumMap};
+
+/// A pipe's bytes, and whether it is shut.
+#[derive(Drop)]
+pub(crate) struct PipeBody {
+    held: Text,
+    shut: bool,
+}
+
+impl Model for PipeBody {
+    ghost use Rattle.xc_world.specs.World.{Pipe, coded_pipe};
+
+    ghost Value = { Pipe };
+
+    ghost coded = { coded_pipe };
+
+    ghost view = { λ a. record { held = a.held; shut = a.shut } };
+}
+
+/// A pair's messages that wait for side 0 and for side 1, and whether it is shut.
+#[derive(Drop)]
+pub(crate) struct PairBody {
+    first: Items<Chunk>,
+    second: Items<Chunk>,
+    shut: bool,
+}
+
+impl Model for PairBody {
+    ghost use Rattle.xc_world.specs.World.{Pair, coded_pair};
+
+    ghost Value = { Pair };
+
+    ghost coded = { coded_pair };
+
+    ghost view = { λ a. record { first = a.first; second = a.second; shut = a.shut } };
+}
+
+/// The names, files, pipes and pairs.
+#[derive(Drop)]
+pub(crate) struct Objects {
+    alloc: Global,
+    names: NameMap<Num>,
+    files: NumMap<FileBody>,
+    pipes: NumMap<PipeBody>,
+    pairs: NumMap<PairBody>,
+}
+
+impl Model for Objects {
+    ghost use Rattle.xc_host.specs.Contents.{Contents};
+    ghost use Rattle.xc_memhost.specs.State.{coded_contents};
+
+    ghost Value = { Contents };
+
+    ghost coded = { coded_contents };
+
+    ghost view = { λ a. record { names = a.names; files = a.files; pipes = a.pipes; pairs = a.pairs } };
+}
+
+fn text_of(alloc: Global, bytes: &[u8]) -> Result<Text, NoMemory>
+    ensures { IfOk result (λ text. text ≡ bytes.now) }
+{
+    let mut text = Vec::new(alloc);
+    text.extend_from_slice(bytes)?;
+    Ok(Items::from_vec(text))
+}
+
+impl PairBody {
+    fn empty(alloc: Global) -> PairBody
+        ensures { result ≡ empty_pair }
+    {
+        PairBody {
+            first: Items::new(alloc),
+            second: Items::new(alloc),
+            shut: false,
+        }
+    }
+}
+
+impl Objects {
+    pub(crate) fn new(alloc: Global) -> Objects
+        ensures { result ≡ nothing }
+    {
+        Objects {
+            alloc,
+            names: NameMap::new(alloc),
+            files: NumMap::new(alloc),
+            pipes: NumMap::new(alloc),
+            pairs: NumMap::new(alloc),
+        }
+    }
+
+    fn open_line(&mut self, num: Num, opened: &Opened) -> Result<(), NoMemory>
+        requires { IsOpenedFit opened.now }
+        ensures { OnOk result (self.new ≡ contents_of (with_opened (world_of self.old) num opened.now)) }
+    {
+        match opened {
+            Opened::File { name, bytes } => {
+                let file = FileBody::of(self.alloc, bytes.as_slice())?;
+                self.names.insert(*name, num)?;
+                self.files.insert(num, file)
+            }
+            Opened::Pipe { bytes } => {
+                let held = text_of(self.alloc, bytes.as_slice())?;
+                self.pipes.insert(num, PipeBody { held, shut: false })
+            }
+            Opened::Pair => self.pairs.insert(num, PairBody::empty(self.alloc)),
+        }
+    }
+
+    // Exactly the objects of these lines.
+    #[tactic(auto, using(crate::proofs::Bodies::opens_contents))]
+    pub(crate) fn of(alloc: Global, objects: &[Opened]) -> Result<Objects, NoMemory>
+        requires count { length objects.now ≤ 4096 }
+        requires fit { All IsOpenedFit objects.now }
+        ensures { IfOk result (λ made. made ≡ opened objects.now) }
+    {
+        let mut made = Objects::new(alloc);
+        for (line, opened) in objects.iter().enumerate() {
+            let num = Num {
+                tx: 0,
+                k: line as u16,
+            };
+            made.open_line(num, opened)?;
+        }
+        Ok(made)
+    }
+
+    pub(crate) fn find(&self, name: Name) -> Option<Num>
+        ensures { result ≡ map.get self.now.names name }
+    {
+        self.names.get(name).copied()
+    }
+
+    pub(crate) fn bytes_of(&self, file: Num) -> Option<&[u8]>
+        ensures there { is_some result ≡ has_file self.now file }
+        ensures value { IfSome result (λ bytes. bytes.now ≡ file_in self.now file) }
+    {
+        match self.files.get(file) {
+            Some(body) => Some(body.as_slice()),
+            None => None,
+        }
+    }
+
+    pub(crate) fn len(&self, file: Num) -> u32
+        ensures { result ≡ length (file_in self.now file) }
+    {
+        match self.files.get(file) {
+            Some(body) => body.len(),
+            None => 0,
+        }
+    }
+
+    // The n bytes from `at`, or as many as are there.
+    pub(crate) fn front(&self, file: Num, at: u32, n: u32) -> &[u8]
+        ensures { result.now ≡ take n (drop at (file_in self.now file)) }
+    {
+        match self.files.get(file) {
+            Some(body) => body.front(at, n),
+            None => &[],
+        }
+    }
+
+    // In place, without memory.
+    pub(crate) fn overwrite(&mut self, file: Num, at: u32, bytes: &[u8])
+        requires there { has_file self.old file ≡ true }
+        requires inside { at + length bytes.now ≤ length (file_in self.old file) }
+        ensures { self.new ≡ wrote self.old file at bytes.now }
+    {
+        let Some(mut body) = self.files.replace(file, FileBody::empty(self.alloc)) else {
+            return;
+        };
+        body.overwrite(at, bytes);
+        self.files.replace(file, body);
+    }
+}
