@@ -1,0 +1,4 @@
+pub mod Trimming
+pub mod Fronts
+pub mod Blocking
+pub mod Trying

@@ -1,0 +1,20 @@
+use Rattle.std.proofs.Common.{◌≡◌, ◌+◌, ◌-◌, ◌≤◌, ◌<◌, length, take, IsTrue}
+use Rattle.xc_data.specs.Counts.{CountsFaults}
+use Rattle.xc_host.specs.Contents.{wrote_front}
+use Rattle.xc_compensate.specs.Restoring.{FitsIn}
+use Rattle.xc_compensate.proofs.undoing.restore_whole.Given as goal
+
+abbrev pub invariant-loop-progress : goal.invariant-loop-progress
+invariant-loop-progress g l =
+    let host = g.H.Host in
+    record {
+      room : l.progress.done ≤ length l.bytes;
+      left : l.progress.faults < l.tries;
+      fits : IsTrue host.tells → FitsIn (host.contents l.host) l.file l.at l.bytes;
+      told : IsTrue host.tells → host.contents l.host ≡ wrote_front (host.contents l.fn.host) l.file l.at (take l.progress.done l.bytes);
+      faults : CountsFaults l.progress.faults (host.fault_count l.fn.host) (host.fault_count l.host);
+    }
+
+-- the bytes and the tries that are left
+abbrev pub decreases-loop-progress : goal.decreases-loop-progress
+decreases-loop-progress g l = (length l.bytes - l.progress.done) + (l.tries - l.progress.faults)

@@ -1,0 +1,159 @@
+ghost use Rattle.std.specs.Prelude.{◌≡◌, ◌==◌, ◌≤◌, ◌<◌, ◌+◌, ◌++◌, ◌∷◌, [], List, ℕ, length, OnOk, OnErr, IsTrue};
+ghost use Rattle.xc_data.specs.declared.undo.Undo.{Undo};
+ghost use Rattle.xc_data.specs.declared.undo.UndoEnd.{UndoEnd};
+ghost use Rattle.xc_world.specs.Effects.{IsCovered};
+ghost use Rattle.xc_host.specs.Contents.{world_of};
+ghost use Rattle.xc_compensate.specs.declared.stack.UndoTurn.TheVariants.{Ended};
+ghost use Rattle.xc_compensate.specs.Records.{Records, IsRecord, IsTried, covers, covered, trimmed};
+ghost use Rattle.xc_compensate.specs.Turns.{turn_of};
+
+use crate::undoing::try_one;
+use std::alloc::Global;
+use std::marker::Model;
+use xc_data::{Items, NoMemory, RecordList, Undo, UndoEnd};
+use xc_host::Host;
+use xc_journal::Roomy;
+
+/// What one turn of an undoing did.
+#[derive(Clone, Copy, Debug, PartialEq, Eq)]
+pub enum UndoTurn {
+    /// Every record has its end.
+    Ended,
+    Undone { faults: u32 },
+    Failed { done: u32, faults: u32 },
+    Blocked { by: u32 },
+}
+
+/// The records of a transaction's calls, numbered from 1 in the order of the calls.
+///
+/// Room for each record's end is made with the record, so that undoing takes no memory.
+#[derive(Drop)]
+pub struct Stack {
+    alloc: Global,
+    pending: Vec<Undo>,
+    // the newest first
+    ended: Roomy<(Undo, UndoEnd)>,
+}
+
+impl Model for Stack {
+    ghost use Rattle.std.specs.Prelude.{reverse};
+    ghost use Rattle.xc_compensate.specs.Records.{Records, IsStack};
+
+    ghost Value = { Records };
+
+    ghost view = { λ a. record { pending = a.pending.items; ended = reverse a.ended.items } };
+
+    ghost invariant = { λ a. IsStack a.pending.items a.ended.items a.ended.spare };
+}
+
+// The record, covering its first n bytes.
+fn cover(undo: &mut Undo, n: u32)
+    ensures { undo.new ≡ covered undo.old n }
+{
+    match undo {
+        Undo::Bytes { n: covers, .. } => *covers = n,
+        Undo::Tail { n: covers, .. } => *covers = n,
+        _ => {}
+    }
+}
+
+/// What a turn answers whose record came to this end.
+pub(crate) fn turn_of(end: UndoEnd) -> UndoTurn
+    ensures { result ≡ turn_of end }
+{
+    match end {
+        UndoEnd::Undone { faults } => UndoTurn::Undone { faults },
+        UndoEnd::Failed { done, faults } => UndoTurn::Failed { done, faults },
+        UndoEnd::Blocked { by } => UndoTurn::Blocked { by },
+    }
+}
+
+impl Stack {
+    /// It takes no memory.
+    pub fn new(alloc: Global) -> Stack
+        ensures { result ≡ record { pending = []; ended = [] } }
+    {
+        Stack {
+            alloc,
+            pending: Vec::new(alloc),
+            ended: Roomy::new(alloc),
+        }
+    }
+
+    /// Made before the host is called.
+    pub fn push(&mut self, undo: Undo) -> Result<(), NoMemory>
+        requires record { IsRecord undo }
+        requires none { self.old.ended ≡ [] }
+        ensures ok { OnOk result (self.new ≡ record { pending = self.old.pending ++ undo ∷ []; ended = [] }) }
+        ensures err { OnErr result (self.new ≡ self.old) }
+    {
+        // never reached in memory
+        if self.pending.len() >= u32::MAX as usize {
+            return Err(NoMemory);
+        }
+        self.ended.reserve(self.pending.len() as u32 + 1)?;
+        Ok(self.pending.push(undo)?)
+    }
+
+    /// The newest record covers its first n bytes alone; where n is 0 it goes. It takes no memory.
+    pub fn trim(&mut self, n: u32)
+        requires some { 1 ≤ length self.old.pending }
+        requires within { (older : List Undo) (u : Undo) → self.old.pending ≡ older ++ u ∷ [] → n ≤ covers u }
+        ensures { self.new ≡ record self.old { pending = trimmed self.old.pending n } }
+    {
+        let Some(mut undo) = self.pending.pop() else {
+            return;
+        };
+        if n == 0 {
+            return;
+        }
+        cover(&mut undo, n);
+        self.pending.push_reserved(undo);
+    }
+
+    /// Tries the newest record that has no end yet. It takes no memory.
+    ///
+    /// Where a newer record of the same object failed or was blocked, the host isn't called. A fault
+    /// loses nothing of what was restored before it.
+    pub fn undo_next<H: Host>(&mut self, host: &mut H, tries: u32) -> UndoTurn
+        requires tries { 1 ≤ tries }
+        requires covered { IsTrue H.tells → (older : List Undo) (u : Undo) → self.old.pending ≡ older ++ u ∷ []
+            → IsCovered (world_of (H.contents host.old)) u }
+        ensures ended { self.old.pending ≡ [] → (result ≡ Ended) × (self.new ≡ self.old) × (H.fault_count host.new ≡ H.fault_count host.old)
+            × (IsTrue H.tells → H.contents host.new ≡ H.contents host.old) }
+        ensures tried { (older : List Undo) (u : Undo) → self.old.pending ≡ older ++ u ∷ [] → (end : UndoEnd) × (result ≡ turn_of end)
+            × IsTried H.tells tries self.old self.new (H.contents host.old) (H.contents host.new) (H.fault_count host.old) (H.fault_count host.new) older u end }
+    {
+        let Some(undo) = self.pending.pop() else {
+            return UndoTurn::Ended;
+        };
+        let number = self.pending.len() as u32 + 1;
+        let end = try_one(
+            self.alloc,
+            host,
+            number,
+            &undo,
+            self.ended.as_slice(),
+            tries,
+        );
+        self.ended.enter((undo, end));
+        turn_of(end)
+    }
+
+    /// Whether every record has its end.
+    pub fn is_undone(&self) -> bool
+        ensures { result ≡ (length self.now.pending == 0) }
+    {
+        self.pending.is_empty()
+    }
+
+    /// Every record has its end. It takes no memory.
+    pub fn records(self) -> RecordList
+        requires { self.pending ≡ [] }
+        ensures { result ≡ self.ended }
+    {
+        let mut records = self.ended.into_items().into_vec();
+        records.reverse();
+        Items::from_vec(records)
+    }
+}

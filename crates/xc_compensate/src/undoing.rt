@@ -1,0 +1,185 @@
+ghost use Rattle.std.specs.Prelude.{◌≡◌, ◌⊎◌, ◌≤◌, ◌<◌, ◌+◌, ◌^◌, ℕ, length, take, reverse, IsTrue};
+ghost use Rattle.std.specs.declared.option.Option.TheVariants.{None};
+ghost use Rattle.std.specs.List.{list_any, position};
+ghost use Rattle.xc_data.specs.Counts.{CountsFaults};
+ghost use Rattle.xc_data.specs.Faults.{end_faults};
+ghost use Rattle.xc_world.specs.Touch.{is_object};
+ghost use Rattle.xc_world.specs.Effects.{undone_to, IsCovered};
+ghost use Rattle.xc_world.specs.Ends.{share_object, is_undone, blocks, blocker, IsLegalEnd};
+ghost use Rattle.xc_host.specs.Contents.{Contents, contents_of, world_of, wrote_front};
+ghost use Rattle.xc_compensate.specs.Records.{IsRecord};
+ghost use Rattle.xc_compensate.specs.Restoring.{IsStep, IsRestoreEnd, FitsIn, done_by};
+
+use std::alloc::Global;
+use xc_data::{Num, Object, Undo, UndoEnd};
+use xc_host::Host;
+
+// ---- what stands in the way
+
+fn is_among(object: &Object, objects: &[Object]) -> bool
+    ensures { result ≡ list_any (is_object object.now) objects.now }
+{
+    objects.iter().any(|other| object == other)
+}
+
+fn share_object(alloc: Global, a: &Undo, b: &Undo) -> bool
+    ensures { result ≡ share_object a.now b.now }
+{
+    let objects = a.objects(alloc);
+    let others = b.objects(alloc);
+    objects
+        .as_slice()
+        .iter()
+        .any(|object| is_among(object, others.as_slice()))
+}
+
+fn is_undone(end: UndoEnd) -> bool
+    ensures { result ≡ is_undone end }
+{
+    matches!(end, UndoEnd::Undone { .. })
+}
+
+fn blocks(alloc: Global, older: &Undo, newer: &(Undo, UndoEnd)) -> bool
+    ensures { result ≡ blocks older.now newer.now }
+{
+    !is_undone(newer.1) && share_object(alloc, older, &newer.0)
+}
+
+// How many records lie between an older one and the first that stands in its way.
+fn way(alloc: Global, older: &Undo, newest_first: &[(Undo, UndoEnd)]) -> Option<usize>
+    ensures { result ≡ position (blocks older.now) (reverse newest_first.now) }
+{
+    newest_first
+        .iter()
+        .rev()
+        .position(|newer| blocks(alloc, older, newer))
+}
+
+// The smallest number of a newer record in the way of the one of this number.
+fn blocker(
+    alloc: Global,
+    number: u32,
+    older: &Undo,
+    newest_first: &[(Undo, UndoEnd)],
+) -> Option<u32>
+    requires { number + length newest_first.now < 2 ^ 32 }
+    ensures { result ≡ blocker (number + 1) older.now (reverse newest_first.now) }
+{
+    match way(alloc, older, newest_first) {
+        Some(between) => Some(number + 1 + between as u32),
+        None => None,
+    }
+}
+
+// ---- putting old bytes back
+
+/// How far an overwrite is undone: so many bytes are restored, and so many tries failed.
+#[derive(Clone, Copy)]
+struct Progress {
+    done: u32,
+    faults: u32,
+}
+
+// One call of the host, from the first byte on that isn't restored.
+fn restore_more<H: Host>(
+    host: &mut H,
+    file: Num,
+    at: u32,
+    bytes: &[u8],
+    progress: Progress,
+) -> Progress
+    requires left { progress.done < length bytes.now }
+    requires room { at + length bytes.now < 2 ^ 32 }
+    requires few { progress.faults + 1 < 2 ^ 32 }
+    requires fits { IsTrue H.tells → FitsIn (H.contents host.old) file at bytes.now }
+    ensures step { IsStep progress result (length bytes.now) }
+    ensures fits { IsTrue H.tells → FitsIn (H.contents host.new) file at bytes.now }
+    ensures effect { IsTrue H.tells → (was : Contents) → FitsIn was file at bytes.now
+        → H.contents host.old ≡ wrote_front was file at (take progress.done bytes.now)
+        → H.contents host.new ≡ wrote_front was file at (take result.done bytes.now) }
+    ensures faults { (before : ℕ) → CountsFaults progress.faults before (H.fault_count host.old)
+        → CountsFaults result.faults before (H.fault_count host.new) }
+{
+    match host.restore(file, at + progress.done, &bytes[progress.done as usize..]) {
+        Ok(count) => Progress {
+            done: progress.done + count,
+            faults: progress.faults,
+        },
+        Err(_) => Progress {
+            done: progress.done,
+            faults: progress.faults + 1,
+        },
+    }
+}
+
+// Puts the bytes back until all are restored or so many tries failed. A fault loses nothing of what
+// was restored before it.
+fn restore_whole<H: Host>(host: &mut H, file: Num, at: u32, bytes: &[u8], tries: u32) -> UndoEnd
+    requires tries { 1 ≤ tries }
+    requires room { at + length bytes.now < 2 ^ 32 }
+    requires fits { IsTrue H.tells → FitsIn (H.contents host.old) file at bytes.now }
+    ensures end { IsRestoreEnd tries (length bytes.now) result }
+    ensures effect { IsTrue H.tells
+        → H.contents host.new ≡ wrote_front (H.contents host.old) file at (take (done_by (length bytes.now) result) bytes.now) }
+    ensures faults { CountsFaults (end_faults result) (H.fault_count host.old) (H.fault_count host.new) }
+{
+    let mut progress = Progress { done: 0, faults: 0 };
+    while (progress.done as usize) < bytes.len() {
+        progress = restore_more(host, file, at, bytes, progress);
+        if progress.faults == tries {
+            return UndoEnd::Failed {
+                done: progress.done,
+                faults: tries,
+            };
+        }
+    }
+    UndoEnd::Undone {
+        faults: progress.faults,
+    }
+}
+
+// Undoes one record that nothing stands in the way of.
+fn undo_one<H: Host>(host: &mut H, undo: &Undo, tries: u32) -> UndoEnd
+    requires tries { 1 ≤ tries }
+    requires record { IsRecord undo.now }
+    requires covered { IsTrue H.tells → IsCovered (world_of (H.contents host.old)) undo.now }
+    ensures legal { IsLegalEnd tries undo.now result None }
+    ensures faults { CountsFaults (end_faults result) (H.fault_count host.old) (H.fault_count host.new) }
+    ensures effect { IsTrue H.tells
+        → H.contents host.new ≡ contents_of (undone_to (world_of (H.contents host.old)) undo.now result) }
+{
+    match undo {
+        Undo::Bytes {
+            file,
+            at,
+            before,
+            n,
+            ..
+        } => restore_whole(host, *file, *at, &before.as_slice()[..*n as usize], tries),
+        _ => unreachable!(),
+    }
+}
+
+/// Tries one record of this number, behind which only the given ones stand. It takes no memory.
+pub(crate) fn try_one<H: Host>(
+    alloc: Global,
+    host: &mut H,
+    number: u32,
+    undo: &Undo,
+    newest_first: &[(Undo, UndoEnd)],
+    tries: u32,
+) -> UndoEnd
+    requires few { number + length newest_first.now < 2 ^ 32 }
+    requires tries { 1 ≤ tries }
+    requires record { IsRecord undo.now }
+    requires covered { IsTrue H.tells → IsCovered (world_of (H.contents host.old)) undo.now }
+    ensures legal { IsLegalEnd tries undo.now result (blocker (number + 1) undo.now (reverse newest_first.now)) }
+    ensures faults { CountsFaults (end_faults result) (H.fault_count host.old) (H.fault_count host.new) }
+    ensures effect { IsTrue H.tells
+        → H.contents host.new ≡ contents_of (undone_to (world_of (H.contents host.old)) undo.now result) }
+{
+    match blocker(alloc, number, undo, newest_first) {
+        Some(by) => UndoEnd::Blocked { by },
+        None => undo_one(host, undo, tries),
+    }
+}
