@@ -1,0 +1,18 @@
+use Rattle.std.proofs.Common.{◌≡◌, ◌-◌, ◌≤◌, length, take, drop, IsTrue}
+use Rattle.xc_host.specs.Contents.{file_in}
+use Rattle.xc_file.proofs.reading.read_whole.Given as goal
+
+-- what is read so far is a front, and no fault came
+abbrev pub invariant-loop-len : goal.invariant-loop-len
+invariant-loop-len g l =
+    let host = g.H.Host in
+    record {
+      len : length l.bytes.items ≡ l.len;
+      room : l.len ≤ l.n;
+      told : IsTrue host.tells → l.bytes.items ≡ take l.len (drop l.at (file_in (host.contents l.fn.host) l.file));
+      contents : IsTrue host.tells → host.contents l.host ≡ host.contents l.fn.host;
+      faults : host.fault_count l.host ≡ host.fault_count l.fn.host;
+    }
+
+abbrev pub decreases-loop-len : goal.decreases-loop-len
+decreases-loop-len g l = l.n - l.len

@@ -1,0 +1,16 @@
+//! The calls on files, over any host.
+//!
+//! Where the host tells, each reply is the plain machine's.
+#![tactic(auto)]
+
+mod opening;
+mod overwriting;
+mod reading;
+mod writing;
+
+pub use opening::x_open;
+pub use overwriting::x_write_ovr;
+pub use reading::x_read;
+
+#[cfg(test)]
+mod tests;

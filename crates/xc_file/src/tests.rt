@@ -1,0 +1,432 @@
+ghost use Rattle.std.specs.Prelude.{◌≡◌, ◌≤◌, true, false};
+ghost use Rattle.xc_data.specs.Counts.{CountsFault};
+ghost use Rattle.xc_host.specs.Contents.{nothing};
+
+use crate::{x_open, x_read, x_write_ovr};
+use std::alloc::Global;
+use std::test::Fail;
+use xc_compensate::Stack;
+use xc_data::{Chunk, Name, NoMemory, Num, Place, Private, Prologue, Reply};
+use xc_host::{Fault, Host, HostErr, OpenErr};
+
+const NUM: Num = Num { tx: 0, k: 0 };
+
+const ALL: u32 = 100;
+
+// A call of the host, with its place and the length that it asks for.
+#[derive(Clone, Copy, Debug, PartialEq)]
+enum Asked {
+    Lookup,
+    Len,
+    Read(u32, u32),
+    Write(u32, usize),
+}
+
+use Asked::{Len, Lookup, Read, Write};
+
+// A host of one file, `a`, that tells nothing. It does at most `grain` bytes a call, fails one call,
+// counted from 1, and writes down each.
+#[derive(Drop)]
+struct Logged {
+    alloc: Global,
+    bytes: Vec<u8>,
+    // What it says of the file's length.
+    len: u32,
+    grain: u32,
+    fail: usize,
+    faults: u64,
+    log: Vec<Asked>,
+}
+
+impl Logged {
+    // Writes down a call, and says whether it fails.
+    fn fails(&mut self, call: Asked) -> bool
+        ensures { CountsFault result self.old.faults self.new.faults }
+    {
+        let written = self.log.push(call);
+        if written.is_ok() && self.log.len() != self.fail {
+            return false;
+        }
+        self.faults = self.faults.saturating_add(1);
+        true
+    }
+}
+
+// Writes new bytes over those from a place on.
+fn put(bytes: &mut [u8], at: usize, new: &[u8]) {
+    for (place, byte) in bytes.iter_mut().skip(at).zip(new) {
+        *place = *byte;
+    }
+}
+
+impl Host for Logged {
+    ghost tells = { false };
+
+    ghost takes_scripts = { true };
+
+    ghost contents = { λ _. nothing };
+
+    ghost fault_count = { λ s. s.faults };
+
+    fn faults(&self) -> u64 {
+        self.faults
+    }
+
+    fn scripted(&self) -> bool {
+        true
+    }
+
+    fn open_with(&mut self, _prologue: &Prologue) -> Result<(), OpenErr> {
+        Err(OpenErr::NoMemory)
+    }
+
+    fn lookup(&mut self, name: &Name) -> Result<Option<Num>, HostErr> {
+        if self.fails(Lookup) {
+            return Err(HostErr::Fault);
+        }
+        if name.as_slice() == b"a".as_slice() {
+            Ok(Some(NUM))
+        } else {
+            Ok(None)
+        }
+    }
+
+    fn len(&mut self, _file: Num) -> Result<u32, Fault> {
+        if self.fails(Len) {
+            return Err(Fault);
+        }
+        Ok(self.len)
+    }
+
+    fn read_at(&mut self, _file: Num, at: u32, n: u32) -> Result<Chunk, HostErr> {
+        if self.fails(Read(at, n)) {
+            return Err(HostErr::Fault);
+        }
+        let from = self.bytes.len().min(at as usize);
+        let to = self.bytes.len().min(from + n.min(self.grain) as usize);
+        Ok(Chunk::new(self.alloc, &self.bytes[from..to])?)
+    }
+
+    fn write_at(&mut self, _file: Num, at: u32, bytes: &[u8]) -> Result<u32, Fault> {
+        if self.fails(Write(at, bytes.len())) {
+            return Err(Fault);
+        }
+        let n = bytes.len().min(self.grain as usize).max(1);
+        put(&mut self.bytes, at as usize, &bytes[..n]);
+        Ok(n as u32)
+    }
+
+    fn restore(&mut self, file: Num, at: u32, bytes: &[u8]) -> Result<u32, Fault> {
+        self.write_at(file, at, bytes)
+    }
+}
+
+fn host_of(alloc: Global, bytes: &[u8], grain: u32, fail: usize) -> Result<Logged, NoMemory> {
+    let mut copy = Vec::new(alloc);
+    copy.extend_from_slice(bytes)?;
+    Ok(Logged {
+        alloc,
+        bytes: copy,
+        len: bytes.len().min(65536) as u32,
+        grain,
+        fail,
+        faults: 0,
+        log: Vec::new(alloc),
+    })
+}
+
+// The file is open at handle 0.
+fn opened(at: u32, stored: u32) -> Private
+    requires { stored ≤ 16384 }
+    ensures { result.stored ≡ stored }
+{
+    let mut me = Private::new();
+    me.set_place(0, Place::File { num: NUM, at });
+    me.stored = stored;
+    me
+}
+
+fn position(me: &Private) -> Option<u32> {
+    match me.place(0) {
+        Place::File { at, .. } => Some(at),
+        _ => None,
+    }
+}
+
+fn word(reply: &Reply) -> &'static str {
+    match reply {
+        Reply::Got(_) => "got",
+        Reply::Made(1) => "made at 1",
+        Reply::Done => "done",
+        Reply::End => "end",
+        Reply::NoName => "no name",
+        Reply::BadHandle => "bad handle",
+        Reply::PastEnd => "past end",
+        Reply::TooBig => "too big",
+        Reply::TooMuch => "too much",
+        Reply::Fault(0) => "fault",
+        _ => "another",
+    }
+}
+
+// ---- each place of a fault
+// A read of 9 bytes of "hello", whose host calls are these, or where one fails the first of them.
+fn reads_so(alloc: Global, grain: u32, calls: &[Asked], fail: usize) -> Result<bool, NoMemory> {
+    let mut host = host_of(alloc, b"hello", grain, fail)?;
+    let mut me = opened(0, 7);
+    let reply = x_read(alloc, &mut host, &mut me, 0, 9)?;
+    let made = if fail == 0 { calls.len() } else { fail };
+    if host.log.as_slice() != calls.get(..made).unwrap_or(&[]) {
+        return Ok(false);
+    }
+    if fail > 0 {
+        return Ok(word(&reply) == "fault" && position(&me) == Some(0) && me.stored == 7);
+    }
+    let Reply::Got(bytes) = &reply else {
+        return Ok(false);
+    };
+    Ok(bytes.as_slice() == b"hello".as_slice() && position(&me) == Some(5) && me.stored == 12)
+}
+
+#[test]
+fn a_read_stops_at_its_first_fault(rt: HostRuntime) -> Result<(), Fail> {
+    let by_one = [
+        Read(0, 9),
+        Read(1, 8),
+        Read(2, 7),
+        Read(3, 6),
+        Read(4, 5),
+        Read(5, 4),
+    ];
+    let by_two = [Read(0, 9), Read(2, 7), Read(4, 5), Read(5, 4)];
+    let by_three = [Read(0, 9), Read(3, 6), Read(5, 4)];
+    let whole = [Read(0, 9), Read(5, 4)];
+    for (grain, calls) in [
+        (1, by_one.as_slice()),
+        (2, by_two.as_slice()),
+        (3, by_three.as_slice()),
+        (ALL, whole.as_slice()),
+    ] {
+        for fail in 0..=calls.len() {
+            assert!(rt;
+                reads_so(rt.alloc(), grain, calls, fail)?,
+                "grain {grain}, fault {fail}"
+            );
+        }
+    }
+    Ok(())
+}
+
+// The file behind an overwrite of "hello" by "HELLO" that did so many bytes.
+fn behind(done: u32) -> &'static [u8] {
+    match done {
+        0 => b"hello",
+        1 => b"Hello",
+        2 => b"HEllo",
+        3 => b"HELlo",
+        4 => b"HELLo",
+        _ => b"HELLO",
+    }
+}
+
+// The reply to an overwrite of five bytes that did so many.
+fn is_reply(reply: &Reply, done: u32) -> bool {
+    match reply {
+        Reply::Done => done == 5,
+        Reply::Fault(n) => *n == done && done < 5,
+        _ => false,
+    }
+}
+
+// An overwrite of "hello" by "HELLO", whose host calls are these, or where one fails the first of them,
+// and that does so many bytes.
+fn overwrites_so(
+    alloc: Global,
+    grain: u32,
+    calls: &[Asked],
+    fail: usize,
+    done: u32,
+) -> Result<bool, NoMemory> {
+    let mut host = host_of(alloc, b"hello", grain, fail)?;
+    let mut me = opened(0, 7);
+    let mut undo = Stack::new(alloc);
+    let bytes = Chunk::new(alloc, b"HELLO")?;
+    let reply = x_write_ovr(alloc, &mut host, &mut me, &mut undo, 0, &bytes)?;
+    let made = if fail == 0 { calls.len() } else { fail };
+    if host.log.as_slice() != calls.get(..made).unwrap_or(&[]) {
+        return Ok(false);
+    }
+    if host.bytes.as_slice() != behind(done) || me.stored != 12 {
+        return Ok(false);
+    }
+    Ok(is_reply(&reply, done) && position(&me) == Some(done))
+}
+
+#[test]
+fn an_overwrite_stops_at_its_first_fault(rt: HostRuntime) -> Result<(), Fail> {
+    let by_one = [
+        Len,
+        Read(0, 5),
+        Read(1, 4),
+        Read(2, 3),
+        Read(3, 2),
+        Read(4, 1),
+        Write(0, 5),
+        Write(1, 4),
+        Write(2, 3),
+        Write(3, 2),
+        Write(4, 1),
+    ];
+    let by_two = [
+        Len,
+        Read(0, 5),
+        Read(2, 3),
+        Read(4, 1),
+        Write(0, 5),
+        Write(2, 3),
+        Write(4, 1),
+    ];
+    let by_three = [Len, Read(0, 5), Read(3, 2), Write(0, 5), Write(3, 2)];
+    let whole = [Len, Read(0, 5), Write(0, 5)];
+    // the bytes done without a fault, and where each call fails in turn
+    for (grain, calls, done) in [
+        (
+            1,
+            by_one.as_slice(),
+            [5, 0, 0, 0, 0, 0, 0, 0, 1, 2, 3, 4].as_slice(),
+        ),
+        (2, by_two.as_slice(), [5, 0, 0, 0, 0, 0, 2, 4].as_slice()),
+        (3, by_three.as_slice(), [5, 0, 0, 0, 0, 3].as_slice()),
+        (ALL, whole.as_slice(), [5, 0, 0, 0].as_slice()),
+    ] {
+        for (fail, done) in done.iter().enumerate() {
+            let so = overwrites_so(rt.alloc(), grain, calls, fail, *done)?;
+            assert!(rt; so, "grain {grain}, fault {fail}");
+        }
+    }
+    Ok(())
+}
+
+// ---- what decides first
+// An open at a private state with one handle or with all, and how many calls the host had.
+fn open(
+    alloc: Global,
+    name: &[u8],
+    fail: usize,
+    full: bool,
+) -> Result<(&'static str, usize), NoMemory> {
+    let Some(name) = Name::new(name) else {
+        return Err(NoMemory);
+    };
+    let mut host = host_of(alloc, b"hello", ALL, fail)?;
+    let mut me = opened(3, 0);
+    if full {
+        me.places = [Place::Pipe(NUM); 256];
+    }
+    let reply = x_open(&mut host, &mut me, &name)?;
+    Ok((word(&reply), host.log.len()))
+}
+
+#[test]
+fn a_name_is_opened(rt: HostRuntime) -> Result<(), Fail> {
+    assert_eq!(rt; open(rt.alloc(), b"a", 0, false)?, ("made at 1", 1));
+    assert_eq!(rt; open(rt.alloc(), b"b", 0, false)?, ("no name", 1));
+    assert_eq!(rt; open(rt.alloc(), b"a", 1, false)?, ("fault", 1));
+    assert_eq!(rt; open(rt.alloc(), b"b", 0, true)?, ("too much", 0));
+    Ok(())
+}
+
+// A read and an overwrite of so many bytes at a handle, where a file of four bytes is open at handle 0.
+fn both(
+    alloc: Global,
+    host: &mut Logged,
+    mut me: Private,
+    h: u16,
+    n: usize,
+) -> Result<(&'static str, &'static str), NoMemory>
+    requires stored { me.stored ≤ 16384 }
+    requires n { n ≤ 65536 }
+{
+    let mut other = me;
+    let read = x_read(alloc, host, &mut me, h, n as u64)?;
+    let mut bytes = Vec::new(alloc);
+    bytes.resize(n, 120)?;
+    let bytes = Chunk::from_vec(bytes)?;
+    let mut undo = Stack::new(alloc);
+    let written = x_write_ovr(alloc, host, &mut other, &mut undo, h, &bytes)?;
+    Ok((word(&read), word(&written)))
+}
+
+#[test]
+fn what_decides_first(rt: HostRuntime) -> Result<(), Fail> {
+    // the handle, the position, what is stored, the bytes, both replies, the host's calls of both
+    for (h, at, stored, n, read, written, calls) in [
+        (1, 0, 16384, 1025, "bad handle", "bad handle", 0),
+        (0, 0, 16384, 1025, "too big", "too big", 0),
+        (0, 0, 16384, 1, "too much", "too much", 0),
+        (0, 0, 16384, 0, "got", "done", 0),
+        (0, 4, 15360, 1024, "end", "past end", 2),
+        (0, 3, 0, 1, "got", "done", 4),
+        (0, 3, 0, 2, "got", "past end", 3),
+        (0, u32::MAX, 0, 1, "end", "past end", 1),
+    ] {
+        let mut host = host_of(rt.alloc(), b"four", ALL, 0)?;
+        let replies = both(rt.alloc(), &mut host, opened(at, stored), h, n)?;
+        assert_eq!(rt; replies, (read, written), "at {at}, {n} bytes");
+        assert_eq!(rt; host.log.len(), calls, "at {at}, {n} bytes");
+    }
+    Ok(())
+}
+
+// A host that says too much of the file's length.
+#[test]
+fn old_bytes_that_are_not_there(rt: HostRuntime) -> Result<(), Fail> {
+    let mut host = host_of(rt.alloc(), b"hello", 4, 0)?;
+    host.len = 9;
+    let mut me = opened(0, 0);
+    let mut undo = Stack::new(rt.alloc());
+    let bytes = Chunk::new(rt.alloc(), b"HELLOHELL")?;
+    let reply = x_write_ovr(rt.alloc(), &mut host, &mut me, &mut undo, 0, &bytes)?;
+    assert_eq!(rt; word(&reply), "past end");
+    assert_eq!(rt;
+        host.log.as_slice(),
+        [Len, Read(0, 9), Read(4, 5), Read(5, 4)].as_slice()
+    );
+    assert_eq!(rt; host.bytes.as_slice(), b"hello".as_slice());
+    Ok(())
+}
+
+// ---- a long file
+// Reads a file in pieces of 1,024, each by a transaction of its own, and answers the last reply.
+fn read_in_pieces(
+    alloc: Global,
+    host: &mut Logged,
+    text: &mut Vec<u8>,
+) -> Result<&'static str, NoMemory> {
+    let mut at = 0;
+    for _ in 0..100 {
+        let mut me = opened(at, 0);
+        let reply = x_read(alloc, host, &mut me, 0, 1024)?;
+        let Reply::Got(bytes) = &reply else {
+            return Ok(word(&reply));
+        };
+        text.extend_from_slice(bytes.as_slice())?;
+        at = position(&me).unwrap_or(0);
+    }
+    Ok("too long")
+}
+
+#[test]
+fn a_long_file_is_read_in_pieces(rt: HostRuntime) -> Result<(), Fail> {
+    let mut bytes = Vec::new(rt.alloc());
+    for i in 0..65536u32 {
+        bytes.push((i % 251) as u8)?;
+    }
+    let mut host = host_of(rt.alloc(), &bytes, 300, 0)?;
+    let mut text = Vec::new(rt.alloc());
+    assert_eq!(rt; read_in_pieces(rt.alloc(), &mut host, &mut text)?, "end");
+    assert!(rt; text == bytes);
+    // four reads for each of 64 pieces, and one that finds the end
+    assert_eq!(rt; host.log.len(), 257);
+    Ok(())
+}
