@@ -1,3 +1,5 @@
 pub mod LineCuts
 pub mod Forms
+pub mod LiteralLemmas
+pub mod Checked
 pub mod Keeping

@@ -2,8 +2,9 @@
 use Rattle.std.specs.Prelude.{ℕ, List, [], ◌∷◌, codes, Option, Some, None, Result, Ok, Err, if◌then◌else◌}
 use Rattle.xc_text.specs.declared.script.Term.{Term}
 use Rattle.xc_text.specs.declared.script.Expression.{Expression}
+use Rattle.xc_text.specs.declared.script.Item.{Item}
 use Rattle.xc_text.specs.declared.script.Statement.{Statement}
-use Rattle.xc_text.specs.declared.script.Statement.TheVariants.{Load, Store}
+use Rattle.xc_text.specs.declared.script.Statement.TheVariants.{Load, Store, Open, Read, Overwrite, Abort}
 use Rattle.xc_text.specs.declared.line.Line.{Line}
 use Rattle.xc_text.specs.declared.line.Line.TheVariants as line
 use Rattle.xc_text.specs.declared.line.Place.{Place}
@@ -11,7 +12,9 @@ use Rattle.xc_text.specs.declared.line.Place.TheVariants.{Prologue, Between, Blo
 use Rattle.xc_text.specs.declared.why.Why.{Why}
 use Rattle.xc_text.specs.declared.why.Why.TheVariants.{UnknownLine, BadForm}
 use Rattle.xc_text.specs.Answers.{both, seen}
-use Rattle.xc_text.specs.Terms.{spells, is_sign, number, ident, term, expression_of}
+use Rattle.xc_text.specs.Literals.{only_literals, contents}
+use Rattle.xc_text.specs.Pieces.{data_of}
+use Rattle.xc_text.specs.Terms.{spells, is_sign, number, ident, name, term, expression_of}
 use Rattle.xc_text.specs.Tokens.{Lexeme, Word, Literal}
 
 -- `words N`
@@ -24,15 +27,20 @@ abbrev pub word_line : List Lexeme → Result Line Why
 word_line (i ∷ u ∷ []) = seen (λ (p : ℕ × ℕ). line.Word p.0 p.1) (both (number i) (number u))
 word_line _ = Err BadForm
 
+-- `file NAME` and literals
+abbrev pub file_line : List Lexeme → Result Line Why
+file_line [] = Err BadForm
+file_line (n ∷ literals) = seen (λ (p : List ℕ × Unit {0}). line.File p.0 (contents literals)) (both (name n) (only_literals literals))
+
 -- `job NAME`
 abbrev pub job_line : List Lexeme → Result Line Why
-job_line (name ∷ []) = seen line.Job (ident name)
+job_line (n ∷ []) = seen line.Job (ident n)
 job_line _ = Err BadForm
 
--- a line of one word: `tx`, `commit`, `end`
-abbrev pub bare_line : Line → List Lexeme → Result Line Why
-bare_line says [] = Ok says
-bare_line says _ = Err BadForm
+-- nothing behind the first word: `tx`, `abort`, `commit`, `end`
+abbrev pub bare : List Lexeme → Result (Unit {0}) Why
+bare [] = Ok tt
+bare _ = Err BadForm
 
 -- `load T`, `load T -> V`
 abbrev pub load_line : List Lexeme → Result Statement Why
@@ -47,28 +55,60 @@ abbrev pub store_line : List Lexeme → Result Statement Why
 store_line [] = Err BadForm
 store_line (t ∷ e) = seen (λ (p : Term × Expression). Store p.0 p.1) (both (term t) (expression_of e))
 
+-- `x_open NAME`, `x_open NAME -> V`
+abbrev pub open_line : List Lexeme → Result Statement Why
+open_line (n ∷ []) = seen (λ (file : List ℕ). Open file None) (name n)
+open_line (n ∷ arrow ∷ v ∷ []) =
+    if is_sign arrow (codes "->") then seen (λ (p : List ℕ × List ℕ). Open p.0 (Some p.1)) (both (name n) (ident v))
+    else Err BadForm
+open_line _ = Err BadForm
+
+-- `x_read H T`, `x_read H T -> V`
+abbrev pub read_line : List Lexeme → Result Statement Why
+read_line (h ∷ t ∷ []) = seen (λ (p : List ℕ × Term). Read p.0 p.1 None) (both (ident h) (term t))
+read_line (h ∷ t ∷ arrow ∷ v ∷ []) =
+    if is_sign arrow (codes "->") then
+    seen (λ (p : List ℕ × (Term × List ℕ)). Read p.0 p.1.0 (Some p.1.1)) (both (ident h) (both (term t) (ident v)))
+    else Err BadForm
+read_line _ = Err BadForm
+
+-- `x_write_ovr H D`
+abbrev pub overwrite_line : List Lexeme → Result Statement Why
+overwrite_line [] = Err BadForm
+overwrite_line (h ∷ items) = seen (λ (p : List ℕ × List Item). Overwrite p.0 p.1) (both (ident h) (data_of items))
+
 -- a line before the first block
 abbrev pub prologue_line : List ℕ → List Lexeme → Result Line Why
 prologue_line word rest =
     if spells word (codes "words") then words_line rest
     else if spells word (codes "word") then word_line rest
+    else if spells word (codes "file") then file_line rest
     else if spells word (codes "job") then job_line rest
     else Err UnknownLine
 
 -- a line in a block
 abbrev pub block_line : List ℕ → List Lexeme → Result Line Why
 block_line word rest =
-    if spells word (codes "tx") then bare_line line.Begin rest
-    else if spells word (codes "end") then bare_line line.End rest
+    if spells word (codes "tx") then seen (λ _. line.Begin) (bare rest)
+    else if spells word (codes "end") then seen (λ _. line.End) (bare rest)
+    else Err UnknownLine
+
+-- a statement
+abbrev pub statement_line : List ℕ → List Lexeme → Result Statement Why
+statement_line word rest =
+    if spells word (codes "load") then load_line rest
+    else if spells word (codes "store") then store_line rest
+    else if spells word (codes "x_open") then open_line rest
+    else if spells word (codes "x_read") then read_line rest
+    else if spells word (codes "x_write_ovr") then overwrite_line rest
+    else if spells word (codes "abort") then seen (λ _. Abort) (bare rest)
     else Err UnknownLine
 
 -- a line in a transaction
 abbrev pub transaction_line : List ℕ → List Lexeme → Result Line Why
 transaction_line word rest =
-    if spells word (codes "load") then seen line.Statement (load_line rest)
-    else if spells word (codes "store") then seen line.Statement (store_line rest)
-    else if spells word (codes "commit") then bare_line line.Commit rest
-    else Err UnknownLine
+    if spells word (codes "commit") then seen (λ _. line.Commit) (bare rest)
+    else seen line.Statement (statement_line word rest)
 
 -- a line that begins with a word; behind a block no line stands
 abbrev pub worded_line : Place → List ℕ → List Lexeme → Result Line Why
@@ -77,8 +117,12 @@ worded_line Between word rest = Err UnknownLine
 worded_line (Block name) word rest = block_line word rest
 worded_line (Transaction name) word rest = transaction_line word rest
 
+-- a line whose first token is a literal is unknown
+abbrev pub first_line : Place → Lexeme → List Lexeme → Result Line Why
+first_line place (Word word) rest = worded_line place word rest
+first_line place (Literal meant times) rest = Err UnknownLine
+
 -- what the tokens of a line say in a place; a line without tokens says nothing
 abbrev pub said : Place → List Lexeme → Result (Option Line) Why
 said place [] = Ok None
-said place (Literal ∷ rest) = Err UnknownLine
-said place (Word word ∷ rest) = seen Some (worded_line place word rest)
+said place (first ∷ rest) = seen Some (first_line place first rest)

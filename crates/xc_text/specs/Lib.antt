@@ -2,7 +2,9 @@ pub mod Answers
 pub mod Cutting
 pub mod Grammar
 pub mod Lines
+pub mod Literals
 pub mod Numbers
+pub mod Pieces
 pub mod Places
 pub mod Scripts
 pub mod Steps

@@ -1,5 +1,8 @@
 -- What a script says, and what a script that was read keeps to.
-use Rattle.std.specs.Prelude.{◌≡◌, ℕ, ◌+◌, ◌≤◌, List, [], ◌∷◌, length, map, All, nat_lt, None, Result, Ok, Err, if◌then◌else◌}
+use Rattle.std.specs.Prelude.{◌≡◌, ℕ, ◌+◌, ◌≤◌, List, [], ◌∷◌, length, map, All, count_by, nat_lt, None, Result, Ok, Err, if◌then◌else◌}
+use Rattle.xc_data.specs.declared.script.Opened.{Opened}
+use Rattle.xc_data.specs.declared.script.Opened.TheVariants.{File, Pipe, Pair}
+use Rattle.xc_data.specs.Limits.{IsPrologue}
 use Rattle.xc_text.specs.declared.script.Block.{Block as OneBlock}
 use Rattle.xc_text.specs.declared.script.Script.{Script}
 use Rattle.xc_text.specs.declared.reading.Reading.{Reading}
@@ -8,7 +11,7 @@ use Rattle.xc_text.specs.declared.why.Why.TheVariants.{TooLong, Unclosed}
 use Rattle.xc_text.specs.Answers.{Refusal, and_then}
 use Rattle.xc_text.specs.Lines.{lines_of}
 use Rattle.xc_text.specs.Places.{is_outside}
-use Rattle.xc_text.specs.Steps.{opening, after_bytes}
+use Rattle.xc_text.specs.Steps.{opening, is_call, after_bytes}
 
 -- a reason against the line of that number
 abbrev pub at_line : {A : Type 0} → ℕ → Result A Why → Result A Refusal
@@ -22,7 +25,7 @@ names_of blocks = map (λ b. b.name) blocks
 -- the whole script
 abbrev pub script_of : Reading → Script
 script_of r = record {
-  plain = record { words = r.words; prologue = record { objects = []; faults = []; grain = None }; bodies = []; jobs = names_of r.blocks };
+  plain = record { words = r.words; prologue = record { objects = r.objects; faults = []; grain = None }; bodies = []; jobs = names_of r.blocks };
   blocks = r.blocks;
 }
 
@@ -42,7 +45,13 @@ parse_of bytes = if nat_lt 1048576 (length bytes) then Err (0, TooLong) else rea
 -- a block keeps the limits
 pub record IsBlock (b : OneBlock) : Type 0 where
   pub transactions : length b.transactions ≤ 1000
-  pub calls : All (λ body. length body ≤ 256) b.transactions
+  pub calls : All (λ body. count_by is_call body ≤ 256) b.transactions
+
+-- an object of a `file` line
+abbrev pub IsFileLine : Opened → Type 0
+IsFileLine (File name bytes) = Unit {0}
+IsFileLine (Pipe bytes) = ⊥
+IsFileLine Pair = ⊥
 
 -- a script that was read
 pub record IsScript (s : Script) : Type 0 where
@@ -51,7 +60,8 @@ pub record IsScript (s : Script) : Type 0 where
   pub one_block : length s.blocks ≤ 1
   pub jobs : s.plain.jobs ≡ names_of s.blocks
   pub bodies : s.plain.bodies ≡ []
-  pub objects : s.plain.prologue.objects ≡ []
+  pub prologue : IsPrologue s.plain.prologue
+  pub files : All IsFileLine s.plain.prologue.objects
   pub faults : s.plain.prologue.faults ≡ []
   pub grain : s.plain.prologue.grain ≡ None
   pub each_block : All IsBlock s.blocks

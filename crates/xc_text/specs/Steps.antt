@@ -1,13 +1,17 @@
 -- What the lines so far have said, and what one more line adds.
-use Rattle.std.specs.Prelude.{ℕ, ◌||◌, true, false, List, [], ◌∷◌, ◌++◌, length, nat_eq, nat_le, nat_lt, replicate, slice_set, Option, Some, None, Result, Ok, Err, if◌then◌else◌}
+use Rattle.std.specs.Prelude.{ℕ, ◌+◌, ◌||◌, Bool, true, false, List, [], ◌∷◌, ◌++◌, length, nat_eq, nat_le, nat_lt, replicate, slice_set, Option, Some, None, is_some, Result, Ok, Err, if◌then◌else◌}
 use Rattle.std.specs.List.{list_all, list_any}
 use Rattle.std.specs.Cmp.Lexicographic.{pointwise}
+use Rattle.std.specs.FinMap as map
+use Rattle.xc_data.specs.declared.script.Opened.TheVariants.{File}
 use Rattle.xc_text.specs.declared.script.Term.{Term}
 use Rattle.xc_text.specs.declared.script.Term.TheVariants.{Number, Variable}
 use Rattle.xc_text.specs.declared.script.Expression.{Expression}
 use Rattle.xc_text.specs.declared.script.Expression.TheVariants.{Term as OneTerm, Sum, Difference}
+use Rattle.xc_text.specs.declared.script.Item.{Item}
+use Rattle.xc_text.specs.declared.script.Item.TheVariants as item
 use Rattle.xc_text.specs.declared.script.Statement.{Statement}
-use Rattle.xc_text.specs.declared.script.Statement.TheVariants.{Load, Store}
+use Rattle.xc_text.specs.declared.script.Statement.TheVariants.{Load, Store, Open, Read, Overwrite, Abort}
 use Rattle.xc_text.specs.declared.line.Line.{Line}
 use Rattle.xc_text.specs.declared.line.Line.TheVariants as line
 use Rattle.xc_text.specs.declared.line.Place.TheVariants.{Prologue, Between, Block, Transaction}
@@ -22,7 +26,12 @@ use Rattle.xc_text.specs.Tokens.{Lexeme, tokens_of}
 
 -- before the first line: 16 words, all 0
 abbrev pub opening : Reading
-opening = record { place = Prologue; words = replicate 16 0; sized = false; valued = false; names = []; blocks = []; transactions = []; body = [] }
+opening = record { place = Prologue; words = replicate 16 0; sized = false; valued = false; objects = []; files = map.empty; names = []; calls = 0; blocks = []; transactions = []; body = [] }
+
+-- a statement that is a call
+abbrev pub is_call : Statement → Bool
+is_call Abort = false
+is_call _ = true
 
 -- the names with one more, which stands in them once
 abbrev pub with_name : List (List ℕ) → List ℕ → List (List ℕ)
@@ -44,10 +53,25 @@ abbrev pub with_target : List (List ℕ) → Option (List ℕ) → List (List �
 with_target names (Some name) = with_name names name
 with_target names None = names
 
+-- the names with an item's variable
+abbrev pub with_item : List (List ℕ) → Item → List (List ℕ)
+with_item names (item.Literal bytes) = names
+with_item names (item.Bytes name) = with_name names name
+with_item names (item.Digits t) = with_term names t
+
+-- the names with the variables of data
+abbrev pub with_data : List (List ℕ) → List Item → List (List ℕ)
+with_data names [] = names
+with_data names (i ∷ items) = with_data (with_item names i) items
+
 -- the names with the variables of a statement, read or written
 abbrev pub with_statement : List (List ℕ) → Statement → List (List ℕ)
 with_statement names (Load at into) = with_target (with_term names at) into
 with_statement names (Store at value) = with_expression (with_term names at) value
+with_statement names (Open file into) = with_target names into
+with_statement names (Read handle n into) = with_target (with_term (with_name names handle) n) into
+with_statement names (Overwrite handle items) = with_data (with_name names handle) items
+with_statement names Abort = names
 
 -- 1 to 4,096 words, by one line that stands before any word's value
 abbrev pub sized_by : Reading → ℕ → Result Reading Why
@@ -62,6 +86,17 @@ valued_by r at value =
     if nat_le (length r.words) at then Err BadNumber
     else Ok (record r { words = slice_set r.words at value; valued = true })
 
+-- at most 4,096 files, each of at most 65,536 bytes
+abbrev pub added : Reading → List ℕ → Option (List ℕ) → Result Reading Why
+added r name (Some bytes) =
+    if nat_le 4096 (length r.objects) then Err TooMany
+    else Ok (record r { objects = r.objects ++ File name bytes ∷ []; files = map.insert r.files name tt })
+added r name None = Err TooMany
+
+-- one file of a name
+abbrev pub filed : Reading → List ℕ → Option (List ℕ) → Result Reading Why
+filed r name bytes = if is_some (map.get r.files name) then Err Twice else added r name bytes
+
 -- at most 1,000 transactions in a block
 abbrev pub begun : Reading → Option (List ℕ) → Result Reading Why
 begun r (Some name) = if nat_le 1000 (length r.transactions) then Err TooMany else Ok (record r { place = Transaction name })
@@ -74,14 +109,20 @@ named r s =
     else Ok (record r { names = with_statement r.names s })
 
 -- at most 256 calls in a transaction
+abbrev pub counted : Reading → Statement → Result Reading Why
+counted r s =
+    if is_call s then (if nat_le 256 r.calls then Err TooMany else Ok (record r { calls = r.calls + 1 }))
+    else Ok r
+
+-- a statement behind the others
 abbrev pub stated : Reading → Statement → Result Reading Why
 stated r s =
-    if nat_le 256 (length r.body) then Err TooMany
-    else seen (λ (next : Reading). record next { body = next.body ++ s ∷ [] }) (named r s)
+    seen (λ (next : Reading). record next { body = next.body ++ s ∷ [] })
+    (and_then (counted r s) (λ (next : Reading). named next s))
 
 -- the transaction under way ends
 abbrev pub committed : Reading → Option (List ℕ) → Result Reading Why
-committed r (Some name) = Ok (record r { place = Block name; transactions = r.transactions ++ r.body ∷ []; body = [] })
+committed r (Some name) = Ok (record r { place = Block name; transactions = r.transactions ++ r.body ∷ []; body = []; calls = 0 })
 committed r None = Err UnknownLine
 
 -- the block under way ends
@@ -94,6 +135,7 @@ ended_block r None = Err UnknownLine
 abbrev pub after : Reading → Line → Result Reading Why
 after r (line.Words n) = sized_by r n
 after r (line.Word at value) = valued_by r at value
+after r (line.File name bytes) = filed r name bytes
 after r (line.Job name) = Ok (record r { place = Block name })
 after r line.Begin = begun r (block_in r.place)
 after r (line.Statement s) = stated r s

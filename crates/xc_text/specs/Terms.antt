@@ -1,7 +1,7 @@
--- Numbers, identifiers, terms and expressions in a line.
+-- Numbers, names, identifiers, terms and expressions in a line.
 use Rattle.std.specs.Prelude.{ℕ, Bool, false, List, [], ◌∷◌, nat_eq, codes, ok_or, Result, Ok, Err, if◌then◌else◌}
 use Rattle.std.specs.Cmp.Lexicographic.{pointwise}
-use Rattle.xc_data.specs.Spelling.{is_ident}
+use Rattle.xc_data.specs.Spelling.{is_ident, is_name}
 use Rattle.xc_text.specs.declared.script.Term.{Term}
 use Rattle.xc_text.specs.declared.script.Term.TheVariants.{Number, Variable}
 use Rattle.xc_text.specs.declared.script.Expression.{Expression}
@@ -19,7 +19,7 @@ spells word text = pointwise nat_eq word text
 -- a token is this sign
 abbrev pub is_sign : Lexeme → List ℕ → Bool
 is_sign (Word word) text = spells word text
-is_sign Literal text = false
+is_sign (Literal meant times) text = false
 
 -- the number that a word spells
 abbrev pub number_in : List ℕ → Result ℕ Why
@@ -29,15 +29,24 @@ number_in word = ok_or (number_of word) BadNumber
 abbrev pub ident_in : List ℕ → Result (List ℕ) Why
 ident_in word = if is_ident word then Ok word else Err BadName
 
+-- the file's name that a word spells
+abbrev pub name_in : List ℕ → Result (List ℕ) Why
+name_in word = if is_name word then Ok word else Err BadName
+
 -- every word in the place of a number is meant as one
 abbrev pub number : Lexeme → Result ℕ Why
 number (Word word) = number_in word
-number Literal = Err BadForm
+number (Literal meant times) = Err BadForm
 
 -- every word in the place of an identifier is meant as one
 abbrev pub ident : Lexeme → Result (List ℕ) Why
 ident (Word word) = ident_in word
-ident Literal = Err BadForm
+ident (Literal meant times) = Err BadForm
+
+-- every word in the place of a file's name is meant as one
+abbrev pub name : Lexeme → Result (List ℕ) Why
+name (Word word) = name_in word
+name (Literal meant times) = Err BadForm
 
 -- the first byte is a digit
 abbrev pub begins_with_digit : List ℕ → Bool
@@ -51,7 +60,7 @@ term_in word = if begins_with_digit word then seen Number (number_in word) else 
 -- what stands in a term's place
 abbrev pub term : Lexeme → Result Term Why
 term (Word word) = term_in word
-term Literal = Err BadForm
+term (Literal meant times) = Err BadForm
 
 -- a term, or two with `+` or `-` between them
 abbrev pub expression_of : List Lexeme → Result Expression Why

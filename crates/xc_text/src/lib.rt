@@ -7,9 +7,11 @@
 mod grammar;
 mod line;
 mod lines;
+mod literals;
 mod names;
 mod number;
 mod parser;
+mod pieces;
 mod reading;
 mod reason;
 mod script;
@@ -18,7 +20,7 @@ mod token;
 mod why;
 
 pub use parser::parse;
-pub use script::{Block, Body, Expression, Script, Statement, Term};
+pub use script::{Block, Body, Data, Expression, Item, Script, Statement, Term};
 pub use why::{ParseErr, Why};
 
 #[cfg(test)]

@@ -2,7 +2,7 @@ ghost use Rattle.std.specs.Prelude.{◌≡◌};
 ghost use Rattle.xc_text.specs.Places.{block_in, is_outside, transaction_in};
 
 use crate::script::Statement;
-use xc_data::Ident;
+use xc_data::{Chunk, Ident, Name};
 
 /// Where in a script a line stands.
 #[derive(Clone, Copy, Debug, PartialEq)]
@@ -47,12 +47,14 @@ impl Place {
 }
 
 /// What a line says.
-#[derive(Clone, Copy, Debug, PartialEq)]
+#[derive(Debug, Drop)]
 pub enum Line {
     /// The number of words.
     Words(u64),
     /// A word opens with a value.
     Word { at: u64, value: u64 },
+    /// A file opens with its bytes; none where they are too many.
+    File { name: Name, bytes: Option<Chunk> },
     /// A `job` block begins.
     Job(Ident),
     /// A transaction begins.

@@ -1,9 +1,9 @@
 ghost use Rattle.std.specs.Prelude.{◌≡◌, nat_eq, OnOk};
 ghost use Rattle.std.specs.List.{list_any};
 ghost use Rattle.std.specs.Cmp.Lexicographic.{pointwise};
-ghost use Rattle.xc_text.specs.Steps.{with_name, with_term, with_expression, with_target, with_statement};
+ghost use Rattle.xc_text.specs.Steps.{with_name, with_term, with_expression, with_target, with_item, with_data, with_statement};
 
-use crate::script::{Expression, Statement, Term};
+use crate::script::{Expression, Item, Statement, Term};
 use xc_data::{Ident, IdentList, NoMemory};
 
 fn is_named(names: &[Ident], name: &Ident) -> bool
@@ -56,6 +56,25 @@ fn add_target(names: &mut IdentList, into: &Option<Ident>) -> Result<(), NoMemor
     }
 }
 
+fn add_item(names: &mut IdentList, item: &Item) -> Result<(), NoMemory>
+    ensures { OnOk result (names.new ≡ with_item names.old item.now) }
+{
+    match item {
+        Item::Literal(_) => Ok(()),
+        Item::Bytes(name) => add_name(names, *name),
+        Item::Digits(term) => add_term(names, term),
+    }
+}
+
+fn add_data(names: &mut IdentList, items: &[Item]) -> Result<(), NoMemory>
+    ensures { OnOk result (names.new ≡ with_data names.old items.now) }
+{
+    for item in items {
+        add_item(names, item)?;
+    }
+    Ok(())
+}
+
 /// Adds the variables of a statement, read or written, where they are new.
 pub fn add_statement(names: &mut IdentList, statement: &Statement) -> Result<(), NoMemory>
     ensures { OnOk result (names.new ≡ with_statement names.old statement.now) }
@@ -69,5 +88,16 @@ pub fn add_statement(names: &mut IdentList, statement: &Statement) -> Result<(),
             add_term(names, at)?;
             add_expression(names, value)
         }
+        Statement::Open { name: _, into } => add_target(names, into),
+        Statement::Read { handle, n, into } => {
+            add_name(names, *handle)?;
+            add_term(names, n)?;
+            add_target(names, into)
+        }
+        Statement::Overwrite { handle, data } => {
+            add_name(names, *handle)?;
+            add_data(names, data.as_slice())
+        }
+        Statement::Abort => Ok(()),
     }
 }

@@ -27,7 +27,7 @@ fn script(alloc: Global, reading: Reading) -> Result<Script, NoMemory>
 {
     let jobs = job_names(alloc, reading.blocks.as_slice())?;
     let prologue = Prologue {
-        objects: Items::new(alloc),
+        objects: reading.objects,
         faults: Items::new(alloc),
         grain: None,
     };

@@ -1,7 +1,7 @@
-ghost use Rattle.std.specs.Prelude.{◌≡◌, ◌≤◌, ◌++◌, ◌∷◌, [], replicate, IfOk, OnOk};
+ghost use Rattle.std.specs.Prelude.{◌≡◌, ◌≤◌, ◌++◌, ◌∷◌, [], replicate, IfOk, OnOk, Ok, Some};
 ghost use Rattle.xc_text.specs.Answers.{Gives};
 ghost use Rattle.xc_text.specs.Places.{block_in, transaction_in};
-ghost use Rattle.xc_text.specs.Steps.{opening, sized_by, valued_by, begun, named, stated, committed, ended_block, after, after_bytes};
+ghost use Rattle.xc_text.specs.Steps.{opening, is_call, sized_by, valued_by, filed, added, begun, named, counted, stated, committed, ended_block, after, after_bytes};
 
 use crate::grammar::said;
 use crate::line::{Line, Place};
@@ -12,10 +12,11 @@ use crate::token::tokens;
 use crate::why::{Stop, Why};
 use std::alloc::Global;
 use std::mem;
-use xc_data::{IdentList, Items, NoMemory, WordList};
+use xc_data::{Chunk, IdentList, Items, Name, NoMemory, Opened, OpenedList, WordList};
+use xc_maps::NameMap;
 
 /// What the lines so far have said.
-#[derive(Debug, Drop)]
+#[derive(Drop)]
 pub struct Reading {
     pub place: Place,
     pub words: WordList,
@@ -23,6 +24,10 @@ pub struct Reading {
     pub sized: bool,
     /// A `word` line came.
     pub valued: bool,
+    /// The files so far, in the order of their lines.
+    pub objects: OpenedList,
+    /// Their names.
+    pub files: NameMap<()>,
     /// The variables' names so far, each once.
     pub names: IdentList,
     /// The blocks that have ended.
@@ -31,6 +36,8 @@ pub struct Reading {
     pub transactions: Items<Body>,
     /// The statements of the transaction under way.
     pub body: Body,
+    /// How many of these are calls.
+    pub calls: u32,
 }
 
 fn zeros(alloc: Global, n: u64) -> Result<WordList, NoMemory>
@@ -47,7 +54,17 @@ fn push_statement(body: &mut Body, statement: Statement) -> Result<(), NoMemory>
     match statement {
         Statement::Load { at, into } => body.push(Statement::Load { at, into }),
         Statement::Store { at, value } => body.push(Statement::Store { at, value }),
+        Statement::Open { name, into } => body.push(Statement::Open { name, into }),
+        Statement::Read { handle, n, into } => body.push(Statement::Read { handle, n, into }),
+        Statement::Overwrite { handle, data } => body.push(Statement::Overwrite { handle, data }),
+        Statement::Abort => body.push(Statement::Abort),
     }
+}
+
+fn is_call_line(statement: &Statement) -> bool
+    ensures { result ≡ is_call statement.now }
+{
+    !matches!(statement, Statement::Abort)
 }
 
 impl Reading {
@@ -59,10 +76,13 @@ impl Reading {
             words: zeros(alloc, 16)?,
             sized: false,
             valued: false,
+            objects: Items::new(alloc),
+            files: NameMap::new(alloc),
             names: Items::new(alloc),
             blocks: Items::new(alloc),
             transactions: Items::new(alloc),
             body: Items::new(alloc),
+            calls: 0,
         })
     }
 
@@ -91,6 +111,29 @@ impl Reading {
         Ok(())
     }
 
+    fn add_file(&mut self, name: Name, bytes: Chunk) -> Result<(), Stop>
+        ensures { Gives (λ _. self.new) result (added self.old name (Some bytes)) }
+    {
+        if self.objects.len() >= 4096 {
+            return Err(Stop::Refused(Why::TooMany));
+        }
+        self.files.insert(name, ())?;
+        self.objects.push(Opened::File { name, bytes })?;
+        Ok(())
+    }
+
+    fn file(&mut self, name: Name, bytes: Option<Chunk>) -> Result<(), Stop>
+        ensures { Gives (λ _. self.new) result (filed self.old name bytes) }
+    {
+        if self.files.get(name).is_some() {
+            return Err(Stop::Refused(Why::Twice));
+        }
+        match bytes {
+            Some(bytes) => self.add_file(name, bytes),
+            None => Err(Stop::Refused(Why::TooMany)),
+        }
+    }
+
     fn begin(&mut self) -> Result<(), Stop>
         ensures { Gives (λ _. self.new) result (begun self.old (block_in self.old.place)) }
     {
@@ -115,12 +158,24 @@ impl Reading {
         Ok(())
     }
 
+    // The calls with a statement, within their limit.
+    fn count(&mut self, statement: &Statement) -> Result<(), Stop>
+        ensures { Gives (λ _. self.new) result (counted self.old statement.now) }
+    {
+        if !is_call_line(statement) {
+            return Ok(());
+        }
+        if self.calls >= 256 {
+            return Err(Stop::Refused(Why::TooMany));
+        }
+        self.calls += 1;
+        Ok(())
+    }
+
     fn state(&mut self, statement: Statement) -> Result<(), Stop>
         ensures { Gives (λ _. self.new) result (stated self.old statement) }
     {
-        if self.body.len() >= 256 {
-            return Err(Stop::Refused(Why::TooMany));
-        }
+        self.count(&statement)?;
         self.name(&statement)?;
         push_statement(&mut self.body, statement)?;
         Ok(())
@@ -134,6 +189,7 @@ impl Reading {
         };
         let body = mem::replace(&mut self.body, Items::new(alloc));
         self.transactions.push(body)?;
+        self.calls = 0;
         self.place = Place::Block(name);
         Ok(())
     }
@@ -156,6 +212,7 @@ impl Reading {
         match line {
             Line::Words(n) => self.size(alloc, n),
             Line::Word { at, value } => self.value(at, value),
+            Line::File { name, bytes } => self.file(name, bytes),
             Line::Job(name) => {
                 self.place = Place::Block(name);
                 Ok(())
@@ -175,10 +232,9 @@ impl Reading {
             return Err(Stop::Refused(Why::BadByte));
         }
         let tokens = tokens(alloc, bytes)?;
-        match said(&self.place, tokens.as_slice()) {
-            Ok(Some(line)) => self.add(alloc, line),
-            Ok(None) => Ok(()),
-            Err(why) => Err(Stop::Refused(why)),
+        match said(alloc, &self.place, tokens.as_slice())? {
+            Some(line) => self.add(alloc, line),
+            None => Ok(()),
         }
     }
 }

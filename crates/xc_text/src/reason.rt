@@ -1,5 +1,5 @@
 ghost use Rattle.std.specs.Prelude.{◌≡◌};
-ghost use Rattle.xc_text.specs.Answers.{rank, earlier, both as together};
+ghost use Rattle.xc_text.specs.Answers.{rank, earlier, seen, both as together};
 
 use crate::why::Why;
 
@@ -42,4 +42,12 @@ pub fn both<A: Copy, B: Copy>(a: Result<A, Why>, b: Result<B, Why>) -> Result<(A
             Err(second) => Err(earlier_of(first, second)),
         },
     }
+}
+
+/// The first of two parts, where the second is only checked.
+pub fn beside<A: Copy>(a: Result<A, Why>, b: Result<(), Why>) -> Result<A, Why>
+    ensures { result ≡ seen (λ p. p.0) (together a b) }
+{
+    let (a, ()) = both(a, b)?;
+    Ok(a)
 }

@@ -1,6 +1,6 @@
 ghost use Rattle.std.specs.Prelude.{◌≡◌};
 
-use xc_data::{Ident, Items, Script0};
+use xc_data::{Chunk, Ident, Items, Name, Script0};
 
 /// A number, or the number in a variable.
 #[derive(Clone, Copy, Debug, PartialEq)]
@@ -17,12 +17,49 @@ pub enum Expression {
     Difference(Term, Term),
 }
 
-/// A line of a transaction between its `tx` and its `commit`.
-#[derive(Clone, Copy, Debug, PartialEq)]
+/// A part of the bytes that a call writes.
+#[derive(Debug, Drop, PartialEq)]
+pub enum Item {
+    /// A literal with its repeat.
+    Literal(Chunk),
+    /// The bytes in a variable.
+    Bytes(Ident),
+    /// A term's value in decimal digits.
+    Digits(Term),
+}
+
+/// The parts of the bytes that a call writes, 1 to 16 of them, in order.
+pub type Data = Items<Item>;
+
+/// A line of a transaction between its `tx` and its `commit`. A variable takes what a call replies
+/// where one is named.
+#[derive(Debug, Drop, PartialEq)]
 pub enum Statement {
-    /// Loads a word, into a variable where one is named.
-    Load { at: Term, into: Option<Ident> },
-    Store { at: Term, value: Expression },
+    Load {
+        at: Term,
+        into: Option<Ident>,
+    },
+    Store {
+        at: Term,
+        value: Expression,
+    },
+    Open {
+        name: Name,
+        into: Option<Ident>,
+    },
+    /// Reads up to n bytes through the handle in a variable.
+    Read {
+        handle: Ident,
+        n: Term,
+        into: Option<Ident>,
+    },
+    /// Writes over a file's bytes through the handle in a variable.
+    Overwrite {
+        handle: Ident,
+        data: Data,
+    },
+    /// The transaction aborts itself.
+    Abort,
 }
 
 /// The statements of one transaction, in order.

@@ -1,5 +1,5 @@
-ghost use Rattle.std.specs.Prelude.{◌≡◌, List, ℕ, ◌∷◌, [], map};
-ghost use Rattle.xc_text.specs.Terms.{spells as is_spelled, is_sign as is_sign_of, number as number_of_token, number_in, ident as ident_of_token, ident_in, term as term_of_token, term_in, begins_with_digit as has_digit_first, expression_of};
+ghost use Rattle.std.specs.Prelude.{◌≡◌, ◌∷◌, [], map};
+ghost use Rattle.xc_text.specs.Terms.{spells as is_spelled, is_sign as is_sign_of, number as number_of_token, number_in, ident as ident_of_token, ident_in, name as name_of_token, name_in, term as term_of_token, term_in, begins_with_digit as has_digit_first, expression_of};
 ghost use Rattle.xc_text.specs.Tokens.{lexeme};
 
 use crate::number::{is_digit_byte, number as spelled_number};
@@ -7,7 +7,7 @@ use crate::reason::both;
 use crate::script::{Expression, Term};
 use crate::token::Token;
 use crate::why::Why;
-use xc_data::Ident;
+use xc_data::{Ident, Name};
 
 /// The word is spelled so.
 pub fn spells(word: &[u8], text: &[u8]) -> bool
@@ -17,12 +17,12 @@ pub fn spells(word: &[u8], text: &[u8]) -> bool
 }
 
 /// The token is this sign.
-pub fn is_sign(token: Token, text: &[u8]) -> bool
-    ensures { result ≡ is_sign_of (lexeme token.entry) text.now }
+pub fn is_sign(token: &Token, text: &[u8]) -> bool
+    ensures { result ≡ is_sign_of (lexeme token.now) text.now }
 {
     match token {
         Token::Word(word) => spells(word, text),
-        Token::Literal => false,
+        Token::Literal { .. } => false,
     }
 }
 
@@ -35,7 +35,8 @@ fn number_word(word: &[u8]) -> Result<u64, Why>
     }
 }
 
-fn ident_word(word: &[u8]) -> Result<Ident, Why>
+/// The identifier that a word spells.
+pub fn ident_word(word: &[u8]) -> Result<Ident, Why>
     ensures { result ≡ ident_in word.now }
 {
     match Ident::new(word) {
@@ -44,23 +45,42 @@ fn ident_word(word: &[u8]) -> Result<Ident, Why>
     }
 }
 
+fn name_word(word: &[u8]) -> Result<Name, Why>
+    ensures { result ≡ name_in word.now }
+{
+    match Name::new(word) {
+        Some(name) => Ok(name),
+        None => Err(Why::BadName),
+    }
+}
+
 /// What stands in the place of a number.
-pub fn number(token: Token) -> Result<u64, Why>
-    ensures { result ≡ number_of_token (lexeme token.entry) }
+pub fn number(token: &Token) -> Result<u64, Why>
+    ensures { result ≡ number_of_token (lexeme token.now) }
 {
     match token {
         Token::Word(word) => number_word(word),
-        Token::Literal => Err(Why::BadForm),
+        Token::Literal { .. } => Err(Why::BadForm),
     }
 }
 
 /// What stands in the place of an identifier.
-pub fn ident(token: Token) -> Result<Ident, Why>
-    ensures { result ≡ ident_of_token (lexeme token.entry) }
+pub fn ident(token: &Token) -> Result<Ident, Why>
+    ensures { result ≡ ident_of_token (lexeme token.now) }
 {
     match token {
         Token::Word(word) => ident_word(word),
-        Token::Literal => Err(Why::BadForm),
+        Token::Literal { .. } => Err(Why::BadForm),
+    }
+}
+
+/// What stands in the place of a file's name.
+pub fn name(token: &Token) -> Result<Name, Why>
+    ensures { result ≡ name_of_token (lexeme token.now) }
+{
+    match token {
+        Token::Word(word) => name_word(word),
+        Token::Literal { .. } => Err(Why::BadForm),
     }
 }
 
@@ -73,7 +93,8 @@ fn begins_with_digit(word: &[u8]) -> bool
     }
 }
 
-fn term_word(word: &[u8]) -> Result<Term, Why>
+/// What a word in the place of a term means.
+pub fn term_word(word: &[u8]) -> Result<Term, Why>
     ensures { result ≡ term_in word.now }
 {
     if begins_with_digit(word) {
@@ -83,17 +104,17 @@ fn term_word(word: &[u8]) -> Result<Term, Why>
 }
 
 /// What stands in the place of a term.
-pub fn term(token: Token) -> Result<Term, Why>
-    ensures { result ≡ term_of_token (lexeme token.entry) }
+pub fn term(token: &Token) -> Result<Term, Why>
+    ensures { result ≡ term_of_token (lexeme token.now) }
 {
     match token {
         Token::Word(word) => term_word(word),
-        Token::Literal => Err(Why::BadForm),
+        Token::Literal { .. } => Err(Why::BadForm),
     }
 }
 
-fn two_terms(a: Token, sign: Token, b: Token) -> Result<Expression, Why>
-    ensures { result ≡ expression_of (lexeme a.entry ∷ lexeme sign.entry ∷ lexeme b.entry ∷ []) }
+fn two_terms(a: &Token, sign: &Token, b: &Token) -> Result<Expression, Why>
+    ensures { result ≡ expression_of (lexeme a.now ∷ lexeme sign.now ∷ lexeme b.now ∷ []) }
 {
     if is_sign(sign, b"+") {
         let (a, b) = both(term(a), term(b))?;
@@ -111,8 +132,8 @@ pub fn expression(tokens: &[Token]) -> Result<Expression, Why>
     ensures { result ≡ expression_of (map lexeme tokens.now) }
 {
     match tokens {
-        [a] => Ok(Expression::Term(term(*a)?)),
-        [a, sign, b] => two_terms(*a, *sign, *b),
+        [a] => Ok(Expression::Term(term(a)?)),
+        [a, sign, b] => two_terms(a, sign, b),
         _ => Err(Why::BadForm),
     }
 }

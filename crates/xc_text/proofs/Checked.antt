@@ -1,0 +1,76 @@
+-- Parts of a line that are checked first, and made then.
+use Rattle.std.proofs.Common.{◌≡◌, ℕ, ◌-◌, ◌<◌, List, [], ◌∷◌, length, map, take, drop, get_or, take_all, drop-cons, suc, subst, arith, Result, Ok, Err, refl, ap, sym, ◌∙◌}
+use Rattle.std.specs.Prelude.{IsOk}
+use Rattle.xc_text.specs.declared.script.Item.{Item}
+use Rattle.xc_text.specs.declared.script.Statement.TheVariants.{Overwrite}
+use Rattle.xc_text.specs.declared.token.Token.{Token}
+use Rattle.xc_text.specs.declared.why.Stop.{Stop}
+use Rattle.xc_text.specs.declared.why.Stop.TheVariants as stop
+use Rattle.xc_text.specs.declared.why.Why.{Why}
+use Rattle.xc_text.specs.Answers.{Stops, both, seen}
+use Rattle.xc_text.specs.Grammar.{overwrite_line}
+use Rattle.xc_text.specs.Pieces.{item_of, items_of, data_of}
+use Rattle.xc_text.specs.Terms.{ident}
+use Rattle.xc_text.specs.Tokens.{Lexeme, lexeme}
+
+abbrev pub checked : {A : Type 0} → Result A Why → Result (Unit {0}) Why
+checked a = seen (λ _. tt) a
+
+abbrev pub first_of : {A B : Type 0} → Result A Why → Result B Why → Result A Why
+first_of {A} {B} a b = seen (λ (p : A × B). p.0) (both a b)
+
+both_good : (a : Result Item Why) (b : Result (List Item) Why) →
+    first_of (checked a) (checked b) ≡ checked (seen (λ (p : Item × List Item). p.0 ∷ p.1) (both a b))
+both_good (Ok a) (Ok b) = refl
+both_good (Ok a) (Err e) = refl
+both_good (Err d) (Ok b) = refl
+both_good (Err d) (Err e) = refl
+
+-- items are good where the first and the others are
+pub checked_items : (t : Lexeme) (ts : List Lexeme) → checked (items_of (t ∷ ts)) ≡ first_of (checked (item_of t)) (checked (items_of ts))
+checked_items t ts = sym (both_good (item_of t) (items_of ts))
+
+-- the same of tokens of the code
+pub checked_tokens : (t : Token) (ts : List Token) → t ≡ get_or ts 0 t → 0 < length ts →
+    checked (items_of (map lexeme ts)) ≡ first_of (checked (item_of (lexeme t))) (checked (items_of (map lexeme (take (length ts - 1) (drop 1 ts)))))
+checked_tokens t [] e some = absurd (omega arith)
+checked_tokens t (u ∷ ts) e some = rw (e, take_all (length (u ∷ ts) - 1) ts (omega arith)) (checked_items (lexeme u) (map lexeme ts))
+
+refused_first : (a : Result (List ℕ) Why) (b : Result (List Item) Why) (e : Why) → first_of a (checked b) ≡ Err e → both a b ≡ Err e
+refused_first (Ok a) (Ok b) e h = cc
+refused_first (Ok a) (Err d) e h = grind (arith, h)
+refused_first (Err d) (Ok b) e h = grind (arith, h)
+refused_first (Err d) (Err c) e h = grind (arith, h)
+
+-- a line that writes is refused where its handle or its data are
+pub overwrite_refused : (t : Token) (ts : List Token) (e : Why) → t ≡ get_or ts 0 t → 0 < length ts →
+    first_of (ident (lexeme t)) (checked (data_of (map lexeme (take (length ts - 1) (drop 1 ts))))) ≡ Err e →
+    overwrite_line (map lexeme ts) ≡ Err e
+overwrite_refused t [] e is some bad = absurd (omega arith)
+overwrite_refused t (u ∷ ts) e is some bad =
+    let rest : take (length (u ∷ ts) - 1) ts ≡ ts = take_all (length (u ∷ ts) - 1) ts (omega arith) in
+    ap (seen (λ (p : List ℕ × List Item). Overwrite p.0 p.1))
+    (refused_first (ident (lexeme u)) (data_of (map lexeme ts)) e (rw (is, rest) at bad))
+
+no_item : (f : List Item → List Item) (a : Result Item Why) (b : Result (List Item) Why) (e : Why) →
+    IsOk (seen f (seen (λ (p : Item × List Item). p.0 ∷ p.1) (both a b))) → a ≡ Err e → ⊥
+no_item f (Ok x) b e fine bad = cc
+no_item f (Err d) (Ok xs) e fine bad = cc
+no_item f (Err d) (Err c) e fine bad = cc
+
+-- where all items are good none is bad
+pub no_bad_item : (f : List Item → List Item) (t : Lexeme) (ts : List Lexeme) (e : Why) → IsOk (seen f (items_of (t ∷ ts))) → item_of t ≡ Err e → ⊥
+no_bad_item f t ts e fine bad = no_item f (item_of t) (items_of ts) e fine bad
+
+refused_item : (stops : Stop) (f : List Item → List Item) (t : Lexeme) (ts : List Lexeme) (all : Result (List Item) Why) →
+    seen f (items_of (t ∷ ts)) ≡ all → IsOk all → Stops stops (item_of t) → Stops stops all
+refused_item stop.NoMemory f t ts all e fine bad = tt
+refused_item (stop.Refused why) f t ts all e fine bad = absurd (no_bad_item f t ts why (subst IsOk (sym e) fine) bad)
+
+-- only memory stops the making of items that are good
+pub item_stops : (stops : Stop) (f : List Item → List Item) (t : Token) (tokens : List Token) (i : ℕ) → i < length tokens → t ≡ get_or tokens i t →
+    seen f (items_of (map lexeme (drop i tokens))) ≡ items_of (map lexeme tokens) → IsOk (items_of (map lexeme tokens)) →
+    Stops stops (item_of (lexeme t)) → Stops stops (items_of (map lexeme tokens))
+item_stops stops f t tokens i within is left fine bad =
+    let at : drop i tokens ≡ t ∷ drop (suc i) tokens = drop-cons tokens i t within ∙ ap (λ u. u ∷ drop (suc i) tokens) (sym is) in
+    refused_item stops f (lexeme t) (map lexeme (drop (suc i) tokens)) _ (ap (λ ts. seen f (items_of (map lexeme ts))) (sym at) ∙ left) fine bad

@@ -1,0 +1,86 @@
+ghost use Rattle.std.specs.Prelude.{◌≡◌, map, IsOk};
+ghost use Rattle.xc_text.specs.Answers.{Gives, seen};
+ghost use Rattle.xc_text.specs.Pieces.{word_item as word_item_said, item_of, items_of, data_of};
+ghost use Rattle.xc_text.specs.Tokens.{lexeme};
+
+use crate::literals::{is_within, repeated};
+use crate::reason::beside;
+use crate::script::{Data, Item};
+use crate::term::{ident_word, term_word};
+use crate::token::Token;
+use crate::why::{Stop, Why};
+use std::alloc::Global;
+use xc_data::Items;
+
+fn word_item(word: &[u8]) -> Result<Item, Why>
+    ensures { result ≡ word_item_said word.now }
+{
+    match word {
+        [b'$', name @ ..] => Ok(Item::Bytes(ident_word(name)?)),
+        [b'@', term @ ..] => Ok(Item::Digits(term_word(term)?)),
+        _ => Err(Why::BadForm),
+    }
+}
+
+// The reason against an item, if there is one. It makes no bytes.
+fn check_item(token: &Token) -> Result<(), Why>
+    ensures { result ≡ seen (λ _. tt) (item_of (lexeme token.now)) }
+{
+    if let Token::Word(word) = token {
+        word_item(word)?;
+    }
+    Ok(())
+}
+
+fn item(alloc: Global, token: &Token) -> Result<Item, Stop>
+    ensures { Gives (λ item. item) result (item_of (lexeme token.now)) }
+{
+    match token {
+        Token::Word(word) => Ok(word_item(word)?),
+        Token::Literal { bytes, repeat } => {
+            Ok(Item::Literal(repeated(alloc, bytes.as_slice(), *repeat)?))
+        }
+    }
+}
+
+fn check_items(tokens: &[Token]) -> Result<(), Why>
+    ensures { result ≡ seen (λ _. tt) (items_of (map lexeme tokens.now)) }
+{
+    match tokens {
+        [] => Ok(()),
+        [first, others @ ..] => beside(check_item(first), check_items(others)),
+    }
+}
+
+fn items(alloc: Global, tokens: &[Token]) -> Result<Data, Stop>
+    requires good { IsOk (items_of (map lexeme tokens.now)) }
+    ensures { Gives (λ items. items) result (items_of (map lexeme tokens.now)) }
+{
+    let mut items = Items::new(alloc);
+    for token in tokens {
+        items.push(item(alloc, token)?)?;
+    }
+    Ok(items)
+}
+
+/// The reason against the data of a line that writes, if there is one.
+pub fn check_data(tokens: &[Token]) -> Result<(), Why>
+    ensures { result ≡ seen (λ _. tt) (data_of (map lexeme tokens.now)) }
+{
+    if tokens.is_empty() || tokens.len() > 16 {
+        return Err(Why::BadForm);
+    }
+    check_items(tokens)?;
+    if !is_within(1024, tokens) {
+        return Err(Why::TooMany);
+    }
+    Ok(())
+}
+
+/// The data of a line that writes.
+pub fn data(alloc: Global, tokens: &[Token]) -> Result<Data, Stop>
+    requires good { IsOk (data_of (map lexeme tokens.now)) }
+    ensures { Gives (λ items. items) result (data_of (map lexeme tokens.now)) }
+{
+    items(alloc, tokens)
+}
