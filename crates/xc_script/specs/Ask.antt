@@ -1,75 +1,169 @@
 -- What a script asks next of a transaction, from the replies so far.
-use Rattle.std.specs.Prelude.{ℕ, ◌+◌, ◌-◌, ◌%◌, ◌^◌, List, [], ◌∷◌, Option, unwrap_or, slice_get, position, nat_eq}
+use Rattle.std.specs.Prelude.{ℕ, ◌+◌, ◌-◌, ◌%◌, ◌^◌, ◌||◌, Bool, true, false, List, [], ◌∷◌, Option, length, unwrap_or, slice_get, position, nat_eq, nat_lt, if◌then◌else◌}
+use Rattle.std.specs.List.{flat_map}
+use Rattle.std.specs.Fmt.{decimal}
 use Rattle.std.specs.declared.option.Option.TheVariants.{None, Some}
 use Rattle.std.specs.Cmp.Lexicographic.{pointwise}
 use Rattle.std.specs.FinMap as map
-use Rattle.xc_data.specs.declared.call.Call.{Call}
 use Rattle.xc_data.specs.declared.call.Call.TheVariants as call
 use Rattle.xc_data.specs.declared.call.Reply.{Reply}
-use Rattle.xc_data.specs.declared.call.Reply.TheVariants.{Number}
+use Rattle.xc_data.specs.declared.call.Reply.TheVariants as reply
 use Rattle.xc_maps.specs.Keys.{name_cmp}
+use Rattle.xc_world.specs.Checks.{bytes_of}
 use Rattle.xc_text.specs.declared.script.Script.{Script}
 use Rattle.xc_text.specs.declared.script.Block.{Block}
 use Rattle.xc_text.specs.declared.script.Statement.{Statement}
 use Rattle.xc_text.specs.declared.script.Statement.TheVariants as statement
+use Rattle.xc_text.specs.declared.script.Item.{Item}
+use Rattle.xc_text.specs.declared.script.Item.TheVariants as item
 use Rattle.xc_text.specs.declared.script.Term.{Term}
 use Rattle.xc_text.specs.declared.script.Term.TheVariants as term
 use Rattle.xc_text.specs.declared.script.Expression.{Expression}
 use Rattle.xc_text.specs.declared.script.Expression.TheVariants as expression
 use Rattle.xc_script.specs.declared.ask.Ask.{Ask}
 use Rattle.xc_script.specs.declared.ask.Ask.TheVariants as ask
+use Rattle.xc_script.specs.declared.value.Value.{Value}
+use Rattle.xc_script.specs.declared.value.Value.TheVariants as value
 
--- the variables that hold a number
+-- the variables that hold a number, bytes or a handle
 abbrev pub Variables : Type 0
-Variables = map.FinMap name_cmp ℕ
+Variables = map.FinMap name_cmp Value
 
--- ---- values: a variable without a number counts as 0, and sums are taken modulo 2^64
+-- ---- values: what a variable counts as where it holds nothing, or something else
+-- as a number: 0
+abbrev pub held_number : Option Value → ℕ
+held_number (Some (value.Number n)) = n
+held_number _ = 0
+
+-- as bytes: none
+abbrev pub held_bytes : Option Value → List ℕ
+held_bytes (Some (value.Bytes bytes)) = bytes
+held_bytes _ = []
+
+-- as a handle: 65,535, which no open file has
+abbrev pub held_handle : Option Value → ℕ
+held_handle (Some (value.Handle h)) = h
+held_handle _ = 65535
+
+abbrev pub bytes_value : Variables → List ℕ → List ℕ
+bytes_value variables v = held_bytes (map.get variables v)
+
+abbrev pub handle_value : Variables → List ℕ → ℕ
+handle_value variables v = held_handle (map.get variables v)
+
 abbrev pub term_value : Variables → Term → ℕ
 term_value variables (term.Number n) = n
-term_value variables (term.Variable v) = unwrap_or (map.get variables v) 0
+term_value variables (term.Variable v) = held_number (map.get variables v)
 
+-- sums and differences are taken modulo 2^64
 abbrev pub expression_value : Variables → Expression → ℕ
 expression_value variables (expression.Term t) = term_value variables t
 expression_value variables (expression.Sum a b) = (term_value variables a + term_value variables b) % 2 ^ 64
 expression_value variables (expression.Difference a b) = (term_value variables a + (2 ^ 64 - term_value variables b)) % 2 ^ 64
 
--- ---- a transaction on its way: its variables, and the statements that are left
+-- an item's bytes: a literal's, a variable's, or a term's value in decimal digits
+abbrev pub item_value : Variables → Item → List ℕ
+item_value variables (item.Literal bytes) = bytes
+item_value variables (item.Bytes v) = bytes_value variables v
+item_value variables (item.Digits t) = decimal (term_value variables t)
+
+-- the items joined
+abbrev pub data_of : Variables → List Item → List ℕ
+data_of variables items = flat_map (item_value variables) items
+
+-- ---- what a transaction has stored: the bytes of its calls and of their replies, up to 16,384
+-- so many bytes are too long for one call, or for what is left of the store
+abbrev pub is_over : ℕ → ℕ → Bool
+is_over stored n = nat_lt 1024 n || nat_lt 16384 (stored + n)
+
+-- how many bytes what is asked carries
+abbrev pub carried_by : Ask → ℕ
+carried_by (ask.Call call) = length (bytes_of call)
+carried_by _ = 0
+
+-- the bytes that a reply brings
+abbrev pub bytes_got : Reply → List ℕ
+bytes_got (reply.Got bytes) = bytes
+bytes_got _ = []
+
+-- the call didn't pass the private checks
+abbrev pub is_refusal : Reply → Bool
+is_refusal reply.BadHandle = true
+is_refusal reply.TooBig = true
+is_refusal reply.TooMuch = true
+is_refusal reply.BadWord = true
+is_refusal _ = false
+
+-- a call that passed the private checks stores its bytes and its reply's
+abbrev pub stored_after : ℕ → ℕ → Reply → ℕ
+stored_after stored carried reply = if is_refusal reply then stored else stored + carried + length (bytes_got reply)
+
+-- ---- a transaction on its way: its variables, what it has stored, and the statements that are left
 pub record Walk : Type 0 where
   pub variables : Variables
+  pub stored : ℕ
   pub left : List Statement
 
-abbrev pub call_of : Variables → Statement → Call
-call_of variables (statement.Load at into) = call.Load (term_value variables at)
-call_of variables (statement.Store at value) = call.Store (term_value variables at) (expression_value variables value)
+-- bytes that are too long for an overwrite make the transaction abort itself
+abbrev pub overwrite_of : ℕ → ℕ → List ℕ → Ask
+overwrite_of stored h bytes = if is_over stored (length bytes) then ask.Abort else ask.Call (call.XWriteOvr h bytes)
 
--- it asks the call of its next statement, and behind the last one the commit
-abbrev pub asks_of : Variables → List Statement → Ask
-asks_of variables [] = ask.Commit
-asks_of variables (s ∷ rest) = ask.Call (call_of variables s)
+-- what a statement asks
+abbrev pub ask_of : Variables → ℕ → Statement → Ask
+ask_of variables stored (statement.Load at into) = ask.Call (call.Load (term_value variables at))
+ask_of variables stored (statement.Store at value) = ask.Call (call.Store (term_value variables at) (expression_value variables value))
+ask_of variables stored (statement.Open name into) = ask.Call (call.XOpen name)
+ask_of variables stored (statement.Read h n into) = ask.Call (call.XRead (handle_value variables h) (term_value variables n))
+ask_of variables stored (statement.Overwrite h items) = overwrite_of stored (handle_value variables h) (data_of variables items)
+ask_of variables stored statement.Abort = ask.Abort
+
+-- the transaction asks what its next statement does, and behind the last one the commit
+abbrev pub asks_of : Variables → ℕ → List Statement → Ask
+asks_of variables stored [] = ask.Commit
+asks_of variables stored (s ∷ rest) = ask_of variables stored s
 
 abbrev pub asks : Walk → Ask
-asks walk = asks_of walk.variables walk.left
+asks walk = asks_of walk.variables walk.stored walk.left
 
--- a variable takes the reply's number, and loses its own where the reply has none
+-- what a reply leaves in a variable: its number, its bytes or its handle
+abbrev pub value_in : Reply → Option Value
+value_in (reply.Number n) = Some (value.Number n)
+value_in (reply.Got bytes) = Some (value.Bytes bytes)
+value_in (reply.Made h) = Some (value.Handle h)
+value_in _ = None
+
+abbrev pub set_to : Variables → List ℕ → Option Value → Variables
+set_to variables v (Some value) = map.insert variables v value
+set_to variables v None = map.remove variables v
+
+-- a variable takes what the reply has for it, and loses its own where that is nothing
 abbrev pub bound_to : Variables → List ℕ → Reply → Variables
-bound_to variables v (Number n) = map.insert variables v n
-bound_to variables v _ = map.remove variables v
+bound_to variables v reply = set_to variables v (value_in reply)
 
 abbrev pub bound : Variables → Option (List ℕ) → Reply → Variables
 bound variables None reply = variables
 bound variables (Some v) reply = bound_to variables v reply
 
-abbrev pub after_reply : Variables → Statement → Reply → Variables
-after_reply variables (statement.Load at into) reply = bound variables into reply
-after_reply variables (statement.Store at value) reply = variables
+-- the variable that takes a statement's reply, where it names one
+abbrev pub target_of : Statement → Option (List ℕ)
+target_of (statement.Load at into) = into
+target_of (statement.Open name into) = into
+target_of (statement.Read h n into) = into
+target_of _ = None
 
--- it goes on behind the reply to its next statement's call
-abbrev pub behind_reply : Variables → List Statement → Reply → Walk
-behind_reply variables [] reply = record { variables = variables; left = [] }
-behind_reply variables (s ∷ rest) reply = record { variables = after_reply variables s reply; left = rest }
+-- It goes on behind the reply to the call that it asked. Where it asked none, no reply comes, and it
+-- stays.
+abbrev pub behind_ask : Variables → ℕ → Statement → List Statement → Ask → Reply → Walk
+behind_ask variables stored s rest (ask.Call call) reply =
+    record { variables = bound variables (target_of s) reply; stored = stored_after stored (length (bytes_of call)) reply; left = rest }
+behind_ask variables stored s rest _ reply = record { variables = variables; stored = stored; left = s ∷ rest }
+
+abbrev pub behind_reply : Variables → ℕ → List Statement → Reply → Walk
+behind_reply variables stored [] reply = record { variables = variables; stored = stored; left = [] }
+behind_reply variables stored (s ∷ rest) reply = behind_ask variables stored s rest (ask_of variables stored s) reply
 
 abbrev pub answered : Walk → Reply → Walk
-answered walk reply = behind_reply walk.variables walk.left reply
+answered walk reply = behind_reply walk.variables walk.stored walk.left reply
 
 abbrev pub all_answered : Walk → List Reply → Walk
 all_answered walk [] = walk
@@ -94,7 +188,7 @@ next_body script job = slice_get (transactions_at script job.block) job.next
 
 -- the next transaction at its begin
 abbrev pub walk_from : Script → Job → Walk
-walk_from script job = record { variables = job.variables; left = unwrap_or (next_body script job) [] }
+walk_from script job = record { variables = job.variables; stored = 0; left = unwrap_or (next_body script job) [] }
 
 abbrev pub asks_from : Option (List Statement) → Walk → Ask
 asks_from None walk = ask.End

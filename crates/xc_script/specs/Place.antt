@@ -1,35 +1,83 @@
 -- A job's place as it goes on from reply to reply.
-use Rattle.std.specs.Prelude.{ℕ, ◌<◌, [], length, drop, unwrap_or, refl}
-use Rattle.std.specs.Coded.{Coded, code_by, coded×, coded_ℕ}
+use mathlib.Core.Logic.{inl, inr}
+use Rattle.std.specs.Prelude.{◌≡◌, ℕ, ◌⊎◌, IsTrue, Bool, true, false, List, [], ◌∷◌, drop, unwrap_or, refl, Option}
+use Rattle.std.specs.declared.option.Option.TheVariants.{None}
+use Rattle.std.specs.Coded.{Coded, code_by, coded×, coded⊎, coded_ℕ}
 use Rattle.std.specs.FinMap as map
 use Rattle.xc_maps.specs.Keys.{coded_name}
 use Rattle.xc_text.specs.declared.script.Script.{Script}
-use Rattle.xc_script.specs.Ask.{Variables, Walk, Job, next_body}
+use Rattle.xc_text.specs.declared.script.Statement.{Statement}
+use Rattle.xc_script.specs.declared.ask.Ask.{Ask}
+use Rattle.xc_script.specs.declared.ask.Ask.TheVariants as ask
+use Rattle.xc_script.specs.declared.value.Value.{Value}
+use Rattle.xc_script.specs.declared.value.Value.TheVariants as value
+use Rattle.xc_script.specs.Ask.{Variables, Walk, Job, asks, next_body, target_of}
 
--- the block, the transaction and the statement in it, and the variables there
+-- the block, the transaction and the statement in it; what the transaction has stored; the variables
+-- there, and those at the transaction's begin
 pub record Place : Type 0 where
   pub block : ℕ
   pub next : ℕ
   pub at : ℕ
+  pub stored : ℕ
   pub variables : Variables
+  pub begun : Variables
+
+-- ---- codes of values and of places
+abbrev pub parts_of : Value → ℕ ⊎ (List ℕ ⊎ ℕ)
+parts_of (value.Number n) = inl n
+parts_of (value.Bytes bytes) = inr (inl bytes)
+parts_of (value.Handle h) = inr (inr h)
+
+abbrev pub of_parts : ℕ ⊎ (List ℕ ⊎ ℕ) → Value
+of_parts (inl n) = value.Number n
+of_parts (inr (inl bytes)) = value.Bytes bytes
+of_parts (inr (inr h)) = value.Handle h
+
+abbrev pub same_parts : (v : Value) → of_parts (parts_of v) ≡ v
+same_parts (value.Number n) = refl
+same_parts (value.Bytes bytes) = refl
+same_parts (value.Handle h) = refl
+
+abbrev pub coded_value : Coded Value
+coded_value = code_by (ℕ ⊎ (List ℕ ⊎ ℕ)) (coded⊎ coded_ℕ (coded⊎ coded_name coded_ℕ)) parts_of of_parts same_parts
+
+abbrev pub coded_variables : Coded Variables
+coded_variables = map.code coded_name coded_value
 
 abbrev pub coded_place : Coded Place
 coded_place =
-    code_by (ℕ × (ℕ × (ℕ × Variables))) (coded× coded_ℕ (coded× coded_ℕ (coded× coded_ℕ (map.code coded_name coded_ℕ))))
-    (λ p. (p.block, (p.next, (p.at, p.variables)))) (λ p. record { block = p.0; next = p.1.0; at = p.1.1.0; variables = p.1.1.1 }) (λ _. refl)
+    code_by (ℕ × (ℕ × (ℕ × (ℕ × (Variables × Variables)))))
+    (coded× coded_ℕ (coded× coded_ℕ (coded× coded_ℕ (coded× coded_ℕ (coded× coded_variables coded_variables)))))
+    (λ p. (p.block, (p.next, (p.at, (p.stored, (p.variables, p.begun))))))
+    (λ p. record { block = p.0; next = p.1.0; at = p.1.1.0; stored = p.1.1.1.0; variables = p.1.1.1.1.0; begun = p.1.1.1.1.1 })
+    (λ _. refl)
 
--- the job that stands at a place, were its transaction to begin there
+-- ---- what stands at a place
+-- the job that stands there, were its transaction to begin there
 abbrev pub job_of : Place → Job
 job_of place = record { block = place.block; next = place.next; variables = place.variables }
 
 -- what is left of the transaction
 abbrev pub walk_of : Script → Place → Walk
-walk_of script place = record { variables = place.variables; left = drop place.at (unwrap_or (next_body script (job_of place)) []) }
+walk_of script place = record { variables = place.variables; stored = place.stored; left = drop place.at (unwrap_or (next_body script (job_of place)) []) }
 
--- a job before its next transaction
+-- a job before its next transaction: none has begun, so no variables are kept for an abort
 abbrev pub at_begin : Job → Place
-at_begin job = record { block = job.block; next = job.next; at = 0; variables = job.variables }
+at_begin job = record { block = job.block; next = job.next; at = 0; stored = 0; variables = job.variables; begun = map.empty }
 
--- the job's next statement is there: it asks a call
+-- the transaction asks a call
+abbrev pub is_call : Ask → Bool
+is_call (ask.Call call) = true
+is_call _ = false
+
 abbrev pub IsAskedCall : Script → Place → Type 0
-IsAskedCall script place = place.at < length (unwrap_or (next_body script (job_of place)) [])
+IsAskedCall script place = IsTrue (is_call (asks (walk_of script place)))
+
+-- the variable that takes the reply to what is asked, where one does
+abbrev pub first_target : List Statement → Option (List ℕ)
+first_target [] = None
+first_target (s ∷ rest) = target_of s
+
+abbrev pub target_at : Script → Place → Option (List ℕ)
+target_at script place = first_target (walk_of script place).left

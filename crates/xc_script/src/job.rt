@@ -1,69 +1,45 @@
-ghost use Rattle.std.specs.Prelude.{◌≡◌, ◌<◌, is_some, ◌+◌, ◌^◌, ◌%◌, ◌-◌, ℕ, length, unwrap_or, slice_get, position, nat_eq, IfOk, OnOk, OnErr, Some};
+ghost use Rattle.std.specs.Prelude.{◌≡◌, ◌<◌, is_some, ◌+◌, ◌^◌, nat_eq, position, slice_get, None, IfOk, IsOk, OnOk, OnErr};
 ghost use Rattle.std.specs.Option.{option_copied};
 ghost use Rattle.std.specs.Cmp.Lexicographic.{pointwise};
-ghost use Rattle.xc_script.specs.Ask.{term_value, expression_value, call_of, asks, asks_from, answered, after_reply, bound, bound_to, next_body, transactions_at, fresh_job, block_place};
-ghost use Rattle.xc_script.specs.Place.{Place, job_of, walk_of, at_begin, IsAskedCall};
+ghost use Rattle.xc_script.specs.Ask.{asks_from, answered, next_body, transactions_at, fresh_job, block_place, value_in};
+ghost use Rattle.xc_script.specs.Place.{Place, job_of, walk_of, at_begin, IsAskedCall, target_at};
 
 use crate::Ask;
+use crate::answer::{bind, stored_after, target_of};
+use crate::ask::{ask_of, carried};
+use crate::value::Variables;
 use std::alloc::Global;
 use std::marker::Model;
-use xc_data::{Call, Ident, NoMemory, Reply};
+use std::mem;
+use xc_data::{Ident, NoMemory, Reply};
 use xc_maps::IdentMap;
-use xc_text::{Block, Expression, Script, Statement, Term};
+use xc_text::{Block, Script, Statement};
 
 /// A job's place in its block, and its variables.
 #[derive(Drop)]
 pub struct JobState {
+    alloc: Global,
     block: usize,
     next: usize,
     at: usize,
-    variables: IdentMap<u64>,
+    // So wide that no sum of lengths wraps.
+    stored: u128,
+    variables: Variables,
+    // Those at the begin of the transaction.
+    begun: Variables,
 }
 
 impl Model for JobState {
+    ghost use Rattle.std.specs.Prelude.{◌≤◌, ◌*◌, ◌^◌};
     ghost use Rattle.xc_script.specs.Place.{Place, coded_place};
 
     ghost Value = { Place };
 
     ghost coded = { coded_place };
 
-    ghost view = { λ j. record { block = j.block; next = j.next; at = j.at; variables = j.variables } };
-}
+    ghost view = { λ j. record { block = j.block; next = j.next; at = j.at; stored = j.stored; variables = j.variables; begun = j.begun } };
 
-fn value_of(variables: &IdentMap<u64>, term: Term) -> u64
-    ensures { result ≡ term_value variables.now term }
-{
-    match term {
-        Term::Number(n) => n,
-        Term::Variable(name) => match variables.get(name) {
-            Some(n) => *n,
-            None => 0,
-        },
-    }
-}
-
-fn expression_of(variables: &IdentMap<u64>, expression: Expression) -> u64
-    ensures { result ≡ expression_value variables.now expression }
-{
-    match expression {
-        Expression::Term(term) => value_of(variables, term),
-        Expression::Sum(a, b) => value_of(variables, a).wrapping_add(value_of(variables, b)),
-        Expression::Difference(a, b) => value_of(variables, a).wrapping_sub(value_of(variables, b)),
-    }
-}
-
-fn call_of(variables: &IdentMap<u64>, statement: Statement) -> Call
-    ensures { result ≡ call_of variables.now statement }
-{
-    match statement {
-        Statement::Load { at, .. } => Call::Load {
-            at: value_of(variables, at),
-        },
-        Statement::Store { at, value } => Call::Store {
-            at: value_of(variables, at),
-            value: expression_of(variables, value),
-        },
-    }
+    ghost invariant = { λ j. j.stored ≤ j.at * 2 ^ 64 };
 }
 
 fn is_named(block: &Block, name: Ident) -> bool
@@ -107,23 +83,35 @@ impl JobState {
         ensures { result ≡ at_begin (fresh_job (block_place script.now block)) }
     {
         JobState {
+            alloc,
             block: place_of(script, block),
             next: 0,
             at: 0,
+            stored: 0,
             variables: IdentMap::new(alloc),
+            begun: IdentMap::new(alloc),
         }
     }
 
+    /// Keeps the variables for an abort. Their bytes are shared.
+    pub fn begin(&mut self) -> Result<(), NoMemory>
+        ensures ok { OnOk result (self.new ≡ record self.old { begun = self.old.variables }) }
+        ensures err { OnErr result (self.new ≡ self.old) }
+    {
+        self.begun = self.variables.copied()?;
+        Ok(())
+    }
+
     /// What the job is asked next. Asked again before an answer it is the same.
-    pub fn ask(&self, script: &Script) -> Ask
-        ensures { result ≡ asks_from (next_body script.now (job_of self.now)) (walk_of script.now self.now) }
+    pub fn ask(&self, script: &Script) -> Result<Ask, NoMemory>
+        ensures { IfOk result (λ ask. ask ≡ asks_from (next_body script.now (job_of self.now)) (walk_of script.now self.now)) }
     {
         let Some(body) = body_at(script, self.block, self.next) else {
-            return Ask::End;
+            return Ok(Ask::End);
         };
         match body.get(self.at) {
-            Some(statement) => Ask::Call(call_of(&self.variables, *statement)),
-            None => Ask::Commit,
+            Some(statement) => ask_of(self.alloc, &self.variables, self.stored, statement),
+            None => Ok(Ask::Commit),
         }
     }
 
@@ -132,46 +120,51 @@ impl JobState {
         requires { IsAskedCall script.now self.old }
         ensures ok { OnOk result (walk_of script.now self.new ≡ answered (walk_of script.now self.old) reply.now) }
         ensures same { (self.new.block ≡ self.old.block) × (self.new.next ≡ self.old.next) }
+        ensures begun { self.new.begun ≡ self.old.begun }
         ensures at { OnOk result (self.new.at ≡ self.old.at + 1) }
         ensures err { OnErr result (self.new ≡ self.old) }
+
+        // Only a variable that takes what the reply brings can want memory.
+        ensures sure { target_at script.now self.old ≡ None → IsOk result }
+        ensures lasting { value_in reply.now ≡ None → IsOk result }
     {
         let Some(body) = body_at(script, self.block, self.next) else {
             return Ok(());
         };
-        match body.get(self.at) {
-            Some(
-                Statement::Load {
-                    into: Some(name),
-                    ..
-                },
-            ) => self.bind(*name, reply)?,
-            _ => {}
-        }
+        let Some(statement) = body.get(self.at) else {
+            return Ok(());
+        };
+        let carried = carried(&self.variables, self.stored, statement);
+        bind(&mut self.variables, target_of(statement), reply)?;
+        self.stored = stored_after(self.stored, carried, reply);
         self.at += 1;
         Ok(())
     }
 
-    // The variable takes the reply's number, or loses its own.
-    fn bind(&mut self, name: Ident, reply: &Reply) -> Result<(), NoMemory>
-        ensures ok { OnOk result (self.new ≡ record self.old { variables = bound_to self.old.variables name reply.now }) }
-        ensures err { OnErr result (self.new ≡ self.old) }
+    /// Goes back to the begin of the transaction, with its variables. It takes no memory.
+    pub fn back(&mut self)
+        ensures { self.new ≡ at_begin (record { block = self.old.block; next = self.old.next; variables = self.old.begun }) }
     {
-        match reply {
-            Reply::Number(n) => self.variables.insert(name, *n),
-            _ => {
-                self.variables.remove(name);
-                Ok(())
-            }
-        }
+        mem::swap(&mut self.variables, &mut self.begun);
+        self.rewind();
     }
 
-    /// Goes on to the next transaction, with the variables as they are.
+    /// Goes on to the next transaction, with the variables as they are. It takes no memory.
     pub fn pass(&mut self)
         requires { self.old.next < 2 ^ 32 }
-        ensures { self.new ≡ record self.old { next = self.old.next + 1; at = 0 } }
+        ensures { self.new ≡ at_begin (record { block = self.old.block; next = self.old.next + 1; variables = self.old.variables }) }
     {
         self.next += 1;
+        self.rewind();
+    }
+
+    // Stands before its transaction, with the variables as they are.
+    fn rewind(&mut self)
+        ensures { self.new ≡ at_begin (job_of self.old) }
+    {
         self.at = 0;
+        self.stored = 0;
+        self.begun = IdentMap::new(self.alloc);
     }
 }
 

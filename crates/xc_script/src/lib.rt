@@ -1,8 +1,15 @@
 //! A job's way through its block: what is asked next, and what a reply changes.
 #![tactic(auto)]
 
+mod answer;
 mod ask;
+mod data;
 mod job;
+mod reading;
+mod value;
 
 pub use ask::Ask;
 pub use job::JobState;
+
+#[cfg(test)]
+mod tests;

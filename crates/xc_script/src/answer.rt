@@ -1,0 +1,82 @@
+ghost use Rattle.std.specs.Prelude.{◌≡◌, ◌≤◌, ◌+◌, ◌<◌, ◌^◌, length, IfOk, OnOk, OnErr, IsOk, None};
+ghost use Rattle.xc_script.specs.Ask.{bytes_got, is_refusal, stored_after, value_in, target_of, bound};
+
+use crate::value::{Value, Variables};
+use xc_data::{Ident, NoMemory, Reply};
+use xc_text::Statement;
+
+// What a reply leaves in a variable. Bytes are shared.
+fn value_in(reply: &Reply) -> Result<Option<Value>, NoMemory>
+    ensures value { IfOk result (λ value. value ≡ value_in reply.now) }
+    ensures none { value_in reply.now ≡ None → IsOk result }
+{
+    match reply {
+        Reply::Number(n) => Ok(Some(Value::Number(*n))),
+        Reply::Got(bytes) => Ok(Some(Value::Bytes(bytes.share()?))),
+        Reply::Made(h) => Ok(Some(Value::Handle(*h))),
+        _ => Ok(None),
+    }
+}
+
+/// The variable that takes a statement's reply.
+pub fn target_of(statement: &Statement) -> Option<Ident>
+    ensures { result ≡ target_of statement.now }
+{
+    match statement {
+        Statement::Load { into, .. } => *into,
+        Statement::Open { into, .. } => *into,
+        Statement::Read { into, .. } => *into,
+        _ => None,
+    }
+}
+
+/// The variable takes what the reply has for it, or loses its own.
+pub fn bind(variables: &mut Variables, target: Option<Ident>, reply: &Reply) -> Result<(), NoMemory>
+    ensures ok { OnOk result (variables.new ≡ bound variables.old target reply.now) }
+    ensures err { OnErr result (variables.new ≡ variables.old) }
+    ensures sure { target ≡ None → IsOk result }
+    ensures lasting { value_in reply.now ≡ None → IsOk result }
+{
+    let Some(name) = target else {
+        return Ok(());
+    };
+    match value_in(reply)? {
+        Some(value) => variables.insert(name, value),
+        None => {
+            variables.remove(name);
+            Ok(())
+        }
+    }
+}
+
+fn is_refusal(reply: &Reply) -> bool
+    ensures { result ≡ is_refusal reply.now }
+{
+    matches!(
+        reply,
+        Reply::BadHandle | Reply::TooBig | Reply::TooMuch | Reply::BadWord
+    )
+}
+
+fn got(reply: &Reply) -> usize
+    ensures value { result ≡ length (bytes_got reply.now) }
+    ensures bound { result < 2 ^ 63 }
+{
+    match reply {
+        Reply::Got(bytes) => bytes.len(),
+        _ => 0,
+    }
+}
+
+/// How many bytes are stored behind the reply to a call that carried so many.
+pub fn stored_after(stored: u128, carried: usize, reply: &Reply) -> u128
+    requires carried { carried ≤ 1024 }
+    requires room { stored + 2 ^ 64 < 2 ^ 128 }
+    ensures value { result ≡ stored_after stored carried reply.now }
+    ensures bound { result ≤ stored + 2 ^ 64 }
+{
+    if is_refusal(reply) {
+        return stored;
+    }
+    stored + carried as u128 + got(reply) as u128
+}
