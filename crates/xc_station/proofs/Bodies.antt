@@ -1,5 +1,5 @@
 -- A body of the plain machine with one call more.
-use Rattle.std.proofs.Common.{◌≡◌, ℕ, Bool, true, false, List, [], ◌∷◌, ◌++◌, length, refl, ap, sym, ◌∙◌, subst, append_assoc, IsTrue, arith}
+use Rattle.std.proofs.Common.{◌≡◌, ℕ, Bool, true, false, List, [], ◌∷◌, ◌++◌, length, refl, ap, sym, ◌∙◌, append_assoc, IsTrue, arith}
 use Rattle.std.specs.Prelude.{◌&&◌, slice_index, slice_set, nat_le, if◌then◌else◌}
 use Rattle.xc_data.specs.declared.call.Call.{Call}
 use Rattle.xc_data.specs.declared.call.Call.TheVariants as call
@@ -12,14 +12,16 @@ use Rattle.xc_data.specs.declared.private.Private.{Private}
 use Rattle.xc_world.specs.World.{World}
 use Rattle.xc_world.specs.Act.{act}
 use Rattle.xc_world.specs.Act.Step.{Stepped, stays}
-use Rattle.xc_world.specs.Late.{kept_call}
+use Rattle.xc_world.specs.Late.{late_call, kept_call}
 use Rattle.xc_world.specs.Fits.{fits, answer_of}
 use Rattle.xc_world.specs.Touch.{touch, holding, holding_one}
 use Rattle.xc_world.specs.Trail.{recorded}
+use Rattle.xc_world.specs.Effects.{takes_data, only_overwrites}
 use Rattle.xc_world.specs.Run.{Asked, Ran, rests, behind, body, body_fits, asked_of}
-use Rattle.xc_station.specs.Notes.{is_word_call, word_reply, words_after}
+use Rattle.xc_station.specs.Notes.{is_built}
+use Rattle.xc_station.specs.WordCalls.{is_word_call, word_reply, words_after}
 
-append_nil : {A : Type 0} (xs : List A) → xs ++ [] ≡ xs
+pub append_nil : {A : Type 0} (xs : List A) → xs ++ [] ≡ xs
 append_nil [] = refl
 append_nil (x ∷ xs) = ap (λ ys. x ∷ ys) (append_nil xs)
 
@@ -123,54 +125,38 @@ word-fine words (call.Load at) is = fine_load (nat_le (length words) at) (slice_
 word-fine words (call.Store at value) is = fine_store (nat_le (length words) at)
 word-fine words _ is = cc
 
-no_late : (c : Call) (me : Private) (b : Bool) (r : Reply) → kept_call c me r ≡ [] → kept_call c me (if b then reply.BadWord else r) ≡ []
-no_late c me true r e = refl
-no_late c me false r e = e
-
-word-late : (words : List ℕ) (me : Private) (c : Call) → is_word_call c ≡ true → kept_call c me (word_reply words c) ≡ []
-word-late words me (call.Load at) is = no_late (call.Load at) me (nat_le (length words) at) (reply.Number (slice_index words at)) refl
-word-late words me (call.Store at value) is = no_late (call.Store at value) me (nat_le (length words) at) reply.Done refl
-word-late words me _ is = cc
-
-word-trail : (w : World) (me : Private) (tx : ℕ) (c : Call) (r : Reply) → is_word_call c ≡ true → recorded w me tx c r ≡ []
+pub word-trail : (w : World) (me : Private) (tx : ℕ) (c : Call) (r : Reply) → is_word_call c ≡ true → recorded w me tx c r ≡ []
 word-trail w me tx (call.Load at) r is = refl
 word-trail w me tx (call.Store at value) r is = refl
 word-trail w me tx _ r is = cc
 
--- the body with a call on words more
-abbrev pub with_word_call : Ran → Call → Ran
-with_word_call ran c =
-    record ran {
-      world = record ran.world { words = words_after ran.world.words c };
-      replies = ran.replies ++ word_reply ran.world.words c ∷ [];
-      touched = ran.touched ++ touch c ran.me (length ran.world.words);
-    }
+kept-nil : (c : Call) (me : Private) (r : Reply) → late_call c me ≡ [] → kept_call c me r ≡ []
+kept-nil c me reply.Late e = e
+kept-nil c me _ e = refl
 
-pub extended-word : (ran : Ran) (tx : ℕ) (c : Call) → is_word_call c ≡ true → extended ran tx c (act ran.world ran.me tx c answer.Fine) ≡ with_word_call ran c
-extended-word ran tx c is =
-    ap (extended ran tx c) (word-act ran.world ran.me tx c is)
-    ∙ (λ i. record {
-      world = record ran.world { words = words_after ran.world.words c };
-      me = ran.me;
-      replies = ran.replies ++ word_reply ran.world.words c ∷ [];
-      late = (ap (λ k. ran.late ++ k) (word-late ran.world.words ran.me c is) ∙ append_nil ran.late) i;
-      trail = (ap (λ t. ran.trail ++ t) (word-trail ran.world ran.me tx c (word_reply ran.world.words c) is) ∙ append_nil ran.trail) i;
-      touched = ran.touched ++ touch c ran.me (length ran.world.words);
-    })
+-- the calls that scripts have so far are done at once
+pub built-late : (c : Call) (me : Private) (r : Reply) → is_built c ≡ true → kept_call c me r ≡ []
+built-late (call.Load at) me r is = kept-nil (call.Load at) me r refl
+built-late (call.Store at value) me r is = kept-nil (call.Store at value) me r refl
+built-late (call.XOpen name) me r is = kept-nil (call.XOpen name) me r refl
+built-late (call.XRead h n) me r is = kept-nil (call.XRead h n) me r refl
+built-late (call.XWriteOvr h bytes) me r is = kept-nil (call.XWriteOvr h bytes) me r refl
+built-late _ me r is = cc
 
-pub body-word : (w : World) (me : Private) (tx : ℕ) (calls : List Call) (replies : List Reply) (c : Call) → length calls ≡ length replies → is_word_call c ≡ true →
-    let ran = body w me tx (asked_of calls replies) in
-    body w me tx (asked_of (calls ++ c ∷ []) (replies ++ word_reply ran.world.words c ∷ [])) ≡ with_word_call ran c
-body-word w me tx calls replies c e is =
-    let ran = body w me tx (asked_of calls replies) in
-    let r = word_reply ran.world.words c in
-    ap (body w me tx) (asked-more calls replies c r e ∙ ap (λ a. asked_of calls replies ++ (c, a) ∷ []) (word-fine ran.world.words c is))
-    ∙ body-more w me tx (asked_of calls replies) c answer.Fine ∙ extended-word ran tx c is
+-- and take no data
+pub built-takes : (c : Call) → is_built c ≡ true → takes_data c ≡ false
+built-takes (call.Load at) is = refl
+built-takes (call.Store at value) is = refl
+built-takes (call.XOpen name) is = refl
+built-takes (call.XRead h n) is = refl
+built-takes (call.XWriteOvr h bytes) is = refl
+built-takes _ is = cc
 
-pub fits-word : (w : World) (me : Private) (tx : ℕ) (calls : List Call) (replies : List Reply) (c : Call) → length calls ≡ length replies → is_word_call c ≡ true →
-    IsTrue (body_fits w me tx (asked_of calls replies)) →
-    IsTrue (body_fits w me tx (asked_of (calls ++ c ∷ []) (replies ++ word_reply (body w me tx (asked_of calls replies)).world.words c ∷ [])))
-fits-word w me tx calls replies c e is h =
-    let words = (body w me tx (asked_of calls replies)).world.words in
-    subst (λ asked. IsTrue (body_fits w me tx asked)) (sym (asked-more calls replies c (word_reply words c) e ∙ ap (λ a. asked_of calls replies ++ (c, a) ∷ []) (word-fine words c is)))
-    (fits-more w me tx (asked_of calls replies) c answer.Fine h refl)
+-- and leave no record but of an overwrite
+pub built-overwrites : (c : Call) → is_built c ≡ true → only_overwrites c ≡ true
+built-overwrites (call.Load at) is = refl
+built-overwrites (call.Store at value) is = refl
+built-overwrites (call.XOpen name) is = refl
+built-overwrites (call.XRead h n) is = refl
+built-overwrites (call.XWriteOvr h bytes) is = refl
+built-overwrites _ is = cc

@@ -1,19 +1,32 @@
 -- A station at its opening, and at its end.
-use Rattle.std.proofs.Common.{◌≡◌, ℕ, ◌+◌, ◌-◌, ◌≤◌, Bool, true, false, List, [], ◌∷◌, ◌++◌, length, refl, ap, sym, ◌∙◌, subst, arith, zero, suc}
+use Rattle.std.proofs.Common.{◌≡◌, ℕ, ◌+◌, ◌-◌, ◌≤◌, Bool, true, false, List, [], ◌∷◌, ◌++◌, length, refl, ap, sym, ◌∙◌, subst, arith, zero, suc, IsTrue}
+use Rattle.std.proofs.lemmas.List.Elements.{All-head, All-tail}
 use Rattle.std.proofs.lemmas.List.Sorted.{IsPermutation-refl}
-use Rattle.std.specs.Prelude.{slice_get, map, replicate, Option, IsPermutation, not, ◌==◌, ◌&&◌}
+use Rattle.std.specs.Prelude.{slice_get, map, replicate, Option, IsPermutation, All, not, ◌==◌, ◌&&◌, sum_by}
 use Rattle.std.specs.declared.option.Option.TheVariants.{None, Some}
+use Rattle.xc_data.specs.Counts.{CountsFaults}
+use Rattle.xc_data.specs.Faults.{entry_faults}
+use Rattle.xc_data.specs.Limits.{KeepsLimits}
 use Rattle.xc_data.specs.declared.entry.Entry.{Entry}
 use Rattle.xc_data.specs.declared.entry.JobEnd.{JobEnd}
+use Rattle.xc_data.specs.declared.entry.JobEnd.TheVariants as job_end
 use Rattle.xc_data.specs.declared.entry.JobLine.{JobLine}
+use Rattle.xc_data.specs.declared.object.Num.{Num}
+use Rattle.xc_data.specs.declared.private.Place.{Place}
 use Rattle.xc_data.specs.declared.private.Place.TheVariants.{Vacant}
+use Rattle.xc_data.specs.declared.script.Opened.{Opened}
+use Rattle.xc_data.specs.declared.script.Opened.TheVariants as opened_line
+use Rattle.xc_data.specs.declared.script.Script0.{Script0}
+use Rattle.xc_data.specs.declared.undo.Undo.{Undo}
+use Rattle.xc_host.specs.Contents.{Contents, contents_of, world_of, nothing, opened}
 use Rattle.xc_text.specs.declared.script.Block.{Block}
 use Rattle.xc_text.specs.declared.script.Script.{Script}
-use Rattle.xc_text.specs.Scripts.{IsScript, names_of}
-use Rattle.xc_data.specs.declared.entry.JobEnd.TheVariants as job_end
+use Rattle.xc_text.specs.Scripts.{IsScript, IsFileLine, names_of}
 use Rattle.xc_script.specs.Ask.{fresh_job, block_place, next_body, transactions_at}
-use Rattle.xc_world.specs.World.{World, no_handles}
-use Rattle.xc_world.specs.Opening.{bare, opening, with_all_opened, handles_of, opening_handles}
+use Rattle.xc_world.specs.World.{World, beginning, no_handles}
+use Rattle.xc_world.specs.Opening.{bare, opening, with_opened, with_all_opened, handles_of, opening_handles, line_num}
+use Rattle.xc_world.specs.Sound.{IsSound}
+use Rattle.xc_world.proofs.SoundOpening.{opening_sound}
 use Rattle.xc_station.specs.declared.job.Job.{Job}
 use Rattle.xc_station.specs.declared.job.Activity.{Activity}
 use Rattle.xc_station.specs.declared.job.Activity.TheVariants as activity
@@ -21,11 +34,12 @@ use Rattle.xc_station.specs.declared.tx.Phase.{Phase}
 use Rattle.xc_station.specs.declared.tx.Phase.TheVariants as phase
 use Rattle.xc_station.specs.declared.job.Doing.{Doing}
 use Rattle.xc_station.specs.declared.job.Doing.TheVariants as doing
-use Rattle.xc_station.specs.Doing.{doing_phase, doing_in, doing_of, is_live, is_over, opened_job, IsEndOf, IsLineOf, AreLinesOf}
-use Rattle.xc_station.specs.Ending.{IsEnd, AreEnds, IsTrueEnd, IsComplete, is_done, all_done, transactions_of_jobs}
-use Rattle.xc_station.specs.Flight.{IsAlone, IsActive, IsOneJob, IsJob, IsUnbroken, GoesOn, InFlight}
+use Rattle.xc_station.specs.Doing.{doing_back, doing_phase, doing_in, doing_of, is_live, is_over, opened_job, IsEndOf, IsLineOf, AreLinesOf}
+use Rattle.xc_station.specs.Ending.{IsEnd, AreEnds, IsFinalState, IsTrueEnd, IsComplete, is_done, all_done, transactions_of_jobs}
+use Rattle.xc_station.specs.Flight.{IsAlone, IsActive, IsOneJob, IsJob, IsUnbroken, GoesOn, InFlight, AreCounted, faults_noted, faults_of_job}
+use Rattle.xc_station.specs.Playing.{IsAsIn, IsPlayedBy, MayBegin}
 use Rattle.xc_station.specs.Progress.{Following, untried, opening_progress, progress_of}
-use Rattle.xc_station.specs.Truth.{numbers_of, all_committed}
+use Rattle.xc_station.specs.Truth.{numbers_of, all_settled}
 use Rattle.xc_station.proofs.Stories.{numbers_count, begins_in_order}
 
 -- ---- the opening
@@ -42,23 +56,65 @@ none_there : (xs : List (List ℕ)) → slice_get xs 0 ≡ None → xs ≡ []
 none_there [] e = refl
 none_there (x ∷ xs) e = cc
 
--- without object lines the opening world is the bare one, and no place holds a handle
-bare_opening : (script : Script) → IsScript script → opening script.plain ≡ bare script.plain
-bare_opening script is = ap (with_all_opened (bare script.plain) 0) is.objects
+-- what is opened depends on the contents alone
+opened_alike : (w : World) (num : Num) (o : Opened) → contents_of (with_opened w num o) ≡ contents_of (with_opened (world_of (contents_of w)) num o)
+opened_alike w num (opened_line.File name bytes) = refl
+opened_alike w num (opened_line.Pipe bytes) = refl
+opened_alike w num opened_line.Pair = refl
+
+all_alike : (w v : World) (k : ℕ) (objects : List Opened) → contents_of w ≡ contents_of v → contents_of (with_all_opened w k objects) ≡ contents_of (with_all_opened v k objects)
+all_alike w v k [] same = same
+all_alike w v k (o ∷ objects) same =
+    all_alike (with_opened w (line_num k) o) (with_opened v (line_num k) o) (k + 1) objects
+    (opened_alike w (line_num k) o ∙ ap (λ (c : Contents). contents_of (with_opened (world_of c) (line_num k) o)) same ∙ sym (opened_alike v (line_num k) o))
+
+opening_contents : (script : Script0) → contents_of (opening script) ≡ opened script.prologue.objects
+opening_contents script = all_alike (bare script) (world_of nothing) 0 script.prologue.objects refl
+
+-- no line changes a word or a job
+abbrev SameBase : World → World → Type 0
+SameBase w v = (v.words ≡ w.words) × (v.started ≡ w.started)
+
+one_base : (w : World) (num : Num) (o : Opened) → SameBase w (with_opened w num o)
+one_base w num (opened_line.File name bytes) = (refl, refl)
+one_base w num (opened_line.Pipe bytes) = (refl, refl)
+one_base w num opened_line.Pair = (refl, refl)
+
+all_base : (w : World) (k : ℕ) (objects : List Opened) → SameBase w (with_all_opened w k objects)
+all_base w k [] = (refl, refl)
+all_base w k (o ∷ objects) =
+    let one = one_base w (line_num k) o in
+    let more = all_base (with_opened w (line_num k) o) (k + 1) objects in
+    (more.0 ∙ one.0, more.1 ∙ one.1)
+
+opening_base : (script : Script0) → SameBase (bare script) (opening script)
+opening_base script = all_base (bare script) 0 script.prologue.objects
+
+-- a file has no handle at the opening
+no_handles_of : (k : ℕ) (objects : List Opened) → All IsFileLine objects → handles_of k objects ≡ []
+no_handles_of k [] all = refl
+no_handles_of k (opened_line.File name bytes ∷ objects) all = no_handles_of (k + 1) objects (All-tail IsFileLine (opened_line.File name bytes) objects all)
+no_handles_of k (opened_line.Pipe bytes ∷ objects) all = absurd (All-head IsFileLine (opened_line.Pipe bytes) objects all)
+no_handles_of k (opened_line.Pair ∷ objects) all = absurd (All-head IsFileLine opened_line.Pair objects all)
 
 no_opening_handles : (script : Script) → IsScript script → opening_handles script.plain ≡ no_handles
-no_opening_handles script is = ap (λ objects. let handles = handles_of 0 objects in handles ++ replicate (256 - length handles) Vacant) is.objects
+no_opening_handles script is = ap (λ (handles : List Place). handles ++ replicate (256 - length handles) Vacant) (no_handles_of 0 script.plain.prologue.objects is.files)
 
-start_alone : (script : Script) (block : List ℕ) → IsScript script → script.plain.jobs ≡ block ∷ [] → IsAlone script 0 (opening_progress script) (untried (fresh_job (block_place script block)) 0)
-start_alone script block is jobs =
+start_alone : (script : Script) (block : List ℕ) → script.plain.jobs ≡ block ∷ [] → IsAlone 0 (opening_progress script) (untried (fresh_job (block_place script block)) 0)
+start_alone script block jobs = record { jobs = ap (map (λ name. untried (fresh_job (block_place script name)) 0)) jobs; since = omega arith; first = refl }
+
+start_begins : (script : Script) (block : List ℕ) → IsScript script → KeepsLimits script.plain → script.plain.jobs ≡ block ∷ [] → MayBegin script 0 (opening_progress script).state (beginning no_handles)
+start_begins script block is limits jobs =
+    let base = opening_base script.plain in
     record {
-      jobs = ap (map (λ name. untried (fresh_job (block_place script name)) 0)) jobs;
-      handles = ap (λ js. replicate (length js) (opening_handles script.plain)) jobs ∙ ap (λ hs. hs ∷ []) (no_opening_handles script is);
-      started = ap (λ (w : World). w.started) (bare_opening script is);
-      count = ap (λ (w : World). length w.words) (bare_opening script is);
-      since = omega arith;
-      first = refl;
+      handles = ap (λ (js : List (List ℕ)). replicate (length js) (opening_handles script.plain)) jobs ∙ ap (λ hs. hs ∷ []) (no_opening_handles script is);
+      started = base.1;
+      count = ap length base.0;
+      sound = λ number lt. subst (λ hs. IsSound (opening script.plain) (beginning hs) number) (no_opening_handles script is) (opening_sound script.plain limits number lt);
     }
+
+start_as : (script : Script) (words : List ℕ) (contents : Contents) → words ≡ script.plain.words → contents ≡ opened script.plain.prologue.objects → IsAsIn (opening script.plain) words contents
+start_as script words contents same held = record { words = same ∙ sym (opening_base script.plain).0; host = held ∙ sym (opening_contents script.plain) }
 
 first_is : (f g : Following) (fs gs : List Following) → f ∷ fs ≡ g ∷ gs → f ≡ g
 first_is f g fs gs e = cc
@@ -68,59 +124,82 @@ start_next : (script : Script) (names : List (List ℕ)) (f : Following) → map
 start_next script [] f e = cc
 start_next script (name ∷ names) f e = let same : untried (fresh_job (block_place script name)) 0 ≡ f = first_is _ f _ [] e in ap (λ (g : Following). g.job.next) same
 
-start_job : (script : Script) (tries spare : ℕ) (words : List ℕ) (o : Option (List ℕ)) → IsScript script → words ≡ script.plain.words → slice_get script.plain.jobs 0 ≡ o →
-    IsJob script words 0 spare (progress_of script []) (opened_job script o)
-start_job script tries spare words None is same e = (none_there script.plain.jobs e, same, refl)
-start_job script tries spare words (Some block) is same e =
+start_job : (script : Script) (tells : Bool) (tries spare : ℕ) (words : List ℕ) (contents : Contents) (o : Option (List ℕ)) → IsScript script → KeepsLimits script.plain → words ≡ script.plain.words
+    → (IsTrue tells → contents ≡ opened script.plain.prologue.objects) → slice_get script.plain.jobs 0 ≡ o
+    → IsJob script tells tries words contents 0 spare (progress_of script []) (opened_job script o)
+start_job script tells tries spare words contents None is limits same held e = record { jobs = none_there script.plain.jobs e; none = refl; opened = λ t. start_as script words contents same (held t) }
+start_job script tells tries spare words contents (Some block) is limits same held e =
     let few : length script.plain.jobs ≤ 1 = omega (arith, is.one_block, ap length is.jobs, length_names script.blocks) in
     let jobs = one_at_most script.plain.jobs block few e in
     record {
       following = untried (fresh_job (block_place script block)) 0;
-      alone = start_alone script block is jobs;
+      alone = start_alone script block jobs;
       named = jobs;
-      active = (same ∙ sym (ap (λ (w : World). w.words) (bare_opening script is)), refl, refl, refl);
+      active = (refl, refl, refl);
+      begins = refl;
+      played = λ t. record { begin = start_begins script block is limits jobs; now = start_as script words contents same (held t) };
     }
 
-pub started : (script : Script) (tries spare : ℕ) (words : List ℕ) (journal : List Entry) (job : Option Job) → IsScript script → words ≡ script.plain.words → journal ≡ []
-    → job ≡ opened_job script (slice_get script.plain.jobs 0) → InFlight script tries words journal spare job
-started script tries spare words journal job is same none first =
-    let there : InFlight script tries words [] spare (opened_job script (slice_get script.plain.jobs 0)) = record {
+pub started : (script : Script) (tells : Bool) (tries spare : ℕ) (words : List ℕ) (contents : Contents) (journal : List Entry) (job : Option Job) → IsScript script → KeepsLimits script.plain → words ≡ script.plain.words
+    → (IsTrue tells → contents ≡ opened script.plain.prologue.objects) → journal ≡ []
+    → job ≡ opened_job script (slice_get script.plain.jobs 0) → InFlight script tells tries words contents journal spare job
+started script tells tries spare words contents journal job is limits same held none first =
+    let there : InFlight script tells tries words contents [] spare (opened_job script (slice_get script.plain.jobs 0)) = record {
       read = is;
       entries = tt;
       in_order = tt;
       few = omega arith;
-      unbroken = λ (f : Following) (jobs : (progress_of script []).jobs ≡ f ∷ []) goes. record { committed = refl; passed = start_next script script.plain.jobs f jobs; within = omega (arith, start_next script script.plain.jobs f jobs) };
-      job = start_job script tries spare words (slice_get script.plain.jobs 0) is same refl;
+      count = ap length same;
+      unbroken = λ (f : Following) (jobs : (progress_of script []).jobs ≡ f ∷ []) goes. record { settled = refl; passed = start_next script script.plain.jobs f jobs; within = omega (arith, start_next script script.plain.jobs f jobs) };
+      job = start_job script tells tries spare words contents (slice_get script.plain.jobs 0) is limits same held refl;
     } in
-    subst (λ js. InFlight script tries words js spare job) (sym none) (subst (InFlight script tries words [] spare) (sym first) there)
+    subst (λ js. InFlight script tells tries words contents js spare job) (sym none) (subst (InFlight script tells tries words contents [] spare) (sym first) there)
+
+opened_faults : (script : Script) (o : Option (List ℕ)) → faults_of_job (opened_job script o) ≡ 0
+opened_faults script None = refl
+opened_faults script (Some block) = refl
+
+-- no fault is recorded yet
+pub started_counts : (script : Script) (journal : List Entry) (job : Option Job) (before now : ℕ) → journal ≡ [] → job ≡ opened_job script (slice_get script.plain.jobs 0) → now ≡ before → AreCounted journal job before now
+started_counts script journal job before now none first stays =
+    let total : 0 ≡ sum_by entry_faults journal + faults_of_job job =
+    (λ i. sum_by entry_faults (sym none i) + (sym (opened_faults script (slice_get script.plain.jobs 0)) ∙ ap faults_of_job (sym first)) i) in
+    subst (λ n. CountsFaults n before now) total stays
 
 -- ---- the end
-over_phase : (p : Phase) → doing_phase p ≡ doing.Ended → ⊥
-over_phase phase.Running e = cc
-over_phase phase.Committing e = cc
-over_phase (phase.Undoing c) e = cc
+over_back : (us : List Undo) → doing_back us ≡ doing.Ended → ⊥
+over_back [] e = cc
+over_back (u ∷ us) e = cc
+
+over_phase : (us : List Undo) (p : Phase) → doing_phase us p ≡ doing.Ended → ⊥
+over_phase us phase.Running e = cc
+over_phase us phase.Committing e = cc
+over_phase us (phase.Undoing c) e = over_back us e
 
 over_is : (a : Activity) → doing_in a ≡ doing.Ended → (end : JobEnd) × (a ≡ activity.Ended end)
 over_is activity.Idle e = cc
-over_is (activity.Active tx) e = absurd (over_phase tx.phase e)
+over_is (activity.Active tx) e = absurd (over_phase tx.undo.pending tx.phase e)
 over_is activity.Starved e = cc
 over_is (activity.Ended end) e = (end, refl)
 
 -- what is left of a job that has ended
-pub record IsOver (script : Script) (words : List ℕ) (journal : List Entry) (lines : List JobLine) : Type 0 where
-  pub words_led : words ≡ (progress_of script journal).state.world.words
-  pub blocks : map (λ (line : JobLine). line.block) lines ≡ (progress_of script journal).state.world.started
+pub record IsOver (script : Script) (tells : Bool) (values : List ℕ) (contents : Contents) (journal : List Entry) (lines : List JobLine) : Type 0 where
+  pub final : IsTrue tells → IsFinalState (progress_of script journal).state values contents lines
   pub ends : AreEnds script (progress_of script journal).jobs lines
 
-none_over : (script : Script) (words : List ℕ) (journal : List Entry) (spare : ℕ) (lines : List JobLine) → IsScript script → lines ≡ [] →
-    IsJob script words (length journal) spare (progress_of script journal) None → IsOver script words journal lines
-none_over script words [] spare lines is none h =
+none_over : (script : Script) (tells : Bool) (tries : ℕ) (words : List ℕ) (contents : Contents) (journal : List Entry) (spare : ℕ) (lines : List JobLine) → lines ≡ [] →
+    IsJob script tells tries words contents (length journal) spare (progress_of script journal) None → IsOver script tells words contents journal lines
+none_over script tells tries words contents [] spare lines none h =
     record {
-      words_led = h.1 ∙ sym (ap (λ (w : World). w.words) (bare_opening script is));
-      blocks = ap (map (λ (line : JobLine). line.block)) none ∙ sym h.0 ∙ sym (ap (λ (w : World). w.started) (bare_opening script is));
-      ends = subst (λ jobs. AreEnds script jobs lines) (sym (ap (map (λ name. untried (fresh_job (block_place script name)) 0)) h.0)) none;
+      final = λ t. let there = h.opened t in
+          record {
+            words = there.words;
+            host = there.host;
+            blocks = ap (map (λ (line : JobLine). line.block)) none ∙ sym h.jobs ∙ sym (opening_base script.plain).1;
+          };
+      ends = subst (λ jobs. AreEnds script jobs lines) (sym (ap (map (λ name. untried (fresh_job (block_place script name)) 0)) h.jobs)) none;
     }
-none_over script words (e ∷ journal) spare lines is none h = absurd (let some : suc (length journal) ≡ 0 = h.2 in omega arith)
+none_over script tells tries words contents (e ∷ journal) spare lines none h = absurd (let some : suc (length journal) ≡ 0 = h.none in omega arith)
 
 ends_as : (script : Script) (f : Following) (a : Activity) (end line : JobEnd) → a ≡ activity.Ended end → IsEndOf a line → IsEnd script f end → IsEnd script f line
 ends_as script f activity.Idle end line is of fits = absurd of
@@ -128,29 +207,35 @@ ends_as script f (activity.Active tx) end line is of fits = absurd of
 ends_as script f activity.Starved end line is of fits = absurd of
 ends_as script f (activity.Ended e) end line is of fits = let same : e ≡ end = cc in subst (IsEnd script f) (sym same ∙ sym of) fits
 
-some_over : (script : Script) (words : List ℕ) (journal : List Entry) (spare : ℕ) (job : Job) (line : JobLine) (lines : List JobLine) → doing_in job.activity ≡ doing.Ended →
-    lines ≡ line ∷ [] → IsLineOf job line → IsOneJob script words (length journal) spare (progress_of script journal) job → IsOver script words journal lines
-some_over script words journal spare job line lines over are of one =
+some_over : (script : Script) (tells : Bool) (tries : ℕ) (words : List ℕ) (contents : Contents) (journal : List Entry) (spare : ℕ) (job : Job) (line : JobLine) (lines : List JobLine) → doing_in job.activity ≡ doing.Ended →
+    lines ≡ line ∷ [] → IsLineOf job line → IsOneJob script tells tries words contents (length journal) spare (progress_of script journal) job → IsOver script tells words contents journal lines
+some_over script tells tries words contents journal spare job line lines over are of one =
     let p = progress_of script journal in
     let f = one.following in
     let ended = over_is job.activity over in
-    let active = subst (IsActive script p.state.world f words (length journal) spare job.place) ended.1 one.active in
+    let active = subst (IsActive script tries f words (length journal) spare job.place) ended.1 one.active in
     record {
-      words_led = active.0;
-      blocks = ap (map (λ (l : JobLine). l.block)) are ∙ ap (λ b. b ∷ []) of.block ∙ sym one.named ∙ sym one.alone.started;
-      ends = subst (λ jobs. AreEnds script jobs lines) (sym one.alone.jobs) (subst (AreEnds script (f ∷ [])) (sym are) (ends_as script f job.activity ended.0 line.end ended.1 of.end active.1, refl));
+      final = λ t. let there = one.played t in
+          let now : IsAsIn p.state.world words contents = subst (IsPlayedBy p.state.world job.me words contents) ended.1 there.now in
+          record {
+            words = now.words;
+            host = now.host;
+            blocks = ap (map (λ (l : JobLine). l.block)) are ∙ ap (λ b. b ∷ []) of.block ∙ sym one.named ∙ sym there.begin.started;
+          };
+      ends = subst (λ jobs. AreEnds script jobs lines) (sym one.alone.jobs) (subst (AreEnds script (f ∷ [])) (sym are) (ends_as script f job.activity ended.0 line.end ended.1 of.end active, refl));
     }
 
-over : (script : Script) (words : List ℕ) (journal : List Entry) (spare : ℕ) (o : Option Job) (lines : List JobLine) → IsScript script → doing_of o ≡ doing.Ended → AreLinesOf o lines →
-    IsJob script words (length journal) spare (progress_of script journal) o → IsOver script words journal lines
-over script words journal spare None lines is ended are h = none_over script words journal spare lines is are h
-over script words journal spare (Some job) lines is ended are h = some_over script words journal spare job are.0 lines ended are.1 are.2 h
+over : (script : Script) (tells : Bool) (tries : ℕ) (words : List ℕ) (contents : Contents) (journal : List Entry) (spare : ℕ) (o : Option Job) (lines : List JobLine) → doing_of o ≡ doing.Ended → AreLinesOf o lines →
+    IsJob script tells tries words contents (length journal) spare (progress_of script journal) o → IsOver script tells words contents journal lines
+over script tells tries words contents journal spare None lines ended are h = none_over script tells tries words contents journal spare lines are h
+over script tells tries words contents journal spare (Some job) lines ended are h = some_over script tells tries words contents journal spare job are.0 lines ended are.1 are.2 h
 
 live_over : (d : Doing) → 1 == 1 && not (is_over d) ≡ false → d ≡ doing.Ended
 live_over doing.Idle e = cc
 live_over doing.Running e = cc
 live_over doing.Committing e = cc
 live_over doing.Undoing e = cc
+live_over doing.Undone e = cc
 live_over doing.Starved e = cc
 live_over doing.Ended e = refl
 
@@ -175,31 +260,31 @@ first_true true e = refl
 first_true false e = cc
 
 complete_one : (script : Script) (journal : List Entry) (f : Following) (line : JobLine) → (f.starved ≡ false → IsUnbroken script journal f) → is_done line.end ≡ true → IsEnd script f line.end →
-    (all_committed journal ≡ true) × (length journal ≡ length (transactions_at script f.job.block))
+    (all_settled journal ≡ true) × (length journal ≡ length (transactions_at script f.job.block))
 complete_one script journal f line unbroken done end =
     let over = done_is script f line.end done end in
     let k = unbroken over.0 in
     let past = past_all (transactions_at script f.job.block) f.job.next over.1 in
-    (k.committed, omega (arith, k.passed, k.within, past))
+    (k.settled, omega (arith, k.passed, k.within, past))
 
-complete_over : (script : Script) (words : List ℕ) (journal : List Entry) (spare : ℕ) (o : Option Job) (lines : List JobLine) → doing_of o ≡ doing.Ended → AreLinesOf o lines →
-    GoesOn script journal (progress_of script journal) → IsJob script words (length journal) spare (progress_of script journal) o → AreEnds script (progress_of script journal).jobs lines →
+complete_over : (script : Script) (tells : Bool) (tries : ℕ) (words : List ℕ) (contents : Contents) (journal : List Entry) (spare : ℕ) (o : Option Job) (lines : List JobLine) → doing_of o ≡ doing.Ended → AreLinesOf o lines →
+    GoesOn script journal (progress_of script journal) → IsJob script tells tries words contents (length journal) spare (progress_of script journal) o → AreEnds script (progress_of script journal).jobs lines →
     all_done lines ≡ true → IsComplete script journal
-complete_over script words [] spare None lines ended are goes h ends done =
-    record { committed = refl; count = sym (ap (transactions_of_jobs script) (ap (map (λ name. untried (fresh_job (block_place script name)) 0)) h.0)) }
-complete_over script words (e ∷ journal) spare None lines ended are goes h ends done = absurd (let some : suc (length journal) ≡ 0 = h.2 in omega arith)
-complete_over script words journal spare (Some job) lines ended are goes h ends done =
+complete_over script tells tries words contents [] spare None lines ended are goes h ends done =
+    record { settled = refl; count = sym (ap (transactions_of_jobs script) (ap (map (λ name. untried (fresh_job (block_place script name)) 0)) h.jobs)) }
+complete_over script tells tries words contents (e ∷ journal) spare None lines ended are goes h ends done = absurd (let some : suc (length journal) ≡ 0 = h.none in omega arith)
+complete_over script tells tries words contents journal spare (Some job) lines ended are goes h ends done =
     let f = h.following in
     let jobs = h.alone.jobs in
     let fits = subst (λ js. AreEnds script js (are.0 ∷ [])) jobs (subst (AreEnds script (progress_of script journal).jobs) are.1 ends) in
     let is = ap all_done (sym are.1) ∙ done in
     let whole = complete_one script journal f are.0 (goes f jobs) (first_true (is_done are.0.end) is) fits.0 in
-    record { committed = whole.0; count = whole.1 ∙ (let h : length (transactions_at script f.job.block) ≡ length (transactions_at script f.job.block) + 0 = omega arith in h) ∙ ap (transactions_of_jobs script) (sym jobs) }
+    record { settled = whole.0; count = whole.1 ∙ (let h : length (transactions_at script f.job.block) ≡ length (transactions_at script f.job.block) + 0 = omega arith in h) ∙ ap (transactions_of_jobs script) (sym jobs) }
 
-pub finished : (script : Script) (tries : ℕ) (words : List ℕ) (journal : List Entry) (spare : ℕ) (o : Option Job) (lines : List JobLine) → is_live o 1 ≡ false → AreLinesOf o lines →
-    InFlight script tries words journal spare o → IsTrueEnd script tries journal words lines
-finished script tries words journal spare o lines ended are k =
-    let whole = over script words journal spare o lines k.read (ended_is o ended) are k.job in
+pub finished : (script : Script) (tells : Bool) (tries : ℕ) (words : List ℕ) (contents : Contents) (journal : List Entry) (spare : ℕ) (o : Option Job) (lines : List JobLine) → is_live o 1 ≡ false → AreLinesOf o lines →
+    InFlight script tells tries words contents journal spare o → IsTrueEnd script tells tries journal words contents lines
+finished script tells tries words contents journal spare o lines ended are k =
+    let whole = over script tells tries words contents journal spare o lines (ended_is o ended) are k.job in
     record {
       journal = record {
         entries = k.entries;
@@ -207,8 +292,16 @@ finished script tries words journal spare o lines ended are k =
         begins = begins_in_order journal k.in_order;
       };
       in_order = k.in_order;
-      words = whole.words_led;
-      blocks = whole.blocks;
+      final = whole.final;
       ends = whole.ends;
-      complete = complete_over script words journal spare o lines (ended_is o ended) are k.unbroken k.job whole.ends;
+      complete = complete_over script tells tries words contents journal spare o lines (ended_is o ended) are k.unbroken k.job whole.ends;
     }
+
+ended_faults : (o : Option Job) → doing_of o ≡ doing.Ended → faults_of_job o ≡ 0
+ended_faults None e = refl
+ended_faults (Some job) e = ap faults_noted (over_is job.activity e).1
+
+pub finished_counts : (journal : List Entry) (o : Option Job) (before now : ℕ) → is_live o 1 ≡ false → AreCounted journal o before now → CountsFaults (sum_by entry_faults journal) before now
+finished_counts journal o before now ended h =
+    let total : sum_by entry_faults journal + faults_of_job o ≡ sum_by entry_faults journal = omega (arith, ended_faults o (ended_is o ended)) in
+    subst (λ n. CountsFaults n before now) total h

@@ -1,210 +1,108 @@
 -- Each kind of turn keeps a station in flight.
-use Rattle.std.proofs.Common.{◌≡◌, ℕ, ◌+◌, ◌<◌, Bool, true, false, List, [], ◌∷◌, ◌++◌, length, refl, ap, sym, ◌∙◌, subst, arith, length-append}
+use Rattle.std.proofs.Common.{◌≡◌, ℕ, ◌+◌, ◌<◌, Bool, true, false, List, [], ◌∷◌, ◌++◌, length, refl, ap, sym, ◌∙◌, subst, arith, length-append, IsTrue}
 use Rattle.std.specs.Prelude.{IsSome, Option, ◌&&◌}
 use Rattle.std.specs.declared.option.Option.TheVariants.{Some}
+use Rattle.xc_data.specs.declared.entry.Cause.{Cause}
+use Rattle.xc_data.specs.declared.entry.Cause.TheVariants as cause
 use Rattle.xc_data.specs.declared.entry.Entry.{Entry}
 use Rattle.xc_data.specs.declared.entry.Outcome.TheVariants.{Committed}
+use Rattle.xc_data.specs.declared.private.Private.{Private}
+use Rattle.xc_data.specs.declared.undo.Undo.{Undo}
+use Rattle.xc_host.specs.Contents.{Contents}
 use Rattle.xc_text.specs.declared.script.Script.{Script}
 use Rattle.xc_text.specs.Scripts.{IsScript}
 use Rattle.xc_script.specs.Ask.{Walk, next_body, transactions_at}
-use Rattle.xc_script.specs.Place.{Place, at_begin}
-use Rattle.xc_world.specs.World.{World}
+use Rattle.xc_script.specs.Place.{at_begin}
+use Rattle.xc_world.specs.World.{World, beginning}
 use Rattle.xc_station.specs.declared.tx.Tx.{Tx}
 use Rattle.xc_station.specs.declared.tx.Phase.{Phase}
 use Rattle.xc_station.specs.declared.tx.Phase.TheVariants as phase
 use Rattle.xc_station.specs.declared.job.Job.{Job}
 use Rattle.xc_station.specs.declared.job.Activity.{Activity}
 use Rattle.xc_station.specs.declared.job.Activity.TheVariants as activity
-use Rattle.xc_station.specs.declared.job.Doing.TheVariants.{Idle, Running, Committing, Undoing, Starved}
-use Rattle.xc_station.specs.Doing.{doing_phase, doing_in, doing_of, IsBusy}
-use Rattle.xc_data.specs.declared.entry.JobEnd.TheVariants as job_end
+use Rattle.xc_station.specs.declared.job.Doing.TheVariants.{Idle, Running, Committing, Undoing, Undone, Starved}
+use Rattle.xc_station.specs.Closing.{behind_commit, behind_abort}
+use Rattle.xc_station.specs.Doing.{doing_back, doing_phase, doing_in, IsBusy}
 use Rattle.xc_station.specs.Notes.{entry_of}
-use Rattle.xc_station.specs.Progress.{Following, progress_of, after_entry, opening_progress}
-use Rattle.xc_station.specs.Truth.{AreTrue, AreInOrder, IsTrueEntry, is_commit, all_committed}
-use Rattle.xc_station.specs.Flight.{IsActive, IsUnbroken, InFlight, IsPhase, IsCommitting, ran_of}
+use Rattle.xc_station.specs.Progress.{Following, Progress, progress_of, after_entry, opening_progress}
+use Rattle.xc_station.specs.Truth.{AreTrue, AreInOrder, IsTrueEntry, is_settled, all_settled}
+use Rattle.xc_station.specs.Flight.{IsActive, IsAlone, IsUnbroken, InFlight, IsPhase, IsCommitting, IsUndoing}
+use Rattle.xc_station.specs.Playing.{IsAsIn, IsPlayedBy, IsPlaying, MayBegin}
 use Rattle.xc_station.proofs.Asking.{few_passed, within_got}
 use Rattle.xc_station.proofs.Stories.{progress-more, true-more, order-more}
-use Rattle.xc_station.proofs.Closing.{starved_outcome, commit_true, commit_leads, gone_on, abort_true, abort_leads, starving, Closes}
+use Rattle.xc_station.proofs.Closing.{aborted_by, commit_true, commit_leads, commit_begins, gone_on, gone_back, abort_true, abort_leads, abort_begins}
 
 -- ---- what an activity is
-idle_phase : (p : Phase) → doing_phase p ≡ Idle → ⊥
-idle_phase phase.Running e = cc
-idle_phase phase.Committing e = cc
-idle_phase (phase.Undoing c) e = cc
+back_idle : (us : List Undo) → doing_back us ≡ Idle → ⊥
+back_idle [] e = cc
+back_idle (u ∷ us) e = cc
 
-starved_phase : (p : Phase) → doing_phase p ≡ Starved → ⊥
-starved_phase phase.Running e = cc
-starved_phase phase.Committing e = cc
-starved_phase (phase.Undoing c) e = cc
+idle_phase : (us : List Undo) (p : Phase) → doing_phase us p ≡ Idle → ⊥
+idle_phase us phase.Running e = cc
+idle_phase us phase.Committing e = cc
+idle_phase us (phase.Undoing c) e = back_idle us e
+
+back_starved : (us : List Undo) → doing_back us ≡ Starved → ⊥
+back_starved [] e = cc
+back_starved (u ∷ us) e = cc
+
+starved_phase : (us : List Undo) (p : Phase) → doing_phase us p ≡ Starved → ⊥
+starved_phase us phase.Running e = cc
+starved_phase us phase.Committing e = cc
+starved_phase us (phase.Undoing c) e = back_starved us e
 
 pub idle_is : (a : Activity) → doing_in a ≡ Idle → a ≡ activity.Idle
 idle_is activity.Idle e = refl
-idle_is (activity.Active tx) e = absurd (idle_phase tx.phase e)
+idle_is (activity.Active tx) e = absurd (idle_phase tx.undo.pending tx.phase e)
 idle_is activity.Starved e = cc
 idle_is (activity.Ended end) e = cc
 
-pub committing_is : (p : Phase) → doing_phase p ≡ Committing → p ≡ phase.Committing
-committing_is phase.Running e = cc
-committing_is phase.Committing e = refl
-committing_is (phase.Undoing c) e = cc
+pub starved_is : (a : Activity) → doing_in a ≡ Starved → a ≡ activity.Starved
+starved_is activity.Idle e = cc
+starved_is (activity.Active tx) e = absurd (starved_phase tx.undo.pending tx.phase e)
+starved_is activity.Starved e = refl
+starved_is (activity.Ended end) e = cc
 
-pub running_is : (p : Phase) → doing_phase p ≡ Running → p ≡ phase.Running
-running_is phase.Running e = refl
-running_is phase.Committing e = cc
-running_is (phase.Undoing c) e = cc
+back_committing : (us : List Undo) → doing_back us ≡ Committing → ⊥
+back_committing [] e = cc
+back_committing (u ∷ us) e = cc
 
--- ---- turns that enter nothing
-pub keep_job : (script : Script) (tries : ℕ) (words words' : List ℕ) (journal : List Entry) (spare spare' : ℕ) (job job' : Job)
-    → job'.block ≡ job.block
-    → ((f : Following) → IsActive script (progress_of script journal).state.world f words (length journal) spare job.place job.activity
-    → IsActive script (progress_of script journal).state.world f words' (length journal) spare' job'.place job'.activity)
-    → InFlight script tries words journal spare (Some job) → InFlight script tries words' journal spare' (Some job')
-keep_job script tries words words' journal spare spare' job job' block moves k =
-    let one = k.job in
-    record {
-      read = k.read;
-      entries = k.entries;
-      in_order = k.in_order;
-      few = k.few;
-      unbroken = k.unbroken;
-      job = record {
-        following = one.following;
-        alone = one.alone;
-        named = one.named ∙ ap (λ b. b ∷ []) (sym block);
-        active = moves one.following one.active;
-      };
-    }
+pub committing_is : (us : List Undo) (p : Phase) → doing_phase us p ≡ Committing → p ≡ phase.Committing
+committing_is us phase.Running e = cc
+committing_is us phase.Committing e = refl
+committing_is us (phase.Undoing c) e = absurd (back_committing us e)
 
--- ---- turns that enter an entry
-first_of_one : (f g : Following) → f ∷ [] ≡ g ∷ [] → f ≡ g
-first_of_one f g e = cc
+back_running : (us : List Undo) → doing_back us ≡ Running → ⊥
+back_running [] e = cc
+back_running (u ∷ us) e = cc
 
-and_true : (a b : Bool) → a && b ≡ true → (a ≡ true) × (b ≡ true)
-and_true true b h = (refl, h)
-and_true false b h = let no : false ≡ true = h in cc
+pub running_is : (us : List Undo) (p : Phase) → doing_phase us p ≡ Running → p ≡ phase.Running
+running_is us phase.Running e = refl
+running_is us phase.Committing e = cc
+running_is us (phase.Undoing c) e = absurd (back_running us e)
 
-one_more : (journal : List Entry) (e : Entry) → all_committed journal ≡ true → is_commit e.outcome ≡ true → all_committed (journal ++ e ∷ []) ≡ true
-one_more [] e all is = grind (arith, is)
-one_more (d ∷ journal) e all is =
-    let parts = and_true (is_commit d.outcome) (all_committed journal) all in
-    ap (λ b. b && all_committed (journal ++ e ∷ [])) parts.0 ∙ one_more journal e parts.1 is
+-- records are left, the newest of them behind the others
+last_of : (u : Undo) (us : List Undo) → (older : List Undo) × (last : Undo) × (u ∷ us ≡ older ++ last ∷ [])
+last_of u [] = ([], u, refl)
+last_of u (v ∷ us) = let rest = last_of v us in (u ∷ rest.0, rest.1, ap (λ xs. u ∷ xs) rest.2)
 
-pub keep_entry : (script : Script) (tries : ℕ) (words : List ℕ) (journal : List Entry) (spare : ℕ) (job : Job) (e : Entry) (f : Following) (w : World)
-    → IsScript script → AreTrue script tries 0 (opening_progress script) journal → AreInOrder 0 journal → length journal < 1000
-    → script.plain.jobs ≡ job.block ∷ []
-    → IsTrueEntry script tries (length journal) (progress_of script journal) e
-    → e.tx ≡ length journal + 1 → e.began ≡ length journal
-    → Closes script (length journal + 1) (after_entry script (length journal) (progress_of script journal) e) f w
-    → IsActive script w f words (length journal + 1) spare job.place job.activity
-    → (f.starved ≡ false → IsUnbroken script (journal ++ e ∷ []) f)
-    → InFlight script tries words (journal ++ e ∷ []) spare (Some job)
-keep_entry script tries words journal spare job e f w read entries order few named one number began closes active unbroken =
-    let zero_plus : 0 + length journal ≡ length journal = omega arith in
-    let count : length (journal ++ e ∷ []) ≡ length journal + 1 = length-append journal (e ∷ []) in
-    let led : progress_of script (journal ++ e ∷ []) ≡ after_entry script (length journal) (progress_of script journal) e =
-    progress-more script 0 (opening_progress script) journal e ∙ ap (λ n. after_entry script n (progress_of script journal) e) zero_plus in
-    let there : Closes script (length (journal ++ e ∷ [])) (progress_of script (journal ++ e ∷ [])) f w =
-    subst (λ n. Closes script n (progress_of script (journal ++ e ∷ [])) f w) (sym count) (subst (λ p. Closes script (length journal + 1) p f w) (sym led) closes) in
-    record {
-      read = read;
-      entries = true-more script tries 0 (opening_progress script) journal e entries (subst (λ n. IsTrueEntry script tries n (progress_of script journal) e) (sym zero_plus) one);
-      in_order = order-more 0 journal e order (number ∙ ap (λ n. n + 1) (sym zero_plus)) (began ∙ sym zero_plus);
-      few = omega arith;
-      unbroken = λ (g : Following) (jobs : (progress_of script (journal ++ e ∷ [])).jobs ≡ g ∷ []) goes.
-          let both : f ∷ [] ≡ g ∷ [] = sym there.alone.jobs ∙ jobs in
-          let same : f ≡ g = first_of_one f g both in
-          subst (IsUnbroken script (journal ++ e ∷ [])) same (unbroken (ap (λ (h : Following). h.starved) same ∙ goes));
-      job = record {
-        following = f;
-        alone = there.alone;
-        named = named;
-        active = subst (λ v. IsActive script v f words (length (journal ++ e ∷ [])) spare job.place job.activity) (sym there.world)
-            (subst (λ n. IsActive script w f words n spare job.place job.activity) (sym count) active);
-      };
-    }
+some_left : (us : List Undo) → doing_back us ≡ Undoing → (older : List Undo) × (u : Undo) × (us ≡ older ++ u ∷ [])
+some_left [] e = cc
+some_left (u ∷ us) e = last_of u us
 
-pub keep_commit : (script : Script) (tries : ℕ) (words : List ℕ) (journal : List Entry) (spare spare' : ℕ) (job : Job) (tx : Tx)
-    → job.activity ≡ activity.Active tx → tx.phase ≡ phase.Committing
-    → InFlight script tries words journal spare (Some job)
-    → InFlight script tries words (journal ++ entry_of tx 1 (Committed []) ∷ []) spare'
-    (Some (record { block = job.block; place = record { block = job.place.block; next = job.place.next + 1; at = 0; variables = job.place.variables }; activity = activity.Idle }))
-keep_commit script tries words journal spare spare' job tx is commits k =
-    let p = progress_of script journal in
-    let one = k.job in
-    let f = one.following in
-    let active = subst (IsActive script p.state.world f words (length journal) spare job.place) is one.active in
-    let flight = active.1 in
-    let committing : IsCommitting script p.state.world f words job.place tx = subst (IsPhase script p.state.world f words job.place tx) commits flight.phase in
-    let few = few_passed script f.job k.read flight.left in
-    let next : Place = record { block = job.place.block; next = job.place.next + 1; at = 0; variables = job.place.variables } in
-    let stands : next ≡ at_begin (gone_on script (length journal) f tx).job =
-    λ i. record {
-      block = committing.ahead.block i;
-      next = committing.ahead.next i + 1;
-      at = 0;
-      variables = ap (λ (v : Walk). v.variables) committing.ahead.walk i;
-    } in
-    keep_entry script tries words journal spare' (record { block = job.block; place = next; activity = activity.Idle }) (entry_of tx 1 (Committed []))
-    (gone_on script (length journal) f tx) (ran_of p.state.world tx).world k.read k.entries k.in_order (omega (arith, flight.passed)) one.named
-    (commit_true script tries (length journal) p f job.place words tx one.alone flight.goes_on flight.left flight.noted committing)
-    flight.noted.number flight.noted.began
-    (commit_leads script (length journal) p f tx one.alone flight.noted committing.stores)
-    (committing.written, refl, stands, ap (λ n. n + 1) flight.passed)
-    (λ _. let before = k.unbroken f one.alone.jobs flight.goes_on in record {
-      committed = one_more journal (entry_of tx 1 (Committed [])) before.committed refl;
-      passed = length-append journal (entry_of tx 1 (Committed []) ∷ []) ∙ ap (λ n. n + 1) before.passed;
-      within = let lt = within_got (transactions_at script f.job.block) f.job.next flight.left in omega arith;
-    })
+none_left : (us : List Undo) → doing_back us ≡ Undone → us ≡ []
+none_left [] e = refl
+none_left (u ∷ us) e = cc
 
--- an undoing transaction's words are as they were
-unwritten : (script : Script) (w : World) (f : Following) (words : List ℕ) (place : Place) (tx : Tx) (p : Phase) → doing_phase p ≡ Undoing → IsPhase script w f words place tx p → words ≡ w.words
-unwritten script w f words place tx phase.Running e h = cc
-unwritten script w f words place tx phase.Committing e h = cc
-unwritten script w f words place tx (phase.Undoing c) e h = h.unwritten
+pub undoing_is : (us : List Undo) (p : Phase) → doing_phase us p ≡ Undoing → ((c : Cause) × (p ≡ phase.Undoing c)) × ((older : List Undo) × (u : Undo) × (us ≡ older ++ u ∷ []))
+undoing_is us phase.Running e = cc
+undoing_is us phase.Committing e = cc
+undoing_is us (phase.Undoing c) e = ((c, refl), some_left us e)
 
-pub keep_abort : (script : Script) (tries : ℕ) (words : List ℕ) (journal : List Entry) (spare spare' : ℕ) (job : Job) (tx : Tx)
-    → job.activity ≡ activity.Active tx → doing_phase tx.phase ≡ Undoing
-    → InFlight script tries words journal spare (Some job)
-    → InFlight script tries words (journal ++ entry_of tx 1 starved_outcome ∷ []) spare' (Some (record { block = job.block; place = job.place; activity = activity.Starved }))
-keep_abort script tries words journal spare spare' job tx is undoes k =
-    let p = progress_of script journal in
-    let one = k.job in
-    let f = one.following in
-    let active = subst (IsActive script p.state.world f words (length journal) spare job.place) is one.active in
-    let flight = active.1 in
-    let few = few_passed script f.job k.read flight.left in
-    keep_entry script tries words journal spare' (record { block = job.block; place = job.place; activity = activity.Starved }) (entry_of tx 1 starved_outcome)
-    (starving (length journal) f) p.state.world k.read k.entries k.in_order (omega (arith, flight.passed)) one.named
-    (abort_true script tries (length journal) p f tx one.alone flight.goes_on flight.left flight.noted)
-    flight.noted.number flight.noted.began
-    (abort_leads script (length journal) p f tx one.alone)
-    (unwritten script p.state.world f words job.place tx tx.phase undoes flight.phase, refl, flight.left)
-    (λ starved. let no : true ≡ false = starved in cc)
-
--- ---- the turns, as the station takes them: the job was taken out, and one is put back
-pub turn_idle : (script : Script) (tries : ℕ) (words : List ℕ) (journal journal' : List Entry) (spare spare' : ℕ) (o : Option Job) (job job' : Job)
-    → Some job ≡ o → doing_of o ≡ Idle → journal' ≡ journal → job'.block ≡ job.block → job'.place ≡ job.place
-    → ((w : World) (f : Following) (ws : List ℕ) → ws ≡ w.words → f.starved ≡ false → job.place ≡ at_begin f.job → length journal ≡ f.job.next
-    → IsActive script w f ws (length journal) spare' job.place job'.activity)
-    → InFlight script tries words journal spare o → InFlight script tries words journal' spare' (Some job')
-turn_idle script tries words journal journal' spare spare' o job job' was idle same block place active k =
-    let is = idle_is job.activity (ap doing_of was ∙ idle) in
-    let moved = λ (f : Following) (before : IsActive script (progress_of script journal).state.world f words (length journal) spare job.place job.activity).
-    let rest = subst (IsActive script (progress_of script journal).state.world f words (length journal) spare job.place) is before in
-    subst (λ (q : Place). IsActive script (progress_of script journal).state.world f words (length journal) spare' q job'.activity) (sym place)
-    (active (progress_of script journal).state.world f words rest.0 rest.1 rest.2 rest.3) in
-    subst (λ js. InFlight script tries words js spare' (Some job')) (sym same)
-    (keep_job script tries words words journal spare spare' job job' block moved (subst (InFlight script tries words journal spare) (sym was) k))
-
-pub turn_running : (script : Script) (tries : ℕ) (words words' : List ℕ) (journal : List Entry) (spare : ℕ) (o : Option Job) (job job' : Job)
-    → Some job ≡ o → job'.block ≡ job.block
-    → ((w : World) (f : Following) (entered room : ℕ) → IsActive script w f words entered room job.place job.activity → IsActive script w f words' entered room job'.place job'.activity)
-    → InFlight script tries words journal spare o → InFlight script tries words' journal spare (Some job')
-turn_running script tries words words' journal spare o job job' was block active k =
-    keep_job script tries words words' journal spare spare job job' block
-    (λ (f : Following) (before : IsActive script (progress_of script journal).state.world f words (length journal) spare job.place job.activity).
-    active (progress_of script journal).state.world f (length journal) spare before)
-    (subst (InFlight script tries words journal spare) (sym was) k)
+pub undone_is : (us : List Undo) (p : Phase) → doing_phase us p ≡ Undone → ((c : Cause) × (p ≡ phase.Undoing c)) × (us ≡ [])
+undone_is us phase.Running e = cc
+undone_is us phase.Committing e = cc
+undone_is us (phase.Undoing c) e = ((c, refl), none_left us e)
 
 -- an active job's transaction
 pub active_is : (a : Activity) → IsBusy a → (tx : Tx) × (a ≡ activity.Active tx)
@@ -231,53 +129,201 @@ busy_undoing (activity.Active tx) e = tt
 busy_undoing activity.Starved e = cc
 busy_undoing (activity.Ended end) e = cc
 
--- a job behind its commit, with its entry
-abbrev pub CommitsTo : Job → Job × Entry → Type 0
-CommitsTo job made =
-    (tx : Tx) → job.activity ≡ activity.Active tx
-    → made ≡ (record { block = job.block; place = record { block = job.place.block; next = job.place.next + 1; at = 0; variables = job.place.variables }; activity = activity.Idle }, entry_of tx 1 (Committed []))
+pub busy_undone : (a : Activity) → doing_in a ≡ Undone → IsBusy a
+busy_undone activity.Idle e = cc
+busy_undone (activity.Active tx) e = tt
+busy_undone activity.Starved e = cc
+busy_undone (activity.Ended end) e = cc
 
-pub turn_committing : (script : Script) (tries : ℕ) (words : List ℕ) (journal journal' : List Entry) (spare spare' : ℕ) (o : Option Job) (job : Job) (made : Job × Entry)
-    → Some job ≡ o → doing_of o ≡ Committing → CommitsTo job made → journal' ≡ journal ++ made.1 ∷ []
-    → InFlight script tries words journal spare o → InFlight script tries words journal' spare' (Some made.0)
-turn_committing script tries words journal journal' spare spare' o job made was commits gives grown k =
-    let doing = ap doing_of was ∙ commits in
-    let one = active_is job.activity (busy_committing job.activity doing) in
-    let phase = committing_is one.0.phase (ap doing_in (sym one.1) ∙ doing) in
-    let there = keep_commit script tries words journal spare spare' job one.0 one.1 phase (subst (InFlight script tries words journal spare) (sym was) k) in
-    subst (λ js. InFlight script tries words js spare' (Some made.0)) (sym grown)
-    (subst (λ (m : Job × Entry). InFlight script tries words (journal ++ m.1 ∷ []) spare' (Some m.0)) (sym (gives one.0 one.1)) there)
+-- ---- turns that enter nothing
+module _ (script : Script) (tells : Bool) (tries : ℕ) (journal : List Entry) where
+  -- what holds of the job behind the journal
+  abbrev reached : Progress
+  reached = progress_of script journal
 
--- a job behind its abort, with its entry
-abbrev pub AbortsTo : Job → Job × Entry → Type 0
-AbortsTo job made =
-    (tx : Tx) → job.activity ≡ activity.Active tx → made ≡ (record { block = job.block; place = job.place; activity = activity.Starved }, entry_of tx 1 starved_outcome)
+  abbrev In : List ℕ → Contents → ℕ → Option Job → Type 0
+  In words contents spare o = InFlight script tells tries words contents journal spare o
 
-pub turn_undoing : (script : Script) (tries : ℕ) (words : List ℕ) (journal journal' : List Entry) (spare spare' : ℕ) (o : Option Job) (job : Job) (made : Job × Entry)
-    → Some job ≡ o → doing_of o ≡ Undoing → AbortsTo job made → journal' ≡ journal ++ made.1 ∷ []
-    → InFlight script tries words journal spare o → InFlight script tries words journal' spare' (Some made.0)
-turn_undoing script tries words journal journal' spare spare' o job made was undoes gives grown k =
-    let doing = ap doing_of was ∙ undoes in
-    let one = active_is job.activity (busy_undoing job.activity doing) in
-    let there = keep_abort script tries words journal spare spare' job one.0 one.1 (ap doing_in (sym one.1) ∙ doing) (subst (InFlight script tries words journal spare) (sym was) k) in
-    subst (λ js. InFlight script tries words js spare' (Some made.0)) (sym grown)
-    (subst (λ (m : Job × Entry). InFlight script tries words (journal ++ m.1 ∷ []) spare' (Some m.0)) (sym (gives one.0 one.1)) there)
+  pub keep_job : (words words' : List ℕ) (contents contents' : Contents) (spare spare' : ℕ) (job job' : Job)
+      → job'.block ≡ job.block → job'.me ≡ job.me → length words' ≡ length words
+      → ((f : Following) → IsActive script tries f words (length journal) spare job.place job.activity → IsActive script tries f words' (length journal) spare' job'.place job'.activity)
+      → (IsTrue tells → (f : Following) → IsActive script tries f words (length journal) spare job.place job.activity → MayBegin script (length journal) reached.state job.me
+      → IsPlayedBy reached.state.world job.me words contents job.activity → IsPlayedBy reached.state.world job.me words' contents' job'.activity)
+      → In words contents spare (Some job) → In words' contents' spare' (Some job')
+  keep_job words words' contents contents' spare spare' job job' block me count moves plays k =
+      let one = k.job in
+      record {
+        read = k.read;
+        entries = k.entries;
+        in_order = k.in_order;
+        few = k.few;
+        count = count ∙ k.count;
+        unbroken = k.unbroken;
+        job = record {
+          following = one.following;
+          alone = one.alone;
+          named = one.named ∙ ap (λ b. b ∷ []) (sym block);
+          active = moves one.following one.active;
+          begins = me ∙ one.begins ∙ ap (λ (m : Private). beginning m.places) (sym me);
+          played = λ t. let p = one.played t in
+              record {
+                begin = subst (MayBegin script (length journal) reached.state) (sym me) p.begin;
+                now = subst (λ m. IsPlayedBy reached.state.world m words' contents' job'.activity) (sym me) (plays t one.following one.active p.begin p.now);
+              };
+        };
+      }
 
-pub starved_is : (a : Activity) → doing_in a ≡ Starved → a ≡ activity.Starved
-starved_is activity.Idle e = cc
-starved_is (activity.Active tx) e = absurd (starved_phase tx.phase e)
-starved_is activity.Starved e = refl
-starved_is (activity.Ended end) e = cc
+-- ---- turns that enter an entry
+first_of_one : (f g : Following) → f ∷ [] ≡ g ∷ [] → f ≡ g
+first_of_one f g e = cc
 
-pub turn_starved : (script : Script) (tries : ℕ) (words : List ℕ) (journal : List Entry) (spare : ℕ) (o : Option Job) (job job' : Job)
-    → Some job ≡ o → doing_of o ≡ Starved → job' ≡ record { block = job.block; place = job.place; activity = activity.Ended job_end.NoMemory }
-    → InFlight script tries words journal spare o → InFlight script tries words journal spare (Some job')
-turn_starved script tries words journal spare o job job' was starved made k =
-    let is = starved_is job.activity (ap doing_of was ∙ starved) in
-    let ended : Job = record { block = job.block; place = job.place; activity = activity.Ended job_end.NoMemory } in
-    let moved = λ (f : Following) (before : IsActive script (progress_of script journal).state.world f words (length journal) spare job.place job.activity).
-    let rest = subst (IsActive script (progress_of script journal).state.world f words (length journal) spare job.place) is before in
-    let over : (words ≡ (progress_of script journal).state.world.words) × IsSome (next_body script f.job) = (rest.0, rest.2) in
-    over in
-    subst (λ (j : Job). InFlight script tries words journal spare (Some j)) (sym made)
-    (keep_job script tries words words journal spare spare job ended refl moved (subst (InFlight script tries words journal spare) (sym was) k))
+and_true : (a b : Bool) → a && b ≡ true → (a ≡ true) × (b ≡ true)
+and_true true b h = (refl, h)
+and_true false b h = let no : false ≡ true = h in cc
+
+one_more : (journal : List Entry) (e : Entry) → all_settled journal ≡ true → is_settled e.outcome ≡ true → all_settled (journal ++ e ∷ []) ≡ true
+one_more [] e all is = grind (arith, is)
+one_more (d ∷ journal) e all is =
+    let parts = and_true (is_settled d.outcome) (all_settled journal) all in
+    ap (λ b. b && all_settled (journal ++ e ∷ [])) parts.0 ∙ one_more journal e parts.1 is
+
+pub keep_entry : (script : Script) (tells : Bool) (tries : ℕ) (words : List ℕ) (contents : Contents) (journal : List Entry) (spare : ℕ) (job : Job) (e : Entry) (f : Following)
+    → IsScript script → AreTrue script tells tries 0 (opening_progress script) journal → AreInOrder 0 journal → length journal < 1000 → length words ≡ length script.plain.words
+    → script.plain.jobs ≡ job.block ∷ []
+    → IsTrueEntry script tells tries (length journal) (progress_of script journal) e
+    → e.tx ≡ length journal + 1 → e.began ≡ length journal
+    → IsAlone (length journal + 1) (after_entry script (length journal) (progress_of script journal) e) f
+    → IsActive script tries f words (length journal + 1) spare job.place job.activity
+    → job.me ≡ beginning job.me.places
+    → (IsTrue tells → IsPlaying script words contents (length journal + 1) (after_entry script (length journal) (progress_of script journal) e).state job)
+    → (f.starved ≡ false → IsUnbroken script (journal ++ e ∷ []) f)
+    → InFlight script tells tries words contents (journal ++ e ∷ []) spare (Some job)
+keep_entry script tells tries words contents journal spare job e f read entries order few words_count named one number began alone active begins playing unbroken =
+    let zero_plus : 0 + length journal ≡ length journal = omega arith in
+    let count : length (journal ++ e ∷ []) ≡ length journal + 1 = length-append journal (e ∷ []) in
+    let led : progress_of script (journal ++ e ∷ []) ≡ after_entry script (length journal) (progress_of script journal) e =
+    progress-more script 0 (opening_progress script) journal e ∙ ap (λ n. after_entry script n (progress_of script journal) e) zero_plus in
+    let there : IsAlone (length (journal ++ e ∷ [])) (progress_of script (journal ++ e ∷ [])) f =
+    subst (λ n. IsAlone n (progress_of script (journal ++ e ∷ [])) f) (sym count) (subst (λ p. IsAlone (length journal + 1) p f) (sym led) alone) in
+    record {
+      read = read;
+      entries = true-more script tells tries 0 (opening_progress script) journal e entries (subst (λ n. IsTrueEntry script tells tries n (progress_of script journal) e) (sym zero_plus) one);
+      in_order = order-more 0 journal e order (number ∙ ap (λ n. n + 1) (sym zero_plus)) (began ∙ sym zero_plus);
+      few = omega arith;
+      count = words_count;
+      unbroken = λ (g : Following) (jobs : (progress_of script (journal ++ e ∷ [])).jobs ≡ g ∷ []) goes.
+          let both : f ∷ [] ≡ g ∷ [] = sym there.jobs ∙ jobs in
+          let same : f ≡ g = first_of_one f g both in
+          subst (IsUnbroken script (journal ++ e ∷ [])) same (unbroken (ap (λ (h : Following). h.starved) same ∙ goes));
+      job = record {
+        following = f;
+        alone = there;
+        named = named;
+        active = subst (λ n. IsActive script tries f words n spare job.place job.activity) (sym count) active;
+        begins = begins;
+        played = λ t. subst (λ (p : Progress). IsPlaying script words contents (length (journal ++ e ∷ [])) p.state job) (sym led)
+            (subst (λ n. IsPlaying script words contents n (after_entry script (length journal) (progress_of script journal) e).state job) (sym count) (playing t));
+      };
+    }
+
+-- a job goes on to its next transaction with an entry
+passes : (script : Script) (journal : List Entry) (e : Entry) (f g : Following) → IsUnbroken script journal f → IsSome (next_body script f.job) → is_settled e.outcome ≡ true
+    → g.job.next ≡ f.job.next + 1 → g.job.block ≡ f.job.block → IsUnbroken script (journal ++ e ∷ []) g
+passes script journal e f g before left settled next block =
+    record {
+      settled = one_more journal e before.settled settled;
+      passed = length-append journal (e ∷ []) ∙ ap (λ n. n + 1) before.passed ∙ sym next;
+      within = let lt = within_got (transactions_at script f.job.block) f.job.next left in
+          let same : length (transactions_at script g.job.block) ≡ length (transactions_at script f.job.block) = ap (λ b. length (transactions_at script b)) block in
+          omega (arith, lt, next, same);
+    }
+
+pub keep_commit : (script : Script) (tells : Bool) (tries : ℕ) (words : List ℕ) (contents : Contents) (journal : List Entry) (spare spare' : ℕ) (job : Job) (tx : Tx)
+    → job.activity ≡ activity.Active tx → tx.phase ≡ phase.Committing
+    → InFlight script tells tries words contents journal spare (Some job)
+    → InFlight script tells tries words contents (journal ++ entry_of tx 1 (Committed []) ∷ []) spare' (Some (behind_commit job tx))
+keep_commit script tells tries words contents journal spare spare' job tx is commits k =
+    let p = progress_of script journal in
+    let one = k.job in
+    let f = one.following in
+    let active = subst (IsActive script tries f words (length journal) spare job.place) is one.active in
+    let flight = active.1 in
+    let committing : IsCommitting script f job.place tx = subst (IsPhase script tries f words job.place tx) commits flight.phase in
+    let few = few_passed script f.job k.read flight.left in
+    let g = gone_on script (length journal) f tx in
+    let stands : (behind_commit job tx).place ≡ at_begin g.job =
+    λ i. at_begin (record { block = flight.standing.block i; next = flight.standing.next i + 1; variables = ap (λ (v : Walk). v.variables) committing.ahead i }) in
+    let told : IsTrue tells → MayBegin script (length journal) p.state job.me × IsPlayedBy p.state.world job.me words contents (activity.Active tx) =
+    λ t. let q = one.played t in
+    let now : IsPlayedBy p.state.world job.me words contents (activity.Active tx) = subst (IsPlayedBy p.state.world job.me words contents) is q.now in
+    (q.begin, now) in
+    keep_entry script tells tries words contents journal spare' (behind_commit job tx) (entry_of tx 1 (Committed [])) g
+    k.read k.entries k.in_order (omega (arith, flight.passed)) k.count one.named
+    (commit_true script tells tries (length journal) p f job.place words contents job.me tx one.alone one.begins flight committing told)
+    flight.noted.number flight.noted.began
+    (commit_leads script (length journal) p f tx one.alone)
+    (refl, stands, ap (λ n. n + 1) flight.passed)
+    refl
+    (λ t. let b = commit_begins script (length journal) p f words contents job.me tx one.alone one.begins commits flight.noted.number (told t).0 (told t).1 in record { begin = b.0; now = b.1 })
+    (λ _. passes script journal (entry_of tx 1 (Committed [])) f g (k.unbroken f one.alone.jobs flight.goes_on) flight.left refl refl refl)
+
+-- ---- where a job stands behind an abort, by the cause
+behind_active : (script : Script) (tries : ℕ) (f : Following) (words : List ℕ) (entered spare : ℕ) (job : Job) (c : Cause) → f.starved ≡ false → IsSome (next_body script f.job) → entered ≡ f.job.next
+    → job.place.block ≡ f.job.block → job.place.next ≡ f.job.next → job.place.begun ≡ f.job.variables
+    → IsActive script tries (gone_back entered f c) words (entered + 1) spare (behind_abort job c).place (behind_abort job c).activity
+behind_active script tries f words entered spare job cause.Asked goes left passed block next begun =
+    (refl, (λ i. at_begin (record { block = block i; next = next i + 1; variables = begun i })), ap (λ n. n + 1) passed)
+behind_active script tries f words entered spare job (cause.Conflict object holder at) goes left passed block next begun = (refl, left)
+behind_active script tries f words entered spare job (cause.Revoked object by at) goes left passed block next begun = (refl, left)
+behind_active script tries f words entered spare job cause.NoMemory goes left passed block next begun = (refl, left)
+
+behind_me : (job : Job) (c : Cause) → ((behind_abort job c).me ≡ job.me) × ((behind_abort job c).block ≡ job.block)
+behind_me job cause.Asked = (refl, refl)
+behind_me job (cause.Conflict object holder at) = (refl, refl)
+behind_me job (cause.Revoked object by at) = (refl, refl)
+behind_me job cause.NoMemory = (refl, refl)
+
+behind_played : (w : World) (me : Private) (words : List ℕ) (contents : Contents) (job : Job) (c : Cause) → IsAsIn w words contents → IsPlayedBy w me words contents (behind_abort job c).activity
+behind_played w me words contents job cause.Asked h = h
+behind_played w me words contents job (cause.Conflict object holder at) h = h
+behind_played w me words contents job (cause.Revoked object by at) h = h
+behind_played w me words contents job cause.NoMemory h = h
+
+behind_unbroken : (script : Script) (journal : List Entry) (tx : Tx) (f : Following) (c : Cause) → IsUnbroken script journal f → IsSome (next_body script f.job)
+    → (gone_back (length journal) f c).starved ≡ false → IsUnbroken script (journal ++ entry_of tx 1 (aborted_by c tx) ∷ []) (gone_back (length journal) f c)
+behind_unbroken script journal tx f cause.Asked before left goes = passes script journal (entry_of tx 1 (aborted_by cause.Asked tx)) f (gone_back (length journal) f cause.Asked) before left refl refl refl
+behind_unbroken script journal tx f (cause.Conflict object holder at) before left goes = let no : true ≡ false = goes in cc
+behind_unbroken script journal tx f (cause.Revoked object by at) before left goes = let no : true ≡ false = goes in cc
+behind_unbroken script journal tx f cause.NoMemory before left goes = let no : true ≡ false = goes in cc
+
+pub keep_abort : (script : Script) (tells : Bool) (tries : ℕ) (words : List ℕ) (contents : Contents) (journal : List Entry) (spare spare' : ℕ) (job : Job) (tx : Tx) (c : Cause)
+    → job.activity ≡ activity.Active tx → tx.phase ≡ phase.Undoing c → tx.undo.pending ≡ []
+    → InFlight script tells tries words contents journal spare (Some job)
+    → InFlight script tells tries words contents (journal ++ entry_of tx 1 (aborted_by c tx) ∷ []) spare' (Some (behind_abort job c))
+keep_abort script tells tries words contents journal spare spare' job tx c is undoes none k =
+    let p = progress_of script journal in
+    let one = k.job in
+    let f = one.following in
+    let active = subst (IsActive script tries f words (length journal) spare job.place) is one.active in
+    let flight = active.1 in
+    let back : IsUndoing script tries f tx c = subst (IsPhase script tries f words job.place tx) undoes flight.phase in
+    let few = few_passed script f.job k.read flight.left in
+    let s = flight.standing in
+    let same = behind_me job c in
+    let told : IsTrue tells → MayBegin script (length journal) p.state job.me × IsPlayedBy p.state.world job.me words contents (activity.Active tx) =
+    λ t. let q = one.played t in
+    let now : IsPlayedBy p.state.world job.me words contents (activity.Active tx) = subst (IsPlayedBy p.state.world job.me words contents) is q.now in
+    (q.begin, now) in
+    keep_entry script tells tries words contents journal spare' (behind_abort job c) (entry_of tx 1 (aborted_by c tx)) (gone_back (length journal) f c)
+    k.read k.entries k.in_order (omega (arith, flight.passed)) k.count (one.named ∙ ap (λ b. b ∷ []) (sym same.1))
+    (abort_true script tells tries (length journal) p f job.place words contents job.me tx c one.alone one.begins undoes none flight told)
+    flight.noted.number flight.noted.began
+    (abort_leads script tries (length journal) p f tx c one.alone back)
+    (behind_active script tries f words (length journal) spare' job c flight.goes_on flight.left flight.passed s.block s.next s.begun)
+    (same.0 ∙ one.begins ∙ ap (λ (m : Private). beginning m.places) (sym same.0))
+    (λ t. let b = abort_begins script (length journal) p f words contents job.me tx c one.alone undoes none flight.noted (told t).0 (told t).1 in
+    record {
+      begin = subst (MayBegin script (length journal + 1) (after_entry script (length journal) p (entry_of tx 1 (aborted_by c tx))).state) (sym same.0) b.0;
+      now = behind_played (after_entry script (length journal) p (entry_of tx 1 (aborted_by c tx))).state.world (behind_abort job c).me words contents job c b.1;
+    })
+    (behind_unbroken script journal tx f c (k.unbroken f one.alone.jobs flight.goes_on) flight.left)

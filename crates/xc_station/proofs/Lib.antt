@@ -1,9 +1,13 @@
 pub mod Bodies
 pub mod Stories
-pub mod Touching
-pub mod Steps
-pub mod Closing
 pub mod Asking
+pub mod Touching
+pub mod Doings
+pub mod Forward
+pub mod Backward
+pub mod Counting
+pub mod Closing
 pub mod Keeping
+pub mod Turning
 pub mod Lefts
 pub mod Bounds

@@ -2,19 +2,32 @@
 use Rattle.std.proofs.Common.{◌≡◌, ℕ, ◌≤◌, Bool, true, false, List, [], length, arith}
 use Rattle.std.specs.Prelude.{if◌then◌else◌}
 use Rattle.xc_data.specs.declared.call.Call.{Call}
-use Rattle.xc_data.specs.declared.call.Call.TheVariants.{Load, Store}
+use Rattle.xc_data.specs.declared.call.Call.TheVariants.{Load, Store, XOpen, XRead, XWriteOvr}
 use Rattle.xc_data.specs.declared.object.Object.{Object}
+use Rattle.xc_data.specs.declared.private.Place.{Place}
+use Rattle.xc_data.specs.declared.private.Place.TheVariants as place
 use Rattle.xc_data.specs.declared.private.Private.{Private}
+use Rattle.xc_data.specs.Private.{place_of}
 use Rattle.xc_world.specs.Checks.{is_refused}
-use Rattle.xc_world.specs.Touch.{touch, objects_of_call}
-use Rattle.xc_station.specs.Notes.{is_word_call}
+use Rattle.xc_world.specs.Touch.{touch, object_at, objects_of_call}
+use Rattle.xc_station.specs.Notes.{is_built}
 
 few_if : (b : Bool) (objects : List Object) → length objects ≤ 2 → length (if b then [] else objects) ≤ 2
 few_if true objects le = omega arith
 few_if false objects le = le
 
--- a call on words touches one
-pub few_touched : (c : Call) (me : Private) (words : ℕ) → is_word_call c ≡ true → length (touch c me words) ≤ 2
+-- a handle is of one object
+few_at : (p : Place) → length (object_at p) ≤ 2
+few_at place.Vacant = omega arith
+few_at (place.File num at) = omega arith
+few_at (place.Pipe num) = omega arith
+few_at (place.Pair num side) = omega arith
+
+-- a call touches two at most
+pub few_touched : (c : Call) (me : Private) (words : ℕ) → is_built c ≡ true → length (touch c me words) ≤ 2
 few_touched (Load at) me words is = few_if (is_refused (Load at) me words) (objects_of_call (Load at) me) (omega arith)
 few_touched (Store at value) me words is = few_if (is_refused (Store at value) me words) (objects_of_call (Store at value) me) (omega arith)
+few_touched (XOpen name) me words is = few_if (is_refused (XOpen name) me words) (objects_of_call (XOpen name) me) (omega arith)
+few_touched (XRead h n) me words is = few_if (is_refused (XRead h n) me words) (objects_of_call (XRead h n) me) (few_at (place_of me.places h))
+few_touched (XWriteOvr h bytes) me words is = few_if (is_refused (XWriteOvr h bytes) me words) (objects_of_call (XWriteOvr h bytes) me) (few_at (place_of me.places h))
 few_touched _ me words is = cc

@@ -7,6 +7,8 @@ use Rattle.xc_data.specs.declared.entry.Turn.TheVariants as turn
 use Rattle.xc_data.specs.declared.entry.JobEnd.{JobEnd}
 use Rattle.xc_data.specs.declared.entry.JobLine.{JobLine}
 use Rattle.xc_text.specs.declared.script.Script.{Script}
+use Rattle.xc_data.specs.declared.undo.Undo.{Undo}
+use Rattle.xc_world.specs.World.{beginning, no_handles}
 use Rattle.xc_script.specs.Ask.{fresh_job, block_place}
 use Rattle.xc_script.specs.Place.{at_begin}
 use Rattle.xc_station.specs.declared.tx.Phase.{Phase}
@@ -15,16 +17,21 @@ use Rattle.xc_station.specs.declared.job.Job.{Job}
 use Rattle.xc_station.specs.declared.job.Activity.{Activity}
 use Rattle.xc_station.specs.declared.job.Activity.TheVariants as activity
 use Rattle.xc_station.specs.declared.job.Doing.{Doing}
-use Rattle.xc_station.specs.declared.job.Doing.TheVariants.{Idle, Running, Committing, Undoing, Starved, Ended}
+use Rattle.xc_station.specs.declared.job.Doing.TheVariants.{Idle, Running, Committing, Undoing, Undone, Starved, Ended}
 
-abbrev pub doing_phase : Phase → Doing
-doing_phase phase.Running = Running
-doing_phase phase.Committing = Committing
-doing_phase (phase.Undoing c) = Undoing
+-- the records of an undoing transaction that have no end yet
+abbrev pub doing_back : List Undo → Doing
+doing_back [] = Undone
+doing_back (u ∷ us) = Undoing
+
+abbrev pub doing_phase : List Undo → Phase → Doing
+doing_phase pending phase.Running = Running
+doing_phase pending phase.Committing = Committing
+doing_phase pending (phase.Undoing c) = doing_back pending
 
 abbrev pub doing_in : Activity → Doing
 doing_in activity.Idle = Idle
-doing_in (activity.Active tx) = doing_phase tx.phase
+doing_in (activity.Active tx) = doing_phase tx.undo.pending tx.phase
 doing_in activity.Starved = Starved
 doing_in (activity.Ended end) = Ended
 
@@ -32,6 +39,17 @@ doing_in (activity.Ended end) = Ended
 abbrev pub doing_of : Option Job → Doing
 doing_of None = Ended
 doing_of (Some job) = doing_in job.activity
+
+-- a transaction that undoes
+abbrev pub IsGoingBack : Phase → Type 0
+IsGoingBack (phase.Undoing c) = Unit {0}
+IsGoingBack _ = ⊥
+
+-- its transaction is on its way back
+abbrev pub goes_back : Doing → Bool
+goes_back Undoing = true
+goes_back Undone = true
+goes_back _ = false
 
 -- a transaction of the job is active
 abbrev pub IsBusy : Activity → Type 0
@@ -78,4 +96,4 @@ AreLinesOf (Some job) lines = (line : JobLine) × (lines ≡ line ∷ []) × IsL
 -- the job of a block at its begin
 abbrev pub opened_job : Script → Option (List ℕ) → Option Job
 opened_job script None = None
-opened_job script (Some block) = Some (record { block = block; place = at_begin (fresh_job (block_place script block)); activity = activity.Idle })
+opened_job script (Some block) = Some (record { block = block; me = beginning no_handles; place = at_begin (fresh_job (block_place script block)); activity = activity.Idle })

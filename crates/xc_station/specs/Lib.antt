@@ -1,7 +1,10 @@
 pub mod Progress
 pub mod Truth
 pub mod Ending
+pub mod Playing
 pub mod Flight
 pub mod Turns
+pub mod WordCalls
 pub mod Notes
 pub mod Doing
+pub mod Closing

@@ -1,38 +1,52 @@
 -- What a call adds to what its transaction has noted.
-use Rattle.std.specs.Prelude.{◌≡◌, ℕ, ◌≤◌, Bool, true, false, List, [], ◌∷◌, ◌++◌, length, nat_le, slice_index, slice_set, if◌then◌else◌}
+use Rattle.std.specs.Prelude.{◌≡◌, ℕ, ◌≤◌, Bool, true, false, List, [], ◌∷◌, ◌++◌, IsTrue}
 use Rattle.xc_data.specs.declared.call.Call.{Call}
-use Rattle.xc_data.specs.declared.call.Call.TheVariants.{Load, Store}
+use Rattle.xc_data.specs.declared.call.Call.TheVariants.{Load, Store, XOpen, XRead, XWriteOvr}
 use Rattle.xc_data.specs.declared.call.Reply.{Reply}
-use Rattle.xc_data.specs.declared.call.Reply.TheVariants.{Number, Done, BadWord}
 use Rattle.xc_data.specs.declared.object.Object.{Object}
 use Rattle.xc_data.specs.declared.entry.Entry.{Entry}
 use Rattle.xc_data.specs.declared.entry.Outcome.{Outcome}
+use Rattle.xc_data.specs.declared.private.Private.{Private}
+use Rattle.xc_compensate.specs.Records.{Records}
+use Rattle.xc_host.specs.Contents.{Contents}
 use Rattle.xc_station.specs.declared.tx.Tx.{Tx}
+use Rattle.xc_station.specs.Playing.{seen}
+use Rattle.xc_world.specs.World.{World}
+use Rattle.xc_world.specs.Act.{act}
+use Rattle.xc_world.specs.Act.Step.{stays}
+use Rattle.xc_world.specs.Fits.{fits, answer_of}
+use Rattle.xc_world.specs.Trail.{recorded}
 use Rattle.xc_world.specs.Touch.{holding}
 
 -- the calls that scripts have so far
-abbrev pub is_word_call : Call → Bool
-is_word_call (Load at) = true
-is_word_call (Store at value) = true
-is_word_call _ = false
+abbrev pub is_built : Call → Bool
+is_built (Load at) = true
+is_built (Store at value) = true
+is_built (XOpen name) = true
+is_built (XRead h n) = true
+is_built (XWriteOvr h bytes) = true
+is_built _ = false
 
--- what such a call replies on these words
-abbrev pub word_reply : List ℕ → Call → Reply
-word_reply words (Load at) = if nat_le (length words) at then BadWord else Number (slice_index words at)
-word_reply words (Store at value) = if nat_le (length words) at then BadWord else Done
-word_reply words _ = BadWord
+-- what a call works on beside the host: the private state, the stores that wait, the records
+pub record Parts : Type 0 where
+  pub me : Private
+  pub stores : List (ℕ × ℕ)
+  pub undo : Records
 
--- and the words behind it
-abbrev pub words_after : List ℕ → Call → List ℕ
-words_after words (Store at value) = if nat_le (length words) at then words else slice_set words at value
-words_after words _ = words
+-- a call in a world of these contents is the plain machine's, with the answer that its reply records
+pub record Does (w : World) (was is : Contents) (number : ℕ) (old new : Parts) (call : Call) (reply : Reply) : Type 0 where
+  pub step : act (seen w was old.stores) old.me number call (answer_of reply) ≡ stays (seen w is new.stores) new.me reply
+  pub fits : IsTrue (fits (seen w was old.stores) old.me number call (answer_of reply))
+  pub records : new.undo.pending ≡ old.undo.pending ++ recorded (seen w was old.stores) old.me number call reply
+
+abbrev pub parts_of : Tx → Parts
+parts_of tx = record { me = tx.me; stores = tx.writes; undo = tx.undo }
 
 -- a transaction that has noted nothing more
 pub record KeepsNotes (old new : Tx) : Type 0 where
   pub number : new.number ≡ old.number
   pub began : new.began ≡ old.began
   pub phase : new.phase ≡ old.phase
-  pub private : new.me ≡ old.me
   pub calls : new.calls.items ≡ old.calls.items
   pub replies : new.replies.items ≡ old.replies.items
   pub held : new.held.items ≡ old.held.items
@@ -42,7 +56,6 @@ pub record Notes (old new : Tx) (call : Call) (reply : Reply) (objects : List Ob
   pub number : new.number ≡ old.number
   pub began : new.began ≡ old.began
   pub phase : new.phase ≡ old.phase
-  pub private : new.me ≡ old.me
   pub calls : new.calls.items ≡ old.calls.items ++ call ∷ []
   pub replies : new.replies.items ≡ old.replies.items ++ reply ∷ []
   pub held : new.held.items ≡ holding old.held.items objects

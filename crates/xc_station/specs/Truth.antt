@@ -8,7 +8,6 @@ use Rattle.xc_data.specs.declared.call.Reply.{Reply}
 use Rattle.xc_data.specs.declared.call.LateEnd.{LateEnd}
 use Rattle.xc_data.specs.declared.entry.Cause.{Cause}
 use Rattle.xc_data.specs.declared.entry.Cause.TheVariants as cause
-use Rattle.xc_data.specs.declared.entry.Report.{Report}
 use Rattle.xc_data.specs.declared.entry.Outcome.{Outcome}
 use Rattle.xc_data.specs.declared.entry.Outcome.TheVariants.{Committed, Aborted}
 use Rattle.xc_data.specs.declared.entry.Entry.{Entry}
@@ -27,12 +26,6 @@ AsksEach walk [] replies = replies ≡ []
 AsksEach walk (call ∷ calls) [] = ⊥
 AsksEach walk (call ∷ calls) (reply ∷ replies) = (asks walk ≡ ask.Call call) × AsksEach (answered walk reply) calls replies
 
--- a committed entry: the commit is asked, and each late call ended as the plain machine's did
-pub record IsCommit (p : Progress) (e : Entry) (late : List LateEnd) (asked : Ask) : Type 0 where
-  pub asked_commit : asked ≡ ask.Commit
-  pub ends : (run_of p.state e late).late.ends ≡ late
-  pub late_fits : IsTrue (lates_fit (body_of p.state e).world (late_asked_of (body_of p.state e).late late))
-
 -- what an aborted transaction is asked: an abort, or for want of memory whatever comes next. Conflicts
 -- and revocations come with claims
 abbrev pub IsCauseOf : Cause → Ask → Type 0
@@ -40,18 +33,15 @@ IsCauseOf cause.Asked asked = asked ≡ ask.Abort
 IsCauseOf cause.NoMemory asked = Unit {0}
 IsCauseOf _ asked = ⊥
 
--- an aborted entry: its records are those of its calls, each with a legal end
-pub record IsAbort (tries : ℕ) (p : Progress) (e : Entry) (report : Report) (asked : Ask) : Type 0 where
-  pub caused : IsCauseOf report.cause asked
-  pub records : map (λ r. r.0) report.records ≡ (body_of p.state e).trail
-  pub legal : AreLegal tries 1 report.records
+-- what is asked behind the last reply: a committed transaction's commit, or what led to the abort, whose
+-- compensations each have a legal end
+abbrev pub IsAskedFor : ℕ → Ask → Outcome → Type 0
+IsAskedFor tries asked (Committed late) = asked ≡ ask.Commit
+IsAskedFor tries asked (Aborted report) = IsCauseOf report.cause asked × AreLegal tries 1 report.records
 
-abbrev pub IsOutcome : ℕ → Progress → Entry → Ask → Outcome → Type 0
-IsOutcome tries p e asked (Committed late) = IsCommit p e late asked
-IsOutcome tries p e asked (Aborted report) = IsAbort tries p e report asked
-
--- one entry, at a place of the journal, behind what the entries before it led to; f is its job
-pub record IsEntry (script : Script) (tries place : ℕ) (p : Progress) (f : Following) (e : Entry) : Type 0 where
+-- one entry's part in its job's story, at a place of the journal, behind what the entries before it led
+-- to; f is its job
+pub record IsStory (script : Script) (tries place : ℕ) (f : Following) (e : Entry) : Type 0 where
   -- the job goes on, and a transaction of it is left
   pub goes_on : f.starved ≡ false
   pub left : IsSome (next_body script f.job)
@@ -60,25 +50,45 @@ pub record IsEntry (script : Script) (tries place : ℕ) (p : Progress) (f : Fol
   pub began : e.began ≤ place
   -- the rank is the number of the first attempt
   pub rank : e.rank ≡ unwrap_or f.first e.tx
-  -- its calls are the script's, and its replies the plain machine's with the recorded faults
+  -- its calls are the script's
   pub calls : AsksEach (walk_from script f.job) e.calls e.replies
+  pub asked : IsAskedFor tries (asks (all_answered (walk_from script f.job) e.replies)) e.outcome
+
+-- a committed entry: each late call ended as the plain machine's did
+pub record IsCommit (p : Progress) (e : Entry) (late : List LateEnd) : Type 0 where
+  pub ends : (run_of p.state e late).late.ends ≡ late
+  pub late_fits : IsTrue (lates_fit (body_of p.state e).world (late_asked_of (body_of p.state e).late late))
+
+-- an aborted entry's records are those of its calls
+abbrev pub IsPlayedOutcome : Progress → Entry → Outcome → Type 0
+IsPlayedOutcome p e (Committed late) = IsCommit p e late
+IsPlayedOutcome p e (Aborted report) = map (λ r. r.0) report.records ≡ (body_of p.state e).trail
+
+-- one entry on the plain machine, behind the entries before it
+pub record IsPlayed (p : Progress) (e : Entry) : Type 0 where
+  -- its replies are the plain machine's with the recorded faults
   pub fits : IsTrue (body_fits p.state.world (private_of p.state e.job) e.tx (asked_of e.calls e.replies))
   pub replies : (body_of p.state e).replies ≡ e.replies
   -- it held what its calls touched, each object once, where it was first touched
   pub held : e.held ≡ holding [] (body_of p.state e).touched
-  pub outcome : IsOutcome tries p e (asks (all_answered (walk_from script f.job) e.replies)) e.outcome
+  pub outcome : IsPlayedOutcome p e e.outcome
+
+-- one entry over a host that tells its contents or doesn't
+pub record IsEntry (script : Script) (tells : Bool) (tries place : ℕ) (p : Progress) (f : Following) (e : Entry) : Type 0 where
+  pub story : IsStory script tries place f e
+  pub played : IsTrue tells → IsPlayed p e
 
 -- its job is started
-pub record IsTrueEntry (script : Script) (tries place : ℕ) (p : Progress) (e : Entry) : Type 0 where
+pub record IsTrueEntry (script : Script) (tells : Bool) (tries place : ℕ) (p : Progress) (e : Entry) : Type 0 where
   pub following : Following
   pub numbered : 1 ≤ e.job
   pub started : following_of p e ≡ Some following
-  pub entry : IsEntry script tries place p following e
+  pub entry : IsEntry script tells tries place p following e
 
 -- each entry of a journal, the first of them at this place
-abbrev pub AreTrue : Script → ℕ → ℕ → Progress → List Entry → Type 0
-AreTrue script tries place p [] = Unit {0}
-AreTrue script tries place p (e ∷ journal) = IsTrueEntry script tries place p e × AreTrue script tries (place + 1) (after_entry script place p e) journal
+abbrev pub AreTrue : Script → Bool → ℕ → ℕ → Progress → List Entry → Type 0
+AreTrue script tells tries place p [] = Unit {0}
+AreTrue script tells tries place p (e ∷ journal) = IsTrueEntry script tells tries place p e × AreTrue script tells tries (place + 1) (after_entry script place p e) journal
 
 -- the numbers from one on, so many
 abbrev pub counting : ℕ → ℕ → List ℕ
@@ -92,8 +102,8 @@ numbers_of journal = map (λ (e : Entry). e.tx) journal
 abbrev pub BeginInOrder : List Entry → Type 0
 BeginInOrder journal = (i j : ℕ) (a b : Entry) → slice_get journal i ≡ Some a → slice_get journal j ≡ Some b → a.tx < b.tx → a.began ≤ b.began
 
-pub record IsTrueJournal (script : Script) (tries : ℕ) (journal : List Entry) : Type 0 where
-  pub entries : AreTrue script tries 0 (opening_progress script) journal
+pub record IsTrueJournal (script : Script) (tells : Bool) (tries : ℕ) (journal : List Entry) : Type 0 where
+  pub entries : AreTrue script tells tries 0 (opening_progress script) journal
   pub numbers : IsPermutation (numbers_of journal) (counting 1 (length journal))
   pub begins : BeginInOrder journal
 
@@ -102,10 +112,14 @@ abbrev pub AreInOrder : ℕ → List Entry → Type 0
 AreInOrder place [] = Unit {0}
 AreInOrder place (e ∷ journal) = (e.tx ≡ place + 1) × (e.began ≡ place) × AreInOrder (place + 1) journal
 
--- every entry is of a commit
-abbrev pub is_commit : Outcome → Bool
-is_commit (Committed late) = true
-is_commit (Aborted report) = false
+-- a transaction that was done with: it committed, or aborted itself
+abbrev pub is_asked : Cause → Bool
+is_asked cause.Asked = true
+is_asked _ = false
 
-abbrev pub all_committed : List Entry → Bool
-all_committed journal = list_all (λ (e : Entry). is_commit e.outcome) journal
+abbrev pub is_settled : Outcome → Bool
+is_settled (Committed late) = true
+is_settled (Aborted report) = is_asked report.cause
+
+abbrev pub all_settled : List Entry → Bool
+all_settled journal = list_all (λ (e : Entry). is_settled e.outcome) journal

@@ -1,9 +1,14 @@
 -- What contracts see of a station, and how many turns it may still take.
-use Rattle.std.specs.Prelude.{◌≡◌, ℕ, ◌+◌, ◌-◌, ◌<◌, Bool, List, [], ◌∷◌, length, drop, IsSome, Option}
+use Rattle.std.specs.Prelude.{◌≡◌, ℕ, ◌+◌, ◌*◌, ◌-◌, ◌<◌, ◌≤◌, Bool, List, [], ◌∷◌, length, drop, IsSome, Option}
 use Rattle.std.specs.declared.option.Option.TheVariants.{None, Some}
 use Rattle.xc_data.specs.declared.entry.Entry.{Entry}
+use Rattle.xc_data.specs.declared.entry.JobEnd.TheVariants as job_end
 use Rattle.xc_data.specs.declared.entry.Turn.{Turn}
 use Rattle.xc_data.specs.declared.entry.Turn.TheVariants as turn
+use Rattle.xc_data.specs.declared.private.Private.{Private}
+use Rattle.xc_data.specs.Private.{place_of}
+use Rattle.xc_host.specs.Contents.{Contents}
+use Rattle.xc_file.specs.Calls.{IsOpenIn}
 use Rattle.xc_text.specs.declared.script.Script.{Script}
 use Rattle.xc_text.specs.declared.script.Statement.{Statement}
 use Rattle.xc_script.specs.Ask.{transactions_at, next_body}
@@ -18,9 +23,10 @@ use Rattle.xc_station.specs.declared.job.Job.{Job}
 use Rattle.xc_station.specs.declared.job.Activity.{Activity}
 use Rattle.xc_station.specs.declared.job.Activity.TheVariants.{Idle, Active, Starved, Ended}
 
-pub record Seen : Type 0 where
+pub record Seen (H : Type 0) : Type 0 where
   pub opening : Opening
   pub rules : Rules
+  pub host : H
   pub words : List ℕ
   pub journal : List Entry
   pub job : Option Job
@@ -28,25 +34,28 @@ pub record Seen : Type 0 where
   pub taken : Bool
 
 -- what a turn never changes
-pub record KeepsOpening (old new : Seen) : Type 0 where
+pub record KeepsOpening {H : Type 0} (old new : Seen H) : Type 0 where
   pub opening : new.opening ≡ old.opening
   pub rules : new.rules ≡ old.rules
   pub taken : new.taken ≡ old.taken
 
--- ---- a bound on the turns that are left: for a transaction its statements, its begin, the entering
--- of its commit or abort and its entry; and one for the job's end
+-- ---- a bound on the turns that are left: for a transaction two for each statement, which may leave a
+-- record, its begin, the entering of its commit or abort and its entry; and one for the job's end
 abbrev pub turns_of : List (List Statement) → ℕ
 turns_of [] = 0
-turns_of (body ∷ bodies) = length body + 3 + turns_of bodies
+turns_of (body ∷ bodies) = 2 * length body + 3 + turns_of bodies
 
-abbrev pub phase_left : ℕ → ℕ → Phase → ℕ
-phase_left statements at Running = (statements - at) + 3
-phase_left statements at Committing = 2
-phase_left statements at (Undoing c) = 2
+abbrev pub phase_left : ℕ → ℕ → ℕ → Phase → ℕ
+phase_left statements at records Running = 2 * (statements - at) + records + 3
+phase_left statements at records Committing = 2
+phase_left statements at records (Undoing c) = records + 2
+
+abbrev pub tx_left : ℕ → ℕ → Tx → ℕ
+tx_left statements at tx = phase_left statements at (length tx.undo.pending) tx.phase
 
 -- a running transaction of so many statements is nearer to its end: a call on, or on its way out
-abbrev pub IsNearer : ℕ → Place → Place → Tx → Type 0
-IsNearer statements old new tx = phase_left statements new.at tx.phase < phase_left statements old.at Running
+abbrev pub IsNearer : ℕ → Place → Place → Tx → Tx → Type 0
+IsNearer statements old new was tx = tx_left statements new.at tx < tx_left statements old.at was
 
 -- a turn that isn't the job's last
 abbrev pub IsGoing : Turn → Type 0
@@ -55,9 +64,9 @@ IsGoing _ = Unit {0}
 
 abbrev pub activity_left : List (List Statement) → ℕ → Activity → ℕ
 activity_left [] at Idle = 1
-activity_left (body ∷ bodies) at Idle = length body + 4 + turns_of bodies
-activity_left [] at (Active tx) = phase_left 0 at tx.phase
-activity_left (body ∷ bodies) at (Active tx) = phase_left (length body) at tx.phase + turns_of bodies
+activity_left (body ∷ bodies) at Idle = 2 * length body + 4 + turns_of bodies
+activity_left [] at (Active tx) = tx_left 0 at tx
+activity_left (body ∷ bodies) at (Active tx) = tx_left (length body) at tx + turns_of bodies
 activity_left bodies at Starved = 1
 activity_left bodies at (Ended end) = 0
 
@@ -65,23 +74,58 @@ abbrev pub turns_left : Script → Option Job → ℕ
 turns_left script None = 0
 turns_left script (Some job) = activity_left (drop job.place.next (transactions_at script job.place.block)) job.place.at job.activity
 
--- an idle job has begun its next transaction, or has ended
-abbrev pub HasBegun : Script → Place → Activity → Type 0
-HasBegun script place (Active tx) = (tx.phase ≡ Running) × IsSome (next_body script (job_of place))
-HasBegun script place (Ended end) = Unit {0}
-HasBegun script place _ = ⊥
+-- a transaction that has just begun
+pub record IsNew (entered : ℕ) (me : Private) (tx : Tx) : Type 0 where
+  pub number : tx.number ≡ entered + 1
+  pub began : tx.began ≡ entered
+  pub running : tx.phase ≡ Running
+  pub private : tx.me ≡ me
+  pub writes : tx.writes ≡ []
+  pub undo : tx.undo ≡ record { pending = []; ended = [] }
+  pub calls : tx.calls.items ≡ []
+  pub replies : tx.replies.items ≡ []
+  pub held : tx.held.items ≡ []
 
--- a job whose transaction runs, and may do its next call on these words
+-- what an idle job goes over to: its next transaction, with room for an entry, or its end
+abbrev pub BeginsAs : Script → ℕ → ℕ → Private → Place → Place → Activity → Type 0
+BeginsAs script entered spare me old new (Active tx) = (1 ≤ spare) × (new ≡ record old { begun = old.variables }) × IsSome (next_body script (job_of old)) × IsNew entered me tx
+BeginsAs script entered spare me old new (Ended job_end.Done) = (new ≡ old) × (next_body script (job_of old) ≡ None)
+BeginsAs script entered spare me old new (Ended job_end.NoMemory) = (new ≡ old) × IsSome (next_body script (job_of old))
+BeginsAs script entered spare me old new _ = ⊥
+
+-- the job stands in the same transaction, with the same variables for its abort
+pub record IsSameBegin (old new : Place) : Type 0 where
+  pub block : new.block ≡ old.block
+  pub next : new.next ≡ old.next
+  pub begun : new.begun ≡ old.begun
+
+-- a transaction that runs, and may do its next call on these words
+pub record MayGo (script : Script) (words : List ℕ) (place : Place) (tx : Tx) : Type 0 where
+  pub running : tx.phase ≡ Running
+  pub left : IsSome (next_body script (job_of place))
+  pub within : AreWithin (length words) tx.writes
+  pub stored : tx.me.stored ≤ 16384
+  pub none : tx.undo.ended ≡ []
+
+-- each open file is there, within its limit
+abbrev pub AreOpenIn : Contents → Private → Type 0
+AreOpenIn c me = (h : ℕ) → IsOpenIn c (place_of me.places h)
+
+-- what a transaction's call needs
 abbrev pub CanRun : Script → List ℕ → Place → Activity → Type 0
-CanRun script words place (Active tx) = (tx.phase ≡ Running) × IsSome (next_body script (job_of place)) × AreWithin (length words) tx.writes
+CanRun script words place (Active tx) = MayGo script words place tx
 CanRun script words place _ = ⊥
 
+abbrev pub HasOpenFiles : Contents → Activity → Type 0
+HasOpenFiles c (Active tx) = AreOpenIn c tx.me
+HasOpenFiles c _ = Unit {0}
+
 -- its transaction goes on, a turn nearer to its end
-abbrev pub RunsOn : ℕ → Place → Place → Activity → Type 0
-RunsOn statements old new (Active tx) = IsNearer statements old new tx
-RunsOn statements old new _ = ⊥
+abbrev pub RunsOn : ℕ → Place → Place → Activity → Activity → Type 0
+RunsOn statements old new (Active was) (Active tx) = IsNearer statements old new was tx
+RunsOn statements old new _ _ = ⊥
 
 -- what a run of turns never changes
-pub record KeepsOrigin (old new : Seen) : Type 0 where
+pub record KeepsOrigin {H : Type 0} (old new : Seen H) : Type 0 where
   pub opening : new.opening ≡ old.opening
   pub rules : new.rules ≡ old.rules

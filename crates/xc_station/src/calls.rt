@@ -1,181 +1,260 @@
-ghost use Rattle.std.specs.Prelude.{◌≡◌, ℕ, ◌≤◌, ◌+◌, [], true, length, unwrap_or, OnOk, OnErr, IsSome};
+ghost use Rattle.std.specs.Prelude.{◌≡◌, ℕ, ◌≤◌, ◌+◌, [], true, false, length, unwrap_or, IfOk, OnOk, OnErr, IsSome, IsTrue};
+ghost use Rattle.xc_data.specs.Counts.{CountsFault, CountsFaults};
+ghost use Rattle.xc_data.specs.declared.private.Private.{Private as PlainPrivate};
+ghost use Rattle.xc_file.specs.Calls.{replies_fault};
 ghost use Rattle.xc_script.specs.declared.ask.Ask.TheVariants.{Call as AskedCall};
 ghost use Rattle.xc_script.specs.Ask.{asks, answered, next_body};
-ghost use Rattle.xc_script.specs.Place.{walk_of, job_of, IsAskedCall};
+ghost use Rattle.xc_script.specs.Place.{walk_of, job_of};
 ghost use Rattle.xc_txmem.specs.Overlay.{overlaid, AreWithin};
 ghost use Rattle.xc_world.specs.World.{World};
+ghost use Rattle.xc_world.specs.Sound.{IsSound};
 ghost use Rattle.xc_world.specs.Touch.{touch};
-ghost use Rattle.xc_station.specs.declared.tx.Phase.TheVariants.{Running};
-ghost use Rattle.xc_station.specs.declared.job.Doing.TheVariants as doing;
-ghost use Rattle.xc_station.specs.Doing.{doing_in, doing_phase};
-ghost use Rattle.xc_station.specs.Flight.{Flight, IsActive};
-ghost use Rattle.xc_station.specs.Notes.{is_word_call, word_reply, words_after, KeepsNotes, Notes};
+ghost use Rattle.xc_station.specs.Doing.{doing_in, doing_phase, goes_back};
+ghost use Rattle.xc_station.specs.Flight.{Flight, IsActive, faults_noted};
+ghost use Rattle.xc_station.specs.declared.job.Activity.TheVariants as PlainActivity;
+ghost use Rattle.xc_station.specs.Notes.{is_built, Does, KeepsNotes, HasRoom, parts_of};
+ghost use Rattle.xc_station.specs.Playing.{IsPlayedBy};
 ghost use Rattle.xc_station.specs.Progress.{Following};
-ghost use Rattle.xc_station.specs.Turns.{IsNearer, IsGoing, CanRun, RunsOn};
+ghost use Rattle.xc_station.specs.Turns.{IsSameBegin, IsNearer, IsGoing, MayGo, CanRun, AreOpenIn, HasOpenFiles, RunsOn};
+ghost use Rattle.xc_station.specs.WordCalls.{is_word_call, word_reply, words_after, is_overwrite};
 
 use crate::job::{Activity, Job};
 use crate::tx::{Phase, Tx};
+use smallvec::SmallVec;
 use std::alloc::Global;
-use xc_data::{Call, Cause, NoMemory, Reply, Turn};
+use xc_compensate::Stack;
+use xc_data::{Call, Cause, NoMemory, Object, Private, Reply, Turn};
+use xc_file::{x_open, x_read, x_write_ovr};
+use xc_host::Host;
 use xc_script::{Ask, JobState};
 use xc_text::Script;
 use xc_txmem::{Words, WriteSet};
 use xc_world::touched;
 
-// What a call on words replies, the transaction's own stores seen.
-#[tactic(auto, using(xc_txmem::proofs::Overlays::overlay_count))]
-fn reply_to(words: &Words, writes: &WriteSet, call: &Call) -> Reply
-    requires { is_word_call call.now ≡ true }
-    ensures { result ≡ word_reply (overlaid words.now writes.now) call.now }
+// Does a call on words, the transaction's own stores seen. A store waits for the commit.
+#[tactic(auto, using(xc_txmem::proofs::Overlays::overlay_count, xc_txmem::proofs::Overlays::overlay_adds))]
+fn act_on_words(words: &Words, writes: &mut WriteSet, call: &Call) -> Result<Reply, NoMemory>
+    requires word { is_word_call call.now ≡ true }
+    requires within { AreWithin (length words.now) writes.old }
+    ensures reply { IfOk result (λ reply. reply ≡ word_reply (overlaid words.now writes.old) call.now) }
+    ensures stores { OnOk result (overlaid words.now writes.new ≡ words_after (overlaid words.now writes.old) call.now) }
+    ensures within { AreWithin (length words.now) writes.new }
+{
+    let (Call::Load { at } | Call::Store { at, .. }) = call else {
+        unreachable!()
+    };
+    if words.count() as u64 <= *at {
+        return Ok(Reply::BadWord);
+    }
+    let at = *at as usize;
+    if let Call::Store { value, .. } = call {
+        writes.store(at, *value)?;
+        return Ok(Reply::Done);
+    }
+    Ok(Reply::Number(writes.load(words, at)))
+}
+
+// Does a call. Without memory the host is as it was.
+fn act<H: Host>(
+    alloc: Global,
+    host: &mut H,
+    words: &Words,
+    me: &mut Private,
+    writes: &mut WriteSet,
+    undo: &mut Stack,
+    call: &Call,
+) -> Result<Reply, NoMemory>
+    requires built { is_built call.now ≡ true }
+    requires within { AreWithin (length words.now) writes.old }
+    requires stored { me.old.stored ≤ 16384 }
+    requires none { undo.old.ended ≡ [] }
+    requires open { IsTrue H.tells → AreOpenIn (H.contents host.old) me.old }
+    ensures within { AreWithin (length words.now) writes.new }
+    ensures stored { me.new.stored ≤ 16384 }
+    ensures none { undo.new.ended ≡ [] }
+    ensures grows { length undo.new.pending ≤ length undo.old.pending + 1 }
+    ensures still { is_overwrite call.now ≡ false → (undo.new ≡ undo.old) × (IsTrue H.tells → H.contents host.new ≡ H.contents host.old) }
+    ensures err_undo { OnErr result (undo.new ≡ undo.old) }
+    ensures err_host { IsTrue H.tells → OnErr result (H.contents host.new ≡ H.contents host.old) }
+    ensures cause { CountsFault (replies_fault result) (H.fault_count host.old) (H.fault_count host.new) }
+    ensures does { IsTrue H.tells → IfOk result (λ reply. (w : World) (number : ℕ) → w.words ≡ words.now
+        → Does w (H.contents host.old) (H.contents host.new) number (record { me = me.old; stores = writes.old; undo = undo.old }) (record { me = me.new; stores = writes.new; undo = undo.new }) call.now reply) }
 {
     match call {
-        Call::Load { at } => {
-            if words.count() as u64 <= *at {
-                return Reply::BadWord;
-            }
-            Reply::Number(writes.load(words, *at as usize))
-        }
-        Call::Store { at, .. } => {
-            if words.count() as u64 <= *at {
-                return Reply::BadWord;
-            }
-            Reply::Done
-        }
+        Call::Load { .. } | Call::Store { .. } => act_on_words(words, writes, call),
+        Call::XOpen { name } => x_open(host, me, name),
+        Call::XRead { h, n } => x_read(alloc, host, me, *h, *n),
+        Call::XWriteOvr { h, bytes } => x_write_ovr(alloc, host, me, undo, *h, bytes),
         _ => unreachable!(),
     }
 }
 
-// Keeps a store for the commit.
-#[tactic(auto, using(xc_txmem::proofs::Overlays::overlay_count, xc_txmem::proofs::Overlays::overlay_adds))]
-fn keep_store(words: &Words, writes: &mut WriteSet, call: &Call) -> Result<(), NoMemory>
-    requires { AreWithin (length words.now) writes.old }
-    ensures ok { OnOk result (overlaid words.now writes.new ≡ words_after (overlaid words.now writes.old) call.now) }
-    ensures within { AreWithin (length words.now) writes.new }
+// Does the call that is asked, and goes on behind its reply, with room to note it. Without memory the
+// host is as it was, and nothing is noted.
+fn do_call<H: Host>(
+    alloc: Global,
+    host: &mut H,
+    words: &Words,
+    script: &Script,
+    place: &mut JobState,
+    tx: &mut Tx,
+    call: &Call,
+) -> Result<Reply, NoMemory>
+    requires asked { asks (walk_of script.now place.old) ≡ AskedCall call.now }
+    requires may { MayGo script.now words.now place.old tx.old }
+    requires open { IsTrue H.tells → AreOpenIn (H.contents host.old) tx.old.me }
+    ensures same { KeepsNotes tx.old tx.new }
+    ensures room { OnOk result (HasRoom tx.new) }
+    ensures within { AreWithin (length words.now) tx.new.writes }
+    ensures stored { tx.new.me.stored ≤ 16384 }
+    ensures none { tx.new.undo.ended ≡ [] }
+    ensures grows { length tx.new.undo.pending ≤ length tx.old.undo.pending + 1 }
+    ensures walk { IfOk result (λ reply. walk_of script.now place.new ≡ answered (walk_of script.now place.old) reply) }
+    ensures at { OnOk result (place.new.at ≡ place.old.at + 1) }
+    ensures standing { IsSameBegin place.old place.new }
+    ensures err_undo { OnErr result (tx.new.undo ≡ tx.old.undo) }
+    ensures err_host { IsTrue H.tells → OnErr result (H.contents host.new ≡ H.contents host.old) }
+    ensures cause { CountsFault (replies_fault result) (H.fault_count host.old) (H.fault_count host.new) }
+    ensures does { IsTrue H.tells → IfOk result (λ reply. (w : World) (number : ℕ) → w.words ≡ words.now
+        → Does w (H.contents host.old) (H.contents host.new) number (parts_of tx.old) (parts_of tx.new) call.now reply) }
 {
-    let Call::Store { at, value } = call else {
-        return Ok(());
-    };
-    if words.count() as u64 <= *at {
-        return Ok(());
-    }
-    writes.store(*at as usize, *value)
+    tx.room()?;
+    let Tx {
+        me,
+        writes,
+        undo,
+        ..
+    } = tx;
+    let reply = act(alloc, host, words, me, writes, undo, call)?;
+    place.answer(script, &reply)?;
+    Ok(reply)
 }
 
-// Does the call that is asked, and goes on behind its reply. The stores wait for the commit. Without
-// memory nothing is noted.
-#[tactic(auto, using(crate::proofs::Touching::few_touched))]
-fn do_call(
+// The objects that a transaction's call touches.
+fn touched_by(alloc: Global, words: &Words, tx: &Tx, call: &Call) -> SmallVec<Object, 2>
+    requires { length words.now ≤ 4096 }
+    ensures { result.items ≡ touch call.now tx.now.me (length words.now) }
+{
+    touched(alloc, call, &tx.me, words.count() as u32)
+}
+
+// The turn of a running transaction whose next call is asked.
+fn try_call<H: Host>(
     alloc: Global,
+    host: &mut H,
     words: &Words,
     script: &Script,
     place: &mut JobState,
     tx: &mut Tx,
     call: Call,
-) -> Result<(), NoMemory>
+) -> Turn
     requires asked { asks (walk_of script.now place.old) ≡ AskedCall call }
-    requires word { is_word_call call ≡ true }
-    requires call { IsAskedCall script.now place.old }
-    requires within { AreWithin (length words.now) tx.old.writes }
+    requires may { MayGo script.now words.now place.old tx.old }
     requires count { length words.now ≤ 4096 }
-    ensures notes { OnOk result (Notes tx.old tx.new call (word_reply (overlaid words.now tx.old.writes) call) (touch call tx.old.me (length words.now))) }
-    ensures stores { OnOk result (overlaid words.now tx.new.writes ≡ words_after (overlaid words.now tx.old.writes) call) }
-    ensures within { AreWithin (length words.now) tx.new.writes }
-    ensures walk { OnOk result (walk_of script.now place.new ≡ answered (walk_of script.now place.old) (word_reply (overlaid words.now tx.old.writes) call)) }
-    ensures at { OnOk result (place.new.at ≡ place.old.at + 1) }
-    ensures block { (place.new.block ≡ place.old.block) × (place.new.next ≡ place.old.next) }
-    ensures err { OnErr result (KeepsNotes tx.old tx.new) }
+    requires open { IsTrue H.tells → AreOpenIn (H.contents host.old) tx.old.me }
+    ensures flight { (tries : ℕ) (f : Following) (entered : ℕ) → Flight script.now tries f words.now entered place.old tx.old → Flight script.now tries f words.now entered place.new tx.new }
+    ensures played { IsTrue H.tells → (w : World) (me : PlainPrivate) (tries : ℕ) (f : Following) (entered : ℕ) → Flight script.now tries f words.now entered place.old tx.old → IsSound w me (entered + 1)
+        → IsPlayedBy w me words.now (H.contents host.old) (PlainActivity.Active tx.old) → IsPlayedBy w me words.now (H.contents host.new) (PlainActivity.Active tx.new) }
+    ensures faults { (n before : ℕ) → CountsFaults (n + faults_noted (PlainActivity.Active tx.old)) before (H.fault_count host.old) → CountsFaults (n + faults_noted (PlainActivity.Active tx.new)) before (H.fault_count host.new) }
+    ensures block { IsSameBegin place.old place.new }
+    ensures falls { IsNearer (length (unwrap_or (next_body script.now (job_of place.old)) [])) place.old place.new tx.old tx.new }
+    ensures answer { IsGoing result }
+    ensures memory { result ≡ Turn.NoMemory → goes_back (doing_in (PlainActivity.Active tx.new)) ≡ true }
 {
-    tx.room()?;
-    let reply = reply_to(words, &tx.writes, &call);
-    place.answer(script, &reply)?;
-    keep_store(words, &mut tx.writes, &call)?;
-    let objects = touched(alloc, &call, &tx.me, words.count() as u32);
-    tx.note(call, reply, objects.as_slice());
-    Ok(())
+    let objects = touched_by(alloc, words, tx, &call);
+    match do_call(alloc, host, words, script, place, tx, &call) {
+        Ok(reply) => {
+            tx.note(call, reply, objects.as_slice());
+            Turn::Went
+        }
+        Err(NoMemory) => {
+            tx.phase = Phase::Undoing(Cause::NoMemory);
+            Turn::NoMemory
+        }
+    }
+}
+
+/// The turn of a running transaction: its next call, the entering of its commit, which writes its
+/// stores, or that of its abort. Without memory it undoes.
+pub fn go<H: Host>(
+    alloc: Global,
+    host: &mut H,
+    words: &mut Words,
+    script: &Script,
+    place: &mut JobState,
+    tx: &mut Tx,
+) -> Turn
+    requires may { MayGo script.now words.old place.old tx.old }
+    requires count { length words.old ≤ 4096 }
+    requires open { IsTrue H.tells → AreOpenIn (H.contents host.old) tx.old.me }
+    ensures flight { (tries : ℕ) (f : Following) (entered : ℕ) → Flight script.now tries f words.old entered place.old tx.old → Flight script.now tries f words.new entered place.new tx.new }
+    ensures played { IsTrue H.tells → (w : World) (me : PlainPrivate) (tries : ℕ) (f : Following) (entered : ℕ) → Flight script.now tries f words.old entered place.old tx.old → IsSound w me (entered + 1)
+        → IsPlayedBy w me words.old (H.contents host.old) (PlainActivity.Active tx.old) → IsPlayedBy w me words.new (H.contents host.new) (PlainActivity.Active tx.new) }
+    ensures faults { (n before : ℕ) → CountsFaults (n + faults_noted (PlainActivity.Active tx.old)) before (H.fault_count host.old) → CountsFaults (n + faults_noted (PlainActivity.Active tx.new)) before (H.fault_count host.new) }
+    ensures words { length words.new ≡ length words.old }
+    ensures block { IsSameBegin place.old place.new }
+    ensures falls { IsNearer (length (unwrap_or (next_body script.now (job_of place.old)) [])) place.old place.new tx.old tx.new }
+    ensures answer { IsGoing result }
+    ensures memory { result ≡ Turn.NoMemory → goes_back (doing_in (PlainActivity.Active tx.new)) ≡ true }
+{
+    match place.ask(script) {
+        Ok(Ask::Call(call)) => try_call(alloc, host, words, script, place, tx, call),
+        Ok(Ask::Commit) => {
+            tx.writes.apply(words);
+            tx.phase = Phase::Committing;
+            Turn::Went
+        }
+        Ok(Ask::Abort) => {
+            tx.phase = Phase::Undoing(Cause::Asked);
+            Turn::Went
+        }
+        Ok(Ask::End) => unreachable!(),
+        Err(NoMemory) => {
+            tx.phase = Phase::Undoing(Cause::NoMemory);
+            Turn::NoMemory
+        }
+    }
 }
 
 /// The turn of a job whose transaction runs: the job behind it, and what the turn answers.
-pub fn run(alloc: Global, words: &mut Words, script: &Script, job: Job) -> (Job, Turn)
+pub fn run<H: Host>(
+    alloc: Global,
+    host: &mut H,
+    words: &mut Words,
+    script: &Script,
+    job: Job,
+) -> (Job, Turn)
     requires can { CanRun script.now words.old job.place job.activity }
     requires count { length words.old ≤ 4096 }
-    ensures active { (w : World) (f : Following) (entered : ℕ) (spare : ℕ) → IsActive script.now w f words.old entered spare job.place job.activity
-        → IsActive script.now w f words.new entered spare result.0.place result.0.activity }
-    ensures block { (result.0.block ≡ job.block) × (result.0.place.block ≡ job.place.block) × (result.0.place.next ≡ job.place.next) }
-    ensures falls { RunsOn (length (unwrap_or (next_body script.now (job_of job.place)) [])) job.place result.0.place result.0.activity }
+    requires open { IsTrue H.tells → HasOpenFiles (H.contents host.old) job.activity }
+    ensures active { (tries : ℕ) (f : Following) (entered : ℕ) (spare : ℕ) → IsActive script.now tries f words.old entered spare job.place job.activity
+        → IsActive script.now tries f words.new entered spare result.0.place result.0.activity }
+    ensures played { IsTrue H.tells → (w : World) (me : PlainPrivate) (tries : ℕ) (f : Following) (entered : ℕ) (spare : ℕ) → IsActive script.now tries f words.old entered spare job.place job.activity → IsSound w me (entered + 1)
+        → IsPlayedBy w me words.old (H.contents host.old) job.activity → IsPlayedBy w me words.new (H.contents host.new) result.0.activity }
+    ensures faults { (n before : ℕ) → CountsFaults (n + faults_noted job.activity) before (H.fault_count host.old) → CountsFaults (n + faults_noted result.0.activity) before (H.fault_count host.new) }
+    ensures words { length words.new ≡ length words.old }
+    ensures same { (result.0.block ≡ job.block) × (result.0.me ≡ job.me) }
+    ensures place { (result.0.place.block ≡ job.place.block) × (result.0.place.next ≡ job.place.next) }
+    ensures falls { RunsOn (length (unwrap_or (next_body script.now (job_of job.place)) [])) job.place result.0.place job.activity result.0.activity }
     ensures answer { IsGoing result.1 }
-    ensures memory { result.1 ≡ Turn.NoMemory → doing_in result.0.activity ≡ doing.Undoing }
+    ensures memory { result.1 ≡ Turn.NoMemory → goes_back (doing_in result.0.activity) ≡ true }
 {
     let Job {
         block,
+        me,
         mut place,
         activity,
     } = job;
     let Activity::Active(mut tx) = activity else {
         unreachable!()
     };
-    let turn = go(alloc, words, script, &mut place, &mut tx);
+    let turn = go(alloc, host, words, script, &mut place, &mut tx);
     let activity = Activity::Active(tx);
     let job = Job {
         block,
+        me,
         place,
         activity,
     };
     (job, turn)
-}
-
-/// The turn of a running transaction: its next call, or the entering of its commit, which writes its
-/// stores. Without memory for the call it undoes.
-pub fn go(
-    alloc: Global,
-    words: &mut Words,
-    script: &Script,
-    place: &mut JobState,
-    tx: &mut Tx,
-) -> Turn
-    requires running { tx.old.phase ≡ Running }
-    requires left { IsSome (next_body script.now (job_of place.old)) }
-    requires within { AreWithin (length words.old) tx.old.writes }
-    requires count { length words.old ≤ 4096 }
-    ensures flight { (w : World) (f : Following) (entered : ℕ) → Flight script.now w f words.old entered place.old tx.old → Flight script.now w f words.new entered place.new tx.new }
-    ensures block { (place.new.block ≡ place.old.block) × (place.new.next ≡ place.old.next) }
-    ensures falls { IsNearer (length (unwrap_or (next_body script.now (job_of place.old)) [])) place.old place.new tx.new }
-    ensures answer { IsGoing result }
-    ensures memory { result ≡ Turn.NoMemory → doing_phase tx.new.phase ≡ doing.Undoing }
-{
-    match place.ask(script) {
-        Ask::Call(call) => try_call(alloc, words, script, place, tx, call),
-        Ask::Commit => {
-            tx.writes.apply(words);
-            tx.phase = Phase::Committing;
-            Turn::Went
-        }
-        _ => unreachable!(),
-    }
-}
-
-fn try_call(
-    alloc: Global,
-    words: &Words,
-    script: &Script,
-    place: &mut JobState,
-    tx: &mut Tx,
-    call: Call,
-) -> Turn
-    requires running { tx.old.phase ≡ Running }
-    requires asked { asks (walk_of script.now place.old) ≡ AskedCall call }
-    requires within { AreWithin (length words.now) tx.old.writes }
-    requires count { length words.now ≤ 4096 }
-    ensures flight { (w : World) (f : Following) (entered : ℕ) → Flight script.now w f words.now entered place.old tx.old → Flight script.now w f words.now entered place.new tx.new }
-    ensures block { (place.new.block ≡ place.old.block) × (place.new.next ≡ place.old.next) }
-    ensures falls { IsNearer (length (unwrap_or (next_body script.now (job_of place.old)) [])) place.old place.new tx.new }
-    ensures answer { IsGoing result }
-    ensures memory { result ≡ Turn.NoMemory → doing_phase tx.new.phase ≡ doing.Undoing }
-{
-    match do_call(alloc, words, script, place, tx, call) {
-        Ok(()) => Turn::Went,
-        Err(NoMemory) => {
-            tx.phase = Phase::Undoing(Cause::NoMemory);
-            Turn::NoMemory
-        }
-    }
 }

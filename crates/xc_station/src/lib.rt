@@ -10,6 +10,6 @@ mod station;
 mod turns;
 mod tx;
 
-pub use rules::{End, Opening, Rules};
+pub use rules::{End, NotStarted, Opening, Rules};
 pub use station::Station;
 pub use turns::work_alone;

@@ -1,30 +1,36 @@
-ghost use Rattle.std.specs.Prelude.{◌≡◌, ◌<◌, ◌≤◌, length, ℕ, [], ◌&&◌, ◌||◌, not, true, false, Some, None, IfOk, slice_get, if◌then◌else◌};
+ghost use Rattle.std.specs.Prelude.{◌≡◌, ◌<◌, ◌≤◌, length, ℕ, [], ◌&&◌, ◌||◌, not, true, false, Some, None, IfOk, IfErr, slice_get, sum_by, IsTrue, if◌then◌else◌};
+ghost use Rattle.xc_data.specs.Counts.{CountsFaults};
+ghost use Rattle.xc_data.specs.Faults.{entry_faults};
+ghost use Rattle.xc_data.specs.Limits.{KeepsLimits};
+ghost use Rattle.xc_host.specs.Contents.{needs_scripted};
 ghost use Rattle.xc_text.specs.Scripts.{IsScript};
 ghost use Rattle.xc_station.specs.declared.job.Doing.TheVariants as doing;
-ghost use Rattle.xc_station.specs.Doing.{doing_of, doing_in, is_live, EndsIn, EndsWith, Grows, IsLineOf, AreLinesOf, opened_job};
+ghost use Rattle.xc_station.specs.Doing.{doing_of, doing_in, goes_back, is_live, EndsIn, EndsWith, Grows, IsLineOf, AreLinesOf, opened_job};
 ghost use Rattle.xc_station.specs.Ending.{IsTrueEnd};
 ghost use Rattle.xc_station.specs.Flight.{HasLine};
 ghost use Rattle.xc_station.specs.Turns.{KeepsOpening, turns_left};
 
 use crate::begin::begin;
 use crate::calls::run;
-use crate::close::{abort, commit, end};
+use crate::close::{abort, commit, end, undo};
 use crate::job::{Activity, Doing, Job, doing_now};
-use crate::rules::{End, Opening, Rules};
+use crate::rules::{End, NotStarted, Opening, Rules};
 use std::alloc::Global;
 use std::marker::Model;
-use xc_data::{JobEnd, JobLine, JobList, NoMemory, Turn};
+use xc_data::{JobEnd, JobLine, JobList, NoMemory, Private, Turn};
+use xc_host::{Host, OpenErr};
 use xc_journal::{Journal, Roomy};
 use xc_script::JobState;
 use xc_text::Script;
 use xc_txmem::Words;
 
-/// The core. Jobs are numbered from 1; a script has one job at most so far.
+/// The core, over a host. Jobs are numbered from 1; a script has one job at most so far.
 #[derive(Drop)]
-pub struct Station {
+pub struct Station<H: Host> {
     alloc: Global,
     opening: Opening,
     rules: Rules,
+    host: H,
     words: Words,
     journal: Journal,
     job: Option<Job>,
@@ -32,29 +38,32 @@ pub struct Station {
     taken: bool,
 }
 
-impl Model for Station {
+impl<H: Host> Model for Station<H> {
+    ghost use Rattle.std.specs.Prelude.{◌≤◌};
     ghost use Rattle.xc_station.specs.Turns.{Seen};
-    ghost use Rattle.xc_station.specs.Flight.{InFlight, HasLine};
+    ghost use Rattle.xc_station.specs.Flight.{InFlight, AreCounted, HasLine};
     ghost use Rattle.std.specs.Coded.{codes};
     ghost use Rattle.xc_script.specs.Place.{coded_place};
 
-    ghost Value = { Seen };
+    ghost Value = { Seen H };
 
     ghost coded = { Prim.hlevel (codes, coded_place) };
 
     ghost view = { λ s. record {
       opening = s.opening;
       rules = s.rules;
+      host = s.host;
       words = s.words;
       journal = s.journal.items;
       job = s.job;
       taken = s.taken;
     } };
 
-    ghost invariant = { λ s. InFlight s.opening.script s.rules.undo_tries s.words s.journal.items s.journal.spare s.job × HasLine s.lines };
+    ghost invariant = { λ s. InFlight s.opening.script H.tells s.rules.undo_tries s.words (H.contents s.host) s.journal.items s.journal.spare s.job
+        × AreCounted s.journal.items s.job s.opening.faults (H.fault_count s.host) × (1 ≤ s.rules.undo_tries) × HasLine s.lines };
 }
 
-impl Station {
+impl<H: Host> Station<H> {
     /// Whether the job exists and hasn't ended.
     pub fn live(&self, job: u32) -> bool
         ensures { result ≡ is_live self.now.job job }
@@ -100,13 +109,13 @@ impl Station {
         ensures journal { Grows self.old.journal self.new.journal }
         ensures falls { turns_left self.new.opening.script self.new.job < turns_left self.old.opening.script self.old.job }
         ensures answer { EndsWith result self.new.job }
-        ensures memory { result ≡ Turn.NoMemory → doing_of self.new.job ≡ doing.Undoing }
+        ensures memory { result ≡ Turn.NoMemory → goes_back (doing_of self.new.job) ≡ true }
     {
         let Some(job) = self.job.take() else {
             unreachable!()
         };
         let script = &self.opening.script;
-        let (job, turn) = run(self.alloc, &mut self.words, script, job);
+        let (job, turn) = run(self.alloc, &mut self.host, &mut self.words, script, job);
         self.job = Some(job);
         turn
     }
@@ -130,8 +139,7 @@ impl Station {
         Turn::Went
     }
 
-    // Enters the entry of an undoing transaction, into the room that was made at its begin. It took
-    // effect nowhere: its stores were never written.
+    // Tries the newest record of an undoing transaction that has no end yet.
     fn undoing(&mut self) -> Turn
         requires { doing_of self.old.job ≡ doing.Undoing }
         ensures same { KeepsOpening self.old self.new }
@@ -143,7 +151,25 @@ impl Station {
         let Some(job) = self.job.take() else {
             unreachable!()
         };
-        let (job, entry) = abort(self.alloc, job);
+        let job = undo(&mut self.host, self.rules.undo_tries, job);
+        self.job = Some(job);
+        Turn::Went
+    }
+
+    // Enters the entry of a transaction whose records have their ends, into the room that was made at
+    // its begin. Its stores were never written.
+    fn undone(&mut self) -> Turn
+        requires { doing_of self.old.job ≡ doing.Undone }
+        ensures same { KeepsOpening self.old self.new }
+        ensures journal { Grows self.old.journal self.new.journal }
+        ensures falls { turns_left self.new.opening.script self.new.job < turns_left self.old.opening.script self.old.job }
+        ensures answer { EndsWith result self.new.job }
+        ensures memory { result ≡ Turn.NoMemory → ⊥ }
+    {
+        let Some(job) = self.job.take() else {
+            unreachable!()
+        };
+        let (job, entry) = abort(job);
         self.journal.enter(entry);
         self.job = Some(job);
         Turn::Went
@@ -173,11 +199,13 @@ impl Station {
     /// | idle, no memory for a begin | it ends | Ended(NoMemory) |
     /// | idle otherwise | its next transaction begins | Went |
     /// | running, a call is asked | the call is done and noted | Went |
-    /// | running, no memory for it | the transaction undoes | NoMemory |
+    /// | running, no memory for it | it undoes | NoMemory |
     /// | running, the commit is asked | its stores are written | Went |
+    /// | running, an abort is asked | it undoes | Went |
     /// | committing | the Committed entry | Went |
-    /// | undoing | the Aborted entry | Went |
-    /// | starved by that | it ends | Ended(NoMemory) |
+    /// | undoing, a record has no end | the newest such record is tried | Went |
+    /// | undoing, all have one | the Aborted entry | Went |
+    /// | starved by want of memory | it ends | Ended(NoMemory) |
     pub fn turn(&mut self, job: u32) -> Turn
         requires { is_live self.old.job job ≡ true }
         ensures same { KeepsOpening self.old self.new }
@@ -186,13 +214,14 @@ impl Station {
         ensures answer { EndsWith result self.new.job }
 
         // Memory is wanting for a running transaction's call alone, which then undoes.
-        ensures memory { result ≡ Turn.NoMemory → (doing_of self.old.job ≡ doing.Running) × (doing_of self.new.job ≡ doing.Undoing) }
+        ensures memory { result ≡ Turn.NoMemory → (doing_of self.old.job ≡ doing.Running) × (goes_back (doing_of self.new.job) ≡ true) }
     {
         match doing_now(&self.job) {
             Doing::Idle => self.idle(),
             Doing::Running => self.running(),
             Doing::Committing => self.committing(),
             Doing::Undoing => self.undoing(),
+            Doing::Undone => self.undone(),
             Doing::Starved => self.starved(),
             Doing::Ended => unreachable!(),
         }
@@ -217,6 +246,7 @@ fn first_job(alloc: Global, script: &Script) -> Option<Job>
     match script.plain().jobs.get(0) {
         Some(block) => Some(Job {
             block: *block,
+            me: Private::new(),
             place: JobState::new(alloc, script, *block),
             activity: Activity::Idle,
         }),
@@ -224,22 +254,42 @@ fn first_job(alloc: Global, script: &Script) -> Option<Job>
     }
 }
 
-impl Station {
-    /// A station before its first turn: the script's words, and its jobs started.
-    pub fn start(alloc: Global, script: Script, rules: Rules) -> Result<Station, NoMemory>
-        requires { IsScript script }
-        ensures { IfOk result (λ s. (s.opening ≡ record { script = script; faults = 0 }) × (s.rules ≡ rules) × (s.journal ≡ []) × (s.taken ≡ false)) }
+impl<H: Host> Station<H> {
+    /// A station before its first turn: the script's words, its objects at the host, and its jobs
+    /// started. Its memory is taken before the host is opened.
+    pub fn start(
+        alloc: Global,
+        host: H,
+        script: Script,
+        rules: Rules,
+    ) -> Result<Station<H>, NotStarted<H>>
+        requires script { IsScript script }
+        requires limits { KeepsLimits script.plain }
+        requires tries { 1 ≤ rules.undo_tries }
+        ensures ok { IfOk result (λ s. (s.opening ≡ record { script = script; faults = H.fault_count host }) × (s.rules ≡ rules) × (s.journal ≡ []) × (s.taken ≡ false)) }
+        ensures scripted { IfOk result (λ s. not H.takes_scripts && needs_scripted script.plain.prologue ≡ false) }
+        ensures refused { IfErr result (λ n. n.why ≡ OpenErr.NotScripted → not H.takes_scripts && needs_scripted script.plain.prologue ≡ true) }
+        ensures err { IfErr result (λ n. (H.fault_count n.host ≡ H.fault_count host) × (IsTrue H.tells → H.contents n.host ≡ H.contents host)) }
     {
-        let words = Words::new(alloc, script.plain().words.as_slice())?;
-        let mut lines = Roomy::new(alloc);
-        lines.reserve(1)?;
+        let mut host = host;
+        let faults = host.faults();
+        let Ok((words, lines)) = rooms(alloc, &script) else {
+            return Err(NotStarted {
+                host,
+                why: OpenErr::NoMemory,
+            });
+        };
+        if let Err(why) = host.open_with(&script.plain().prologue) {
+            return Err(NotStarted { host, why });
+        }
         let job = first_job(alloc, &script);
         let journal = Journal::new(alloc);
-        let opening = Opening { script, faults: 0 };
+        let opening = Opening { script, faults };
         Ok(Station {
             alloc,
             opening,
             rules,
+            host,
             words,
             journal,
             job,
@@ -249,14 +299,18 @@ impl Station {
     }
 
     /// What the run leaves. It takes no memory.
-    pub fn finish(self) -> End
+    pub fn finish(self) -> End<H>
         requires { is_live self.job 1 ≡ false }
         ensures opening { result.opening ≡ self.opening }
         ensures journal { result.journal.items ≡ self.journal }
         ensures few { length result.journal.items ≤ 1000 }
-        ensures whole { IsTrueEnd self.opening.script self.rules.undo_tries result.journal.items result.words result.jobs }
+        ensures whole { IsTrueEnd self.opening.script H.tells self.rules.undo_tries result.journal.items result.words (H.contents result.host) result.jobs }
+
+        // The host's count rose by the faults that are recorded, and stayed where none is.
+        ensures faults { CountsFaults (sum_by entry_faults result.journal.items) self.opening.faults (H.fault_count result.host) }
     {
         let Station {
+            host,
             opening,
             words,
             journal,
@@ -265,12 +319,23 @@ impl Station {
             ..
         } = self;
         End {
+            host,
             opening,
             words: words.list(),
             journal,
             jobs: lines_of(job, lines),
         }
     }
+}
+
+// The script's words, and room for its job's line.
+fn rooms(alloc: Global, script: &Script) -> Result<(Words, Roomy<JobLine>), NoMemory>
+    ensures { IfOk result (λ made. (made.0 ≡ script.now.plain.words) × HasLine made.1) }
+{
+    let words = Words::new(alloc, script.plain().words.as_slice())?;
+    let mut lines = Roomy::new(alloc);
+    lines.reserve(1)?;
+    Ok((words, lines))
 }
 
 // The job's line, into the room for it.

@@ -3,9 +3,10 @@ ghost use Rattle.xc_station.specs.Doing.{is_live};
 ghost use Rattle.xc_station.specs.Turns.{KeepsOrigin};
 
 use crate::Station;
+use xc_host::Host;
 
 /// Takes jobs and their turns, each job to its end, on this thread alone.
-pub fn work_alone(station: &mut Station)
+pub fn work_alone<H: Host>(station: &mut Station<H>)
     requires { station.old.taken ≡ false }
     ensures origin { KeepsOrigin station.old station.new }
     ensures ended { is_live station.new.job 1 ≡ false }
@@ -16,7 +17,7 @@ pub fn work_alone(station: &mut Station)
 }
 
 // Takes a job's turns to its end.
-fn work_job(station: &mut Station, job: u32)
+fn work_job<H: Host>(station: &mut Station<H>, job: u32)
     ensures origin { KeepsOrigin station.old station.new }
     ensures ended { is_live station.new.job job ≡ false }
 {

@@ -1,10 +1,12 @@
 ghost use Rattle.std.specs.Prelude.{◌≡◌, ◌≤◌, ◌+◌, ◌-◌, [], length, OnOk, IsTrue};
 ghost use Rattle.std.specs.List.{list_any};
 ghost use Rattle.xc_world.specs.Touch.{holding_one, holding, is_object};
-ghost use Rattle.xc_station.specs.Notes.{KeepsNotes, Notes, HasRoom, entry_of};
+ghost use Rattle.xc_data.specs.declared.entry.Outcome.TheVariants.{Committed, Aborted};
+ghost use Rattle.xc_station.specs.Notes.{KeepsNotes, Notes, HasRoom, parts_of, entry_of};
 
 use std::alloc::Global;
-use xc_data::{Call, Cause, Entry, NoMemory, Object, Outcome, Private, Reply};
+use xc_compensate::Stack;
+use xc_data::{Call, Cause, Entry, LateList, NoMemory, Object, Outcome, Private, Reply, Report};
 use xc_journal::Roomy;
 use xc_txmem::WriteSet;
 
@@ -12,9 +14,9 @@ use xc_txmem::WriteSet;
 ///
 /// | Phase | Facts | Left by |
 /// |---|---|---|
-/// | Running | its stores wait in the write set; the job stands behind its replies | the commit that is asked, an abort |
+/// | Running | its stores wait in the write set; the job stands behind its replies | the commit or the abort that is asked, want of memory |
 /// | Committing | its stores are written | the Committed entry |
-/// | Undoing | its stores are dropped | the Aborted entry |
+/// | Undoing | its stores are dropped; its records are undone, the newest first | the Aborted entry |
 #[derive(Clone, Copy)]
 pub enum Phase {
     Running,
@@ -31,6 +33,8 @@ pub struct Tx {
     pub phase: Phase,
     pub me: Private,
     pub writes: WriteSet,
+    /// What its calls did at the host.
+    pub undo: Stack,
     pub calls: Roomy<Call>,
     pub replies: Roomy<Reply>,
     pub held: Roomy<Object>,
@@ -42,6 +46,7 @@ impl Tx {
         ensures number { (result.number ≡ number) × (result.began ≡ began) × (result.me ≡ me.now) }
         ensures running { result.phase ≡ Phase.Running }
         ensures nothing { (result.calls.items ≡ []) × (result.replies.items ≡ []) × (result.held.items ≡ []) × (result.writes ≡ []) }
+        ensures undo { result.undo ≡ record { pending = []; ended = [] } }
     {
         Tx {
             number,
@@ -49,6 +54,7 @@ impl Tx {
             phase: Phase::Running,
             me: *me,
             writes: WriteSet::new(alloc),
+            undo: Stack::new(alloc),
             calls: Roomy::new(alloc),
             replies: Roomy::new(alloc),
             held: Roomy::new(alloc),
@@ -59,7 +65,7 @@ impl Tx {
     pub fn room(&mut self) -> Result<(), NoMemory>
         ensures ok { OnOk result (HasRoom self.new) }
         ensures same { KeepsNotes self.old self.new }
-        ensures stores { self.new.writes ≡ self.old.writes }
+        ensures parts { parts_of self.new ≡ parts_of self.old }
     {
         self.calls.reserve(1)?;
         self.replies.reserve(1)?;
@@ -72,17 +78,18 @@ impl Tx {
         requires room { HasRoom self.old }
         requires few { length objects.now ≤ 2 }
         ensures notes { Notes self.old self.new call reply objects.now }
-        ensures stores { self.new.writes ≡ self.old.writes }
+        ensures parts { parts_of self.new ≡ parts_of self.old }
     {
         self.calls.enter(call);
         self.replies.enter(reply);
         hold(&mut self.held, objects);
     }
 
-    /// The entry of a transaction that ended so. It takes no memory.
-    pub fn close(self, job: u32, outcome: Outcome) -> Entry
-        ensures { result ≡ entry_of self job outcome }
+    /// The entry of a transaction that committed. It takes no memory.
+    pub fn commit(self, alloc: Global, job: u32) -> Entry
+        ensures { result ≡ entry_of self job (Committed []) }
     {
+        let late = LateList::new(alloc);
         Entry {
             tx: self.number,
             job,
@@ -91,7 +98,26 @@ impl Tx {
             calls: self.calls.into_items(),
             replies: self.replies.into_items(),
             held: self.held.into_items(),
-            outcome,
+            outcome: Outcome::Committed { late },
+        }
+    }
+
+    /// The entry of a transaction that was aborted, with its records and their ends. It takes no
+    /// memory.
+    pub fn abort(self, job: u32, cause: Cause) -> Entry
+        requires { self.undo.pending ≡ [] }
+        ensures { result ≡ entry_of self job (Aborted (record { cause = cause; records = self.undo.ended })) }
+    {
+        let records = self.undo.records();
+        Entry {
+            tx: self.number,
+            job,
+            rank: self.number,
+            began: self.began,
+            calls: self.calls.into_items(),
+            replies: self.replies.into_items(),
+            held: self.held.into_items(),
+            outcome: Outcome::Aborted(Report { cause, records }),
         }
     }
 }

@@ -1,8 +1,8 @@
-use Rattle.std.proofs.Common.{subst}
-use Rattle.xc_station.specs.Flight.{IsActive}
+use Rattle.xc_station.proofs.Forward.{run_active, run_played}
 use Rattle.xc_station.proofs.calls.run.Goals as goal
 
 pub returns-clause-active : goal.returns-clause-active
-returns-clause-active c w f entered spare active =
-    let before = subst (IsActive c.args.script.now w f c.args.words.now entered spare c.args.job.place) c.in-Active.is active in
-    (before.0, c.go-turn.ensures.flight w f entered before.1)
+returns-clause-active g c = run_active _ _ _ _ _ _ _ _ c.in-Active.is c.go-turn.ensures.flight
+
+pub returns-clause-played : goal.returns-clause-played
+returns-clause-played g c = run_played _ _ _ _ _ _ _ _ _ _ c.in-Active.is c.go-turn.ensures.played

@@ -1,20 +1,22 @@
 use Rattle.std.proofs.Common.{ap, ◌∙◌, subst, ◌<◌, Some}
-use Rattle.xc_station.specs.Turns.{Seen, turns_left}
+use Rattle.xc_station.specs.Turns.{turns_left}
 use Rattle.xc_station.specs.Doing.{doing_of}
-use Rattle.xc_station.proofs.Keeping.{turn_committing}
 use Rattle.xc_station.proofs.Lefts.{left_committing}
+use Rattle.xc_station.proofs.Turning.{turn_committing, counts_committing}
 use Rattle.xc_station.proofs.station.Station.committing.Goals as goal
 
 pub invariant_of-self : goal.invariant_of-self
-invariant_of-self c =
-    let doing = ap (λ (v : Seen). doing_of v.job) c.self.view_is ∙ c.requires in
-    (turn_committing _ _ _ _ _ _ _ _ _ _ c.in-Some.ensures.value doing c.commit-job.ensures c.enter.ensures.items c.self.invariant.0, c.self.invariant.1)
+invariant_of-self g c =
+    let doing = ap (λ v. doing_of v.job) c.self.view_is ∙ c.requires in (
+      turn_committing _ _ _ _ _ _ _ _ _ _ _ _ c.in-Some.ensures.value doing c.commit-job.ensures c.enter.ensures.items c.self.invariant.0,
+      counts_committing _ _ _ _ _ _ _ _ _ _ _ _ _ c.in-Some.ensures.value doing c.commit-job.ensures c.enter.ensures.items c.self.invariant.0 c.self.invariant.1,
+      c.self.invariant.2,
+      c.self.invariant.3,
+    )
 
 pub returns-clause-falls : goal.returns-clause-falls
-returns-clause-falls c =
-    let doing = ap (λ (v : Seen). doing_of v.job) c.self.view_is ∙ c.requires in
-    let same = ap (λ (v : Seen). turns_left v.opening.script v.job) c.self.view_is in
-    let script = c.self.inside.opening.script in
-    let made = c.commit-job.result.0 in
-    subst (λ n. turns_left script (Some made) < n) same
-    (left_committing script c.self.inside.rules.undo_tries c.self.inside.words c.self.inside.journal.items c.self.inside.journal.spare c.self.inside.job c.in-Some.job c.commit-job.result c.self.invariant.0 c.in-Some.ensures.value doing c.commit-job.ensures)
+returns-clause-falls g c =
+    let doing = ap (λ v. doing_of v.job) c.self.view_is ∙ c.requires in
+    let station = c.self.inside in
+    subst (λ n. turns_left station.opening.script (Some c.commit-job.result.0) < n) (ap (λ v. turns_left v.opening.script v.job) c.self.view_is)
+    (left_committing station.opening.script _ _ _ _ _ _ station.job c.in-Some.job c.commit-job.result c.self.invariant.0 c.in-Some.ensures.value doing c.commit-job.ensures)

@@ -1,20 +1,25 @@
 use Rattle.std.proofs.Common.{ap, ◌∙◌, subst, ◌<◌, Some}
-use Rattle.xc_station.specs.Turns.{Seen, turns_left}
+use Rattle.xc_station.specs.Turns.{turns_left}
 use Rattle.xc_station.specs.Doing.{doing_of}
-use Rattle.xc_station.proofs.Keeping.{turn_undoing}
 use Rattle.xc_station.proofs.Lefts.{left_undoing}
+use Rattle.xc_station.proofs.Turning.{turn_undoing, counts_undoing, may_undo}
 use Rattle.xc_station.proofs.station.Station.undoing.Goals as goal
 
 pub invariant_of-self : goal.invariant_of-self
-invariant_of-self c =
-    let doing = ap (λ (v : Seen). doing_of v.job) c.self.view_is ∙ c.requires in
-    (turn_undoing _ _ _ _ _ _ _ _ _ _ c.in-Some.ensures.value doing c.abort-job.ensures c.enter.ensures.items c.self.invariant.0, c.self.invariant.1)
+invariant_of-self g c =
+    let doing = ap (λ v. doing_of v.job) c.self.view_is ∙ c.requires in (
+      turn_undoing _ _ _ _ _ _ _ _ _ _ _ _ _ c.in-Some.ensures.value doing c.undo-job.ensures.undoes c.self.invariant.0,
+      counts_undoing _ _ _ _ c.self.inside.journal.items c.self.inside.job c.in-Some.job c.undo-job.result c.self.inside.opening.faults _ _ c.in-Some.ensures.value doing c.undo-job.ensures.undoes c.self.invariant.1,
+      c.self.invariant.2,
+      c.self.invariant.3,
+    )
 
 pub returns-clause-falls : goal.returns-clause-falls
-returns-clause-falls c =
-    let doing = ap (λ (v : Seen). doing_of v.job) c.self.view_is ∙ c.requires in
-    let same = ap (λ (v : Seen). turns_left v.opening.script v.job) c.self.view_is in
-    let script = c.self.inside.opening.script in
-    let made = c.abort-job.result.0 in
-    subst (λ n. turns_left script (Some made) < n) same
-    (left_undoing script c.self.inside.job c.in-Some.job c.abort-job.result c.in-Some.ensures.value doing c.abort-job.ensures)
+returns-clause-falls g c =
+    let doing = ap (λ v. doing_of v.job) c.self.view_is ∙ c.requires in
+    let station = c.self.inside in
+    subst (λ n. turns_left station.opening.script (Some c.undo-job.result) < n) (ap (λ v. turns_left v.opening.script v.job) c.self.view_is)
+    (left_undoing station.opening.script _ _ station.job c.in-Some.job c.undo-job.result _ _ _ _ c.in-Some.ensures.value doing c.undo-job.ensures.undoes)
+
+pub undo-job-requires-clause-covered : goal.undo-job-requires-clause-covered
+undo-job-requires-clause-covered g c = may_undo _ _ _ _ _ _ _ _ _ c.in-Some.ensures.value (ap (λ v. doing_of v.job) c.self.view_is ∙ c.requires) c.self.invariant.0

@@ -1,0 +1,340 @@
+-- The turns, as the station takes them: the job was taken out, and one is put back.
+use Rattle.std.proofs.Common.{◌≡◌, ℕ, ◌+◌, ◌≤◌, Bool, false, List, [], ◌∷◌, ◌++◌, length, refl, ap, sym, ◌∙◌, subst, arith, IsTrue}
+use Rattle.std.specs.Prelude.{IsSome, Option, sum_by, count_by, slice_get}
+use Rattle.std.specs.declared.option.Option.TheVariants.{None, Some}
+use Rattle.xc_data.specs.Counts.{CountsFaults}
+use Rattle.xc_data.specs.Faults.{entry_faults, is_fault_reply, undo_faults}
+use Rattle.xc_data.specs.declared.entry.Cause.{Cause}
+use Rattle.xc_data.specs.declared.entry.Cause.TheVariants as cause
+use Rattle.xc_data.specs.declared.entry.Entry.{Entry}
+use Rattle.xc_data.specs.declared.entry.JobEnd.TheVariants as job_end
+use Rattle.xc_data.specs.declared.entry.Outcome.TheVariants.{Committed}
+use Rattle.xc_data.specs.declared.private.Private.{Private}
+use Rattle.xc_data.specs.declared.undo.Undo.{Undo}
+use Rattle.xc_compensate.specs.Records.{Records}
+use Rattle.xc_host.specs.Contents.{Contents, world_of}
+use Rattle.xc_text.specs.declared.script.Script.{Script}
+use Rattle.xc_script.specs.Ask.{next_body, walk_from, all_answered, transactions_at}
+use Rattle.xc_script.specs.Place.{Place, at_begin, job_of, walk_of}
+use Rattle.xc_txmem.specs.Overlay.{AreWithin}
+use Rattle.xc_world.specs.World.{World, beginning}
+use Rattle.xc_world.specs.Effects.{IsCovered}
+use Rattle.xc_world.specs.Sound.{IsSound}
+use Rattle.xc_station.specs.Truth.{AsksEach}
+use Rattle.xc_world.specs.Run.{rests, body_fits, body, asked_of, Ran}
+use Rattle.xc_world.specs.Touch.{holding}
+use Rattle.xc_data.specs.declared.undo.UndoEnd.{UndoEnd}
+use Rattle.xc_station.specs.declared.tx.Tx.{Tx}
+use Rattle.xc_station.specs.declared.tx.Phase.TheVariants as phase
+use Rattle.xc_station.specs.declared.job.Job.{Job}
+use Rattle.xc_station.specs.declared.job.Activity.{Activity}
+use Rattle.xc_station.specs.declared.job.Activity.TheVariants as activity
+use Rattle.xc_station.specs.declared.job.Doing.TheVariants.{Idle, Running, Committing, Undoing, Undone, Starved}
+use Rattle.xc_station.specs.Closing.{behind_commit, behind_abort, Undoes}
+use Rattle.xc_station.specs.Doing.{doing_in, doing_of, IsGoingBack}
+use Rattle.xc_station.specs.Notes.{entry_of}
+use Rattle.xc_station.specs.Progress.{Following, progress_of}
+use Rattle.xc_station.specs.Flight.{IsActive, IsPhase, IsRunning, Flight, InFlight, AreCounted, faults_noted, IsCommitting}
+use Rattle.xc_station.specs.Playing.{IsAsIn, IsPlayedBy, IsPlayedIn, GoesForward, ran_of, seen}
+use Rattle.xc_station.specs.Turns.{BeginsAs, CanRun, HasOpenFiles}
+use Rattle.xc_station.proofs.Counting.{noted_tried, entered_abort, entered_commit}
+use Rattle.xc_station.proofs.Backward.{flight_tried, played_tried, covered_now, open_files}
+use Rattle.xc_station.proofs.Closing.{aborted_by}
+use Rattle.xc_station.proofs.Keeping.{idle_is, starved_is, running_is, committing_is, undoing_is, undone_is, active_is, busy_running, busy_committing, busy_undoing, busy_undone, keep_job, keep_commit, keep_abort}
+
+-- the job that is taken out is the station's
+taken_in : (script : Script) (tells : Bool) (tries : ℕ) (words : List ℕ) (contents : Contents) (journal : List Entry) (spare : ℕ) (o : Option Job) (job : Job) → Some job ≡ o → InFlight script tells tries words contents journal spare o → InFlight script tells tries words contents journal spare (Some job)
+taken_in script tells tries words contents journal spare o job was k = subst (InFlight script tells tries words contents journal spare) (sym was) k
+
+-- ---- a begin
+begun_job : (script : Script) (tries : ℕ) (words : List ℕ) (f : Following) (entered spare : ℕ) (me : Private) (old new : Place) (a : Activity) → me ≡ beginning me.places → f.starved ≡ false → old ≡ at_begin f.job → entered ≡ f.job.next
+    → BeginsAs script entered spare me old new a → IsActive script tries f words entered spare new a
+begun_job script tries words f entered spare me old new activity.Idle fresh goes stands passed h = absurd h
+begun_job script tries words f entered spare me old new (activity.Active tx) fresh goes stands passed h =
+    let n = h.3 in
+    let left : IsSome (next_body script f.job) = subst (λ (p : Place). IsSome (next_body script (job_of p))) stands h.2 in
+    let stand : new ≡ record (at_begin f.job) { begun = f.job.variables } = h.1 ∙ ap (λ (p : Place). record p { begun = p.variables }) stands in (
+      h.0,
+      record {
+        goes_on = goes;
+        left = left;
+        passed = passed;
+        standing = record { block = ap (λ (p : Place). p.block) stand; next = ap (λ (p : Place). p.next) stand; begun = ap (λ (p : Place). p.begun) stand };
+        noted = record {
+          number = n.number;
+          began = n.began;
+          asked = subst (λ cs. AsksEach (walk_from script f.job) cs tx.replies.items) (sym n.calls) n.replies;
+        };
+        stored = subst (λ (m : Private). m.stored ≤ 16384) (sym (n.private ∙ fresh)) (omega arith);
+        phase = subst (IsPhase script tries f words new tx) (sym n.running) (record {
+          ahead = ap (walk_of script) stand ∙ ap (all_answered (walk_from script f.job)) (sym n.replies);
+          within = subst (AreWithin (length words)) (sym n.writes) refl;
+          none = ap (λ (u : Records). u.ended) n.undo;
+        });
+      },
+    )
+begun_job script tries words f entered spare me old new activity.Starved fresh goes stands passed h = absurd h
+begun_job script tries words f entered spare me old new (activity.Ended job_end.Done) fresh goes stands passed h =
+    (goes, subst (λ (p : Place). next_body script (job_of p) ≡ None) stands h.1)
+begun_job script tries words f entered spare me old new (activity.Ended (job_end.GaveUp c)) fresh goes stands passed h = absurd h
+begun_job script tries words f entered spare me old new (activity.Ended job_end.JournalFull) fresh goes stands passed h = absurd h
+begun_job script tries words f entered spare me old new (activity.Ended job_end.NoMemory) fresh goes stands passed h =
+    subst (λ (p : Place). IsSome (next_body script (job_of p))) stands h.1
+
+begun_played : (script : Script) (words : List ℕ) (contents : Contents) (w : World) (entered spare : ℕ) (me : Private) (old new : Place) (a : Activity) → BeginsAs script entered spare me old new a → IsAsIn w words contents → IsPlayedBy w me words contents a
+begun_played script words contents w entered spare me old new activity.Idle h there = absurd h
+begun_played script words contents w entered spare me old new (activity.Active tx) h there =
+    let n = h.3 in
+    let none : ran_of w me tx ≡ rests w me =
+    (λ i. body w me tx.number (asked_of (n.calls i) (n.replies i))) in
+    let world : w ≡ seen w contents tx.writes =
+    (λ i. record w { names = (ap (λ (c : Contents). c.names) (sym there.host)) i; files = (ap (λ (c : Contents). c.files) (sym there.host)) i; pipes = (ap (λ (c : Contents). c.pipes) (sym there.host)) i; pairs = (ap (λ (c : Contents). c.pairs) (sym there.host)) i })
+    ∙ ap (λ ws. seen w contents ws) (sym n.writes) in
+    let forward : GoesForward w me contents tx = record {
+      world = ap (λ (r : Ran). r.world) none ∙ world;
+      private = ap (λ (r : Ran). r.me) none ∙ sym n.private;
+      trail = ap (λ (r : Ran). r.trail) none ∙ sym (ap (λ (u : Records). u.pending) n.undo);
+    } in (
+      record {
+        fits = subst IsTrue (λ i. body_fits w me tx.number (asked_of (sym n.calls i) (sym n.replies i))) refl;
+        replies = ap (λ (r : Ran). r.replies) none ∙ sym n.replies;
+        late = ap (λ (r : Ran). r.late) none;
+        held = n.held ∙ ap (λ (r : Ran). holding [] r.touched) (sym none);
+      },
+      subst (IsPlayedIn w me words contents tx) (sym n.running) (there.words, forward),
+    )
+begun_played script words contents w entered spare me old new activity.Starved h there = absurd h
+begun_played script words contents w entered spare me old new (activity.Ended end) h there = there
+
+-- nothing is noted yet
+begun_faults : (script : Script) (entered spare : ℕ) (me : Private) (old new : Place) (a : Activity) → BeginsAs script entered spare me old new a → faults_noted a ≡ 0
+begun_faults script entered spare me old new activity.Idle h = absurd h
+begun_faults script entered spare me old new (activity.Active tx) h =
+    let n = h.3 in λ i. count_by is_fault_reply (n.replies i) + sum_by undo_faults (ap (λ (u : Records). u.ended) n.undo i)
+begun_faults script entered spare me old new activity.Starved h = absurd h
+begun_faults script entered spare me old new (activity.Ended end) h = refl
+
+counted_as : (journal : List Entry) (o : Option Job) (job : Job) (before now : ℕ) → Some job ≡ o → AreCounted journal o before now → CountsFaults (sum_by entry_faults journal + faults_noted job.activity) before now
+counted_as journal o job before now was h = subst (λ p. AreCounted journal p before now) (sym was) h
+
+pub turn_idle : (script : Script) (tells : Bool) (tries : ℕ) (words : List ℕ) (contents : Contents) (journal journal' : List Entry) (spare spare' : ℕ) (o : Option Job) (job job' : Job)
+    → Some job ≡ o → doing_of o ≡ Idle → journal' ≡ journal → job'.block ≡ job.block → job'.me ≡ job.me
+    → BeginsAs script (length journal) spare' job.me job.place job'.place job'.activity
+    → InFlight script tells tries words contents journal spare o → InFlight script tells tries words contents journal' spare' (Some job')
+turn_idle script tells tries words contents journal journal' spare spare' o job job' was idle same block me begins k =
+    let is = idle_is job.activity (ap doing_of was ∙ idle) in
+    let inside = taken_in script tells tries words contents journal spare o job was k in
+    subst (λ js. InFlight script tells tries words contents js spare' (Some job')) (sym same)
+    (keep_job script tells tries journal words words contents contents spare spare' job job' block me refl
+    (λ f before. let rest = subst (IsActive script tries f words (length journal) spare job.place) is before in
+    begun_job script tries words f (length journal) spare' job.me job.place job'.place job'.activity inside.job.begins rest.0 rest.1 rest.2 begins)
+    (λ t f before b now. begun_played script words contents (progress_of script journal).state.world (length journal) spare' job.me job.place job'.place job'.activity begins
+    (subst (IsPlayedBy (progress_of script journal).state.world job.me words contents) is now))
+    inside)
+
+pub counts_idle : (script : Script) (journal journal' : List Entry) (spare : ℕ) (o : Option Job) (job job' : Job) (before now : ℕ) → Some job ≡ o → doing_of o ≡ Idle → journal' ≡ journal
+    → BeginsAs script (length journal) spare job.me job.place job'.place job'.activity → AreCounted journal o before now → AreCounted journal' (Some job') before now
+counts_idle script journal journal' spare o job job' before now was idle same begins h =
+    let is = idle_is job.activity (ap doing_of was ∙ idle) in
+    let none = begun_faults script (length journal) spare job.me job.place job'.place job'.activity begins in
+    let total : sum_by entry_faults journal + faults_noted job.activity ≡ sum_by entry_faults journal' + faults_noted job'.activity =
+    (λ i. sum_by entry_faults (sym same i) + (ap faults_noted is ∙ sym none) i) in
+    subst (λ n. CountsFaults n before now) total (counted_as journal o job before now was h)
+
+-- ---- a running turn
+pub turn_running : (script : Script) (tells : Bool) (tries : ℕ) (words words' : List ℕ) (contents contents' : Contents) (journal : List Entry) (spare : ℕ) (o : Option Job) (job job' : Job)
+    → Some job ≡ o → job'.block ≡ job.block → job'.me ≡ job.me → length words' ≡ length words
+    → ((tries : ℕ) (f : Following) (entered room : ℕ) → IsActive script tries f words entered room job.place job.activity → IsActive script tries f words' entered room job'.place job'.activity)
+    → (IsTrue tells → (w : World) (me : Private) (tries : ℕ) (f : Following) (entered room : ℕ) → IsActive script tries f words entered room job.place job.activity → IsSound w me (entered + 1) → IsPlayedBy w me words contents job.activity
+    → IsPlayedBy w me words' contents' job'.activity)
+    → InFlight script tells tries words contents journal spare o → InFlight script tells tries words' contents' journal spare (Some job')
+turn_running script tells tries words words' contents contents' journal spare o job job' was block me count active played k =
+    keep_job script tells tries journal words words' contents contents' spare spare job job' block me count
+    (λ f before. active tries f (length journal) spare before)
+    (λ t f before b now. played t (progress_of script journal).state.world job.me tries f (length journal) spare before (b.sound (length journal + 1) (omega arith)) now)
+    (taken_in script tells tries words contents journal spare o job was k)
+
+pub counts_running : (journal : List Entry) (o : Option Job) (job job' : Job) (before was is : ℕ) → Some job ≡ o
+    → ((n b : ℕ) → CountsFaults (n + faults_noted job.activity) b was → CountsFaults (n + faults_noted job'.activity) b is)
+    → AreCounted journal o before was → AreCounted journal (Some job') before is
+counts_running journal o job job' before was is taken more h = more (sum_by entry_faults journal) before (counted_as journal o job before was taken h)
+
+-- a running transaction may do its next call
+pub may_go : (script : Script) (tells : Bool) (tries : ℕ) (words : List ℕ) (contents : Contents) (journal : List Entry) (spare : ℕ) (o : Option Job) (job : Job) → Some job ≡ o → doing_of o ≡ Running
+    → InFlight script tells tries words contents journal spare o → CanRun script words job.place job.activity
+may_go script tells tries words contents journal spare o job was runs k =
+    let inside = taken_in script tells tries words contents journal spare o job was k in
+    let f = inside.job.following in
+    let doing = ap doing_of was ∙ runs in
+    let one = active_is job.activity (busy_running job.activity doing) in
+    let phase = running_is one.0.undo.pending one.0.phase (ap doing_in (sym one.1) ∙ doing) in
+    let active = subst (IsActive script tries f words (length journal) spare job.place) one.1 inside.job.active in
+    let flight = active.1 in
+    let running : IsRunning script f words job.place one.0 = subst (IsPhase script tries f words job.place one.0) phase flight.phase in
+    let left : IsSome (next_body script (job_of job.place)) = subst IsSome (λ i. slice_get (transactions_at script (sym flight.standing.block i)) (sym flight.standing.next i)) flight.left in
+    subst (CanRun script words job.place) (sym one.1) (record { running = phase; left = left; within = running.within; stored = flight.stored; none = running.none })
+
+pub may_open : (script : Script) (tells : Bool) (tries : ℕ) (words : List ℕ) (contents : Contents) (journal : List Entry) (spare : ℕ) (o : Option Job) (job : Job) → Some job ≡ o → doing_of o ≡ Running
+    → InFlight script tells tries words contents journal spare o → IsTrue tells → HasOpenFiles contents job.activity
+may_open script tells tries words contents journal spare o job was runs k t =
+    let inside = taken_in script tells tries words contents journal spare o job was k in
+    let f = inside.job.following in
+    let doing = ap doing_of was ∙ runs in
+    let one = active_is job.activity (busy_running job.activity doing) in
+    let phase = running_is one.0.undo.pending one.0.phase (ap doing_in (sym one.1) ∙ doing) in
+    let active = subst (IsActive script tries f words (length journal) spare job.place) one.1 inside.job.active in
+    let p = inside.job.played t in
+    let w = (progress_of script journal).state.world in
+    let now : IsPlayedBy w job.me words contents (activity.Active one.0) = subst (IsPlayedBy w job.me words contents) one.1 p.now in
+    let files = open_files script f (length journal) words w job.me contents one.0 phase active.1.noted (p.begin.sound (length journal + 1) (omega arith)) now in
+    subst (HasOpenFiles contents) (sym one.1) files
+
+-- ---- a commit
+abbrev pub Commits : Job → Job × Entry → Type 0
+Commits job made = (tx : Tx) → job.activity ≡ activity.Active tx → made ≡ (behind_commit job tx, entry_of tx 1 (Committed []))
+
+pub turn_committing : (script : Script) (tells : Bool) (tries : ℕ) (words : List ℕ) (contents : Contents) (journal journal' : List Entry) (spare spare' : ℕ) (o : Option Job) (job : Job) (made : Job × Entry)
+    → Some job ≡ o → doing_of o ≡ Committing → Commits job made → journal' ≡ journal ++ made.1 ∷ []
+    → InFlight script tells tries words contents journal spare o → InFlight script tells tries words contents journal' spare' (Some made.0)
+turn_committing script tells tries words contents journal journal' spare spare' o job made was commits gives grown k =
+    let doing = ap doing_of was ∙ commits in
+    let one = active_is job.activity (busy_committing job.activity doing) in
+    let phase = committing_is one.0.undo.pending one.0.phase (ap doing_in (sym one.1) ∙ doing) in
+    let there = keep_commit script tells tries words contents journal spare spare' job one.0 one.1 phase (taken_in script tells tries words contents journal spare o job was k) in
+    subst (λ js. InFlight script tells tries words contents js spare' (Some made.0)) (sym grown)
+    (subst (λ (m : Job × Entry). InFlight script tells tries words contents (journal ++ m.1 ∷ []) spare' (Some m.0)) (sym (gives one.0 one.1)) there)
+
+pub counts_committing : (script : Script) (tells : Bool) (tries : ℕ) (words : List ℕ) (contents : Contents) (journal journal' : List Entry) (spare : ℕ) (o : Option Job) (job : Job) (made : Job × Entry) (before now : ℕ)
+    → Some job ≡ o → doing_of o ≡ Committing → Commits job made → journal' ≡ journal ++ made.1 ∷ []
+    → InFlight script tells tries words contents journal spare o → AreCounted journal o before now → AreCounted journal' (Some made.0) before now
+counts_committing script tells tries words contents journal journal' spare o job made before now was commits gives grown k h =
+    let doing = ap doing_of was ∙ commits in
+    let one = active_is job.activity (busy_committing job.activity doing) in
+    let phase = committing_is one.0.undo.pending one.0.phase (ap doing_in (sym one.1) ∙ doing) in
+    let inside = taken_in script tells tries words contents journal spare o job was k in
+    let f = inside.job.following in
+    let active = subst (IsActive script tries f words (length journal) spare job.place) one.1 inside.job.active in
+    let committing : IsCommitting script f job.place one.0 = subst (IsPhase script tries f words job.place one.0) phase active.1.phase in
+    let total : sum_by entry_faults journal + faults_noted job.activity ≡ sum_by entry_faults (journal ++ entry_of one.0 1 (Committed []) ∷ []) + 0 =
+    ap (λ a. sum_by entry_faults journal + faults_noted a) one.1 ∙ sym (entered_commit journal one.0 committing.none) ∙ (let e : sum_by entry_faults (journal ++ entry_of one.0 1 (Committed []) ∷ []) ≡ sum_by entry_faults (journal ++ entry_of one.0 1 (Committed []) ∷ []) + 0 = omega arith in e) in
+    let there : AreCounted (journal ++ entry_of one.0 1 (Committed []) ∷ []) (Some (behind_commit job one.0)) before now = subst (λ n. CountsFaults n before now) total (counted_as journal o job before now was h) in
+    subst (λ js. AreCounted js (Some made.0) before now) (sym grown) (subst (λ (m : Job × Entry). AreCounted (journal ++ m.1 ∷ []) (Some m.0) before now) (sym (gives one.0 one.1)) there)
+
+-- ---- one turn of the way back
+abbrev pub Tries : Bool → ℕ → Job → Job → Contents → Contents → ℕ → ℕ → Type 0
+Tries tells tries job job' was is before now =
+    (tx : Tx) (older : List Undo) (u : Undo) → job.activity ≡ activity.Active tx → tx.undo.pending ≡ older ++ u ∷ [] → Undoes tells tries job job' tx was is before now older u
+
+pub may_undo : (script : Script) (tells : Bool) (tries : ℕ) (words : List ℕ) (contents : Contents) (journal : List Entry) (spare : ℕ) (o : Option Job) (job : Job) → Some job ≡ o → doing_of o ≡ Undoing
+    → InFlight script tells tries words contents journal spare o → IsTrue tells → (tx : Tx) (older : List Undo) (u : Undo) → job.activity ≡ activity.Active tx → tx.undo.pending ≡ older ++ u ∷ [] → IsCovered (world_of contents) u
+may_undo script tells tries words contents journal spare o job was undoes k t tx older u is pending =
+    let inside = taken_in script tells tries words contents journal spare o job was k in
+    let f = inside.job.following in
+    let doing = ap doing_of was ∙ undoes in
+    let back = undoing_is tx.undo.pending tx.phase (ap doing_in (sym is) ∙ doing) in
+    let active = subst (IsActive script tries f words (length journal) spare job.place) is inside.job.active in
+    let p = inside.job.played t in
+    let w = (progress_of script journal).state.world in
+    let now : IsPlayedBy w job.me words contents (activity.Active tx) = subst (IsPlayedBy w job.me words contents) is p.now in
+    covered_now script f words (length journal) w job.me contents tx back.0.0 older u back.0.1 pending active.1.noted (p.begin.sound (length journal + 1) (omega arith)) now
+
+tried_tx : (tx : Tx) (undo : Records) (older : List Undo) (u : Undo) (end : UndoEnd) → undo ≡ record { pending = older; ended = (u, end) ∷ tx.undo.ended } → record tx { undo = record { pending = older; ended = (u, end) ∷ tx.undo.ended } } ≡ record tx { undo = undo }
+tried_tx tx undo older u end is = ap (λ (r : Records). record tx { undo = r }) (sym is)
+
+pub turn_undoing : (script : Script) (tells : Bool) (tries : ℕ) (words : List ℕ) (contents contents' : Contents) (journal : List Entry) (spare : ℕ) (o : Option Job) (job job' : Job) (was is : ℕ)
+    → Some job ≡ o → doing_of o ≡ Undoing → Tries tells tries job job' contents contents' was is
+    → InFlight script tells tries words contents journal spare o → InFlight script tells tries words contents' journal spare (Some job')
+turn_undoing script tells tries words contents contents' journal spare o job job' before now was undoes tries_it k =
+    let inside = taken_in script tells tries words contents journal spare o job was k in
+    let doing = ap doing_of was ∙ undoes in
+    let one = active_is job.activity (busy_undoing job.activity doing) in
+    let tx = one.0 in
+    let back = undoing_is tx.undo.pending tx.phase (ap doing_in (sym one.1) ∙ doing) in
+    let older = back.1.0 in
+    let u = back.1.1 in
+    let tried = tries_it tx older u one.1 back.1.2 in
+    let next : Tx = record tx { undo = tried.undo } in
+    let same = tried_tx tx tried.undo older u tried.end tried.tried.stack in
+    let job_next : Job = record job { activity = activity.Active next } in
+    subst (λ j. InFlight script tells tries words contents' journal spare (Some j)) (sym tried.job)
+    (keep_job script tells tries journal words words contents contents' spare spare job job_next refl refl refl
+    (λ f before.
+    let active = subst (IsActive script tries f words (length journal) spare job.place) one.1 before in
+    (active.0, subst (Flight script tries f words (length journal) job.place) same (flight_tried script tries f words (length journal) job.place tx back.0.0 older u tried.end back.0.1 back.1.2 tried.tried.legal active.1)))
+    (λ t f before b now'.
+    let active = subst (IsActive script tries f words (length journal) spare job.place) one.1 before in
+    let w = (progress_of script journal).state.world in
+    let played : IsPlayedBy w job.me words contents (activity.Active tx) = subst (IsPlayedBy w job.me words contents) one.1 now' in
+    subst (λ (x : Tx). IsPlayedBy w job.me words contents' (activity.Active x)) same
+    (played_tried script tries f words (length journal) job.place w job.me contents contents' tx back.0.0 older u tried.end back.0.1 back.1.2 tried.tried.legal (tried.tried.effect t) active.1.noted (b.sound (length journal + 1) (omega arith)) played))
+    inside)
+
+pub counts_undoing : (tells : Bool) (tries : ℕ) (contents contents' : Contents) (journal : List Entry) (o : Option Job) (job job' : Job) (before was is : ℕ)
+    → Some job ≡ o → doing_of o ≡ Undoing → Tries tells tries job job' contents contents' was is → AreCounted journal o before was → AreCounted journal (Some job') before is
+counts_undoing tells tries contents contents' journal o job job' before was is taken undoes tries_it h =
+    let doing = ap doing_of taken ∙ undoes in
+    let one = active_is job.activity (busy_undoing job.activity doing) in
+    let tx = one.0 in
+    let back = undoing_is tx.undo.pending tx.phase (ap doing_in (sym one.1) ∙ doing) in
+    let tried = tries_it tx back.1.0 back.1.1 one.1 back.1.2 in
+    let here = subst (λ a. CountsFaults (sum_by entry_faults journal + faults_noted a) before was) one.1 (counted_as journal o job before was taken h) in
+    let more = noted_tried (sum_by entry_faults journal) before was is tx tried.undo back.1.1 tried.end (ap (λ (r : Records). r.ended) tried.tried.stack) tried.tried.faults here in
+    subst (λ j. AreCounted journal (Some j) before is) (sym tried.job) more
+
+-- ---- an abort's entry
+abbrev pub Aborts : Job → Job × Entry → Type 0
+Aborts job made = (tx : Tx) (c : Cause) → job.activity ≡ activity.Active tx → tx.phase ≡ phase.Undoing c → made ≡ (behind_abort job c, entry_of tx 1 (aborted_by c tx))
+
+pub may_abort : (o : Option Job) (job : Job) → Some job ≡ o → doing_of o ≡ Undone → (tx : Tx) → job.activity ≡ activity.Active tx → (tx.undo.pending ≡ []) × IsGoingBack tx.phase
+may_abort o job was undone tx is =
+    let back = undone_is tx.undo.pending tx.phase (ap doing_in (sym is) ∙ ap doing_of was ∙ undone) in
+    (back.1, subst IsGoingBack (sym back.0.1) tt)
+
+pub turn_undone : (script : Script) (tells : Bool) (tries : ℕ) (words : List ℕ) (contents : Contents) (journal journal' : List Entry) (spare spare' : ℕ) (o : Option Job) (job : Job) (made : Job × Entry)
+    → Some job ≡ o → doing_of o ≡ Undone → Aborts job made → journal' ≡ journal ++ made.1 ∷ []
+    → InFlight script tells tries words contents journal spare o → InFlight script tells tries words contents journal' spare' (Some made.0)
+turn_undone script tells tries words contents journal journal' spare spare' o job made was undone gives grown k =
+    let doing = ap doing_of was ∙ undone in
+    let one = active_is job.activity (busy_undone job.activity doing) in
+    let back = undone_is one.0.undo.pending one.0.phase (ap doing_in (sym one.1) ∙ doing) in
+    let there = keep_abort script tells tries words contents journal spare spare' job one.0 back.0.0 one.1 back.0.1 back.1 (taken_in script tells tries words contents journal spare o job was k) in
+    subst (λ js. InFlight script tells tries words contents js spare' (Some made.0)) (sym grown)
+    (subst (λ (m : Job × Entry). InFlight script tells tries words contents (journal ++ m.1 ∷ []) spare' (Some m.0)) (sym (gives one.0 back.0.0 one.1 back.0.1)) there)
+
+behind_faults : (job : Job) (c : Cause) → faults_noted (behind_abort job c).activity ≡ 0
+behind_faults job cause.Asked = refl
+behind_faults job _ = refl
+
+pub counts_undone : (journal journal' : List Entry) (o : Option Job) (job : Job) (made : Job × Entry) (before now : ℕ)
+    → Some job ≡ o → doing_of o ≡ Undone → Aborts job made → journal' ≡ journal ++ made.1 ∷ [] → AreCounted journal o before now → AreCounted journal' (Some made.0) before now
+counts_undone journal journal' o job made before now was undone gives grown h =
+    let doing = ap doing_of was ∙ undone in
+    let one = active_is job.activity (busy_undone job.activity doing) in
+    let back = undone_is one.0.undo.pending one.0.phase (ap doing_in (sym one.1) ∙ doing) in
+    let c = back.0.0 in
+    let e = entry_of one.0 1 (aborted_by c one.0) in
+    let total : sum_by entry_faults journal + faults_noted job.activity ≡ sum_by entry_faults (journal ++ e ∷ []) + faults_noted (behind_abort job c).activity =
+    ap (λ a. sum_by entry_faults journal + faults_noted a) one.1 ∙ sym (entered_abort journal one.0 c)
+    ∙ (let s : sum_by entry_faults (journal ++ e ∷ []) ≡ sum_by entry_faults (journal ++ e ∷ []) + faults_noted (behind_abort job c).activity = omega (arith, behind_faults job c) in s) in
+    let there : AreCounted (journal ++ e ∷ []) (Some (behind_abort job c)) before now = subst (λ n. CountsFaults n before now) total (counted_as journal o job before now was h) in
+    subst (λ js. AreCounted js (Some made.0) before now) (sym grown) (subst (λ (m : Job × Entry). AreCounted (journal ++ m.1 ∷ []) (Some m.0) before now) (sym (gives one.0 c one.1 back.0.1)) there)
+
+-- ---- the end for want of memory
+pub turn_starved : (script : Script) (tells : Bool) (tries : ℕ) (words : List ℕ) (contents : Contents) (journal : List Entry) (spare : ℕ) (o : Option Job) (job job' : Job)
+    → Some job ≡ o → doing_of o ≡ Starved → job' ≡ record job { activity = activity.Ended job_end.NoMemory }
+    → InFlight script tells tries words contents journal spare o → InFlight script tells tries words contents journal spare (Some job')
+turn_starved script tells tries words contents journal spare o job job' was starved made k =
+    let is = starved_is job.activity (ap doing_of was ∙ starved) in
+    let ended : Job = record job { activity = activity.Ended job_end.NoMemory } in
+    subst (λ (j : Job). InFlight script tells tries words contents journal spare (Some j)) (sym made)
+    (keep_job script tells tries journal words words contents contents spare spare job ended refl refl refl
+    (λ f before. (subst (IsActive script tries f words (length journal) spare job.place) is before).1)
+    (λ t f before b now. subst (IsPlayedBy (progress_of script journal).state.world job.me words contents) is now)
+    (taken_in script tells tries words contents journal spare o job was k))
+
+pub counts_starved : (journal : List Entry) (o : Option Job) (job job' : Job) (before now : ℕ) → Some job ≡ o → doing_of o ≡ Starved → job' ≡ record job { activity = activity.Ended job_end.NoMemory } → AreCounted journal o before now → AreCounted journal (Some job') before now
+counts_starved journal o job job' before now was starved made h =
+    let is = starved_is job.activity (ap doing_of was ∙ starved) in
+    let total : sum_by entry_faults journal + faults_noted job.activity ≡ sum_by entry_faults journal + faults_noted job'.activity =
+    ap (λ a. sum_by entry_faults journal + faults_noted a) is ∙ ap (λ (j : Job). sum_by entry_faults journal + faults_noted j.activity) (sym made) in
+    subst (λ n. CountsFaults n before now) total (counted_as journal o job before now was h)
