@@ -1,12 +1,13 @@
 -- The bytes of what is to be written.
 use Rattle.std.specs.Prelude.{ℕ, List, string_bytes}
 use Rattle.xc_app.specs.declared.run.Due.{Due}
-use Rattle.xc_app.specs.declared.run.Due.TheVariants.{Usage, ReadFault, NoMemory, Line, Whole}
-use Rattle.xc_app.specs.Lines.{usage_line, read_fault_line, no_memory_line}
+use Rattle.xc_app.specs.declared.run.Due.TheVariants.{Usage, ReadFault, NoMemory, NotScripted, Line, Whole}
+use Rattle.xc_app.specs.Lines.{usage_line, read_fault_line, no_memory_line, not_scripted_line}
 
 abbrev pub due_bytes : Due → List ℕ
 due_bytes Usage = usage_line
 due_bytes ReadFault = read_fault_line
 due_bytes NoMemory = no_memory_line
+due_bytes NotScripted = not_scripted_line
 due_bytes (Line line) = string_bytes line
 due_bytes (Whole text) = text

@@ -13,6 +13,9 @@ read_fault_line = codes "read fault\n"
 abbrev pub no_memory_line : List ℕ
 no_memory_line = codes "no memory\n"
 
+abbrev pub not_scripted_line : List ℕ
+not_scripted_line = codes "not scripted\n"
+
 abbrev pub why_text : Why → List ℕ
 why_text TooLong = codes "too long"
 why_text BadByte = codes "bad byte"

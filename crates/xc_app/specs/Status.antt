@@ -1,7 +1,7 @@
 -- The numbers of the statuses.
 use Rattle.std.specs.Prelude.{ℕ}
 use Rattle.xc_app.specs.declared.finish.Status.{Status}
-use Rattle.xc_app.specs.declared.finish.Status.TheVariants.{Done, Refused, Usage, ReadFault, WriteFault, NoMemory}
+use Rattle.xc_app.specs.declared.finish.Status.TheVariants.{Done, Refused, Usage, ReadFault, WriteFault, NoMemory, NotScripted}
 
 abbrev pub status_number : Status → ℕ
 status_number Done = 0
@@ -10,3 +10,4 @@ status_number Usage = 2
 status_number ReadFault = 3
 status_number WriteFault = 4
 status_number NoMemory = 5
+status_number NotScripted = 8

@@ -21,6 +21,8 @@ pub enum Status {
     WriteFault,
     /// Memory was wanting, in the run or in one of its jobs.
     NoMemory,
+    /// The host takes no scripts, and the script has a line for one that does.
+    NotScripted,
 }
 
 impl Status {
@@ -35,13 +37,15 @@ impl Status {
             Status::ReadFault => 3,
             Status::WriteFault => 4,
             Status::NoMemory => 5,
+            Status::NotScripted => 8,
         }
     }
 }
 
-/// What a run leaves. The end is there once the script was run.
+/// What a run leaves: its end once the script was started, and else the host as it was.
 #[derive(Debug, Drop)]
-pub struct Finish {
+pub struct Finish<H> {
     pub status: Status,
-    pub end: Option<End>,
+    pub end: Option<End<H>>,
+    pub host: Option<H>,
 }

@@ -3,6 +3,7 @@ use std::alloc::Global;
 use std::test::Fail;
 use xc_data::{CallNumbers, Chunk};
 use xc_edge::{MemSink, MemSource};
+use xc_memhost::MemHost;
 use xc_text::Why;
 
 const ONE_COMMIT: &str = "word 0 100\njob main\ntx\nload 0 -> x\nstore 0 x + 5\ncommit\nend\n";
@@ -18,7 +19,7 @@ fn finish<R: AllocGlobal>(
     script: &str,
     read_fails: bool,
     write_fails: bool,
-) -> Result<(Finish, MemSink), Fail> {
+) -> Result<(Finish<MemHost>, MemSink), Fail> {
     let alloc = rt.alloc();
     let mut source = MemSource::new(
         Chunk::new(alloc, script.as_bytes())?,
@@ -26,7 +27,7 @@ fn finish<R: AllocGlobal>(
         5,
     );
     let mut sink = MemSink::new(alloc, numbers(alloc, write_fails)?, 7, 4096)?;
-    let finish = xcalls_run(rt, &[], &mut source, &mut sink);
+    let finish = xcalls_run(rt, &[], &mut source, &mut sink, MemHost::new(alloc));
     Ok((finish, sink))
 }
 
@@ -69,14 +70,15 @@ fn scripts_and_faults(rt: HostRuntime) -> Result<(), Fail> {
     Ok(())
 }
 
-// A failed write loses nothing of the run.
+// A failed write loses nothing of the run; with the end the host is no more there by itself.
 #[test]
 fn the_journal_outlives_a_write_fault(rt: HostRuntime) -> Result<(), Fail> {
     let (finish, _sink) = finish(&rt, ONE_COMMIT, false, true)?;
-    match finish.end {
+    match &finish.end {
         Some(end) => {
             assert_eq!(rt; end.journal.len(), 1);
             assert!(rt; end.words.get(0) == Some(&105));
+            assert!(rt; finish.host.is_none());
         }
         None => assert!(rt; false, "no end"),
     }

@@ -5,6 +5,7 @@ use std::process::ExitCode;
 use std::{env, io};
 use xc_app::{Status, xcalls_run};
 use xc_edge::{StdSink, StdSource, write_whole};
+use xc_memhost::MemHost;
 
 // The words behind the program's name.
 fn words(rt: &HostRuntime) -> io::Result<Vec<String>> {
@@ -20,7 +21,8 @@ fn words(rt: &HostRuntime) -> io::Result<Vec<String>> {
 fn run(rt: &HostRuntime, words: &[String]) -> Status {
     let mut source = StdSource::new(rt.stdin());
     let mut sink = StdSink::new(rt.stdout());
-    xcalls_run(rt, words, &mut source, &mut sink).status
+    let host = MemHost::new(rt.alloc());
+    xcalls_run(rt, words, &mut source, &mut sink, host).status
 }
 
 // The words could not be had: for want of memory, or since one is no text, which no option takes.
