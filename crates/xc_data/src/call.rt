@@ -113,6 +113,13 @@ pub enum Answer {
     Fault(u32),
 }
 
+/// A call, and what it met at the host.
+#[derive(Drop)]
+pub struct Asked {
+    pub call: Call,
+    pub answer: Answer,
+}
+
 /// A call that is done after the commit, on the object that was fixed when it was made.
 #[derive(Debug, Drop)]
 pub enum LateCall {

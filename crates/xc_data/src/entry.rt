@@ -2,13 +2,13 @@ ghost use Rattle.std.specs.Prelude.{◌≡◌, IsTrue};
 ghost use Rattle.std.specs.List.{list_any};
 ghost use Rattle.xc_data.specs.Standing.{leaves};
 
-use crate::{Call, Chunk, Ident, Items, LateEnd, Num, Object, RecordList, Reply, Undo, UndoEnd};
+use crate::{Call, Chunk, Claim, Ident, Items, LateEnd, Num, Object, RecordList, Reply, Undo, UndoEnd};
 
 pub type CallList = Items<Call>;
 
 pub type ReplyList = Items<Reply>;
-/// Objects in the order in which they were first touched.
-pub type HeldList = Items<Object>;
+/// Objects in the order in which they were first touched, each with the mode in which it is held.
+pub type HeldList = Items<Claim>;
 /// The ends of the late calls, in the order of the calls.
 pub type LateList = Items<LateEnd>;
 /// Job lines in the order of the jobs' numbers.
@@ -133,7 +133,8 @@ pub struct JobLine {
     pub end: JobEnd,
 }
 
-/// What aborted transactions took, for the readers after them.
+/// What was taken out of a pipe or a pair: the first bytes, or the first message for a side. What aborted
+/// transactions took is kept for the readers after them.
 #[derive(Debug, Drop)]
 pub enum KeptItem {
     Bytes { pipe: Num, bytes: Chunk },

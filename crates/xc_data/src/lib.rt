@@ -6,6 +6,7 @@
 
 mod call;
 mod chunk;
+mod claim;
 mod entry;
 mod ident;
 mod items;
@@ -18,8 +19,9 @@ mod script;
 mod tests;
 mod undo;
 
-pub use call::{Answer, Call, LateAnswer, LateCall, LateEnd, Reply};
+pub use call::{Answer, Asked, Call, LateAnswer, LateCall, LateEnd, Reply};
 pub use chunk::Chunk;
+pub use claim::{Claim, Mode};
 pub use entry::{
     CallList, Cause, Entry, Event, HeldList, JobEnd, JobLine, JobList, JobNumbers, KeptItem,
     KeptList, LateList, Outcome, ReplyList, Report, Text, Turn,

@@ -24,7 +24,9 @@ use Rattle.xc_world.specs.Act.Files.{overwritten, overwrite_at, overwrite_short}
 use Rattle.xc_world.specs.Act.Pipes.{read_pipe_at, received, receive_at}
 use Rattle.xc_world.specs.Act.{fine, faulty, done, act}
 use Rattle.xc_world.specs.Fits.{fits}
-use Rattle.xc_world.specs.Run.{Asked, body, body_fits}
+use Rattle.xc_world.specs.Run.{Ran, body, body_fits}
+use Rattle.xc_data.specs.declared.call.Asked.{Asked}
+use Rattle.xc_world.proofs.Joined.{body_first}
 use Rattle.xc_world.specs.Trail.{done_of, overwrite_record, recorded, with_effect}
 use Rattle.xc_world.specs.Ends.{with_remains}
 use Rattle.xc_world.specs.Effects.{whole, takes_data, only_overwrites, IsMadeIn, AreMadeIn}
@@ -196,14 +198,15 @@ made-by w v (u ∷ us) e made =
     (one.0, made-by (with_effect w u 0) (with_effect v u 0) us one.1 made.1)
 
 pub body-made : (w : World) (me : Private) (tx : ℕ) (asked : List Asked) → IsSound w me tx → IsTrue (body_fits w me tx asked)
-    → All (λ c. only_overwrites c.0 ≡ true) asked → AreMadeIn w (body w me tx asked).trail
+    → All (λ (c : Asked). only_overwrites c.call ≡ true) asked → AreMadeIn w (body w me tx asked).trail
 body-made w me tx [] sound fit only = tt
-body-made w me tx ((c, a) ∷ asked) sound fit only =
-    let P : Asked → Type 0 = λ c. only_overwrites c.0 ≡ true in
-    let s = act w me tx c a in
-    let us = recorded w me tx c s.reply in
+body-made w me tx (c ∷ asked) sound fit only =
+    let P : Asked → Type 0 = λ c. only_overwrites c.call ≡ true in
+    let s = act w me tx c.call c.answer in
+    let us = recorded w me tx c.call s.reply in
     let rest = body s.world s.me tx asked in
-    let both = and_parts (fits w me tx c a) (body_fits s.world s.me tx asked) fit in
-    let later = body-made s.world s.me tx asked (act_sound w me tx c a both.0 sound) both.1 (All-tail P (c, a) asked only) in
-    made-append w us rest.trail (act-made w me tx c a (All-head P (c, a) asked only) sound both.0)
-    (made-by (with_remains w (whole us)) s.world rest.trail (act-files w me tx c a) later)
+    let both = and_parts (fits w me tx c.call c.answer) (body_fits s.world s.me tx asked) fit in
+    let later = body-made s.world s.me tx asked (act_sound w me tx c.call c.answer both.0 sound) both.1 (All-tail P c asked only) in
+    subst (λ (r : Ran). AreMadeIn w r.trail) (sym (body_first w me tx c asked))
+    (made-append w us rest.trail (act-made w me tx c.call c.answer (All-head P c asked only) sound both.0)
+    (made-by (with_remains w (whole us)) s.world rest.trail (act-files w me tx c.call c.answer) later))

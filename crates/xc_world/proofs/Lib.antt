@@ -26,3 +26,13 @@ pub mod LocalParts
 pub mod LocalCalls
 pub mod Local
 pub mod LocalLate
+pub mod Joined
+pub mod Taken
+pub mod Objects
+pub mod Reading
+pub mod Calls
+pub mod Bodies
+pub mod Records
+pub mod Trails
+pub mod Runs
+pub mod Holding

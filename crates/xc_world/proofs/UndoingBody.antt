@@ -22,7 +22,9 @@ use Rattle.xc_world.specs.Act.Step.{Stepped, stays, counted}
 use Rattle.xc_world.specs.Act.Files.{overwrite_at}
 use Rattle.xc_world.specs.Act.{fine, faulty, done, act}
 use Rattle.xc_world.specs.Fits.{fits, asks_host, may_stop, is_done}
-use Rattle.xc_world.specs.Run.{Asked, body, body_fits}
+use Rattle.xc_world.specs.Run.{Ran, body, body_fits}
+use Rattle.xc_data.specs.declared.call.Asked.{Asked}
+use Rattle.xc_world.proofs.Joined.{body_first}
 use Rattle.xc_world.specs.Trail.{overwrite_record, append_record, recorded, undone, all_undone}
 use Rattle.xc_world.specs.Undoing.{BroughtBack}
 use Rattle.xc_world.proofs.UndoingParts.{same-back}
@@ -147,10 +149,11 @@ all_undone-append w (u ∷ us) vs = ap (λ v. undone v u) (all_undone-append w u
 pub body-undoes : (w : World) (me : Private) (tx : ℕ) (asked : List Asked) → IsSound w me tx → IsTrue (body_fits w me tx asked)
     → BroughtBack w (all_undone (body w me tx asked).world (body w me tx asked).trail)
 body-undoes w me tx [] sound fit = same-back w
-body-undoes w me tx ((c, a) ∷ asked) sound fit =
-    let s = act w me tx c a in
+body-undoes w me tx (c ∷ asked) sound fit =
+    let s = act w me tx c.call c.answer in
     let rest = body s.world s.me tx asked in
-    let both = and_parts (fits w me tx c a) (body_fits s.world s.me tx asked) fit in
-    let later : BroughtBack s.world (all_undone rest.world rest.trail) = body-undoes s.world s.me tx asked (act_sound w me tx c a both.0 sound) both.1 in
-    subst (BroughtBack w) (sym (all_undone-append rest.world (recorded w me tx c s.reply) rest.trail))
-    (act-undoes w me tx c a sound both.0 (all_undone rest.world rest.trail) later)
+    let both = and_parts (fits w me tx c.call c.answer) (body_fits s.world s.me tx asked) fit in
+    let later : BroughtBack s.world (all_undone rest.world rest.trail) = body-undoes s.world s.me tx asked (act_sound w me tx c.call c.answer both.0 sound) both.1 in
+    subst (λ (r : Ran). BroughtBack w (all_undone r.world r.trail)) (sym (body_first w me tx c asked))
+    (subst (BroughtBack w) (sym (all_undone-append rest.world (recorded w me tx c.call s.reply) rest.trail))
+    (act-undoes w me tx c.call c.answer sound both.0 (all_undone rest.world rest.trail) later))

@@ -8,7 +8,7 @@ use Rattle.xc_data.specs.declared.undo.UndoEnd.{UndoEnd}
 use Rattle.xc_data.specs.declared.undo.UndoEnd.TheVariants.{Undone, Failed, Blocked}
 use Rattle.xc_data.specs.Standing.{objects_of, stands_from}
 use Rattle.xc_world.specs.World.{World}
-use Rattle.xc_world.specs.Touch.{is_object}
+use Rattle.xc_data.specs.Claims.{is_object}
 use Rattle.xc_world.specs.Trail.{with_effect}
 
 -- a record with its end

@@ -1,5 +1,5 @@
 -- Late calls: what a call leaves to be done after the commit, and how that ends.
-use Rattle.std.specs.Prelude.{ℕ, ◌-◌, ◌==◌, Bool, true, not, min, Option, List, [], ◌∷◌, ◌++◌, length, take, nat_lt, nat_le, nat_eq, if◌then◌else◌}
+use Rattle.std.specs.Prelude.{ℕ, ◌-◌, ◌==◌, ◌||◌, Bool, true, false, not, min, Option, List, [], ◌∷◌, ◌++◌, length, take, nat_lt, nat_le, nat_eq, if◌then◌else◌}
 use Rattle.std.specs.declared.option.Option.TheVariants.{None, Some}
 use Rattle.std.specs.FinMap as map
 use Rattle.std.specs.List.{list_any}
@@ -50,6 +50,11 @@ late_call (call.XShutdown h slot) me = shutdown_of (place_of me.places h)
 late_call (call.XSendmsg h bytes slot) me = send_of (place_of me.places h) bytes
 late_call (call.XThreadCreate body slot) me = Thread body ∷ []
 late_call _ me = []
+
+-- the call is kept until the commit
+abbrev pub is_late : Reply → Bool
+is_late reply.Late = true
+is_late _ = false
 
 -- what a call that got this reply leaves: its late call where that is Late
 abbrev pub kept_call : Call → Private → Reply → List LateCall
@@ -115,9 +120,12 @@ late_fine w (Shutdown object) = shut_down w object
 late_fine w (Send num side bytes) = sent w num side bytes
 late_fine w (Thread body) = thread_started w body
 
--- the world where a late call stops after n bytes
+-- the world where a late call stops after n bytes: of a write to a pipe what fits of them is put, and none
+-- into a shut one
 abbrev pub stopped : World → LateCall → ℕ → World
-stopped w (WritePipe num bytes) n = if n == 0 then w else with_put w num (take (min n (room (pipe_of w num))) bytes)
+stopped w (WritePipe num bytes) n =
+    if n == 0 || (pipe_of w num).shut then w
+    else with_put w num (take (min n (room (pipe_of w num))) bytes)
 stopped w _ n = w
 
 abbrev pub late : World → LateCall → LateAnswer → Ended

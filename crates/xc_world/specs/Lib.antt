@@ -12,3 +12,6 @@ pub mod Effects
 pub mod Opening
 pub mod Laws
 pub mod Undoing
+pub mod Modes
+pub mod Joined
+pub mod Own

@@ -1,67 +1,105 @@
 -- A transaction run whole on the plain machine: its body, then its late calls.
-use Rattle.std.specs.Prelude.{ℕ, ◌&&◌, Bool, true, List, [], ◌∷◌, ◌++◌, length}
-use Rattle.xc_data.specs.declared.object.Object.{Object}
+use Rattle.std.specs.Prelude.{ℕ, ◌==◌, ◌&&◌, Bool, true, List, [], ◌∷◌, ◌++◌, length, if◌then◌else◌}
+use Rattle.std.specs.List.{fold}
 use Rattle.xc_data.specs.declared.call.Call.{Call}
-use Rattle.xc_data.specs.declared.call.Answer.{Answer}
+use Rattle.xc_data.specs.declared.call.Call.TheVariants.{XReadPipe, XRecvmsg}
 use Rattle.xc_data.specs.declared.call.Answer.TheVariants as answer
 use Rattle.xc_data.specs.declared.call.Reply.{Reply}
+use Rattle.xc_data.specs.declared.call.Reply.TheVariants.{Got}
 use Rattle.xc_data.specs.declared.call.LateCall.{LateCall}
 use Rattle.xc_data.specs.declared.call.LateEnd.{LateEnd}
 use Rattle.xc_data.specs.declared.call.LateAnswer.{LateAnswer}
 use Rattle.xc_data.specs.declared.call.LateAnswer.TheVariants as late_answer
 use Rattle.xc_data.specs.declared.undo.Undo.{Undo}
+use Rattle.xc_data.specs.declared.private.Place.{Place}
+use Rattle.xc_data.specs.declared.private.Place.TheVariants.{Pipe, Pair}
 use Rattle.xc_data.specs.declared.private.Private.{Private}
-use Rattle.xc_world.specs.World.{World}
+use Rattle.xc_data.specs.Private.{place_of}
+use Rattle.xc_world.specs.World.{World, pipe_of, pair_of, with_pipe, with_pair, waiting, with_waiting}
 use Rattle.xc_world.specs.Act.{act}
+use Rattle.xc_world.specs.Act.Step.{Stepped}
 use Rattle.xc_world.specs.Late.{kept_call, late}
 use Rattle.xc_world.specs.Fits.{fits, late_fits, answer_of, late_answer_of}
-use Rattle.xc_world.specs.Touch.{touch, holding}
 use Rattle.xc_world.specs.Trail.{recorded}
+use Rattle.xc_data.specs.Claims.{held_of}
+use Rattle.xc_world.specs.Modes.{claims_of}
+use Rattle.xc_data.specs.declared.claim.Claim.{Claim}
+use Rattle.xc_data.specs.declared.call.Asked.{Asked}
+use Rattle.xc_data.specs.declared.entry.KeptItem.{KeptItem}
+use Rattle.xc_data.specs.declared.entry.KeptItem.TheVariants.{Bytes, Message}
 
--- a call and what it met at the host
-abbrev pub Asked : Type 0
-Asked = Call × Answer
+-- ---- what a call takes out of a pipe or a pair
+abbrev pub bytes_taken : Place → List ℕ → List KeptItem
+bytes_taken (Pipe num) bytes = if length bytes == 0 then [] else Bytes num bytes ∷ []
+bytes_taken _ bytes = []
 
--- where a body ends, and what it gave on the way: replies, late calls, undo records, touched objects
+abbrev pub message_taken : Place → List ℕ → List KeptItem
+message_taken (Pair num side) bytes = Message num side bytes ∷ []
+message_taken _ bytes = []
+
+-- with its reply
+abbrev pub taken_by : Call → Private → Reply → List KeptItem
+taken_by (XReadPipe h n) me (Got bytes) = bytes_taken (place_of me.places h) bytes
+taken_by (XRecvmsg h) me (Got bytes) = message_taken (place_of me.places h) bytes
+taken_by _ me _ = []
+
+-- ---- the same given back, in front of what is there now
+abbrev pub gives : World → KeptItem → World
+gives w (Bytes num bytes) = with_pipe w num (record (pipe_of w num) { held = bytes ++ (pipe_of w num).held })
+gives w (Message num side bytes) = with_pair w num (with_waiting (pair_of w num) side (bytes ∷ waiting (pair_of w num) side))
+
+-- the newest (the last) first
+abbrev pub given_back : World → List KeptItem → World
+given_back w [] = w
+given_back w (t ∷ ts) = gives (given_back w ts) t
+
+-- ---- the body
+-- where a body stands, and what it gave on the way
 pub record Ran : Type 0 where
   pub world : World
   pub me : Private
   pub replies : List Reply
   pub late : List LateCall
   pub trail : List Undo
-  pub touched : List Object
+  pub taken : List KeptItem
+  pub touched : List Claim
 
--- a body of no calls
-abbrev pub rests : World → Private → Ran
-rests w me = record { world = w; me = me; replies = []; late = []; trail = []; touched = [] }
+abbrev pub begins : World → Private → Ran
+begins w me = record { world = w; me = me; replies = []; late = []; trail = []; taken = []; touched = [] }
 
--- a body behind one call
-abbrev pub behind : World → Private → ℕ → Call → Reply → Ran → Ran
-behind w me tx call reply ran =
-    record ran {
-      replies = reply ∷ ran.replies;
-      late = kept_call call me reply ++ ran.late;
-      trail = recorded w me tx call reply ++ ran.trail;
-      touched = touch call me (length w.words) ++ ran.touched;
+-- one call more, which gave this
+abbrev pub stepped : ℕ → Ran → Call → Stepped → Ran
+stepped tx ran call s =
+    record {
+      world = s.world;
+      me = s.me;
+      replies = ran.replies ++ s.reply ∷ [];
+      late = ran.late ++ kept_call call ran.me s.reply;
+      trail = ran.trail ++ recorded ran.world ran.me tx call s.reply;
+      taken = ran.taken ++ taken_by call ran.me s.reply;
+      touched = ran.touched ++ claims_of call ran.me (length ran.world.words);
     }
 
+abbrev pub step : ℕ → Ran → Asked → Ran
+step tx ran asked = stepped tx ran asked.call (act ran.world ran.me tx asked.call asked.answer)
+
 -- the calls one after another
+abbrev pub goes_on : ℕ → Ran → List Asked → Ran
+goes_on tx ran asked = fold (step tx) ran asked
+
 abbrev pub body : World → Private → ℕ → List Asked → Ran
-body w me tx [] = rests w me
-body w me tx ((call, answer) ∷ asked) =
-    let s = act w me tx call answer in
-    behind w me tx call s.reply (body s.world s.me tx asked)
+body w me tx asked = goes_on tx (begins w me) asked
 
 -- each answer fits its call where it is made
 abbrev pub body_fits : World → Private → ℕ → List Asked → Bool
 body_fits w me tx [] = true
-body_fits w me tx ((call, answer) ∷ asked) =
-    let s = act w me tx call answer in
-    fits w me tx call answer && body_fits s.world s.me tx asked
+body_fits w me tx (c ∷ asked) =
+    let s = act w me tx c.call c.answer in
+    fits w me tx c.call c.answer && body_fits s.world s.me tx asked
 
--- the objects that a body holds at its end
-abbrev pub held_by : World → Private → ℕ → List Asked → List Object
-held_by w me tx asked = holding [] (body w me tx asked).touched
+-- the claims that a body holds at its end
+abbrev pub held_by : World → Private → ℕ → List Asked → List Claim
+held_by w me tx asked = held_of (body w me tx asked).touched
 
 -- ---- the late calls, one after another
 pub record Finished : Type 0 where
@@ -82,8 +120,8 @@ lates_fit w ((call, answer) ∷ rest) = late_fits w call answer && lates_fit (la
 -- ---- the answers that are read off an entry: fine where it has none
 abbrev pub asked_of : List Call → List Reply → List Asked
 asked_of [] replies = []
-asked_of (call ∷ calls) [] = (call, answer.Fine) ∷ asked_of calls []
-asked_of (call ∷ calls) (reply ∷ replies) = (call, answer_of reply) ∷ asked_of calls replies
+asked_of (call ∷ calls) [] = record { call = call; answer = answer.Fine } ∷ asked_of calls []
+asked_of (call ∷ calls) (reply ∷ replies) = record { call = call; answer = answer_of reply } ∷ asked_of calls replies
 
 abbrev pub late_asked_of : List LateCall → List LateEnd → List (LateCall × LateAnswer)
 late_asked_of [] ends = []
@@ -99,3 +137,8 @@ abbrev pub run : World → Private → ℕ → List Asked → List LateEnd → R
 run w me tx asked ends =
     let ran = body w me tx asked in
     record { body = ran; late = lates ran.world (late_asked_of ran.late ends) }
+
+abbrev pub run_fits : World → Private → ℕ → List Asked → List LateEnd → Bool
+run_fits w me tx asked ends =
+    let ran = body w me tx asked in
+    body_fits w me tx asked && lates_fit ran.world (late_asked_of ran.late ends)

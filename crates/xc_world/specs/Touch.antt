@@ -1,10 +1,8 @@
--- The objects that a call touches, and those that a body holds.
-use Rattle.std.specs.Prelude.{ℕ, Bool, List, [], ◌∷◌, ◌++◌, nat_eq, if◌then◌else◌}
-use Rattle.std.specs.List.{list_any}
+-- The objects that a call touches, and those that it makes.
+use Rattle.std.specs.Prelude.{ℕ, List, [], ◌∷◌, nat_eq, if◌then◌else◌}
 use Rattle.std.specs.Cmp.Lexicographic.{pointwise}
 use Rattle.xc_data.specs.declared.object.Object.{Object}
 use Rattle.xc_data.specs.declared.object.Object.TheVariants as object
-use Rattle.xc_data.specs.contracts.object.ObjectPartialEq.TheImpl as same_object
 use Rattle.xc_data.specs.declared.call.Call.{Call}
 use Rattle.xc_data.specs.declared.call.Call.TheVariants as call
 use Rattle.xc_data.specs.declared.private.Place.{Place}
@@ -13,9 +11,6 @@ use Rattle.xc_data.specs.declared.private.Private.{Private}
 use Rattle.xc_data.specs.Private.{place_of}
 use Rattle.xc_world.specs.Checks.{is_refused}
 use Rattle.xc_world.specs.Act.Names.{next_num}
-
-abbrev pub is_object : Object → Object → Bool
-is_object = same_object.ghosts.eq
 
 -- what a handle holds
 abbrev pub object_at : Place → List Object
@@ -58,11 +53,3 @@ made_by (call.XCreate name) me tx = object.File (next_num me tx) ∷ []
 made_by call.XPipe me tx = object.Pipe (next_num me tx) ∷ []
 made_by call.XPair me tx = object.Pair (next_num me tx) ∷ []
 made_by _ me tx = []
-
--- ---- held objects: each once, where it was first touched
-abbrev pub holding_one : List Object → Object → List Object
-holding_one held o = if list_any (is_object o) held then held else held ++ o ∷ []
-
-abbrev pub holding : List Object → List Object → List Object
-holding held [] = held
-holding held (o ∷ objects) = holding (holding_one held o) objects

@@ -5,9 +5,10 @@ ghost use Rattle.xc_data.specs.declared.undo.Undo.{Undo};
 ghost use Rattle.xc_data.specs.declared.undo.UndoEnd.{UndoEnd};
 ghost use Rattle.xc_data.specs.declared.private.Private.{Private};
 ghost use Rattle.xc_world.specs.World.{World};
+ghost use Rattle.xc_data.specs.declared.call.Asked.{Asked};
 ghost use Rattle.xc_world.specs.Act.{act};
 ghost use Rattle.xc_world.specs.Sound.{IsSound};
-ghost use Rattle.xc_world.specs.Run.{Asked, body, body_fits};
+ghost use Rattle.xc_world.specs.Run.{body, body_fits, given_back};
 ghost use Rattle.xc_world.specs.Trail.{recorded};
 ghost use Rattle.xc_world.specs.Ends.{Ending, blocker, IsLegalEnd, remains, with_remains};
 ghost use Rattle.xc_world.specs.Effects.{whole, takes_data, only_overwrites, AreMadeIn, undone_to, IsCovered};
@@ -19,15 +20,16 @@ pub fn a_call_has_the_effects_of_its_records()
         → (act w me tx call answer).world ≡ record (with_remains w (whole (recorded w me tx call (act w me tx call answer).reply))) { words = (act w me tx call answer).world.words } }
 {}
 
-/// The same of a body none of whose calls does.
+/// Outside the words, a body's world with all that it took given back is its begin with the effects
+/// of its records.
 pub fn a_body_has_the_effects_of_its_records()
-    ensures { (w : World) (me : Private) (tx : ℕ) (asked : List Asked) → All (λ c. takes_data c.0 ≡ false) asked
-        → (body w me tx asked).world ≡ record (with_remains w (whole (body w me tx asked).trail)) { words = (body w me tx asked).world.words } }
+    ensures { (w : World) (me : Private) (tx : ℕ) (asked : List Asked) → IsSound w me tx → IsTrue (body_fits w me tx asked)
+        → given_back (body w me tx asked).world (body w me tx asked).taken ≡ record (with_remains w (whole (body w me tx asked).trail)) { words = (body w me tx asked).world.words } }
 {}
 
 /// A body that leaves no record but of overwrites: each fits the file as the ones before it left it.
 pub fn an_overwriting_body_leaves_a_trail()
-    ensures { (w : World) (me : Private) (tx : ℕ) (asked : List Asked) → IsSound w me tx → IsTrue (body_fits w me tx asked) → All (λ c. only_overwrites c.0 ≡ true) asked
+    ensures { (w : World) (me : Private) (tx : ℕ) (asked : List Asked) → IsSound w me tx → IsTrue (body_fits w me tx asked) → All (λ c. only_overwrites c.call ≡ true) asked
         → AreMadeIn w (body w me tx asked).trail }
 {}
 

@@ -13,6 +13,7 @@ pub mod laws;
 mod run;
 mod touch;
 pub mod undoing;
+pub mod whole;
 mod world;
 
 pub use handles::opening_private;

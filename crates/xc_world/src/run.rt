@@ -7,7 +7,7 @@ ghost use Rattle.xc_world.specs.Run.{body, body_fits};
 
 use crate::{World, late_call};
 use std::alloc::Global;
-use xc_data::{Answer, Call, Items, LateCall, NoMemory, Private, Reply, ReplyList};
+use xc_data::{Asked, Items, LateCall, NoMemory, Private, Reply, ReplyList};
 
 /// The replies of a body's calls, and its late calls, both in the order of the calls.
 #[derive(Drop)]
@@ -35,18 +35,18 @@ impl Replied {
         world: &mut World,
         me: &mut Private,
         tx: u32,
-        asked: &(Call, Answer),
+        asked: &Asked,
     ) -> Result<(), NoMemory>
         requires sound { IsSound world.old me.old tx }
-        requires fits { IsTrue (fits world.old me.old tx asked.now.0 asked.now.1) }
+        requires fits { IsTrue (fits world.old me.old tx asked.now.call asked.now.answer) }
         ensures sound { OnOk result (IsSound world.new me.new tx) }
-        ensures world { OnOk result (world.new ≡ (act world.old me.old tx asked.now.0 asked.now.1).world) }
-        ensures me { OnOk result (me.new ≡ (act world.old me.old tx asked.now.0 asked.now.1).me) }
-        ensures replies { OnOk result (self.new.replies ≡ self.old.replies ++ (act world.old me.old tx asked.now.0 asked.now.1).reply ∷ []) }
-        ensures late { OnOk result (self.new.late ≡ self.old.late ++ kept_call asked.now.0 me.old (act world.old me.old tx asked.now.0 asked.now.1).reply) }
+        ensures world { OnOk result (world.new ≡ (act world.old me.old tx asked.now.call asked.now.answer).world) }
+        ensures me { OnOk result (me.new ≡ (act world.old me.old tx asked.now.call asked.now.answer).me) }
+        ensures replies { OnOk result (self.new.replies ≡ self.old.replies ++ (act world.old me.old tx asked.now.call asked.now.answer).reply ∷ []) }
+        ensures late { OnOk result (self.new.late ≡ self.old.late ++ kept_call asked.now.call me.old (act world.old me.old tx asked.now.call asked.now.answer).reply) }
     {
-        let late = late_call(&asked.0, me)?;
-        let reply = world.act(me, tx, &asked.0, asked.1)?;
+        let late = late_call(&asked.call, me)?;
+        let reply = world.act(me, tx, &asked.call, asked.answer)?;
         self.take(reply, late)
     }
 }
@@ -57,7 +57,7 @@ pub fn run_body(
     world: &mut World,
     me: &mut Private,
     tx: u32,
-    asked: &[(Call, Answer)],
+    asked: &[Asked],
 ) -> Result<Replied, NoMemory>
     requires sound { IsSound world.old me.old tx }
     requires fits { IsTrue (body_fits world.old me.old tx asked.now) }

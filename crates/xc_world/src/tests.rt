@@ -6,7 +6,7 @@ ghost use Rattle.xc_data.specs.Limits.{KeepsLimits, IsOpenedFit};
 use crate::{World, late_call, opening_private, run_body};
 use std::alloc::Global;
 use xc_data::{
-    Answer, Call, Chunk, Ident, Items, LateAnswer, LateCall, LateEnd, Name, NoMemory, Opened,
+    Answer, Asked, Call, Chunk, Ident, Items, LateAnswer, LateCall, LateEnd, Name, NoMemory, Opened,
     Private, Prologue, Reply, Script0,
 };
 
@@ -22,7 +22,7 @@ struct Transaction {
 // A body that is run whole, its replies, and how its late calls end.
 #[derive(Drop)]
 struct Whole {
-    asked: Vec<(Call, Answer)>,
+    asked: Vec<Asked>,
     replies: Vec<Reply>,
     ends: Vec<LateEnd>,
 }
@@ -173,11 +173,11 @@ fn is_fine(answer: Answer) -> bool
 }
 
 // The host does its part in each call.
-fn are_fine(asked: &[(Call, Answer)]) -> bool
-    ensures { IsTrue result → All (λ c. c.1 ≡ Answer.Fine) asked.now }
+fn are_fine(asked: &[Asked]) -> bool
+    ensures { IsTrue result → All (λ c. c.answer ≡ Answer.Fine) asked.now }
 {
     for call in asked {
-        if !is_fine(call.1) {
+        if !is_fine(call.answer) {
             return false;
         }
     }
@@ -457,8 +457,15 @@ fn seventeen_pipes(alloc: Global) -> Result<Row, NoMemory> {
     })
 }
 
+fn fine(call: Call) -> Asked {
+    Asked {
+        call,
+        answer: Answer::Fine,
+    }
+}
+
 // Calls on a file, a pipe and a word, and an unlink at the end.
-fn asked(alloc: Global) -> Result<Vec<(Call, Answer)>, NoMemory> {
+fn asked(alloc: Global) -> Result<Vec<Asked>, NoMemory> {
     let append = Call::XWriteSeq {
         h: 1,
         bytes: Chunk::new(alloc, b"!")?,
@@ -468,14 +475,14 @@ fn asked(alloc: Global) -> Result<Vec<(Call, Answer)>, NoMemory> {
         slot: None,
     };
     Ok(vec![in alloc;
-        (open_a()?, Answer::Fine),
-        (overwrite(alloc, 1, b"HE")?, Answer::Fine),
-        (Call::XReadPipe { h: 0, n: 2 }, Answer::Fine),
-        (append, Answer::Fine),
-        (Call::Store { at: 3, value: 7 }, Answer::Fine),
-        (Call::XSeek { h: 1, to: 4 }, Answer::Fine),
-        (Call::XRead { h: 1, n: 9 }, Answer::Fine),
-        (unlink, Answer::Fine),
+        fine(open_a()?),
+        fine(overwrite(alloc, 1, b"HE")?),
+        fine(Call::XReadPipe { h: 0, n: 2 }),
+        fine(append),
+        fine(Call::Store { at: 3, value: 7 }),
+        fine(Call::XSeek { h: 1, to: 4 }),
+        fine(Call::XRead { h: 1, n: 9 }),
+        fine(unlink),
     ]?)
 }
 

@@ -1,8 +1,9 @@
 ghost use Rattle.std.specs.Prelude.{ℕ, List, IsTrue};
 ghost use Rattle.xc_data.specs.declared.private.Private.{Private};
 ghost use Rattle.xc_world.specs.World.{World};
+ghost use Rattle.xc_data.specs.declared.call.Asked.{Asked};
 ghost use Rattle.xc_world.specs.Sound.{IsSound};
-ghost use Rattle.xc_world.specs.Run.{Asked, body, body_fits};
+ghost use Rattle.xc_world.specs.Run.{body, body_fits};
 ghost use Rattle.xc_world.specs.Trail.{all_undone};
 ghost use Rattle.xc_world.specs.Undoing.{BroughtBack};
 

@@ -1,5 +1,5 @@
-use Rattle.xc_world.proofs.EffectsBody.{body-leads}
+use Rattle.xc_world.proofs.Taken.{body_returns}
 use Rattle.xc_world.proofs.effects.a_body_has_the_effects_of_its_records.Goals as goal
 
 pub returns : goal.returns
-returns c = body-leads
+returns c = body_returns

@@ -1,9 +1,11 @@
-use Rattle.std.proofs.Common.{◌≡◌, ◌++◌, ◌∷◌, [], ◌+◌, drop, ap, sym, ◌∙◌, append_assoc}
+use Rattle.std.proofs.Common.{◌++◌, ◌∷◌, [], ◌+◌, IsTrue, take, drop, ap, ap₂, sym, ◌∙◌, subst}
 use Rattle.xc_world.specs.Act.{act}
+use Rattle.xc_world.specs.Act.Step.{Stepped}
 use Rattle.xc_world.specs.Fits.{fits}
 use Rattle.xc_world.specs.Late.{kept_call}
-use Rattle.xc_world.specs.Run.{Ran, body}
-use Rattle.xc_world.proofs.MachineRun.{left-cons, body-step, fits-step, behind_test}
+use Rattle.xc_world.proofs.MachineRun.{left-cons, behind_test}
+use Rattle.xc_world.specs.Run.{Ran, body, body_fits}
+use Rattle.xc_world.proofs.Joined.{body_more}
 use Rattle.xc_world.proofs.run.run_body.Goals as goal
 
 pub loop-call-preserved : goal.loop-call-preserved
@@ -11,21 +13,21 @@ loop-call-preserved c =
     let asked = c.args.asked.now in
     let i = c.loop-call.call-index in
     let item = c.call-item.result in
+    let before = c.loop-call.invariant in
     let gave = c.in_ok-take_call.ensures in
-    let left : drop i asked ≡ item ∷ drop (i + 1) asked = left-cons asked i item c.loop-call-test.true c.call-item.is in
-    let step = body-step c.loop-call.world c.take_call.new.world c.loop-call.me c.take_call.new.me c.args.tx (drop i asked) (drop (i + 1) asked) item left gave.world gave.me in
-    let fit = fits-step c.loop-call.world c.take_call.new.world c.loop-call.me c.take_call.new.me c.args.tx (drop i asked) (drop (i + 1) asked) item left gave.world gave.me in
-    let rest = body c.take_call.new.world c.take_call.new.me c.args.tx (drop (i + 1) asked) in
-    let s = act c.loop-call.world c.loop-call.me c.args.tx item.0 item.1 in
+    let ran = body c.args.world.now c.args.me.now c.args.tx (take i asked) in
+    let more = sym (body_more c.args.world.now c.args.me.now c.args.tx asked i item c.loop-call-test.true c.call-item.is) in
+    let same = ap₂ (λ w m. act w m c.args.tx item.call item.answer) before.world before.me in
+    let s = act c.loop-call.world c.loop-call.me c.args.tx item.call item.answer in
+    let rest = drop (i + 1) asked in
+    let fit = ap (body_fits c.loop-call.world c.loop-call.me c.args.tx) (sym (left-cons asked i item c.loop-call-test.true c.call-item.is)) ∙ before.fits in
     record {
       sound = gave.sound;
-      fits = behind_test (fits c.loop-call.world c.loop-call.me c.args.tx item.0 item.1) _ (sym fit ∙ c.loop-call.invariant.fits);
-      world = ap (λ (r : Ran). r.world) (sym step) ∙ c.loop-call.invariant.world;
-      me = ap (λ (r : Ran). r.me) (sym step) ∙ c.loop-call.invariant.me;
-      replies =
-          ap (λ xs. xs ++ rest.replies) gave.replies ∙ append_assoc c.loop-call.replied.replies (s.reply ∷ []) rest.replies
-          ∙ ap (λ (r : Ran). c.loop-call.replied.replies ++ r.replies) (sym step) ∙ c.loop-call.invariant.replies;
-      late =
-          ap (λ xs. xs ++ rest.late) gave.late ∙ append_assoc c.loop-call.replied.late (kept_call item.0 c.loop-call.me s.reply) rest.late
-          ∙ ap (λ (r : Ran). c.loop-call.replied.late ++ r.late) (sym step) ∙ c.loop-call.invariant.late;
+      fits =
+          subst (λ w. IsTrue (body_fits w c.take_call.new.me c.args.tx rest)) (sym gave.world)
+          (subst (λ m. IsTrue (body_fits s.world m c.args.tx rest)) (sym gave.me) (behind_test (fits c.loop-call.world c.loop-call.me c.args.tx item.call item.answer) _ fit));
+      world = gave.world ∙ ap (λ (s : Stepped). s.world) same ∙ ap (λ (r : Ran). r.world) more;
+      me = gave.me ∙ ap (λ (s : Stepped). s.me) same ∙ ap (λ (r : Ran). r.me) more;
+      replies = gave.replies ∙ ap₂ (λ rs (s : Stepped). rs ++ s.reply ∷ []) before.replies same ∙ ap (λ (r : Ran). r.replies) more;
+      late = gave.late ∙ ap₂ (λ ls k. ls ++ k) before.late (ap₂ (λ m (s : Stepped). kept_call item.call m s.reply) before.me same) ∙ ap (λ (r : Ran). r.late) more;
     }

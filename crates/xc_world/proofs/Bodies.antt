@@ -1,0 +1,216 @@
+-- A whole body: what it depends on and changes, by induction from one call.
+use Rattle.std.proofs.Common.{◌≡◌, inl, inr, ℕ, ◌≤◌, arith, ◌&&◌, List, [], ◌∷◌, ◌++◌, length, ap, ap₂, sym, ◌∙◌, subst, refl}
+use Rattle.std.specs.Prelude.{All, Contains}
+use Rattle.std.specs.FinMap as map
+use Rattle.std.proofs.lemmas.List.{map-append}
+use Rattle.std.proofs.lemmas.List.Elements.{All-contains, All-weaker, All-contains_itself, filter_map-append, Contains-append_left, Contains-append_right, Contains-append_cases}
+use Rattle.xc_data.specs.declared.object.Object.{Object}
+use Rattle.xc_data.specs.declared.object.Object.TheVariants as object
+use Rattle.xc_data.specs.declared.private.Private.{Private}
+use Rattle.xc_world.specs.World.{World}
+use Rattle.xc_world.specs.Act.{act}
+use Rattle.xc_world.specs.Late.{kept_call}
+use Rattle.xc_world.specs.Fits.{fits}
+use Rattle.xc_world.specs.Sound.{IsFree, IsSound}
+use Rattle.xc_world.specs.Touch.{touch, made_by}
+use Rattle.xc_world.specs.Trail.{recorded}
+use Rattle.xc_world.specs.Laws.{AgreeAt, ChangesOnly, ActsAlike}
+use Rattle.xc_world.proofs.Local.{act_alike}
+use Rattle.xc_world.proofs.LocalParts.{agree_itself}
+use Rattle.xc_data.specs.declared.claim.Claim.{Claim}
+use Rattle.xc_data.specs.declared.call.Asked.{Asked}
+use Rattle.xc_data.specs.Claims.{objects, owned, owned_object}
+use Rattle.xc_world.specs.Modes.{mode_of, claims_of}
+use Rattle.xc_world.specs.Run.{Ran, begins, taken_by, step, goes_on, body, body_fits}
+use Rattle.xc_world.specs.Own.{IsNumbered, Sees, Owns, AgreeOn, KeepsBut, GaveAlike, RanAlike}
+use Rattle.xc_world.proofs.Objects.{agree_on}
+use Rattle.xc_world.proofs.Calls.{objects_of_claims, made_numbered, recorded_alike, fits_alike, agreed, still_agree, keeps_itself, act_keeps}
+
+-- ---- changes one after another
+pub keeps_on : (own : Object → Type 0) (w v x : World) → KeepsBut own w v → KeepsBut own v x → KeepsBut own w x
+keeps_on own w v x first later =
+    record {
+      others = λ o lacks. agree_on w v x o (first.others o lacks) (later.others o lacks);
+      count = later.count ∙ first.count;
+      blocks = later.blocks ∙ first.blocks;
+    }
+
+pub keeps_more : (own more : Object → Type 0) (w v : World) → ((o : Object) → own o → more o) → KeepsBut own w v → KeepsBut more w v
+keeps_more own more w v within keeps = record { others = λ o lacks. keeps.others o (λ has. lacks (within o has)); count = keeps.count; blocks = keeps.blocks }
+
+-- ---- claims one behind another
+pub objects_append : (a b : List Claim) → objects (a ++ b) ≡ objects a ++ objects b
+objects_append a b = map-append (λ (c : Claim). c.object) a b
+
+pub owned_append : (a b : List Claim) → owned (a ++ b) ≡ owned a ++ owned b
+owned_append a b = filter_map-append owned_object a b
+
+pub in_front : (a b : List Claim) (o : Object) → Contains (objects a) o → Contains (objects (a ++ b)) o
+in_front a b o at = subst (λ l. Contains l o) (sym (objects_append a b)) (Contains-append_left (objects a) (objects b) o at)
+
+pub behind : (a b : List Claim) (o : Object) → Contains (objects b) o → Contains (objects (a ++ b)) o
+behind a b o at = subst (λ l. Contains l o) (sym (objects_append a b)) (Contains-append_right (objects a) (objects b) o at)
+
+pub owned_behind : (a b : List Claim) (o : Object) → Contains (owned b) o → Contains (owned (a ++ b)) o
+owned_behind a b o at = subst (λ l. Contains l o) (sym (owned_append a b)) (Contains-append_right (owned a) (owned b) o at)
+
+pub owns_in_front : (tx : ℕ) (a b : List Claim) (o : Object) → Owns tx a o → Owns tx (a ++ b) o
+owns_in_front tx a b o (inl at) = inl (subst (λ l. Contains l o) (sym (owned_append a b)) (Contains-append_left (owned a) (owned b) o at))
+owns_in_front tx a b o (inr numbered) = inr numbered
+
+-- what was touched stays touched
+pub keeps_touched : (tx : ℕ) (ran : Ran) (asked : List Asked) (o : Object) → Contains (objects ran.touched) o → Contains (objects (goes_on tx ran asked).touched) o
+keeps_touched tx ran [] o at = at
+keeps_touched tx ran (c ∷ asked) o at =
+    keeps_touched tx (step tx ran c) asked o (in_front ran.touched (claims_of c.call ran.me (length ran.world.words)) o at)
+
+-- ---- one call of two bodies
+-- two bodies gave the same so far, in worlds that agree on what P tells
+pub record Alike (P : Object → Type 0) (tx : ℕ) (w v : World) (r q : Ran) : Type 0 where
+  pub gave : GaveAlike r q
+  pub agree : AgreeOn P r.world q.world
+  pub count : length r.world.words ≡ length q.world.words
+  pub left : KeepsBut (Owns tx r.touched) w r.world
+  pub right : KeepsBut (Owns tx q.touched) v q.world
+
+-- the objects of a call are among those of P
+pub record Within (P : Object → Type 0) (tx : ℕ) (r : Ran) (c : Asked) : Type 0 where
+  pub claimed : (o : Object) → Contains (objects (claims_of c.call r.me (length r.world.words))) o → P o
+  pub numbered : (o : Object) → IsNumbered tx o → P o
+
+module _ (P : Object → Type 0) (tx : ℕ) (r q : Ran) (c : Asked) where
+  abbrev listed : List Object
+  listed = touch c.call r.me (length r.world.words) ++ made_by c.call r.me tx
+
+  listed_within : Within P tx r c → (o : Object) → Contains listed o → P o
+  listed_within within o at = elim (Contains-append_cases (touch c.call r.me (length r.world.words)) (made_by c.call r.me tx) o at) [
+    | inl touched ↦ within.claimed o (subst (λ l. Contains l o) (sym (objects_of_claims (mode_of c.call) (touch c.call r.me (length r.world.words)))) touched)
+    | inr made ↦ within.numbered o (made_numbered r.me tx c.call o made)
+  ]
+
+  pub call_agreed : AgreeOn P r.world q.world → Within P tx r c → All (AgreeAt r.world q.world) listed
+  call_agreed agree within = agreed P r.world q.world listed agree (listed_within within)
+
+first_part : {X : Type 0} (P : X → Type 0) (xs ys : List X) → All P (xs ++ ys) → All P xs
+first_part P xs ys all = All-weaker (Contains xs) P (λ x at. All-contains P (xs ++ ys) x all (Contains-append_left xs ys x at)) xs (All-contains_itself xs)
+
+-- what one call more owns
+step_keeps : (tx : ℕ) (w : World) (r : Ran) (c : Asked) → KeepsBut (Owns tx r.touched) w r.world
+    → KeepsBut (Owns tx (step tx r c).touched) r.world (step tx r c).world → KeepsBut (Owns tx (step tx r c).touched) w (step tx r c).world
+step_keeps tx w r c before now =
+    keeps_on _ w r.world (step tx r c).world
+    (keeps_more (Owns tx r.touched) (Owns tx (step tx r c).touched) w r.world (owns_in_front tx r.touched (claims_of c.call r.me (length r.world.words))) before) now
+
+pub step_alike : (P : Object → Type 0) (tx : ℕ) (w v : World) (r q : Ran) (c : Asked) → Alike P tx w v r q → Within P tx r c → Alike P tx w v (step tx r c) (step tx q c)
+step_alike P tx w v r q c so within =
+    let words = length r.world.words in
+    let both = call_agreed P tx r q c so.agree within in
+    let s = act r.world r.me tx c.call c.answer in
+    let t = act q.world q.me tx c.call c.answer in
+    let L = touch c.call r.me words ++ made_by c.call r.me tx in
+    let acts : ActsAlike L r.world q.world s t =
+    subst (λ m. ActsAlike L r.world q.world s (act q.world m tx c.call c.answer)) so.gave.me (act_alike r.world q.world r.me tx c.call c.answer so.count both) in
+    let same_claims : claims_of c.call r.me words ≡ claims_of c.call q.me (length q.world.words) = ap₂ (claims_of c.call) so.gave.me so.count in
+    let record_there : recorded r.world r.me tx c.call s.reply ≡ recorded q.world q.me tx c.call t.reply =
+    recorded_alike r.world q.world r.me tx c.call c.answer (first_part (AgreeAt r.world q.world) (touch c.call r.me words) (made_by c.call r.me tx) both)
+    ∙ ap₂ (λ m a. recorded q.world m tx c.call a) so.gave.me acts.reply in
+    let here = act_keeps (Owns tx (step tx r c).touched) r.world r.me tx c.call c.answer
+    (λ o at. inl (owned_behind r.touched (claims_of c.call r.me words) o at)) (λ o numbered. inr numbered) acts.worlds.left in
+    let there = act_keeps (Owns tx (step tx q c).touched) q.world q.me tx c.call c.answer
+    (λ o at. inl (owned_behind q.touched (claims_of c.call q.me (length q.world.words)) o at)) (λ o numbered. inr numbered)
+    (subst (λ n. ChangesOnly (touch c.call q.me n ++ made_by c.call q.me tx) q.world t.world) so.count (subst (λ m. ChangesOnly (touch c.call m words ++ made_by c.call m tx) q.world t.world) so.gave.me acts.worlds.right)) in
+    record {
+      gave = record {
+        me = acts.me;
+        replies = ap₂ (λ l a. l ++ a ∷ []) so.gave.replies acts.reply;
+        late = ap₂ (λ l k. l ++ k) so.gave.late (ap₂ (kept_call c.call) so.gave.me acts.reply);
+        trail = ap₂ (λ l k. l ++ k) so.gave.trail record_there;
+        taken = ap₂ (λ l k. l ++ k) so.gave.taken (ap₂ (taken_by c.call) so.gave.me acts.reply);
+        touched = ap₂ (λ l k. l ++ k) so.gave.touched same_claims;
+      };
+      agree = still_agree P r.world q.world s.world t.world L acts.worlds so.agree;
+      count = acts.worlds.left.count ∙ so.count ∙ sym acts.worlds.right.count;
+      left = step_keeps tx w r c so.left here;
+      right = step_keeps tx v q c so.right there;
+    }
+
+-- ---- the whole
+-- the next call's objects are among those of the body
+next_within : (P : Object → Type 0) (tx : ℕ) (ran : Ran) (c : Asked) (asked : List Asked) → ((o : Object) → Contains (objects (goes_on tx ran (c ∷ asked)).touched) o → P o)
+    → ((o : Object) → IsNumbered tx o → P o) → Within P tx ran c
+next_within P tx ran c asked touched numbered =
+    record {
+      claimed = λ o at. touched o (keeps_touched tx (step tx ran c) asked o (behind ran.touched (claims_of c.call ran.me (length ran.world.words)) o at));
+      numbered = numbered;
+    }
+
+pub goes_on_alike : (P : Object → Type 0) (tx : ℕ) (w v : World) (r q : Ran) (asked : List Asked) → Alike P tx w v r q
+    → ((o : Object) → Contains (objects (goes_on tx r asked).touched) o → P o) → ((o : Object) → IsNumbered tx o → P o)
+    → Alike P tx w v (goes_on tx r asked) (goes_on tx q asked)
+goes_on_alike P tx w v r q [] so touched numbered = so
+goes_on_alike P tx w v r q (c ∷ asked) so touched numbered =
+    goes_on_alike P tx w v (step tx r c) (step tx q c) asked (step_alike P tx w v r q c so (next_within P tx r c asked touched numbered)) touched numbered
+
+pub on_fits_alike : (P : Object → Type 0) (tx : ℕ) (w v : World) (r q : Ran) (asked : List Asked) → Alike P tx w v r q
+    → ((o : Object) → Contains (objects (goes_on tx r asked).touched) o → P o) → ((o : Object) → IsNumbered tx o → P o)
+    → body_fits r.world r.me tx asked ≡ body_fits q.world q.me tx asked
+on_fits_alike P tx w v r q [] so touched numbered = refl
+on_fits_alike P tx w v r q (c ∷ asked) so touched numbered =
+    let within = next_within P tx r c asked touched numbered in
+    ap₂ (λ x y. x && y)
+    (fits_alike r.world q.world r.me tx c.call c.answer so.count (call_agreed P tx r q c so.agree within) ∙ ap (λ m. fits q.world m tx c.call c.answer) so.gave.me)
+    (on_fits_alike P tx w v (step tx r c) (step tx q c) asked (step_alike P tx w v r q c so within) touched numbered)
+
+-- ---- from the begin
+pub begin_alike : (P : Object → Type 0) (tx : ℕ) (w v : World) (me : Private) → length w.words ≡ length v.words → AgreeOn P w v → Alike P tx w v (begins w me) (begins v me)
+begin_alike P tx w v me count agree =
+    record {
+      gave = record { me = refl; replies = refl; late = refl; trail = refl; taken = refl; touched = refl };
+      agree = agree;
+      count = count;
+      left = keeps_itself _ w;
+      right = keeps_itself _ v;
+    }
+
+-- no object has the transaction's number, so both worlds have the same there
+pub free_agree : (tx : ℕ) (w v : World) → ((k : ℕ) → IsFree w (record { tx = tx; k = k })) → ((k : ℕ) → IsFree v (record { tx = tx; k = k })) → AgreeOn (IsNumbered tx) w v
+free_agree tx w v free empty (object.File num) e = subst (λ t. map.get w.files (record { tx = t; k = num.k }) ≡ map.get v.files (record { tx = t; k = num.k })) (sym e) ((free num.k).file ∙ sym (empty num.k).file)
+free_agree tx w v free empty (object.Pipe num) e = subst (λ t. map.get w.pipes (record { tx = t; k = num.k }) ≡ map.get v.pipes (record { tx = t; k = num.k })) (sym e) ((free num.k).pipe ∙ sym (empty num.k).pipe)
+free_agree tx w v free empty (object.Pair num) e = subst (λ t. map.get w.pairs (record { tx = t; k = num.k }) ≡ map.get v.pairs (record { tx = t; k = num.k })) (sym e) ((free num.k).pair ∙ sym (empty num.k).pair)
+free_agree tx w v free empty (object.Word at) e = absurd e
+free_agree tx w v free empty (object.Name name) e = absurd e
+free_agree tx w v free empty object.Jobs e = absurd e
+
+pub seen_agree : (tx : ℕ) (w v : World) (claims : List Claim) → All (AgreeAt w v) (objects claims) → AgreeOn (IsNumbered tx) w v → AgreeOn (Sees tx claims) w v
+seen_agree tx w v claims touched numbered o (inl at) = All-contains (AgreeAt w v) (objects claims) o touched at
+seen_agree tx w v claims touched numbered o (inr e) = numbered o e
+
+pub body_alike : (w v : World) (me : Private) (tx : ℕ) (asked : List Asked) → length w.words ≡ length v.words
+    → All (AgreeAt w v) (objects (body w me tx asked).touched) → AgreeOn (IsNumbered tx) w v
+    → RanAlike tx w v (body w me tx asked) (body v me tx asked)
+body_alike w v me tx asked count touched numbered =
+    let claims = (body w me tx asked).touched in
+    let P = Sees tx claims in
+    let so = goes_on_alike P tx w v (begins w me) (begins v me) asked (begin_alike P tx w v me count (seen_agree tx w v claims touched numbered)) (λ o at. inl at) (λ o e. inr e) in
+    record { gave = so.gave; agree = so.agree; left = so.left; right = so.right }
+
+pub body_fits_alike : (w v : World) (me : Private) (tx : ℕ) (asked : List Asked) → length w.words ≡ length v.words
+    → All (AgreeAt w v) (objects (body w me tx asked).touched) → AgreeOn (IsNumbered tx) w v
+    → body_fits w me tx asked ≡ body_fits v me tx asked
+body_fits_alike w v me tx asked count touched numbered =
+    let claims = (body w me tx asked).touched in
+    let P = Sees tx claims in
+    on_fits_alike P tx w v (begins w me) (begins v me) asked (begin_alike P tx w v me count (seen_agree tx w v claims touched numbered)) (λ o at. inl at) (λ o e. inr e)
+
+-- what it changes, whatever other world there is
+pub body_keeps : (w : World) (me : Private) (tx : ℕ) (asked : List Asked) → KeepsBut (Owns tx (body w me tx asked).touched) w (body w me tx asked).world
+body_keeps w me tx asked = (body_alike w w me tx asked refl (agreed (λ _. Unit {0}) w w (objects (body w me tx asked).touched) (λ o _. agree_itself w o) (λ _ _. tt)) (λ o _. agree_itself w o)).left
+
+-- ---- from a transaction's begin, where it has made nothing yet
+none_made : (w : World) (me : Private) (tx : ℕ) → IsSound w me tx → me.made ≡ 0 → (k : ℕ) → IsFree w (record { tx = tx; k = k })
+none_made w me tx sound none k = sound.new k (subst (λ n. n ≤ k) (sym none) (omega arith))
+
+pub body_alike_begun : (w v : World) (me : Private) (tx : ℕ) (asked : List Asked) → IsSound w me tx → IsSound v me tx → me.made ≡ 0 → length w.words ≡ length v.words
+    → All (AgreeAt w v) (objects (body w me tx asked).touched) → RanAlike tx w v (body w me tx asked) (body v me tx asked)
+body_alike_begun w v me tx asked here there none count touched =
+    body_alike w v me tx asked count touched (free_agree tx w v (none_made w me tx here none) (none_made v me tx there none))

@@ -1,0 +1,203 @@
+-- What is held of claims: the claimed objects, each once, and exclusively those that were claimed so.
+use Rattle.std.proofs.Common.{◌≡◌, ◌+◌, ◌≤◌, ◌&&◌, ◌||◌, Bool, true, false, cond, Some, None, List, [], ◌∷◌, ◌++◌, ap, ap₂, sym, ◌∙◌, subst, refl, arith}
+use Rattle.std.specs.Prelude.{Contains, map, ◌↔◌, count_by, if◌then◌else◌}
+use Rattle.std.specs.List.{list_any, cons_option}
+use Rattle.std.proofs.lemmas.List.Folds.{list_any-append}
+use Rattle.std.proofs.lemmas.List.Sums.{sum_by-append}
+use Rattle.std.proofs.lemmas.Map.Views.{Contains-from_any}
+use Rattle.xc_data.specs.declared.object.Object.{Object}
+use Rattle.xc_world.specs.Touch as old
+use Rattle.xc_data.specs.Claims.{is_object}
+use Rattle.xc_world.proofs.SoundParts.{chosen_so}
+use Rattle.xc_data.specs.declared.claim.Mode.{Mode}
+use Rattle.xc_data.specs.declared.claim.Mode.TheVariants.{Shared, Exclusive}
+use Rattle.xc_data.specs.declared.claim.Claim.{Claim}
+use Rattle.xc_data.specs.Claims.{is_exclusive, exclusive, objects, owned, stronger, merged, holding_one, holding, held_of, AreOnceAtMost}
+use Rattle.xc_world.proofs.Objects.{same_object, found}
+use Rattle.xc_world.proofs.Bodies.{objects_append, owned_append}
+
+abbrev pub has : List Object → Object → Bool
+has os o = list_any (is_object o) os
+
+-- ---- tests
+or_assoc : (a b c : Bool) → ((a || b) || c) ≡ (a || (b || c))
+or_assoc true b c = refl
+or_assoc false b c = refl
+
+or_none : (a : Bool) → (a || false) ≡ a
+or_none true = refl
+or_none false = refl
+
+or_swap : (a b c d : Bool) → ((a || b) || (c || d)) ≡ ((a || c) || (b || d))
+or_swap true b c d = refl
+or_swap false true true d = refl
+or_swap false true false d = refl
+or_swap false false c d = refl
+
+and_or : (b x y : Bool) → ((b && x) || (b && y)) ≡ (b && (x || y))
+and_or true x y = refl
+and_or false x y = refl
+
+and_true : (a : Bool) → (a && true) ≡ a
+and_true true = refl
+and_true false = refl
+
+and_false : (a : Bool) → (a && false) ≡ false
+and_false true = refl
+and_false false = refl
+
+-- ---- one claim in front
+has_owned_cons : (c : Claim) (cs : List Claim) (o : Object) → has (owned (c ∷ cs)) o ≡ ((exclusive c && is_object o c.object) || has (owned cs) o)
+has_owned_cons c cs o = by_test (exclusive c)
+  where
+    by_test : (b : Bool) → has (cons_option (if b then Some c.object else None) (owned cs)) o ≡ ((b && is_object o c.object) || has (owned cs) o)
+    by_test true = refl
+    by_test false = refl
+
+merged_object : (new h : Claim) → (merged new h).object ≡ h.object
+merged_object new h = chosen_so (λ (c : Claim). c.object ≡ h.object) (is_object new.object h.object) _ _ (λ _. refl) (λ _. refl)
+
+objects_merged : (new : Claim) (held : List Claim) → objects (map (merged new) held) ≡ objects held
+objects_merged new [] = refl
+objects_merged new (h ∷ held) = ap₂ (λ x xs. x ∷ xs) (merged_object new h) (objects_merged new held)
+
+-- the mode of one that is merged
+either_mode : (m n : Mode) (x : Bool) → (is_exclusive (stronger m n) && x) ≡ ((is_exclusive m && x) || (is_exclusive n && x))
+either_mode Exclusive Exclusive true = refl
+either_mode Exclusive Exclusive false = refl
+either_mode Exclusive Shared true = refl
+either_mode Exclusive Shared false = refl
+either_mode Shared n x = refl
+
+merged_owns : (new h : Claim) (o : Object)
+    → (exclusive (merged new h) && is_object o (merged new h).object) ≡ ((exclusive h && is_object o h.object) || ((exclusive new && is_object o new.object) && is_object new.object h.object))
+merged_owns new h o = by_test (is_object new.object h.object) refl
+  where
+    by_test : (b : Bool) → is_object new.object h.object ≡ b
+        → (let c = if b then record h { mode = stronger h.mode new.mode } else h in
+        (exclusive c && is_object o c.object) ≡ ((exclusive h && is_object o h.object) || ((exclusive new && is_object o new.object) && b)))
+    by_test true e =
+        either_mode h.mode new.mode (is_object o h.object)
+        ∙ ap (λ x. (exclusive h && is_object o h.object) || x) (ap (λ p. exclusive new && is_object o p) (sym (same_object new.object h.object e)) ∙ sym (and_true (exclusive new && is_object o new.object)))
+    by_test false e = sym (ap (λ x. (exclusive h && is_object o h.object) || x) (and_false (exclusive new && is_object o new.object)) ∙ or_none (exclusive h && is_object o h.object))
+
+owned_merged : (new : Claim) (held : List Claim) (o : Object)
+    → has (owned (map (merged new) held)) o ≡ (has (owned held) o || ((exclusive new && is_object o new.object) && has (objects held) new.object))
+owned_merged new [] o = sym (and_false (exclusive new && is_object o new.object))
+owned_merged new (h ∷ held) o =
+    let b = exclusive new && is_object o new.object in
+    let p = exclusive h && is_object o h.object in
+    has_owned_cons (merged new h) (map (merged new) held) o
+    ∙ ap₂ (λ x y. x || y) (merged_owns new h o) (owned_merged new held o)
+    ∙ or_swap p (b && is_object new.object h.object) (has (owned held) o) (b && has (objects held) new.object)
+    ∙ ap₂ (λ x y. x || y) (sym (has_owned_cons h held o)) (and_or b (is_object new.object h.object) (has (objects held) new.object))
+
+-- ---- one claim more
+seen_one : (held : List Claim) (new : Claim) (o : Object) → has (objects (holding_one held new)) o ≡ (has (objects held) o || is_object o new.object)
+seen_one held new o = by_test (has (objects held) new.object) refl
+  where
+    by_test : (b : Bool) → has (objects held) new.object ≡ b
+        → has (objects (if b then map (merged new) held else held ++ new ∷ [])) o ≡ (has (objects held) o || is_object o new.object)
+    by_test true e =
+        ap (λ l. has l o) (objects_merged new held) ∙ within (is_object o new.object) refl
+      where
+        within : (x : Bool) → is_object o new.object ≡ x → has (objects held) o ≡ (has (objects held) o || x)
+        within false f = sym (or_none (has (objects held) o))
+        within true f = ap (has (objects held)) (same_object o new.object f) ∙ e ∙ sym (ap (λ y. y || true) (ap (has (objects held)) (same_object o new.object f) ∙ e))
+    by_test false e =
+        ap (λ l. has l o) (objects_append held (new ∷ [])) ∙ list_any-append (is_object o) (objects held) (new.object ∷ [])
+        ∙ ap (λ x. has (objects held) o || x) (or_none (is_object o new.object))
+
+owned_one : (held : List Claim) (new : Claim) (o : Object) → has (owned (holding_one held new)) o ≡ (has (owned held) o || (exclusive new && is_object o new.object))
+owned_one held new o = by_test (has (objects held) new.object) refl
+  where
+    by_test : (b : Bool) → has (objects held) new.object ≡ b
+        → has (owned (if b then map (merged new) held else held ++ new ∷ [])) o ≡ (has (owned held) o || (exclusive new && is_object o new.object))
+    by_test true e =
+        owned_merged new held o ∙ ap (λ x. has (owned held) o || ((exclusive new && is_object o new.object) && x)) e ∙ ap (λ x. has (owned held) o || x) (and_true (exclusive new && is_object o new.object))
+    by_test false e =
+        ap (λ l. has l o) (owned_append held (new ∷ [])) ∙ list_any-append (is_object o) (owned held) (owned (new ∷ []))
+        ∙ ap (λ x. has (owned held) o || x) (has_owned_cons new [] o ∙ or_none (exclusive new && is_object o new.object))
+
+-- ---- all claims
+seen_all : (held claims : List Claim) (o : Object) → has (objects (holding held claims)) o ≡ (has (objects held) o || has (objects claims) o)
+seen_all held [] o = sym (or_none (has (objects held) o))
+seen_all held (c ∷ claims) o =
+    seen_all (holding_one held c) claims o ∙ ap (λ x. x || has (objects claims) o) (seen_one held c o) ∙ or_assoc (has (objects held) o) (is_object o c.object) (has (objects claims) o)
+
+owned_all : (held claims : List Claim) (o : Object) → has (owned (holding held claims)) o ≡ (has (owned held) o || has (owned claims) o)
+owned_all held [] o = sym (or_none (has (owned held) o))
+owned_all held (c ∷ claims) o =
+    owned_all (holding_one held c) claims o ∙ ap (λ x. x || has (owned claims) o) (owned_one held c o)
+    ∙ or_assoc (has (owned held) o) (exclusive c && is_object o c.object) (has (owned claims) o) ∙ ap (λ x. has (owned held) o || x) (sym (has_owned_cons c claims o))
+
+-- two lists that pass the same tests have the same
+same_lists : (a b : List Object) (o : Object) → has a o ≡ has b o → Contains a o → Contains b o
+same_lists a b o e at = Contains-from_any same_object o b (sym e ∙ found a o at)
+
+pub held_seen : (claims : List Claim) (o : Object) → Contains (objects (held_of claims)) o ↔ Contains (objects claims) o
+held_seen claims o = (same_lists (objects (held_of claims)) (objects claims) o (seen_all [] claims o), same_lists (objects claims) (objects (held_of claims)) o (sym (seen_all [] claims o)))
+
+pub held_owned : (claims : List Claim) (o : Object) → Contains (owned (held_of claims)) o ↔ Contains (owned claims) o
+held_owned claims o = (same_lists (owned (held_of claims)) (owned claims) o (owned_all [] claims o), same_lists (owned claims) (owned (held_of claims)) o (sym (owned_all [] claims o)))
+
+-- ---- their order, and each once
+order_one : (held : List Claim) (new : Claim) → objects (holding_one held new) ≡ old.holding_one (objects held) new.object
+order_one held new = by_test (has (objects held) new.object)
+  where
+    by_test : (b : Bool) → objects (if b then map (merged new) held else held ++ new ∷ []) ≡ (if b then objects held else objects held ++ new.object ∷ [])
+    by_test true = objects_merged new held
+    by_test false = objects_append held (new ∷ [])
+
+order_all : (held claims : List Claim) → objects (holding held claims) ≡ old.holding (objects held) (objects claims)
+order_all held [] = refl
+order_all held (c ∷ claims) = order_all (holding_one held c) claims ∙ ap (λ os. old.holding os (objects claims)) (order_one held c)
+
+pub held_order : (claims : List Claim) → objects (held_of claims) ≡ old.holding [] (objects claims)
+held_order claims = order_all [] claims
+
+or_parts : (a b : Bool) → (a || b) ≡ false → (a ≡ false) × (b ≡ false)
+or_parts true b e = cc
+or_parts false b e = (refl, e)
+
+count_none : (o : Object) (os : List Object) → has os o ≡ false → count_by (is_object o) os ≡ 0
+count_none o [] e = refl
+count_none o (x ∷ os) e =
+    let parts = or_parts (is_object o x) (has os o) e in
+    sum_by-append (λ y. cond (is_object o y) 1 0) (x ∷ []) os ∙ ap₂ (λ b n. (0 + cond b 1 0) + n) parts.0 (count_none o os parts.1)
+
+once_one : (held : List Claim) (new : Claim) → AreOnceAtMost (objects held) → AreOnceAtMost (objects (holding_one held new))
+once_one held new once = by_test (has (objects held) new.object) refl
+  where
+    by_test : (b : Bool) → has (objects held) new.object ≡ b → AreOnceAtMost (objects (if b then map (merged new) held else held ++ new ∷ []))
+    by_test true e = subst AreOnceAtMost (sym (objects_merged new held)) once
+    by_test false e = λ o. subst (λ l. count_by (is_object o) l ≤ 1) (sym (objects_append held (new ∷ [])))
+        (subst (λ n. n ≤ 1) (sym (sum_by-append (λ x. cond (is_object o x) 1 0) (objects held) (new.object ∷ []))) (within o (is_object o new.object) refl))
+      where
+        within : (o : Object) (b : Bool) → is_object o new.object ≡ b → count_by (is_object o) (objects held) + count_by (is_object o) (new.object ∷ []) ≤ 1
+        within o true f =
+            let none : count_by (is_object o) (objects held) ≡ 0 = count_none o (objects held) (ap (has (objects held)) (same_object o new.object f) ∙ e) in
+            let one : count_by (is_object o) (new.object ∷ []) ≡ 1 = ap (λ b. 0 + cond b 1 0) f in
+            omega arith
+        within o false f =
+            let few = once o in
+            let none : count_by (is_object o) (new.object ∷ []) ≡ 0 = ap (λ b. 0 + cond b 1 0) f in
+            omega arith
+
+once_all : (held claims : List Claim) → AreOnceAtMost (objects held) → AreOnceAtMost (objects (holding held claims))
+once_all held [] once = once
+once_all held (c ∷ claims) once = once_all (holding_one held c) claims (once_one held c once)
+
+pub held_once : (claims : List Claim) → AreOnceAtMost (objects (held_of claims))
+held_once claims = once_all [] claims (λ o. omega arith)
+
+pub has_object : (o : Object) (held : List Claim) → has (objects held) o ≡ list_any (λ (h : Claim). is_object o h.object) held
+has_object o [] = refl
+has_object o (h ∷ held) = ap (λ b. is_object o h.object || b) (has_object o held)
+
+-- the test as a loop over the claims makes it
+pub held_tested : (held seen : List Claim) (new : Claim) (b r : Bool) → seen ≡ held → r ≡ list_any (λ (h : Claim). is_object new.object h.object) seen → r ≡ b
+    → holding_one held new ≡ (if b then map (merged new) held else held ++ new ∷ [])
+held_tested held seen new b r e f g =
+    ap (λ (x : Bool). if x then map (merged new) held else held ++ new ∷ [])
+    (has_object new.object held ∙ ap (list_any (λ (h : Claim). is_object new.object h.object)) (sym e) ∙ sym f ∙ g)

@@ -1,0 +1,67 @@
+-- Objects: whether a list has one, and worlds that agree at one.
+use Rattle.std.proofs.Common.{◌≡◌, ◌⊎◌, inl, inr, Bool, true, false, List, ap, sym, ◌∙◌, subst, refl, arith}
+use Rattle.std.specs.Prelude.{Contains}
+use Rattle.std.specs.List.{list_any}
+use Rattle.std.specs.Cmp.Lexicographic.{same_text}
+use Rattle.std.proofs.lemmas.Map.Views.{Contains-from_any}
+use Rattle.std.proofs.lemmas.List.Folds.{list_any_at}
+use Rattle.std.proofs.lemmas.Cmp.{nat_list_eq_equiv}
+use Rattle.xc_data.specs.declared.object.Num.{Num}
+use Rattle.xc_data.specs.declared.object.Object.{Object}
+use Rattle.xc_data.specs.declared.object.Object.TheVariants as object
+use Rattle.xc_world.specs.World.{World}
+use Rattle.xc_data.specs.Claims.{is_object}
+use Rattle.xc_world.specs.Laws.{AgreeAt}
+
+same_num : (n m : Num) → is_object (object.File n) (object.File m) ≡ true → n ≡ m
+same_num n m e = grind arith
+
+pub same_object : (a b : Object) → is_object a b ≡ true → a ≡ b
+same_object (object.Word i) (object.Word j) e = grind arith
+same_object (object.Name n) (object.Name m) e = ap object.Name (same_text n m (sym e))
+same_object (object.File n) (object.File m) e = ap object.File (same_num n m e)
+same_object (object.Pipe n) (object.Pipe m) e = ap object.Pipe (same_num n m e)
+same_object (object.Pair n) (object.Pair m) e = ap object.Pair (same_num n m e)
+same_object object.Jobs object.Jobs e = refl
+same_object a b e = cc
+
+itself_num : (n : Num) → is_object (object.File n) (object.File n) ≡ true
+itself_num n = grind arith
+
+itself : (o : Object) → is_object o o ≡ true
+itself (object.Word i) = grind arith
+itself (object.Name n) = nat_list_eq_equiv.refl n
+itself (object.File n) = itself_num n
+itself (object.Pipe n) = itself_num n
+itself (object.Pair n) = itself_num n
+itself object.Jobs = refl
+
+true_not_false : true ≡ false → ⊥
+true_not_false e = cc
+
+pub found : (objects : List Object) (o : Object) → Contains objects o → list_any (is_object o) objects ≡ true
+found objects o at = list_any_at (is_object o) objects at.0 o at.1 (subst (λ x. is_object o x ≡ true) (sym at.2) (itself o))
+
+pub decide : (objects : List Object) (o : Object) → Contains objects o ⊎ (Contains objects o → ⊥)
+decide objects o = by_test (list_any (is_object o) objects) refl
+  where
+    by_test : (b : Bool) → list_any (is_object o) objects ≡ b → Contains objects o ⊎ (Contains objects o → ⊥)
+    by_test true e = inl (Contains-from_any same_object o objects e)
+    by_test false e = inr (λ at. true_not_false (sym (found objects o at) ∙ e))
+
+-- ---- worlds that agree
+pub agree_back : (w v : World) (o : Object) → AgreeAt w v o → AgreeAt v w o
+agree_back w v (object.Word at) e = sym e
+agree_back w v (object.Name name) e = sym e
+agree_back w v (object.File num) e = sym e
+agree_back w v (object.Pipe num) e = sym e
+agree_back w v (object.Pair num) e = sym e
+agree_back w v object.Jobs e = sym e
+
+pub agree_on : (w v x : World) (o : Object) → AgreeAt w v o → AgreeAt v x o → AgreeAt w x o
+agree_on w v x (object.Word at) e f = e ∙ f
+agree_on w v x (object.Name name) e f = e ∙ f
+agree_on w v x (object.File num) e f = e ∙ f
+agree_on w v x (object.Pipe num) e f = e ∙ f
+agree_on w v x (object.Pair num) e f = e ∙ f
+agree_on w v x object.Jobs e f = e ∙ f
