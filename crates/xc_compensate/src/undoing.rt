@@ -3,7 +3,7 @@ ghost use Rattle.std.specs.declared.option.Option.TheVariants.{None};
 ghost use Rattle.std.specs.List.{list_any, position};
 ghost use Rattle.xc_data.specs.Counts.{CountsFaults};
 ghost use Rattle.xc_data.specs.Faults.{end_faults};
-ghost use Rattle.xc_world.specs.Touch.{is_object};
+ghost use Rattle.xc_data.specs.Claims.{is_object};
 ghost use Rattle.xc_world.specs.Effects.{undone_to, IsCovered};
 ghost use Rattle.xc_world.specs.Ends.{share_object, is_undone, blocks, blocker, IsLegalEnd};
 ghost use Rattle.xc_host.specs.Contents.{Contents, contents_of, world_of, wrote_front};

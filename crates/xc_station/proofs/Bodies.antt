@@ -14,7 +14,8 @@ use Rattle.xc_world.specs.Act.{act}
 use Rattle.xc_world.specs.Act.Step.{Stepped, stays}
 use Rattle.xc_world.specs.Late.{late_call, kept_call}
 use Rattle.xc_world.specs.Fits.{fits, answer_of}
-use Rattle.xc_world.specs.Touch.{touch, holding, holding_one}
+use Rattle.xc_data.specs.Claims.{holding, holding_one}
+use Rattle.xc_world.specs.Touch.{touch}
 use Rattle.xc_world.specs.Trail.{recorded}
 use Rattle.xc_world.specs.Effects.{takes_data, only_overwrites}
 use Rattle.xc_world.specs.Run.{Asked, Ran, rests, behind, body, body_fits, asked_of}

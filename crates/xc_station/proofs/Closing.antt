@@ -26,7 +26,7 @@ use Rattle.xc_world.specs.Effects.{AreMadeIn, whole}
 use Rattle.xc_world.specs.Trail.{with_effect, move_name}
 use Rattle.xc_world.specs.Run.{Ran, body, body_fits, lates, lates_fit, asked_of, late_asked_of}
 use Rattle.xc_world.specs.Sound.{IsSound, IsKnown}
-use Rattle.xc_world.specs.Touch.{holding}
+use Rattle.xc_data.specs.Claims.{holding}
 use Rattle.xc_world.proofs.EffectsBody.{body-sound, body-others_sound}
 use Rattle.xc_world.proofs.EffectsRemains.{remains-sound}
 use Rattle.xc_station.specs.declared.tx.Tx.{Tx}

@@ -22,7 +22,8 @@ use Rattle.xc_world.specs.Ends.{Ending, AreLegal, remains, with_remains}
 use Rattle.xc_world.specs.Effects.{whole, takes_data}
 use Rattle.xc_world.specs.Fits.{fits, answer_of}
 use Rattle.xc_world.specs.Run.{Asked, Ran, body, body_fits, asked_of}
-use Rattle.xc_world.specs.Touch.{touch, holding}
+use Rattle.xc_data.specs.Claims.{holding}
+use Rattle.xc_world.specs.Touch.{touch}
 use Rattle.xc_world.specs.Trail.{recorded}
 use Rattle.xc_world.proofs.EffectsBody.{body-leads}
 use Rattle.xc_station.specs.declared.tx.Tx.{Tx}

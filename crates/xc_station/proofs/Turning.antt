@@ -22,7 +22,7 @@ use Rattle.xc_world.specs.Effects.{IsCovered}
 use Rattle.xc_world.specs.Sound.{IsSound}
 use Rattle.xc_station.specs.Truth.{AsksEach}
 use Rattle.xc_world.specs.Run.{rests, body_fits, body, asked_of, Ran}
-use Rattle.xc_world.specs.Touch.{holding}
+use Rattle.xc_data.specs.Claims.{holding}
 use Rattle.xc_data.specs.declared.undo.UndoEnd.{UndoEnd}
 use Rattle.xc_station.specs.declared.tx.Tx.{Tx}
 use Rattle.xc_station.specs.declared.tx.Phase.TheVariants as phase

@@ -1,7 +1,8 @@
 -- How jobs end, and what a whole run ends in.
-use Rattle.std.specs.Prelude.{◌≡◌, ℕ, ◌+◌, Bool, true, false, List, [], ◌∷◌, length, map, IsSome, IsTrue}
-use Rattle.std.specs.List.{list_all}
-use Rattle.std.specs.declared.option.Option.TheVariants.{None}
+use Rattle.std.specs.Prelude.{◌≡◌, ◌≢◌, ℕ, ◌+◌, Bool, true, false, List, [], ◌∷◌, length, map, IsSome, IsTrue}
+use Rattle.std.specs.List.{list_all, last_or}
+use Rattle.std.specs.declared.option.Option.TheVariants.{None, Some}
+use Rattle.xc_data.specs.declared.entry.Cause.{Cause}
 use Rattle.xc_data.specs.declared.entry.JobEnd.{JobEnd}
 use Rattle.xc_data.specs.declared.entry.JobEnd.TheVariants as job_end
 use Rattle.xc_data.specs.declared.entry.JobLine.{JobLine}
@@ -10,22 +11,43 @@ use Rattle.xc_host.specs.Contents.{Contents, contents_of}
 use Rattle.xc_text.specs.declared.script.Script.{Script}
 use Rattle.xc_script.specs.Ask.{next_body, transactions_at}
 use Rattle.xc_world.specs.World.{State}
+use Rattle.xc_station.specs.Setting.{Setting}
 use Rattle.xc_station.specs.Progress.{Following, progress_of}
-use Rattle.xc_station.specs.Truth.{IsTrueJournal, AreInOrder, all_settled}
+use Rattle.xc_station.specs.Truth.{IsTrueJournal, all_settled}
 
--- done where no transaction is left; without memory only where one is. Giving up and a full journal
--- come with conflicts and with several jobs
-abbrev pub IsEnd : Script → Following → JobEnd → Type 0
-IsEnd script f job_end.Done = (f.starved ≡ false) × (next_body script f.job ≡ None)
-IsEnd script f job_end.NoMemory = IsSome (next_body script f.job)
-IsEnd script f _ = ⊥
+-- a transaction of the job is left, and its attempts at it didn't all fail
+pub record MayGoOn (s : Setting) (f : Following) : Type 0 where
+  pub goes_on : f.starved ≡ false
+  pub left : IsSome (next_body s.script f.job)
+  pub tries : length f.failed ≢ s.rules.attempts
 
--- each job has its end
-abbrev pub AreEnds : Script → List Following → List JobLine → Type 0
-AreEnds script [] lines = lines ≡ []
-AreEnds script (f ∷ jobs) [] = ⊥
-AreEnds script (f ∷ jobs) (line ∷ lines) = IsEnd script f line.end × AreEnds script jobs lines
+-- as many attempts at the next transaction failed as are allowed, the last one for this cause
+pub record HasGivenUp (s : Setting) (f : Following) (c : Cause) : Type 0 where
+  pub goes_on : f.starved ≡ false
+  pub left : IsSome (next_body s.script f.job)
+  pub tries : length f.failed ≡ s.rules.attempts
+  pub last : last_or None f.failed ≡ Some c
 
+-- done where no transaction is left; a full journal has 10,000 entries, those of active transactions among them;
+-- without memory wherever a transaction is left
+abbrev pub IsEnd : Setting → ℕ → Following → JobEnd → Type 0
+IsEnd s entries f job_end.Done = (f.starved ≡ false) × (next_body s.script f.job ≡ None)
+IsEnd s entries f (job_end.GaveUp c) = HasGivenUp s f c
+IsEnd s entries f job_end.JournalFull = MayGoOn s f × (entries ≡ 10000)
+IsEnd s entries f job_end.NoMemory = IsSome (next_body s.script f.job)
+
+-- a job's line has its block's name, and its end
+pub record IsLine (s : Setting) (entries : ℕ) (f : Following) (line : JobLine) : Type 0 where
+  pub block : line.block ≡ f.block
+  pub end : IsEnd s entries f line.end
+
+-- each job has its line
+abbrev pub AreEnds : Setting → ℕ → List Following → List JobLine → Type 0
+AreEnds s entries [] lines = lines ≡ []
+AreEnds s entries (f ∷ jobs) [] = ⊥
+AreEnds s entries (f ∷ jobs) (line ∷ lines) = IsLine s entries f line × AreEnds s entries jobs lines
+
+-- a job had no transaction left
 abbrev pub is_done : JobEnd → Bool
 is_done job_end.Done = true
 is_done _ = false
@@ -44,16 +66,21 @@ pub record IsComplete (script : Script) (entries : List Entry) : Type 0 where
   pub settled : all_settled entries ≡ true
   pub count : length entries ≡ transactions_of_jobs script (progress_of script entries).jobs
 
+-- what a run leaves beside its journal: the words, what the host tells, and the jobs' lines
+pub record Final : Type 0 where
+  pub words : List ℕ
+  pub contents : Contents
+  pub lines : List JobLine
+
 -- over a host that tells, the journal leads to the words, to the host's contents and to the started jobs
-pub record IsFinalState (state : State) (values : List ℕ) (contents : Contents) (lines : List JobLine) : Type 0 where
-  pub words : values ≡ state.world.words
-  pub host : contents ≡ contents_of state.world
-  pub blocks : map (λ (line : JobLine). line.block) lines ≡ state.world.started
+pub record IsFinalState (state : State) (final : Final) : Type 0 where
+  pub words : final.words ≡ state.world.words
+  pub host : final.contents ≡ contents_of state.world
+  pub blocks : map (λ (line : JobLine). line.block) final.lines ≡ state.world.started
 
 -- what a run ends in: a true journal, what it leads to, and each started job's end
-pub record IsTrueEnd (script : Script) (tells : Bool) (tries : ℕ) (entries : List Entry) (values : List ℕ) (contents : Contents) (lines : List JobLine) : Type 0 where
-  pub journal : IsTrueJournal script tells tries entries
-  pub in_order : AreInOrder 0 entries
-  pub final : IsTrue tells → IsFinalState (progress_of script entries).state values contents lines
-  pub ends : AreEnds script (progress_of script entries).jobs lines
-  pub complete : all_done lines ≡ true → IsComplete script entries
+pub record IsTrueEnd (s : Setting) (journal : List Entry) (final : Final) : Type 0 where
+  pub journal : IsTrueJournal s journal
+  pub final : IsTrue s.tells → IsFinalState (progress_of s.script journal).state final
+  pub ends : AreEnds s (length journal) (progress_of s.script journal).jobs final.lines
+  pub complete : all_done final.lines ≡ true → IsComplete s.script journal

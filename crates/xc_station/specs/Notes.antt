@@ -16,7 +16,7 @@ use Rattle.xc_world.specs.Act.{act}
 use Rattle.xc_world.specs.Act.Step.{stays}
 use Rattle.xc_world.specs.Fits.{fits, answer_of}
 use Rattle.xc_world.specs.Trail.{recorded}
-use Rattle.xc_world.specs.Touch.{holding}
+use Rattle.xc_data.specs.Claims.{holding}
 
 -- the calls that scripts have so far
 abbrev pub is_built : Call → Bool

@@ -7,7 +7,7 @@ use Rattle.xc_text.specs.declared.script.Script.{Script}
 use Rattle.xc_txmem.specs.Overlay.{overlaid}
 use Rattle.xc_world.specs.World.{World, State}
 use Rattle.xc_world.specs.Run.{Ran, body, body_fits, asked_of}
-use Rattle.xc_world.specs.Touch.{holding}
+use Rattle.xc_data.specs.Claims.{holding}
 use Rattle.xc_world.specs.Ends.{remains, with_remains}
 use Rattle.xc_world.specs.Effects.{whole}
 use Rattle.xc_world.specs.Sound.{IsSound}

@@ -1,6 +1,6 @@
 ghost use Rattle.std.specs.Prelude.{◌≡◌, ◌≤◌, ◌+◌, ◌-◌, [], length, OnOk, IsTrue};
 ghost use Rattle.std.specs.List.{list_any};
-ghost use Rattle.xc_world.specs.Touch.{holding_one, holding, is_object};
+ghost use Rattle.xc_data.specs.Claims.{holding_one, holding, is_object};
 ghost use Rattle.xc_data.specs.declared.entry.Outcome.TheVariants.{Committed, Aborted};
 ghost use Rattle.xc_station.specs.Notes.{KeepsNotes, Notes, HasRoom, parts_of, entry_of};
 

@@ -1,5 +1,5 @@
 use Rattle.std.proofs.Common.{◌≡◌, ◌≤◌, ◌+◌, length, drop}
-use Rattle.xc_world.specs.Touch.{holding}
+use Rattle.xc_data.specs.Claims.{holding}
 use Rattle.xc_station.proofs.tx.hold.Given as goal
 
 -- the objects that are left add what all add to the first ones

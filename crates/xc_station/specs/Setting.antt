@@ -1,0 +1,10 @@
+-- What a journal is judged by.
+use Rattle.std.specs.Prelude.{Bool}
+use Rattle.xc_text.specs.declared.script.Script.{Script}
+use Rattle.xc_station.specs.declared.rules.Rules.{Rules}
+
+-- the script, the rules, and whether the host tells its contents
+pub record Setting : Type 0 where
+  pub script : Script
+  pub rules : Rules
+  pub tells : Bool
