@@ -1,6 +1,7 @@
 ghost use Rattle.std.specs.Prelude.{◌≡◌, ℕ, IfOk, OnErr, IsTrue};
 ghost use Rattle.xc_data.specs.Counts.{CountsFault};
 ghost use Rattle.xc_data.specs.declared.call.Call.TheVariants.{XOpen};
+ghost use Rattle.xc_world.specs.Late.{is_late};
 ghost use Rattle.xc_world.specs.World.{World};
 ghost use Rattle.xc_file.specs.Calls.{Acts, replies_fault};
 
@@ -14,6 +15,7 @@ pub fn x_open<H: Host>(host: &mut H, me: &mut Private, name: &Name) -> Result<Re
     ensures contents { IsTrue H.tells → H.contents host.new ≡ H.contents host.old }
     ensures stored { (me.new.stored ≡ me.old.stored) × (me.new.made ≡ me.old.made) }
     ensures err { OnErr result (me.new ≡ me.old) }
+    ensures now { IfOk result (λ reply. is_late reply ≡ false) }
     ensures cause { CountsFault (replies_fault result) (H.fault_count host.old) (H.fault_count host.new) }
 {
     let Some(h) = me.vacant() else {

@@ -4,6 +4,7 @@ ghost use Rattle.xc_data.specs.Private.{place_of};
 ghost use Rattle.xc_data.specs.declared.call.Call.TheVariants.{XWriteOvr};
 ghost use Rattle.xc_data.specs.declared.private.Place.TheVariants.{File};
 ghost use Rattle.xc_data.specs.declared.undo.Undo.TheVariants.{Bytes};
+ghost use Rattle.xc_world.specs.Late.{is_late};
 ghost use Rattle.xc_world.specs.World.{World};
 ghost use Rattle.xc_world.specs.Act.Step.{storing};
 ghost use Rattle.xc_world.specs.Trail.{recorded, overwrite_record, done_of};
@@ -181,6 +182,7 @@ pub fn x_write_ovr<H: Host>(
     ensures err { OnErr result (me.new ≡ me.old) }
     ensures err_undo { OnErr result (undo.new ≡ undo.old) }
     ensures err_contents { IsTrue H.tells → OnErr result (H.contents host.new ≡ H.contents host.old) }
+    ensures now { IfOk result (λ reply. is_late reply ≡ false) }
     ensures cause { CountsFault (replies_fault result) (H.fault_count host.old) (H.fault_count host.new) }
 {
     let Place::File { num, at } = me.place(h) else {

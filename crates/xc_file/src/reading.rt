@@ -2,6 +2,7 @@ ghost use Rattle.std.specs.Prelude.{◌≡◌, ◌<◌, ◌≤◌, ◌+◌, ◌^
 ghost use Rattle.xc_data.specs.Counts.{CountsFault};
 ghost use Rattle.xc_data.specs.Private.{place_of};
 ghost use Rattle.xc_data.specs.declared.call.Call.TheVariants.{XRead};
+ghost use Rattle.xc_world.specs.Late.{is_late};
 ghost use Rattle.xc_world.specs.World.{World};
 ghost use Rattle.xc_host.specs.Cause.{is_fault};
 ghost use Rattle.xc_host.specs.Contents.{file_in, has_file};
@@ -75,6 +76,7 @@ pub fn x_read<H: Host>(
     ensures stored { me.new.stored ≤ 16384 }
     ensures made { me.new.made ≡ me.old.made }
     ensures err { OnErr result (me.new ≡ me.old) }
+    ensures now { IfOk result (λ reply. is_late reply ≡ false) }
     ensures cause { CountsFault (replies_fault result) (H.fault_count host.old) (H.fault_count host.new) }
 {
     let Place::File { num, at } = me.place(h) else {

@@ -1,5 +1,5 @@
 -- What is true of a station between two turns: the story of its job.
-use Rattle.std.specs.Prelude.{◌≡◌, ℕ, ◌+◌, ◌≤◌, Bool, false, true, List, [], ◌∷◌, length, Option, IsTrue, IsSome, count_by, sum_by}
+use Rattle.std.specs.Prelude.{◌≡◌, ℕ, ◌+◌, ◌≤◌, Bool, false, true, List, [], ◌∷◌, All, length, Option, IsTrue, IsSome, count_by, sum_by}
 use Rattle.std.specs.declared.option.Option.TheVariants.{None, Some}
 use Rattle.xc_data.specs.Counts.{CountsFaults}
 use Rattle.xc_data.specs.Faults.{is_fault_reply, undo_faults, entry_faults}
@@ -23,16 +23,18 @@ use Rattle.xc_station.specs.declared.tx.Phase.TheVariants.{Running, Committing, 
 use Rattle.xc_station.specs.declared.job.Job.{Job}
 use Rattle.xc_station.specs.declared.job.Activity.{Activity}
 use Rattle.xc_station.specs.declared.job.Activity.TheVariants.{Idle, Active, Starved, Ended}
-use Rattle.xc_station.specs.Progress.{Following, Progress, opening_progress, progress_of}
-use Rattle.xc_station.specs.Truth.{AsksEach, IsCauseOf, AreTrue, AreInOrder, all_settled}
+use Rattle.xc_station.specs.Setting.{Setting}
+use Rattle.xc_station.specs.Progress.{Following, Progress, kept_of, opening_progress, progress_of}
+use Rattle.xc_station.specs.Truth.{AsksEach, next_of, IsCauseOf, AreTrue, AreInOrder, all_settled}
 use Rattle.xc_station.specs.Ending.{IsEnd}
 use Rattle.xc_station.specs.Playing.{IsAsIn, IsPlaying}
 
--- what an active transaction has noted: the script's calls
+-- what an active transaction has noted: the script's calls, none of them kept for the commit
 pub record IsNoted (script : Script) (f : Following) (entered : ℕ) (tx : Tx) : Type 0 where
   pub number : tx.number ≡ entered + 1
   pub began : tx.began ≡ entered
   pub asked : AsksEach (walk_from script f.job) tx.calls.items tx.replies.items
+  pub none_kept : kept_of tx.calls.items tx.replies.items ≡ []
 
 -- the job stands in its next transaction, and keeps the variables of its begin
 pub record IsStanding (f : Following) (place : Place) : Type 0 where
@@ -57,46 +59,50 @@ pub record IsCommitting (script : Script) (f : Following) (place : Place) (tx : 
   pub none : tx.undo.ended ≡ []
 
 -- an undoing one: the compensations so far have legal ends
-pub record IsUndoing (script : Script) (tries : ℕ) (f : Following) (tx : Tx) (c : Cause) : Type 0 where
-  pub caused : IsCauseOf c (asks (all_answered (walk_from script f.job) tx.replies.items))
-  pub legal : AreLegal tries (length tx.undo.pending + 1) tx.undo.ended
+pub record IsUndoing (s : Setting) (f : Following) (tx : Tx) (c : Cause) : Type 0 where
+  pub caused : IsCauseOf c (next_of s.script f tx.replies.items)
+  pub legal : AreLegal s.rules.undo_tries (length tx.undo.pending + 1) tx.undo.ended
 
-abbrev pub IsPhase : Script → ℕ → Following → List ℕ → Place → Tx → Phase → Type 0
-IsPhase script tries f words place tx Running = IsRunning script f words place tx
-IsPhase script tries f words place tx Committing = IsCommitting script f place tx
-IsPhase script tries f words place tx (Undoing c) = IsUndoing script tries f tx c
+-- an active transaction in a phase
+abbrev pub IsPhase : Setting → Following → List ℕ → Place → Tx → Phase → Type 0
+IsPhase s f words place tx Running = IsRunning s.script f words place tx
+IsPhase s f words place tx Committing = IsCommitting s.script f place tx
+IsPhase s f words place tx (Undoing c) = IsUndoing s f tx c
 
 -- one active transaction, as a part of its job's story
-pub record Flight (script : Script) (tries : ℕ) (f : Following) (words : List ℕ) (entered : ℕ) (place : Place) (tx : Tx) : Type 0 where
+pub record Flight (s : Setting) (f : Following) (words : List ℕ) (entered : ℕ) (place : Place) (tx : Tx) : Type 0 where
   pub goes_on : f.starved ≡ false
-  pub left : IsSome (next_body script f.job)
+  pub left : IsSome (next_body s.script f.job)
   pub passed : entered ≡ f.job.next
   pub standing : IsStanding f place
-  pub noted : IsNoted script f entered tx
+  pub noted : IsNoted s.script f entered tx
   pub stored : tx.me.stored ≤ 16384
-  pub phase : IsPhase script tries f words place tx tx.phase
+  pub phase : IsPhase s f words place tx tx.phase
 
 -- what a job does, behind what the journal led to
-abbrev pub IsActive : Script → ℕ → Following → List ℕ → ℕ → ℕ → Place → Activity → Type 0
-IsActive script tries f words entered spare place Idle = (f.starved ≡ false) × (place ≡ at_begin f.job) × (entered ≡ f.job.next)
-IsActive script tries f words entered spare place (Active tx) = (1 ≤ spare) × Flight script tries f words entered place tx
-IsActive script tries f words entered spare place Starved = (f.starved ≡ true) × IsSome (next_body script f.job)
-IsActive script tries f words entered spare place (Ended end) = IsEnd script f end
+abbrev pub IsActive : Setting → Following → List ℕ → ℕ → ℕ → Place → Activity → Type 0
+IsActive s f words entered spare place Idle = (f.starved ≡ false) × (place ≡ at_begin f.job) × (entered ≡ f.job.next)
+IsActive s f words entered spare place (Active tx) = (1 ≤ spare) × Flight s f words entered place tx
+IsActive s f words entered spare place Starved = (f.starved ≡ true) × IsSome (next_body s.script f.job)
+IsActive s f words entered spare place (Ended end) = IsEnd s entered f end
 
--- the journal is of one job, whose entries end with the journal
+-- the journal is of one job, whose entries end with the journal, and none of its attempts failed
 pub record IsAlone (entered : ℕ) (p : Progress) (f : Following) : Type 0 where
   pub jobs : p.jobs ≡ f ∷ []
+  pub entered : p.entered ≡ entered
   pub since : f.since ≤ entered
   pub first : f.first ≡ None
+  pub failed : f.failed ≡ []
 
 -- the script's job
-pub record IsOneJob (script : Script) (tells : Bool) (tries : ℕ) (words : List ℕ) (contents : Contents) (entered spare : ℕ) (p : Progress) (job : Job) : Type 0 where
+pub record IsOneJob (s : Setting) (words : List ℕ) (contents : Contents) (entered spare : ℕ) (p : Progress) (job : Job) : Type 0 where
   pub following : Following
   pub alone : IsAlone entered p following
-  pub named : script.plain.jobs ≡ job.block ∷ []
-  pub active : IsActive script tries following words entered spare job.place job.activity
+  pub named : s.script.plain.jobs ≡ job.block ∷ []
+  pub block : following.block ≡ job.block
+  pub active : IsActive s following words entered spare job.place job.activity
   pub begins : job.me ≡ beginning job.me.places
-  pub played : IsTrue tells → IsPlaying script words contents entered p.state job
+  pub played : IsTrue s.tells → IsPlaying s.script words contents entered p.state job
 
 -- a script without a job has its opening words, and its objects at the host
 pub record IsJobless (script : Script) (tells : Bool) (words : List ℕ) (contents : Contents) (entered : ℕ) : Type 0 where
@@ -104,9 +110,10 @@ pub record IsJobless (script : Script) (tells : Bool) (words : List ℕ) (conten
   pub none : entered ≡ 0
   pub opened : IsTrue tells → IsAsIn (opening script.plain) words contents
 
-abbrev pub IsJob : Script → Bool → ℕ → List ℕ → Contents → ℕ → ℕ → Progress → Option Job → Type 0
-IsJob script tells tries words contents entered spare p None = IsJobless script tells words contents entered
-IsJob script tells tries words contents entered spare p (Some job) = IsOneJob script tells tries words contents entered spare p job
+-- the station's one job, or none
+abbrev pub IsJob : Setting → List ℕ → Contents → ℕ → ℕ → Progress → Option Job → Type 0
+IsJob s words contents entered spare p None = IsJobless s.script s.tells words contents entered
+IsJob s words contents entered spare p (Some job) = IsOneJob s words contents entered spare p job
 
 -- while the job goes on, it was done with each transaction that it passed, in one entry
 pub record IsUnbroken (script : Script) (journal : List Entry) (f : Following) : Type 0 where
@@ -114,24 +121,28 @@ pub record IsUnbroken (script : Script) (journal : List Entry) (f : Following) :
   pub passed : length journal ≡ f.job.next
   pub within : f.job.next ≤ length (transactions_at script f.job.block)
 
+-- the same of the one job of a journal
 abbrev pub GoesOn : Script → List Entry → Progress → Type 0
 GoesOn script journal p = (f : Following) → p.jobs ≡ f ∷ [] → f.starved ≡ false → IsUnbroken script journal f
 
 -- a station between two turns; what the host tells is `contents`
-pub record InFlight (script : Script) (tells : Bool) (tries : ℕ) (words : List ℕ) (contents : Contents) (journal : List Entry) (spare : ℕ) (one : Option Job) : Type 0 where
-  pub read : IsScript script
-  pub entries : AreTrue script tells tries 0 (opening_progress script) journal
+pub record InFlight (s : Setting) (words : List ℕ) (contents : Contents) (journal : List Entry) (spare : ℕ) (one : Option Job) : Type 0 where
+  pub read : IsScript s.script
+  pub entries : AreTrue s (opening_progress s.script) journal
   pub in_order : AreInOrder 0 journal
+  pub of_one : All (λ (e : Entry). e.job ≡ 1) journal
   pub few : length journal ≤ 1000
-  pub count : length words ≡ length script.plain.words
-  pub unbroken : GoesOn script journal (progress_of script journal)
-  pub job : IsJob script tells tries words contents (length journal) spare (progress_of script journal) one
+  pub count : length words ≡ length s.script.plain.words
+  pub unbroken : GoesOn s.script journal (progress_of s.script journal)
+  pub job : IsJob s words contents (length journal) spare (progress_of s.script journal) one
 
 -- ---- the faults that are recorded
+-- those of an active transaction
 abbrev pub faults_noted : Activity → ℕ
 faults_noted (Active tx) = count_by is_fault_reply tx.replies.items + sum_by undo_faults tx.undo.ended
 faults_noted _ = 0
 
+-- those of a job's
 abbrev pub faults_of_job : Option Job → ℕ
 faults_of_job None = 0
 faults_of_job (Some job) = faults_noted job.activity

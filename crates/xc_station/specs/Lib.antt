@@ -1,3 +1,4 @@
+pub mod Setting
 pub mod Progress
 pub mod Truth
 pub mod Ending

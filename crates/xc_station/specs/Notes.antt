@@ -3,7 +3,7 @@ use Rattle.std.specs.Prelude.{◌≡◌, ℕ, ◌≤◌, Bool, true, false, List
 use Rattle.xc_data.specs.declared.call.Call.{Call}
 use Rattle.xc_data.specs.declared.call.Call.TheVariants.{Load, Store, XOpen, XRead, XWriteOvr}
 use Rattle.xc_data.specs.declared.call.Reply.{Reply}
-use Rattle.xc_data.specs.declared.object.Object.{Object}
+use Rattle.xc_data.specs.declared.claim.Claim.{Claim}
 use Rattle.xc_data.specs.declared.entry.Entry.{Entry}
 use Rattle.xc_data.specs.declared.entry.Outcome.{Outcome}
 use Rattle.xc_data.specs.declared.private.Private.{Private}
@@ -51,16 +51,16 @@ pub record KeepsNotes (old new : Tx) : Type 0 where
   pub replies : new.replies.items ≡ old.replies.items
   pub held : new.held.items ≡ old.held.items
 
--- a transaction that has noted one call more, with its reply and the objects that it touched
-pub record Notes (old new : Tx) (call : Call) (reply : Reply) (objects : List Object) : Type 0 where
+-- a transaction that has noted one call more, with its reply and what it claimed
+pub record Notes (old new : Tx) (call : Call) (reply : Reply) (claims : List Claim) : Type 0 where
   pub number : new.number ≡ old.number
   pub began : new.began ≡ old.began
   pub phase : new.phase ≡ old.phase
   pub calls : new.calls.items ≡ old.calls.items ++ call ∷ []
   pub replies : new.replies.items ≡ old.replies.items ++ reply ∷ []
-  pub held : new.held.items ≡ holding old.held.items objects
+  pub held : new.held.items ≡ holding old.held.items claims
 
--- room for one call, its reply and two objects
+-- room for one call, its reply and two claims
 pub record HasRoom (tx : Tx) : Type 0 where
   pub calls : 1 ≤ tx.calls.spare
   pub replies : 1 ≤ tx.replies.spare

@@ -7,7 +7,7 @@ use Rattle.xc_text.specs.declared.script.Script.{Script}
 use Rattle.xc_txmem.specs.Overlay.{overlaid}
 use Rattle.xc_world.specs.World.{World, State}
 use Rattle.xc_world.specs.Run.{Ran, body, body_fits, asked_of}
-use Rattle.xc_data.specs.Claims.{holding}
+use Rattle.xc_data.specs.Claims.{held_of}
 use Rattle.xc_world.specs.Ends.{remains, with_remains}
 use Rattle.xc_world.specs.Effects.{whole}
 use Rattle.xc_world.specs.Sound.{IsSound}
@@ -36,7 +36,7 @@ pub record HasPlayed (w : World) (me : Private) (tx : Tx) : Type 0 where
   pub fits : IsTrue (body_fits w me tx.number (asked_of tx.calls.items tx.replies.items))
   pub replies : (ran_of w me tx).replies ≡ tx.replies.items
   pub late : (ran_of w me tx).late ≡ []
-  pub held : tx.held.items ≡ holding [] (ran_of w me tx).touched
+  pub held : tx.held.items ≡ held_of (ran_of w me tx).touched
 
 -- while it goes on, it sees the body's world, and its records are the body's
 pub record GoesForward (w : World) (me : Private) (contents : Contents) (tx : Tx) : Type 0 where

@@ -104,7 +104,7 @@ committed_state state job run blocks =
 abbrev pub started_job : Script → Job → ℕ → List ℕ → Following
 started_job script starter since block = untried block (record { block = block_place script block; next = 0; variables = starter.variables }) since
 
--- behind a committed entry of a job
+-- what a committed entry of a job leads to
 abbrev pub after_commit : Script → Progress → Following → Entry → List LateEnd → Progress
 after_commit script p f e late =
     let blocks = started_blocks (kept_of e.calls e.replies) late in
@@ -112,7 +112,7 @@ after_commit script p f e late =
     record {
       state = committed_state p.state e.job (run_of p.state e late) blocks;
       jobs = with_job p.jobs e.job (untried f.block job (p.entered + 1)) ++ map (started_job script job (p.entered + 1)) blocks;
-      entered = p.entered + 1;
+      entered = p.entered;
     }
 
 -- ---- after an abort: the world with what remains, and the variables of the begin
@@ -121,16 +121,16 @@ following_abort entered f e cause.Asked = untried f.block (record f.job { next =
 following_abort entered f e cause.NoMemory = record f { starved = true; since = entered + 1 }
 following_abort entered f e c = record f { first = Some (unwrap_or f.first e.tx); failed = f.failed ++ c ∷ []; since = entered + 1 }
 
--- behind an aborted entry of a job
+-- what an aborted entry of a job leads to
 abbrev pub after_abort : Progress → Following → Entry → Report → Progress
 after_abort p f e report =
     record {
       state = record p.state { world = with_remains p.state.world (remains report.records) };
       jobs = with_job p.jobs e.job (following_abort p.entered f e report.cause);
-      entered = p.entered + 1;
+      entered = p.entered;
     }
 
--- behind an entry with this outcome
+-- what an entry with this outcome leads to
 abbrev pub after_outcome : Script → Progress → Following → Entry → Outcome → Progress
 after_outcome script p f e (Committed late) = after_commit script p f e late
 after_outcome script p f e (Aborted report) = after_abort p f e report
@@ -139,14 +139,14 @@ after_outcome script p f e (Aborted report) = after_abort p f e report
 abbrev pub following_of : Progress → Entry → Option Following
 following_of p e = slice_get p.jobs (e.job - 1)
 
--- behind an entry of this job, where it is started
+-- the same, where its job is started
 abbrev pub after_following : Script → Progress → Entry → Option Following → Progress
 after_following script p e None = p
 after_following script p e (Some f) = after_outcome script p f e e.outcome
 
 -- behind one entry more
 abbrev pub after_entry : Script → Progress → Entry → Progress
-after_entry script p e = after_following script p e (following_of p e)
+after_entry script p e = record (after_following script p e (following_of p e)) { entered = p.entered + 1 }
 
 -- what a whole journal has led to
 abbrev pub progress_of : Script → List Entry → Progress

@@ -8,3 +8,7 @@ pub record Setting : Type 0 where
   pub script : Script
   pub rules : Rules
   pub tells : Bool
+
+-- the setting of a script, under rules and over a host
+abbrev pub setting : Script → Rules → Bool → Setting
+setting script rules tells = record { script = script; rules = rules; tells = tells }

@@ -1,5 +1,5 @@
 -- What contracts see of a station, and how many turns it may still take.
-use Rattle.std.specs.Prelude.{◌≡◌, ℕ, ◌+◌, ◌*◌, ◌-◌, ◌<◌, ◌≤◌, Bool, List, [], ◌∷◌, length, drop, IsSome, Option}
+use Rattle.std.specs.Prelude.{◌≡◌, ℕ, ◌+◌, ◌*◌, ◌-◌, ◌<◌, ◌≤◌, Bool, List, [], ◌∷◌, ◌++◌, length, drop, IsSome, Option}
 use Rattle.std.specs.declared.option.Option.TheVariants.{None, Some}
 use Rattle.xc_data.specs.declared.entry.Entry.{Entry}
 use Rattle.xc_data.specs.declared.entry.JobEnd.TheVariants as job_end
@@ -129,3 +129,7 @@ RunsOn statements old new _ _ = ⊥
 pub record KeepsOrigin {H : Type 0} (old new : Seen H) : Type 0 where
   pub opening : new.opening ≡ old.opening
   pub rules : new.rules ≡ old.rules
+
+-- a journal goes on with another
+abbrev pub IsFrontOf : List Entry → List Entry → Type 0
+IsFrontOf front whole = (more : List Entry) × (whole ≡ front ++ more)

@@ -1,4 +1,4 @@
-ghost use Rattle.std.specs.Prelude.{◌≡◌, ℕ, ◌≤◌, ◌+◌, [], true, false, length, unwrap_or, IfOk, OnOk, OnErr, IsSome, IsTrue};
+ghost use Rattle.std.specs.Prelude.{◌≡◌, ℕ, Bool, ◌≤◌, ◌+◌, [], true, false, length, unwrap_or, IfOk, OnOk, OnErr, IsSome, IsTrue};
 ghost use Rattle.xc_data.specs.Counts.{CountsFault, CountsFaults};
 ghost use Rattle.xc_data.specs.declared.private.Private.{Private as PlainPrivate};
 ghost use Rattle.xc_file.specs.Calls.{replies_fault};
@@ -7,14 +7,17 @@ ghost use Rattle.xc_script.specs.Ask.{asks, answered, next_body};
 ghost use Rattle.xc_script.specs.Place.{walk_of, job_of};
 ghost use Rattle.xc_txmem.specs.Overlay.{overlaid, AreWithin};
 ghost use Rattle.xc_world.specs.World.{World};
+ghost use Rattle.xc_world.specs.Late.{is_late};
 ghost use Rattle.xc_world.specs.Sound.{IsSound};
-ghost use Rattle.xc_world.specs.Touch.{touch};
+ghost use Rattle.xc_world.specs.Modes.{claims_of};
 ghost use Rattle.xc_station.specs.Doing.{doing_in, doing_phase, goes_back};
 ghost use Rattle.xc_station.specs.Flight.{Flight, IsActive, faults_noted};
 ghost use Rattle.xc_station.specs.declared.job.Activity.TheVariants as PlainActivity;
 ghost use Rattle.xc_station.specs.Notes.{is_built, Does, KeepsNotes, HasRoom, parts_of};
 ghost use Rattle.xc_station.specs.Playing.{IsPlayedBy};
 ghost use Rattle.xc_station.specs.Progress.{Following};
+ghost use Rattle.xc_station.specs.Setting.{setting};
+ghost use Rattle.xc_station.specs.declared.rules.Rules.{Rules as PlainRules};
 ghost use Rattle.xc_station.specs.Turns.{IsSameBegin, IsNearer, IsGoing, MayGo, CanRun, AreOpenIn, HasOpenFiles, RunsOn};
 ghost use Rattle.xc_station.specs.WordCalls.{is_word_call, word_reply, words_after, is_overwrite};
 
@@ -23,7 +26,7 @@ use crate::tx::{Phase, Tx};
 use smallvec::SmallVec;
 use std::alloc::Global;
 use xc_compensate::Stack;
-use xc_data::{Call, Cause, NoMemory, Object, Private, Reply, Turn};
+use xc_data::{Call, Cause, Claim, NoMemory, Private, Reply, Turn};
 use xc_file::{x_open, x_read, x_write_ovr};
 use xc_host::Host;
 use xc_script::{Ask, JobState};
@@ -39,6 +42,7 @@ fn act_on_words(words: &Words, writes: &mut WriteSet, call: &Call) -> Result<Rep
     ensures reply { IfOk result (λ reply. reply ≡ word_reply (overlaid words.now writes.old) call.now) }
     ensures stores { OnOk result (overlaid words.now writes.new ≡ words_after (overlaid words.now writes.old) call.now) }
     ensures within { AreWithin (length words.now) writes.new }
+    ensures now { IfOk result (λ reply. is_late reply ≡ false) }
 {
     let (Call::Load { at } | Call::Store { at, .. }) = call else {
         unreachable!()
@@ -73,6 +77,7 @@ fn act<H: Host>(
     ensures stored { me.new.stored ≤ 16384 }
     ensures none { undo.new.ended ≡ [] }
     ensures grows { length undo.new.pending ≤ length undo.old.pending + 1 }
+    ensures now { IfOk result (λ reply. is_late reply ≡ false) }
     ensures still { is_overwrite call.now ≡ false → (undo.new ≡ undo.old) × (IsTrue H.tells → H.contents host.new ≡ H.contents host.old) }
     ensures err_undo { OnErr result (undo.new ≡ undo.old) }
     ensures err_host { IsTrue H.tells → OnErr result (H.contents host.new ≡ H.contents host.old) }
@@ -110,6 +115,7 @@ fn do_call<H: Host>(
     ensures none { tx.new.undo.ended ≡ [] }
     ensures grows { length tx.new.undo.pending ≤ length tx.old.undo.pending + 1 }
     ensures walk { IfOk result (λ reply. walk_of script.now place.new ≡ answered (walk_of script.now place.old) reply) }
+    ensures now { IfOk result (λ reply. is_late reply ≡ false) }
     ensures at { OnOk result (place.new.at ≡ place.old.at + 1) }
     ensures standing { IsSameBegin place.old place.new }
     ensures err_undo { OnErr result (tx.new.undo ≡ tx.old.undo) }
@@ -130,10 +136,10 @@ fn do_call<H: Host>(
     Ok(reply)
 }
 
-// The objects that a transaction's call touches.
-fn touched_by(alloc: Global, words: &Words, tx: &Tx, call: &Call) -> SmallVec<Object, 2>
+// What a transaction's call claims.
+fn touched_by(alloc: Global, words: &Words, tx: &Tx, call: &Call) -> SmallVec<Claim, 2>
     requires { length words.now ≤ 4096 }
-    ensures { result.items ≡ touch call.now tx.now.me (length words.now) }
+    ensures { result.items ≡ claims_of call.now tx.now.me (length words.now) }
 {
     touched(alloc, call, &tx.me, words.count() as u32)
 }
@@ -152,8 +158,8 @@ fn try_call<H: Host>(
     requires may { MayGo script.now words.now place.old tx.old }
     requires count { length words.now ≤ 4096 }
     requires open { IsTrue H.tells → AreOpenIn (H.contents host.old) tx.old.me }
-    ensures flight { (tries : ℕ) (f : Following) (entered : ℕ) → Flight script.now tries f words.now entered place.old tx.old → Flight script.now tries f words.now entered place.new tx.new }
-    ensures played { IsTrue H.tells → (w : World) (me : PlainPrivate) (tries : ℕ) (f : Following) (entered : ℕ) → Flight script.now tries f words.now entered place.old tx.old → IsSound w me (entered + 1)
+    ensures flight { (rules : PlainRules) (tells : Bool) (f : Following) (entered : ℕ) → Flight (setting script.now rules tells) f words.now entered place.old tx.old → Flight (setting script.now rules tells) f words.now entered place.new tx.new }
+    ensures played { IsTrue H.tells → (w : World) (me : PlainPrivate) (rules : PlainRules) (tells : Bool) (f : Following) (entered : ℕ) → Flight (setting script.now rules tells) f words.now entered place.old tx.old → IsSound w me (entered + 1)
         → IsPlayedBy w me words.now (H.contents host.old) (PlainActivity.Active tx.old) → IsPlayedBy w me words.now (H.contents host.new) (PlainActivity.Active tx.new) }
     ensures faults { (n before : ℕ) → CountsFaults (n + faults_noted (PlainActivity.Active tx.old)) before (H.fault_count host.old) → CountsFaults (n + faults_noted (PlainActivity.Active tx.new)) before (H.fault_count host.new) }
     ensures block { IsSameBegin place.old place.new }
@@ -161,10 +167,10 @@ fn try_call<H: Host>(
     ensures answer { IsGoing result }
     ensures memory { result ≡ Turn.NoMemory → goes_back (doing_in (PlainActivity.Active tx.new)) ≡ true }
 {
-    let objects = touched_by(alloc, words, tx, &call);
+    let claims = touched_by(alloc, words, tx, &call);
     match do_call(alloc, host, words, script, place, tx, &call) {
         Ok(reply) => {
-            tx.note(call, reply, objects.as_slice());
+            tx.note(call, reply, claims.as_slice());
             Turn::Went
         }
         Err(NoMemory) => {
@@ -187,8 +193,8 @@ pub fn go<H: Host>(
     requires may { MayGo script.now words.old place.old tx.old }
     requires count { length words.old ≤ 4096 }
     requires open { IsTrue H.tells → AreOpenIn (H.contents host.old) tx.old.me }
-    ensures flight { (tries : ℕ) (f : Following) (entered : ℕ) → Flight script.now tries f words.old entered place.old tx.old → Flight script.now tries f words.new entered place.new tx.new }
-    ensures played { IsTrue H.tells → (w : World) (me : PlainPrivate) (tries : ℕ) (f : Following) (entered : ℕ) → Flight script.now tries f words.old entered place.old tx.old → IsSound w me (entered + 1)
+    ensures flight { (rules : PlainRules) (tells : Bool) (f : Following) (entered : ℕ) → Flight (setting script.now rules tells) f words.old entered place.old tx.old → Flight (setting script.now rules tells) f words.new entered place.new tx.new }
+    ensures played { IsTrue H.tells → (w : World) (me : PlainPrivate) (rules : PlainRules) (tells : Bool) (f : Following) (entered : ℕ) → Flight (setting script.now rules tells) f words.old entered place.old tx.old → IsSound w me (entered + 1)
         → IsPlayedBy w me words.old (H.contents host.old) (PlainActivity.Active tx.old) → IsPlayedBy w me words.new (H.contents host.new) (PlainActivity.Active tx.new) }
     ensures faults { (n before : ℕ) → CountsFaults (n + faults_noted (PlainActivity.Active tx.old)) before (H.fault_count host.old) → CountsFaults (n + faults_noted (PlainActivity.Active tx.new)) before (H.fault_count host.new) }
     ensures words { length words.new ≡ length words.old }
@@ -227,9 +233,9 @@ pub fn run<H: Host>(
     requires can { CanRun script.now words.old job.place job.activity }
     requires count { length words.old ≤ 4096 }
     requires open { IsTrue H.tells → HasOpenFiles (H.contents host.old) job.activity }
-    ensures active { (tries : ℕ) (f : Following) (entered : ℕ) (spare : ℕ) → IsActive script.now tries f words.old entered spare job.place job.activity
-        → IsActive script.now tries f words.new entered spare result.0.place result.0.activity }
-    ensures played { IsTrue H.tells → (w : World) (me : PlainPrivate) (tries : ℕ) (f : Following) (entered : ℕ) (spare : ℕ) → IsActive script.now tries f words.old entered spare job.place job.activity → IsSound w me (entered + 1)
+    ensures active { (rules : PlainRules) (tells : Bool) (f : Following) (entered : ℕ) (spare : ℕ) → IsActive (setting script.now rules tells) f words.old entered spare job.place job.activity
+        → IsActive (setting script.now rules tells) f words.new entered spare result.0.place result.0.activity }
+    ensures played { IsTrue H.tells → (w : World) (me : PlainPrivate) (rules : PlainRules) (tells : Bool) (f : Following) (entered : ℕ) (spare : ℕ) → IsActive (setting script.now rules tells) f words.old entered spare job.place job.activity → IsSound w me (entered + 1)
         → IsPlayedBy w me words.old (H.contents host.old) job.activity → IsPlayedBy w me words.new (H.contents host.new) result.0.activity }
     ensures faults { (n before : ℕ) → CountsFaults (n + faults_noted job.activity) before (H.fault_count host.old) → CountsFaults (n + faults_noted result.0.activity) before (H.fault_count host.new) }
     ensures words { length words.new ≡ length words.old }

@@ -7,6 +7,7 @@ ghost use Rattle.xc_text.specs.Scripts.{IsScript};
 ghost use Rattle.xc_station.specs.declared.job.Doing.TheVariants as doing;
 ghost use Rattle.xc_station.specs.Doing.{doing_of, doing_in, goes_back, is_live, EndsIn, EndsWith, Grows, IsLineOf, AreLinesOf, opened_job};
 ghost use Rattle.xc_station.specs.Ending.{IsTrueEnd};
+ghost use Rattle.xc_station.specs.Setting.{setting};
 ghost use Rattle.xc_station.specs.Flight.{HasLine};
 ghost use Rattle.xc_station.specs.Turns.{KeepsOpening, turns_left};
 
@@ -40,6 +41,7 @@ pub struct Station<H: Host> {
 
 impl<H: Host> Model for Station<H> {
     ghost use Rattle.std.specs.Prelude.{◌≤◌};
+    ghost use Rattle.xc_station.specs.Setting.{setting};
     ghost use Rattle.xc_station.specs.Turns.{Seen};
     ghost use Rattle.xc_station.specs.Flight.{InFlight, AreCounted, HasLine};
     ghost use Rattle.std.specs.Coded.{codes};
@@ -59,7 +61,7 @@ impl<H: Host> Model for Station<H> {
       taken = s.taken;
     } };
 
-    ghost invariant = { λ s. InFlight s.opening.script H.tells s.rules.undo_tries s.words (H.contents s.host) s.journal.items s.journal.spare s.job
+    ghost invariant = { λ s. InFlight (setting s.opening.script s.rules H.tells) s.words (H.contents s.host) s.journal.items s.journal.spare s.job
         × AreCounted s.journal.items s.job s.opening.faults (H.fault_count s.host) × (1 ≤ s.rules.undo_tries) × HasLine s.lines };
 }
 
@@ -304,7 +306,8 @@ impl<H: Host> Station<H> {
         ensures opening { result.opening ≡ self.opening }
         ensures journal { result.journal.items ≡ self.journal }
         ensures few { length result.journal.items ≤ 1000 }
-        ensures whole { IsTrueEnd self.opening.script H.tells self.rules.undo_tries result.journal.items result.words (H.contents result.host) result.jobs }
+        ensures whole { IsTrueEnd (setting self.opening.script self.rules H.tells) result.journal.items
+            (record { words = result.words; contents = H.contents result.host; lines = result.jobs }) }
 
         // The host's count rose by the faults that are recorded, and stayed where none is.
         ensures faults { CountsFaults (sum_by entry_faults result.journal.items) self.opening.faults (H.fault_count result.host) }

@@ -1,16 +1,16 @@
-ghost use Rattle.std.specs.Prelude.{◌≡◌, ◌≤◌, ◌+◌, ◌-◌, [], length, OnOk, IsTrue};
+ghost use Rattle.std.specs.Prelude.{◌≡◌, ◌≤◌, ◌+◌, ◌-◌, [], length, map, OnOk, IsTrue};
 ghost use Rattle.std.specs.List.{list_any};
-ghost use Rattle.xc_data.specs.Claims.{holding_one, holding, is_object};
+ghost use Rattle.xc_data.specs.Claims.{holding_one, holding, is_object, merged, objects};
 ghost use Rattle.xc_data.specs.declared.entry.Outcome.TheVariants.{Committed, Aborted};
 ghost use Rattle.xc_station.specs.Notes.{KeepsNotes, Notes, HasRoom, parts_of, entry_of};
 
 use std::alloc::Global;
 use xc_compensate::Stack;
-use xc_data::{Call, Cause, Entry, LateList, NoMemory, Object, Outcome, Private, Reply, Report};
+use xc_data::{Call, Cause, Claim, Entry, LateList, NoMemory, Outcome, Private, Reply, Report};
 use xc_journal::Roomy;
 use xc_txmem::WriteSet;
 
-/// What an active transaction does. Its claims are held in each phase.
+/// What an active transaction does.
 ///
 /// | Phase | Facts | Left by |
 /// |---|---|---|
@@ -37,7 +37,7 @@ pub struct Tx {
     pub undo: Stack,
     pub calls: Roomy<Call>,
     pub replies: Roomy<Reply>,
-    pub held: Roomy<Object>,
+    pub held: Roomy<Claim>,
 }
 
 impl Tx {
@@ -61,7 +61,7 @@ impl Tx {
         }
     }
 
-    /// Makes room for one call, its reply and its objects.
+    /// Makes room for one call, its reply and its claims.
     pub fn room(&mut self) -> Result<(), NoMemory>
         ensures ok { OnOk result (HasRoom self.new) }
         ensures same { KeepsNotes self.old self.new }
@@ -73,16 +73,16 @@ impl Tx {
         Ok(())
     }
 
-    /// Notes a call with its reply, and holds the objects that it touched. It takes no memory.
-    pub fn note(&mut self, call: Call, reply: Reply, objects: &[Object])
+    /// Notes a call with its reply, and holds what it claimed. It takes no memory.
+    pub fn note(&mut self, call: Call, reply: Reply, claims: &[Claim])
         requires room { HasRoom self.old }
-        requires few { length objects.now ≤ 2 }
-        ensures notes { Notes self.old self.new call reply objects.now }
+        requires few { length claims.now ≤ 2 }
+        ensures notes { Notes self.old self.new call reply claims.now }
         ensures parts { parts_of self.new ≡ parts_of self.old }
     {
         self.calls.enter(call);
         self.replies.enter(reply);
-        hold(&mut self.held, objects);
+        hold(&mut self.held, claims);
     }
 
     /// The entry of a transaction that committed. It takes no memory.
@@ -122,28 +122,41 @@ impl Tx {
     }
 }
 
-fn holds(held: &[Object], object: &Object) -> bool
-    ensures { result ≡ list_any (is_object object.now) held.now }
+fn holds(held: &[Claim], new: &Claim) -> bool
+    ensures { result ≡ list_any (is_object new.now.object) (objects held.now) }
 {
-    held.iter().any(|other| object == other)
+    held.iter().any(|claim| new.object == claim.object)
 }
 
-fn hold_one(held: &mut Roomy<Object>, object: &Object)
-    requires { 1 ≤ held.old.spare }
-    ensures held { held.new.items ≡ holding_one held.old.items object.now }
-    ensures spare { held.old.spare ≤ held.new.spare + 1 }
+// Each held claim behind a new one.
+fn merge(held: &mut Roomy<Claim>, new: &Claim)
+    ensures held { held.new.items ≡ map (merged new.now) held.old.items }
+    ensures spare { held.new.spare ≡ held.old.spare }
 {
-    if !holds(held.as_slice(), object) {
-        held.enter(*object);
+    for at in 0..held.len() {
+        let claim = *held.get(at);
+        held.set(at, claim.merged(new));
     }
 }
 
-// Holds the objects that aren't held yet.
-fn hold(held: &mut Roomy<Object>, objects: &[Object])
-    requires { length objects.now ≤ held.old.spare }
-    ensures { held.new.items ≡ holding held.old.items objects.now }
+fn hold_one(held: &mut Roomy<Claim>, new: &Claim)
+    requires { 1 ≤ held.old.spare }
+    ensures held { held.new.items ≡ holding_one held.old.items new.now }
+    ensures spare { held.old.spare ≤ held.new.spare + 1 }
 {
-    for object in objects {
-        hold_one(held, object);
+    if holds(held.as_slice(), new) {
+        merge(held, new);
+    } else {
+        held.enter(*new);
+    }
+}
+
+// Holds what is claimed: an object that isn't held yet behind the others.
+fn hold(held: &mut Roomy<Claim>, claims: &[Claim])
+    requires { length claims.now ≤ held.old.spare }
+    ensures { held.new.items ≡ holding held.old.items claims.now }
+{
+    for claim in claims {
+        hold_one(held, claim);
     }
 }
