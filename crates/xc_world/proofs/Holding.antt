@@ -6,7 +6,6 @@ use Rattle.std.proofs.lemmas.List.Folds.{list_any-append}
 use Rattle.std.proofs.lemmas.List.Sums.{sum_by-append}
 use Rattle.std.proofs.lemmas.Map.Views.{Contains-from_any}
 use Rattle.xc_data.specs.declared.object.Object.{Object}
-use Rattle.xc_world.specs.Touch as old
 use Rattle.xc_data.specs.Claims.{is_object}
 use Rattle.xc_world.proofs.SoundParts.{chosen_so}
 use Rattle.xc_data.specs.declared.claim.Mode.{Mode}
@@ -141,21 +140,7 @@ held_seen claims o = (same_lists (objects (held_of claims)) (objects claims) o (
 pub held_owned : (claims : List Claim) (o : Object) → Contains (owned (held_of claims)) o ↔ Contains (owned claims) o
 held_owned claims o = (same_lists (owned (held_of claims)) (owned claims) o (owned_all [] claims o), same_lists (owned claims) (owned (held_of claims)) o (sym (owned_all [] claims o)))
 
--- ---- their order, and each once
-order_one : (held : List Claim) (new : Claim) → objects (holding_one held new) ≡ old.holding_one (objects held) new.object
-order_one held new = by_test (has (objects held) new.object)
-  where
-    by_test : (b : Bool) → objects (if b then map (merged new) held else held ++ new ∷ []) ≡ (if b then objects held else objects held ++ new.object ∷ [])
-    by_test true = objects_merged new held
-    by_test false = objects_append held (new ∷ [])
-
-order_all : (held claims : List Claim) → objects (holding held claims) ≡ old.holding (objects held) (objects claims)
-order_all held [] = refl
-order_all held (c ∷ claims) = order_all (holding_one held c) claims ∙ ap (λ os. old.holding os (objects claims)) (order_one held c)
-
-pub held_order : (claims : List Claim) → objects (held_of claims) ≡ old.holding [] (objects claims)
-held_order claims = order_all [] claims
-
+-- ---- each once
 or_parts : (a b : Bool) → (a || b) ≡ false → (a ≡ false) × (b ≡ false)
 or_parts true b e = cc
 or_parts false b e = (refl, e)

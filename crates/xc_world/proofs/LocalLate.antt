@@ -1,6 +1,6 @@
 -- What a late call does depends on its object alone, and it changes no other.
 use Rattle.std.proofs.Common.{◌≡◌, ℕ, true, not, Option, Some, None, List, [], ◌∷◌, ◌++◌, length, take, ap, ◌∙◌, subst, refl}
-use Rattle.std.specs.Prelude.{min, nat_lt, nat_le, nat_eq, ◌==◌, All, Contains}
+use Rattle.std.specs.Prelude.{min, nat_lt, nat_le, nat_eq, ◌==◌, ◌||◌, All, Contains}
 use Rattle.std.specs.List.{list_any}
 use Rattle.std.specs.Cmp.Lexicographic.{pointwise}
 use Rattle.std.specs.FinMap as map
@@ -87,7 +87,7 @@ stopped_alike : (w v : World) (c : LateCall) (n : ℕ) → All (AgreeAt w v) (la
 stopped_alike w v (WritePipe num bytes) n agree =
     let has = first_in (object.Pipe num) [] in
     let e = same_pipe (object.Pipe num ∷ []) w v num has agree in
-    both_so (GoAlike (object.Pipe num ∷ []) w v) (n == 0) (n == 0) _ _ _ _ refl (λ _. same_alike _ w v agree)
+    both_so (GoAlike (object.Pipe num ∷ []) w v) (n == 0 || (pipe_of w num).shut) (n == 0 || (pipe_of v num).shut) _ _ _ _ (ap (λ (p : Pipe). n == 0 || p.shut) e) (λ _. same_alike _ w v agree)
     (λ _. put_alike _ w v num (take (min n (room (pipe_of w num))) bytes) (take (min n (room (pipe_of v num))) bytes) (ap (λ p. take (min n (room p)) bytes) e) has agree)
 stopped_alike w v _ n agree = same_alike _ w v agree
 

@@ -1,6 +1,6 @@
 -- A late call keeps a world sound, with every private state in it.
 use Rattle.std.proofs.Common.{ℕ, ◌≤◌, Bool, true, not, Option, Some, None, is_some, List, [], ◌∷◌, ◌++◌, length, take}
-use Rattle.std.specs.Prelude.{IsTrue, min, nat_lt, nat_le, ◌==◌}
+use Rattle.std.specs.Prelude.{IsTrue, min, nat_lt, nat_le, ◌==◌, ◌||◌}
 use Rattle.std.specs.FinMap as map
 use Rattle.std.proofs.lemmas.List.Elements.{All-push}
 use Rattle.xc_data.specs.declared.object.Num.{Num}
@@ -67,7 +67,7 @@ fine_keeps w (Thread body) short fit = started_keeps w body fit
 stopped_keeps : (w : World) (c : LateCall) (n : ℕ) → IsFit w → Keeps (names_there w c) w (stopped w c n)
 stopped_keeps w (WritePipe num bytes) n fit =
     let there = is_some (map.get w.pipes num) in
-    chosen_so (Keeps there w) (n == 0) _ _ (λ _. keeps_itself there w fit) (λ _. put_keeps w num (take (min n (room (pipe_of w num))) bytes) fit)
+    chosen_so (Keeps there w) (n == 0 || (pipe_of w num).shut) _ _ (λ _. keeps_itself there w fit) (λ _. put_keeps w num (take (min n (room (pipe_of w num))) bytes) fit)
 stopped_keeps w c n fit = keeps_itself (names_there w c) w fit
 
 -- a late call keeps the objects and, where its object is there, what is free

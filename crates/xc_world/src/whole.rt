@@ -13,7 +13,6 @@ ghost use Rattle.xc_world.specs.World.{World};
 ghost use Rattle.xc_world.specs.Act.{act};
 ghost use Rattle.xc_world.specs.Fits.{fits};
 ghost use Rattle.xc_world.specs.Sound.{IsFree, IsSound};
-ghost use Rattle.xc_data.specs.Claims.{holding};
 ghost use Rattle.xc_world.specs.Touch.{touch, made_by};
 ghost use Rattle.xc_world.specs.Trail.{recorded};
 ghost use Rattle.xc_world.specs.Ends.{with_remains};
@@ -143,10 +142,9 @@ pub fn a_body_in_two_parts()
         → body w me tx (front ++ rest) ≡ behind (body w me tx front) (body (body w me tx front).world (body w me tx front).me tx rest) }
 {}
 
-/// What is held are the objects that were claimed, in the order of the first claims.
+/// What is held are the objects that were claimed.
 pub fn what_is_held_was_claimed()
-    ensures order { (claims : List Claim) → objects (held_of claims) ≡ holding [] (objects claims) }
-    ensures objects { (claims : List Claim) (o : Object) → Contains (objects (held_of claims)) o ↔ Contains (objects claims) o }
+    ensures { (claims : List Claim) (o : Object) → Contains (objects (held_of claims)) o ↔ Contains (objects claims) o }
 {}
 
 /// Each is held once.
