@@ -1,4 +1,4 @@
-ghost use Rattle.std.specs.Prelude.{◌≡◌, ℕ, IfOk, OnErr, IsTrue};
+ghost use Rattle.std.specs.Prelude.{◌≡◌, false, ℕ, IfOk, OnErr, IsTrue};
 ghost use Rattle.xc_data.specs.Counts.{CountsFault};
 ghost use Rattle.xc_data.specs.declared.call.Call.TheVariants.{XOpen};
 ghost use Rattle.xc_world.specs.Late.{is_late};

@@ -118,6 +118,7 @@ fn overwrite<H: Host>(
     ensures grows { length undo.new.pending ≤ length undo.old.pending + 1 }
     ensures err_undo { OnErr result (undo.new ≡ undo.old) }
     ensures err_contents { IsTrue H.tells → OnErr result (H.contents host.new ≡ H.contents host.old) }
+    ensures now { IfOk result (λ reply. is_late reply ≡ false) }
     ensures cause { CountsFault (replies_fault result) (H.fault_count host.old) (H.fault_count host.new) }
 {
     let before = match bytes_under(alloc, host, file, at, bytes.len() as u32) {

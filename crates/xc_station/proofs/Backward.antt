@@ -21,13 +21,15 @@ use Rattle.xc_script.specs.Place.{Place as Standing}
 use Rattle.xc_world.specs.World.{World, file_of}
 use Rattle.xc_world.specs.Ends.{Ending, IsLegalEnd, AreLegal, blocker, remains, with_remains}
 use Rattle.xc_world.specs.Effects.{whole, only_overwrites, AreMadeIn, IsCovered, undone_to}
-use Rattle.xc_world.specs.Run.{Asked, asked_of}
+use Rattle.xc_data.specs.declared.call.Asked.{Asked}
+use Rattle.xc_world.specs.Run.{asked_of}
 use Rattle.xc_world.specs.Sound.{IsSound, IsKnown}
 use Rattle.xc_world.specs.Trail.{move_name}
 use Rattle.xc_world.proofs.EffectsBody.{body-sound}
 use Rattle.xc_world.proofs.EffectsMade.{body-made}
 use Rattle.xc_world.proofs.EffectsRemains.{record-covered}
 use Rattle.xc_world.proofs.EffectsUndone.{record-undone}
+use Rattle.xc_station.specs.Setting.{Setting}
 use Rattle.xc_station.specs.declared.tx.Tx.{Tx}
 use Rattle.xc_station.specs.declared.tx.Phase.TheVariants.{Running, Undoing}
 use Rattle.xc_station.specs.declared.job.Activity.TheVariants.{Active}
@@ -42,7 +44,7 @@ use Rattle.xc_station.proofs.Stories.{all-built}
 pub made_in : (script : Script) (f : Following) (entered : ℕ) (w : World) (me : Private) (tx : Tx) → IsNoted script f entered tx → IsSound w me (entered + 1) → HasPlayed w me tx → AreMadeIn w (ran_of w me tx).trail
 made_in script f entered w me tx n sound p =
     let asked = asked_of tx.calls.items tx.replies.items in
-    let overwrites : All (λ (a : Asked). only_overwrites a.0 ≡ true) asked =
+    let overwrites : All (λ (a : Asked). only_overwrites a.call ≡ true) asked =
     all-built (λ d. only_overwrites d ≡ true) built-overwrites (walk_from script f.job) tx.calls.items tx.replies.items n.asked in
     body-made w me tx.number asked (subst (IsSound w me) (sym n.number) sound) p.fits overwrites
 
@@ -65,27 +67,27 @@ open_files script f entered words w me contents tx runs n sound played h =
     subst (λ (v : World). IsOpenIn (contents_of v) (place_of tx.me.places h)) go.world there
 
 -- ---- one record is tried
-pub flight_tried : (script : Script) (tries : ℕ) (f : Following) (words : List ℕ) (entered : ℕ) (standing : Standing) (tx : Tx) (c : Cause) (older : List Undo) (u : Undo) (end : UndoEnd)
+pub flight_tried : (s : Setting) (f : Following) (words : List ℕ) (entered : ℕ) (standing : Standing) (tx : Tx) (c : Cause) (older : List Undo) (u : Undo) (end : UndoEnd)
     → tx.phase ≡ Undoing c → tx.undo.pending ≡ older ++ u ∷ []
-    → IsLegalEnd tries u end (blocker (length older + 1 + 1) u tx.undo.ended)
-    → Flight script tries f words entered standing tx → Flight script tries f words entered standing (record tx { undo = record { pending = older; ended = (u, end) ∷ tx.undo.ended } })
-flight_tried script tries f words entered standing tx c older u end undoes pending legal flight =
-    let back : IsUndoing script tries f tx c = subst (IsPhase script tries f words standing tx) undoes flight.phase in
+    → IsLegalEnd s.rules.undo_tries u end (blocker (length older + 1 + 1) u tx.undo.ended)
+    → Flight s f words entered standing tx → Flight s f words entered standing (record tx { undo = record { pending = older; ended = (u, end) ∷ tx.undo.ended } })
+flight_tried s f words entered standing tx c older u end undoes pending legal flight =
+    let back : IsUndoing s f tx c = subst (IsPhase s f words standing tx) undoes flight.phase in
     let next : Tx = record tx { undo = record { pending = older; ended = (u, end) ∷ tx.undo.ended } } in
     let count : length tx.undo.pending ≡ length older + 1 = ap length pending ∙ length-append older (u ∷ []) in
     let n = flight.noted in
-    let now : IsUndoing script tries f next c = record {
+    let now : IsUndoing s f next c = record {
       caused = back.caused;
-      legal = (legal, subst (λ k. AreLegal tries (k + 1) tx.undo.ended) count back.legal);
+      legal = (legal, subst (λ k. AreLegal s.rules.undo_tries (k + 1) tx.undo.ended) count back.legal);
     } in
     record {
       goes_on = flight.goes_on;
       left = flight.left;
       passed = flight.passed;
       standing = flight.standing;
-      noted = record { number = n.number; began = n.began; asked = n.asked };
+      noted = record { number = n.number; began = n.began; asked = n.asked; none_kept = n.none_kept };
       stored = flight.stored;
-      phase = subst (IsPhase script tries f words standing next) (sym undoes) now;
+      phase = subst (IsPhase s f words standing next) (sym undoes) now;
     }
 
 -- a compensation depends on what the host has alone
@@ -112,13 +114,13 @@ undone_alike w (NewPipe num) (Failed done faults) = refl
 undone_alike w (NewPair num) (Failed done faults) = refl
 undone_alike w u (Blocked by) = refl
 
-pub played_tried : (script : Script) (tries : ℕ) (f : Following) (words : List ℕ) (entered : ℕ) (standing : Standing) (w : World) (me : Private) (was is : Contents) (tx : Tx) (c : Cause) (older : List Undo) (u : Undo) (end : UndoEnd)
+pub played_tried : (s : Setting) (f : Following) (words : List ℕ) (entered : ℕ) (standing : Standing) (w : World) (me : Private) (was is : Contents) (tx : Tx) (c : Cause) (older : List Undo) (u : Undo) (end : UndoEnd)
     → tx.phase ≡ Undoing c → tx.undo.pending ≡ older ++ u ∷ []
-    → IsLegalEnd tries u end (blocker (length older + 1 + 1) u tx.undo.ended)
+    → IsLegalEnd s.rules.undo_tries u end (blocker (length older + 1 + 1) u tx.undo.ended)
     → is ≡ contents_of (undone_to (world_of was) u end)
-    → IsNoted script f entered tx → IsSound w me (entered + 1)
+    → IsNoted s.script f entered tx → IsSound w me (entered + 1)
     → IsPlayedBy w me words was (Active tx) → IsPlayedBy w me words is (Active (record tx { undo = record { pending = older; ended = (u, end) ∷ tx.undo.ended } }))
-played_tried script tries f words entered standing w me was is tx c older u end undoes pending legal effect n sound played =
+played_tried s f words entered standing w me was is tx c older u end undoes pending legal effect n sound played =
     let way : (words ≡ w.words) × GoesBack w me was tx = subst (IsPlayedIn w me words was tx) undoes played.1 in
     let back = way.1 in
     let p = played.0 in
@@ -126,13 +128,13 @@ played_tried script tries f words entered standing w me was is tx c older u end 
     let newer = tx.undo.ended in
     let trail : (ran_of w me tx).trail ≡ older ++ u ∷ map (λ (r : Ending). r.0) newer =
     back.trail ∙ ap (λ us. us ++ map (λ (r : Ending). r.0) newer) pending ∙ append_assoc older (u ∷ []) (map (λ (r : Ending). r.0) newer) in
-    let made = subst (AreMadeIn w) trail (made_in script f entered w me tx n sound p) in
+    let made = subst (AreMadeIn w) trail (made_in s.script f entered w me tx n sound p) in
     let before = with_remains w (whole (older ++ u ∷ []) ++ remains newer) in
     let stood : was ≡ contents_of before = back.host ∙ ap (λ us. contents_of (with_remains w (whole us ++ remains newer))) pending in
     let done : is ≡ contents_of (with_remains w (whole older ++ remains ((u, end) ∷ newer))) =
-    effect ∙ ap (λ k. contents_of (undone_to (world_of k) u end)) stood ∙ undone_alike before u end ∙ ap contents_of (record-undone w older u newer tries end made legal) in
+    effect ∙ ap (λ k. contents_of (undone_to (world_of k) u end)) stood ∙ undone_alike before u end ∙ ap contents_of (record-undone w older u newer s.rules.undo_tries end made legal) in
     let now : GoesBack w me is next = record { trail = trail; host = done } in
-    (record { fits = p.fits; replies = p.replies; late = p.late; held = p.held }, subst (IsPlayedIn w me words is next) (sym undoes) (way.0, now))
+    (record { fits = p.fits; replies = p.replies; late = p.late; taken = p.taken; held = p.held }, subst (IsPlayedIn w me words is next) (sym undoes) (way.0, now))
 
 covered_alike : (w : World) (u : Undo) → IsCovered w u → IsCovered (world_of (contents_of w)) u
 covered_alike w (Bytes file at before after n) h = h

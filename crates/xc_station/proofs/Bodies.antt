@@ -7,7 +7,6 @@ use Rattle.xc_data.specs.declared.call.Answer.{Answer}
 use Rattle.xc_data.specs.declared.call.Answer.TheVariants as answer
 use Rattle.xc_data.specs.declared.call.Reply.{Reply}
 use Rattle.xc_data.specs.declared.call.Reply.TheVariants as reply
-use Rattle.xc_data.specs.declared.object.Object.{Object}
 use Rattle.xc_data.specs.declared.private.Private.{Private}
 use Rattle.xc_world.specs.World.{World}
 use Rattle.xc_world.specs.Act.{act}
@@ -15,10 +14,12 @@ use Rattle.xc_world.specs.Act.Step.{Stepped, stays}
 use Rattle.xc_world.specs.Late.{late_call, kept_call}
 use Rattle.xc_world.specs.Fits.{fits, answer_of}
 use Rattle.xc_data.specs.Claims.{holding, holding_one}
-use Rattle.xc_world.specs.Touch.{touch}
 use Rattle.xc_world.specs.Trail.{recorded}
-use Rattle.xc_world.specs.Effects.{takes_data, only_overwrites}
-use Rattle.xc_world.specs.Run.{Asked, Ran, rests, behind, body, body_fits, asked_of}
+use Rattle.xc_world.specs.Effects.{only_overwrites}
+use Rattle.xc_world.specs.Run.{Ran, begins, step, goes_on, body, body_fits, taken_by, asked_of}
+use Rattle.xc_data.specs.declared.call.Asked.{Asked}
+use Rattle.xc_data.specs.declared.claim.Claim.{Claim}
+use Rattle.std.proofs.lemmas.List.Sums.{fold-append, fold_push}
 use Rattle.xc_station.specs.Notes.{is_built}
 use Rattle.xc_station.specs.WordCalls.{is_word_call, word_reply, words_after}
 
@@ -26,48 +27,9 @@ pub append_nil : {A : Type 0} (xs : List A) → xs ++ [] ≡ xs
 append_nil [] = refl
 append_nil (x ∷ xs) = ap (λ ys. x ∷ ys) (append_nil xs)
 
--- a call more, with its step
-abbrev pub extended : Ran → ℕ → Call → Stepped → Ran
-extended ran tx c s =
-    record {
-      world = s.world;
-      me = s.me;
-      replies = ran.replies ++ s.reply ∷ [];
-      late = ran.late ++ kept_call c ran.me s.reply;
-      trail = ran.trail ++ recorded ran.world ran.me tx c s.reply;
-      touched = ran.touched ++ touch c ran.me (length ran.world.words);
-    }
-
-behind-extended : (w : World) (me : Private) (tx : ℕ) (d : Call) (r : Reply) (ran : Ran) (c : Call) (s : Stepped) → behind w me tx d r (extended ran tx c s) ≡ extended (behind w me tx d r ran) tx c s
-behind-extended w me tx d r ran c s =
-    λ i. record {
-      world = s.world;
-      me = s.me;
-      replies = r ∷ (ran.replies ++ s.reply ∷ []);
-      late = sym (append_assoc (kept_call d me r) ran.late (kept_call c ran.me s.reply)) i;
-      trail = sym (append_assoc (recorded w me tx d r) ran.trail (recorded ran.world ran.me tx c s.reply)) i;
-      touched = sym (append_assoc (touch d me (length w.words)) ran.touched (touch c ran.me (length ran.world.words))) i;
-    }
-
-alone-extended : (w : World) (me : Private) (tx : ℕ) (c : Call) (s : Stepped) → behind w me tx c s.reply (rests s.world s.me) ≡ extended (rests w me) tx c s
-alone-extended w me tx c s =
-    λ i. record {
-      world = s.world;
-      me = s.me;
-      replies = s.reply ∷ [];
-      late = append_nil (kept_call c me s.reply) i;
-      trail = append_nil (recorded w me tx c s.reply) i;
-      touched = append_nil (touch c me (length w.words)) i;
-    }
-
 -- the body of one call more is the body, and then that call
-pub body-more : (w : World) (me : Private) (tx : ℕ) (asked : List Asked) (c : Call) (a : Answer) →
-    body w me tx (asked ++ (c, a) ∷ []) ≡ extended (body w me tx asked) tx c (act (body w me tx asked).world (body w me tx asked).me tx c a)
-body-more w me tx [] c a = alone-extended w me tx c (act w me tx c a)
-body-more w me tx ((d, b) ∷ asked) c a =
-    let s = act w me tx d b in
-    let ran = body s.world s.me tx asked in
-    ap (behind w me tx d s.reply) (body-more s.world s.me tx asked c a) ∙ behind-extended w me tx d s.reply ran c (act ran.world ran.me tx c a)
+pub body-more : (w : World) (me : Private) (tx : ℕ) (asked : List Asked) (c : Asked) → body w me tx (asked ++ c ∷ []) ≡ step tx (body w me tx asked) c
+body-more w me tx asked c = fold_push (step tx) (begins w me) asked c
 
 and_both : (a b : Bool) → IsTrue (a && b) → IsTrue a × IsTrue b
 and_both true b h = (refl, h)
@@ -77,24 +39,33 @@ both_and : (a b : Bool) → IsTrue a → IsTrue b → IsTrue (a && b)
 both_and true b p q = q
 both_and false b p q = p
 
-pub fits-more : (w : World) (me : Private) (tx : ℕ) (asked : List Asked) (c : Call) (a : Answer) → IsTrue (body_fits w me tx asked)
-    → IsTrue (fits (body w me tx asked).world (body w me tx asked).me tx c a) → IsTrue (body_fits w me tx (asked ++ (c, a) ∷ []))
-fits-more w me tx [] c a h fit = both_and (fits w me tx c a) true fit refl
-fits-more w me tx ((d, b) ∷ asked) c a h fit =
-    let s = act w me tx d b in
-    let parts = and_both (fits w me tx d b) (body_fits s.world s.me tx asked) h in
-    both_and (fits w me tx d b) (body_fits s.world s.me tx (asked ++ (c, a) ∷ [])) parts.0 (fits-more s.world s.me tx asked c a parts.1 fit)
+fits-on : (tx : ℕ) (r : Ran) (asked : List Asked) (c : Asked) → IsTrue (body_fits r.world r.me tx asked) → IsTrue (fits (goes_on tx r asked).world (goes_on tx r asked).me tx c.call c.answer)
+    → IsTrue (body_fits r.world r.me tx (asked ++ c ∷ []))
+fits-on tx r [] c h fit = both_and (fits r.world r.me tx c.call c.answer) true fit refl
+fits-on tx r (d ∷ asked) c h fit =
+    let s = act r.world r.me tx d.call d.answer in
+    let parts = and_both (fits r.world r.me tx d.call d.answer) (body_fits s.world s.me tx asked) h in
+    both_and (fits r.world r.me tx d.call d.answer) (body_fits s.world s.me tx (asked ++ c ∷ [])) parts.0 (fits-on tx (step tx r d) asked c parts.1 fit)
+
+-- its answers fit where the body's do and the call's does
+pub fits-more : (w : World) (me : Private) (tx : ℕ) (asked : List Asked) (c : Asked) → IsTrue (body_fits w me tx asked)
+    → IsTrue (fits (body w me tx asked).world (body w me tx asked).me tx c.call c.answer) → IsTrue (body_fits w me tx (asked ++ c ∷ []))
+fits-more w me tx asked c h fit = fits-on tx (begins w me) asked c h fit
+
+-- the call that an entry has last
+abbrev pub asked_with : Call → Reply → Asked
+asked_with c r = record { call = c; answer = answer_of r }
 
 pub asked-more : (calls : List Call) (replies : List Reply) (c : Call) (r : Reply) → length calls ≡ length replies →
-    asked_of (calls ++ c ∷ []) (replies ++ r ∷ []) ≡ asked_of calls replies ++ (c, answer_of r) ∷ []
+    asked_of (calls ++ c ∷ []) (replies ++ r ∷ []) ≡ asked_of calls replies ++ asked_with c r ∷ []
 asked-more [] [] c r e = refl
 asked-more [] (q ∷ replies) c r e = absurd (omega arith)
 asked-more (d ∷ calls) [] c r e = absurd (omega arith)
-asked-more (d ∷ calls) (q ∷ replies) c r e = ap (λ xs. (d, answer_of q) ∷ xs) (asked-more calls replies c r (omega arith))
+asked-more (d ∷ calls) (q ∷ replies) c r e = ap (λ xs. asked_with d q ∷ xs) (asked-more calls replies c r (omega arith))
 
-pub holding-more : (held a b : List Object) → holding (holding held a) b ≡ holding held (a ++ b)
-holding-more held [] b = refl
-holding-more held (o ∷ a) b = holding-more (holding_one held o) a b
+-- what is held behind two lists of claims
+pub holding-more : (held a b : List Claim) → holding (holding held a) b ≡ holding held (a ++ b)
+holding-more held a b = sym (fold-append holding_one held a b)
 
 -- ---- calls on words
 word_load : (w : World) (me : Private) (at : ℕ) (b : Bool) →
@@ -145,13 +116,13 @@ built-late (call.XWriteOvr h bytes) me r is = kept-nil (call.XWriteOvr h bytes) 
 built-late _ me r is = cc
 
 -- and take no data
-pub built-takes : (c : Call) → is_built c ≡ true → takes_data c ≡ false
-built-takes (call.Load at) is = refl
-built-takes (call.Store at value) is = refl
-built-takes (call.XOpen name) is = refl
-built-takes (call.XRead h n) is = refl
-built-takes (call.XWriteOvr h bytes) is = refl
-built-takes _ is = cc
+pub built-taken : (c : Call) (me : Private) (r : Reply) → is_built c ≡ true → taken_by c me r ≡ []
+built-taken (call.Load at) me r is = refl
+built-taken (call.Store at value) me r is = refl
+built-taken (call.XOpen name) me r is = refl
+built-taken (call.XRead h n) me r is = refl
+built-taken (call.XWriteOvr h bytes) me r is = refl
+built-taken _ me r is = cc
 
 -- and leave no record but of an overwrite
 pub built-overwrites : (c : Call) → is_built c ≡ true → only_overwrites c ≡ true

@@ -27,6 +27,7 @@ use Rattle.xc_world.specs.World.{World, beginning, no_handles}
 use Rattle.xc_world.specs.Opening.{bare, opening, with_opened, with_all_opened, handles_of, opening_handles, line_num}
 use Rattle.xc_world.specs.Sound.{IsSound}
 use Rattle.xc_world.proofs.SoundOpening.{opening_sound}
+use Rattle.xc_station.specs.Setting.{Setting}
 use Rattle.xc_station.specs.declared.job.Job.{Job}
 use Rattle.xc_station.specs.declared.job.Activity.{Activity}
 use Rattle.xc_station.specs.declared.job.Activity.TheVariants as activity
@@ -124,36 +125,36 @@ start_next : (script : Script) (names : List (List ℕ)) (f : Following) → map
 start_next script [] f e = cc
 start_next script (name ∷ names) f e = let same : untried (fresh_job (block_place script name)) 0 ≡ f = first_is _ f _ [] e in ap (λ (g : Following). g.job.next) same
 
-start_job : (script : Script) (tells : Bool) (tries spare : ℕ) (words : List ℕ) (contents : Contents) (o : Option (List ℕ)) → IsScript script → KeepsLimits script.plain → words ≡ script.plain.words
-    → (IsTrue tells → contents ≡ opened script.plain.prologue.objects) → slice_get script.plain.jobs 0 ≡ o
-    → IsJob script tells tries words contents 0 spare (progress_of script []) (opened_job script o)
-start_job script tells tries spare words contents None is limits same held e = record { jobs = none_there script.plain.jobs e; none = refl; opened = λ t. start_as script words contents same (held t) }
-start_job script tells tries spare words contents (Some block) is limits same held e =
-    let few : length script.plain.jobs ≤ 1 = omega (arith, is.one_block, ap length is.jobs, length_names script.blocks) in
-    let jobs = one_at_most script.plain.jobs block few e in
+start_job : (s : Setting) (spare : ℕ) (words : List ℕ) (contents : Contents) (o : Option (List ℕ)) → IsScript s.script → KeepsLimits s.script.plain → words ≡ s.script.plain.words
+    → (IsTrue s.tells → contents ≡ opened s.script.plain.prologue.objects) → slice_get s.script.plain.jobs 0 ≡ o
+    → IsJob s words contents 0 spare (progress_of s.script []) (opened_job s.script o)
+start_job s spare words contents None is limits same held e = record { jobs = none_there s.script.plain.jobs e; none = refl; opened = λ t. start_as s.script words contents same (held t) }
+start_job s spare words contents (Some block) is limits same held e =
+    let few : length s.script.plain.jobs ≤ 1 = omega (arith, is.one_block, ap length is.jobs, length_names s.script.blocks) in
+    let jobs = one_at_most s.script.plain.jobs block few e in
     record {
-      following = untried (fresh_job (block_place script block)) 0;
-      alone = start_alone script block jobs;
+      following = untried (fresh_job (block_place s.script block)) 0;
+      alone = start_alone s.script block jobs;
       named = jobs;
       active = (refl, refl, refl);
       begins = refl;
-      played = λ t. record { begin = start_begins script block is limits jobs; now = start_as script words contents same (held t) };
+      played = λ t. record { begin = start_begins s.script block is limits jobs; now = start_as s.script words contents same (held t) };
     }
 
-pub started : (script : Script) (tells : Bool) (tries spare : ℕ) (words : List ℕ) (contents : Contents) (journal : List Entry) (job : Option Job) → IsScript script → KeepsLimits script.plain → words ≡ script.plain.words
-    → (IsTrue tells → contents ≡ opened script.plain.prologue.objects) → journal ≡ []
-    → job ≡ opened_job script (slice_get script.plain.jobs 0) → InFlight script tells tries words contents journal spare job
-started script tells tries spare words contents journal job is limits same held none first =
-    let there : InFlight script tells tries words contents [] spare (opened_job script (slice_get script.plain.jobs 0)) = record {
+pub started : (s : Setting) (spare : ℕ) (words : List ℕ) (contents : Contents) (journal : List Entry) (job : Option Job) → IsScript s.script → KeepsLimits s.script.plain → words ≡ s.script.plain.words
+    → (IsTrue s.tells → contents ≡ opened s.script.plain.prologue.objects) → journal ≡ []
+    → job ≡ opened_job s.script (slice_get s.script.plain.jobs 0) → InFlight s words contents journal spare job
+started s spare words contents journal job is limits same held none first =
+    let there : InFlight s words contents [] spare (opened_job s.script (slice_get s.script.plain.jobs 0)) = record {
       read = is;
       entries = tt;
       in_order = tt;
       few = omega arith;
       count = ap length same;
-      unbroken = λ (f : Following) (jobs : (progress_of script []).jobs ≡ f ∷ []) goes. record { settled = refl; passed = start_next script script.plain.jobs f jobs; within = omega (arith, start_next script script.plain.jobs f jobs) };
-      job = start_job script tells tries spare words contents (slice_get script.plain.jobs 0) is limits same held refl;
+      unbroken = λ (f : Following) (jobs : (progress_of s.script []).jobs ≡ f ∷ []) goes. record { settled = refl; passed = start_next s.script s.script.plain.jobs f jobs; within = omega (arith, start_next s.script s.script.plain.jobs f jobs) };
+      job = start_job s spare words contents (slice_get s.script.plain.jobs 0) is limits same held refl;
     } in
-    subst (λ js. InFlight script tells tries words contents js spare job) (sym none) (subst (InFlight script tells tries words contents [] spare) (sym first) there)
+    subst (λ js. InFlight s words contents js spare job) (sym none) (subst (InFlight s words contents [] spare) (sym first) there)
 
 opened_faults : (script : Script) (o : Option (List ℕ)) → faults_of_job (opened_job script o) ≡ 0
 opened_faults script None = refl
@@ -183,23 +184,23 @@ over_is activity.Starved e = cc
 over_is (activity.Ended end) e = (end, refl)
 
 -- what is left of a job that has ended
-pub record IsOver (script : Script) (tells : Bool) (values : List ℕ) (contents : Contents) (journal : List Entry) (lines : List JobLine) : Type 0 where
-  pub final : IsTrue tells → IsFinalState (progress_of script journal).state values contents lines
-  pub ends : AreEnds script (progress_of script journal).jobs lines
+pub record IsOver (s : Setting) (values : List ℕ) (contents : Contents) (journal : List Entry) (lines : List JobLine) : Type 0 where
+  pub final : IsTrue s.tells → IsFinalState (progress_of s.script journal).state values contents lines
+  pub ends : AreEnds s.script (progress_of s.script journal).jobs lines
 
-none_over : (script : Script) (tells : Bool) (tries : ℕ) (words : List ℕ) (contents : Contents) (journal : List Entry) (spare : ℕ) (lines : List JobLine) → lines ≡ [] →
-    IsJob script tells tries words contents (length journal) spare (progress_of script journal) None → IsOver script tells words contents journal lines
-none_over script tells tries words contents [] spare lines none h =
+none_over : (s : Setting) (words : List ℕ) (contents : Contents) (journal : List Entry) (spare : ℕ) (lines : List JobLine) → lines ≡ [] →
+    IsJob s words contents (length journal) spare (progress_of s.script journal) None → IsOver s words contents journal lines
+none_over s words contents [] spare lines none h =
     record {
       final = λ t. let there = h.opened t in
           record {
             words = there.words;
             host = there.host;
-            blocks = ap (map (λ (line : JobLine). line.block)) none ∙ sym h.jobs ∙ sym (opening_base script.plain).1;
+            blocks = ap (map (λ (line : JobLine). line.block)) none ∙ sym h.jobs ∙ sym (opening_base s.script.plain).1;
           };
-      ends = subst (λ jobs. AreEnds script jobs lines) (sym (ap (map (λ name. untried (fresh_job (block_place script name)) 0)) h.jobs)) none;
+      ends = subst (λ jobs. AreEnds s.script jobs lines) (sym (ap (map (λ name. untried (fresh_job (block_place s.script name)) 0)) h.jobs)) none;
     }
-none_over script tells tries words contents (e ∷ journal) spare lines none h = absurd (let some : suc (length journal) ≡ 0 = h.none in omega arith)
+none_over s words contents (e ∷ journal) spare lines none h = absurd (let some : suc (length journal) ≡ 0 = h.none in omega arith)
 
 ends_as : (script : Script) (f : Following) (a : Activity) (end line : JobEnd) → a ≡ activity.Ended end → IsEndOf a line → IsEnd script f end → IsEnd script f line
 ends_as script f activity.Idle end line is of fits = absurd of
@@ -207,13 +208,13 @@ ends_as script f (activity.Active tx) end line is of fits = absurd of
 ends_as script f activity.Starved end line is of fits = absurd of
 ends_as script f (activity.Ended e) end line is of fits = let same : e ≡ end = cc in subst (IsEnd script f) (sym same ∙ sym of) fits
 
-some_over : (script : Script) (tells : Bool) (tries : ℕ) (words : List ℕ) (contents : Contents) (journal : List Entry) (spare : ℕ) (job : Job) (line : JobLine) (lines : List JobLine) → doing_in job.activity ≡ doing.Ended →
-    lines ≡ line ∷ [] → IsLineOf job line → IsOneJob script tells tries words contents (length journal) spare (progress_of script journal) job → IsOver script tells words contents journal lines
-some_over script tells tries words contents journal spare job line lines over are of one =
-    let p = progress_of script journal in
+some_over : (s : Setting) (words : List ℕ) (contents : Contents) (journal : List Entry) (spare : ℕ) (job : Job) (line : JobLine) (lines : List JobLine) → doing_in job.activity ≡ doing.Ended →
+    lines ≡ line ∷ [] → IsLineOf job line → IsOneJob s words contents (length journal) spare (progress_of s.script journal) job → IsOver s words contents journal lines
+some_over s words contents journal spare job line lines over are of one =
+    let p = progress_of s.script journal in
     let f = one.following in
     let ended = over_is job.activity over in
-    let active = subst (IsActive script tries f words (length journal) spare job.place) ended.1 one.active in
+    let active = subst (IsActive s f words (length journal) spare job.place) ended.1 one.active in
     record {
       final = λ t. let there = one.played t in
           let now : IsAsIn p.state.world words contents = subst (IsPlayedBy p.state.world job.me words contents) ended.1 there.now in
@@ -222,13 +223,13 @@ some_over script tells tries words contents journal spare job line lines over ar
             host = now.host;
             blocks = ap (map (λ (l : JobLine). l.block)) are ∙ ap (λ b. b ∷ []) of.block ∙ sym one.named ∙ sym there.begin.started;
           };
-      ends = subst (λ jobs. AreEnds script jobs lines) (sym one.alone.jobs) (subst (AreEnds script (f ∷ [])) (sym are) (ends_as script f job.activity ended.0 line.end ended.1 of.end active, refl));
+      ends = subst (λ jobs. AreEnds s.script jobs lines) (sym one.alone.jobs) (subst (AreEnds s.script (f ∷ [])) (sym are) (ends_as s.script f job.activity ended.0 line.end ended.1 of.end active, refl));
     }
 
-over : (script : Script) (tells : Bool) (tries : ℕ) (words : List ℕ) (contents : Contents) (journal : List Entry) (spare : ℕ) (o : Option Job) (lines : List JobLine) → doing_of o ≡ doing.Ended → AreLinesOf o lines →
-    IsJob script tells tries words contents (length journal) spare (progress_of script journal) o → IsOver script tells words contents journal lines
-over script tells tries words contents journal spare None lines ended are h = none_over script tells tries words contents journal spare lines are h
-over script tells tries words contents journal spare (Some job) lines ended are h = some_over script tells tries words contents journal spare job are.0 lines ended are.1 are.2 h
+over : (s : Setting) (words : List ℕ) (contents : Contents) (journal : List Entry) (spare : ℕ) (o : Option Job) (lines : List JobLine) → doing_of o ≡ doing.Ended → AreLinesOf o lines →
+    IsJob s words contents (length journal) spare (progress_of s.script journal) o → IsOver s words contents journal lines
+over s words contents journal spare None lines ended are h = none_over s words contents journal spare lines are h
+over s words contents journal spare (Some job) lines ended are h = some_over s words contents journal spare job are.0 lines ended are.1 are.2 h
 
 live_over : (d : Doing) → 1 == 1 && not (is_over d) ≡ false → d ≡ doing.Ended
 live_over doing.Idle e = cc
@@ -267,24 +268,24 @@ complete_one script journal f line unbroken done end =
     let past = past_all (transactions_at script f.job.block) f.job.next over.1 in
     (k.settled, omega (arith, k.passed, k.within, past))
 
-complete_over : (script : Script) (tells : Bool) (tries : ℕ) (words : List ℕ) (contents : Contents) (journal : List Entry) (spare : ℕ) (o : Option Job) (lines : List JobLine) → doing_of o ≡ doing.Ended → AreLinesOf o lines →
-    GoesOn script journal (progress_of script journal) → IsJob script tells tries words contents (length journal) spare (progress_of script journal) o → AreEnds script (progress_of script journal).jobs lines →
-    all_done lines ≡ true → IsComplete script journal
-complete_over script tells tries words contents [] spare None lines ended are goes h ends done =
-    record { settled = refl; count = sym (ap (transactions_of_jobs script) (ap (map (λ name. untried (fresh_job (block_place script name)) 0)) h.jobs)) }
-complete_over script tells tries words contents (e ∷ journal) spare None lines ended are goes h ends done = absurd (let some : suc (length journal) ≡ 0 = h.none in omega arith)
-complete_over script tells tries words contents journal spare (Some job) lines ended are goes h ends done =
+complete_over : (s : Setting) (words : List ℕ) (contents : Contents) (journal : List Entry) (spare : ℕ) (o : Option Job) (lines : List JobLine) → doing_of o ≡ doing.Ended → AreLinesOf o lines →
+    GoesOn s.script journal (progress_of s.script journal) → IsJob s words contents (length journal) spare (progress_of s.script journal) o → AreEnds s.script (progress_of s.script journal).jobs lines →
+    all_done lines ≡ true → IsComplete s.script journal
+complete_over s words contents [] spare None lines ended are goes h ends done =
+    record { settled = refl; count = sym (ap (transactions_of_jobs s.script) (ap (map (λ name. untried (fresh_job (block_place s.script name)) 0)) h.jobs)) }
+complete_over s words contents (e ∷ journal) spare None lines ended are goes h ends done = absurd (let some : suc (length journal) ≡ 0 = h.none in omega arith)
+complete_over s words contents journal spare (Some job) lines ended are goes h ends done =
     let f = h.following in
     let jobs = h.alone.jobs in
-    let fits = subst (λ js. AreEnds script js (are.0 ∷ [])) jobs (subst (AreEnds script (progress_of script journal).jobs) are.1 ends) in
+    let fits = subst (λ js. AreEnds s.script js (are.0 ∷ [])) jobs (subst (AreEnds s.script (progress_of s.script journal).jobs) are.1 ends) in
     let is = ap all_done (sym are.1) ∙ done in
-    let whole = complete_one script journal f are.0 (goes f jobs) (first_true (is_done are.0.end) is) fits.0 in
-    record { settled = whole.0; count = whole.1 ∙ (let h : length (transactions_at script f.job.block) ≡ length (transactions_at script f.job.block) + 0 = omega arith in h) ∙ ap (transactions_of_jobs script) (sym jobs) }
+    let whole = complete_one s.script journal f are.0 (goes f jobs) (first_true (is_done are.0.end) is) fits.0 in
+    record { settled = whole.0; count = whole.1 ∙ (let h : length (transactions_at s.script f.job.block) ≡ length (transactions_at s.script f.job.block) + 0 = omega arith in h) ∙ ap (transactions_of_jobs s.script) (sym jobs) }
 
-pub finished : (script : Script) (tells : Bool) (tries : ℕ) (words : List ℕ) (contents : Contents) (journal : List Entry) (spare : ℕ) (o : Option Job) (lines : List JobLine) → is_live o 1 ≡ false → AreLinesOf o lines →
-    InFlight script tells tries words contents journal spare o → IsTrueEnd script tells tries journal words contents lines
-finished script tells tries words contents journal spare o lines ended are k =
-    let whole = over script tells tries words contents journal spare o lines (ended_is o ended) are k.job in
+pub finished : (s : Setting) (words : List ℕ) (contents : Contents) (journal : List Entry) (spare : ℕ) (o : Option Job) (lines : List JobLine) → is_live o 1 ≡ false → AreLinesOf o lines →
+    InFlight s words contents journal spare o → IsTrueEnd s journal words contents lines
+finished s words contents journal spare o lines ended are k =
+    let whole = over s words contents journal spare o lines (ended_is o ended) are k.job in
     record {
       journal = record {
         entries = k.entries;
@@ -294,7 +295,7 @@ finished script tells tries words contents journal spare o lines ended are k =
       in_order = k.in_order;
       final = whole.final;
       ends = whole.ends;
-      complete = complete_over script tells tries words contents journal spare o lines (ended_is o ended) are k.unbroken k.job whole.ends;
+      complete = complete_over s words contents journal spare o lines (ended_is o ended) are k.unbroken k.job whole.ends;
     }
 
 ended_faults : (o : Option Job) → doing_of o ≡ doing.Ended → faults_of_job o ≡ 0

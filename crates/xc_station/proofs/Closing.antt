@@ -17,6 +17,7 @@ use Rattle.xc_host.specs.Contents.{Contents, contents_of}
 use Rattle.xc_text.specs.declared.script.Script.{Script}
 use Rattle.xc_script.specs.Ask.{asks, all_answered, walk_from, passed}
 use Rattle.xc_script.specs.declared.ask.Ask.{Ask}
+use Rattle.xc_script.specs.declared.ask.Ask.TheVariants as ask
 use Rattle.xc_script.specs.Place.{Place}
 use Rattle.xc_data.specs.Private.{place_of}
 use Rattle.xc_txmem.proofs.Overlays.{overlay_count}
@@ -26,18 +27,22 @@ use Rattle.xc_world.specs.Effects.{AreMadeIn, whole}
 use Rattle.xc_world.specs.Trail.{with_effect, move_name}
 use Rattle.xc_world.specs.Run.{Ran, body, body_fits, lates, lates_fit, asked_of, late_asked_of}
 use Rattle.xc_world.specs.Sound.{IsSound, IsKnown}
-use Rattle.xc_data.specs.Claims.{holding}
+use Rattle.xc_data.specs.Claims.{held_of}
+use Rattle.xc_data.specs.declared.call.Call.{Call}
+use Rattle.xc_data.specs.declared.claim.Claim.{Claim}
 use Rattle.xc_world.proofs.EffectsBody.{body-sound, body-others_sound}
 use Rattle.xc_world.proofs.EffectsRemains.{remains-sound}
+use Rattle.xc_station.specs.Setting.{Setting}
 use Rattle.xc_station.specs.declared.tx.Tx.{Tx}
 use Rattle.xc_station.specs.declared.tx.Phase.TheVariants.{Committing, Undoing}
 use Rattle.xc_station.specs.declared.job.Activity.TheVariants.{Active}
 use Rattle.xc_station.specs.Notes.{entry_of}
-use Rattle.xc_station.specs.Progress.{Following, Progress, untried, private_of, body_of, started_blocks, started_job, following_of, after_entry, after_following, after_commit, after_abort, following_abort}
-use Rattle.xc_station.specs.Truth.{IsCauseOf, IsTrueEntry, IsPlayed}
+use Rattle.xc_station.specs.Progress.{Following, Progress, untried, private_of, body_of, kept_of, started_blocks, started_job, following_of, after_entry, after_following, after_commit, after_abort, following_abort}
+use Rattle.xc_station.specs.Truth.{next_of, IsCauseOf, failures_with, is_alone, IsHeldAt, AreLeft, AreRecords, IsTrueEntry, IsPlayed}
 use Rattle.xc_station.specs.Flight.{IsNoted, IsCommitting, IsUndoing, IsPhase, Flight, IsAlone}
 use Rattle.xc_station.specs.Playing.{IsAsIn, ran_of, HasPlayed, GoesForward, GoesBack, IsPlayedIn, IsPlayedBy, MayBegin, seen}
 use Rattle.xc_station.proofs.Backward.{made_in}
+use Rattle.xc_station.proofs.Bodies.{append_nil}
 
 -- the outcome of an aborted transaction
 abbrev pub aborted_by : Cause → Tx → Outcome
@@ -57,6 +62,13 @@ module _ (entered : ℕ) (p : Progress) (f : Following) (alone : IsAlone entered
   pub rank_alone : tx.number ≡ unwrap_or f.first tx.number
   rank_alone = ap (λ r. unwrap_or r tx.number) (sym alone.first)
 
+  pub began_alone : tx.began ≡ entered → tx.began ≤ p.entered
+  began_alone began = omega (arith, began, alone.entered)
+
+  -- none of its attempts failed
+  pub failures_alone : (attempts : ℕ) → failures_with f outcome ≡ length f.failed → failures_with f outcome ≤ attempts
+  failures_alone attempts same = let none : length f.failed ≡ 0 = ap length alone.failed in omega (arith, same, none)
+
 -- its private state is that of the job's begin
 private_alone : (script : Script) (entered : ℕ) (s : State) (me : Private) → me ≡ beginning me.places → MayBegin script entered s me → private_of s 1 ≡ me
 private_alone script entered s me begins b = ap (λ hs. beginning (unwrap_or (slice_get hs 0) no_handles)) b.handles ∙ sym begins
@@ -70,26 +82,27 @@ fits_alone script entered p me tx begins b played =
     subst (λ m. IsTrue (body_fits p.state.world m tx.number (asked_of tx.calls.items tx.replies.items))) (sym (private_alone script entered p.state me begins b)) played.fits
 
 -- ---- a commit
-commit_played : (script : Script) (entered : ℕ) (p : Progress) (me : Private) (tx : Tx) → me ≡ beginning me.places → MayBegin script entered p.state me → HasPlayed p.state.world me tx → IsPlayed p (entry_of tx 1 (Committed []))
-commit_played script entered p me tx begins b played =
+commit_played : (script : Script) (entered : ℕ) (p : Progress) (me : Private) (tx : Tx) (next : Ask) → me ≡ beginning me.places → MayBegin script entered p.state me → HasPlayed p.state.world me tx
+    → IsPlayed p next (entry_of tx 1 (Committed []))
+commit_played script entered p me tx next begins b played =
     let here = body_alone script entered p me tx (Committed []) begins b in
     let ran = body_of p.state (entry_of tx 1 (Committed [])) in
     let late : ran.late ≡ [] = ap (λ (r : Ran). r.late) here ∙ played.late in
     record {
       fits = fits_alone script entered p me tx begins b played;
       replies = ap (λ (r : Ran). r.replies) here ∙ played.replies;
-      held = played.held ∙ ap (λ (r : Ran). holding [] r.touched) (sym here);
+      held = played.held ∙ ap (λ (r : Ran). held_of r.touched) (sym here);
       outcome = record {
         ends = ap (λ (calls : List LateCall). (lates ran.world (late_asked_of calls [])).ends) late;
         late_fits = subst (λ (calls : List LateCall). IsTrue (lates_fit ran.world (late_asked_of calls []))) (sym late) refl;
       };
     }
 
-pub commit_true : (script : Script) (tells : Bool) (tries entered : ℕ) (p : Progress) (f : Following) (place : Place) (words : List ℕ) (contents : Contents) (me : Private) (tx : Tx)
-    → IsAlone entered p f → me ≡ beginning me.places → Flight script tries f words entered place tx → IsCommitting script f place tx
-    → (IsTrue tells → MayBegin script entered p.state me × IsPlayedBy p.state.world me words contents (Active tx))
-    → IsTrueEntry script tells tries entered p (entry_of tx 1 (Committed []))
-commit_true script tells tries entered p f place words contents me tx alone begins flight c told =
+pub commit_true : (s : Setting) (entered : ℕ) (p : Progress) (f : Following) (place : Place) (words : List ℕ) (contents : Contents) (me : Private) (tx : Tx)
+    → IsAlone entered p f → me ≡ beginning me.places → Flight s f words entered place tx → IsCommitting s.script f place tx
+    → (IsTrue s.tells → MayBegin s.script entered p.state me × IsPlayedBy p.state.world me words contents (Active tx))
+    → IsTrueEntry s p (entry_of tx 1 (Committed []))
+commit_true s entered p f place words contents me tx alone begins flight c told =
     let n = flight.noted in
     record {
       following = f;
@@ -100,38 +113,42 @@ commit_true script tells tries entered p f place words contents me tx alone begi
           goes_on = flight.goes_on;
           left = flight.left;
           since = since_alone entered p f alone tx (Committed []) n.began;
-          began = omega (arith, n.began);
+          began = began_alone entered p f alone tx (Committed []) n.began;
           rank = rank_alone entered p f alone tx (Committed []);
+          failures = failures_alone entered p f alone tx (Committed []) s.rules.attempts refl;
           calls = n.asked;
-          asked = ap asks (sym c.ahead) ∙ c.asked;
+          asked = (ap asks (sym c.ahead) ∙ c.asked, ap length (sym n.none_kept));
         };
-        played = λ t. commit_played script entered p me tx begins (told t).0 (told t).1.0;
+        played = λ t. commit_played s.script entered p me tx (next_of s.script f tx.replies.items) begins (told t).0 (told t).1.0;
       };
     }
 
 -- the job behind its commit
 abbrev pub gone_on : Script → ℕ → Following → Tx → Following
-gone_on script entered f tx = untried (passed script f.job tx.replies.items) (entered + 1)
+gone_on script entered f tx = untried f.block (passed script f.job tx.replies.items) (entered + 1)
 
-none_started : (calls : List LateCall) → started_blocks calls [] ≡ []
+none_started : (calls : List Call) → started_blocks calls [] ≡ []
 none_started [] = refl
 none_started (c ∷ calls) = refl
 
 commit_after : (script : Script) (entered : ℕ) (p : Progress) (f : Following) (tx : Tx) → IsAlone entered p f
-    → after_entry script entered p (entry_of tx 1 (Committed [])) ≡ after_commit script entered p f (entry_of tx 1 (Committed [])) []
-commit_after script entered p f tx alone = ap (after_following script entered p (entry_of tx 1 (Committed []))) (following_alone entered p f alone tx (Committed []))
+    → after_entry script p (entry_of tx 1 (Committed [])) ≡ record (after_commit script p f (entry_of tx 1 (Committed [])) []) { entered = p.entered + 1 }
+commit_after script entered p f tx alone =
+    ap (λ o. record (after_following script p (entry_of tx 1 (Committed [])) o) { entered = p.entered + 1 }) (following_alone entered p f alone tx (Committed []))
 
 pub commit_leads : (script : Script) (entered : ℕ) (p : Progress) (f : Following) (tx : Tx) → IsAlone entered p f
-    → IsAlone (entered + 1) (after_entry script entered p (entry_of tx 1 (Committed []))) (gone_on script entered f tx)
+    → IsAlone (entered + 1) (after_entry script p (entry_of tx 1 (Committed []))) (gone_on script p.entered f tx)
 commit_leads script entered p f tx alone =
     let e = entry_of tx 1 (Committed []) in
-    let g = gone_on script entered f tx in
-    let late = (body_of p.state e).late in
-    let there : IsAlone (entered + 1) (after_commit script entered p f e []) g = record {
-      jobs = ap (λ (js : List Following). slice_set js 0 g ++ map (started_job script (passed script f.job tx.replies.items) (entered + 1)) (started_blocks late [])) alone.jobs
-          ∙ ap (λ bs. (g ∷ []) ++ map (started_job script (passed script f.job tx.replies.items) (entered + 1)) bs) (none_started late);
-      since = omega arith;
+    let g = gone_on script p.entered f tx in
+    let kept = kept_of tx.calls.items tx.replies.items in
+    let there : IsAlone (entered + 1) (record (after_commit script p f e []) { entered = p.entered + 1 }) g = record {
+      jobs = ap (λ (js : List Following). slice_set js 0 g ++ map (started_job script (passed script f.job tx.replies.items) (p.entered + 1)) (started_blocks kept [])) alone.jobs
+          ∙ ap (λ bs. (g ∷ []) ++ map (started_job script (passed script f.job tx.replies.items) (p.entered + 1)) bs) (none_started kept);
+      entered = ap (λ n. n + 1) alone.entered;
+      since = omega (arith, alone.entered);
       first = refl;
+      failed = refl;
     } in
     subst (λ q. IsAlone (entered + 1) q g) (sym (commit_after script entered p f tx alone)) there
 
@@ -163,8 +180,8 @@ sound_behind w me tx entered begins is fits sound private number lt =
 
 pub commit_begins : (script : Script) (entered : ℕ) (p : Progress) (f : Following) (words : List ℕ) (contents : Contents) (me : Private) (tx : Tx) → IsAlone entered p f → me ≡ beginning me.places
     → tx.phase ≡ Committing → tx.number ≡ entered + 1 → MayBegin script entered p.state me → IsPlayedBy p.state.world me words contents (Active tx)
-    → MayBegin script (entered + 1) (after_entry script entered p (entry_of tx 1 (Committed []))).state (beginning tx.me.places)
-    × IsAsIn (after_entry script entered p (entry_of tx 1 (Committed []))).state.world words contents
+    → MayBegin script (entered + 1) (after_entry script p (entry_of tx 1 (Committed []))).state (beginning tx.me.places)
+    × IsAsIn (after_entry script p (entry_of tx 1 (Committed []))).state.world words contents
 commit_begins script entered p f words contents me tx alone begins commits number b played =
     let e = entry_of tx 1 (Committed []) in
     let w = p.state.world in
@@ -177,11 +194,12 @@ commit_begins script entered p f words contents me tx alone begins commits numbe
     ap (λ (calls : List LateCall). (lates ran.world (late_asked_of calls [])).world) late ∙ ap (λ (r : Ran). r.world) here in
     let places : ran.me.places ≡ tx.me.places = ap (λ (r : Ran). r.me.places) here ∙ ap (λ (m : Private). m.places) go.private in
     let keeps : KeepsWorld script (ran_of w me tx).world = subst (KeepsWorld script) (sym go.world) (seen_keeps script w contents tx.writes b.started b.count) in
-    let after = after_commit script entered p f e [] in
+    let after = after_commit script p f e [] in
+    let kept = kept_of tx.calls.items tx.replies.items in
     let sound = sound_behind w me tx entered begins number played.0.fits b.sound go.private in
     let there : MayBegin script (entered + 1) after.state (beginning tx.me.places) = record {
-      handles = ap (λ hs. slice_set hs 0 ran.me.places ++ replicate (length (started_blocks ran.late [])) ran.me.places) b.handles
-          ∙ ap (λ bs. (ran.me.places ∷ []) ++ replicate (length bs) ran.me.places) (none_started ran.late) ∙ ap (λ ps. ps ∷ []) places;
+      handles = ap (λ hs. slice_set hs 0 ran.me.places ++ replicate (length (started_blocks kept [])) ran.me.places) b.handles
+          ∙ ap (λ bs. (ran.me.places ∷ []) ++ replicate (length bs) ran.me.places) (none_started kept) ∙ ap (λ ps. ps ∷ []) places;
       started = ap (λ (v : World). v.started) world ∙ keeps.started;
       count = ap (λ (v : World). length v.words) world ∙ keeps.count;
       sound = λ n lt. subst (λ v. IsSound v (beginning tx.me.places) n) (sym world) (sound n lt);
@@ -193,28 +211,62 @@ commit_begins script entered p f words contents me tx alone begins commits numbe
     subst (λ q. MayBegin script (entered + 1) q.state (beginning tx.me.places) × IsAsIn q.state.world words contents) (sym (commit_after script entered p f tx alone)) (there, now)
 
 -- ---- an abort
-abort_played : (script : Script) (entered : ℕ) (p : Progress) (words : List ℕ) (contents : Contents) (me : Private) (tx : Tx) (c : Cause) → me ≡ beginning me.places → tx.phase ≡ Undoing c → tx.undo.pending ≡ []
-    → MayBegin script entered p.state me → IsPlayedBy p.state.world me words contents (Active tx) → IsPlayed p (entry_of tx 1 (aborted_by c tx))
-abort_played script entered p words contents me tx c begins undoes none b played =
+-- an aborted transaction has the claims and the records of its calls alone, whatever its cause
+held_at : (ran : Ran) (next : Ask) (c : Cause) (held : List Claim) → held ≡ held_of ran.touched → IsHeldAt ran next c held
+held_at ran next cause.Asked held e = e
+held_at ran next (cause.Conflict object holder at) held e = e
+held_at ran next (cause.Revoked object by at) held e = e
+held_at ran next cause.NoMemory held e = ([], tt, e ∙ ap held_of (sym (append_nil ran.touched)))
+
+none_left_by : (ran : Ran) (tx : ℕ) (next : Ask) → AreLeft ran tx next []
+none_left_by ran tx (ask.Call call) = inl refl
+none_left_by ran tx ask.Commit = refl
+none_left_by ran tx ask.Abort = refl
+none_left_by ran tx ask.End = refl
+
+records_are : (ran : Ran) (tx : ℕ) (next : Ask) (c : Cause) (records : List Undo) → records ≡ ran.trail → AreRecords ran tx next c records
+records_are ran tx next cause.Asked records e = e
+records_are ran tx next (cause.Conflict object holder at) records e = e
+records_are ran tx next (cause.Revoked object by at) records e = e
+records_are ran tx next cause.NoMemory records e = ([], none_left_by ran tx next, e ∙ sym (append_nil ran.trail))
+
+abort_played : (script : Script) (entered : ℕ) (p : Progress) (words : List ℕ) (contents : Contents) (me : Private) (tx : Tx) (c : Cause) (next : Ask) → me ≡ beginning me.places → tx.phase ≡ Undoing c
+    → tx.undo.pending ≡ [] → MayBegin script entered p.state me → IsPlayedBy p.state.world me words contents (Active tx) → IsPlayed p next (entry_of tx 1 (aborted_by c tx))
+abort_played script entered p words contents me tx c next begins undoes none b played =
     let w = p.state.world in
     let way : (words ≡ w.words) × GoesBack w me contents tx = subst (IsPlayedIn w me words contents tx) undoes played.1 in
     let here = body_alone script entered p me tx (aborted_by c tx) begins b in
+    let ran = body_of p.state (entry_of tx 1 (aborted_by c tx)) in
     let trail : (ran_of w me tx).trail ≡ map (λ (r : Ending). r.0) tx.undo.ended = way.1.trail ∙ ap (λ us. us ++ map (λ (r : Ending). r.0) tx.undo.ended) none in
     record {
       fits = fits_alone script entered p me tx begins b played.0;
       replies = ap (λ (r : Ran). r.replies) here ∙ played.0.replies;
-      held = played.0.held ∙ ap (λ (r : Ran). holding [] r.touched) (sym here);
-      outcome = sym (ap (λ (r : Ran). r.trail) here ∙ trail);
+      held = held_at ran next c tx.held.items (played.0.held ∙ ap (λ (r : Ran). held_of r.touched) (sym here));
+      outcome = records_are ran tx.number next c (map (λ (r : Ending). r.0) tx.undo.ended) (sym (ap (λ (r : Ran). r.trail) here ∙ trail));
     }
 
-pub abort_true : (script : Script) (tells : Bool) (tries entered : ℕ) (p : Progress) (f : Following) (place : Place) (words : List ℕ) (contents : Contents) (me : Private) (tx : Tx) (c : Cause)
+-- such an attempt isn't tried again
+none_failed : (f : Following) (c : Cause) (next : Ask) (records : List Ending) → IsCauseOf c next → failures_with f (Aborted (record { cause = c; records = records })) ≡ length f.failed
+none_failed f cause.Asked next records h = refl
+none_failed f (cause.Conflict object holder at) next records h = absurd h
+none_failed f (cause.Revoked object by at) next records h = absurd h
+none_failed f cause.NoMemory next records h = refl
+
+-- nor did it meet another
+pub alone_by : (c : Cause) (next : Ask) (records : List Ending) → IsCauseOf c next → is_alone (Aborted (record { cause = c; records = records })) ≡ true
+alone_by cause.Asked next records h = refl
+alone_by (cause.Conflict object holder at) next records h = absurd h
+alone_by (cause.Revoked object by at) next records h = absurd h
+alone_by cause.NoMemory next records h = refl
+
+pub abort_true : (s : Setting) (entered : ℕ) (p : Progress) (f : Following) (place : Place) (words : List ℕ) (contents : Contents) (me : Private) (tx : Tx) (c : Cause)
     → IsAlone entered p f → me ≡ beginning me.places → tx.phase ≡ Undoing c → tx.undo.pending ≡ []
-    → Flight script tries f words entered place tx
-    → (IsTrue tells → MayBegin script entered p.state me × IsPlayedBy p.state.world me words contents (Active tx))
-    → IsTrueEntry script tells tries entered p (entry_of tx 1 (aborted_by c tx))
-abort_true script tells tries entered p f place words contents me tx c alone begins undoes none flight told =
+    → Flight s f words entered place tx
+    → (IsTrue s.tells → MayBegin s.script entered p.state me × IsPlayedBy p.state.world me words contents (Active tx))
+    → IsTrueEntry s p (entry_of tx 1 (aborted_by c tx))
+abort_true s entered p f place words contents me tx c alone begins undoes none flight told =
     let n = flight.noted in
-    let back : IsUndoing script tries f tx c = subst (IsPhase script tries f words place tx) undoes flight.phase in
+    let back : IsUndoing s f tx c = subst (IsPhase s f words place tx) undoes flight.phase in
     record {
       following = f;
       numbered = omega arith;
@@ -224,22 +276,24 @@ abort_true script tells tries entered p f place words contents me tx c alone beg
           goes_on = flight.goes_on;
           left = flight.left;
           since = since_alone entered p f alone tx (aborted_by c tx) n.began;
-          began = omega (arith, n.began);
+          began = began_alone entered p f alone tx (aborted_by c tx) n.began;
           rank = rank_alone entered p f alone tx (aborted_by c tx);
+          failures = failures_alone entered p f alone tx (aborted_by c tx) s.rules.attempts (none_failed f c (next_of s.script f tx.replies.items) tx.undo.ended back.caused);
           calls = n.asked;
-          asked = (back.caused, subst (λ (us : List Undo). AreLegal tries (length us + 1) tx.undo.ended) none back.legal);
+          asked = (back.caused, subst (λ (us : List Undo). AreLegal s.rules.undo_tries (length us + 1) tx.undo.ended) none back.legal);
         };
-        played = λ t. abort_played script entered p words contents me tx c begins undoes none (told t).0 (told t).1;
+        played = λ t. abort_played s.script entered p words contents me tx c (next_of s.script f tx.replies.items) begins undoes none (told t).0 (told t).1;
       };
     }
 
 abort_after : (script : Script) (entered : ℕ) (p : Progress) (f : Following) (tx : Tx) (c : Cause) → IsAlone entered p f
-    → after_entry script entered p (entry_of tx 1 (aborted_by c tx)) ≡ after_abort entered p f (entry_of tx 1 (aborted_by c tx)) (record { cause = c; records = tx.undo.ended })
-abort_after script entered p f tx c alone = ap (after_following script entered p (entry_of tx 1 (aborted_by c tx))) (following_alone entered p f alone tx (aborted_by c tx))
+    → after_entry script p (entry_of tx 1 (aborted_by c tx)) ≡ record (after_abort p f (entry_of tx 1 (aborted_by c tx)) (record { cause = c; records = tx.undo.ended })) { entered = p.entered + 1 }
+abort_after script entered p f tx c alone =
+    ap (λ o. record (after_following script p (entry_of tx 1 (aborted_by c tx)) o) { entered = p.entered + 1 }) (following_alone entered p f alone tx (aborted_by c tx))
 
 -- the job behind its abort: for the causes that there are so far
 abbrev pub gone_back : ℕ → Following → Cause → Following
-gone_back entered f cause.Asked = untried (record f.job { next = f.job.next + 1 }) (entered + 1)
+gone_back entered f cause.Asked = untried f.block (record f.job { next = f.job.next + 1 }) (entered + 1)
 gone_back entered f _ = record f { starved = true; since = entered + 1 }
 
 gone_back_is : (entered : ℕ) (f : Following) (e : Entry) (c : Cause) (asked : Ask) → IsCauseOf c asked → following_abort entered f e c ≡ gone_back entered f c
@@ -254,24 +308,32 @@ first_back entered f (cause.Conflict object holder at) none = none
 first_back entered f (cause.Revoked object by at) none = none
 first_back entered f cause.NoMemory none = none
 
+failed_back : (entered : ℕ) (f : Following) (c : Cause) → f.failed ≡ [] → (gone_back entered f c).failed ≡ []
+failed_back entered f cause.Asked none = refl
+failed_back entered f (cause.Conflict object holder at) none = none
+failed_back entered f (cause.Revoked object by at) none = none
+failed_back entered f cause.NoMemory none = none
+
 since_back : (entered : ℕ) (f : Following) (c : Cause) → (gone_back entered f c).since ≡ entered + 1
 since_back entered f cause.Asked = refl
 since_back entered f (cause.Conflict object holder at) = refl
 since_back entered f (cause.Revoked object by at) = refl
 since_back entered f cause.NoMemory = refl
 
-pub abort_leads : (script : Script) (tries entered : ℕ) (p : Progress) (f : Following) (tx : Tx) (c : Cause) → IsAlone entered p f → IsUndoing script tries f tx c
-    → IsAlone (entered + 1) (after_entry script entered p (entry_of tx 1 (aborted_by c tx))) (gone_back entered f c)
-abort_leads script tries entered p f tx c alone back =
+pub abort_leads : (s : Setting) (entered : ℕ) (p : Progress) (f : Following) (tx : Tx) (c : Cause) → IsAlone entered p f → IsUndoing s f tx c
+    → IsAlone (entered + 1) (after_entry s.script p (entry_of tx 1 (aborted_by c tx))) (gone_back p.entered f c)
+abort_leads s entered p f tx c alone back =
     let e = entry_of tx 1 (aborted_by c tx) in
-    let g = gone_back entered f c in
-    let is = gone_back_is entered f e c (asks (all_answered (walk_from script f.job) tx.replies.items)) back.caused in
-    let there : IsAlone (entered + 1) (after_abort entered p f e (record { cause = c; records = tx.undo.ended })) g = record {
-      jobs = ap (λ (js : List Following). slice_set js 0 (following_abort entered f e c)) alone.jobs ∙ ap (λ h. h ∷ []) is;
-      since = omega (arith, since_back entered f c);
-      first = first_back entered f c alone.first;
+    let g = gone_back p.entered f c in
+    let is = gone_back_is p.entered f e c (asks (all_answered (walk_from s.script f.job) tx.replies.items)) back.caused in
+    let there : IsAlone (entered + 1) (record (after_abort p f e (record { cause = c; records = tx.undo.ended })) { entered = p.entered + 1 }) g = record {
+      jobs = ap (λ (js : List Following). slice_set js 0 (following_abort p.entered f e c)) alone.jobs ∙ ap (λ h. h ∷ []) is;
+      entered = ap (λ n. n + 1) alone.entered;
+      since = omega (arith, since_back p.entered f c, alone.entered);
+      first = first_back p.entered f c alone.first;
+      failed = failed_back p.entered f c alone.failed;
     } in
-    subst (λ q. IsAlone (entered + 1) q g) (sym (abort_after script entered p f tx c alone)) there
+    subst (λ q. IsAlone (entered + 1) q g) (sym (abort_after s.script entered p f tx c alone)) there
 
 -- what stands changes no word and no job
 abbrev SameWords : World → World → Type 0
@@ -298,8 +360,8 @@ remains_same w ((u, k) ∷ us) =
 
 pub abort_begins : (script : Script) (entered : ℕ) (p : Progress) (f : Following) (words : List ℕ) (contents : Contents) (me : Private) (tx : Tx) (c : Cause) → IsAlone entered p f
     → tx.phase ≡ Undoing c → tx.undo.pending ≡ [] → IsNoted script f entered tx → MayBegin script entered p.state me → IsPlayedBy p.state.world me words contents (Active tx)
-    → MayBegin script (entered + 1) (after_entry script entered p (entry_of tx 1 (aborted_by c tx))).state me
-    × IsAsIn (after_entry script entered p (entry_of tx 1 (aborted_by c tx))).state.world words contents
+    → MayBegin script (entered + 1) (after_entry script p (entry_of tx 1 (aborted_by c tx))).state me
+    × IsAsIn (after_entry script p (entry_of tx 1 (aborted_by c tx))).state.world words contents
 abort_begins script entered p f words contents me tx c alone undoes none n b played =
     let e = entry_of tx 1 (aborted_by c tx) in
     let w = p.state.world in
@@ -308,7 +370,7 @@ abort_begins script entered p f words contents me tx c alone undoes none n b pla
     let trail : (ran_of w me tx).trail ≡ map (λ (r : Ending). r.0) tx.undo.ended = way.1.trail ∙ ap (λ us. us ++ map (λ (r : Ending). r.0) tx.undo.ended) none in
     let mine = b.sound (entered + 1) (omega arith) in
     let made : AreMadeIn w (map (λ (r : Ending). r.0) tx.undo.ended) = subst (AreMadeIn w) trail (made_in script f entered w me tx n mine played.0) in
-    let after = after_abort entered p f e (record { cause = c; records = tx.undo.ended }) in
+    let after = after_abort p f e (record { cause = c; records = tx.undo.ended }) in
     let there : MayBegin script (entered + 1) after.state me = record {
       handles = b.handles;
       started = same.1 ∙ b.started;

@@ -14,6 +14,7 @@ use Rattle.xc_text.specs.Scripts.{IsScript}
 use Rattle.xc_script.specs.Ask.{Walk, next_body, transactions_at}
 use Rattle.xc_script.specs.Place.{at_begin}
 use Rattle.xc_world.specs.World.{World, beginning}
+use Rattle.xc_station.specs.Setting.{Setting}
 use Rattle.xc_station.specs.declared.tx.Tx.{Tx}
 use Rattle.xc_station.specs.declared.tx.Phase.{Phase}
 use Rattle.xc_station.specs.declared.tx.Phase.TheVariants as phase
@@ -136,18 +137,18 @@ busy_undone activity.Starved e = cc
 busy_undone (activity.Ended end) e = cc
 
 -- ---- turns that enter nothing
-module _ (script : Script) (tells : Bool) (tries : ℕ) (journal : List Entry) where
+module _ (s : Setting) (journal : List Entry) where
   -- what holds of the job behind the journal
   abbrev reached : Progress
-  reached = progress_of script journal
+  reached = progress_of s.script journal
 
   abbrev In : List ℕ → Contents → ℕ → Option Job → Type 0
-  In words contents spare o = InFlight script tells tries words contents journal spare o
+  In words contents spare o = InFlight s words contents journal spare o
 
   pub keep_job : (words words' : List ℕ) (contents contents' : Contents) (spare spare' : ℕ) (job job' : Job)
       → job'.block ≡ job.block → job'.me ≡ job.me → length words' ≡ length words
-      → ((f : Following) → IsActive script tries f words (length journal) spare job.place job.activity → IsActive script tries f words' (length journal) spare' job'.place job'.activity)
-      → (IsTrue tells → (f : Following) → IsActive script tries f words (length journal) spare job.place job.activity → MayBegin script (length journal) reached.state job.me
+      → ((f : Following) → IsActive s f words (length journal) spare job.place job.activity → IsActive s f words' (length journal) spare' job'.place job'.activity)
+      → (IsTrue s.tells → (f : Following) → IsActive s f words (length journal) spare job.place job.activity → MayBegin s.script (length journal) reached.state job.me
       → IsPlayedBy reached.state.world job.me words contents job.activity → IsPlayedBy reached.state.world job.me words' contents' job'.activity)
       → In words contents spare (Some job) → In words' contents' spare' (Some job')
   keep_job words words' contents contents' spare spare' job job' block me count moves plays k =
@@ -167,7 +168,7 @@ module _ (script : Script) (tells : Bool) (tries : ℕ) (journal : List Entry) w
           begins = me ∙ one.begins ∙ ap (λ (m : Private). beginning m.places) (sym me);
           played = λ t. let p = one.played t in
               record {
-                begin = subst (MayBegin script (length journal) reached.state) (sym me) p.begin;
+                begin = subst (MayBegin s.script (length journal) reached.state) (sym me) p.begin;
                 now = subst (λ m. IsPlayedBy reached.state.world m words' contents' job'.activity) (sym me) (plays t one.following one.active p.begin p.now);
               };
         };
@@ -187,42 +188,42 @@ one_more (d ∷ journal) e all is =
     let parts = and_true (is_settled d.outcome) (all_settled journal) all in
     ap (λ b. b && all_settled (journal ++ e ∷ [])) parts.0 ∙ one_more journal e parts.1 is
 
-pub keep_entry : (script : Script) (tells : Bool) (tries : ℕ) (words : List ℕ) (contents : Contents) (journal : List Entry) (spare : ℕ) (job : Job) (e : Entry) (f : Following)
-    → IsScript script → AreTrue script tells tries 0 (opening_progress script) journal → AreInOrder 0 journal → length journal < 1000 → length words ≡ length script.plain.words
-    → script.plain.jobs ≡ job.block ∷ []
-    → IsTrueEntry script tells tries (length journal) (progress_of script journal) e
+pub keep_entry : (s : Setting) (words : List ℕ) (contents : Contents) (journal : List Entry) (spare : ℕ) (job : Job) (e : Entry) (f : Following)
+    → IsScript s.script → AreTrue s 0 (opening_progress s.script) journal → AreInOrder 0 journal → length journal < 1000 → length words ≡ length s.script.plain.words
+    → s.script.plain.jobs ≡ job.block ∷ []
+    → IsTrueEntry s (length journal) (progress_of s.script journal) e
     → e.tx ≡ length journal + 1 → e.began ≡ length journal
-    → IsAlone (length journal + 1) (after_entry script (length journal) (progress_of script journal) e) f
-    → IsActive script tries f words (length journal + 1) spare job.place job.activity
+    → IsAlone (length journal + 1) (after_entry s.script (length journal) (progress_of s.script journal) e) f
+    → IsActive s f words (length journal + 1) spare job.place job.activity
     → job.me ≡ beginning job.me.places
-    → (IsTrue tells → IsPlaying script words contents (length journal + 1) (after_entry script (length journal) (progress_of script journal) e).state job)
-    → (f.starved ≡ false → IsUnbroken script (journal ++ e ∷ []) f)
-    → InFlight script tells tries words contents (journal ++ e ∷ []) spare (Some job)
-keep_entry script tells tries words contents journal spare job e f read entries order few words_count named one number began alone active begins playing unbroken =
+    → (IsTrue s.tells → IsPlaying s.script words contents (length journal + 1) (after_entry s.script (length journal) (progress_of s.script journal) e).state job)
+    → (f.starved ≡ false → IsUnbroken s.script (journal ++ e ∷ []) f)
+    → InFlight s words contents (journal ++ e ∷ []) spare (Some job)
+keep_entry s words contents journal spare job e f read entries order few words_count named one number began alone active begins playing unbroken =
     let zero_plus : 0 + length journal ≡ length journal = omega arith in
     let count : length (journal ++ e ∷ []) ≡ length journal + 1 = length-append journal (e ∷ []) in
-    let led : progress_of script (journal ++ e ∷ []) ≡ after_entry script (length journal) (progress_of script journal) e =
-    progress-more script 0 (opening_progress script) journal e ∙ ap (λ n. after_entry script n (progress_of script journal) e) zero_plus in
-    let there : IsAlone (length (journal ++ e ∷ [])) (progress_of script (journal ++ e ∷ [])) f =
-    subst (λ n. IsAlone n (progress_of script (journal ++ e ∷ [])) f) (sym count) (subst (λ p. IsAlone (length journal + 1) p f) (sym led) alone) in
+    let led : progress_of s.script (journal ++ e ∷ []) ≡ after_entry s.script (length journal) (progress_of s.script journal) e =
+    progress-more s.script 0 (opening_progress s.script) journal e ∙ ap (λ n. after_entry s.script n (progress_of s.script journal) e) zero_plus in
+    let there : IsAlone (length (journal ++ e ∷ [])) (progress_of s.script (journal ++ e ∷ [])) f =
+    subst (λ n. IsAlone n (progress_of s.script (journal ++ e ∷ [])) f) (sym count) (subst (λ p. IsAlone (length journal + 1) p f) (sym led) alone) in
     record {
       read = read;
-      entries = true-more script tells tries 0 (opening_progress script) journal e entries (subst (λ n. IsTrueEntry script tells tries n (progress_of script journal) e) (sym zero_plus) one);
+      entries = true-more s 0 (opening_progress s.script) journal e entries (subst (λ n. IsTrueEntry s n (progress_of s.script journal) e) (sym zero_plus) one);
       in_order = order-more 0 journal e order (number ∙ ap (λ n. n + 1) (sym zero_plus)) (began ∙ sym zero_plus);
       few = omega arith;
       count = words_count;
-      unbroken = λ (g : Following) (jobs : (progress_of script (journal ++ e ∷ [])).jobs ≡ g ∷ []) goes.
+      unbroken = λ (g : Following) (jobs : (progress_of s.script (journal ++ e ∷ [])).jobs ≡ g ∷ []) goes.
           let both : f ∷ [] ≡ g ∷ [] = sym there.jobs ∙ jobs in
           let same : f ≡ g = first_of_one f g both in
-          subst (IsUnbroken script (journal ++ e ∷ [])) same (unbroken (ap (λ (h : Following). h.starved) same ∙ goes));
+          subst (IsUnbroken s.script (journal ++ e ∷ [])) same (unbroken (ap (λ (h : Following). h.starved) same ∙ goes));
       job = record {
         following = f;
         alone = there;
         named = named;
-        active = subst (λ n. IsActive script tries f words n spare job.place job.activity) (sym count) active;
+        active = subst (λ n. IsActive s f words n spare job.place job.activity) (sym count) active;
         begins = begins;
-        played = λ t. subst (λ (p : Progress). IsPlaying script words contents (length (journal ++ e ∷ [])) p.state job) (sym led)
-            (subst (λ n. IsPlaying script words contents n (after_entry script (length journal) (progress_of script journal) e).state job) (sym count) (playing t));
+        played = λ t. subst (λ (p : Progress). IsPlaying s.script words contents (length (journal ++ e ∷ [])) p.state job) (sym led)
+            (subst (λ n. IsPlaying s.script words contents n (after_entry s.script (length journal) (progress_of s.script journal) e).state job) (sym count) (playing t));
       };
     }
 
@@ -238,44 +239,44 @@ passes script journal e f g before left settled next block =
           omega (arith, lt, next, same);
     }
 
-pub keep_commit : (script : Script) (tells : Bool) (tries : ℕ) (words : List ℕ) (contents : Contents) (journal : List Entry) (spare spare' : ℕ) (job : Job) (tx : Tx)
+pub keep_commit : (s : Setting) (words : List ℕ) (contents : Contents) (journal : List Entry) (spare spare' : ℕ) (job : Job) (tx : Tx)
     → job.activity ≡ activity.Active tx → tx.phase ≡ phase.Committing
-    → InFlight script tells tries words contents journal spare (Some job)
-    → InFlight script tells tries words contents (journal ++ entry_of tx 1 (Committed []) ∷ []) spare' (Some (behind_commit job tx))
-keep_commit script tells tries words contents journal spare spare' job tx is commits k =
-    let p = progress_of script journal in
+    → InFlight s words contents journal spare (Some job)
+    → InFlight s words contents (journal ++ entry_of tx 1 (Committed []) ∷ []) spare' (Some (behind_commit job tx))
+keep_commit s words contents journal spare spare' job tx is commits k =
+    let p = progress_of s.script journal in
     let one = k.job in
     let f = one.following in
-    let active = subst (IsActive script tries f words (length journal) spare job.place) is one.active in
+    let active = subst (IsActive s f words (length journal) spare job.place) is one.active in
     let flight = active.1 in
-    let committing : IsCommitting script f job.place tx = subst (IsPhase script tries f words job.place tx) commits flight.phase in
-    let few = few_passed script f.job k.read flight.left in
-    let g = gone_on script (length journal) f tx in
+    let committing : IsCommitting s.script f job.place tx = subst (IsPhase s f words job.place tx) commits flight.phase in
+    let few = few_passed s.script f.job k.read flight.left in
+    let g = gone_on s.script (length journal) f tx in
     let stands : (behind_commit job tx).place ≡ at_begin g.job =
     λ i. at_begin (record { block = flight.standing.block i; next = flight.standing.next i + 1; variables = ap (λ (v : Walk). v.variables) committing.ahead i }) in
-    let told : IsTrue tells → MayBegin script (length journal) p.state job.me × IsPlayedBy p.state.world job.me words contents (activity.Active tx) =
+    let told : IsTrue s.tells → MayBegin s.script (length journal) p.state job.me × IsPlayedBy p.state.world job.me words contents (activity.Active tx) =
     λ t. let q = one.played t in
     let now : IsPlayedBy p.state.world job.me words contents (activity.Active tx) = subst (IsPlayedBy p.state.world job.me words contents) is q.now in
     (q.begin, now) in
-    keep_entry script tells tries words contents journal spare' (behind_commit job tx) (entry_of tx 1 (Committed [])) g
+    keep_entry s words contents journal spare' (behind_commit job tx) (entry_of tx 1 (Committed [])) g
     k.read k.entries k.in_order (omega (arith, flight.passed)) k.count one.named
-    (commit_true script tells tries (length journal) p f job.place words contents job.me tx one.alone one.begins flight committing told)
+    (commit_true s (length journal) p f job.place words contents job.me tx one.alone one.begins flight committing told)
     flight.noted.number flight.noted.began
-    (commit_leads script (length journal) p f tx one.alone)
+    (commit_leads s.script (length journal) p f tx one.alone)
     (refl, stands, ap (λ n. n + 1) flight.passed)
     refl
-    (λ t. let b = commit_begins script (length journal) p f words contents job.me tx one.alone one.begins commits flight.noted.number (told t).0 (told t).1 in record { begin = b.0; now = b.1 })
-    (λ _. passes script journal (entry_of tx 1 (Committed [])) f g (k.unbroken f one.alone.jobs flight.goes_on) flight.left refl refl refl)
+    (λ t. let b = commit_begins s.script (length journal) p f words contents job.me tx one.alone one.begins commits flight.noted.number (told t).0 (told t).1 in record { begin = b.0; now = b.1 })
+    (λ _. passes s.script journal (entry_of tx 1 (Committed [])) f g (k.unbroken f one.alone.jobs flight.goes_on) flight.left refl refl refl)
 
 -- ---- where a job stands behind an abort, by the cause
-behind_active : (script : Script) (tries : ℕ) (f : Following) (words : List ℕ) (entered spare : ℕ) (job : Job) (c : Cause) → f.starved ≡ false → IsSome (next_body script f.job) → entered ≡ f.job.next
+behind_active : (s : Setting) (f : Following) (words : List ℕ) (entered spare : ℕ) (job : Job) (c : Cause) → f.starved ≡ false → IsSome (next_body s.script f.job) → entered ≡ f.job.next
     → job.place.block ≡ f.job.block → job.place.next ≡ f.job.next → job.place.begun ≡ f.job.variables
-    → IsActive script tries (gone_back entered f c) words (entered + 1) spare (behind_abort job c).place (behind_abort job c).activity
-behind_active script tries f words entered spare job cause.Asked goes left passed block next begun =
+    → IsActive s (gone_back entered f c) words (entered + 1) spare (behind_abort job c).place (behind_abort job c).activity
+behind_active s f words entered spare job cause.Asked goes left passed block next begun =
     (refl, (λ i. at_begin (record { block = block i; next = next i + 1; variables = begun i })), ap (λ n. n + 1) passed)
-behind_active script tries f words entered spare job (cause.Conflict object holder at) goes left passed block next begun = (refl, left)
-behind_active script tries f words entered spare job (cause.Revoked object by at) goes left passed block next begun = (refl, left)
-behind_active script tries f words entered spare job cause.NoMemory goes left passed block next begun = (refl, left)
+behind_active s f words entered spare job (cause.Conflict object holder at) goes left passed block next begun = (refl, left)
+behind_active s f words entered spare job (cause.Revoked object by at) goes left passed block next begun = (refl, left)
+behind_active s f words entered spare job cause.NoMemory goes left passed block next begun = (refl, left)
 
 behind_me : (job : Job) (c : Cause) → ((behind_abort job c).me ≡ job.me) × ((behind_abort job c).block ≡ job.block)
 behind_me job cause.Asked = (refl, refl)
@@ -296,34 +297,34 @@ behind_unbroken script journal tx f (cause.Conflict object holder at) before lef
 behind_unbroken script journal tx f (cause.Revoked object by at) before left goes = let no : true ≡ false = goes in cc
 behind_unbroken script journal tx f cause.NoMemory before left goes = let no : true ≡ false = goes in cc
 
-pub keep_abort : (script : Script) (tells : Bool) (tries : ℕ) (words : List ℕ) (contents : Contents) (journal : List Entry) (spare spare' : ℕ) (job : Job) (tx : Tx) (c : Cause)
+pub keep_abort : (s : Setting) (words : List ℕ) (contents : Contents) (journal : List Entry) (spare spare' : ℕ) (job : Job) (tx : Tx) (c : Cause)
     → job.activity ≡ activity.Active tx → tx.phase ≡ phase.Undoing c → tx.undo.pending ≡ []
-    → InFlight script tells tries words contents journal spare (Some job)
-    → InFlight script tells tries words contents (journal ++ entry_of tx 1 (aborted_by c tx) ∷ []) spare' (Some (behind_abort job c))
-keep_abort script tells tries words contents journal spare spare' job tx c is undoes none k =
-    let p = progress_of script journal in
+    → InFlight s words contents journal spare (Some job)
+    → InFlight s words contents (journal ++ entry_of tx 1 (aborted_by c tx) ∷ []) spare' (Some (behind_abort job c))
+keep_abort s words contents journal spare spare' job tx c is undoes none k =
+    let p = progress_of s.script journal in
     let one = k.job in
     let f = one.following in
-    let active = subst (IsActive script tries f words (length journal) spare job.place) is one.active in
+    let active = subst (IsActive s f words (length journal) spare job.place) is one.active in
     let flight = active.1 in
-    let back : IsUndoing script tries f tx c = subst (IsPhase script tries f words job.place tx) undoes flight.phase in
-    let few = few_passed script f.job k.read flight.left in
-    let s = flight.standing in
+    let back : IsUndoing s f tx c = subst (IsPhase s f words job.place tx) undoes flight.phase in
+    let few = few_passed s.script f.job k.read flight.left in
+    let here = flight.standing in
     let same = behind_me job c in
-    let told : IsTrue tells → MayBegin script (length journal) p.state job.me × IsPlayedBy p.state.world job.me words contents (activity.Active tx) =
+    let told : IsTrue s.tells → MayBegin s.script (length journal) p.state job.me × IsPlayedBy p.state.world job.me words contents (activity.Active tx) =
     λ t. let q = one.played t in
     let now : IsPlayedBy p.state.world job.me words contents (activity.Active tx) = subst (IsPlayedBy p.state.world job.me words contents) is q.now in
     (q.begin, now) in
-    keep_entry script tells tries words contents journal spare' (behind_abort job c) (entry_of tx 1 (aborted_by c tx)) (gone_back (length journal) f c)
+    keep_entry s words contents journal spare' (behind_abort job c) (entry_of tx 1 (aborted_by c tx)) (gone_back (length journal) f c)
     k.read k.entries k.in_order (omega (arith, flight.passed)) k.count (one.named ∙ ap (λ b. b ∷ []) (sym same.1))
-    (abort_true script tells tries (length journal) p f job.place words contents job.me tx c one.alone one.begins undoes none flight told)
+    (abort_true s (length journal) p f job.place words contents job.me tx c one.alone one.begins undoes none flight told)
     flight.noted.number flight.noted.began
-    (abort_leads script tries (length journal) p f tx c one.alone back)
-    (behind_active script tries f words (length journal) spare' job c flight.goes_on flight.left flight.passed s.block s.next s.begun)
+    (abort_leads s (length journal) p f tx c one.alone back)
+    (behind_active s f words (length journal) spare' job c flight.goes_on flight.left flight.passed here.block here.next here.begun)
     (same.0 ∙ one.begins ∙ ap (λ (m : Private). beginning m.places) (sym same.0))
-    (λ t. let b = abort_begins script (length journal) p f words contents job.me tx c one.alone undoes none flight.noted (told t).0 (told t).1 in
+    (λ t. let b = abort_begins s.script (length journal) p f words contents job.me tx c one.alone undoes none flight.noted (told t).0 (told t).1 in
     record {
-      begin = subst (MayBegin script (length journal + 1) (after_entry script (length journal) p (entry_of tx 1 (aborted_by c tx))).state) (sym same.0) b.0;
-      now = behind_played (after_entry script (length journal) p (entry_of tx 1 (aborted_by c tx))).state.world (behind_abort job c).me words contents job c b.1;
+      begin = subst (MayBegin s.script (length journal + 1) (after_entry s.script (length journal) p (entry_of tx 1 (aborted_by c tx))).state) (sym same.0) b.0;
+      now = behind_played (after_entry s.script (length journal) p (entry_of tx 1 (aborted_by c tx))).state.world (behind_abort job c).me words contents job c b.1;
     })
-    (behind_unbroken script journal tx f c (k.unbroken f one.alone.jobs flight.goes_on) flight.left)
+    (behind_unbroken s.script journal tx f c (k.unbroken f one.alone.jobs flight.goes_on) flight.left)

@@ -14,6 +14,7 @@ use Rattle.xc_text.specs.declared.script.Script.{Script}
 use Rattle.xc_text.specs.declared.script.Statement.{Statement}
 use Rattle.xc_script.specs.Ask.{next_body, transactions_at}
 use Rattle.xc_script.specs.Place.{Place, job_of}
+use Rattle.xc_station.specs.Setting.{Setting}
 use Rattle.xc_station.specs.declared.tx.Tx.{Tx}
 use Rattle.xc_station.specs.declared.tx.Phase.{Phase}
 use Rattle.xc_station.specs.declared.tx.Phase.TheVariants.{Running, Committing, Undoing}
@@ -152,13 +153,13 @@ abort_falls script job tx cause.NoMemory left = starved_below (drop job.place.ne
 
 -- ---- the turns, as the station takes them
 -- the transaction of an active job is there
-there_active : (script : Script) (tells : Bool) (tries : ℕ) (words : List ℕ) (contents : Contents) (journal : List Entry) (spare : ℕ) (o : Option Job) (job : Job) (tx : Tx) → InFlight script tells tries words contents journal spare o →
-    Some job ≡ o → job.activity ≡ activity.Active tx → IsSome (next_body script (job_of job.place))
-there_active script tells tries words contents journal spare o job tx k was is =
-    let k' : InFlight script tells tries words contents journal spare (Some job) = subst (InFlight script tells tries words contents journal spare) (sym was) k in
-    let active = subst (IsActive script tries k'.job.following words (length journal) spare job.place) is k'.job.active in
-    let s = active.1.standing in
-    subst IsSome (λ i. slice_get (transactions_at script (sym s.block i)) (sym s.next i)) active.1.left
+there_active : (s : Setting) (words : List ℕ) (contents : Contents) (journal : List Entry) (spare : ℕ) (o : Option Job) (job : Job) (tx : Tx) → InFlight s words contents journal spare o →
+    Some job ≡ o → job.activity ≡ activity.Active tx → IsSome (next_body s.script (job_of job.place))
+there_active s words contents journal spare o job tx k was is =
+    let k' : InFlight s words contents journal spare (Some job) = subst (InFlight s words contents journal spare) (sym was) k in
+    let active = subst (IsActive s k'.job.following words (length journal) spare job.place) is k'.job.active in
+    let here = active.1.standing in
+    subst IsSome (λ i. slice_get (transactions_at s.script (sym here.block i)) (sym here.next i)) active.1.left
 
 active_turns : (script : Script) (o : Option Job) (job : Job) (tx : Tx) → Some job ≡ o → job.activity ≡ activity.Active tx → turns_left script o ≡ left_at_place script job.place (activity.Active tx)
 active_turns script o job tx was is = ap (turns_left script) (sym was) ∙ ap (left_at_place script job.place) is
@@ -169,47 +170,47 @@ left_idle script o entered spare job job' was idle begins =
     let old : turns_left script o ≡ left_at_place script job.place activity.Idle = ap (turns_left script) (sym was) ∙ ap (left_at_place script job.place) is in
     omega (arith, old, begin_falls script entered spare job.me job.place job'.place job'.activity begins)
 
-pub left_running : (script : Script) (tells : Bool) (tries : ℕ) (words : List ℕ) (contents : Contents) (journal : List Entry) (spare : ℕ) (o : Option Job) (job job' : Job) → InFlight script tells tries words contents journal spare o →
+pub left_running : (s : Setting) (words : List ℕ) (contents : Contents) (journal : List Entry) (spare : ℕ) (o : Option Job) (job job' : Job) → InFlight s words contents journal spare o →
     Some job ≡ o → doing_of o ≡ doing.Running → job'.place.block ≡ job.place.block → job'.place.next ≡ job.place.next →
-    RunsOn (length (unwrap_or (next_body script (job_of job.place)) [])) job.place job'.place job.activity job'.activity → turns_left script (Some job') < turns_left script o
-left_running script tells tries words contents journal spare o job job' k was runs block next on =
+    RunsOn (length (unwrap_or (next_body s.script (job_of job.place)) [])) job.place job'.place job.activity job'.activity → turns_left s.script (Some job') < turns_left s.script o
+left_running s words contents journal spare o job job' k was runs block next on =
     let one = active_is job.activity (busy_running job.activity (ap doing_of was ∙ runs)) in
-    let left = there_active script tells tries words contents journal spare o job one.0 k was one.1 in
-    let on' = subst (λ a. RunsOn (length (unwrap_or (next_body script (job_of job.place)) [])) job.place job'.place a job'.activity) one.1 on in
-    omega (arith, active_turns script o job one.0 was one.1, run_falls script job.place job'.place one.0 job'.activity left block next on')
+    let left = there_active s words contents journal spare o job one.0 k was one.1 in
+    let on' = subst (λ a. RunsOn (length (unwrap_or (next_body s.script (job_of job.place)) [])) job.place job'.place a job'.activity) one.1 on in
+    omega (arith, active_turns s.script o job one.0 was one.1, run_falls s.script job.place job'.place one.0 job'.activity left block next on')
 
-pub left_committing : (script : Script) (tells : Bool) (tries : ℕ) (words : List ℕ) (contents : Contents) (journal : List Entry) (spare : ℕ) (o : Option Job) (job : Job) (made : Job × Entry) → InFlight script tells tries words contents journal spare o →
-    Some job ≡ o → doing_of o ≡ doing.Committing → Commits job made → turns_left script (Some made.0) < turns_left script o
-left_committing script tells tries words contents journal spare o job made k was commits gives =
+pub left_committing : (s : Setting) (words : List ℕ) (contents : Contents) (journal : List Entry) (spare : ℕ) (o : Option Job) (job : Job) (made : Job × Entry) → InFlight s words contents journal spare o →
+    Some job ≡ o → doing_of o ≡ doing.Committing → Commits job made → turns_left s.script (Some made.0) < turns_left s.script o
+left_committing s words contents journal spare o job made k was commits gives =
     let one = active_is job.activity (busy_committing job.activity (ap doing_of was ∙ commits)) in
-    let left = there_active script tells tries words contents journal spare o job one.0 k was one.1 in
-    let new : turns_left script (Some made.0) ≡ activity_left (drop (job.place.next + 1) (transactions_at script job.place.block)) 0 activity.Idle =
-    ap (λ (m : Job × Entry). turns_left script (Some m.0)) (gives one.0 one.1) in
-    omega (arith, active_turns script o job one.0 was one.1, new, passed_falls script job.place one.0 left)
+    let left = there_active s words contents journal spare o job one.0 k was one.1 in
+    let new : turns_left s.script (Some made.0) ≡ activity_left (drop (job.place.next + 1) (transactions_at s.script job.place.block)) 0 activity.Idle =
+    ap (λ (m : Job × Entry). turns_left s.script (Some m.0)) (gives one.0 one.1) in
+    omega (arith, active_turns s.script o job one.0 was one.1, new, passed_falls s.script job.place one.0 left)
 
-pub left_undoing : (script : Script) (tells : Bool) (tries : ℕ) (o : Option Job) (job job' : Job) (was is : Contents) (before now : ℕ) → Some job ≡ o → doing_of o ≡ doing.Undoing → Tries tells tries job job' was is before now → turns_left script (Some job') < turns_left script o
-left_undoing script tells tries o job job' was is before now taken undoes tries_it =
+pub left_undoing : (s : Setting) (o : Option Job) (job job' : Job) (was is : Contents) (before now : ℕ) → Some job ≡ o → doing_of o ≡ doing.Undoing → Tries s.tells s.rules.undo_tries job job' was is before now → turns_left s.script (Some job') < turns_left s.script o
+left_undoing s o job job' was is before now taken undoes tries_it =
     let one = active_is job.activity (busy_undoing job.activity (ap doing_of taken ∙ undoes)) in
     let tx = one.0 in
     let back = undoing_is tx.undo.pending tx.phase (ap doing_in (sym one.1) ∙ ap doing_of taken ∙ undoes) in
     let tried = tries_it tx back.1.0 back.1.1 one.1 back.1.2 in
-    let new : turns_left script (Some job') ≡ left_at_place script job.place (activity.Active (record tx { undo = tried.undo })) = ap (λ (j : Job). turns_left script (Some j)) tried.job in
+    let new : turns_left s.script (Some job') ≡ left_at_place s.script job.place (activity.Active (record tx { undo = tried.undo })) = ap (λ (j : Job). turns_left s.script (Some j)) tried.job in
     omega (
       arith,
-      active_turns script o job tx taken one.1,
+      active_turns s.script o job tx taken one.1,
       new,
-      tried_falls (drop job.place.next (transactions_at script job.place.block)) job.place.at tx back.0.0 back.1.0 back.1.1 tried.undo back.0.1 back.1.2 (ap (λ (r : Records). r.pending) tried.tried.stack),
+      tried_falls (drop job.place.next (transactions_at s.script job.place.block)) job.place.at tx back.0.0 back.1.0 back.1.1 tried.undo back.0.1 back.1.2 (ap (λ (r : Records). r.pending) tried.tried.stack),
     )
 
-pub left_undone : (script : Script) (tells : Bool) (tries : ℕ) (words : List ℕ) (contents : Contents) (journal : List Entry) (spare : ℕ) (o : Option Job) (job : Job) (made : Job × Entry) → InFlight script tells tries words contents journal spare o →
-    Some job ≡ o → doing_of o ≡ doing.Undone → Aborts job made → turns_left script (Some made.0) < turns_left script o
-left_undone script tells tries words contents journal spare o job made k was undone gives =
+pub left_undone : (s : Setting) (words : List ℕ) (contents : Contents) (journal : List Entry) (spare : ℕ) (o : Option Job) (job : Job) (made : Job × Entry) → InFlight s words contents journal spare o →
+    Some job ≡ o → doing_of o ≡ doing.Undone → Aborts job made → turns_left s.script (Some made.0) < turns_left s.script o
+left_undone s words contents journal spare o job made k was undone gives =
     let one = active_is job.activity (busy_undone job.activity (ap doing_of was ∙ undone)) in
     let tx = one.0 in
     let back = undone_is tx.undo.pending tx.phase (ap doing_in (sym one.1) ∙ ap doing_of was ∙ undone) in
-    let left = there_active script tells tries words contents journal spare o job tx k was one.1 in
-    let new : turns_left script (Some made.0) ≡ turns_left script (Some (behind_abort job back.0.0)) = ap (λ (m : Job × Entry). turns_left script (Some m.0)) (gives tx back.0.0 one.1 back.0.1) in
-    omega (arith, active_turns script o job tx was one.1, new, abort_falls script job tx back.0.0 left)
+    let left = there_active s words contents journal spare o job tx k was one.1 in
+    let new : turns_left s.script (Some made.0) ≡ turns_left s.script (Some (behind_abort job back.0.0)) = ap (λ (m : Job × Entry). turns_left s.script (Some m.0)) (gives tx back.0.0 one.1 back.0.1) in
+    omega (arith, active_turns s.script o job tx was one.1, new, abort_falls s.script job tx back.0.0 left)
 
 pub left_starved : (script : Script) (o : Option Job) (job job' : Job) → Some job ≡ o → doing_of o ≡ doing.Starved → job' ≡ record job { activity = activity.Ended job_end.NoMemory } → turns_left script (Some job') < turns_left script o
 left_starved script o job job' was starved made =

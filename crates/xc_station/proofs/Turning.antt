@@ -20,6 +20,7 @@ use Rattle.xc_txmem.specs.Overlay.{AreWithin}
 use Rattle.xc_world.specs.World.{World, beginning}
 use Rattle.xc_world.specs.Effects.{IsCovered}
 use Rattle.xc_world.specs.Sound.{IsSound}
+use Rattle.xc_station.specs.Setting.{Setting}
 use Rattle.xc_station.specs.Truth.{AsksEach}
 use Rattle.xc_world.specs.Run.{rests, body_fits, body, asked_of, Ran}
 use Rattle.xc_data.specs.Claims.{holding}
@@ -42,17 +43,17 @@ use Rattle.xc_station.proofs.Backward.{flight_tried, played_tried, covered_now, 
 use Rattle.xc_station.proofs.Closing.{aborted_by}
 use Rattle.xc_station.proofs.Keeping.{idle_is, starved_is, running_is, committing_is, undoing_is, undone_is, active_is, busy_running, busy_committing, busy_undoing, busy_undone, keep_job, keep_commit, keep_abort}
 
--- the job that is taken out is the station's
-taken_in : (script : Script) (tells : Bool) (tries : ℕ) (words : List ℕ) (contents : Contents) (journal : List Entry) (spare : ℕ) (o : Option Job) (job : Job) → Some job ≡ o → InFlight script tells tries words contents journal spare o → InFlight script tells tries words contents journal spare (Some job)
-taken_in script tells tries words contents journal spare o job was k = subst (InFlight script tells tries words contents journal spare) (sym was) k
+-- the job that is taken out is the station'here
+taken_in : (s : Setting) (words : List ℕ) (contents : Contents) (journal : List Entry) (spare : ℕ) (o : Option Job) (job : Job) → Some job ≡ o → InFlight s words contents journal spare o → InFlight s words contents journal spare (Some job)
+taken_in s words contents journal spare o job was k = subst (InFlight s words contents journal spare) (sym was) k
 
 -- ---- a begin
-begun_job : (script : Script) (tries : ℕ) (words : List ℕ) (f : Following) (entered spare : ℕ) (me : Private) (old new : Place) (a : Activity) → me ≡ beginning me.places → f.starved ≡ false → old ≡ at_begin f.job → entered ≡ f.job.next
-    → BeginsAs script entered spare me old new a → IsActive script tries f words entered spare new a
-begun_job script tries words f entered spare me old new activity.Idle fresh goes stands passed h = absurd h
-begun_job script tries words f entered spare me old new (activity.Active tx) fresh goes stands passed h =
+begun_job : (s : Setting) (words : List ℕ) (f : Following) (entered spare : ℕ) (me : Private) (old new : Place) (a : Activity) → me ≡ beginning me.places → f.starved ≡ false → old ≡ at_begin f.job → entered ≡ f.job.next
+    → BeginsAs s.script entered spare me old new a → IsActive s f words entered spare new a
+begun_job s words f entered spare me old new activity.Idle fresh goes stands passed h = absurd h
+begun_job s words f entered spare me old new (activity.Active tx) fresh goes stands passed h =
     let n = h.3 in
-    let left : IsSome (next_body script f.job) = subst (λ (p : Place). IsSome (next_body script (job_of p))) stands h.2 in
+    let left : IsSome (next_body s.script f.job) = subst (λ (p : Place). IsSome (next_body s.script (job_of p))) stands h.2 in
     let stand : new ≡ record (at_begin f.job) { begun = f.job.variables } = h.1 ∙ ap (λ (p : Place). record p { begun = p.variables }) stands in (
       h.0,
       record {
@@ -63,23 +64,23 @@ begun_job script tries words f entered spare me old new (activity.Active tx) fre
         noted = record {
           number = n.number;
           began = n.began;
-          asked = subst (λ cs. AsksEach (walk_from script f.job) cs tx.replies.items) (sym n.calls) n.replies;
+          asked = subst (λ cs. AsksEach (walk_from s.script f.job) cs tx.replies.items) (sym n.calls) n.replies;
         };
         stored = subst (λ (m : Private). m.stored ≤ 16384) (sym (n.private ∙ fresh)) (omega arith);
-        phase = subst (IsPhase script tries f words new tx) (sym n.running) (record {
-          ahead = ap (walk_of script) stand ∙ ap (all_answered (walk_from script f.job)) (sym n.replies);
+        phase = subst (IsPhase s f words new tx) (sym n.running) (record {
+          ahead = ap (walk_of s.script) stand ∙ ap (all_answered (walk_from s.script f.job)) (sym n.replies);
           within = subst (AreWithin (length words)) (sym n.writes) refl;
           none = ap (λ (u : Records). u.ended) n.undo;
         });
       },
     )
-begun_job script tries words f entered spare me old new activity.Starved fresh goes stands passed h = absurd h
-begun_job script tries words f entered spare me old new (activity.Ended job_end.Done) fresh goes stands passed h =
-    (goes, subst (λ (p : Place). next_body script (job_of p) ≡ None) stands h.1)
-begun_job script tries words f entered spare me old new (activity.Ended (job_end.GaveUp c)) fresh goes stands passed h = absurd h
-begun_job script tries words f entered spare me old new (activity.Ended job_end.JournalFull) fresh goes stands passed h = absurd h
-begun_job script tries words f entered spare me old new (activity.Ended job_end.NoMemory) fresh goes stands passed h =
-    subst (λ (p : Place). IsSome (next_body script (job_of p))) stands h.1
+begun_job s words f entered spare me old new activity.Starved fresh goes stands passed h = absurd h
+begun_job s words f entered spare me old new (activity.Ended job_end.Done) fresh goes stands passed h =
+    (goes, subst (λ (p : Place). next_body s.script (job_of p) ≡ None) stands h.1)
+begun_job s words f entered spare me old new (activity.Ended (job_end.GaveUp c)) fresh goes stands passed h = absurd h
+begun_job s words f entered spare me old new (activity.Ended job_end.JournalFull) fresh goes stands passed h = absurd h
+begun_job s words f entered spare me old new (activity.Ended job_end.NoMemory) fresh goes stands passed h =
+    subst (λ (p : Place). IsSome (next_body s.script (job_of p))) stands h.1
 
 begun_played : (script : Script) (words : List ℕ) (contents : Contents) (w : World) (entered spare : ℕ) (me : Private) (old new : Place) (a : Activity) → BeginsAs script entered spare me old new a → IsAsIn w words contents → IsPlayedBy w me words contents a
 begun_played script words contents w entered spare me old new activity.Idle h there = absurd h
@@ -117,19 +118,19 @@ begun_faults script entered spare me old new (activity.Ended end) h = refl
 counted_as : (journal : List Entry) (o : Option Job) (job : Job) (before now : ℕ) → Some job ≡ o → AreCounted journal o before now → CountsFaults (sum_by entry_faults journal + faults_noted job.activity) before now
 counted_as journal o job before now was h = subst (λ p. AreCounted journal p before now) (sym was) h
 
-pub turn_idle : (script : Script) (tells : Bool) (tries : ℕ) (words : List ℕ) (contents : Contents) (journal journal' : List Entry) (spare spare' : ℕ) (o : Option Job) (job job' : Job)
+pub turn_idle : (s : Setting) (words : List ℕ) (contents : Contents) (journal journal' : List Entry) (spare spare' : ℕ) (o : Option Job) (job job' : Job)
     → Some job ≡ o → doing_of o ≡ Idle → journal' ≡ journal → job'.block ≡ job.block → job'.me ≡ job.me
-    → BeginsAs script (length journal) spare' job.me job.place job'.place job'.activity
-    → InFlight script tells tries words contents journal spare o → InFlight script tells tries words contents journal' spare' (Some job')
-turn_idle script tells tries words contents journal journal' spare spare' o job job' was idle same block me begins k =
+    → BeginsAs s.script (length journal) spare' job.me job.place job'.place job'.activity
+    → InFlight s words contents journal spare o → InFlight s words contents journal' spare' (Some job')
+turn_idle s words contents journal journal' spare spare' o job job' was idle same block me begins k =
     let is = idle_is job.activity (ap doing_of was ∙ idle) in
-    let inside = taken_in script tells tries words contents journal spare o job was k in
-    subst (λ js. InFlight script tells tries words contents js spare' (Some job')) (sym same)
-    (keep_job script tells tries journal words words contents contents spare spare' job job' block me refl
-    (λ f before. let rest = subst (IsActive script tries f words (length journal) spare job.place) is before in
-    begun_job script tries words f (length journal) spare' job.me job.place job'.place job'.activity inside.job.begins rest.0 rest.1 rest.2 begins)
-    (λ t f before b now. begun_played script words contents (progress_of script journal).state.world (length journal) spare' job.me job.place job'.place job'.activity begins
-    (subst (IsPlayedBy (progress_of script journal).state.world job.me words contents) is now))
+    let inside = taken_in s words contents journal spare o job was k in
+    subst (λ js. InFlight s words contents js spare' (Some job')) (sym same)
+    (keep_job s journal words words contents contents spare spare' job job' block me refl
+    (λ f before. let rest = subst (IsActive s f words (length journal) spare job.place) is before in
+    begun_job s words f (length journal) spare' job.me job.place job'.place job'.activity inside.job.begins rest.0 rest.1 rest.2 begins)
+    (λ t f before b now. begun_played s.script words contents (progress_of s.script journal).state.world (length journal) spare' job.me job.place job'.place job'.activity begins
+    (subst (IsPlayedBy (progress_of s.script journal).state.world job.me words contents) is now))
     inside)
 
 pub counts_idle : (script : Script) (journal journal' : List Entry) (spare : ℕ) (o : Option Job) (job job' : Job) (before now : ℕ) → Some job ≡ o → doing_of o ≡ Idle → journal' ≡ journal
@@ -142,17 +143,17 @@ counts_idle script journal journal' spare o job job' before now was idle same be
     subst (λ n. CountsFaults n before now) total (counted_as journal o job before now was h)
 
 -- ---- a running turn
-pub turn_running : (script : Script) (tells : Bool) (tries : ℕ) (words words' : List ℕ) (contents contents' : Contents) (journal : List Entry) (spare : ℕ) (o : Option Job) (job job' : Job)
+pub turn_running : (s : Setting) (words words' : List ℕ) (contents contents' : Contents) (journal : List Entry) (spare : ℕ) (o : Option Job) (job job' : Job)
     → Some job ≡ o → job'.block ≡ job.block → job'.me ≡ job.me → length words' ≡ length words
-    → ((tries : ℕ) (f : Following) (entered room : ℕ) → IsActive script tries f words entered room job.place job.activity → IsActive script tries f words' entered room job'.place job'.activity)
-    → (IsTrue tells → (w : World) (me : Private) (tries : ℕ) (f : Following) (entered room : ℕ) → IsActive script tries f words entered room job.place job.activity → IsSound w me (entered + 1) → IsPlayedBy w me words contents job.activity
+    → ((s.rules.undo_tries : ℕ) (f : Following) (entered room : ℕ) → IsActive s f words entered room job.place job.activity → IsActive s f words' entered room job'.place job'.activity)
+    → (IsTrue s.tells → (w : World) (me : Private) (s.rules.undo_tries : ℕ) (f : Following) (entered room : ℕ) → IsActive s f words entered room job.place job.activity → IsSound w me (entered + 1) → IsPlayedBy w me words contents job.activity
     → IsPlayedBy w me words' contents' job'.activity)
-    → InFlight script tells tries words contents journal spare o → InFlight script tells tries words' contents' journal spare (Some job')
-turn_running script tells tries words words' contents contents' journal spare o job job' was block me count active played k =
-    keep_job script tells tries journal words words' contents contents' spare spare job job' block me count
-    (λ f before. active tries f (length journal) spare before)
-    (λ t f before b now. played t (progress_of script journal).state.world job.me tries f (length journal) spare before (b.sound (length journal + 1) (omega arith)) now)
-    (taken_in script tells tries words contents journal spare o job was k)
+    → InFlight s words contents journal spare o → InFlight s words' contents' journal spare (Some job')
+turn_running s words words' contents contents' journal spare o job job' was block me count active played k =
+    keep_job s journal words words' contents contents' spare spare job job' block me count
+    (λ f before. active s.rules.undo_tries f (length journal) spare before)
+    (λ t f before b now. played t (progress_of s.script journal).state.world job.me s.rules.undo_tries f (length journal) spare before (b.sound (length journal + 1) (omega arith)) now)
+    (taken_in s words contents journal spare o job was k)
 
 pub counts_running : (journal : List Entry) (o : Option Job) (job job' : Job) (before was is : ℕ) → Some job ≡ o
     → ((n b : ℕ) → CountsFaults (n + faults_noted job.activity) b was → CountsFaults (n + faults_noted job'.activity) b is)
@@ -160,61 +161,61 @@ pub counts_running : (journal : List Entry) (o : Option Job) (job job' : Job) (b
 counts_running journal o job job' before was is taken more h = more (sum_by entry_faults journal) before (counted_as journal o job before was taken h)
 
 -- a running transaction may do its next call
-pub may_go : (script : Script) (tells : Bool) (tries : ℕ) (words : List ℕ) (contents : Contents) (journal : List Entry) (spare : ℕ) (o : Option Job) (job : Job) → Some job ≡ o → doing_of o ≡ Running
-    → InFlight script tells tries words contents journal spare o → CanRun script words job.place job.activity
-may_go script tells tries words contents journal spare o job was runs k =
-    let inside = taken_in script tells tries words contents journal spare o job was k in
+pub may_go : (s : Setting) (words : List ℕ) (contents : Contents) (journal : List Entry) (spare : ℕ) (o : Option Job) (job : Job) → Some job ≡ o → doing_of o ≡ Running
+    → InFlight s words contents journal spare o → CanRun s.script words job.place job.activity
+may_go s words contents journal spare o job was runs k =
+    let inside = taken_in s words contents journal spare o job was k in
     let f = inside.job.following in
     let doing = ap doing_of was ∙ runs in
     let one = active_is job.activity (busy_running job.activity doing) in
     let phase = running_is one.0.undo.pending one.0.phase (ap doing_in (sym one.1) ∙ doing) in
-    let active = subst (IsActive script tries f words (length journal) spare job.place) one.1 inside.job.active in
+    let active = subst (IsActive s f words (length journal) spare job.place) one.1 inside.job.active in
     let flight = active.1 in
-    let running : IsRunning script f words job.place one.0 = subst (IsPhase script tries f words job.place one.0) phase flight.phase in
-    let left : IsSome (next_body script (job_of job.place)) = subst IsSome (λ i. slice_get (transactions_at script (sym flight.standing.block i)) (sym flight.standing.next i)) flight.left in
-    subst (CanRun script words job.place) (sym one.1) (record { running = phase; left = left; within = running.within; stored = flight.stored; none = running.none })
+    let running : IsRunning s.script f words job.place one.0 = subst (IsPhase s f words job.place one.0) phase flight.phase in
+    let left : IsSome (next_body s.script (job_of job.place)) = subst IsSome (λ i. slice_get (transactions_at s.script (sym flight.standing.block i)) (sym flight.standing.next i)) flight.left in
+    subst (CanRun s.script words job.place) (sym one.1) (record { running = phase; left = left; within = running.within; stored = flight.stored; none = running.none })
 
-pub may_open : (script : Script) (tells : Bool) (tries : ℕ) (words : List ℕ) (contents : Contents) (journal : List Entry) (spare : ℕ) (o : Option Job) (job : Job) → Some job ≡ o → doing_of o ≡ Running
-    → InFlight script tells tries words contents journal spare o → IsTrue tells → HasOpenFiles contents job.activity
-may_open script tells tries words contents journal spare o job was runs k t =
-    let inside = taken_in script tells tries words contents journal spare o job was k in
+pub may_open : (s : Setting) (words : List ℕ) (contents : Contents) (journal : List Entry) (spare : ℕ) (o : Option Job) (job : Job) → Some job ≡ o → doing_of o ≡ Running
+    → InFlight s words contents journal spare o → IsTrue s.tells → HasOpenFiles contents job.activity
+may_open s words contents journal spare o job was runs k t =
+    let inside = taken_in s words contents journal spare o job was k in
     let f = inside.job.following in
     let doing = ap doing_of was ∙ runs in
     let one = active_is job.activity (busy_running job.activity doing) in
     let phase = running_is one.0.undo.pending one.0.phase (ap doing_in (sym one.1) ∙ doing) in
-    let active = subst (IsActive script tries f words (length journal) spare job.place) one.1 inside.job.active in
+    let active = subst (IsActive s f words (length journal) spare job.place) one.1 inside.job.active in
     let p = inside.job.played t in
-    let w = (progress_of script journal).state.world in
+    let w = (progress_of s.script journal).state.world in
     let now : IsPlayedBy w job.me words contents (activity.Active one.0) = subst (IsPlayedBy w job.me words contents) one.1 p.now in
-    let files = open_files script f (length journal) words w job.me contents one.0 phase active.1.noted (p.begin.sound (length journal + 1) (omega arith)) now in
+    let files = open_files s.script f (length journal) words w job.me contents one.0 phase active.1.noted (p.begin.sound (length journal + 1) (omega arith)) now in
     subst (HasOpenFiles contents) (sym one.1) files
 
 -- ---- a commit
 abbrev pub Commits : Job → Job × Entry → Type 0
 Commits job made = (tx : Tx) → job.activity ≡ activity.Active tx → made ≡ (behind_commit job tx, entry_of tx 1 (Committed []))
 
-pub turn_committing : (script : Script) (tells : Bool) (tries : ℕ) (words : List ℕ) (contents : Contents) (journal journal' : List Entry) (spare spare' : ℕ) (o : Option Job) (job : Job) (made : Job × Entry)
+pub turn_committing : (s : Setting) (words : List ℕ) (contents : Contents) (journal journal' : List Entry) (spare spare' : ℕ) (o : Option Job) (job : Job) (made : Job × Entry)
     → Some job ≡ o → doing_of o ≡ Committing → Commits job made → journal' ≡ journal ++ made.1 ∷ []
-    → InFlight script tells tries words contents journal spare o → InFlight script tells tries words contents journal' spare' (Some made.0)
-turn_committing script tells tries words contents journal journal' spare spare' o job made was commits gives grown k =
+    → InFlight s words contents journal spare o → InFlight s words contents journal' spare' (Some made.0)
+turn_committing s words contents journal journal' spare spare' o job made was commits gives grown k =
     let doing = ap doing_of was ∙ commits in
     let one = active_is job.activity (busy_committing job.activity doing) in
     let phase = committing_is one.0.undo.pending one.0.phase (ap doing_in (sym one.1) ∙ doing) in
-    let there = keep_commit script tells tries words contents journal spare spare' job one.0 one.1 phase (taken_in script tells tries words contents journal spare o job was k) in
-    subst (λ js. InFlight script tells tries words contents js spare' (Some made.0)) (sym grown)
-    (subst (λ (m : Job × Entry). InFlight script tells tries words contents (journal ++ m.1 ∷ []) spare' (Some m.0)) (sym (gives one.0 one.1)) there)
+    let there = keep_commit s words contents journal spare spare' job one.0 one.1 phase (taken_in s words contents journal spare o job was k) in
+    subst (λ js. InFlight s words contents js spare' (Some made.0)) (sym grown)
+    (subst (λ (m : Job × Entry). InFlight s words contents (journal ++ m.1 ∷ []) spare' (Some m.0)) (sym (gives one.0 one.1)) there)
 
-pub counts_committing : (script : Script) (tells : Bool) (tries : ℕ) (words : List ℕ) (contents : Contents) (journal journal' : List Entry) (spare : ℕ) (o : Option Job) (job : Job) (made : Job × Entry) (before now : ℕ)
+pub counts_committing : (s : Setting) (words : List ℕ) (contents : Contents) (journal journal' : List Entry) (spare : ℕ) (o : Option Job) (job : Job) (made : Job × Entry) (before now : ℕ)
     → Some job ≡ o → doing_of o ≡ Committing → Commits job made → journal' ≡ journal ++ made.1 ∷ []
-    → InFlight script tells tries words contents journal spare o → AreCounted journal o before now → AreCounted journal' (Some made.0) before now
-counts_committing script tells tries words contents journal journal' spare o job made before now was commits gives grown k h =
+    → InFlight s words contents journal spare o → AreCounted journal o before now → AreCounted journal' (Some made.0) before now
+counts_committing s words contents journal journal' spare o job made before now was commits gives grown k h =
     let doing = ap doing_of was ∙ commits in
     let one = active_is job.activity (busy_committing job.activity doing) in
     let phase = committing_is one.0.undo.pending one.0.phase (ap doing_in (sym one.1) ∙ doing) in
-    let inside = taken_in script tells tries words contents journal spare o job was k in
+    let inside = taken_in s words contents journal spare o job was k in
     let f = inside.job.following in
-    let active = subst (IsActive script tries f words (length journal) spare job.place) one.1 inside.job.active in
-    let committing : IsCommitting script f job.place one.0 = subst (IsPhase script tries f words job.place one.0) phase active.1.phase in
+    let active = subst (IsActive s f words (length journal) spare job.place) one.1 inside.job.active in
+    let committing : IsCommitting s.script f job.place one.0 = subst (IsPhase s f words job.place one.0) phase active.1.phase in
     let total : sum_by entry_faults journal + faults_noted job.activity ≡ sum_by entry_faults (journal ++ entry_of one.0 1 (Committed []) ∷ []) + 0 =
     ap (λ a. sum_by entry_faults journal + faults_noted a) one.1 ∙ sym (entered_commit journal one.0 committing.none) ∙ (let e : sum_by entry_faults (journal ++ entry_of one.0 1 (Committed []) ∷ []) ≡ sum_by entry_faults (journal ++ entry_of one.0 1 (Committed []) ∷ []) + 0 = omega arith in e) in
     let there : AreCounted (journal ++ entry_of one.0 1 (Committed []) ∷ []) (Some (behind_commit job one.0)) before now = subst (λ n. CountsFaults n before now) total (counted_as journal o job before now was h) in
@@ -225,27 +226,27 @@ abbrev pub Tries : Bool → ℕ → Job → Job → Contents → Contents → �
 Tries tells tries job job' was is before now =
     (tx : Tx) (older : List Undo) (u : Undo) → job.activity ≡ activity.Active tx → tx.undo.pending ≡ older ++ u ∷ [] → Undoes tells tries job job' tx was is before now older u
 
-pub may_undo : (script : Script) (tells : Bool) (tries : ℕ) (words : List ℕ) (contents : Contents) (journal : List Entry) (spare : ℕ) (o : Option Job) (job : Job) → Some job ≡ o → doing_of o ≡ Undoing
-    → InFlight script tells tries words contents journal spare o → IsTrue tells → (tx : Tx) (older : List Undo) (u : Undo) → job.activity ≡ activity.Active tx → tx.undo.pending ≡ older ++ u ∷ [] → IsCovered (world_of contents) u
-may_undo script tells tries words contents journal spare o job was undoes k t tx older u is pending =
-    let inside = taken_in script tells tries words contents journal spare o job was k in
+pub may_undo : (s : Setting) (words : List ℕ) (contents : Contents) (journal : List Entry) (spare : ℕ) (o : Option Job) (job : Job) → Some job ≡ o → doing_of o ≡ Undoing
+    → InFlight s words contents journal spare o → IsTrue s.tells → (tx : Tx) (older : List Undo) (u : Undo) → job.activity ≡ activity.Active tx → tx.undo.pending ≡ older ++ u ∷ [] → IsCovered (world_of contents) u
+may_undo s words contents journal spare o job was undoes k t tx older u is pending =
+    let inside = taken_in s words contents journal spare o job was k in
     let f = inside.job.following in
     let doing = ap doing_of was ∙ undoes in
     let back = undoing_is tx.undo.pending tx.phase (ap doing_in (sym is) ∙ doing) in
-    let active = subst (IsActive script tries f words (length journal) spare job.place) is inside.job.active in
+    let active = subst (IsActive s f words (length journal) spare job.place) is inside.job.active in
     let p = inside.job.played t in
-    let w = (progress_of script journal).state.world in
+    let w = (progress_of s.script journal).state.world in
     let now : IsPlayedBy w job.me words contents (activity.Active tx) = subst (IsPlayedBy w job.me words contents) is p.now in
-    covered_now script f words (length journal) w job.me contents tx back.0.0 older u back.0.1 pending active.1.noted (p.begin.sound (length journal + 1) (omega arith)) now
+    covered_now s.script f words (length journal) w job.me contents tx back.0.0 older u back.0.1 pending active.1.noted (p.begin.sound (length journal + 1) (omega arith)) now
 
 tried_tx : (tx : Tx) (undo : Records) (older : List Undo) (u : Undo) (end : UndoEnd) → undo ≡ record { pending = older; ended = (u, end) ∷ tx.undo.ended } → record tx { undo = record { pending = older; ended = (u, end) ∷ tx.undo.ended } } ≡ record tx { undo = undo }
 tried_tx tx undo older u end is = ap (λ (r : Records). record tx { undo = r }) (sym is)
 
-pub turn_undoing : (script : Script) (tells : Bool) (tries : ℕ) (words : List ℕ) (contents contents' : Contents) (journal : List Entry) (spare : ℕ) (o : Option Job) (job job' : Job) (was is : ℕ)
-    → Some job ≡ o → doing_of o ≡ Undoing → Tries tells tries job job' contents contents' was is
-    → InFlight script tells tries words contents journal spare o → InFlight script tells tries words contents' journal spare (Some job')
-turn_undoing script tells tries words contents contents' journal spare o job job' before now was undoes tries_it k =
-    let inside = taken_in script tells tries words contents journal spare o job was k in
+pub turn_undoing : (s : Setting) (words : List ℕ) (contents contents' : Contents) (journal : List Entry) (spare : ℕ) (o : Option Job) (job job' : Job) (was is : ℕ)
+    → Some job ≡ o → doing_of o ≡ Undoing → Tries s.tells s.rules.undo_tries job job' contents contents' was is
+    → InFlight s words contents journal spare o → InFlight s words contents' journal spare (Some job')
+turn_undoing s words contents contents' journal spare o job job' before now was undoes tries_it k =
+    let inside = taken_in s words contents journal spare o job was k in
     let doing = ap doing_of was ∙ undoes in
     let one = active_is job.activity (busy_undoing job.activity doing) in
     let tx = one.0 in
@@ -256,17 +257,17 @@ turn_undoing script tells tries words contents contents' journal spare o job job
     let next : Tx = record tx { undo = tried.undo } in
     let same = tried_tx tx tried.undo older u tried.end tried.tried.stack in
     let job_next : Job = record job { activity = activity.Active next } in
-    subst (λ j. InFlight script tells tries words contents' journal spare (Some j)) (sym tried.job)
-    (keep_job script tells tries journal words words contents contents' spare spare job job_next refl refl refl
+    subst (λ j. InFlight s words contents' journal spare (Some j)) (sym tried.job)
+    (keep_job s journal words words contents contents' spare spare job job_next refl refl refl
     (λ f before.
-    let active = subst (IsActive script tries f words (length journal) spare job.place) one.1 before in
-    (active.0, subst (Flight script tries f words (length journal) job.place) same (flight_tried script tries f words (length journal) job.place tx back.0.0 older u tried.end back.0.1 back.1.2 tried.tried.legal active.1)))
+    let active = subst (IsActive s f words (length journal) spare job.place) one.1 before in
+    (active.0, subst (Flight s f words (length journal) job.place) same (flight_tried s f words (length journal) job.place tx back.0.0 older u tried.end back.0.1 back.1.2 tried.tried.legal active.1)))
     (λ t f before b now'.
-    let active = subst (IsActive script tries f words (length journal) spare job.place) one.1 before in
-    let w = (progress_of script journal).state.world in
+    let active = subst (IsActive s f words (length journal) spare job.place) one.1 before in
+    let w = (progress_of s.script journal).state.world in
     let played : IsPlayedBy w job.me words contents (activity.Active tx) = subst (IsPlayedBy w job.me words contents) one.1 now' in
     subst (λ (x : Tx). IsPlayedBy w job.me words contents' (activity.Active x)) same
-    (played_tried script tries f words (length journal) job.place w job.me contents contents' tx back.0.0 older u tried.end back.0.1 back.1.2 tried.tried.legal (tried.tried.effect t) active.1.noted (b.sound (length journal + 1) (omega arith)) played))
+    (played_tried s f words (length journal) job.place w job.me contents contents' tx back.0.0 older u tried.end back.0.1 back.1.2 tried.tried.legal (tried.tried.effect t) active.1.noted (b.sound (length journal + 1) (omega arith)) played))
     inside)
 
 pub counts_undoing : (tells : Bool) (tries : ℕ) (contents contents' : Contents) (journal : List Entry) (o : Option Job) (job job' : Job) (before was is : ℕ)
@@ -290,16 +291,16 @@ may_abort o job was undone tx is =
     let back = undone_is tx.undo.pending tx.phase (ap doing_in (sym is) ∙ ap doing_of was ∙ undone) in
     (back.1, subst IsGoingBack (sym back.0.1) tt)
 
-pub turn_undone : (script : Script) (tells : Bool) (tries : ℕ) (words : List ℕ) (contents : Contents) (journal journal' : List Entry) (spare spare' : ℕ) (o : Option Job) (job : Job) (made : Job × Entry)
+pub turn_undone : (s : Setting) (words : List ℕ) (contents : Contents) (journal journal' : List Entry) (spare spare' : ℕ) (o : Option Job) (job : Job) (made : Job × Entry)
     → Some job ≡ o → doing_of o ≡ Undone → Aborts job made → journal' ≡ journal ++ made.1 ∷ []
-    → InFlight script tells tries words contents journal spare o → InFlight script tells tries words contents journal' spare' (Some made.0)
-turn_undone script tells tries words contents journal journal' spare spare' o job made was undone gives grown k =
+    → InFlight s words contents journal spare o → InFlight s words contents journal' spare' (Some made.0)
+turn_undone s words contents journal journal' spare spare' o job made was undone gives grown k =
     let doing = ap doing_of was ∙ undone in
     let one = active_is job.activity (busy_undone job.activity doing) in
     let back = undone_is one.0.undo.pending one.0.phase (ap doing_in (sym one.1) ∙ doing) in
-    let there = keep_abort script tells tries words contents journal spare spare' job one.0 back.0.0 one.1 back.0.1 back.1 (taken_in script tells tries words contents journal spare o job was k) in
-    subst (λ js. InFlight script tells tries words contents js spare' (Some made.0)) (sym grown)
-    (subst (λ (m : Job × Entry). InFlight script tells tries words contents (journal ++ m.1 ∷ []) spare' (Some m.0)) (sym (gives one.0 back.0.0 one.1 back.0.1)) there)
+    let there = keep_abort s words contents journal spare spare' job one.0 back.0.0 one.1 back.0.1 back.1 (taken_in s words contents journal spare o job was k) in
+    subst (λ js. InFlight s words contents js spare' (Some made.0)) (sym grown)
+    (subst (λ (m : Job × Entry). InFlight s words contents (journal ++ m.1 ∷ []) spare' (Some m.0)) (sym (gives one.0 back.0.0 one.1 back.0.1)) there)
 
 behind_faults : (job : Job) (c : Cause) → faults_noted (behind_abort job c).activity ≡ 0
 behind_faults job cause.Asked = refl
@@ -320,17 +321,17 @@ counts_undone journal journal' o job made before now was undone gives grown h =
     subst (λ js. AreCounted js (Some made.0) before now) (sym grown) (subst (λ (m : Job × Entry). AreCounted (journal ++ m.1 ∷ []) (Some m.0) before now) (sym (gives one.0 c one.1 back.0.1)) there)
 
 -- ---- the end for want of memory
-pub turn_starved : (script : Script) (tells : Bool) (tries : ℕ) (words : List ℕ) (contents : Contents) (journal : List Entry) (spare : ℕ) (o : Option Job) (job job' : Job)
+pub turn_starved : (s : Setting) (words : List ℕ) (contents : Contents) (journal : List Entry) (spare : ℕ) (o : Option Job) (job job' : Job)
     → Some job ≡ o → doing_of o ≡ Starved → job' ≡ record job { activity = activity.Ended job_end.NoMemory }
-    → InFlight script tells tries words contents journal spare o → InFlight script tells tries words contents journal spare (Some job')
-turn_starved script tells tries words contents journal spare o job job' was starved made k =
+    → InFlight s words contents journal spare o → InFlight s words contents journal spare (Some job')
+turn_starved s words contents journal spare o job job' was starved made k =
     let is = starved_is job.activity (ap doing_of was ∙ starved) in
     let ended : Job = record job { activity = activity.Ended job_end.NoMemory } in
-    subst (λ (j : Job). InFlight script tells tries words contents journal spare (Some j)) (sym made)
-    (keep_job script tells tries journal words words contents contents spare spare job ended refl refl refl
-    (λ f before. (subst (IsActive script tries f words (length journal) spare job.place) is before).1)
-    (λ t f before b now. subst (IsPlayedBy (progress_of script journal).state.world job.me words contents) is now)
-    (taken_in script tells tries words contents journal spare o job was k))
+    subst (λ (j : Job). InFlight s words contents journal spare (Some j)) (sym made)
+    (keep_job s journal words words contents contents spare spare job ended refl refl refl
+    (λ f before. (subst (IsActive s f words (length journal) spare job.place) is before).1)
+    (λ t f before b now. subst (IsPlayedBy (progress_of s.script journal).state.world job.me words contents) is now)
+    (taken_in s words contents journal spare o job was k))
 
 pub counts_starved : (journal : List Entry) (o : Option Job) (job job' : Job) (before now : ℕ) → Some job ≡ o → doing_of o ≡ Starved → job' ≡ record job { activity = activity.Ended job_end.NoMemory } → AreCounted journal o before now → AreCounted journal (Some job') before now
 counts_starved journal o job job' before now was starved made h =

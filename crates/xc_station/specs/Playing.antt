@@ -36,6 +36,7 @@ pub record HasPlayed (w : World) (me : Private) (tx : Tx) : Type 0 where
   pub fits : IsTrue (body_fits w me tx.number (asked_of tx.calls.items tx.replies.items))
   pub replies : (ran_of w me tx).replies ≡ tx.replies.items
   pub late : (ran_of w me tx).late ≡ []
+  pub taken : (ran_of w me tx).taken ≡ []
   pub held : tx.held.items ≡ held_of (ran_of w me tx).touched
 
 -- while it goes on, it sees the body's world, and its records are the body's
