@@ -1,6 +1,6 @@
 -- A station at its opening, and at its end.
 use Rattle.std.proofs.Common.{◌≡◌, ℕ, ◌+◌, ◌-◌, ◌≤◌, Bool, true, false, List, [], ◌∷◌, ◌++◌, length, refl, ap, sym, ◌∙◌, subst, arith, zero, suc, IsTrue}
-use Rattle.std.proofs.lemmas.List.Elements.{All-head, All-tail}
+use Rattle.std.proofs.lemmas.List.Elements.{All-nil, All-head, All-tail}
 use Rattle.std.proofs.lemmas.List.Sorted.{IsPermutation-refl}
 use Rattle.std.specs.Prelude.{slice_get, map, replicate, Option, IsPermutation, All, not, ◌==◌, ◌&&◌, sum_by}
 use Rattle.std.specs.declared.option.Option.TheVariants.{None, Some}
@@ -36,12 +36,12 @@ use Rattle.xc_station.specs.declared.tx.Phase.TheVariants as phase
 use Rattle.xc_station.specs.declared.job.Doing.{Doing}
 use Rattle.xc_station.specs.declared.job.Doing.TheVariants as doing
 use Rattle.xc_station.specs.Doing.{doing_back, doing_phase, doing_in, doing_of, is_live, is_over, opened_job, IsEndOf, IsLineOf, AreLinesOf}
-use Rattle.xc_station.specs.Ending.{IsEnd, AreEnds, IsFinalState, IsTrueEnd, IsComplete, is_done, all_done, transactions_of_jobs}
+use Rattle.xc_station.specs.Ending.{IsEnd, AreEnds, Final, IsFinalState, IsTrueEnd, IsComplete, is_done, all_done, transactions_of_jobs}
 use Rattle.xc_station.specs.Flight.{IsAlone, IsActive, IsOneJob, IsJob, IsUnbroken, GoesOn, InFlight, AreCounted, faults_noted, faults_of_job}
 use Rattle.xc_station.specs.Playing.{IsAsIn, IsPlayedBy, MayBegin}
 use Rattle.xc_station.specs.Progress.{Following, untried, opening_progress, progress_of}
-use Rattle.xc_station.specs.Truth.{numbers_of, all_settled}
-use Rattle.xc_station.proofs.Stories.{numbers_count, begins_in_order}
+use Rattle.xc_station.specs.Truth.{numbers_of, all_settled, IsSerial}
+use Rattle.xc_station.proofs.Stories.{numbers_count, begins_in_order, one_rises}
 
 -- ---- the opening
 length_names : (blocks : List Block) → length (names_of blocks) ≡ length blocks
@@ -101,8 +101,9 @@ no_handles_of k (opened_line.Pair ∷ objects) all = absurd (All-head IsFileLine
 no_opening_handles : (script : Script) → IsScript script → opening_handles script.plain ≡ no_handles
 no_opening_handles script is = ap (λ (handles : List Place). handles ++ replicate (256 - length handles) Vacant) (no_handles_of 0 script.plain.prologue.objects is.files)
 
-start_alone : (script : Script) (block : List ℕ) → script.plain.jobs ≡ block ∷ [] → IsAlone 0 (opening_progress script) (untried (fresh_job (block_place script block)) 0)
-start_alone script block jobs = record { jobs = ap (map (λ name. untried (fresh_job (block_place script name)) 0)) jobs; since = omega arith; first = refl }
+start_alone : (script : Script) (block : List ℕ) → script.plain.jobs ≡ block ∷ [] → IsAlone 0 (opening_progress script) (untried block (fresh_job (block_place script block)) 0)
+start_alone script block jobs =
+    record { jobs = ap (map (λ name. untried name (fresh_job (block_place script name)) 0)) jobs; counted = refl; since = omega arith; first = refl; failed = refl }
 
 start_begins : (script : Script) (block : List ℕ) → IsScript script → KeepsLimits script.plain → script.plain.jobs ≡ block ∷ [] → MayBegin script 0 (opening_progress script).state (beginning no_handles)
 start_begins script block is limits jobs =
@@ -121,9 +122,9 @@ first_is : (f g : Following) (fs gs : List Following) → f ∷ fs ≡ g ∷ gs 
 first_is f g fs gs e = cc
 
 -- a job that was just started has passed no transaction
-start_next : (script : Script) (names : List (List ℕ)) (f : Following) → map (λ name. untried (fresh_job (block_place script name)) 0) names ≡ f ∷ [] → 0 ≡ f.job.next
+start_next : (script : Script) (names : List (List ℕ)) (f : Following) → map (λ name. untried name (fresh_job (block_place script name)) 0) names ≡ f ∷ [] → 0 ≡ f.job.next
 start_next script [] f e = cc
-start_next script (name ∷ names) f e = let same : untried (fresh_job (block_place script name)) 0 ≡ f = first_is _ f _ [] e in ap (λ (g : Following). g.job.next) same
+start_next script (name ∷ names) f e = let same : untried name (fresh_job (block_place script name)) 0 ≡ f = first_is _ f _ [] e in ap (λ (g : Following). g.job.next) same
 
 start_job : (s : Setting) (spare : ℕ) (words : List ℕ) (contents : Contents) (o : Option (List ℕ)) → IsScript s.script → KeepsLimits s.script.plain → words ≡ s.script.plain.words
     → (IsTrue s.tells → contents ≡ opened s.script.plain.prologue.objects) → slice_get s.script.plain.jobs 0 ≡ o
@@ -133,9 +134,10 @@ start_job s spare words contents (Some block) is limits same held e =
     let few : length s.script.plain.jobs ≤ 1 = omega (arith, is.one_block, ap length is.jobs, length_names s.script.blocks) in
     let jobs = one_at_most s.script.plain.jobs block few e in
     record {
-      following = untried (fresh_job (block_place s.script block)) 0;
+      following = untried block (fresh_job (block_place s.script block)) 0;
       alone = start_alone s.script block jobs;
       named = jobs;
+      block = refl;
       active = (refl, refl, refl);
       begins = refl;
       played = λ t. record { begin = start_begins s.script block is limits jobs; now = start_as s.script words contents same (held t) };
@@ -149,6 +151,7 @@ started s spare words contents journal job is limits same held none first =
       read = is;
       entries = tt;
       in_order = tt;
+      of_one = All-nil (λ (e : Entry). e.job ≡ 1);
       few = omega arith;
       count = ap length same;
       unbroken = λ (f : Following) (jobs : (progress_of s.script []).jobs ≡ f ∷ []) goes. record { settled = refl; passed = start_next s.script s.script.plain.jobs f jobs; within = omega (arith, start_next s.script s.script.plain.jobs f jobs) };
@@ -183,51 +186,57 @@ over_is (activity.Active tx) e = absurd (over_phase tx.undo.pending tx.phase e)
 over_is activity.Starved e = cc
 over_is (activity.Ended end) e = (end, refl)
 
+-- what a run leaves beside its journal
+abbrev pub final_of : List ℕ → Contents → List JobLine → Final
+final_of words contents lines = record { words = words; contents = contents; lines = lines }
+
 -- what is left of a job that has ended
-pub record IsOver (s : Setting) (values : List ℕ) (contents : Contents) (journal : List Entry) (lines : List JobLine) : Type 0 where
-  pub final : IsTrue s.tells → IsFinalState (progress_of s.script journal).state values contents lines
-  pub ends : AreEnds s.script (progress_of s.script journal).jobs lines
+pub record IsOver (s : Setting) (journal : List Entry) (final : Final) : Type 0 where
+  pub state : IsTrue s.tells → IsFinalState (progress_of s.script journal).state final
+  pub ends : AreEnds s (length journal) (progress_of s.script journal).jobs final.lines
 
 none_over : (s : Setting) (words : List ℕ) (contents : Contents) (journal : List Entry) (spare : ℕ) (lines : List JobLine) → lines ≡ [] →
-    IsJob s words contents (length journal) spare (progress_of s.script journal) None → IsOver s words contents journal lines
+    IsJob s words contents (length journal) spare (progress_of s.script journal) None → IsOver s journal (final_of words contents lines)
 none_over s words contents [] spare lines none h =
     record {
-      final = λ t. let there = h.opened t in
+      state = λ t. let there = h.opened t in
           record {
             words = there.words;
             host = there.host;
             blocks = ap (map (λ (line : JobLine). line.block)) none ∙ sym h.jobs ∙ sym (opening_base s.script.plain).1;
           };
-      ends = subst (λ jobs. AreEnds s.script jobs lines) (sym (ap (map (λ name. untried (fresh_job (block_place s.script name)) 0)) h.jobs)) none;
+      ends = subst (λ jobs. AreEnds s 0 jobs lines) (sym (ap (map (λ name. untried name (fresh_job (block_place s.script name)) 0)) h.jobs)) none;
     }
 none_over s words contents (e ∷ journal) spare lines none h = absurd (let some : suc (length journal) ≡ 0 = h.none in omega arith)
 
-ends_as : (script : Script) (f : Following) (a : Activity) (end line : JobEnd) → a ≡ activity.Ended end → IsEndOf a line → IsEnd script f end → IsEnd script f line
-ends_as script f activity.Idle end line is of fits = absurd of
-ends_as script f (activity.Active tx) end line is of fits = absurd of
-ends_as script f activity.Starved end line is of fits = absurd of
-ends_as script f (activity.Ended e) end line is of fits = let same : e ≡ end = cc in subst (IsEnd script f) (sym same ∙ sym of) fits
+ends_as : (s : Setting) (entries : ℕ) (f : Following) (a : Activity) (end line : JobEnd) → a ≡ activity.Ended end → IsEndOf a line → IsEnd s entries f end → IsEnd s entries f line
+ends_as s entries f activity.Idle end line is of fits = absurd of
+ends_as s entries f (activity.Active tx) end line is of fits = absurd of
+ends_as s entries f activity.Starved end line is of fits = absurd of
+ends_as s entries f (activity.Ended e) end line is of fits = let same : e ≡ end = cc in subst (IsEnd s entries f) (sym same ∙ sym of) fits
 
 some_over : (s : Setting) (words : List ℕ) (contents : Contents) (journal : List Entry) (spare : ℕ) (job : Job) (line : JobLine) (lines : List JobLine) → doing_in job.activity ≡ doing.Ended →
-    lines ≡ line ∷ [] → IsLineOf job line → IsOneJob s words contents (length journal) spare (progress_of s.script journal) job → IsOver s words contents journal lines
+    lines ≡ line ∷ [] → IsLineOf job line → IsOneJob s words contents (length journal) spare (progress_of s.script journal) job → IsOver s journal (final_of words contents lines)
 some_over s words contents journal spare job line lines over are of one =
     let p = progress_of s.script journal in
     let f = one.following in
     let ended = over_is job.activity over in
     let active = subst (IsActive s f words (length journal) spare job.place) ended.1 one.active in
     record {
-      final = λ t. let there = one.played t in
+      state = λ t. let there = one.played t in
           let now : IsAsIn p.state.world words contents = subst (IsPlayedBy p.state.world job.me words contents) ended.1 there.now in
           record {
             words = now.words;
             host = now.host;
             blocks = ap (map (λ (l : JobLine). l.block)) are ∙ ap (λ b. b ∷ []) of.block ∙ sym one.named ∙ sym there.begin.started;
           };
-      ends = subst (λ jobs. AreEnds s.script jobs lines) (sym one.alone.jobs) (subst (AreEnds s.script (f ∷ [])) (sym are) (ends_as s.script f job.activity ended.0 line.end ended.1 of.end active, refl));
+      ends = subst (λ jobs. AreEnds s (length journal) jobs lines) (sym one.alone.jobs)
+          (subst (AreEnds s (length journal) (f ∷ [])) (sym are)
+          (record { block = of.block ∙ sym one.block; end = ends_as s (length journal) f job.activity ended.0 line.end ended.1 of.end active }, refl));
     }
 
 over : (s : Setting) (words : List ℕ) (contents : Contents) (journal : List Entry) (spare : ℕ) (o : Option Job) (lines : List JobLine) → doing_of o ≡ doing.Ended → AreLinesOf o lines →
-    IsJob s words contents (length journal) spare (progress_of s.script journal) o → IsOver s words contents journal lines
+    IsJob s words contents (length journal) spare (progress_of s.script journal) o → IsOver s journal (final_of words contents lines)
 over s words contents journal spare None lines ended are h = none_over s words contents journal spare lines are h
 over s words contents journal spare (Some job) lines ended are h = some_over s words contents journal spare job are.0 lines ended are.1 are.2 h
 
@@ -250,40 +259,40 @@ past_all [] n e = omega arith
 past_all (x ∷ xs) zero e = cc
 past_all (x ∷ xs) (suc n) e = let le = past_all xs n e in omega arith
 
-done_is : (script : Script) (f : Following) (end : JobEnd) → is_done end ≡ true → IsEnd script f end → (f.starved ≡ false) × (next_body script f.job ≡ None)
-done_is script f job_end.Done e h = h
-done_is script f (job_end.GaveUp c) e h = absurd h
-done_is script f job_end.JournalFull e h = absurd h
-done_is script f job_end.NoMemory e h = cc
+done_is : (s : Setting) (entries : ℕ) (f : Following) (end : JobEnd) → is_done end ≡ true → IsEnd s entries f end → (f.starved ≡ false) × (next_body s.script f.job ≡ None)
+done_is s entries f job_end.Done e h = h
+done_is s entries f (job_end.GaveUp c) e h = cc
+done_is s entries f job_end.JournalFull e h = cc
+done_is s entries f job_end.NoMemory e h = cc
 
 first_true : (b : Bool) → b && true ≡ true → b ≡ true
 first_true true e = refl
 first_true false e = cc
 
-complete_one : (script : Script) (journal : List Entry) (f : Following) (line : JobLine) → (f.starved ≡ false → IsUnbroken script journal f) → is_done line.end ≡ true → IsEnd script f line.end →
-    (all_settled journal ≡ true) × (length journal ≡ length (transactions_at script f.job.block))
-complete_one script journal f line unbroken done end =
-    let over = done_is script f line.end done end in
+complete_one : (s : Setting) (entries : ℕ) (journal : List Entry) (f : Following) (line : JobLine) → (f.starved ≡ false → IsUnbroken s.script journal f) → is_done line.end ≡ true → IsEnd s entries f line.end →
+    (all_settled journal ≡ true) × (length journal ≡ length (transactions_at s.script f.job.block))
+complete_one s entries journal f line unbroken done end =
+    let over = done_is s entries f line.end done end in
     let k = unbroken over.0 in
-    let past = past_all (transactions_at script f.job.block) f.job.next over.1 in
+    let past = past_all (transactions_at s.script f.job.block) f.job.next over.1 in
     (k.settled, omega (arith, k.passed, k.within, past))
 
 complete_over : (s : Setting) (words : List ℕ) (contents : Contents) (journal : List Entry) (spare : ℕ) (o : Option Job) (lines : List JobLine) → doing_of o ≡ doing.Ended → AreLinesOf o lines →
-    GoesOn s.script journal (progress_of s.script journal) → IsJob s words contents (length journal) spare (progress_of s.script journal) o → AreEnds s.script (progress_of s.script journal).jobs lines →
+    GoesOn s.script journal (progress_of s.script journal) → IsJob s words contents (length journal) spare (progress_of s.script journal) o → AreEnds s (length journal) (progress_of s.script journal).jobs lines →
     all_done lines ≡ true → IsComplete s.script journal
 complete_over s words contents [] spare None lines ended are goes h ends done =
-    record { settled = refl; count = sym (ap (transactions_of_jobs s.script) (ap (map (λ name. untried (fresh_job (block_place s.script name)) 0)) h.jobs)) }
+    record { settled = refl; count = sym (ap (transactions_of_jobs s.script) (ap (map (λ name. untried name (fresh_job (block_place s.script name)) 0)) h.jobs)) }
 complete_over s words contents (e ∷ journal) spare None lines ended are goes h ends done = absurd (let some : suc (length journal) ≡ 0 = h.none in omega arith)
 complete_over s words contents journal spare (Some job) lines ended are goes h ends done =
     let f = h.following in
     let jobs = h.alone.jobs in
-    let fits = subst (λ js. AreEnds s.script js (are.0 ∷ [])) jobs (subst (AreEnds s.script (progress_of s.script journal).jobs) are.1 ends) in
+    let fits = subst (λ js. AreEnds s (length journal) js (are.0 ∷ [])) jobs (subst (AreEnds s (length journal) (progress_of s.script journal).jobs) are.1 ends) in
     let is = ap all_done (sym are.1) ∙ done in
-    let whole = complete_one s.script journal f are.0 (goes f jobs) (first_true (is_done are.0.end) is) fits.0 in
+    let whole = complete_one s (length journal) journal f are.0 (goes f jobs) (first_true (is_done are.0.end) is) fits.0.end in
     record { settled = whole.0; count = whole.1 ∙ (let h : length (transactions_at s.script f.job.block) ≡ length (transactions_at s.script f.job.block) + 0 = omega arith in h) ∙ ap (transactions_of_jobs s.script) (sym jobs) }
 
 pub finished : (s : Setting) (words : List ℕ) (contents : Contents) (journal : List Entry) (spare : ℕ) (o : Option Job) (lines : List JobLine) → is_live o 1 ≡ false → AreLinesOf o lines →
-    InFlight s words contents journal spare o → IsTrueEnd s journal words contents lines
+    InFlight s words contents journal spare o → IsTrueEnd s journal (final_of words contents lines)
 finished s words contents journal spare o lines ended are k =
     let whole = over s words contents journal spare o lines (ended_is o ended) are k.job in
     record {
@@ -292,8 +301,7 @@ finished s words contents journal spare o lines ended are k =
         numbers = subst (IsPermutation (numbers_of journal)) (numbers_count journal k.in_order) (IsPermutation-refl (numbers_of journal));
         begins = begins_in_order journal k.in_order;
       };
-      in_order = k.in_order;
-      final = whole.final;
+      state = whole.state;
       ends = whole.ends;
       complete = complete_over s words contents journal spare o lines (ended_is o ended) are k.unbroken k.job whole.ends;
     }
@@ -306,3 +314,7 @@ pub finished_counts : (journal : List Entry) (o : Option Job) (before now : ℕ)
 finished_counts journal o before now ended h =
     let total : sum_by entry_faults journal + faults_of_job o ≡ sum_by entry_faults journal = omega (arith, ended_faults o (ended_is o ended)) in
     subst (λ n. CountsFaults n before now) total h
+
+-- the journal of one job is one of transactions that ran one after another
+pub serial : (s : Setting) (words : List ℕ) (contents : Contents) (journal : List Entry) (spare : ℕ) (o : Option Job) → InFlight s words contents journal spare o → IsSerial journal
+serial s words contents journal spare o k = record { order = k.in_order; jobs = one_rises journal k.of_one }

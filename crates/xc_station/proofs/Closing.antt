@@ -1,5 +1,5 @@
 -- The entry of a transaction that ends, and what the journal leads to with it.
-use Rattle.std.proofs.Common.{◌≡◌, ◌≢◌, ℕ, ◌+◌, ◌<◌, ◌≤◌, Bool, true, List, [], ◌∷◌, ◌++◌, length, refl, ap, sym, ◌∙◌, subst, IsTrue, arith}
+use Rattle.std.proofs.Common.{◌≡◌, ◌≢◌, inl, ℕ, ◌+◌, ◌<◌, ◌≤◌, Bool, true, List, [], ◌∷◌, ◌++◌, length, refl, ap, sym, ◌∙◌, subst, IsTrue, arith}
 use Rattle.std.specs.Prelude.{map, replicate, slice_get, slice_set, unwrap_or, Option}
 use Rattle.std.specs.declared.option.Option.TheVariants.{None, Some}
 use Rattle.std.specs.FinMap as finite
@@ -63,7 +63,7 @@ module _ (entered : ℕ) (p : Progress) (f : Following) (alone : IsAlone entered
   rank_alone = ap (λ r. unwrap_or r tx.number) (sym alone.first)
 
   pub began_alone : tx.began ≡ entered → tx.began ≤ p.entered
-  began_alone began = omega (arith, began, alone.entered)
+  began_alone began = omega (arith, began, alone.counted)
 
   -- none of its attempts failed
   pub failures_alone : (attempts : ℕ) → failures_with f outcome ≡ length f.failed → failures_with f outcome ≤ attempts
@@ -145,8 +145,8 @@ commit_leads script entered p f tx alone =
     let there : IsAlone (entered + 1) (record (after_commit script p f e []) { entered = p.entered + 1 }) g = record {
       jobs = ap (λ (js : List Following). slice_set js 0 g ++ map (started_job script (passed script f.job tx.replies.items) (p.entered + 1)) (started_blocks kept [])) alone.jobs
           ∙ ap (λ bs. (g ∷ []) ++ map (started_job script (passed script f.job tx.replies.items) (p.entered + 1)) bs) (none_started kept);
-      entered = ap (λ n. n + 1) alone.entered;
-      since = omega (arith, alone.entered);
+      counted = ap (λ n. n + 1) alone.counted;
+      since = omega (arith, alone.counted);
       first = refl;
       failed = refl;
     } in
@@ -328,8 +328,8 @@ abort_leads s entered p f tx c alone back =
     let is = gone_back_is p.entered f e c (asks (all_answered (walk_from s.script f.job) tx.replies.items)) back.caused in
     let there : IsAlone (entered + 1) (record (after_abort p f e (record { cause = c; records = tx.undo.ended })) { entered = p.entered + 1 }) g = record {
       jobs = ap (λ (js : List Following). slice_set js 0 (following_abort p.entered f e c)) alone.jobs ∙ ap (λ h. h ∷ []) is;
-      entered = ap (λ n. n + 1) alone.entered;
-      since = omega (arith, since_back p.entered f c, alone.entered);
+      counted = ap (λ n. n + 1) alone.counted;
+      since = omega (arith, since_back p.entered f c, alone.counted);
       first = first_back p.entered f c alone.first;
       failed = failed_back p.entered f c alone.failed;
     } in

@@ -15,7 +15,7 @@ use Rattle.xc_compensate.specs.Records.{Records}
 use Rattle.xc_station.specs.declared.tx.Tx.{Tx}
 use Rattle.xc_station.specs.declared.job.Activity.TheVariants.{Active}
 use Rattle.xc_station.specs.Flight.{faults_noted}
-use Rattle.xc_data.specs.declared.object.Object.{Object}
+use Rattle.xc_data.specs.declared.claim.Claim.{Claim}
 use Rattle.xc_station.specs.Notes.{Parts, parts_of, KeepsNotes, Notes, entry_of}
 
 -- so many more faults raise the count by so many more
@@ -71,8 +71,8 @@ entered_commit journal tx none =
     ∙ ap (λ us. sum_by entry_faults journal + (count_by is_fault_reply tx.replies.items + sum_by undo_faults us)) (sym none)
 
 -- as the turn of a call has it: the call was done by `mid`, and noted by `new`
-pub noted_call : (was is : ℕ) (old mid new : Tx) (c : Call) (reply : Reply) (objects : List Object) → KeepsNotes old mid → Notes mid new c reply objects → parts_of new ≡ parts_of mid → old.undo.ended ≡ [] → mid.undo.ended ≡ []
+pub noted_call : (was is : ℕ) (old mid new : Tx) (c : Call) (reply : Reply) (claims : List Claim) → KeepsNotes old mid → Notes mid new c reply claims → parts_of new ≡ parts_of mid → old.undo.ended ≡ [] → mid.undo.ended ≡ []
     → CountsFault (is_fault_reply reply) was is
     → (n before : ℕ) → CountsFaults (n + faults_noted (Active old)) before was → CountsFaults (n + faults_noted (Active new)) before is
-noted_call was is old mid new c reply objects k notes parts none none' cause n before h =
+noted_call was is old mid new c reply claims k notes parts none none' cause n before h =
     noted_more n before was is old new reply (notes.replies ∙ ap (λ rs. rs ++ reply ∷ []) k.replies) none (ap (λ (p : Parts). p.undo.ended) parts ∙ none') cause h

@@ -1,6 +1,6 @@
 -- Each kind of turn keeps a station in flight.
 use Rattle.std.proofs.Common.{◌≡◌, ℕ, ◌+◌, ◌<◌, Bool, true, false, List, [], ◌∷◌, ◌++◌, length, refl, ap, sym, ◌∙◌, subst, arith, length-append, IsTrue}
-use Rattle.std.specs.Prelude.{IsSome, Option, ◌&&◌}
+use Rattle.std.specs.Prelude.{IsSome, Option, All, ◌&&◌}
 use Rattle.std.specs.declared.option.Option.TheVariants.{Some}
 use Rattle.xc_data.specs.declared.entry.Cause.{Cause}
 use Rattle.xc_data.specs.declared.entry.Cause.TheVariants as cause
@@ -26,12 +26,12 @@ use Rattle.xc_station.specs.Closing.{behind_commit, behind_abort}
 use Rattle.xc_station.specs.Doing.{doing_back, doing_phase, doing_in, IsBusy}
 use Rattle.xc_station.specs.Notes.{entry_of}
 use Rattle.xc_station.specs.Progress.{Following, Progress, progress_of, after_entry, opening_progress}
-use Rattle.xc_station.specs.Truth.{AreTrue, AreInOrder, IsTrueEntry, is_settled, all_settled}
+use Rattle.xc_station.specs.Truth.{next_of, AreTrue, is_alone, AreInOrder, IsTrueEntry, is_settled, all_settled}
 use Rattle.xc_station.specs.Flight.{IsActive, IsAlone, IsUnbroken, InFlight, IsPhase, IsCommitting, IsUndoing}
 use Rattle.xc_station.specs.Playing.{IsAsIn, IsPlayedBy, IsPlaying, MayBegin}
 use Rattle.xc_station.proofs.Asking.{few_passed, within_got}
-use Rattle.xc_station.proofs.Stories.{progress-more, true-more, order-more}
-use Rattle.xc_station.proofs.Closing.{aborted_by, commit_true, commit_leads, commit_begins, gone_on, gone_back, abort_true, abort_leads, abort_begins}
+use Rattle.xc_station.proofs.Stories.{progress-more, true-more, order-more, of_one-more}
+use Rattle.xc_station.proofs.Closing.{aborted_by, alone_by, commit_true, commit_leads, commit_begins, gone_on, gone_back, abort_true, abort_leads, abort_begins}
 
 -- ---- what an activity is
 back_idle : (us : List Undo) → doing_back us ≡ Idle → ⊥
@@ -157,6 +157,7 @@ module _ (s : Setting) (journal : List Entry) where
         read = k.read;
         entries = k.entries;
         in_order = k.in_order;
+        of_one = k.of_one;
         few = k.few;
         count = count ∙ k.count;
         unbroken = k.unbroken;
@@ -164,6 +165,7 @@ module _ (s : Setting) (journal : List Entry) where
           following = one.following;
           alone = one.alone;
           named = one.named ∙ ap (λ b. b ∷ []) (sym block);
+          block = one.block ∙ sym block;
           active = moves one.following one.active;
           begins = me ∙ one.begins ∙ ap (λ (m : Private). beginning m.places) (sym me);
           played = λ t. let p = one.played t in
@@ -189,27 +191,27 @@ one_more (d ∷ journal) e all is =
     ap (λ b. b && all_settled (journal ++ e ∷ [])) parts.0 ∙ one_more journal e parts.1 is
 
 pub keep_entry : (s : Setting) (words : List ℕ) (contents : Contents) (journal : List Entry) (spare : ℕ) (job : Job) (e : Entry) (f : Following)
-    → IsScript s.script → AreTrue s 0 (opening_progress s.script) journal → AreInOrder 0 journal → length journal < 1000 → length words ≡ length s.script.plain.words
-    → s.script.plain.jobs ≡ job.block ∷ []
-    → IsTrueEntry s (length journal) (progress_of s.script journal) e
-    → e.tx ≡ length journal + 1 → e.began ≡ length journal
-    → IsAlone (length journal + 1) (after_entry s.script (length journal) (progress_of s.script journal) e) f
+    → IsScript s.script → AreTrue s (opening_progress s.script) journal → AreInOrder 0 journal → All (λ (d : Entry). d.job ≡ 1) journal → length journal < 1000 → length words ≡ length s.script.plain.words
+    → s.script.plain.jobs ≡ job.block ∷ [] → f.block ≡ job.block
+    → IsTrueEntry s (progress_of s.script journal) e
+    → e.tx ≡ length journal + 1 → e.began ≡ length journal → e.job ≡ 1 → is_alone e.outcome ≡ true
+    → IsAlone (length journal + 1) (after_entry s.script (progress_of s.script journal) e) f
     → IsActive s f words (length journal + 1) spare job.place job.activity
     → job.me ≡ beginning job.me.places
-    → (IsTrue s.tells → IsPlaying s.script words contents (length journal + 1) (after_entry s.script (length journal) (progress_of s.script journal) e).state job)
+    → (IsTrue s.tells → IsPlaying s.script words contents (length journal + 1) (after_entry s.script (progress_of s.script journal) e).state job)
     → (f.starved ≡ false → IsUnbroken s.script (journal ++ e ∷ []) f)
     → InFlight s words contents (journal ++ e ∷ []) spare (Some job)
-keep_entry s words contents journal spare job e f read entries order few words_count named one number began alone active begins playing unbroken =
+keep_entry s words contents journal spare job e f read entries order of_one few words_count named block one number began job_one met alone active begins playing unbroken =
     let zero_plus : 0 + length journal ≡ length journal = omega arith in
     let count : length (journal ++ e ∷ []) ≡ length journal + 1 = length-append journal (e ∷ []) in
-    let led : progress_of s.script (journal ++ e ∷ []) ≡ after_entry s.script (length journal) (progress_of s.script journal) e =
-    progress-more s.script 0 (opening_progress s.script) journal e ∙ ap (λ n. after_entry s.script n (progress_of s.script journal) e) zero_plus in
+    let led : progress_of s.script (journal ++ e ∷ []) ≡ after_entry s.script (progress_of s.script journal) e = progress-more s.script journal e in
     let there : IsAlone (length (journal ++ e ∷ [])) (progress_of s.script (journal ++ e ∷ [])) f =
     subst (λ n. IsAlone n (progress_of s.script (journal ++ e ∷ [])) f) (sym count) (subst (λ p. IsAlone (length journal + 1) p f) (sym led) alone) in
     record {
       read = read;
-      entries = true-more s 0 (opening_progress s.script) journal e entries (subst (λ n. IsTrueEntry s n (progress_of s.script journal) e) (sym zero_plus) one);
-      in_order = order-more 0 journal e order (number ∙ ap (λ n. n + 1) (sym zero_plus)) (began ∙ sym zero_plus);
+      entries = true-more s journal e entries one;
+      in_order = order-more 0 journal e order (number ∙ ap (λ n. n + 1) (sym zero_plus)) (began ∙ sym zero_plus) met;
+      of_one = of_one-more journal e of_one job_one;
       few = omega arith;
       count = words_count;
       unbroken = λ (g : Following) (jobs : (progress_of s.script (journal ++ e ∷ [])).jobs ≡ g ∷ []) goes.
@@ -220,10 +222,11 @@ keep_entry s words contents journal spare job e f read entries order few words_c
         following = f;
         alone = there;
         named = named;
+        block = block;
         active = subst (λ n. IsActive s f words n spare job.place job.activity) (sym count) active;
         begins = begins;
         played = λ t. subst (λ (p : Progress). IsPlaying s.script words contents (length (journal ++ e ∷ [])) p.state job) (sym led)
-            (subst (λ n. IsPlaying s.script words contents n (after_entry s.script (length journal) (progress_of s.script journal) e).state job) (sym count) (playing t));
+            (subst (λ n. IsPlaying s.script words contents n (after_entry s.script (progress_of s.script journal) e).state job) (sym count) (playing t));
       };
     }
 
@@ -251,7 +254,7 @@ keep_commit s words contents journal spare spare' job tx is commits k =
     let flight = active.1 in
     let committing : IsCommitting s.script f job.place tx = subst (IsPhase s f words job.place tx) commits flight.phase in
     let few = few_passed s.script f.job k.read flight.left in
-    let g = gone_on s.script (length journal) f tx in
+    let g = gone_on s.script p.entered f tx in
     let stands : (behind_commit job tx).place ≡ at_begin g.job =
     λ i. at_begin (record { block = flight.standing.block i; next = flight.standing.next i + 1; variables = ap (λ (v : Walk). v.variables) committing.ahead i }) in
     let told : IsTrue s.tells → MayBegin s.script (length journal) p.state job.me × IsPlayedBy p.state.world job.me words contents (activity.Active tx) =
@@ -259,9 +262,9 @@ keep_commit s words contents journal spare spare' job tx is commits k =
     let now : IsPlayedBy p.state.world job.me words contents (activity.Active tx) = subst (IsPlayedBy p.state.world job.me words contents) is q.now in
     (q.begin, now) in
     keep_entry s words contents journal spare' (behind_commit job tx) (entry_of tx 1 (Committed [])) g
-    k.read k.entries k.in_order (omega (arith, flight.passed)) k.count one.named
+    k.read k.entries k.in_order k.of_one (omega (arith, flight.passed)) k.count one.named one.block
     (commit_true s (length journal) p f job.place words contents job.me tx one.alone one.begins flight committing told)
-    flight.noted.number flight.noted.began
+    flight.noted.number flight.noted.began refl refl
     (commit_leads s.script (length journal) p f tx one.alone)
     (refl, stands, ap (λ n. n + 1) flight.passed)
     refl
@@ -269,14 +272,14 @@ keep_commit s words contents journal spare spare' job tx is commits k =
     (λ _. passes s.script journal (entry_of tx 1 (Committed [])) f g (k.unbroken f one.alone.jobs flight.goes_on) flight.left refl refl refl)
 
 -- ---- where a job stands behind an abort, by the cause
-behind_active : (s : Setting) (f : Following) (words : List ℕ) (entered spare : ℕ) (job : Job) (c : Cause) → f.starved ≡ false → IsSome (next_body s.script f.job) → entered ≡ f.job.next
+behind_active : (s : Setting) (f : Following) (words : List ℕ) (entered counted spare : ℕ) (job : Job) (c : Cause) → f.starved ≡ false → IsSome (next_body s.script f.job) → entered ≡ f.job.next
     → job.place.block ≡ f.job.block → job.place.next ≡ f.job.next → job.place.begun ≡ f.job.variables
-    → IsActive s (gone_back entered f c) words (entered + 1) spare (behind_abort job c).place (behind_abort job c).activity
-behind_active s f words entered spare job cause.Asked goes left passed block next begun =
+    → IsActive s (gone_back counted f c) words (entered + 1) spare (behind_abort job c).place (behind_abort job c).activity
+behind_active s f words entered counted spare job cause.Asked goes left passed block next begun =
     (refl, (λ i. at_begin (record { block = block i; next = next i + 1; variables = begun i })), ap (λ n. n + 1) passed)
-behind_active s f words entered spare job (cause.Conflict object holder at) goes left passed block next begun = (refl, left)
-behind_active s f words entered spare job (cause.Revoked object by at) goes left passed block next begun = (refl, left)
-behind_active s f words entered spare job cause.NoMemory goes left passed block next begun = (refl, left)
+behind_active s f words entered counted spare job (cause.Conflict object holder at) goes left passed block next begun = (refl, left)
+behind_active s f words entered counted spare job (cause.Revoked object by at) goes left passed block next begun = (refl, left)
+behind_active s f words entered counted spare job cause.NoMemory goes left passed block next begun = (refl, left)
 
 behind_me : (job : Job) (c : Cause) → ((behind_abort job c).me ≡ job.me) × ((behind_abort job c).block ≡ job.block)
 behind_me job cause.Asked = (refl, refl)
@@ -284,18 +287,24 @@ behind_me job (cause.Conflict object holder at) = (refl, refl)
 behind_me job (cause.Revoked object by at) = (refl, refl)
 behind_me job cause.NoMemory = (refl, refl)
 
+block_back : (entered : ℕ) (f : Following) (c : Cause) → (gone_back entered f c).block ≡ f.block
+block_back entered f cause.Asked = refl
+block_back entered f (cause.Conflict object holder at) = refl
+block_back entered f (cause.Revoked object by at) = refl
+block_back entered f cause.NoMemory = refl
+
 behind_played : (w : World) (me : Private) (words : List ℕ) (contents : Contents) (job : Job) (c : Cause) → IsAsIn w words contents → IsPlayedBy w me words contents (behind_abort job c).activity
 behind_played w me words contents job cause.Asked h = h
 behind_played w me words contents job (cause.Conflict object holder at) h = h
 behind_played w me words contents job (cause.Revoked object by at) h = h
 behind_played w me words contents job cause.NoMemory h = h
 
-behind_unbroken : (script : Script) (journal : List Entry) (tx : Tx) (f : Following) (c : Cause) → IsUnbroken script journal f → IsSome (next_body script f.job)
-    → (gone_back (length journal) f c).starved ≡ false → IsUnbroken script (journal ++ entry_of tx 1 (aborted_by c tx) ∷ []) (gone_back (length journal) f c)
-behind_unbroken script journal tx f cause.Asked before left goes = passes script journal (entry_of tx 1 (aborted_by cause.Asked tx)) f (gone_back (length journal) f cause.Asked) before left refl refl refl
-behind_unbroken script journal tx f (cause.Conflict object holder at) before left goes = let no : true ≡ false = goes in cc
-behind_unbroken script journal tx f (cause.Revoked object by at) before left goes = let no : true ≡ false = goes in cc
-behind_unbroken script journal tx f cause.NoMemory before left goes = let no : true ≡ false = goes in cc
+behind_unbroken : (script : Script) (journal : List Entry) (counted : ℕ) (tx : Tx) (f : Following) (c : Cause) → IsUnbroken script journal f → IsSome (next_body script f.job)
+    → (gone_back counted f c).starved ≡ false → IsUnbroken script (journal ++ entry_of tx 1 (aborted_by c tx) ∷ []) (gone_back counted f c)
+behind_unbroken script journal counted tx f cause.Asked before left goes = passes script journal (entry_of tx 1 (aborted_by cause.Asked tx)) f (gone_back counted f cause.Asked) before left refl refl refl
+behind_unbroken script journal counted tx f (cause.Conflict object holder at) before left goes = let no : true ≡ false = goes in cc
+behind_unbroken script journal counted tx f (cause.Revoked object by at) before left goes = let no : true ≡ false = goes in cc
+behind_unbroken script journal counted tx f cause.NoMemory before left goes = let no : true ≡ false = goes in cc
 
 pub keep_abort : (s : Setting) (words : List ℕ) (contents : Contents) (journal : List Entry) (spare spare' : ℕ) (job : Job) (tx : Tx) (c : Cause)
     → job.activity ≡ activity.Active tx → tx.phase ≡ phase.Undoing c → tx.undo.pending ≡ []
@@ -315,16 +324,16 @@ keep_abort s words contents journal spare spare' job tx c is undoes none k =
     λ t. let q = one.played t in
     let now : IsPlayedBy p.state.world job.me words contents (activity.Active tx) = subst (IsPlayedBy p.state.world job.me words contents) is q.now in
     (q.begin, now) in
-    keep_entry s words contents journal spare' (behind_abort job c) (entry_of tx 1 (aborted_by c tx)) (gone_back (length journal) f c)
-    k.read k.entries k.in_order (omega (arith, flight.passed)) k.count (one.named ∙ ap (λ b. b ∷ []) (sym same.1))
+    keep_entry s words contents journal spare' (behind_abort job c) (entry_of tx 1 (aborted_by c tx)) (gone_back p.entered f c)
+    k.read k.entries k.in_order k.of_one (omega (arith, flight.passed)) k.count (one.named ∙ ap (λ b. b ∷ []) (sym same.1)) (block_back p.entered f c ∙ one.block ∙ sym same.1)
     (abort_true s (length journal) p f job.place words contents job.me tx c one.alone one.begins undoes none flight told)
-    flight.noted.number flight.noted.began
+    flight.noted.number flight.noted.began refl (alone_by c (next_of s.script f tx.replies.items) tx.undo.ended back.caused)
     (abort_leads s (length journal) p f tx c one.alone back)
-    (behind_active s f words (length journal) spare' job c flight.goes_on flight.left flight.passed here.block here.next here.begun)
+    (behind_active s f words (length journal) p.entered spare' job c flight.goes_on flight.left flight.passed here.block here.next here.begun)
     (same.0 ∙ one.begins ∙ ap (λ (m : Private). beginning m.places) (sym same.0))
     (λ t. let b = abort_begins s.script (length journal) p f words contents job.me tx c one.alone undoes none flight.noted (told t).0 (told t).1 in
     record {
-      begin = subst (MayBegin s.script (length journal + 1) (after_entry s.script (length journal) p (entry_of tx 1 (aborted_by c tx))).state) (sym same.0) b.0;
-      now = behind_played (after_entry s.script (length journal) p (entry_of tx 1 (aborted_by c tx))).state.world (behind_abort job c).me words contents job c b.1;
+      begin = subst (MayBegin s.script (length journal + 1) (after_entry s.script p (entry_of tx 1 (aborted_by c tx))).state) (sym same.0) b.0;
+      now = behind_played (after_entry s.script p (entry_of tx 1 (aborted_by c tx))).state.world (behind_abort job c).me words contents job c b.1;
     })
-    (behind_unbroken s.script journal tx f c (k.unbroken f one.alone.jobs flight.goes_on) flight.left)
+    (behind_unbroken s.script journal p.entered tx f c (k.unbroken f one.alone.jobs flight.goes_on) flight.left)

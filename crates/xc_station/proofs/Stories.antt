@@ -85,7 +85,7 @@ entered-from script p (e ∷ journal) = entered-from script (after_entry script 
 
 -- as many entries led there as the journal has
 pub entered-all : (script : Script) (journal : List Entry) → (progress_of script journal).entered ≡ length journal
-entered-all script journal = entered-from script (opening_progress script) journal
+entered-all script journal = entered-from script (opening_progress script) journal ∙ (let h : 0 + length journal ≡ length journal = omega arith in h)
 
 true-from : (s : Setting) (p : Progress) (journal : List Entry) (e : Entry) → AreTrue s p journal → IsTrueEntry s (fold (after_entry s.script) p journal) e → AreTrue s p (journal ++ e ∷ [])
 true-from s p [] e h one = (one, tt)

@@ -20,10 +20,10 @@ use Rattle.xc_txmem.specs.Overlay.{AreWithin}
 use Rattle.xc_world.specs.World.{World, beginning}
 use Rattle.xc_world.specs.Effects.{IsCovered}
 use Rattle.xc_world.specs.Sound.{IsSound}
-use Rattle.xc_station.specs.Setting.{Setting}
+use Rattle.xc_station.specs.Setting.{Setting, setting}
 use Rattle.xc_station.specs.Truth.{AsksEach}
-use Rattle.xc_world.specs.Run.{rests, body_fits, body, asked_of, Ran}
-use Rattle.xc_data.specs.Claims.{holding}
+use Rattle.xc_world.specs.Run.{begins, body_fits, body, asked_of, Ran}
+use Rattle.xc_data.specs.Claims.{held_of}
 use Rattle.xc_data.specs.declared.undo.UndoEnd.{UndoEnd}
 use Rattle.xc_station.specs.declared.tx.Tx.{Tx}
 use Rattle.xc_station.specs.declared.tx.Phase.TheVariants as phase
@@ -34,7 +34,8 @@ use Rattle.xc_station.specs.declared.job.Doing.TheVariants.{Idle, Running, Commi
 use Rattle.xc_station.specs.Closing.{behind_commit, behind_abort, Undoes}
 use Rattle.xc_station.specs.Doing.{doing_in, doing_of, IsGoingBack}
 use Rattle.xc_station.specs.Notes.{entry_of}
-use Rattle.xc_station.specs.Progress.{Following, progress_of}
+use Rattle.xc_station.specs.Progress.{Following, kept_of, progress_of}
+use Rattle.xc_station.specs.declared.rules.Rules.{Rules}
 use Rattle.xc_station.specs.Flight.{IsActive, IsPhase, IsRunning, Flight, InFlight, AreCounted, faults_noted, IsCommitting}
 use Rattle.xc_station.specs.Playing.{IsAsIn, IsPlayedBy, IsPlayedIn, GoesForward, ran_of, seen}
 use Rattle.xc_station.specs.Turns.{BeginsAs, CanRun, HasOpenFiles}
@@ -43,7 +44,7 @@ use Rattle.xc_station.proofs.Backward.{flight_tried, played_tried, covered_now, 
 use Rattle.xc_station.proofs.Closing.{aborted_by}
 use Rattle.xc_station.proofs.Keeping.{idle_is, starved_is, running_is, committing_is, undoing_is, undone_is, active_is, busy_running, busy_committing, busy_undoing, busy_undone, keep_job, keep_commit, keep_abort}
 
--- the job that is taken out is the station'here
+-- the job that is taken out is the station's
 taken_in : (s : Setting) (words : List ℕ) (contents : Contents) (journal : List Entry) (spare : ℕ) (o : Option Job) (job : Job) → Some job ≡ o → InFlight s words contents journal spare o → InFlight s words contents journal spare (Some job)
 taken_in s words contents journal spare o job was k = subst (InFlight s words contents journal spare) (sym was) k
 
@@ -65,6 +66,7 @@ begun_job s words f entered spare me old new (activity.Active tx) fresh goes sta
           number = n.number;
           began = n.began;
           asked = subst (λ cs. AsksEach (walk_from s.script f.job) cs tx.replies.items) (sym n.calls) n.replies;
+          none_kept = ap (λ cs. kept_of cs tx.replies.items) n.calls;
         };
         stored = subst (λ (m : Private). m.stored ≤ 16384) (sym (n.private ∙ fresh)) (omega arith);
         phase = subst (IsPhase s f words new tx) (sym n.running) (record {
@@ -86,7 +88,7 @@ begun_played : (script : Script) (words : List ℕ) (contents : Contents) (w : W
 begun_played script words contents w entered spare me old new activity.Idle h there = absurd h
 begun_played script words contents w entered spare me old new (activity.Active tx) h there =
     let n = h.3 in
-    let none : ran_of w me tx ≡ rests w me =
+    let none : ran_of w me tx ≡ begins w me =
     (λ i. body w me tx.number (asked_of (n.calls i) (n.replies i))) in
     let world : w ≡ seen w contents tx.writes =
     (λ i. record w { names = (ap (λ (c : Contents). c.names) (sym there.host)) i; files = (ap (λ (c : Contents). c.files) (sym there.host)) i; pipes = (ap (λ (c : Contents). c.pipes) (sym there.host)) i; pairs = (ap (λ (c : Contents). c.pairs) (sym there.host)) i })
@@ -100,7 +102,8 @@ begun_played script words contents w entered spare me old new (activity.Active t
         fits = subst IsTrue (λ i. body_fits w me tx.number (asked_of (sym n.calls i) (sym n.replies i))) refl;
         replies = ap (λ (r : Ran). r.replies) none ∙ sym n.replies;
         late = ap (λ (r : Ran). r.late) none;
-        held = n.held ∙ ap (λ (r : Ran). holding [] r.touched) (sym none);
+        taken = ap (λ (r : Ran). r.taken) none;
+        held = n.held ∙ ap (λ (r : Ran). held_of r.touched) (sym none);
       },
       subst (IsPlayedIn w me words contents tx) (sym n.running) (there.words, forward),
     )
@@ -145,14 +148,15 @@ counts_idle script journal journal' spare o job job' before now was idle same be
 -- ---- a running turn
 pub turn_running : (s : Setting) (words words' : List ℕ) (contents contents' : Contents) (journal : List Entry) (spare : ℕ) (o : Option Job) (job job' : Job)
     → Some job ≡ o → job'.block ≡ job.block → job'.me ≡ job.me → length words' ≡ length words
-    → ((s.rules.undo_tries : ℕ) (f : Following) (entered room : ℕ) → IsActive s f words entered room job.place job.activity → IsActive s f words' entered room job'.place job'.activity)
-    → (IsTrue s.tells → (w : World) (me : Private) (s.rules.undo_tries : ℕ) (f : Following) (entered room : ℕ) → IsActive s f words entered room job.place job.activity → IsSound w me (entered + 1) → IsPlayedBy w me words contents job.activity
+    → ((rules : Rules) (tells : Bool) (f : Following) (entered room : ℕ) → IsActive (setting s.script rules tells) f words entered room job.place job.activity
+    → IsActive (setting s.script rules tells) f words' entered room job'.place job'.activity)
+    → (IsTrue s.tells → (w : World) (me : Private) (rules : Rules) (tells : Bool) (f : Following) (entered room : ℕ) → IsActive (setting s.script rules tells) f words entered room job.place job.activity → IsSound w me (entered + 1) → IsPlayedBy w me words contents job.activity
     → IsPlayedBy w me words' contents' job'.activity)
     → InFlight s words contents journal spare o → InFlight s words' contents' journal spare (Some job')
 turn_running s words words' contents contents' journal spare o job job' was block me count active played k =
     keep_job s journal words words' contents contents' spare spare job job' block me count
-    (λ f before. active s.rules.undo_tries f (length journal) spare before)
-    (λ t f before b now. played t (progress_of s.script journal).state.world job.me s.rules.undo_tries f (length journal) spare before (b.sound (length journal + 1) (omega arith)) now)
+    (λ f before. active s.rules s.tells f (length journal) spare before)
+    (λ t f before b now. played t (progress_of s.script journal).state.world job.me s.rules s.tells f (length journal) spare before (b.sound (length journal + 1) (omega arith)) now)
     (taken_in s words contents journal spare o job was k)
 
 pub counts_running : (journal : List Entry) (o : Option Job) (job job' : Job) (before was is : ℕ) → Some job ≡ o

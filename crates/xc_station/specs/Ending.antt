@@ -79,8 +79,8 @@ pub record IsFinalState (state : State) (final : Final) : Type 0 where
   pub blocks : map (λ (line : JobLine). line.block) final.lines ≡ state.world.started
 
 -- what a run ends in: a true journal, what it leads to, and each started job's end
-pub record IsTrueEnd (s : Setting) (journal : List Entry) (final : Final) : Type 0 where
-  pub journal : IsTrueJournal s journal
-  pub final : IsTrue s.tells → IsFinalState (progress_of s.script journal).state final
-  pub ends : AreEnds s (length journal) (progress_of s.script journal).jobs final.lines
-  pub complete : all_done final.lines ≡ true → IsComplete s.script journal
+pub record IsTrueEnd (s : Setting) (entries : List Entry) (final : Final) : Type 0 where
+  pub journal : IsTrueJournal s entries
+  pub state : IsTrue s.tells → IsFinalState (progress_of s.script entries).state final
+  pub ends : AreEnds s (length entries) (progress_of s.script entries).jobs final.lines
+  pub complete : all_done final.lines ≡ true → IsComplete s.script entries

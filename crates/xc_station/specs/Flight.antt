@@ -89,7 +89,7 @@ IsActive s f words entered spare place (Ended end) = IsEnd s entered f end
 -- the journal is of one job, whose entries end with the journal, and none of its attempts failed
 pub record IsAlone (entered : ℕ) (p : Progress) (f : Following) : Type 0 where
   pub jobs : p.jobs ≡ f ∷ []
-  pub entered : p.entered ≡ entered
+  pub counted : p.entered ≡ entered
   pub since : f.since ≤ entered
   pub first : f.first ≡ None
   pub failed : f.failed ≡ []

@@ -8,6 +8,7 @@ ghost use Rattle.xc_station.specs.declared.job.Doing.TheVariants as doing;
 ghost use Rattle.xc_station.specs.Doing.{doing_of, doing_in, goes_back, is_live, EndsIn, EndsWith, Grows, IsLineOf, AreLinesOf, opened_job};
 ghost use Rattle.xc_station.specs.Ending.{IsTrueEnd};
 ghost use Rattle.xc_station.specs.Setting.{setting};
+ghost use Rattle.xc_station.specs.Truth.{IsSerial};
 ghost use Rattle.xc_station.specs.Flight.{HasLine};
 ghost use Rattle.xc_station.specs.Turns.{KeepsOpening, turns_left};
 
@@ -42,6 +43,7 @@ pub struct Station<H: Host> {
 impl<H: Host> Model for Station<H> {
     ghost use Rattle.std.specs.Prelude.{◌≤◌};
     ghost use Rattle.xc_station.specs.Setting.{setting};
+ghost use Rattle.xc_station.specs.Truth.{IsSerial};
     ghost use Rattle.xc_station.specs.Turns.{Seen};
     ghost use Rattle.xc_station.specs.Flight.{InFlight, AreCounted, HasLine};
     ghost use Rattle.std.specs.Coded.{codes};
@@ -68,7 +70,10 @@ impl<H: Host> Model for Station<H> {
 impl<H: Host> Station<H> {
     /// Whether the job exists and hasn't ended.
     pub fn live(&self, job: u32) -> bool
-        ensures { result ≡ is_live self.now.job job }
+        ensures value { result ≡ is_live self.now.job job }
+
+        // The transactions of one job run one after another.
+        ensures serial { IsSerial self.now.journal }
     {
         job == 1 && !matches!(doing_now(&self.job), Doing::Ended)
     }
@@ -77,6 +82,7 @@ impl<H: Host> Station<H> {
     pub fn next_job(&mut self) -> Option<u32>
         ensures first { result ≡ (if is_live self.old.job 1 && not self.old.taken then Some 1 else None) }
         ensures taken { self.new ≡ record self.old { taken = self.old.taken || is_live self.old.job 1 } }
+        ensures serial { self.old.taken ≡ false → IsSerial self.old.journal }
     {
         if self.taken || !self.live(1) {
             return None;

@@ -26,6 +26,7 @@ fn work_job<H: Host>(station: &mut Station<H>, job: u32)
     ensures origin { KeepsOrigin station.old station.new }
     ensures ended { is_live station.new.job job ≡ false }
     ensures front { IsFrontOf station.old.journal station.new.journal }
+    ensures serial { IsSerial station.new.journal }
 {
     while station.live(job) {
         station.turn(job);

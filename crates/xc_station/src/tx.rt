@@ -1,4 +1,4 @@
-ghost use Rattle.std.specs.Prelude.{◌≡◌, ◌≤◌, ◌+◌, ◌-◌, [], length, map, OnOk, IsTrue};
+ghost use Rattle.std.specs.Prelude.{◌≡◌, ◌<◌, ◌≤◌, ◌+◌, ◌-◌, [], length, map, get_or, slice_set, OnOk, IsTrue};
 ghost use Rattle.std.specs.List.{list_any};
 ghost use Rattle.xc_data.specs.Claims.{holding_one, holding, is_object, merged, objects};
 ghost use Rattle.xc_data.specs.declared.entry.Outcome.TheVariants.{Committed, Aborted};
@@ -6,7 +6,9 @@ ghost use Rattle.xc_station.specs.Notes.{KeepsNotes, Notes, HasRoom, parts_of, e
 
 use std::alloc::Global;
 use xc_compensate::Stack;
-use xc_data::{Call, Cause, Claim, Entry, LateList, NoMemory, Outcome, Private, Reply, Report};
+use xc_data::{
+    Call, Cause, Claim, Entry, LateList, NoMemory, Outcome, Private, Reply, Report,
+};
 use xc_journal::Roomy;
 use xc_txmem::WriteSet;
 
@@ -123,9 +125,23 @@ impl Tx {
 }
 
 fn holds(held: &[Claim], new: &Claim) -> bool
-    ensures { result ≡ list_any (is_object new.now.object) (objects held.now) }
+    ensures { result ≡ list_any (λ claim. is_object new.now.object claim.object) held.now }
 {
     held.iter().any(|claim| new.object == claim.object)
+}
+
+fn merge_at(held: &mut Roomy<Claim>, at: usize, new: &Claim)
+    requires { at < length held.old.items }
+    ensures held { held.new.items ≡ slice_set held.old.items at (merged new.now (get_or held.old.items at new.now)) }
+    ensures spare { held.new.spare ≡ held.old.spare }
+{
+    let Claim { object, mode } = *held.get(at);
+    let mode = if new.object == object {
+        mode.stronger(new.mode)
+    } else {
+        mode
+    };
+    held.set(at, Claim { object, mode });
 }
 
 // Each held claim behind a new one.
@@ -134,8 +150,7 @@ fn merge(held: &mut Roomy<Claim>, new: &Claim)
     ensures spare { held.new.spare ≡ held.old.spare }
 {
     for at in 0..held.len() {
-        let claim = *held.get(at);
-        held.set(at, claim.merged(new));
+        merge_at(held, at, new);
     }
 }
 

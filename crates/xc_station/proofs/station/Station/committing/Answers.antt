@@ -1,4 +1,5 @@
 use Rattle.std.proofs.Common.{ap, ◌∙◌, subst, ◌<◌, Some}
+use Rattle.xc_station.specs.Setting.{setting}
 use Rattle.xc_station.specs.Turns.{turns_left}
 use Rattle.xc_station.specs.Doing.{doing_of}
 use Rattle.xc_station.proofs.Lefts.{left_committing}
@@ -8,8 +9,8 @@ use Rattle.xc_station.proofs.station.Station.committing.Goals as goal
 pub invariant_of-self : goal.invariant_of-self
 invariant_of-self g c =
     let doing = ap (λ v. doing_of v.job) c.self.view_is ∙ c.requires in (
-      turn_committing _ _ _ _ _ _ _ _ _ _ _ _ c.in-Some.ensures.value doing c.commit-job.ensures c.enter.ensures.items c.self.invariant.0,
-      counts_committing _ _ _ _ _ _ _ _ _ _ _ _ _ c.in-Some.ensures.value doing c.commit-job.ensures c.enter.ensures.items c.self.invariant.0 c.self.invariant.1,
+      turn_committing _ _ _ _ _ _ _ _ _ _ c.in-Some.ensures.value doing c.commit-job.ensures c.enter.ensures.items c.self.invariant.0,
+      counts_committing _ _ _ _ _ _ _ _ _ _ _ c.in-Some.ensures.value doing c.commit-job.ensures c.enter.ensures.items c.self.invariant.0 c.self.invariant.1,
       c.self.invariant.2,
       c.self.invariant.3,
     )
@@ -19,4 +20,4 @@ returns-clause-falls g c =
     let doing = ap (λ v. doing_of v.job) c.self.view_is ∙ c.requires in
     let station = c.self.inside in
     subst (λ n. turns_left station.opening.script (Some c.commit-job.result.0) < n) (ap (λ v. turns_left v.opening.script v.job) c.self.view_is)
-    (left_committing station.opening.script _ _ _ _ _ _ station.job c.in-Some.job c.commit-job.result c.self.invariant.0 c.in-Some.ensures.value doing c.commit-job.ensures)
+    (left_committing (setting station.opening.script station.rules g.H.Host.tells) _ _ _ _ station.job c.in-Some.job c.commit-job.result c.self.invariant.0 c.in-Some.ensures.value doing c.commit-job.ensures)

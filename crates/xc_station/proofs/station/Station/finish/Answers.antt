@@ -4,7 +4,8 @@ use Rattle.xc_data.specs.Counts.{CountsFaults}
 use Rattle.xc_data.specs.Faults.{entry_faults}
 use Rattle.xc_station.specs.Doing.{is_live}
 use Rattle.xc_station.specs.Ending.{IsTrueEnd}
-use Rattle.xc_station.proofs.Bounds.{finished, finished_counts}
+use Rattle.xc_station.specs.Setting.{setting}
+use Rattle.xc_station.proofs.Bounds.{final_of, finished, finished_counts}
 use Rattle.xc_station.proofs.station.Station.finish.Goals as goal
 
 pub returns-clause-whole : goal.returns-clause-whole
@@ -12,9 +13,9 @@ returns-clause-whole g c =
     let ended = ap (λ v. is_live v.job 1) c.self.view_is ∙ c.requires in
     let station = c.self.inside in
     let contents = g.H.Host.contents station.host in
-    let whole = finished station.opening.script g.H.Host.tells station.rules.undo_tries station.words contents station.journal.items station.journal.spare station.job c.lines_of.result ended c.lines_of.ensures c.self.invariant.0 in
-    let there = subst (λ words. IsTrueEnd station.opening.script g.H.Host.tells station.rules.undo_tries station.journal.items words contents c.lines_of.result) (sym c.list.ensures) whole in
-    subst (λ v. IsTrueEnd v.opening.script g.H.Host.tells v.rules.undo_tries station.journal.items c.list.result contents c.lines_of.result) c.self.view_is there
+    let whole = finished (setting station.opening.script station.rules g.H.Host.tells) station.words contents station.journal.items station.journal.spare station.job c.lines_of.result ended c.lines_of.ensures c.self.invariant.0 in
+    let there = subst (λ words. IsTrueEnd (setting station.opening.script station.rules g.H.Host.tells) station.journal.items (final_of words contents c.lines_of.result)) (sym c.list.ensures) whole in
+    subst (λ v. IsTrueEnd (setting v.opening.script v.rules g.H.Host.tells) station.journal.items (final_of c.list.result contents c.lines_of.result)) c.self.view_is there
 
 pub returns-clause-faults : goal.returns-clause-faults
 returns-clause-faults g c =

@@ -1,4 +1,5 @@
 use Rattle.std.proofs.Common.{ap, ◌∙◌, subst, ◌<◌, Some}
+use Rattle.xc_station.specs.Setting.{setting}
 use Rattle.xc_station.specs.Turns.{turns_left}
 use Rattle.xc_station.specs.Doing.{doing_of}
 use Rattle.xc_station.proofs.Lefts.{left_undoing}
@@ -8,7 +9,7 @@ use Rattle.xc_station.proofs.station.Station.undoing.Goals as goal
 pub invariant_of-self : goal.invariant_of-self
 invariant_of-self g c =
     let doing = ap (λ v. doing_of v.job) c.self.view_is ∙ c.requires in (
-      turn_undoing _ _ _ _ _ _ _ _ _ _ _ _ _ c.in-Some.ensures.value doing c.undo-job.ensures.undoes c.self.invariant.0,
+      turn_undoing _ _ _ _ _ _ _ _ _ _ _ c.in-Some.ensures.value doing c.undo-job.ensures.undoes c.self.invariant.0,
       counts_undoing _ _ _ _ c.self.inside.journal.items c.self.inside.job c.in-Some.job c.undo-job.result c.self.inside.opening.faults _ _ c.in-Some.ensures.value doing c.undo-job.ensures.undoes c.self.invariant.1,
       c.self.invariant.2,
       c.self.invariant.3,
@@ -19,7 +20,7 @@ returns-clause-falls g c =
     let doing = ap (λ v. doing_of v.job) c.self.view_is ∙ c.requires in
     let station = c.self.inside in
     subst (λ n. turns_left station.opening.script (Some c.undo-job.result) < n) (ap (λ v. turns_left v.opening.script v.job) c.self.view_is)
-    (left_undoing station.opening.script _ _ station.job c.in-Some.job c.undo-job.result _ _ _ _ c.in-Some.ensures.value doing c.undo-job.ensures.undoes)
+    (left_undoing (setting station.opening.script station.rules g.H.Host.tells) station.job c.in-Some.job c.undo-job.result _ _ _ _ c.in-Some.ensures.value doing c.undo-job.ensures.undoes)
 
 pub undo-job-requires-clause-covered : goal.undo-job-requires-clause-covered
-undo-job-requires-clause-covered g c = may_undo _ _ _ _ _ _ _ _ _ c.in-Some.ensures.value (ap (λ v. doing_of v.job) c.self.view_is ∙ c.requires) c.self.invariant.0
+undo-job-requires-clause-covered g c = may_undo _ _ _ _ _ _ _ c.in-Some.ensures.value (ap (λ v. doing_of v.job) c.self.view_is ∙ c.requires) c.self.invariant.0
