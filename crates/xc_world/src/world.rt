@@ -3,6 +3,7 @@ ghost use Rattle.xc_world.specs.World.{file_of, pipe_of, pair_of, waiting};
 
 mod act;
 mod files;
+mod fits;
 mod late;
 mod names;
 mod opening;
