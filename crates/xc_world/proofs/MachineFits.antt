@@ -24,17 +24,7 @@ overwrite_at-inside w me h bytes num at some done = grind arith
 append_at-inside : (w : World) (me : Private) (h : ℕ) (bytes : List ℕ) (num : Num) (at : ℕ) → 0 < length bytes → is_done (append_at w me h bytes (File num at)).reply ≡ true → length (file_of w num) + length bytes ≤ 65536
 append_at-inside w me h bytes num at some done = grind arith
 
--- a write would be done where its bytes stay within the file, or within its limit
-overwrite_at-done : (w : World) (me : Private) (h : ℕ) (bytes : List ℕ) (num : Num) (at : ℕ) → is_done (overwrite_at w me h bytes (File num at)).reply ≡ nat_le (length bytes) (length (file_of w num) - at)
-overwrite_at-done w me h bytes num at = grind arith
-
-append_at-done : (w : World) (me : Private) (h : ℕ) (bytes : List ℕ) (num : Num) (at : ℕ) → is_done (append_at w me h bytes (File num at)).reply ≡ nat_le (length bytes) (65536 - length (file_of w num))
-append_at-done w me h bytes num at = grind arith
-
--- a number of bytes below the least of these two is within the first
-within_least : (shut : Bool) (n len room : ℕ) → IsTrue (if n == 0 then true else (not shut && nat_lt n (min len room))) → nat_le n len ≡ true
-within_least shut n len room fit = grind arith
-
+-- an answer that fits a late call tells of no more bytes than the call carries
 pub late_within : (w : World) (call : LateCall) (answer : LateAnswer) → IsTrue (late_fits w call answer) → IsTrue (is_within call answer)
 late_within w call late_answer.Fine fit = grind arith
 late_within w (WritePipe num bytes) (late_answer.Fault n) fit = grind arith
