@@ -1,5 +1,5 @@
 -- A body that goes on is what came before with the later body behind it.
-use Rattle.std.proofs.Common.{◌≡◌, ℕ, ◌+◌, ◌<◌, get_or, take, List, [], ◌∷◌, ◌++◌, length, ap, sym, ◌∙◌, append_assoc}
+use Rattle.std.proofs.Common.{◌≡◌, ℕ, ◌+◌, ◌<◌, ◌&&◌, Bool, true, false, get_or, take, List, [], ◌∷◌, ◌++◌, length, ap, sym, ◌∙◌, refl, append_assoc}
 use Rattle.std.proofs.lemmas.List.{append-nil, take_more}
 use Rattle.std.proofs.lemmas.List.Sums.{fold-append, fold_push}
 use Rattle.xc_data.specs.declared.call.Reply.{Reply}
@@ -11,7 +11,8 @@ use Rattle.xc_world.specs.Act.{act}
 use Rattle.xc_data.specs.declared.claim.Claim.{Claim}
 use Rattle.xc_data.specs.declared.call.Asked.{Asked}
 use Rattle.xc_data.specs.declared.entry.KeptItem.{KeptItem}
-use Rattle.xc_world.specs.Run.{Ran, begins, step, goes_on, body}
+use Rattle.xc_world.specs.Fits.{fits}
+use Rattle.xc_world.specs.Run.{Ran, begins, step, goes_on, body, body_fits}
 use Rattle.xc_world.specs.Joined.{behind}
 
 pub same_ran : (w : World) (me : Private) (a b : List Reply) (c d : List LateCall) (e f : List Undo) (g h : List KeptItem) (k l : List Claim) → a ≡ b → c ≡ d → e ≡ f → g ≡ h → k ≡ l
@@ -47,3 +48,28 @@ pub body_more : (w : World) (me : Private) (tx : ℕ) (asked : List Asked) (i : 
     → body w me tx (take (i + 1) asked) ≡ step tx (body w me tx (take i asked)) c
 body_more w me tx asked i c lt e =
     ap (body w me tx) (take_more asked i c lt ∙ ap (λ x. take i asked ++ x ∷ []) (sym e)) ∙ body_last w me tx (take i asked) c
+
+-- ---- what fits a body in two parts
+and_assoc : (a b c : Bool) → (a && (b && c)) ≡ ((a && b) && c)
+and_assoc true b c = refl
+and_assoc false b c = refl
+
+and_true : (a : Bool) → (a && true) ≡ a
+and_true true = refl
+and_true false = refl
+
+-- what fits the first part, and what fits the other where that ended
+pub body_fits_append : (w : World) (me : Private) (tx : ℕ) (front rest : List Asked)
+    → body_fits w me tx (front ++ rest) ≡ (body_fits w me tx front && body_fits (body w me tx front).world (body w me tx front).me tx rest)
+body_fits_append w me tx [] rest = refl
+body_fits_append w me tx (c ∷ front) rest =
+    let s = act w me tx c.call c.answer in
+    ap (λ x. fits w me tx c.call c.answer && x) (body_fits_append s.world s.me tx front rest)
+    ∙ and_assoc (fits w me tx c.call c.answer) (body_fits s.world s.me tx front) _
+    ∙ ap (λ (r : Ran). body_fits w me tx (c ∷ front) && body_fits r.world r.me tx rest) (sym (body_first w me tx c front))
+
+pub body_fits_last : (w : World) (me : Private) (tx : ℕ) (asked : List Asked) (c : Asked)
+    → body_fits w me tx (asked ++ c ∷ []) ≡ (body_fits w me tx asked && fits (body w me tx asked).world (body w me tx asked).me tx c.call c.answer)
+body_fits_last w me tx asked c =
+    body_fits_append w me tx asked (c ∷ [])
+    ∙ ap (λ x. body_fits w me tx asked && x) (and_true (fits (body w me tx asked).world (body w me tx asked).me tx c.call c.answer))

@@ -4,6 +4,7 @@ pub mod MachineCounts
 pub mod MachineRun
 pub mod MachineHandles
 pub mod Examples
+pub mod ExamplesBody
 pub mod SoundParts
 pub mod SoundSteps
 pub mod SoundFiles

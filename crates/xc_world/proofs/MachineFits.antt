@@ -1,11 +1,15 @@
 -- What an answer that fits says of a write that stops.
-use Rattle.std.proofs.Common.{◌≡◌, ℕ, ◌+◌, ◌≤◌, ◌<◌, Bool, true, false, IsTrue, List, length, refl, arith}
-use Rattle.std.specs.Prelude.{not, ◌&&◌, ◌==◌, nat_lt, if◌then◌else◌}
+use Rattle.std.proofs.Common.{◌≡◌, ℕ, ◌+◌, ◌-◌, ◌≤◌, ◌<◌, Bool, true, false, IsTrue, List, length, refl, arith}
+use Rattle.std.specs.Prelude.{not, ◌&&◌, ◌==◌, min, nat_lt, nat_le, if◌then◌else◌}
 use Rattle.xc_data.specs.declared.object.Num.{Num}
 use Rattle.xc_data.specs.declared.private.Place.TheVariants.{File}
 use Rattle.xc_data.specs.declared.private.Private.{Private}
 use Rattle.xc_world.specs.World.{World, file_of}
-use Rattle.xc_world.specs.Fits.{is_done}
+use Rattle.xc_data.specs.declared.call.LateCall.{LateCall}
+use Rattle.xc_data.specs.declared.call.LateCall.TheVariants.{WritePipe}
+use Rattle.xc_data.specs.declared.call.LateAnswer.{LateAnswer}
+use Rattle.xc_data.specs.declared.call.LateAnswer.TheVariants as late_answer
+use Rattle.xc_world.specs.Fits.{is_done, late_fits, is_within}
 use Rattle.xc_world.specs.Act.Files.{overwrite_at, append_at}
 
 -- where some bytes are done the write is one that would be done, and stops before its last byte
@@ -19,3 +23,11 @@ overwrite_at-inside w me h bytes num at some done = grind arith
 
 append_at-inside : (w : World) (me : Private) (h : ℕ) (bytes : List ℕ) (num : Num) (at : ℕ) → 0 < length bytes → is_done (append_at w me h bytes (File num at)).reply ≡ true → length (file_of w num) + length bytes ≤ 65536
 append_at-inside w me h bytes num at some done = grind arith
+
+-- an answer that fits a late call tells of no more bytes than the call carries
+pub late_within : (w : World) (call : LateCall) (answer : LateAnswer) → IsTrue (late_fits w call answer) → IsTrue (is_within call answer)
+late_within w call late_answer.Fine fit = grind arith
+late_within w (WritePipe num bytes) (late_answer.Fault n) fit = grind arith
+late_within w (WritePipe num bytes) (late_answer.NoMemory n) fit = grind arith
+late_within w call (late_answer.Fault n) fit = grind arith
+late_within w call (late_answer.NoMemory n) fit = grind arith

@@ -1,20 +1,21 @@
 -- A refused call changes no world.
-use Rattle.std.proofs.Common.{◌≡◌, ℕ, ◌+◌, Option, Some, None, List, [], ◌∷◌, length, refl}
-use Rattle.std.specs.Prelude.{IsTrue, nat_lt, nat_le, ◌==◌}
+use Rattle.std.proofs.Common.{◌≡◌, ℕ, ◌+◌, Bool, true, false, Option, Some, None, List, [], ◌∷◌, length, refl}
+use Rattle.std.specs.Prelude.{IsTrue, nat_lt, nat_le, ◌==◌, ◌||◌, if◌then◌else◌}
 use Rattle.std.specs.FinMap as map
 use Rattle.xc_data.specs.declared.object.Num.{Num}
 use Rattle.xc_data.specs.declared.call.Call.{Call}
 use Rattle.xc_data.specs.declared.call.Call.TheVariants as call
 use Rattle.xc_data.specs.declared.call.Answer.{Answer}
 use Rattle.xc_data.specs.declared.call.Answer.TheVariants as answer
+use Rattle.xc_data.specs.declared.call.Reply.TheVariants as reply
 use Rattle.xc_data.specs.declared.private.Place.{Place}
 use Rattle.xc_data.specs.declared.private.Place.TheVariants as place
 use Rattle.xc_data.specs.declared.private.Private.{Private}
 use Rattle.xc_data.specs.Private.{place_of, with_place, lowest_vacant}
 use Rattle.xc_world.specs.World.{World, file_of, pipe_of, pair_of, waiting}
-use Rattle.xc_world.specs.Checks.{is_bad_handle, is_too_big, is_too_much, is_bad_word}
+use Rattle.xc_world.specs.Checks.{is_bad_handle, is_too_big, is_too_much, is_bad_word, is_refused, refusal}
 use Rattle.xc_world.specs.Act.{act, fine, faulty, done}
-use Rattle.xc_world.specs.Act.Step.{Stepped}
+use Rattle.xc_world.specs.Act.Step.{Stepped, stays, counted}
 use Rattle.xc_world.specs.Act.Names.{next_num, opened, created, renamed}
 use Rattle.xc_world.specs.Act.Files.{read_at, overwrite_at, append_at, seek_at, len_at, overwrite_short, append_short}
 use Rattle.xc_world.specs.Act.Pipes.{new_pipe, read_pipe_at, pair_made, new_pair, received, receive_at}
@@ -132,3 +133,19 @@ act_refused w me tx c a =
     chosen_so (StaysRefused w) (is_too_big c) _ _ (λ _ _. refl) (λ _.
     chosen_so (StaysRefused w) (is_too_much c me) _ _ (λ _ _. refl) (λ _.
     chosen_so (StaysRefused w) (is_bad_word c (length w.words)) _ _ (λ _ _. refl) (λ _. done_refused w me tx c a))))
+
+-- ---- a private refusal
+-- the first check that refuses gives the reply
+first_refusal : (w : World) (me : Private) (a b c d : Bool) (s : Stepped) → (a || b || c || d) ≡ true
+    → (if a then stays w me reply.BadHandle else if b then stays w me reply.TooBig else if c then stays w me reply.TooMuch else if d then stays w me reply.BadWord else s)
+    ≡ stays w me (if a then reply.BadHandle else if b then reply.TooBig else if c then reply.TooMuch else reply.BadWord)
+first_refusal w me true b c d s e = refl
+first_refusal w me false true c d s e = refl
+first_refusal w me false false true d s e = refl
+first_refusal w me false false false true s e = refl
+first_refusal w me false false false false s e = cc
+
+-- a call that a private check refuses leaves the world and the private state
+pub act_refused_whole : (w : World) (me : Private) (tx : ℕ) (call : Call) (answer : Answer) → IsTrue (is_refused call me (length w.words)) → act w me tx call answer ≡ stays w me (refusal call me)
+act_refused_whole w me tx c a e =
+    first_refusal w me (is_bad_handle c me) (is_too_big c) (is_too_much c me) (is_bad_word c (length w.words)) (counted c (done w me tx c a)) e

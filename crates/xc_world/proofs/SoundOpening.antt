@@ -41,6 +41,17 @@ all_opened w k (o ∷ objects) fits fit =
       free = λ q lt free. more.free q lt (adds.free q (λ e. let none : q.tx ≡ 0 = ap (λ (n : Num). n.tx) e in absurd (omega arith)) free);
     }
 
+-- no line opens a word
+opened_words : (w : World) (num : Num) (o : Opened) → (with_opened w num o).words ≡ w.words
+opened_words w num (opened.File name bytes) = refl
+opened_words w num (opened.Pipe bytes) = refl
+opened_words w num opened.Pair = refl
+
+-- nor do all
+pub opening_words : (w : World) (k : ℕ) (objects : List Opened) → (with_all_opened w k objects).words ≡ w.words
+opening_words w k [] = refl
+opening_words w k (o ∷ objects) = opening_words (with_opened w (line_num k) o) (k + 1) objects ∙ opened_words w (line_num k) o
+
 -- each handle's object is there
 handles_known : (w : World) (k : ℕ) (objects : List Opened) → All IsOpenedFit objects → IsFit w → All (IsKnown (with_all_opened w k objects)) (handles_of k objects)
 handles_known w k [] fits fit = All-nil (IsKnown w)

@@ -1,7 +1,9 @@
 -- The private checks of a call: what refuses it before anything is touched.
-use Rattle.std.specs.Prelude.{ℕ, ◌+◌, ◌||◌, Bool, true, false, not, is_none, List, [], length, count_by, nat_lt, nat_le}
+use Rattle.std.specs.Prelude.{ℕ, ◌+◌, ◌||◌, Bool, true, false, not, is_none, List, [], length, count_by, nat_lt, nat_le, if◌then◌else◌}
 use Rattle.xc_data.specs.declared.call.Call.{Call}
 use Rattle.xc_data.specs.declared.call.Call.TheVariants.{Load, Store, XOpen, XCreate, XRead, XWriteOvr, XWriteSeq, XSeek, XLen, XClose, XPipe, XReadPipe, XPair, XRecvmsg, XSync, XWritePipe, XShutdown, XSendmsg}
+use Rattle.xc_data.specs.declared.call.Reply.{Reply}
+use Rattle.xc_data.specs.declared.call.Reply.TheVariants as reply
 use Rattle.xc_data.specs.declared.private.Place.{Place}
 use Rattle.xc_data.specs.declared.private.Place.TheVariants as place
 use Rattle.xc_data.specs.declared.private.Private.{Private}
@@ -82,3 +84,11 @@ is_bad_word _ words = false
 -- one of the checks refuses the call
 abbrev pub is_refused : Call → Private → ℕ → Bool
 is_refused call me words = is_bad_handle call me || is_too_big call || is_too_much call me || is_bad_word call words
+
+-- the reply of a call that they refuse: the first of them gives it
+abbrev pub refusal : Call → Private → Reply
+refusal call me =
+    if is_bad_handle call me then reply.BadHandle
+    else if is_too_big call then reply.TooBig
+    else if is_too_much call me then reply.TooMuch
+    else reply.BadWord

@@ -17,6 +17,7 @@ use Rattle.xc_world.specs.World.{World, pipe_of}
 use Rattle.xc_world.specs.Checks.{bytes_of, is_refused}
 use Rattle.xc_world.specs.Act.{fine}
 use Rattle.xc_world.specs.Late.{room}
+use Rattle.xc_world.specs.Sound.{late_bytes_of}
 
 -- the call asks something of the host
 abbrev pub asks_host : Call → Bool
@@ -66,6 +67,16 @@ abbrev pub late_fits : World → LateCall → LateAnswer → Bool
 late_fits w c late_answer.Fine = true
 late_fits w c (late_answer.Fault n) = if n == 0 then not (is_thread c) else late_may_stop w c n
 late_fits w c (late_answer.NoMemory n) = if n == 0 then true else late_may_stop w c n
+
+-- how many bytes are done where a late call stops
+abbrev pub late_done : LateAnswer → ℕ
+late_done late_answer.Fine = 0
+late_done (late_answer.Fault n) = n
+late_done (late_answer.NoMemory n) = n
+
+-- they are at most the bytes that the call carries
+abbrev pub is_within : LateCall → LateAnswer → Bool
+is_within c answer = nat_le (late_done answer) (length (late_bytes_of c))
 
 -- ---- the answers that an entry records
 abbrev pub answer_of : Reply → Answer

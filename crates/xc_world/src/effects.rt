@@ -1,3 +1,4 @@
+ghost use Rattle.std.specs.declared.option.Option.TheVariants.{None};
 ghost use Rattle.std.specs.Prelude.{◌≡◌, ◌≢◌, ℕ, ◌+◌, true, false, List, [], ◌∷◌, ◌++◌, length, map, All, IsTrue};
 ghost use Rattle.xc_data.specs.declared.call.Call.{Call};
 ghost use Rattle.xc_data.specs.declared.call.Answer.{Answer};
@@ -42,9 +43,10 @@ pub fn a_record_is_undone()
 {}
 
 /// The bytes that the newest record covers that still stands whole are in its file, however the
-/// newer ones ended.
+/// newer ones ended, where none of them stands in its way.
 pub fn the_newest_record_is_covered()
     ensures { (w : World) (older : List Undo) (u : Undo) (newer : List Ending) → AreMadeIn w (older ++ u ∷ map (λ r. r.0) newer)
+        → blocker (length older + 1 + 1) u newer ≡ None
         → IsCovered (with_remains w (whole (older ++ u ∷ []) ++ remains newer)) u }
 {}
 

@@ -8,7 +8,9 @@ ghost use Rattle.xc_data.specs.declared.script.Script0.{Script0};
 ghost use Rattle.xc_world.specs.World.{World, beginning};
 ghost use Rattle.xc_world.specs.Act.{act};
 ghost use Rattle.xc_world.specs.Late.{late, kept_call};
-ghost use Rattle.xc_world.specs.Fits.{fits};
+ghost use Rattle.xc_world.specs.Checks.{is_refused, refusal};
+ghost use Rattle.xc_world.specs.Act.Step.{stays};
+ghost use Rattle.xc_world.specs.Fits.{fits, late_fits, is_within};
 ghost use Rattle.xc_world.specs.Touch.{touch, made_by};
 ghost use Rattle.xc_world.specs.Sound.{IsFit, IsSound, IsShortCall, names_there, IsReady};
 ghost use Rattle.xc_data.specs.Limits.{KeepsLimits};
@@ -20,12 +22,23 @@ pub fn a_refused_call_changes_nothing()
     ensures { (w : World) (me : Private) (tx : ℕ) (call : Call) (answer : Answer) → IsTrue (is_refusal (act w me tx call answer).reply) → (act w me tx call answer).world ≡ w }
 {}
 
+/// A call that a private check refuses leaves the private state too, and nothing is counted.
+pub fn a_privately_refused_call_leaves_all()
+    ensures { (w : World) (me : Private) (tx : ℕ) (call : Call) (answer : Answer) → IsTrue (is_refused call me (length w.words))
+        → act w me tx call answer ≡ stays w me (refusal call me) }
+{}
+
 /// Whatever else two worlds hold: where they agree on what a call touches and makes, it replies the
 /// same in both, they agree on that afterwards, and everything else stays as it was.
 pub fn a_call_is_local()
     ensures { (w v : World) (me : Private) (tx : ℕ) (call : Call) (answer : Answer) → length w.words ≡ length v.words
         → All (AgreeAt w v) (touch call me (length w.words) ++ made_by call me tx)
         → ActsAlike (touch call me (length w.words) ++ made_by call me tx) w v (act w me tx call answer) (act v me tx call answer) }
+{}
+
+/// An answer that fits a late call tells of no more bytes than the call carries.
+pub fn what_fits_a_late_call_is_within_it()
+    ensures { (w : World) (call : LateCall) (answer : LateAnswer) → IsTrue (late_fits w call answer) → IsTrue (is_within call answer) }
 {}
 
 /// The same for a late call and its object. Both worlds know the same blocks.

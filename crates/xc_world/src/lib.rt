@@ -9,6 +9,8 @@ ghost use Rattle.xc_world.specs.Opening.{opening_state};
 mod checks;
 pub mod effects;
 mod handles;
+mod held;
+mod kept;
 pub mod laws;
 mod run;
 mod touch;
@@ -17,6 +19,8 @@ pub mod whole;
 mod world;
 
 pub use handles::opening_private;
+pub use held::hold;
+pub use kept::taken_by;
 pub use run::{Replied, run_body};
 pub use touch::{late_call, touched};
 pub use world::World;

@@ -1,4 +1,4 @@
-ghost use Rattle.std.specs.Prelude.{◌≡◌, ◌↔◌, ◌++◌, ℕ, List, [], ◌∷◌, All, Contains, length};
+ghost use Rattle.std.specs.Prelude.{◌≡◌, ◌↔◌, ◌&&◌, ◌++◌, ℕ, List, [], ◌∷◌, All, Contains, length};
 ghost use Rattle.xc_data.specs.declared.object.Object.{Object};
 ghost use Rattle.xc_data.specs.declared.call.Call.{Call};
 ghost use Rattle.xc_data.specs.declared.call.Answer.{Answer};
@@ -134,6 +134,12 @@ pub fn what_remains_changes_its_objects_alone()
 /// One call more is one step more.
 pub fn a_call_more_is_a_step_more()
     ensures { (w : World) (me : Private) (tx : ℕ) (asked : List Asked) (call : Asked) → body w me tx (asked ++ call ∷ []) ≡ step tx (body w me tx asked) call }
+{}
+
+/// What fits a body of a call more: what fits the body, and an answer that fits behind it.
+pub fn what_fits_a_call_more()
+    ensures { (w : World) (me : Private) (tx : ℕ) (asked : List Asked) (call : Asked)
+        → body_fits w me tx (asked ++ call ∷ []) ≡ (body_fits w me tx asked && fits (body w me tx asked).world (body w me tx asked).me tx call.call call.answer) }
 {}
 
 /// A body in two parts is the first with the second behind it, which begins where the first ended.

@@ -1,8 +1,9 @@
-ghost use Rattle.std.specs.Prelude.{◌≡◌};
+ghost use Rattle.std.specs.Prelude.{◌≡◌, length};
 ghost use Rattle.xc_world.specs.World.{file_of, pipe_of, pair_of, waiting};
 
 mod act;
 mod files;
+mod fits;
 mod late;
 mod names;
 mod opening;
@@ -73,6 +74,16 @@ impl Model for World {
 }
 
 impl World {
+    pub(crate) fn alloc(&self) -> Global {
+        self.alloc
+    }
+
+    pub(crate) fn word_count(&self) -> usize
+        ensures { result ≡ length self.now.words }
+    {
+        self.words.len()
+    }
+
     fn file(&self, num: Num) -> &[u8]
         ensures { result.now ≡ file_of self.now num }
     {

@@ -1,8 +1,8 @@
-ghost use Rattle.std.specs.Prelude.{◌≡◌, ◌≤◌, ℕ, IsTrue, IfOk, OnOk, OnErr};
+ghost use Rattle.std.specs.Prelude.{◌≡◌, ◌≤◌, ℕ, length, IsTrue, IfOk, OnOk, OnErr};
 ghost use Rattle.xc_data.specs.declared.private.Private.{Private};
 ghost use Rattle.xc_world.specs.World.{pipe_of, pair_of, with_pair};
-ghost use Rattle.xc_world.specs.Fits.{late_fits};
-ghost use Rattle.xc_world.specs.Sound.{IsSound, IsShortCall, is_there, names_there};
+ghost use Rattle.xc_world.specs.Fits.{is_within};
+ghost use Rattle.xc_world.specs.Sound.{IsSound, IsShortCall, late_bytes_of, is_there, names_there};
 ghost use Rattle.xc_world.specs.Late.{late, late_fine, ends, unlinked, room, with_put, pipe_written, shut_down, sent, sent_to, is_block, thread_started, stopped};
 ghost use Rattle.std.specs.FinMap as map;
 
@@ -23,7 +23,7 @@ impl World {
     }
 
     // How many more bytes fit a pipe.
-    fn room(&self, num: Num) -> usize
+    pub(super) fn room(&self, num: Num) -> usize
         ensures value { result ≡ room (pipe_of self.now num) }
         ensures bound { result ≤ 4096 }
     {
@@ -152,19 +152,20 @@ impl World {
         }
     }
 
-    // A late call that stops after n bytes.
+    // A late call that stops after n bytes: of a write to a pipe what fits of them is put.
     fn stop(&mut self, call: &LateCall, n: u32) -> Result<(), NoMemory>
-        requires { IsTrue (late_fits self.old call.now (LateAnswer.NoMemory n)) }
+        requires { n ≤ length (late_bytes_of call.now) }
         ensures ok { OnOk result (self.new ≡ stopped self.old call.now n) }
         ensures err { OnErr result (self.new ≡ self.old) }
     {
         let LateCall::WritePipe(num, bytes) = call else {
             return Ok(());
         };
-        if n == 0 {
+        if n == 0 || self.is_pipe_shut(*num) {
             return Ok(());
         }
-        self.put_bytes(*num, &bytes.as_slice()[..n as usize])
+        let fitting = (n as usize).min(self.room(*num));
+        self.put_bytes(*num, &bytes.as_slice()[..fitting])
     }
 
     fn has(&self, object: &Object) -> bool
@@ -192,7 +193,7 @@ impl World {
     }
 
     fn late_step(&mut self, call: &LateCall, answer: LateAnswer) -> Result<LateEnd, NoMemory>
-        requires { IsTrue (late_fits self.old call.now answer) }
+        requires { IsTrue (is_within call.now answer) }
         ensures ok { IfOk result (λ end. late self.old call.now answer ≡ ends self.new end) }
         ensures err { OnErr result (self.new ≡ self.old) }
     {
@@ -211,7 +212,7 @@ impl World {
 
     /// One late call on the plain machine, with what it met at the host.
     pub fn late(&mut self, call: &LateCall, answer: LateAnswer) -> Result<LateEnd, NoMemory>
-        requires fits { IsTrue (late_fits self.old call.now answer) }
+        requires within { IsTrue (is_within call.now answer) }
         requires short { IsShortCall call.now }
         requires there { IsTrue (names_there self.old call.now) }
         ensures sound { (me : Private) (tx : ℕ) → IsSound self.old me tx → OnOk result (IsSound self.new me tx) }

@@ -1,4 +1,4 @@
-ghost use Rattle.std.specs.Prelude.{◌≡◌, ◌<◌, ◌++◌, ℕ, IfOk, OnOk};
+ghost use Rattle.std.specs.Prelude.{◌≡◌, ◌<◌, ◌≤◌, ◌++◌, ℕ, length, IfOk, OnOk};
 ghost use Rattle.xc_world.specs.World.{beginning};
 ghost use Rattle.xc_world.specs.Sound.{IsSound};
 ghost use Rattle.xc_data.specs.Limits.{KeepsLimits};
@@ -79,6 +79,7 @@ impl World {
     pub fn of(alloc: Global, script: &Script0) -> Result<World, NoMemory>
         requires { KeepsLimits script.now }
         ensures value { IfOk result (λ world. world ≡ opening script.now) }
+        ensures words { IfOk result (λ world. length world.words ≤ 4096) }
         ensures sound { IfOk result (λ world. (tx : ℕ) → 0 < tx → IsSound world (beginning (opening_handles script.now)) tx) }
     {
         let world = World::opening(alloc, script)?;

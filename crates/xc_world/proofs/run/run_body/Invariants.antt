@@ -1,4 +1,5 @@
-use Rattle.std.proofs.Common.{◌≡◌, take, drop, IsTrue}
+use Rattle.std.proofs.Common.{◌≡◌, ◌<◌, ◌^◌, length, take, drop, IsTrue}
+use Rattle.xc_data.specs.Claims.{held_of}
 use Rattle.xc_world.specs.Sound.{IsSound}
 use Rattle.xc_world.specs.Run.{body, body_fits}
 use Rattle.xc_world.proofs.run.run_body.Given as goal
@@ -12,5 +13,8 @@ invariant-loop-call l =
       world : l.world ≡ (body l.fn.world l.fn.me l.tx (take l.call-index l.asked)).world;
       me : l.me ≡ (body l.fn.world l.fn.me l.tx (take l.call-index l.asked)).me;
       replies : l.replied.replies ≡ (body l.fn.world l.fn.me l.tx (take l.call-index l.asked)).replies;
+      words : length l.world.words < 2 ^ 32;
+      taken : l.replied.taken ≡ (body l.fn.world l.fn.me l.tx (take l.call-index l.asked)).taken;
+      held : l.replied.held.items ≡ held_of (body l.fn.world l.fn.me l.tx (take l.call-index l.asked)).touched;
       late : l.replied.late ≡ (body l.fn.world l.fn.me l.tx (take l.call-index l.asked)).late;
     }
