@@ -3,3 +3,4 @@ pub mod Forms
 pub mod LiteralLemmas
 pub mod Checked
 pub mod Keeping
+pub mod FilesByName

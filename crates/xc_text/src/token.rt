@@ -3,6 +3,7 @@ ghost use Rattle.xc_text.specs.Answers.{Gives, Stops};
 ghost use Rattle.xc_text.specs.Tokens.{lexeme, is_blank, is_hex, is_escape, escaped, digit_value, hex_byte, repeat_of, cut, ended, then_others, tokens_of, Blanks, InWord, InLiteral, Closed, InRepeat, Word as AWord, Literal as ALiteral};
 ghost use Rattle.xc_text.specs.Cutting.{Cuts, closes, literal_on, with_any, is_at_token};
 
+use crate::limits::{MOST_LITERAL_BYTES, MOST_REPEAT};
 use crate::number::number;
 use crate::why::{Stop, Why};
 use std::alloc::Global;
@@ -153,7 +154,7 @@ fn past_literal<'a>(alloc: Global, bytes: &'a [u8]) -> Result<(Vec<u8>, &'a [u8]
     let mut escape = Escape::Nothing;
     while let [b, behind @ ..] = rest {
         if closes_literal(escape, *b) {
-            if meant.len() > 1024 {
+            if meant.len() > MOST_LITERAL_BYTES {
                 return Err(Stop::Refused(Why::BadLiteral));
             }
             return Ok((meant, behind));
@@ -189,7 +190,7 @@ fn repeat_count(bytes: &[u8]) -> Option<u32>
     ensures { result ≡ repeat_of bytes.now }
 {
     match number(bytes) {
-        Some(n) if n <= 65_536 => Some(n as u32),
+        Some(n) if n <= MOST_REPEAT => Some(n as u32),
         _ => None,
     }
 }
