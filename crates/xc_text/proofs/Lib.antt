@@ -4,3 +4,5 @@ pub mod LiteralLemmas
 pub mod Checked
 pub mod Keeping
 pub mod FilesByName
+pub mod Quotes
+pub mod TokenLists
