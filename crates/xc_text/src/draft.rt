@@ -46,8 +46,17 @@ impl Model for Draft {
 
     ghost Value = { Said };
 
-    ghost view = { λ a. record { section = a.section; words = a.words; sized = a.sized; valued = a.valued; objects = a.files;
-        names = a.names; blocks = a.blocks; transactions = a.transactions; body = a.body } };
+    ghost view = { λ a. record {
+      section = a.section;
+      words = a.words;
+      sized = a.sized;
+      valued = a.valued;
+      objects = a.files;
+      names = a.names;
+      blocks = a.blocks;
+      transactions = a.transactions;
+      body = a.body;
+    } };
 }
 
 fn zeros(alloc: Global, n: u64) -> Result<WordList, NoMemory>

@@ -6,7 +6,7 @@ use Rattle.xc_text.proofs.token.past_literal.Goals as goal
 pub loop-rest-preserved : goal.loop-rest-preserved
 loop-rest-preserved c =
     let read : then_rest c.in-Some.byte (literal_of c.in-Some.next.now)
-        ≡ literal_of (get_or c.loop-rest.rest.now 0 0 ∷ take (length c.loop-rest.rest.now - 1) (drop 1 c.loop-rest.rest.now)) =
+    ≡ literal_of (get_or c.loop-rest.rest.now 0 0 ∷ take (length c.loop-rest.rest.now - 1) (drop 1 c.loop-rest.rest.now)) =
     search rules in
     let piece : then_rest c.in-Some.byte (literal_of c.in-Some.next.now) ≡ literal_of c.loop-rest.rest.now =
     read ∙ ap literal_of (whole c.loop-rest.rest.now (omega (arith, c.in-len1-up.len_at_least))) in
