@@ -1,4 +1,4 @@
--- What a line says, by the place where it stands.
+-- What a line says, by the section that it stands in.
 use Rattle.std.specs.Prelude.{ℕ, List, [], ◌∷◌, codes, Option, Some, None, Result, Ok, Err, if◌then◌else◌}
 use Rattle.xc_text.specs.declared.script.Term.{Term}
 use Rattle.xc_text.specs.declared.script.Expression.{Expression}
@@ -7,8 +7,8 @@ use Rattle.xc_text.specs.declared.script.Statement.{Statement}
 use Rattle.xc_text.specs.declared.script.Statement.TheVariants.{Load, Store, Open, Read, Overwrite, Abort}
 use Rattle.xc_text.specs.declared.line.Line.{Line}
 use Rattle.xc_text.specs.declared.line.Line.TheVariants as line
-use Rattle.xc_text.specs.declared.line.Place.{Place}
-use Rattle.xc_text.specs.declared.line.Place.TheVariants.{Prologue, Between, Block, Transaction}
+use Rattle.xc_text.specs.declared.line.Section.{Section}
+use Rattle.xc_text.specs.declared.line.Section.TheVariants.{Prologue, Between, Block, Transaction}
 use Rattle.xc_text.specs.declared.why.Why.{Why}
 use Rattle.xc_text.specs.declared.why.Why.TheVariants.{UnknownLine, BadForm}
 use Rattle.xc_text.specs.Answers.{both, seen}
@@ -111,18 +111,18 @@ transaction_line word rest =
     else seen line.Statement (statement_line word rest)
 
 -- a line that begins with a word; behind a block no line stands
-abbrev pub worded_line : Place → List ℕ → List Lexeme → Result Line Why
+abbrev pub worded_line : Section → List ℕ → List Lexeme → Result Line Why
 worded_line Prologue word rest = prologue_line word rest
 worded_line Between word rest = Err UnknownLine
 worded_line (Block name) word rest = block_line word rest
 worded_line (Transaction name) word rest = transaction_line word rest
 
 -- a line whose first token is a literal is unknown
-abbrev pub first_line : Place → Lexeme → List Lexeme → Result Line Why
-first_line place (Word word) rest = worded_line place word rest
-first_line place (Literal meant times) rest = Err UnknownLine
+abbrev pub first_line : Section → Lexeme → List Lexeme → Result Line Why
+first_line section (Word word) rest = worded_line section word rest
+first_line section (Literal meant times) rest = Err UnknownLine
 
--- what the tokens of a line say in a place; a line without tokens says nothing
-abbrev pub said : Place → List Lexeme → Result (Option Line) Why
-said place [] = Ok None
-said place (first ∷ rest) = seen Some (first_line place first rest)
+-- what the tokens of a line say, by the section that it stands in; a line without tokens says nothing
+abbrev pub line_of : Section → List Lexeme → Result (Option Line) Why
+line_of section [] = Ok None
+line_of section (first ∷ rest) = seen Some (first_line section first rest)

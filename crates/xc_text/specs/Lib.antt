@@ -1,12 +1,14 @@
 pub mod Answers
-pub mod Cutting
 pub mod Grammar
 pub mod Lines
 pub mod Literals
+pub mod Named
 pub mod Numbers
 pub mod Pieces
-pub mod Places
+pub mod Quoted
+pub mod Said
 pub mod Scripts
+pub mod Sections
 pub mod Steps
 pub mod Terms
 pub mod Tokens

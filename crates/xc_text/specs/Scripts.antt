@@ -1,17 +1,19 @@
 -- What a script says, and what a script that was read keeps to.
-use Rattle.std.specs.Prelude.{◌≡◌, ℕ, ◌+◌, ◌≤◌, List, [], ◌∷◌, length, map, All, count_by, nat_lt, None, Result, Ok, Err, if◌then◌else◌}
+use Rattle.std.specs.Prelude.{◌≡◌, ℕ, ◌+◌, ◌≤◌, List, [], ◌∷◌, length, map, All, count_by, nat_eq, nat_lt, None, Result, Ok, Err, if◌then◌else◌}
+use Rattle.std.specs.Cmp.Lexicographic.{pointwise}
+use Rattle.std.specs.List.{IsDistinct}
 use Rattle.xc_data.specs.declared.script.Opened.{Opened}
 use Rattle.xc_data.specs.declared.script.Opened.TheVariants.{File, Pipe, Pair}
 use Rattle.xc_data.specs.Limits.{IsPrologue}
 use Rattle.xc_text.specs.declared.script.Block.{Block as OneBlock}
 use Rattle.xc_text.specs.declared.script.Script.{Script}
-use Rattle.xc_text.specs.declared.reading.Reading.{Reading}
 use Rattle.xc_text.specs.declared.why.Why.{Why}
 use Rattle.xc_text.specs.declared.why.Why.TheVariants.{TooLong, Unclosed}
 use Rattle.xc_text.specs.Answers.{Refusal, and_then}
 use Rattle.xc_text.specs.Lines.{lines_of}
-use Rattle.xc_text.specs.Places.{is_outside}
-use Rattle.xc_text.specs.Steps.{opening, is_call, after_bytes}
+use Rattle.xc_text.specs.Said.{Said, opening}
+use Rattle.xc_text.specs.Sections.{is_outside}
+use Rattle.xc_text.specs.Steps.{is_call, after_bytes}
 
 -- a reason against the line of that number
 abbrev pub at_line : {A : Type 0} → ℕ → Result A Why → Result A Refusal
@@ -23,20 +25,20 @@ abbrev pub names_of : List OneBlock → List (List ℕ)
 names_of blocks = map (λ b. b.name) blocks
 
 -- the whole script
-abbrev pub script_of : Reading → Script
-script_of r = record {
-  plain = record { words = r.words; prologue = record { objects = r.objects; faults = []; grain = None }; bodies = []; jobs = names_of r.blocks };
-  blocks = r.blocks;
+abbrev pub script_of : Said → Script
+script_of s = record {
+  plain = record { words = s.words; prologue = record { objects = s.objects; faults = []; grain = None }; bodies = []; jobs = names_of s.blocks };
+  blocks = s.blocks;
 }
 
 -- a script ends behind its prologue or behind a block
-abbrev pub closed : Reading → Result Script Why
-closed r = if is_outside r.place then Ok (script_of r) else Err Unclosed
+abbrev pub closed : Said → Result Script Why
+closed s = if is_outside s.section then Ok (script_of s) else Err Unclosed
 
 -- the script of what n lines have said and of the lines behind them
-abbrev pub read_from : ℕ → Reading → List (List ℕ) → Result Script Refusal
-read_from n r [] = at_line n (closed r)
-read_from n r (bytes ∷ lines) = and_then (at_line (n + 1) (after_bytes r bytes)) (λ (next : Reading). read_from (n + 1) next lines)
+abbrev pub read_from : ℕ → Said → List (List ℕ) → Result Script Refusal
+read_from n s [] = at_line n (closed s)
+read_from n s (bytes ∷ lines) = and_then (at_line (n + 1) (after_bytes s bytes)) (λ (next : Said). read_from (n + 1) next lines)
 
 -- the script that these bytes are, or the first bad line with its first reason
 abbrev pub parse_of : List ℕ → Result Script Refusal
@@ -58,6 +60,7 @@ pub record IsScript (s : Script) : Type 0 where
   pub some_words : 1 ≤ length s.plain.words
   pub few_words : length s.plain.words ≤ 4096
   pub one_block : length s.blocks ≤ 1
+  pub distinct : IsDistinct (pointwise nat_eq) (names_of s.blocks)
   pub jobs : s.plain.jobs ≡ names_of s.blocks
   pub bodies : s.plain.bodies ≡ []
   pub prologue : IsPrologue s.plain.prologue

@@ -1,8 +1,8 @@
--- What the lines so far have said, and what one more line adds.
-use Rattle.std.specs.Prelude.{ℕ, ◌+◌, ◌||◌, Bool, true, false, List, [], ◌∷◌, ◌++◌, length, nat_eq, nat_le, nat_lt, replicate, slice_set, Option, Some, None, is_some, Result, Ok, Err, if◌then◌else◌}
+-- What one more line adds to what was said so far.
+use Rattle.std.specs.Prelude.{ℕ, ◌||◌, ◌&&◌, Bool, true, false, List, [], ◌∷◌, ◌++◌, length, count_by, nat_eq, nat_le, nat_lt, replicate, slice_set, Option, Some, None, Result, Ok, Err, if◌then◌else◌}
 use Rattle.std.specs.List.{list_all, list_any}
 use Rattle.std.specs.Cmp.Lexicographic.{pointwise}
-use Rattle.std.specs.FinMap as map
+use Rattle.xc_data.specs.declared.script.Opened.{Opened}
 use Rattle.xc_data.specs.declared.script.Opened.TheVariants.{File}
 use Rattle.xc_text.specs.declared.script.Term.{Term}
 use Rattle.xc_text.specs.declared.script.Term.TheVariants.{Number, Variable}
@@ -14,19 +14,15 @@ use Rattle.xc_text.specs.declared.script.Statement.{Statement}
 use Rattle.xc_text.specs.declared.script.Statement.TheVariants.{Load, Store, Open, Read, Overwrite, Abort}
 use Rattle.xc_text.specs.declared.line.Line.{Line}
 use Rattle.xc_text.specs.declared.line.Line.TheVariants as line
-use Rattle.xc_text.specs.declared.line.Place.TheVariants.{Prologue, Between, Block, Transaction}
-use Rattle.xc_text.specs.declared.reading.Reading.{Reading}
+use Rattle.xc_text.specs.declared.line.Section.TheVariants.{Between, Block, Transaction}
 use Rattle.xc_text.specs.declared.why.Why.{Why}
 use Rattle.xc_text.specs.declared.why.Why.TheVariants.{BadByte, UnknownLine, BadNumber, Twice, TooMany}
-use Rattle.xc_text.specs.Answers.{and_then, seen}
-use Rattle.xc_text.specs.Grammar.{said}
+use Rattle.xc_text.specs.Answers.{and_then}
+use Rattle.xc_text.specs.Grammar.{line_of}
 use Rattle.xc_text.specs.Lines.{is_line_byte}
-use Rattle.xc_text.specs.Places.{block_in, transaction_in}
+use Rattle.xc_text.specs.Said.{Said}
+use Rattle.xc_text.specs.Sections.{block_in, transaction_in}
 use Rattle.xc_text.specs.Tokens.{Lexeme, tokens_of}
-
--- before the first line: 16 words, all 0
-abbrev pub opening : Reading
-opening = record { place = Prologue; words = replicate 16 0; sized = false; valued = false; objects = []; files = map.empty; names = []; calls = 0; blocks = []; transactions = []; body = [] }
 
 -- a statement that is a call
 abbrev pub is_call : Statement → Bool
@@ -74,83 +70,85 @@ with_statement names (Overwrite handle items) = with_data (with_name names handl
 with_statement names Abort = names
 
 -- 1 to 4,096 words, by one line that stands before any word's value
-abbrev pub sized_by : Reading → ℕ → Result Reading Why
-sized_by r n =
+abbrev pub sized_by : Said → ℕ → Result Said Why
+sized_by s n =
     if nat_lt n 1 || nat_lt 4096 n then Err BadNumber
-    else if r.sized || r.valued then Err Twice
-    else Ok (record r { words = replicate n 0; sized = true })
+    else if s.sized || s.valued then Err Twice
+    else Ok (record s { words = replicate n 0; sized = true })
 
 -- the last line for a word counts
-abbrev pub valued_by : Reading → ℕ → ℕ → Result Reading Why
-valued_by r at value =
-    if nat_le (length r.words) at then Err BadNumber
-    else Ok (record r { words = slice_set r.words at value; valued = true })
+abbrev pub valued_by : Said → ℕ → ℕ → Result Said Why
+valued_by s at value =
+    if nat_le (length s.words) at then Err BadNumber
+    else Ok (record s { words = slice_set s.words at value; valued = true })
+
+-- an object is the file of that name
+abbrev pub is_file_of : List ℕ → Opened → Bool
+is_file_of name (File other bytes) = pointwise nat_eq name other
+is_file_of name _ = false
 
 -- at most 4,096 files, each of at most 65,536 bytes
-abbrev pub added : Reading → List ℕ → Option (List ℕ) → Result Reading Why
-added r name (Some bytes) =
-    if nat_le 4096 (length r.objects) then Err TooMany
-    else Ok (record r { objects = r.objects ++ File name bytes ∷ []; files = map.insert r.files name tt })
-added r name None = Err TooMany
+abbrev pub added : Said → List ℕ → Option (List ℕ) → Result Said Why
+added s name (Some bytes) =
+    if nat_le 4096 (length s.objects) then Err TooMany
+    else Ok (record s { objects = s.objects ++ File name bytes ∷ [] })
+added s name None = Err TooMany
 
 -- one file of a name
-abbrev pub filed : Reading → List ℕ → Option (List ℕ) → Result Reading Why
-filed r name bytes = if is_some (map.get r.files name) then Err Twice else added r name bytes
+abbrev pub filed : Said → List ℕ → Option (List ℕ) → Result Said Why
+filed s name bytes = if list_any (is_file_of name) s.objects then Err Twice else added s name bytes
 
 -- at most 1,000 transactions in a block
-abbrev pub begun : Reading → Option (List ℕ) → Result Reading Why
-begun r (Some name) = if nat_le 1000 (length r.transactions) then Err TooMany else Ok (record r { place = Transaction name })
-begun r None = Err UnknownLine
+abbrev pub begun : Said → Option (List ℕ) → Result Said Why
+begun s (Some name) =
+    if nat_le 1000 (length s.transactions) then Err TooMany
+    else Ok (record s { section = Transaction name })
+begun s None = Err UnknownLine
+
+-- with a statement more a transaction has at most 256 calls
+abbrev pub has_few_calls : List Statement → Statement → Bool
+has_few_calls body statement = nat_le (count_by is_call (body ++ statement ∷ [])) 256
 
 -- at most 256 variables in a script
-abbrev pub named : Reading → Statement → Result Reading Why
-named r s =
-    if nat_lt 256 (length (with_statement r.names s)) then Err TooMany
-    else Ok (record r { names = with_statement r.names s })
-
--- at most 256 calls in a transaction
-abbrev pub counted : Reading → Statement → Result Reading Why
-counted r s =
-    if is_call s then (if nat_le 256 r.calls then Err TooMany else Ok (record r { calls = r.calls + 1 }))
-    else Ok r
-
--- a statement behind the others
-abbrev pub stated : Reading → Statement → Result Reading Why
-stated r s =
-    seen (λ (next : Reading). record next { body = next.body ++ s ∷ [] })
-    (and_then (counted r s) (λ (next : Reading). named next s))
+abbrev pub stated : Said → Statement → Result Said Why
+stated s statement =
+    if has_few_calls s.body statement && nat_le (length (with_statement s.names statement)) 256 then
+    Ok (record s { names = with_statement s.names statement; body = s.body ++ statement ∷ [] })
+    else Err TooMany
 
 -- the transaction under way ends
-abbrev pub committed : Reading → Option (List ℕ) → Result Reading Why
-committed r (Some name) = Ok (record r { place = Block name; transactions = r.transactions ++ r.body ∷ []; body = []; calls = 0 })
-committed r None = Err UnknownLine
+abbrev pub committed : Said → Option (List ℕ) → Result Said Why
+committed s (Some name) = Ok (record s { section = Block name; transactions = s.transactions ++ s.body ∷ []; body = [] })
+committed s None = Err UnknownLine
 
 -- the block under way ends
-abbrev pub ended_block : Reading → Option (List ℕ) → Result Reading Why
-ended_block r (Some name) =
-    Ok (record r { place = Between; blocks = r.blocks ++ record { name = name; transactions = r.transactions } ∷ []; transactions = [] })
-ended_block r None = Err UnknownLine
+abbrev pub ended_block : Said → Option (List ℕ) → Result Said Why
+ended_block s (Some name) =
+    Ok (record s { section = Between; blocks = s.blocks ++ record { name = name; transactions = s.transactions } ∷ []; transactions = [] })
+ended_block s None = Err UnknownLine
 
 -- what a line adds, or the reason that is beyond its form
-abbrev pub after : Reading → Line → Result Reading Why
-after r (line.Words n) = sized_by r n
-after r (line.Word at value) = valued_by r at value
-after r (line.File name bytes) = filed r name bytes
-after r (line.Job name) = Ok (record r { place = Block name })
-after r line.Begin = begun r (block_in r.place)
-after r (line.Statement s) = stated r s
-after r line.Commit = committed r (transaction_in r.place)
-after r line.End = ended_block r (block_in r.place)
+abbrev pub after : Said → Line → Result Said Why
+after s (line.Words n) = sized_by s n
+after s (line.Word at value) = valued_by s at value
+after s (line.File name bytes) = filed s name bytes
+after s (line.Job name) = Ok (record s { section = Block name })
+after s line.Begin = begun s (block_in s.section)
+after s (line.Statement statement) = stated s statement
+after s line.Commit = committed s (transaction_in s.section)
+after s line.End = ended_block s (block_in s.section)
 
 -- a line that says nothing adds nothing
-abbrev pub after_any : Reading → Option Line → Result Reading Why
-after_any r (Some says) = after r says
-after_any r None = Ok r
+abbrev pub after_any : Said → Option Line → Result Said Why
+after_any s (Some says) = after s says
+after_any s None = Ok s
 
 -- what the tokens of a line add
-abbrev pub after_tokens : Reading → List Lexeme → Result Reading Why
-after_tokens r tokens = and_then (said r.place tokens) (λ (says : Option Line). after_any r says)
+abbrev pub after_tokens : Said → List Lexeme → Result Said Why
+after_tokens s tokens = and_then (line_of s.section tokens) (λ (says : Option Line). after_any s says)
 
 -- what the bytes of a line add: bytes are judged first, and then literals
-abbrev pub after_bytes : Reading → List ℕ → Result Reading Why
-after_bytes r bytes = if list_all is_line_byte bytes then and_then (tokens_of bytes) (λ (tokens : List Lexeme). after_tokens r tokens) else Err BadByte
+abbrev pub after_bytes : Said → List ℕ → Result Said Why
+after_bytes s bytes =
+    if list_all is_line_byte bytes then and_then (tokens_of bytes) (λ (tokens : List Lexeme). after_tokens s tokens)
+    else Err BadByte

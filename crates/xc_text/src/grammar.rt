@@ -1,11 +1,11 @@
 ghost use Rattle.std.specs.Prelude.{◌≡◌, ◌∷◌, [], map, Ok, Err};
 ghost use Rattle.xc_text.specs.Answers.{Gives, both as together};
-ghost use Rattle.xc_text.specs.Grammar.{words_line as words_said, word_line as word_said, file_line as file_said, job_line as job_said, bare as bare_said, load_line as load_said, store_line as store_said, open_line as open_said, read_line as read_said, overwrite_line as overwrite_said, prologue_line as prologue_said, block_line as block_said, statement_line as statement_said, transaction_line as transaction_said, worded_line as worded_said, first_line as first_word_said, said as line_said};
+ghost use Rattle.xc_text.specs.Grammar.{words_line as words_said, word_line as word_said, file_line as file_said, job_line as job_said, bare as bare_said, load_line as load_said, store_line as store_said, open_line as open_said, read_line as read_said, overwrite_line as overwrite_said, prologue_line as prologue_said, block_line as block_said, statement_line as statement_said, transaction_line as transaction_said, worded_line as worded_said, first_line as first_word_said, line_of as line_said};
 ghost use Rattle.xc_text.specs.Literals.{only_literals as literals_alone};
 ghost use Rattle.xc_text.specs.Terms.{term as term_of_token, ident as ident_of_token};
 ghost use Rattle.xc_text.specs.Tokens.{lexeme};
 
-use crate::line::{Line, Place};
+use crate::line::{Line, Section};
 use crate::literals::{are_literals, contents};
 use crate::pieces::{check_data, data};
 use crate::reason::{beside, both};
@@ -263,32 +263,32 @@ fn transaction_line(alloc: Global, word: &[u8], rest: &[Token]) -> Result<Line, 
     Ok(Line::Statement(statement_line(alloc, word, rest)?))
 }
 
-fn worded_line(alloc: Global, place: &Place, word: &[u8], rest: &[Token]) -> Result<Line, Stop>
-    ensures { Gives (λ line. line) result (worded_said place.now word.now (map lexeme rest.now)) }
+fn worded_line(alloc: Global, section: &Section, word: &[u8], rest: &[Token]) -> Result<Line, Stop>
+    ensures { Gives (λ line. line) result (worded_said section.now word.now (map lexeme rest.now)) }
 {
-    match place {
-        Place::Prologue => prologue_line(alloc, word, rest),
-        Place::Between => Err(Stop::Refused(Why::UnknownLine)),
-        Place::Block(_) => Ok(block_line(word, rest)?),
-        Place::Transaction(_) => transaction_line(alloc, word, rest),
+    match section {
+        Section::Prologue => prologue_line(alloc, word, rest),
+        Section::Between => Err(Stop::Refused(Why::UnknownLine)),
+        Section::Block(_) => Ok(block_line(word, rest)?),
+        Section::Transaction(_) => transaction_line(alloc, word, rest),
     }
 }
 
-fn first_said(alloc: Global, place: &Place, first: &Token, rest: &[Token]) -> Result<Line, Stop>
-    ensures { Gives (λ line. line) result (first_word_said place.now (lexeme first.now) (map lexeme rest.now)) }
+fn first_said(alloc: Global, section: &Section, first: &Token, rest: &[Token]) -> Result<Line, Stop>
+    ensures { Gives (λ line. line) result (first_word_said section.now (lexeme first.now) (map lexeme rest.now)) }
 {
     match first {
-        Token::Word(word) => worded_line(alloc, place, word, rest),
+        Token::Word(word) => worded_line(alloc, section, word, rest),
         Token::Literal { .. } => Err(Stop::Refused(Why::UnknownLine)),
     }
 }
 
-/// What the tokens of a line say in a place. A line without tokens says nothing.
-pub fn said(alloc: Global, place: &Place, tokens: &[Token]) -> Result<Option<Line>, Stop>
-    ensures { Gives (λ line. line) result (line_said place.now (map lexeme tokens.now)) }
+/// What the tokens of a line say, by the section that it stands in. A line without tokens says nothing.
+pub fn line_of(alloc: Global, section: &Section, tokens: &[Token]) -> Result<Option<Line>, Stop>
+    ensures { Gives (λ line. line) result (line_said section.now (map lexeme tokens.now)) }
 {
     match tokens {
         [] => Ok(None),
-        [first, rest @ ..] => Ok(Some(first_said(alloc, place, first, rest)?)),
+        [first, rest @ ..] => Ok(Some(first_said(alloc, section, first, rest)?)),
     }
 }

@@ -4,7 +4,11 @@
 //! bad line with its first reason.
 #![tactic(auto)]
 
+mod counted;
+mod draft;
+mod files;
 mod grammar;
+mod limits;
 mod line;
 mod lines;
 mod literals;
@@ -12,7 +16,6 @@ mod names;
 mod number;
 mod parser;
 mod pieces;
-mod reading;
 mod reason;
 mod script;
 mod term;

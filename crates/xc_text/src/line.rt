@@ -1,12 +1,12 @@
 ghost use Rattle.std.specs.Prelude.{◌≡◌};
-ghost use Rattle.xc_text.specs.Places.{block_in, is_outside, transaction_in};
+ghost use Rattle.xc_text.specs.Sections.{block_in, is_outside, transaction_in};
 
 use crate::script::Statement;
 use xc_data::{Chunk, Ident, Name};
 
 /// Where in a script a line stands.
 #[derive(Clone, Copy, Debug, PartialEq)]
-pub enum Place {
+pub enum Section {
     /// Before the first block.
     Prologue,
     /// Behind a block.
@@ -17,13 +17,13 @@ pub enum Place {
     Transaction(Ident),
 }
 
-impl Place {
+impl Section {
     /// The name of the block, outside of its transactions.
     pub fn block(&self) -> Option<Ident>
         ensures { result ≡ block_in self.now }
     {
         match self {
-            Place::Block(name) => Some(*name),
+            Section::Block(name) => Some(*name),
             _ => None,
         }
     }
@@ -32,7 +32,7 @@ impl Place {
     pub fn is_outside(&self) -> bool
         ensures { result ≡ is_outside self.now }
     {
-        matches!(self, Place::Prologue | Place::Between)
+        matches!(self, Section::Prologue | Section::Between)
     }
 
     /// The name of the block of the transaction.
@@ -40,7 +40,7 @@ impl Place {
         ensures { result ≡ transaction_in self.now }
     {
         match self {
-            Place::Transaction(name) => Some(*name),
+            Section::Transaction(name) => Some(*name),
             _ => None,
         }
     }

@@ -3,6 +3,7 @@ ghost use Rattle.std.specs.List.{list_all, repeat as repeat_of_list};
 ghost use Rattle.xc_text.specs.Literals.{is_literal as is_literal_token, given, joined as joined_literals, is_within as is_within_bound, contents as contents_said};
 ghost use Rattle.xc_text.specs.Tokens.{lexeme};
 
+use crate::limits::MOST_FILE_BYTES;
 use crate::token::Token;
 use std::alloc::Global;
 use xc_data::{Chunk, NoMemory};
@@ -101,7 +102,7 @@ fn joined(alloc: Global, tokens: &[Token]) -> Result<Chunk, NoMemory>
 pub fn contents(alloc: Global, tokens: &[Token]) -> Result<Option<Chunk>, NoMemory>
     ensures { IfOk result (λ bytes. bytes ≡ contents_said (map lexeme tokens.now)) }
 {
-    if !is_within(65_536, tokens) {
+    if !is_within(MOST_FILE_BYTES, tokens) {
         return Ok(None);
     }
     Ok(Some(joined(alloc, tokens)?))

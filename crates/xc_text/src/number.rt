@@ -2,6 +2,8 @@ ghost use Rattle.std.specs.Prelude.{◌≡◌, ◌≤◌, true, length};
 ghost use Rattle.std.specs.List.{list_all};
 ghost use Rattle.xc_text.specs.Numbers.{is_digit, value_from, number_of};
 
+use crate::limits::MOST_DIGITS;
+
 pub fn is_digit_byte(b: u8) -> bool
     ensures { result ≡ is_digit b }
 {
@@ -30,7 +32,7 @@ fn value(bytes: &[u8]) -> u128
 pub fn number(bytes: &[u8]) -> Option<u64>
     ensures { result ≡ number_of bytes.now }
 {
-    if bytes.is_empty() || bytes.len() > 20 {
+    if bytes.is_empty() || bytes.len() > MOST_DIGITS {
         return None;
     }
     if !are_digits(bytes) {

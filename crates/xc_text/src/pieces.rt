@@ -3,6 +3,7 @@ ghost use Rattle.xc_text.specs.Answers.{Gives, seen};
 ghost use Rattle.xc_text.specs.Pieces.{word_item as word_item_said, item_of, items_of, data_of};
 ghost use Rattle.xc_text.specs.Tokens.{lexeme};
 
+use crate::limits::{MOST_DATA_BYTES, MOST_ITEMS};
 use crate::literals::{is_within, repeated};
 use crate::reason::beside;
 use crate::script::{Data, Item};
@@ -67,11 +68,11 @@ fn items(alloc: Global, tokens: &[Token]) -> Result<Data, Stop>
 pub fn check_data(tokens: &[Token]) -> Result<(), Why>
     ensures { result ≡ seen (λ _. tt) (data_of (map lexeme tokens.now)) }
 {
-    if tokens.is_empty() || tokens.len() > 16 {
+    if tokens.is_empty() || tokens.len() > MOST_ITEMS {
         return Err(Why::BadForm);
     }
     check_items(tokens)?;
-    if !is_within(1024, tokens) {
+    if !is_within(MOST_DATA_BYTES, tokens) {
         return Err(Why::TooMany);
     }
     Ok(())

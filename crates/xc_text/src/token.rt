@@ -1,8 +1,11 @@
-ghost use Rattle.std.specs.Prelude.{◌≡◌, ◌≤◌, ◌<◌, ◌+◌, ◌∷◌, [], true, false, ℕ, List, take, drop, length, map, option_map, MatchOption, MatchResult, IfSome, IfOk, Ok, Err};
-ghost use Rattle.xc_text.specs.Answers.{Gives, Stops};
-ghost use Rattle.xc_text.specs.Tokens.{lexeme, is_blank, is_hex, is_escape, escaped, digit_value, hex_byte, repeat_of, cut, ended, then_others, tokens_of, Blanks, InWord, InLiteral, Closed, InRepeat, Word as AWord, Literal as ALiteral};
-ghost use Rattle.xc_text.specs.Cutting.{Cuts, closes, literal_on, with_any, is_at_token};
+ghost use Rattle.std.specs.Prelude.{◌≡◌, false, ◌≤◌, ◌<◌, ◌+◌, ◌==◌, ◌∷◌, length, map, option_map, ok_or, take, drop, IfSome, IfOk};
+ghost use Rattle.std.specs.List.{list_any};
+ghost use Rattle.xc_text.specs.declared.why.Why.TheVariants.{BadLiteral};
+ghost use Rattle.xc_text.specs.Answers.{Gives};
+ghost use Rattle.xc_text.specs.Quoted.{is_hex, is_escape, escaped, digit_value, hex_byte, literal_of, escape_of, hex_of, behind_piece};
+ghost use Rattle.xc_text.specs.Tokens.{lexeme, is_blank, past_blanks as behind_blanks, run_len as length_of_run, repeat_of, repeat_from, literal_from, word_from, token_at, tokens_of};
 
+use crate::limits::{MOST_LITERAL_BYTES, MOST_REPEAT};
 use crate::number::number;
 use crate::why::{Stop, Why};
 use std::alloc::Global;
@@ -13,18 +16,6 @@ pub enum Token<'a> {
     Word(&'a [u8]),
     /// The bytes between the quotes, and how often they stand there.
     Literal { bytes: Vec<u8>, repeat: u32 },
-}
-
-/// How much of an escape stands before a byte of a literal.
-#[derive(Clone, Copy, Debug, PartialEq)]
-pub enum Escape {
-    Nothing,
-    /// `\`
-    Backslash,
-    /// `\x`
-    Hex,
-    /// `\x` and this digit
-    Digit(u8),
 }
 
 fn is_blank_byte(b: u8) -> bool
@@ -70,8 +61,7 @@ fn byte_of_digits(first: u8, second: u8) -> u8
 }
 
 fn past_blanks(bytes: &[u8]) -> &[u8]
-    ensures same { cut Blanks result.now ≡ cut Blanks bytes.now }
-    ensures starts { is_at_token result.now ≡ true }
+    ensures behind { result.now ≡ behind_blanks bytes.now }
     ensures fewer { length result.now ≤ length bytes.now }
 {
     let mut rest = bytes;
@@ -84,96 +74,10 @@ fn past_blanks(bytes: &[u8]) -> &[u8]
     rest
 }
 
-// How long the word in front is, none where a quote stands in it.
-fn word_len(bytes: &[u8]) -> Option<usize>
-    requires { 0 < length bytes.now }
-    ensures bound { IfSome result (λ n. (0 < n) × (n ≤ length bytes.now)) }
-    ensures cut { MatchOption result (cut (InWord (take 1 bytes.now)) (drop 1 bytes.now) ≡ Err Why.BadLiteral)
-        (λ n. cut (InWord (take 1 bytes.now)) (drop 1 bytes.now) ≡ then_others (AWord (take n bytes.now)) (cut Blanks (drop n bytes.now))) }
-{
-    let mut n = 1;
-    while n < bytes.len() {
-        if is_blank_byte(bytes[n]) {
-            return Some(n);
-        }
-        if bytes[n] == b'"' {
-            return None;
-        }
-        n += 1;
-    }
-    Some(n)
-}
-
-fn closes_literal(escape: Escape, b: u8) -> bool
-    ensures { result ≡ closes escape b }
-{
-    match escape {
-        Escape::Nothing => b == b'"',
-        _ => false,
-    }
-}
-
-// What a byte within a literal goes on with, and the byte that the literal gains.
-fn literal_byte(escape: Escape, b: u8) -> Option<(Escape, Option<u8>)>
-    requires inside { closes escape b ≡ false }
-    ensures cut { (meant bs : List ℕ) → cut (InLiteral escape meant) (b ∷ bs) ≡ literal_on meant result bs }
-{
-    match escape {
-        Escape::Nothing if b == b'\\' => Some((Escape::Backslash, None)),
-        Escape::Nothing => Some((Escape::Nothing, Some(b))),
-        Escape::Backslash if is_escape_byte(b) => Some((Escape::Nothing, Some(escaped_byte(b)))),
-        Escape::Backslash if b == b'x' => Some((Escape::Hex, None)),
-        Escape::Hex if is_hex_byte(b) => Some((Escape::Digit(b), None)),
-        Escape::Digit(first) if is_hex_byte(b) => Some((
-            Escape::Nothing,
-            Some(byte_of_digits(first, b)),
-        )),
-        _ => None,
-    }
-}
-
-fn push_any(meant: &mut Vec<u8>, byte: Option<u8>) -> Result<(), Stop>
-    ensures { Gives (λ _. meant.new.items) result (Ok (with_any meant.old.items byte)) }
-{
-    match byte {
-        Some(byte) => Ok(meant.push(byte)?),
-        None => Ok(()),
-    }
-}
-
-// What the literal means whose opening quote stands before the bytes, and what stands behind its
-// closing quote.
-fn past_literal<'a>(alloc: Global, bytes: &'a [u8]) -> Result<(Vec<u8>, &'a [u8]), Stop>
-    ensures cut { MatchResult result (λ p. cut (InLiteral Escape.Nothing []) bytes.now ≡ cut (Closed p.0.items) p.1.now)
-        (λ why. Stops why (cut (InLiteral Escape.Nothing []) bytes.now)) }
-    ensures fewer { IfOk result (λ p. length p.1.now ≤ length bytes.now) }
-{
-    let mut meant = Vec::new(alloc);
-    let mut rest = bytes;
-    let mut escape = Escape::Nothing;
-    while let [b, behind @ ..] = rest {
-        if closes_literal(escape, *b) {
-            if meant.len() > 1024 {
-                return Err(Stop::Refused(Why::BadLiteral));
-            }
-            return Ok((meant, behind));
-        }
-        match literal_byte(escape, *b) {
-            Some((next, byte)) => {
-                push_any(&mut meant, byte)?;
-                escape = next;
-            }
-            None => return Err(Stop::Refused(Why::BadLiteral)),
-        }
-        rest = behind;
-    }
-    Err(Stop::Refused(Why::BadLiteral))
-}
-
 // How many bytes stand before the next blank.
 fn run_len(bytes: &[u8]) -> usize
+    ensures value { result ≡ length_of_run bytes.now }
     ensures bound { result ≤ length bytes.now }
-    ensures cut { (meant : List ℕ) → cut (InRepeat meant []) bytes.now ≡ ended (InRepeat meant (take result bytes.now)) (cut Blanks (drop result bytes.now)) }
 {
     let mut n = 0;
     while n < bytes.len() {
@@ -185,19 +89,84 @@ fn run_len(bytes: &[u8]) -> usize
     n
 }
 
+// The byte that two hexadecimal digits mean, and what stands behind them.
+fn hex_piece(bytes: &[u8]) -> Option<(u8, &[u8])>
+    ensures means { behind_piece (option_map (λ p. (p.0, p.1.now)) result) ≡ hex_of bytes.now }
+    ensures fewer { IfSome result (λ p. length p.1.now ≤ length bytes.now) }
+{
+    let [first, second, behind @ ..] = bytes else {
+        return None;
+    };
+    if !is_hex_byte(*first) || !is_hex_byte(*second) {
+        return None;
+    }
+    Some((byte_of_digits(*first, *second), behind))
+}
+
+// The byte that an escape means whose `\` stands before the bytes, and what stands behind it.
+fn escape_piece(bytes: &[u8]) -> Option<(u8, &[u8])>
+    ensures means { behind_piece (option_map (λ p. (p.0, p.1.now)) result) ≡ escape_of bytes.now }
+    ensures fewer { IfSome result (λ p. length p.1.now ≤ length bytes.now) }
+{
+    let [b, behind @ ..] = bytes else {
+        return None;
+    };
+    if is_escape_byte(*b) {
+        return Some((escaped_byte(*b), behind));
+    }
+    if *b == b'x' {
+        return hex_piece(behind);
+    }
+    None
+}
+
+// The byte that the first piece of a literal means, and what stands behind the piece.
+fn piece(first: u8, behind: &[u8]) -> Option<(u8, &[u8])>
+    requires inside { (first == 34) ≡ false }
+    ensures means { behind_piece (option_map (λ p. (p.0, p.1.now)) result) ≡ literal_of (first ∷ behind.now) }
+    ensures fewer { IfSome result (λ p. length p.1.now ≤ length behind.now) }
+{
+    if first == b'\\' {
+        return escape_piece(behind);
+    }
+    Some((first, behind))
+}
+
+// What the literal means whose opening quote stands before the bytes, and what stands behind its
+// closing quote.
+fn past_literal<'a>(alloc: Global, bytes: &'a [u8]) -> Result<(Vec<u8>, &'a [u8]), Stop>
+    ensures means { Gives (λ p. (p.0.items, p.1.now)) result (ok_or (literal_of bytes.now) BadLiteral) }
+    ensures fewer { IfOk result (λ p. length p.1.now ≤ length bytes.now) }
+{
+    let mut meant = Vec::new(alloc);
+    let mut rest = bytes;
+    while let [first, behind @ ..] = rest {
+        if *first == b'"' {
+            return Ok((meant, behind));
+        }
+        match piece(*first, behind) {
+            Some((byte, next)) => {
+                meant.push(byte)?;
+                rest = next;
+            }
+            None => return Err(Stop::Refused(Why::BadLiteral)),
+        }
+    }
+    Err(Stop::Refused(Why::BadLiteral))
+}
+
 fn repeat_count(bytes: &[u8]) -> Option<u32>
     ensures { result ≡ repeat_of bytes.now }
 {
     match number(bytes) {
-        Some(n) if n <= 65_536 => Some(n as u32),
+        Some(n) if n <= MOST_REPEAT => Some(n as u32),
         _ => None,
     }
 }
 
 // The repeat, and what stands behind it, where a literal was closed before the bytes.
 fn past_repeat(bytes: &[u8]) -> Option<(u32, &[u8])>
-    ensures cut { (meant : List ℕ) → MatchOption result (cut (Closed meant) bytes.now ≡ Err Why.BadLiteral)
-        (λ p. cut (Closed meant) bytes.now ≡ then_others (ALiteral meant p.0) (cut Blanks p.1.now)) }
+    ensures value { option_map (λ p. (p.0, p.1.now)) result ≡ repeat_from bytes.now }
     ensures fewer { IfSome result (λ p. length p.1.now ≤ length bytes.now) }
 {
     let [b, behind @ ..] = bytes else {
@@ -215,27 +184,42 @@ fn past_repeat(bytes: &[u8]) -> Option<(u32, &[u8])>
 }
 
 // A literal whose opening quote stands before the bytes, and what stands behind it.
-fn literal_token<'a>(alloc: Global, bytes: &'a [u8]) -> Result<(Token<'a>, &'a [u8]), Stop>
-    ensures cut { MatchResult result (λ p. cut (InLiteral Escape.Nothing []) bytes.now ≡ then_others (lexeme p.0) (cut Blanks p.1.now))
-        (λ why. Stops why (cut (InLiteral Escape.Nothing []) bytes.now)) }
+fn literal<'a>(alloc: Global, bytes: &'a [u8]) -> Result<(Token<'a>, &'a [u8]), Stop>
+    ensures value { Gives (λ p. (lexeme p.0, p.1.now)) result (literal_from bytes.now) }
     ensures fewer { IfOk result (λ p. length p.1.now ≤ length bytes.now) }
 {
-    let (meant, closed) = past_literal(alloc, bytes)?;
+    let (bytes, closed) = past_literal(alloc, bytes)?;
+    if bytes.len() > MOST_LITERAL_BYTES {
+        return Err(Stop::Refused(Why::BadLiteral));
+    }
     match past_repeat(closed) {
-        Some((repeat, rest)) => Ok((
-            Token::Literal {
-                bytes: meant,
-                repeat,
-            },
-            rest,
-        )),
+        Some((repeat, behind)) => Ok((Token::Literal { bytes, repeat }, behind)),
         None => Err(Stop::Refused(Why::BadLiteral)),
     }
 }
 
+fn has_quote(bytes: &[u8]) -> bool
+    ensures { result ≡ list_any (λ b. b == 34) bytes.now }
+{
+    bytes.iter().any(|b| *b == b'"')
+}
+
+// The word in front, and what stands behind it.
+fn word(bytes: &[u8]) -> Option<(Token, &[u8])>
+    requires some { 0 < length bytes.now }
+    ensures value { (first : _) (others : _) → bytes.now ≡ first ∷ others → option_map (λ p. (lexeme p.0, p.1.now)) result ≡ word_from first others }
+    ensures fewer { IfSome result (λ p. length p.1.now < length bytes.now) }
+{
+    let n = run_len(&bytes[1..]) + 1;
+    if has_quote(&bytes[1..n]) {
+        return None;
+    }
+    Some((Token::Word(&bytes[..n]), &bytes[n..]))
+}
+
 /// The first token, and what stands behind it; none where no token is left.
 pub fn next_token<'a>(alloc: Global, bytes: &'a [u8]) -> Result<Option<(Token<'a>, &'a [u8])>, Stop>
-    ensures cut { MatchResult result (λ next. Cuts bytes.now (option_map (λ p. (lexeme p.0, p.1.now)) next)) (λ why. Stops why (cut Blanks bytes.now)) }
+    ensures value { Gives (λ next. option_map (λ p. (lexeme p.0, p.1.now)) next) result (token_at (behind_blanks bytes.now)) }
     ensures fewer { IfOk result (λ next. IfSome next (λ p. length p.1.now < length bytes.now)) }
 {
     let start = past_blanks(bytes);
@@ -246,10 +230,10 @@ pub fn next_token<'a>(alloc: Global, bytes: &'a [u8]) -> Result<Option<(Token<'a
         return Ok(None);
     }
     if *first == b'"' {
-        return Ok(Some(literal_token(alloc, behind)?));
+        return Ok(Some(literal(alloc, behind)?));
     }
-    match word_len(start) {
-        Some(n) => Ok(Some((Token::Word(&start[..n]), &start[n..]))),
+    match word(start) {
+        Some(token) => Ok(Some(token)),
         None => Err(Stop::Refused(Why::BadLiteral)),
     }
 }

@@ -11,7 +11,7 @@ pub enum Why {
     BadByte,
     /// A literal that isn't one, or a quote within a word.
     BadLiteral,
-    /// The first token is no line of this place.
+    /// The first token is no line of this section.
     UnknownLine,
     /// Wrong number or kind of tokens.
     BadForm,

@@ -1,13 +1,13 @@
-use Rattle.std.proofs.Common.{◌≡◌, ◌≤◌, [], length}
-use Rattle.xc_text.specs.declared.token.Escape.TheVariants.{Nothing}
-use Rattle.xc_text.specs.Tokens.{cut, InLiteral}
+use Rattle.std.proofs.Common.{◌≡◌, ◌≤◌, length}
+use Rattle.xc_text.specs.Quoted.{literal_of}
+use Rattle.xc_text.proofs.Quotes.{behind_bytes}
 use Rattle.xc_text.proofs.token.past_literal.Given as goal
 
 -- what the literal means so far, and the rest
 abbrev pub invariant-loop-rest : goal.invariant-loop-rest
 invariant-loop-rest l =
     record {
-      same : cut (InLiteral l.escape l.meant.items) l.rest ≡ cut (InLiteral Nothing []) l.bytes;
+      same : behind_bytes l.meant.items (literal_of l.rest) ≡ literal_of l.bytes;
       fewer : length l.rest ≤ length l.bytes;
     }
 

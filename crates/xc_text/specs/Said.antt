@@ -1,0 +1,35 @@
+-- What the lines of a script have said so far.
+use Rattle.std.specs.Prelude.{ℕ, Bool, false, List, [], replicate}
+use Rattle.xc_data.specs.declared.script.Opened.{Opened}
+use Rattle.xc_text.specs.declared.script.Block.{Block}
+use Rattle.xc_text.specs.declared.script.Statement.{Statement}
+use Rattle.xc_text.specs.declared.line.Section.{Section}
+use Rattle.xc_text.specs.declared.line.Section.TheVariants.{Prologue}
+
+-- the section that the next line stands in; the words, and whether a `words` and a `word` line came; the objects of
+-- the prologue; the variables' names, each once; the blocks that have ended, of the one under way the transactions
+-- that have ended, and of the transaction under way the statements
+pub record Said : Type 0 where
+  pub section : Section
+  pub words : List ℕ
+  pub sized : Bool
+  pub valued : Bool
+  pub objects : List Opened
+  pub names : List (List ℕ)
+  pub blocks : List Block
+  pub transactions : List (List Statement)
+  pub body : List Statement
+
+-- before the first line: 16 words, all 0
+abbrev pub opening : Said
+opening = record {
+  section = Prologue;
+  words = replicate 16 0;
+  sized = false;
+  valued = false;
+  objects = [];
+  names = [];
+  blocks = [];
+  transactions = [];
+  body = [];
+}

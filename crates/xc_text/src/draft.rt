@@ -1,0 +1,254 @@
+ghost use Rattle.std.specs.Prelude.{◌≡◌, ◌≤◌, replicate, false, IfOk, Some};
+ghost use Rattle.std.specs.List.{list_any};
+ghost use Rattle.xc_text.specs.Answers.{Gives};
+ghost use Rattle.xc_text.specs.Said.{opening};
+ghost use Rattle.xc_text.specs.Scripts.{names_of, script_of};
+ghost use Rattle.xc_text.specs.Sections.{block_in, is_outside, transaction_in};
+ghost use Rattle.xc_text.specs.Steps.{is_file_of, sized_by, valued_by, filed, added, begun, stated, committed, ended_block, after, after_bytes};
+
+use crate::counted::Counted;
+use crate::files::Files;
+use crate::grammar::line_of;
+use crate::limits::{FIRST_WORDS, MOST_FILES, MOST_NAMES, MOST_TRANSACTIONS, MOST_WORDS};
+use crate::line::{Line, Section};
+use crate::lines::are_line_bytes;
+use crate::names::add_statement;
+use crate::script::{Block, Body, Script, Statement};
+use crate::token::tokens;
+use crate::why::{Stop, Why};
+use std::alloc::Global;
+use std::marker::Model;
+use std::mem;
+use xc_data::{Chunk, IdentList, Items, Name, NoMemory, Prologue, Script0, WordList};
+
+/// A script as far as its lines were read.
+#[derive(Drop)]
+pub struct Draft {
+    section: Section,
+    words: WordList,
+    /// A `words` line came.
+    sized: bool,
+    /// A `word` line came.
+    valued: bool,
+    files: Files,
+    /// The variables' names, each once.
+    names: IdentList,
+    /// The blocks that have ended.
+    blocks: Items<Block>,
+    /// The transactions of the block under way that have ended.
+    transactions: Items<Body>,
+    /// The transaction under way.
+    body: Counted,
+}
+
+impl Model for Draft {
+    ghost use Rattle.xc_text.specs.Said.{Said};
+
+    ghost Value = { Said };
+
+    ghost view = { λ a. record {
+      section = a.section;
+      words = a.words;
+      sized = a.sized;
+      valued = a.valued;
+      objects = a.files;
+      names = a.names;
+      blocks = a.blocks;
+      transactions = a.transactions;
+      body = a.body;
+    } };
+}
+
+fn zeros(alloc: Global, n: u64) -> Result<WordList, NoMemory>
+    requires { n ≤ 4096 }
+    ensures { IfOk result (λ words. words ≡ replicate n 0) }
+{
+    Ok(Items::from_vec(vec![in alloc; 0u64; n as usize]?))
+}
+
+fn job_names(alloc: Global, blocks: &[Block]) -> Result<IdentList, NoMemory>
+    ensures { IfOk result (λ names. names ≡ names_of blocks.now) }
+{
+    let mut names = Items::new(alloc);
+    for block in blocks {
+        names.push(block.name)?;
+    }
+    Ok(names)
+}
+
+impl Draft {
+    pub fn new(alloc: Global) -> Result<Draft, NoMemory>
+        ensures { IfOk result (λ draft. draft ≡ opening) }
+    {
+        Ok(Draft {
+            section: Section::Prologue,
+            words: zeros(alloc, FIRST_WORDS)?,
+            sized: false,
+            valued: false,
+            files: Files::new(alloc),
+            names: Items::new(alloc),
+            blocks: Items::new(alloc),
+            transactions: Items::new(alloc),
+            body: Counted::new(alloc),
+        })
+    }
+
+    /// A script may end here.
+    pub fn is_outside(&self) -> bool
+        ensures { result ≡ is_outside self.now.section }
+    {
+        self.section.is_outside()
+    }
+
+    /// The whole script.
+    pub fn into_script(self, alloc: Global) -> Result<Script, NoMemory>
+        ensures { IfOk result (λ script. script ≡ script_of self) }
+    {
+        let jobs = job_names(alloc, self.blocks.as_slice())?;
+        let prologue = Prologue {
+            objects: self.files.into_objects(),
+            faults: Items::new(alloc),
+            grain: None,
+        };
+        Ok(Script {
+            plain: Script0 {
+                words: self.words,
+                prologue,
+                bodies: Items::new(alloc),
+                jobs,
+            },
+            blocks: self.blocks,
+        })
+    }
+
+    fn size(&mut self, alloc: Global, n: u64) -> Result<(), Stop>
+        ensures { Gives (λ _. self.new) result (sized_by self.old n) }
+    {
+        if n < 1 || n > MOST_WORDS {
+            return Err(Stop::Refused(Why::BadNumber));
+        }
+        if self.sized || self.valued {
+            return Err(Stop::Refused(Why::Twice));
+        }
+        self.words = zeros(alloc, n)?;
+        self.sized = true;
+        Ok(())
+    }
+
+    fn value(&mut self, at: u64, value: u64) -> Result<(), Stop>
+        ensures { Gives (λ _. self.new) result (valued_by self.old at value) }
+    {
+        if at >= self.words.len() as u64 {
+            return Err(Stop::Refused(Why::BadNumber));
+        }
+        self.words.set(at as usize, value);
+        self.valued = true;
+        Ok(())
+    }
+
+    fn add_file(&mut self, name: Name, bytes: Chunk) -> Result<(), Stop>
+        requires new { list_any (is_file_of name) self.old.objects ≡ false }
+        ensures { Gives (λ _. self.new) result (added self.old name (Some bytes)) }
+    {
+        if self.files.len() >= MOST_FILES {
+            return Err(Stop::Refused(Why::TooMany));
+        }
+        self.files.push(name, bytes)?;
+        Ok(())
+    }
+
+    fn file(&mut self, name: Name, bytes: Option<Chunk>) -> Result<(), Stop>
+        ensures { Gives (λ _. self.new) result (filed self.old name bytes) }
+    {
+        if self.files.has(name) {
+            return Err(Stop::Refused(Why::Twice));
+        }
+        match bytes {
+            Some(bytes) => self.add_file(name, bytes),
+            None => Err(Stop::Refused(Why::TooMany)),
+        }
+    }
+
+    fn begin(&mut self) -> Result<(), Stop>
+        ensures { Gives (λ _. self.new) result (begun self.old (block_in self.old.section)) }
+    {
+        let Some(name) = self.section.block() else {
+            return Err(Stop::Refused(Why::UnknownLine));
+        };
+        if self.transactions.len() >= MOST_TRANSACTIONS {
+            return Err(Stop::Refused(Why::TooMany));
+        }
+        self.section = Section::Transaction(name);
+        Ok(())
+    }
+
+    fn state(&mut self, statement: Statement) -> Result<(), Stop>
+        ensures { Gives (λ _. self.new) result (stated self.old statement) }
+    {
+        if !self.body.has_room(&statement) {
+            return Err(Stop::Refused(Why::TooMany));
+        }
+        add_statement(&mut self.names, &statement)?;
+        if self.names.len() > MOST_NAMES {
+            return Err(Stop::Refused(Why::TooMany));
+        }
+        self.body.push(statement)?;
+        Ok(())
+    }
+
+    fn commit(&mut self, alloc: Global) -> Result<(), Stop>
+        ensures { Gives (λ _. self.new) result (committed self.old (transaction_in self.old.section)) }
+    {
+        let Some(name) = self.section.transaction() else {
+            return Err(Stop::Refused(Why::UnknownLine));
+        };
+        let body = mem::replace(&mut self.body, Counted::new(alloc));
+        self.transactions.push(body.into_body())?;
+        self.section = Section::Block(name);
+        Ok(())
+    }
+
+    fn end(&mut self, alloc: Global) -> Result<(), Stop>
+        ensures { Gives (λ _. self.new) result (ended_block self.old (block_in self.old.section)) }
+    {
+        let Some(name) = self.section.block() else {
+            return Err(Stop::Refused(Why::UnknownLine));
+        };
+        let transactions = mem::replace(&mut self.transactions, Items::new(alloc));
+        self.blocks.push(Block { name, transactions })?;
+        self.section = Section::Between;
+        Ok(())
+    }
+
+    fn add(&mut self, alloc: Global, line: Line) -> Result<(), Stop>
+        ensures { Gives (λ _. self.new) result (after self.old line) }
+    {
+        match line {
+            Line::Words(n) => self.size(alloc, n),
+            Line::Word { at, value } => self.value(at, value),
+            Line::File { name, bytes } => self.file(name, bytes),
+            Line::Job(name) => {
+                self.section = Section::Block(name);
+                Ok(())
+            }
+            Line::Begin => self.begin(),
+            Line::Statement(statement) => self.state(statement),
+            Line::Commit => self.commit(alloc),
+            Line::End => self.end(alloc),
+        }
+    }
+
+    /// Reads one more line, without its LF.
+    pub fn read(&mut self, alloc: Global, bytes: &[u8]) -> Result<(), Stop>
+        ensures { Gives (λ _. self.new) result (after_bytes self.old bytes.now) }
+    {
+        if !are_line_bytes(bytes) {
+            return Err(Stop::Refused(Why::BadByte));
+        }
+        let tokens = tokens(alloc, bytes)?;
+        match line_of(alloc, &self.section, tokens.as_slice())? {
+            Some(line) => self.add(alloc, line),
+            None => Ok(()),
+        }
+    }
+}

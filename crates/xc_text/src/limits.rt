@@ -1,0 +1,28 @@
+//! The numbers of the grammar that the code tests.
+
+/// A script's bytes.
+pub const MOST_SCRIPT_BYTES: usize = 1_048_576;
+/// Words that a line may ask for.
+pub const MOST_WORDS: u64 = 4096;
+/// Words where no line gives their number.
+pub const FIRST_WORDS: u64 = 16;
+/// Files of a prologue.
+pub const MOST_FILES: usize = 4096;
+/// The bytes of one of them.
+pub const MOST_FILE_BYTES: u32 = 65_536;
+/// A block's transactions.
+pub const MOST_TRANSACTIONS: usize = 1000;
+/// A transaction's calls.
+pub const MOST_CALLS: u32 = 256;
+/// A script's variables.
+pub const MOST_NAMES: usize = 256;
+/// The parts of the data of a write.
+pub const MOST_ITEMS: usize = 16;
+/// The bytes that the literals of a write give.
+pub const MOST_DATA_BYTES: u32 = 1024;
+/// What a literal means, before its repeat.
+pub const MOST_LITERAL_BYTES: usize = 1024;
+/// How often a literal may stand there.
+pub const MOST_REPEAT: u64 = 65_536;
+/// A number's digits, zeros in front too.
+pub const MOST_DIGITS: usize = 20;
