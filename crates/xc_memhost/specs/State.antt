@@ -1,5 +1,5 @@
 -- What a host in memory keeps.
-use Rattle.std.specs.Prelude.{ℕ, List, [], Option, replicate, refl}
+use Rattle.std.specs.Prelude.{ℕ, true, List, [], Option, replicate, refl}
 use Rattle.std.specs.declared.option.Option.TheVariants.{None}
 use Rattle.std.specs.Coded.{Coded, code_by, coded×, coded_ℕ, coded_list, coded_option}
 use Rattle.std.specs.FinMap as map
@@ -10,6 +10,7 @@ use Rattle.xc_data.specs.contracts.script.FaultLine as fault_line
 use Rattle.xc_maps.specs.Keys.{name_cmp, num_cmp, coded_name, coded_num}
 use Rattle.xc_world.specs.World.{Pipe, Pair, coded_pipe, coded_pair}
 use Rattle.xc_host.specs.Contents.{Contents, nothing, opened}
+use Rattle.xc_host.specs.Model.{HostModel}
 
 -- the contents, the lines that say which calls fail, the most bytes of one call, how many calls there
 -- were of each kind and of all, and how many of them failed
@@ -32,6 +33,10 @@ empty_state = record { contents = nothing; lines = []; grain = None; calls = no_
 -- opened with a prologue, after so many faults
 abbrev pub opened_state : Prologue → ℕ → HostState
 opened_state prologue n = record { contents = opened prologue.objects; lines = prologue.faults; grain = prologue.grain; calls = no_calls; all = 0; fault_count = n }
+
+-- what contracts see of it
+abbrev pub mem_host_model : HostModel HostState
+mem_host_model = record { tells = true; takes_scripts = true; contents = λ s. s.contents; fault_count = λ s. s.fault_count }
 
 -- ---- how a proof stores a state
 abbrev pub coded_contents : Coded Contents

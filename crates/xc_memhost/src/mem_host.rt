@@ -5,7 +5,7 @@ ghost use Rattle.xc_data.specs.Limits.{IsPrologue};
 ghost use Rattle.xc_host.specs.Cause.{is_fault};
 ghost use Rattle.xc_host.specs.Contents.{file_in, has_file, wrote, opened, needs_scripted};
 ghost use Rattle.xc_host.specs.Fronts.{IsFront};
-ghost use Rattle.xc_memhost.specs.State.{empty_state, opened_state};
+ghost use Rattle.xc_memhost.specs.State.{empty_state, opened_state, mem_host_model};
 ghost use Rattle.xc_memhost.specs.Faults.{is_listed, begun};
 ghost use Rattle.xc_memhost.specs.Machine.{front_of, written_of, written};
 
@@ -100,33 +100,18 @@ impl MemHost {
 }
 
 impl Host for MemHost {
-    ghost tells = { true };
-
-    ghost takes_scripts = { true };
-
-    ghost contents = { λ s. s.contents };
-
-    ghost fault_count = { λ s. s.fault_count };
+    ghost model = { mem_host_model };
 
     fn faults(&self) -> u64 {
         self.faults
     }
 
-    fn scripted(&self) -> bool {
-        true
-    }
-
     fn open_with(&mut self, prologue: &Prologue) -> Result<(), OpenErr>
         requires { IsPrologue prologue.now }
-        ensures ok { IsTrue true → OnOk result (self.new.contents ≡ opened prologue.now.objects) }
-        ensures err { IsTrue true → OnErr result (self.new.contents ≡ self.old.contents) }
-        ensures taken { OnOk result (not true && needs_scripted prologue.now ≡ false) }
-        ensures refused { IsErrOf result OpenErr.NotScripted → not true && needs_scripted prologue.now ≡ true }
-        ensures count { self.new.fault_count ≡ self.old.fault_count }
-
-        // All counts of calls begin anew. Want of memory changes nothing.
+        // All counts of calls begin anew.
         ensures state { OnOk result (self.new ≡ opened_state prologue.now self.old.fault_count) }
         ensures unchanged { OnErr result (self.new ≡ self.old) }
+        ensures refused { IsErrOf result OpenErr.NotScripted → ⊥ }
     {
         let objects = Objects::of(self.alloc, prologue.objects.as_slice())?;
         let lines = lines_of(self.alloc, prologue.faults.as_slice())?;
