@@ -64,7 +64,6 @@ fn ask(host: &mut MemHost, call: &HostCall) -> Result<HostAnswer, NoMemory>
 
 /// Makes the calls one after another. Their answers and the state afterwards are the plain machine's.
 /// Want of memory leaves the state behind a front of them.
-#[tactic(auto, using(crate::proofs::Calling::after_more))]
 pub fn run_calls(
     alloc: Global,
     host: &mut MemHost,
