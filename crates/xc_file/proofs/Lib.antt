@@ -1,2 +1,1 @@
 pub mod ReadFronts
-pub mod WriteFronts

@@ -3,6 +3,7 @@
 //! Where the host tells, each reply is the plain machine's.
 #![tactic(auto)]
 
+mod checks;
 mod opening;
 mod overwriting;
 mod reading;
