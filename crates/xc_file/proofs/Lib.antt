@@ -1,1 +1,2 @@
 pub mod ReadFronts
+pub mod FileCalls
