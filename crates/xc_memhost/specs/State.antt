@@ -32,7 +32,8 @@ empty_state = record { contents = nothing; lines = []; grain = None; calls = no_
 
 -- opened with a prologue, after so many faults
 abbrev pub opened_state : Prologue → ℕ → HostState
-opened_state prologue n = record { contents = opened prologue.objects; lines = prologue.faults; grain = prologue.grain; calls = no_calls; all = 0; fault_count = n }
+opened_state prologue n = record
+    { contents = opened prologue.objects; lines = prologue.faults; grain = prologue.grain; calls = no_calls; all = 0; fault_count = n }
 
 -- what contracts see of it
 abbrev pub mem_host_model : HostModel HostState
@@ -43,7 +44,8 @@ abbrev pub coded_contents : Coded Contents
 coded_contents =
     code_by
     (map.FinMap name_cmp Num × (map.FinMap num_cmp (List ℕ) × (map.FinMap num_cmp Pipe × map.FinMap num_cmp Pair)))
-    (coded× (map.code coded_name coded_num) (coded× (map.code coded_num coded_name) (coded× (map.code coded_num coded_pipe) (map.code coded_num coded_pair))))
+    (coded× (map.code coded_name coded_num)
+        (coded× (map.code coded_num coded_name) (coded× (map.code coded_num coded_pipe) (map.code coded_num coded_pair))))
     (λ c. (c.names, (c.files, (c.pipes, c.pairs))))
     (λ p. record { names = p.0; files = p.1.0; pipes = p.1.1.0; pairs = p.1.1.1 })
     (λ _. refl)

@@ -11,6 +11,12 @@ use xc_host::{Host, HostErr};
 // The file of the prologue.
 const FILE: Num = Num { tx: 0, k: 0 };
 
+// The most bytes of a file, and of one call.
+const MAX_FILE: usize = 65536;
+
+// The most bytes of a pipe.
+const MAX_PIPE: usize = 4096;
+
 // Calls with their answers, of a host with the file `a` of bytes `abcdef`.
 #[derive(Drop)]
 struct Row {
@@ -26,8 +32,8 @@ fn is_fit(opened: &Opened) -> bool
     ensures { IsTrue result → IsOpenedFit opened.now }
 {
     match opened {
-        Opened::File { bytes, .. } => bytes.len() <= 65536,
-        Opened::Pipe { bytes } => bytes.len() <= 4096,
+        Opened::File { bytes, .. } => bytes.len() <= MAX_FILE,
+        Opened::Pipe { bytes } => bytes.len() <= MAX_PIPE,
         Opened::Pair => true,
     }
 }
@@ -47,7 +53,7 @@ fn is_grain(grain: Option<u32>) -> bool
     ensures { IsTrue result → IsGrain grain }
 {
     match grain {
-        Some(grain) => 1 <= grain && grain <= 65536,
+        Some(grain) => 1 <= grain && grain as usize <= MAX_FILE,
         None => true,
     }
 }
