@@ -1,5 +1,6 @@
 -- The newest record, covering fewer bytes.
-use Rattle.std.proofs.Common.{◌≡◌, ℕ, ◌≤◌, ◌==◌, Some, List, [], ◌∷◌, ◌++◌, length, ap, sym, refl, ◌∙◌, ◌≢◌, subst, arith, length-append, append-nil, eq-eqb, ne_eqb, if◌then◌else◌}
+use Rattle.std.proofs.Common.{◌≡◌, ℕ, ◌≤◌, ◌==◌, Some, List, [], ◌∷◌, ◌++◌, length, ap}
+use Rattle.std.proofs.Common.{sym, refl, ◌∙◌, ◌≢◌, subst, arith, length-append, append-nil, eq-eqb, ne_eqb, if◌then◌else◌}
 use Rattle.std.proofs.lemmas.List.{same_from_push}
 use Rattle.std.proofs.lemmas.List.Elements.{All-pop, All-push}
 use Rattle.std.specs.List.{All}
@@ -12,7 +13,8 @@ abbrev of : List Undo → List Ending → Records
 of pending ended = record { pending = pending; ended = ended }
 
 -- the newest record is the one of every split, and covers n bytes, or goes
-pub trims : (old : Records) (was now older : List Undo) (ended : List Ending) (u : Undo) (n : ℕ) → of was ended ≡ old → was ≡ older ++ u ∷ [] → now ≡ older ++ cut_to n u
+pub trims : (old : Records) (was now older : List Undo) (ended : List Ending) (u : Undo) (n : ℕ) → of was ended ≡ old → was ≡ older ++ u ∷ []
+    → now ≡ older ++ cut_to n u
     → (others : List Undo) (v : Undo) → old.pending ≡ others ++ v ∷ [] → of now ended ≡ of (others ++ cut_to n v) old.ended
 trims old was now older ended u n view split e others v other =
     let same = same_from_push older others u v (sym split ∙ (ap (λ r. r.pending) view ∙ other)) in
@@ -43,7 +45,8 @@ pub keeps : (was now older : List Undo) (ended : List Ending) (spare : ℕ) (u :
     → IsStack was ended spare → 1 ≤ n → n ≤ covers u → IsStack now ended spare
 keeps was now older ended spare u n split e stack some within =
     let parts = All-pop IsRecord was older (Some u) split stack.kinds in
-    let size : length now ≡ length was = ap length e ∙ (length-append older (covered u n ∷ []) ∙ (sym (length-append older (u ∷ [])) ∙ sym (ap length split))) in
+    let size : length now ≡ length was = ap length e
+    ∙ (length-append older (covered u n ∷ []) ∙ (sym (length-append older (u ∷ [])) ∙ sym (ap length split))) in
     record {
       kinds = subst (All IsRecord) (sym e) (All-push IsRecord older (covered u n) parts.0 (record_covered u n parts.1 some within));
       room = subst (λ l. l ≤ spare) (sym size) stack.room;

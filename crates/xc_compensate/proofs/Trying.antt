@@ -29,7 +29,8 @@ covered_now c old pending rest ended u count newer view split size there covered
     ∙ free)
 
 -- the tried record, in the words of the stack before
-pub tried_now : {H : Type 0} (model : HostModel H) (tries : ℕ) (old : Records) (pending rest : List Undo) (ended field : List Ending) (host next : H) (u : Undo) (end : UndoEnd) (turn : UndoTurn) (count : ℕ) (newer : List Ending)
+pub tried_now : {H : Type 0} (model : HostModel H) (tries : ℕ) (old : Records) (pending rest : List Undo) (ended field : List Ending) (host next : H)
+    (u : Undo) (end : UndoEnd) (turn : UndoTurn) (count : ℕ) (newer : List Ending)
     → shown pending ended ≡ old → pending ≡ rest ++ u ∷ [] → field ≡ ended ++ (u, end) ∷ [] → count ≡ length rest → newer ≡ ended
     → IsLegalEnd tries u end (blocker (count + 1 + 1) u (reverse newer)) → CountsFaults (end_faults end) (model.fault_count host) (model.fault_count next)
     → (IsTrue model.tells → model.contents next ≡ contents_of (undone_to (world_of (model.contents host)) u end))
@@ -37,8 +38,7 @@ pub tried_now : {H : Type 0} (model : HostModel H) (tries : ℕ) (old : Records)
     → (t : IsTried model tries (record { host = host; undo = old }) (record { host = next; undo = shown rest field })) × (turn ≡ turn_of t.end)
 tried_now model tries old pending rest ended field host next u end turn count newer view split grown size there legal faults effect answer =
     let sized = subst (λ n. IsLegalEnd tries u end (blocker (n + 1 + 1) u (reverse newer))) size legal in
-    let at_end : reverse field ≡ (u, end) ∷ reverse ended = ap reverse grown ∙ reverse-append ended ((u, end) ∷ []) in
-    (
+    let at_end : reverse field ≡ (u, end) ∷ reverse ended = ap reverse grown ∙ reverse-append ended ((u, end) ∷ []) in (
       record {
         older = rest;
         tried = u;
@@ -46,7 +46,7 @@ tried_now model tries old pending rest ended field host next u end turn count ne
         was = ap (λ r. r.pending) (sym view) ∙ split;
         stack = ap (λ (e : List Ending). let r : Records = record { pending = rest; ended = e } in r) (at_end ∙ ap (λ r. (u, end) ∷ r.ended) view);
         legal = subst (λ r. IsLegalEnd tries u end (blocker (length rest + 1 + 1) u r.ended)) view
-        (subst (λ rs. IsLegalEnd tries u end (blocker (length rest + 1 + 1) u (reverse rs))) there sized);
+            (subst (λ rs. IsLegalEnd tries u end (blocker (length rest + 1 + 1) u (reverse rs))) there sized);
         faults = faults;
         effect = effect;
       },

@@ -63,7 +63,8 @@ way_of older u undo = blocker (number_behind older + 1) u undo.ended
 
 -- the bytes of the newest record without an end are in its file, if nothing stands in its way
 abbrev pub NextIsCovered : Contents → Records → Type 0
-NextIsCovered c undo = (older : List Undo) (u : Undo) → undo.pending ≡ older ++ u ∷ [] → way_of older u undo ≡ None → IsCovered (world_of c) u
+NextIsCovered c undo = (older : List Undo) (u : Undo) → undo.pending ≡ older ++ u ∷ [] → way_of older u undo ≡ None
+    → IsCovered (world_of c) u
 
 -- the newest record without an end was tried
 pub record IsTried {H : Type 0} (model : HostModel H) (tries : ℕ) (old new : AtHost H) : Type 0 where

@@ -97,7 +97,8 @@ impl Stack {
     pub fn trim(&mut self, n: u32)
         requires some { self.old.pending ≢ [] }
         requires within { (older : List Undo) (u : Undo) → self.old.pending ≡ older ++ u ∷ [] → n ≤ covers u }
-        ensures { (older : List Undo) (u : Undo) → self.old.pending ≡ older ++ u ∷ [] → self.new ≡ record self.old { pending = older ++ cut_to n u } }
+        ensures { (older : List Undo) (u : Undo) → self.old.pending ≡ older ++ u ∷ []
+            → self.new ≡ record self.old { pending = older ++ cut_to n u } }
     {
         let Some(mut undo) = self.pending.pop() else {
             return;
@@ -117,7 +118,9 @@ impl Stack {
         requires tries { 1 ≤ tries }
         requires covered { IsTrue H.model.tells → NextIsCovered (H.model.contents host.old) self.old }
         ensures ended { self.old.pending ≡ [] → (result ≡ Ended) × (self.new ≡ self.old) × (host.new ≡ host.old) }
-        ensures tried { self.old.pending ≢ [] → (t : IsTried H.model tries (record { host = host.old; undo = self.old }) (record { host = host.new; undo = self.new })) × (result ≡ turn_of t.end) }
+        ensures tried { self.old.pending ≢ []
+            → (t : IsTried H.model tries (record { host = host.old; undo = self.old }) (record { host = host.new; undo = self.new }))
+            × (result ≡ turn_of t.end) }
     {
         let Some(undo) = self.pending.pop() else {
             return UndoTurn::Ended;

@@ -174,7 +174,8 @@ pub(crate) fn try_one<H: Host>(
     requires few { number + length newest_first.now < 2 ^ 32 }
     requires tries { 1 ≤ tries }
     requires record { IsRecord undo.now }
-    requires covered { IsTrue H.model.tells → blocker (number + 1) undo.now (reverse newest_first.now) ≡ None → IsCovered (world_of (H.model.contents host.old)) undo.now }
+    requires covered { IsTrue H.model.tells → blocker (number + 1) undo.now (reverse newest_first.now) ≡ None
+        → IsCovered (world_of (H.model.contents host.old)) undo.now }
     ensures legal { IsLegalEnd tries undo.now result (blocker (number + 1) undo.now (reverse newest_first.now)) }
     ensures faults { CountsFaults (end_faults result) (H.model.fault_count host.old) (H.model.fault_count host.new) }
     ensures effect { IsTrue H.model.tells

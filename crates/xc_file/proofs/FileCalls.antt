@@ -1,5 +1,6 @@
 -- Calls on files, as their contract has them.
-use Rattle.std.proofs.Common.{◌≡◌, ℕ, ◌||◌, Bool, true, false, IsTrue, Option, Some, None, Ok, Err, List, [], ◌++◌, length, refl, ap, sym, ◌∙◌, subst, append-nil, arith, if◌then◌else◌}
+use Rattle.std.proofs.Common.{◌≡◌, ℕ, ◌||◌, Bool, true, false, IsTrue, Option, Some, None, Ok, Err}
+use Rattle.std.proofs.Common.{List, [], ◌++◌, length, refl, ap, sym, ◌∙◌, subst, append-nil, arith, if◌then◌else◌}
 use Rattle.std.proofs.lemmas.List.{append_cancel_left}
 use Rattle.std.specs.Prelude.{MatchOption, IfOk, OnOk, OnErr, Result, unwrap_or}
 use Rattle.xc_data.specs.Counts.{CountsFault}
@@ -48,7 +49,8 @@ stays_so false false true w me other r e = ap (λ o. stays w me (unwrap_or o r))
 stays_so false false false w me other r e = absurd (none_some r e)
 
 -- a refused call leaves the plain machine as it was, with this reply
-pub refused_acts : (w : World) (me : Private) (tx : ℕ) (call : Call) (answer : Answer) (r : Reply) → refusal_of call me ≡ Some r → act w me tx call answer ≡ stays w me r
+pub refused_acts : (w : World) (me : Private) (tx : ℕ) (call : Call) (answer : Answer) (r : Reply) → refusal_of call me ≡ Some r
+    → act w me tx call answer ≡ stays w me r
 refused_acts w me tx call answer r e =
     stays_so (is_bad_handle call me) (is_too_big call) (is_too_much call me) w me
     (if is_bad_word call (length w.words) then stays w me reply.BadWord else counted call (done w me tx call answer)) r e
@@ -87,12 +89,15 @@ grown_by_none : (undo : Records) → undo ≡ record undo { pending = undo.pendi
 grown_by_none undo = ap (λ (p : List Undo). let u : Records = record undo { pending = p } in u) (sym (append-nil undo.pending))
 
 -- what a check says of a call that is passed
-passed : {H : Type 0} (call : Call) (old new : CallState H) (result : Result Reply NoMemory) → refusal_of call old.me ≡ None → IfOk result (λ r. is_check_reply call r ≡ false)
+passed : {H : Type 0} (call : Call) (old new : CallState H) (result : Result Reply NoMemory) → refusal_of call old.me ≡ None
+    → IfOk result (λ r. is_check_reply call r ≡ false)
     → MatchOption (refusal_of call old.me) (IfOk result (λ r. is_check_reply call r ≡ false)) (λ r. (result ≡ Ok r) × (new ≡ old))
-passed call old new result e reply = subst (λ o. MatchOption o (IfOk result (λ r. is_check_reply call r ≡ false)) (λ r. (result ≡ Ok r) × (new ≡ old))) (sym e) reply
+passed call old new result e reply = subst (λ o. MatchOption o (IfOk result (λ r. is_check_reply call r ≡ false)) (λ r. (result ≡ Ok r) × (new ≡ old)))
+    (sym e) reply
 
 -- a call that a check refuses, and that leaves no record then
-pub refused_call : {H : Type 0} (model : HostModel H) (call : Call) (s : CallState H) (r : Reply) → refusal_of call s.me ≡ Some r → AreRecorded (model.contents s.host) s.me call [] r
+pub refused_call : {H : Type 0} (model : HostModel H) (call : Call) (s : CallState H) (r : Reply) → refusal_of call s.me ≡ Some r
+    → AreRecorded (model.contents s.host) s.me call [] r
     → IsFileCall model call s s (Ok r)
 refused_call model call s r e none =
     let plain = plain_first (is_bad_handle call s.me) (is_too_big call) (is_too_much call s.me) r e in
@@ -112,10 +117,12 @@ refused_call model call s r e none =
     }
 
 -- a refused overwrite leaves no record
-pub refused_overwrite : (c : Contents) (me : Private) (h : ℕ) (bytes : List ℕ) (r : Reply) → refusal_of (call.XWriteOvr h bytes) me ≡ Some r → AreRecorded c me (call.XWriteOvr h bytes) [] r
+pub refused_overwrite : (c : Contents) (me : Private) (h : ℕ) (bytes : List ℕ) (r : Reply) → refusal_of (call.XWriteOvr h bytes) me ≡ Some r
+    → AreRecorded c me (call.XWriteOvr h bytes) [] r
 refused_overwrite c me h bytes r e =
     let plain = plain_first (is_bad_handle (call.XWriteOvr h bytes) me) (is_too_big (call.XWriteOvr h bytes)) (is_too_much (call.XWriteOvr h bytes) me) r e in
-    λ w tx. sym (ap (λ n. overwrite_record (with_contents w c) bytes n (place_of me.places h)) (plain.done (length bytes)) ∙ nothing_done (with_contents w c) bytes (place_of me.places h))
+    λ w tx. sym (ap (λ n. overwrite_record (with_contents w c) bytes n (place_of me.places h)) (plain.done (length bytes))
+    ∙ nothing_done (with_contents w c) bytes (place_of me.places h))
 
 -- a read that the checks let pass
 pub read_call : {H : Type 0} (model : HostModel H) (h k n : ℕ) (host next : H) (me after : Private) (undo : Records) (result : Result Reply NoMemory)
@@ -127,7 +134,7 @@ pub read_call : {H : Type 0} (model : HostModel H) (h k n : ℕ) (host next : H)
 read_call model h k n host next me after undo (Ok r) same free reply acts still err cause =
     record {
       checked = passed (call.XRead h n) (record { host = host; me = me; undo = undo }) (record { host = next; me = after; undo = undo }) (Ok r) free
-      (subst (λ i. is_check_reply (call.XRead i n) r ≡ false) same reply);
+          (subst (λ i. is_check_reply (call.XRead i n) r ≡ false) same reply);
       made = [];
       one = omega arith;
       undo = grown_by_none undo;
@@ -149,36 +156,46 @@ read_call model h k n host next me after undo (Err e) same free reply acts still
     }
 
 -- the record of an overwrite, as the plain machine has it
-same_record : (c : Contents) (me : Private) (h : ℕ) (bytes : List ℕ) (r : Reply) (num : Num) (at : ℕ) (old new : Records) (made : List Undo) → place_of me.places h ≡ place.File num at
-    → new ≡ record old { pending = old.pending ++ made } → new ≡ record { pending = old.pending ++ overwrite_record (world_of c) bytes (done_of (length bytes) r) (place.File num at); ended = [] }
+same_record : (c : Contents) (me : Private) (h : ℕ) (bytes : List ℕ) (r : Reply) (num : Num) (at : ℕ) (old new : Records) (made : List Undo)
+    → place_of me.places h ≡ place.File num at
+    → new ≡ record old { pending = old.pending ++ made }
+    → new ≡ record { pending = old.pending ++ overwrite_record (world_of c) bytes (done_of (length bytes) r) (place.File num at); ended = [] }
     → AreRecorded c me (call.XWriteOvr h bytes) made r
 same_record c me h bytes r num at old new made there grown is =
-    let same = append_cancel_left old.pending made (overwrite_record (world_of c) bytes (done_of (length bytes) r) (place.File num at)) (ap (λ u. u.pending) (sym grown ∙ is)) in
+    let same = append_cancel_left old.pending made (overwrite_record (world_of c) bytes (done_of (length bytes) r) (place.File num at))
+    (ap (λ u. u.pending) (sym grown ∙ is)) in
     λ w tx. same ∙ ap (overwrite_record (with_contents w c) bytes (done_of (length bytes) r)) (sym there)
 
 -- an overwrite that the checks let pass
-pub overwrite_call : {H : Type 0} (model : HostModel H) (h k : ℕ) (bytes : List ℕ) (num : Num) (at : ℕ) (host next : H) (me after : Private) (undo more : Records) (result : Result Reply NoMemory)
-    → k ≡ h → refusal_of (call.XWriteOvr h bytes) me ≡ None → place_of me.places k ≡ place.File num at → IfOk result (λ r. is_check_reply (call.XWriteOvr k bytes) r ≡ false)
+pub overwrite_call : {H : Type 0} (model : HostModel H) (h k : ℕ) (bytes : List ℕ) (num : Num) (at : ℕ) (host next : H) (me after : Private)
+    (undo more : Records) (result : Result Reply NoMemory)
+    → k ≡ h → refusal_of (call.XWriteOvr h bytes) me ≡ None → place_of me.places k ≡ place.File num at
+    → IfOk result (λ r. is_check_reply (call.XWriteOvr k bytes) r ≡ false)
     → (IsTrue model.tells → IfOk result (Acts (call.XWriteOvr k bytes) (model.contents host) (model.contents next) me after))
-    → (IsTrue model.tells → IfOk result (λ r. more ≡ record { pending = undo.pending ++ overwrite_record (world_of (model.contents host)) bytes (done_of (length bytes) r) (place.File num at); ended = [] }))
-    → OnOk result (AddsOne undo more) → OnErr result ((after ≡ me) × (more ≡ undo)) → (IsTrue model.tells → OnErr result (model.contents next ≡ model.contents host))
+    → (IsTrue model.tells
+    → IfOk result (λ r. more ≡ record
+    { pending = undo.pending ++ overwrite_record (world_of (model.contents host)) bytes (done_of (length bytes) r) (place.File num at); ended = [] }))
+    → OnOk result (AddsOne undo more) → OnErr result ((after ≡ me) × (more ≡ undo))
+    → (IsTrue model.tells → OnErr result (model.contents next ≡ model.contents host))
     → CountsFault (replies_fault result) (model.fault_count host) (model.fault_count next)
     → IsFileCall model (call.XWriteOvr h bytes) (record { host = host; me = me; undo = undo }) (record { host = next; me = after; undo = more }) result
 overwrite_call model h k bytes num at host next me after undo more (Ok r) same free there reply acts records adds err still cause =
     record {
       checked = passed (call.XWriteOvr h bytes) (record { host = host; me = me; undo = undo }) (record { host = next; me = after; undo = more }) (Ok r) free
-      (subst (λ i. is_check_reply (call.XWriteOvr i bytes) r ≡ false) same reply);
+          (subst (λ i. is_check_reply (call.XWriteOvr i bytes) r ≡ false) same reply);
       made = adds.made;
       one = adds.one;
       undo = adds.undo;
       acts = λ t. subst (λ i. Acts (call.XWriteOvr i bytes) (model.contents host) (model.contents next) me after r) same (acts t);
-      records = λ t. same_record (model.contents host) me h bytes r num at undo more adds.made (subst (λ i. place_of me.places i ≡ place.File num at) same there) adds.undo (records t);
+      records = λ t. same_record (model.contents host) me h bytes r num at undo more adds.made
+          (subst (λ i. place_of me.places i ≡ place.File num at) same there) adds.undo (records t);
       cause = cause;
       memory = tt;
     }
 overwrite_call model h k bytes num at host next me after undo more (Err e) same free there reply acts records adds err still cause =
     record {
-      checked = passed (call.XWriteOvr h bytes) (record { host = host; me = me; undo = undo }) (record { host = next; me = after; undo = more }) (Err e) free tt;
+      checked = passed (call.XWriteOvr h bytes) (record { host = host; me = me; undo = undo }) (record { host = next; me = after; undo = more })
+          (Err e) free tt;
       made = [];
       one = omega arith;
       undo = err.1 ∙ grown_by_none undo;

@@ -1,5 +1,6 @@
 -- What a call on files does: to a host, to the private state of a transaction at it, and to its records.
-use Rattle.std.specs.Prelude.{◌≡◌, ℕ, ◌≤◌, ◌++◌, Bool, true, false, List, [], length, IsTrue, Option, MatchOption, Result, Ok, Err, IfOk, OnErr, if◌then◌else◌}
+use Rattle.std.specs.Prelude.{◌≡◌, ℕ, ◌≤◌, ◌++◌, Bool, true, false, List, []}
+use Rattle.std.specs.Prelude.{length, IsTrue, Option, MatchOption, Result, Ok, Err, IfOk, OnErr, if◌then◌else◌}
 use Rattle.std.specs.declared.option.Option.TheVariants.{None, Some}
 use Rattle.xc_data.specs.Counts.{CountsFault}
 use Rattle.xc_data.specs.Faults.{is_fault_reply}
@@ -82,7 +83,8 @@ pub record IsStarved {H : Type 0} (model : HostModel H) (call : Call) (old new :
   pub none : takes_memory_first call ≡ true → made ≡ []
 
 -- a call on files, over any host
-pub record IsFileCall {H : Type 0} (model : HostModel H) (call : Call) (old new : CallState H) (result : Result Reply NoMemory) : Type 0 where
+pub record IsFileCall {H : Type 0} (model : HostModel H) (call : Call) (old new : CallState H)
+    (result : Result Reply NoMemory) : Type 0 where
   -- refused exactly where a check refuses it, with its reply; then nothing is changed, and the host isn't called
   pub checked : MatchOption (refusal_of call old.me) (IfOk result (λ r. is_check_reply call r ≡ false)) (λ r. (result ≡ Ok r) × (new ≡ old))
   -- the older records stay, and at most one comes behind them

@@ -18,7 +18,8 @@ IsInside c file at bytes = at + length bytes ≤ length (file_in c file)
 abbrev pub Overwrote : Contents → Contents → Num → ℕ → List ℕ → Reply → Type 0
 Overwrote was is file at bytes PastEnd = (is ≡ was) × (length (file_in was file) < at + length bytes)
 Overwrote was is file at bytes Done = (is ≡ wrote_front was file at bytes) × IsInside was file at bytes
-Overwrote was is file at bytes (Fault n) = (is ≡ wrote_front was file at (take n bytes)) × ((n ≡ 0) ⊎ ((n < length bytes) × IsInside was file at bytes))
+Overwrote was is file at bytes (Fault n) = (is ≡ wrote_front was file at (take n bytes))
+    × ((n ≡ 0) ⊎ ((n < length bytes) × IsInside was file at bytes))
 Overwrote was is file at bytes _ = ⊥
 
 -- the position of an open file is behind what was done

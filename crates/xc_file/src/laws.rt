@@ -13,6 +13,8 @@ ghost use Rattle.xc_file.specs.Calls.{refusal_of};
 /// A check that refuses a call does so on the plain machine, with the same reply. Where none does, only
 /// a bad word is refused there.
 pub fn a_check_refuses_as_the_plain_machine()
-    ensures refused { (w : World) (me : Private) (tx : ℕ) (call : Call) (answer : Answer) (r : Reply) → refusal_of call me ≡ Some r → act w me tx call answer ≡ stays w me r }
-    ensures passed { (me : Private) (call : Call) (words : ℕ) → refusal_of call me ≡ None → is_refused call me words ≡ is_bad_word call words }
+    ensures refused { (w : World) (me : Private) (tx : ℕ) (call : Call) (answer : Answer) (r : Reply) → refusal_of call me ≡ Some r
+        → act w me tx call answer ≡ stays w me r }
+    ensures passed { (me : Private) (call : Call) (words : ℕ) → refusal_of call me ≡ None
+        → is_refused call me words ≡ is_bad_word call words }
 {}

@@ -9,15 +9,11 @@ use xc_data::{Name, NoMemory, Place, Private, Reply};
 use xc_host::{Host, HostErr};
 
 // Opens a name's file at the lowest vacant handle.
-fn open_at<H: Host>(
-    host: &mut H,
-    me: &mut Private,
-    name: &Name,
-    h: u16,
-) -> Result<Reply, NoMemory>
+fn open_at<H: Host>(host: &mut H, me: &mut Private, name: &Name, h: u16) -> Result<Reply, NoMemory>
     requires vacant { lowest_vacant me.old.places ≡ Some h }
     requires handle { h < 256 }
-    ensures acts { IsTrue H.model.tells → IfOk result (Acts (XOpen name.now) (H.model.contents host.old) (H.model.contents host.new) me.old me.new) }
+    ensures acts { IsTrue H.model.tells
+        → IfOk result (Acts (XOpen name.now) (H.model.contents host.old) (H.model.contents host.new) me.old me.new) }
     ensures reply { IfOk result (λ reply. is_check_reply (XOpen name.now) reply ≡ false) }
     ensures contents { IsTrue H.model.tells → H.model.contents host.new ≡ H.model.contents host.old }
     ensures same { (me.new.stored ≡ me.old.stored) × (me.new.made ≡ me.old.made) }
@@ -36,7 +32,9 @@ fn open_at<H: Host>(
 
 /// Opens a name's file at its begin.
 pub fn x_open<H: Host>(host: &mut H, me: &mut Private, name: &Name) -> Result<Reply, NoMemory>
-    ensures call { (undo : Records) → IsFileCall H.model (XOpen name.now) (record { host = host.old; me = me.old; undo = undo }) (record { host = host.new; me = me.new; undo = undo }) result }
+    ensures call { (undo : Records) → IsFileCall H.model (XOpen name.now)
+        (record { host = host.old; me = me.old; undo = undo })
+        (record { host = host.new; me = me.new; undo = undo }) result }
     ensures contents { IsTrue H.model.tells → H.model.contents host.new ≡ H.model.contents host.old }
     ensures same { (me.new.stored ≡ me.old.stored) × (me.new.made ≡ me.old.made) }
 {

@@ -1,4 +1,5 @@
-ghost use Rattle.std.specs.Prelude.{◌≡◌, ◌<◌, ◌≤◌, ◌+◌, ◌++◌, ◌∷◌, [], ◌^◌, ◌==◌, true, false, length, take, drop, IfOk, IfSome, MatchOption, OnOk, OnErr, IsTrue, if◌then◌else◌};
+ghost use Rattle.std.specs.Prelude.{◌≡◌, ◌<◌, ◌≤◌, ◌+◌, ◌++◌, ◌∷◌, [], ◌^◌, ◌==◌, true};
+ghost use Rattle.std.specs.Prelude.{false, length, take, drop, IfOk, IfSome, MatchOption, OnOk, OnErr, IsTrue, if◌then◌else◌};
 ghost use Rattle.xc_data.specs.Counts.{CountsFault};
 ghost use Rattle.xc_data.specs.Private.{place_of};
 ghost use Rattle.xc_data.specs.declared.call.Call.TheVariants.{XWriteOvr};
@@ -31,7 +32,8 @@ fn bytes_under<H: Host>(
     ensures size { IfOk result (λ found. IfSome found (λ before. (length before.items ≡ n) × (at + n < 2 ^ 32))) }
     ensures value { IsTrue H.model.tells → IfOk result (λ found. MatchOption found
         (length (file_in (H.model.contents host.old) file) < at + n)
-        (λ before. (before.items ≡ take n (drop at (file_in (H.model.contents host.old) file))) × (at + n ≤ length (file_in (H.model.contents host.old) file)))) }
+        (λ before. (before.items ≡ take n (drop at (file_in (H.model.contents host.old) file)))
+        × (at + n ≤ length (file_in (H.model.contents host.old) file)))) }
     ensures contents { IsTrue H.model.tells → H.model.contents host.new ≡ H.model.contents host.old }
     ensures cause { CountsFault (is_fault result) (H.model.fault_count host.old) (H.model.fault_count host.new) }
 {
@@ -65,7 +67,9 @@ fn write_recorded<H: Host>(
     requires none { undo.old.ended ≡ [] }
     ensures whole { IfOk result (λ written. written.fault ≡ false → written.done ≡ length bytes.now) }
     ensures short { IfOk result (λ written. written.fault ≡ true → written.done < length bytes.now) }
-    ensures contents { IsTrue H.model.tells → IfOk result (λ written. H.model.contents host.new ≡ wrote_front (H.model.contents host.old) file at (take written.done bytes.now)) }
+    ensures contents { IsTrue H.model.tells
+        → IfOk result (λ written. H.model.contents host.new
+        ≡ wrote_front (H.model.contents host.old) file at (take written.done bytes.now)) }
     ensures records { IfOk result (λ written. undo.new ≡ record {
       pending = undo.old.pending ++ (if written.done == 0 then [] else Bytes file at before.items bytes.now written.done ∷ []);
       ended = [];
@@ -105,10 +109,12 @@ fn overwrite<H: Host>(
     requires there { IsTrue H.model.tells → has_file (H.model.contents host.old) file.num ≡ true }
     requires none { undo.old.ended ≡ [] }
     ensures room { IfOk result (λ reply. file.at + done_of (length bytes.now) reply < 2 ^ 32) }
-    ensures told { IsTrue H.model.tells → IfOk result (Overwrote (H.model.contents host.old) (H.model.contents host.new) file.num file.at bytes.now) }
+    ensures told { IsTrue H.model.tells
+        → IfOk result (Overwrote (H.model.contents host.old) (H.model.contents host.new) file.num file.at bytes.now) }
     ensures reply { IfOk result (λ reply. is_check_reply (XWriteOvr file.h bytes.now) reply ≡ false) }
     ensures records { IsTrue H.model.tells → IfOk result (λ reply. undo.new ≡ record {
-      pending = undo.old.pending ++ overwrite_record (world_of (H.model.contents host.old)) bytes.now (done_of (length bytes.now) reply) (File file.num file.at);
+      pending = undo.old.pending ++ overwrite_record (world_of (H.model.contents host.old)) bytes.now (done_of (length bytes.now) reply)
+          (File file.num file.at);
       ended = [];
     }) }
     ensures grows { OnOk result (AddsOne undo.old undo.new) }
@@ -167,10 +173,12 @@ fn write_next<H: Host>(
     requires few { (length bytes.now ≤ 1024) × (me.old.stored + length bytes.now ≤ 16384) }
     requires there { IsTrue H.model.tells → IsOpenIn (H.model.contents host.old) (File file.num file.at) }
     requires none { undo.old.ended ≡ [] }
-    ensures acts { IsTrue H.model.tells → IfOk result (Acts (XWriteOvr file.h bytes.now) (H.model.contents host.old) (H.model.contents host.new) me.old me.new) }
+    ensures acts { IsTrue H.model.tells
+        → IfOk result (Acts (XWriteOvr file.h bytes.now) (H.model.contents host.old) (H.model.contents host.new) me.old me.new) }
     ensures reply { IfOk result (λ reply. is_check_reply (XWriteOvr file.h bytes.now) reply ≡ false) }
     ensures records { IsTrue H.model.tells → IfOk result (λ reply. undo.new ≡ record {
-      pending = undo.old.pending ++ overwrite_record (world_of (H.model.contents host.old)) bytes.now (done_of (length bytes.now) reply) (File file.num file.at);
+      pending = undo.old.pending ++ overwrite_record (world_of (H.model.contents host.old)) bytes.now (done_of (length bytes.now) reply)
+          (File file.num file.at);
       ended = [];
     }) }
     ensures grows { OnOk result (AddsOne undo.old undo.new) }
@@ -202,7 +210,9 @@ pub fn x_write_ovr<H: Host>(
     requires stored { me.old.stored ≤ 16384 }
     requires open { IsTrue H.model.tells → IsOpenIn (H.model.contents host.old) (place_of me.old.places h) }
     requires none { undo.old.ended ≡ [] }
-    ensures call { IsFileCall H.model (XWriteOvr h bytes.now) (record { host = host.old; me = me.old; undo = undo.old }) (record { host = host.new; me = me.new; undo = undo.new }) result }
+    ensures call { IsFileCall H.model (XWriteOvr h bytes.now)
+        (record { host = host.old; me = me.old; undo = undo.old })
+        (record { host = host.new; me = me.new; undo = undo.new }) result }
     ensures stored { me.new.stored ≤ 16384 }
     ensures made { me.new.made ≡ me.old.made }
 {

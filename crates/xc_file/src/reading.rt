@@ -25,7 +25,8 @@ fn read_more<H: Host>(
 ) -> Result<u32, HostErr>
     requires there { IsTrue H.model.tells → has_file (H.model.contents host.old) file ≡ true }
     ensures bound { IfOk result (λ more. (more ≤ n) × (length bytes.new.items ≡ length bytes.old.items + more)) }
-    ensures value { IsTrue H.model.tells → IfOk result (λ more. AppendsFront (file_in (H.model.contents host.old) file) at n more bytes.old.items bytes.new.items) }
+    ensures value { IsTrue H.model.tells
+        → IfOk result (λ more. AppendsFront (file_in (H.model.contents host.old) file) at n more bytes.old.items bytes.new.items) }
     ensures contents { IsTrue H.model.tells → H.model.contents host.new ≡ H.model.contents host.old }
     ensures cause { CountsFault (is_fault result) (H.model.fault_count host.old) (H.model.fault_count host.new) }
 {
@@ -46,7 +47,8 @@ pub(crate) fn read_whole<H: Host>(
     requires room { at + n < 2 ^ 32 }
     requires there { IsTrue H.model.tells → has_file (H.model.contents host.old) file ≡ true }
     ensures bound { IfOk result (λ bytes. length bytes.items ≤ n) }
-    ensures value { IsTrue H.model.tells → IfOk result (λ bytes. bytes.items ≡ take n (drop at (file_in (H.model.contents host.old) file))) }
+    ensures value { IsTrue H.model.tells
+        → IfOk result (λ bytes. bytes.items ≡ take n (drop at (file_in (H.model.contents host.old) file))) }
     ensures contents { IsTrue H.model.tells → H.model.contents host.new ≡ H.model.contents host.old }
     ensures cause { CountsFault (is_fault result) (H.model.fault_count host.old) (H.model.fault_count host.new) }
 {
@@ -73,7 +75,8 @@ fn read_next<H: Host>(
     requires file { IsOpenAt me.old file }
     requires few { (n ≤ 1024) × (me.old.stored + n ≤ 16384) }
     requires there { IsTrue H.model.tells → IsOpenIn (H.model.contents host.old) (File file.num file.at) }
-    ensures acts { IsTrue H.model.tells → IfOk result (Acts (XRead file.h n) (H.model.contents host.old) (H.model.contents host.new) me.old me.new) }
+    ensures acts { IsTrue H.model.tells
+        → IfOk result (Acts (XRead file.h n) (H.model.contents host.old) (H.model.contents host.new) me.old me.new) }
     ensures reply { IfOk result (λ reply. is_check_reply (XRead file.h n) reply ≡ false) }
     ensures contents { IsTrue H.model.tells → H.model.contents host.new ≡ H.model.contents host.old }
     ensures stored { me.new.stored ≤ 16384 }
@@ -113,7 +116,9 @@ pub fn x_read<H: Host>(
 ) -> Result<Reply, NoMemory>
     requires stored { me.old.stored ≤ 16384 }
     requires open { IsTrue H.model.tells → IsOpenIn (H.model.contents host.old) (place_of me.old.places h) }
-    ensures call { (undo : Records) → IsFileCall H.model (XRead h n) (record { host = host.old; me = me.old; undo = undo }) (record { host = host.new; me = me.new; undo = undo }) result }
+    ensures call { (undo : Records) → IsFileCall H.model (XRead h n)
+        (record { host = host.old; me = me.old; undo = undo })
+        (record { host = host.new; me = me.new; undo = undo }) result }
     ensures contents { IsTrue H.model.tells → H.model.contents host.new ≡ H.model.contents host.old }
     ensures stored { me.new.stored ≤ 16384 }
     ensures made { me.new.made ≡ me.old.made }

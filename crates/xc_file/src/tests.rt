@@ -1,13 +1,12 @@
 ghost use Rattle.std.specs.Prelude.{◌≡◌, ◌≤◌};
 
 use crate::{x_open, x_read, x_write_ovr};
+use Asked::{Len, Read, Write};
 use std::alloc::Global;
 use std::test::Fail;
 use xc_compensate::Stack;
 use xc_data::{Chunk, Name, NoMemory, Num, Place, Private, Reply};
 use xc_testhost::{Asked, TestHost};
-
-use Asked::{Len, Read, Write};
 
 const NUM: Num = Num { tx: 0, k: 0 };
 

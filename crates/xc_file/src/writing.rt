@@ -19,7 +19,8 @@ pub(crate) fn write_whole<H: Host>(host: &mut H, file: Num, at: u32, bytes: &[u8
     requires inside { IsTrue H.model.tells → at + length bytes.now ≤ length (file_in (H.model.contents host.old) file) }
     ensures whole { result.fault ≡ false → result.done ≡ length bytes.now }
     ensures short { result.fault ≡ true → result.done < length bytes.now }
-    ensures contents { IsTrue H.model.tells → H.model.contents host.new ≡ wrote_front (H.model.contents host.old) file at (take result.done bytes.now) }
+    ensures contents { IsTrue H.model.tells
+        → H.model.contents host.new ≡ wrote_front (H.model.contents host.old) file at (take result.done bytes.now) }
     ensures cause { CountsFault result.fault (H.model.fault_count host.old) (H.model.fault_count host.new) }
 {
     a_front_grows();

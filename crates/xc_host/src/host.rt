@@ -1,4 +1,5 @@
-ghost use Rattle.std.specs.Prelude.{◌≡◌, ◌↔◌, ◌<◌, ◌≤◌, ◌+◌, ◌&&◌, true, false, not, length, take, IfOk, OnOk, OnErr, IsErrOf, IsTrue, is_err};
+ghost use Rattle.std.specs.Prelude.{◌≡◌, ◌↔◌, ◌<◌, ◌≤◌, ◌+◌, ◌&&◌, true, false};
+ghost use Rattle.std.specs.Prelude.{not, length, take, IfOk, OnOk, OnErr, IsErrOf, IsTrue, is_err};
 ghost use Rattle.std.specs.FinMap as map;
 ghost use Rattle.xc_data.specs.Counts.{CountsFault};
 ghost use Rattle.xc_data.specs.Limits.{IsPrologue};
@@ -59,7 +60,8 @@ pub trait Host: Drop {
         requires inside { IsTrue model.tells → at + length bytes.now ≤ length (file_in (model.contents self.old) file) }
         requires some { 0 < length bytes.now }
         ensures bound { IfOk result (λ n. (0 < n) × (n ≤ length bytes.now)) }
-        ensures ok { IsTrue model.tells → IfOk result (λ n. model.contents self.new ≡ wrote (model.contents self.old) file at (take n bytes.now)) }
+        ensures ok { IsTrue model.tells
+            → IfOk result (λ n. model.contents self.new ≡ wrote (model.contents self.old) file at (take n bytes.now)) }
         ensures err { IsTrue model.tells → OnErr result (model.contents self.new ≡ model.contents self.old) }
         ensures cause { CountsFault (is_err result) (model.fault_count self.old) (model.fault_count self.new) };
 
@@ -69,7 +71,8 @@ pub trait Host: Drop {
         requires inside { IsTrue model.tells → at + length bytes.now ≤ length (file_in (model.contents self.old) file) }
         requires some { 0 < length bytes.now }
         ensures bound { IfOk result (λ n. (0 < n) × (n ≤ length bytes.now)) }
-        ensures ok { IsTrue model.tells → IfOk result (λ n. model.contents self.new ≡ wrote (model.contents self.old) file at (take n bytes.now)) }
+        ensures ok { IsTrue model.tells
+            → IfOk result (λ n. model.contents self.new ≡ wrote (model.contents self.old) file at (take n bytes.now)) }
         ensures err { IsTrue model.tells → OnErr result (model.contents self.new ≡ model.contents self.old) }
         ensures cause { CountsFault (is_err result) (model.fault_count self.old) (model.fault_count self.new) };
 }

@@ -4,8 +4,10 @@ ghost use Rattle.xc_host.specs.Contents.{Contents, file_in, has_file, wrote, wro
 
 /// A write behind a front that was written makes a longer front.
 pub fn a_front_grows()
-    ensures { (c : Contents) (file : Num) (at done more : ℕ) (bytes : List ℕ) → 0 < more → done + more ≤ length bytes → at + length bytes ≤ length (file_in c file)
-        → wrote (wrote_front c file at (take done bytes)) file (at + done) (take more (drop done bytes)) ≡ wrote_front c file at (take (done + more) bytes) }
+    ensures { (c : Contents) (file : Num) (at done more : ℕ) (bytes : List ℕ) → 0 < more → done + more ≤ length bytes
+        → at + length bytes ≤ length (file_in c file)
+        → wrote (wrote_front c file at (take done bytes)) file (at + done) (take more (drop done bytes))
+        ≡ wrote_front c file at (take (done + more) bytes) }
 {}
 
 /// A write inside a file leaves the file there, at its length.

@@ -45,7 +45,7 @@ coded_contents =
     code_by
     (map.FinMap name_cmp Num × (map.FinMap num_cmp (List ℕ) × (map.FinMap num_cmp Pipe × map.FinMap num_cmp Pair)))
     (coded× (map.code coded_name coded_num)
-        (coded× (map.code coded_num coded_name) (coded× (map.code coded_num coded_pipe) (map.code coded_num coded_pair))))
+    (coded× (map.code coded_num coded_name) (coded× (map.code coded_num coded_pipe) (map.code coded_num coded_pair))))
     (λ c. (c.names, (c.files, (c.pipes, c.pairs))))
     (λ p. record { names = p.0; files = p.1.0; pipes = p.1.1.0; pairs = p.1.1.1 })
     (λ _. refl)

@@ -2,7 +2,6 @@
 #![tactic(auto)]
 
 mod test_host;
-
 #[cfg(test)]
 mod tests;
 

@@ -13,5 +13,6 @@ pub returns-clause-call : goal.returns-clause-call
 returns-clause-call g c =
     let free = ap (refusal_at c.args.me.now c.args.h) (sym c.len.ensures.value) ∙ c.in-Ok.ensures.checks in
     let next = c.write_next.ensures in
-    overwrite_call g.H.Host.model c.args.h c.in-Ok.file.h c.args.bytes.now _ _ c.args.host.now _ c.args.me.now _ c.args.undo.now _ _ c.in-Ok.ensures.open.0 free c.in-Ok.ensures.open.1.place next.reply
+    overwrite_call g.H.Host.model c.args.h c.in-Ok.file.h c.args.bytes.now _ _ c.args.host.now _ c.args.me.now _ c.args.undo.now _ _ c.in-Ok.ensures.open.0
+    free c.in-Ok.ensures.open.1.place next.reply
     next.acts next.records next.grows next.err next.err_contents next.cause
