@@ -1,5 +1,5 @@
 -- The newest record that has no end yet is tried.
-use Rattle.std.proofs.Common.{◌≡◌, ℕ, ◌+◌, IsTrue, None, List, [], ◌∷◌, ◌++◌, length, reverse, ap, sym, ◌∙◌, subst}
+use Rattle.std.proofs.Common.{◌≡◌, ◌≢◌, ℕ, ◌+◌, IsTrue, None, List, [], ◌∷◌, ◌++◌, length, reverse, ap, sym, ◌∙◌, subst}
 use Rattle.std.proofs.lemmas.List.{reverse-append}
 use Rattle.xc_data.specs.Counts.{CountsFaults}
 use Rattle.xc_data.specs.Faults.{end_faults}
@@ -9,7 +9,7 @@ use Rattle.xc_world.specs.Ends.{Ending, blocker, IsLegalEnd}
 use Rattle.xc_world.specs.Effects.{undone_to, IsCovered}
 use Rattle.xc_host.specs.Contents.{Contents, contents_of, world_of}
 use Rattle.xc_host.specs.Model.{HostModel}
-use Rattle.xc_compensate.specs.Records.{Records, IsTried, NextIsCovered}
+use Rattle.xc_compensate.specs.Records.{Records, IsTried, NextIsCovered, way_of}
 use Rattle.xc_compensate.specs.Turns.{turn_of}
 use Rattle.xc_compensate.specs.declared.stack.UndoTurn.{UndoTurn}
 
@@ -17,16 +17,22 @@ use Rattle.xc_compensate.specs.declared.stack.UndoTurn.{UndoTurn}
 abbrev shown : List Undo → List Ending → Records
 shown pending newest_first = record { pending = pending; ended = reverse newest_first }
 
+-- what stands in its way, in the words of the stack before
+same_way : (old : Records) (pending rest : List Undo) (ended : List Ending) (u : Undo) (count : ℕ) (newer : List Ending)
+    → shown pending ended ≡ old → pending ≡ rest ++ u ∷ [] → count ≡ length rest → newer ≡ ended
+    → blocker (count + 1 + 1) u (reverse newer) ≡ None → way_of rest u old ≡ None
+same_way old pending rest ended u count newer view split size there free =
+    ap (λ r. blocker (length rest + 1 + 1) u r.ended) (sym view)
+    ∙ ap (λ rs. blocker (length rest + 1 + 1) u (reverse rs)) (sym there)
+    ∙ ap (λ n. blocker (n + 1 + 1) u (reverse newer)) (sym size)
+    ∙ free
+
 -- what the caller knows of the newest record, in the words of the stack
 pub covered_now : (c : Contents) (old : Records) (pending rest : List Undo) (ended : List Ending) (u : Undo) (count : ℕ) (newer : List Ending)
     → shown pending ended ≡ old → pending ≡ rest ++ u ∷ [] → count ≡ length rest → newer ≡ ended
     → NextIsCovered c old → blocker (count + 1 + 1) u (reverse newer) ≡ None → IsCovered (world_of c) u
 covered_now c old pending rest ended u count newer view split size there covered free =
-    covered rest u (ap (λ r. r.pending) (sym view) ∙ split)
-    (ap (λ r. blocker (length rest + 1 + 1) u r.ended) (sym view)
-    ∙ ap (λ rs. blocker (length rest + 1 + 1) u (reverse rs)) (sym there)
-    ∙ ap (λ n. blocker (n + 1 + 1) u (reverse newer)) (sym size)
-    ∙ free)
+    covered rest u (ap (λ r. r.pending) (sym view) ∙ split) (same_way old pending rest ended u count newer view split size there free)
 
 -- the tried record, in the words of the stack before
 pub tried_now : {H : Type 0} (model : HostModel H) (tries : ℕ) (old : Records) (pending rest : List Undo) (ended field : List Ending) (host next : H)
@@ -34,9 +40,10 @@ pub tried_now : {H : Type 0} (model : HostModel H) (tries : ℕ) (old : Records)
     → shown pending ended ≡ old → pending ≡ rest ++ u ∷ [] → field ≡ ended ++ (u, end) ∷ [] → count ≡ length rest → newer ≡ ended
     → IsLegalEnd tries u end (blocker (count + 1 + 1) u (reverse newer)) → CountsFaults (end_faults end) (model.fault_count host) (model.fault_count next)
     → (IsTrue model.tells → model.contents next ≡ contents_of (undone_to (world_of (model.contents host)) u end))
+    → (blocker (count + 1 + 1) u (reverse newer) ≢ None → next ≡ host)
     → turn ≡ turn_of end
     → (t : IsTried model tries (record { host = host; undo = old }) (record { host = next; undo = shown rest field })) × (turn ≡ turn_of t.end)
-tried_now model tries old pending rest ended field host next u end turn count newer view split grown size there legal faults effect answer =
+tried_now model tries old pending rest ended field host next u end turn count newer view split grown size there legal faults effect still answer =
     let sized = subst (λ n. IsLegalEnd tries u end (blocker (n + 1 + 1) u (reverse newer))) size legal in
     let at_end : reverse field ≡ (u, end) ∷ reverse ended = ap reverse grown ∙ reverse-append ended ((u, end) ∷ []) in (
       record {
@@ -48,6 +55,7 @@ tried_now model tries old pending rest ended field host next u end turn count ne
         legal = subst (λ r. IsLegalEnd tries u end (blocker (length rest + 1 + 1) u r.ended)) view
             (subst (λ rs. IsLegalEnd tries u end (blocker (length rest + 1 + 1) u (reverse rs))) there sized);
         faults = faults;
+        still = λ way. still (λ none. way (same_way old pending rest ended u count newer view split size there none));
         effect = effect;
       },
       answer,

@@ -1,5 +1,5 @@
 -- Stored compensations: the records that a transaction's calls left, and how undoing them ends.
-use Rattle.std.specs.Prelude.{◌≡◌, ℕ, ◌+◌, ◌≤◌, ◌<◌, ◌^◌, ◌==◌, Option, IsTrue, List, [], ◌∷◌, ◌++◌, length, if◌then◌else◌}
+use Rattle.std.specs.Prelude.{◌≡◌, ◌≢◌, ℕ, ◌+◌, ◌≤◌, ◌<◌, ◌^◌, ◌==◌, Option, IsTrue, List, [], ◌∷◌, ◌++◌, length, if◌then◌else◌}
 use Rattle.std.specs.List.{All}
 use Rattle.std.specs.declared.option.Option.TheVariants.{None}
 use Rattle.xc_data.specs.Counts.{CountsFaults}
@@ -76,5 +76,7 @@ pub record IsTried {H : Type 0} (model : HostModel H) (tries : ℕ) (old new : A
   -- blocked exactly where a newer record stands in the way; failed exactly after so many tries
   pub legal : IsLegalEnd tries tried end (way_of older tried old.undo)
   pub faults : CountsFaults (end_faults end) (model.fault_count old.host) (model.fault_count new.host)
-  -- the host did what the end says
+  -- the host isn't called for a blocked one
+  pub still : way_of older tried old.undo ≢ None → new.host ≡ old.host
+  -- it did what the end says
   pub effect : IsTrue model.tells → model.contents new.host ≡ contents_of (undone_to (world_of (model.contents old.host)) tried end)

@@ -40,6 +40,7 @@ abbrev pub mem_host_model : HostModel HostState
 mem_host_model = record { tells = true; takes_scripts = true; contents = λ s. s.contents; fault_count = λ s. s.fault_count }
 
 -- ---- how a proof stores a state
+-- contents
 abbrev pub coded_contents : Coded Contents
 coded_contents =
     code_by
@@ -50,9 +51,11 @@ coded_contents =
     (λ p. record { names = p.0; files = p.1.0; pipes = p.1.1.0; pairs = p.1.1.1 })
     (λ _. refl)
 
+-- a line of faults
 abbrev pub coded_line : Coded FaultLine
 coded_line = fault_line.the_row.coded
 
+-- a whole state
 abbrev pub coded_state : Coded HostState
 coded_state =
     code_by
