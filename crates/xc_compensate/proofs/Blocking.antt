@@ -18,6 +18,7 @@ shifted from i u (r ∷ rs) =
     ap (λ n. cond (blocks u r) (Some (from + i)) (blocker n u rs)) next
     ∙ (ap (cond (blocks u r) (Some (from + i))) (shifted from (i + 1) u rs) ∙ shifted_by (blocks u r) from i (position_from (blocks u) (i + 1) rs))
 
+-- the blocker, from the place of the first that stands in the way
 pub blocker_is : (from : ℕ) (u : Undo) (rs : List Ending) (o : Option ℕ) → o ≡ position (blocks u) rs → option_map (λ k. from + k) o ≡ blocker from u rs
 blocker_is from u rs o e =
     let start : from + 0 ≡ from = omega arith in

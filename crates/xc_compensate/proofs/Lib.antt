@@ -1,4 +1,3 @@
 pub mod Trimming
-pub mod Fronts
 pub mod Blocking
 pub mod Trying

@@ -1,14 +1,16 @@
 -- Stored compensations: the records that a transaction's calls left, and how undoing them ends.
-use Rattle.std.specs.Prelude.{◌≡◌, ℕ, ◌+◌, ◌≤◌, ◌<◌, ◌^◌, ◌==◌, Bool, IsTrue, List, [], ◌∷◌, length, if◌then◌else◌}
+use Rattle.std.specs.Prelude.{◌≡◌, ◌≢◌, ℕ, ◌+◌, ◌≤◌, ◌<◌, ◌^◌, ◌==◌, Option, IsTrue, List, [], ◌∷◌, ◌++◌, length, if◌then◌else◌}
 use Rattle.std.specs.List.{All}
+use Rattle.std.specs.declared.option.Option.TheVariants.{None}
 use Rattle.xc_data.specs.Counts.{CountsFaults}
 use Rattle.xc_data.specs.Faults.{end_faults}
 use Rattle.xc_data.specs.declared.undo.Undo.{Undo}
 use Rattle.xc_data.specs.declared.undo.Undo.TheVariants.{Bytes, Tail}
 use Rattle.xc_data.specs.declared.undo.UndoEnd.{UndoEnd}
 use Rattle.xc_world.specs.Ends.{Ending, blocker, IsLegalEnd}
-use Rattle.xc_world.specs.Effects.{undone_to}
+use Rattle.xc_world.specs.Effects.{undone_to, IsCovered}
 use Rattle.xc_host.specs.Contents.{Contents, contents_of, world_of}
+use Rattle.xc_host.specs.Model.{HostModel}
 
 -- what contracts see of a stack; together the two lists are in the order of the calls
 pub record Records : Type 0 where
@@ -41,18 +43,40 @@ covered (Bytes file at before after m) n = Bytes file at before after n
 covered (Tail file from after m) n = Tail file from after n
 covered u n = u
 
--- the newest of these records covers its first n bytes, and goes where n is 0
-abbrev pub trimmed : List Undo → ℕ → List Undo
-trimmed [] n = []
-trimmed (u ∷ []) n = if n == 0 then [] else covered u n ∷ []
-trimmed (u ∷ v ∷ us) n = u ∷ trimmed (v ∷ us) n
+-- what is left of a record that covers its first n bytes; none where n is 0
+abbrev pub cut_to : ℕ → Undo → List Undo
+cut_to n u = if n == 0 then [] else covered u n ∷ []
 
--- one record is tried: `u`, behind the older ones, with this end. `was` and `is` are the told contents,
--- `before` and `now` the host's counts of faults
-pub record IsTried (tells : Bool) (tries : ℕ) (old new : Records) (was is : Contents) (before now : ℕ) (older : List Undo) (u : Undo) (end : UndoEnd) : Type 0 where
-  pub stack : new ≡ record { pending = older; ended = (u, end) ∷ old.ended }
+-- ---- the way back
+-- a host, and the records of one transaction at it
+pub record AtHost (H : Type 0) : Type 0 where
+  pub host : H
+  pub undo : Records
+
+-- the number of the record behind these
+abbrev pub number_behind : List Undo → ℕ
+number_behind older = length older + 1
+
+-- what stands in the way of the newest record without an end, behind the older ones
+abbrev pub way_of : List Undo → Undo → Records → Option ℕ
+way_of older u undo = blocker (number_behind older + 1) u undo.ended
+
+-- the bytes of the newest record without an end are in its file, if nothing stands in its way
+abbrev pub NextIsCovered : Contents → Records → Type 0
+NextIsCovered c undo = (older : List Undo) (u : Undo) → undo.pending ≡ older ++ u ∷ [] → way_of older u undo ≡ None
+    → IsCovered (world_of c) u
+
+-- the newest record without an end was tried
+pub record IsTried {H : Type 0} (model : HostModel H) (tries : ℕ) (old new : AtHost H) : Type 0 where
+  pub older : List Undo
+  pub tried : Undo
+  pub end : UndoEnd
+  pub was : old.undo.pending ≡ older ++ tried ∷ []
+  pub stack : new.undo ≡ record { pending = older; ended = (tried, end) ∷ old.undo.ended }
   -- blocked exactly where a newer record stands in the way; failed exactly after so many tries
-  pub legal : IsLegalEnd tries u end (blocker (length older + 1 + 1) u old.ended)
-  pub faults : CountsFaults (end_faults end) before now
-  -- the host did what the end says
-  pub effect : IsTrue tells → is ≡ contents_of (undone_to (world_of was) u end)
+  pub legal : IsLegalEnd tries tried end (way_of older tried old.undo)
+  pub faults : CountsFaults (end_faults end) (model.fault_count old.host) (model.fault_count new.host)
+  -- the host isn't called for a blocked one
+  pub still : way_of older tried old.undo ≢ None → new.host ≡ old.host
+  -- it did what the end says
+  pub effect : IsTrue model.tells → model.contents new.host ≡ contents_of (undone_to (world_of (model.contents old.host)) tried end)

@@ -1,10 +1,8 @@
-ghost use Rattle.std.specs.Prelude.{◌≡◌, ◌==◌, ◌≤◌, ◌<◌, ◌+◌, ◌++◌, ◌∷◌, [], List, ℕ, length, OnOk, OnErr, IsTrue};
+ghost use Rattle.std.specs.Prelude.{◌≡◌, ◌≢◌, ◌==◌, ◌≤◌, ◌<◌, ◌+◌, ◌++◌, ◌∷◌, [], List, ℕ, length, OnOk, OnErr, IsTrue};
 ghost use Rattle.xc_data.specs.declared.undo.Undo.{Undo};
 ghost use Rattle.xc_data.specs.declared.undo.UndoEnd.{UndoEnd};
-ghost use Rattle.xc_world.specs.Effects.{IsCovered};
-ghost use Rattle.xc_host.specs.Contents.{world_of};
 ghost use Rattle.xc_compensate.specs.declared.stack.UndoTurn.TheVariants.{Ended};
-ghost use Rattle.xc_compensate.specs.Records.{Records, IsRecord, IsTried, covers, covered, trimmed};
+ghost use Rattle.xc_compensate.specs.Records.{Records, AtHost, IsRecord, IsTried, NextIsCovered, covers, covered, cut_to};
 ghost use Rattle.xc_compensate.specs.Turns.{turn_of};
 
 use crate::undoing::try_one;
@@ -97,9 +95,10 @@ impl Stack {
 
     /// The newest record covers its first n bytes alone; where n is 0 it goes. It takes no memory.
     pub fn trim(&mut self, n: u32)
-        requires some { 1 ≤ length self.old.pending }
+        requires some { self.old.pending ≢ [] }
         requires within { (older : List Undo) (u : Undo) → self.old.pending ≡ older ++ u ∷ [] → n ≤ covers u }
-        ensures { self.new ≡ record self.old { pending = trimmed self.old.pending n } }
+        ensures { (older : List Undo) (u : Undo) → self.old.pending ≡ older ++ u ∷ []
+            → self.new ≡ record self.old { pending = older ++ cut_to n u } }
     {
         let Some(mut undo) = self.pending.pop() else {
             return;
@@ -117,12 +116,11 @@ impl Stack {
     /// loses nothing of what was restored before it.
     pub fn undo_next<H: Host>(&mut self, host: &mut H, tries: u32) -> UndoTurn
         requires tries { 1 ≤ tries }
-        requires covered { IsTrue H.tells → (older : List Undo) (u : Undo) → self.old.pending ≡ older ++ u ∷ []
-            → IsCovered (world_of (H.contents host.old)) u }
-        ensures ended { self.old.pending ≡ [] → (result ≡ Ended) × (self.new ≡ self.old) × (H.fault_count host.new ≡ H.fault_count host.old)
-            × (IsTrue H.tells → H.contents host.new ≡ H.contents host.old) }
-        ensures tried { (older : List Undo) (u : Undo) → self.old.pending ≡ older ++ u ∷ [] → (end : UndoEnd) × (result ≡ turn_of end)
-            × IsTried H.tells tries self.old self.new (H.contents host.old) (H.contents host.new) (H.fault_count host.old) (H.fault_count host.new) older u end }
+        requires covered { IsTrue H.model.tells → NextIsCovered (H.model.contents host.old) self.old }
+        ensures ended { self.old.pending ≡ [] → (result ≡ Ended) × (self.new ≡ self.old) × (host.new ≡ host.old) }
+        ensures tried { self.old.pending ≢ []
+            → (t : IsTried H.model tries (record { host = host.old; undo = self.old }) (record { host = host.new; undo = self.new }))
+            × (result ≡ turn_of t.end) }
     {
         let Some(undo) = self.pending.pop() else {
             return UndoTurn::Ended;

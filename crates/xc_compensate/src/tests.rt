@@ -1,101 +1,24 @@
-ghost use Rattle.std.specs.Prelude.{◌≡◌, ◌≤◌, true, false, [], length, IfOk, OnOk};
-ghost use Rattle.xc_data.specs.Counts.{CountsFault};
-ghost use Rattle.xc_host.specs.Contents.{nothing};
+ghost use Rattle.std.specs.Prelude.{◌≡◌, ◌≤◌, [], length, IfOk, OnOk};
 ghost use Rattle.xc_compensate.specs.Records.{IsRecord, covers};
 
 use crate::stack::turn_of;
 use crate::{Stack, UndoTurn};
 use std::alloc::Global;
 use std::test::Fail;
-use xc_data::{Chunk, Name, NoMemory, Num, Prologue, Undo, UndoEnd};
-use xc_host::{Fault, Host, HostErr, OpenErr};
+use xc_data::{Chunk, NoMemory, Num, Undo, UndoEnd};
+use xc_testhost::TestHost;
 
-// A host of files of 8 bytes that tells nothing. It restores at most `grain` bytes a call, and fails
-// these calls, counted from 1.
-#[derive(Drop)]
-struct Scripted {
-    bytes: Vec<u8>,
-    grain: usize,
-    fails: [u64; 3],
-    calls: u64,
-    faults: u64,
-}
-
-// Writes new bytes over those from a place on.
-fn put(bytes: &mut [u8], at: usize, new: &[u8]) {
-    for (place, byte) in bytes.iter_mut().skip(at).zip(new) {
-        *place = *byte;
-    }
-}
-
-impl Host for Scripted {
-    ghost tells = { false };
-
-    ghost takes_scripts = { true };
-
-    ghost contents = { λ _. nothing };
-
-    ghost fault_count = { λ s. s.faults };
-
-    fn faults(&self) -> u64 {
-        self.faults
-    }
-
-    fn scripted(&self) -> bool {
-        true
-    }
-
-    fn open_with(&mut self, _prologue: &Prologue) -> Result<(), OpenErr> {
-        Err(OpenErr::NoMemory)
-    }
-
-    fn lookup(&mut self, _name: &Name) -> Result<Option<Num>, HostErr> {
-        Ok(None)
-    }
-
-    fn len(&mut self, _file: Num) -> Result<u32, Fault> {
-        Ok(8)
-    }
-
-    fn read_at(&mut self, _file: Num, _at: u32, _n: u32) -> Result<Chunk, HostErr> {
-        Err(HostErr::NoMemory)
-    }
-
-    fn write_at(&mut self, file: Num, at: u32, bytes: &[u8]) -> Result<u32, Fault> {
-        self.restore(file, at, bytes)
-    }
-
-    fn restore(&mut self, file: Num, at: u32, bytes: &[u8]) -> Result<u32, Fault> {
-        self.calls = self.calls.saturating_add(1);
-        if self.fails.contains(&self.calls) {
-            self.faults = self.faults.saturating_add(1);
-            return Err(Fault);
-        }
-        let n = bytes.len().min(self.grain).min(255).max(1);
-        put(
-            &mut self.bytes,
-            8 * file.k as usize + at as usize,
-            &bytes[..n],
-        );
-        Ok(n as u32)
-    }
-}
-
+// A host of files of 8 bytes.
 fn host_of(
     alloc: Global,
     bytes: &[u8],
-    grain: usize,
-    fails: [u64; 3],
-) -> Result<Scripted, NoMemory> {
-    let mut copy = Vec::new(alloc);
-    copy.extend_from_slice(bytes)?;
-    Ok(Scripted {
-        bytes: copy,
-        grain,
-        fails,
-        calls: 0,
-        faults: 0,
-    })
+    grain: u32,
+    fails: [usize; 3],
+) -> Result<TestHost, NoMemory> {
+    let mut host = TestHost::new(alloc, bytes, 8)?;
+    host.grain = grain;
+    host.fails = fails;
+    Ok(host)
 }
 
 // The record of bytes that were written over others.
@@ -118,10 +41,10 @@ fn overwrite(alloc: Global, k: u16, before: &[u8], after: &[u8]) -> Result<Undo,
 // One overwrite of 5 bytes is undone in one turn.
 fn undone(
     alloc: Global,
-    grain: usize,
-    fails: [u64; 3],
+    grain: u32,
+    fails: [usize; 3],
     tries: u32,
-) -> Result<(UndoTurn, Scripted), NoMemory>
+) -> Result<(UndoTurn, TestHost), NoMemory>
     requires { 1 ≤ tries }
 {
     let mut host = host_of(alloc, b"abCDEFGh", grain, fails)?;
@@ -133,7 +56,7 @@ fn undone(
 
 // Each place of a first fault: the grain, the call that fails, how many bytes are restored then, the
 // file then, and the calls that the whole takes.
-const PLACES: [(usize, u64, u32, &str, u64); 11] = [
+const PLACES: [(u32, usize, u32, &str, usize); 11] = [
     (1, 1, 0, "abCDEFGh", 5),
     (1, 2, 1, "abcDEFGh", 5),
     (1, 3, 2, "abcdEFGh", 5),
@@ -161,7 +84,7 @@ fn one_try_fails_where_it_is_met_by_a_fault(rt: HostRuntime) -> Result<(), Fail>
             file.as_bytes(),
             "grain {grain}, call {call}"
         );
-        assert_eq!(rt; host.calls, call, "grain {grain}, call {call}");
+        assert_eq!(rt; host.log.len(), call, "grain {grain}, call {call}");
     }
     Ok(())
 }
@@ -180,7 +103,7 @@ fn three_tries_outlive_a_fault(rt: HostRuntime) -> Result<(), Fail> {
             b"abcdefgh".as_slice(),
             "grain {grain}, call {call}"
         );
-        assert_eq!(rt; host.calls, calls + 1, "grain {grain}, call {call}");
+        assert_eq!(rt; host.log.len(), calls + 1, "grain {grain}, call {call}");
     }
     Ok(())
 }
@@ -199,7 +122,7 @@ fn three_tries_fail_at_three_faults(rt: HostRuntime) -> Result<(), Fail> {
             file.as_bytes(),
             "grain {grain}, call {call}"
         );
-        assert_eq!(rt; host.calls, call + 2, "grain {grain}, call {call}");
+        assert_eq!(rt; host.log.len(), call + 2, "grain {grain}, call {call}");
     }
     Ok(())
 }
@@ -218,10 +141,10 @@ fn faults_of_a_turn_count_together(rt: HostRuntime) -> Result<(), Fail> {
 #[derive(Clone, Copy)]
 struct Three {
     files: [u16; 3],
-    fails: u64,
+    fails: usize,
     ends: [UndoEnd; 3],
     bytes: &'static str,
-    calls: u64,
+    calls: usize,
 }
 
 const UNDONE: UndoEnd = UndoEnd::Undone { faults: 0 };
@@ -287,7 +210,7 @@ const THREE: [Three; 7] = [
 // Writes 2 bytes and pushes the record of it.
 fn write(
     alloc: Global,
-    host: &mut Scripted,
+    host: &mut TestHost,
     stack: &mut Stack,
     k: u16,
     before: &[u8],
@@ -299,7 +222,7 @@ fn write(
     ensures { OnOk result (stack.new.ended ≡ []) }
 {
     stack.push(overwrite(alloc, k, before, after)?)?;
-    put(&mut host.bytes, 8 * k as usize + 2, after);
+    host.put(Num { tx: 0, k }, 2, after);
     Ok(())
 }
 
@@ -350,7 +273,7 @@ fn a_failure_blocks_older_records_of_its_file(rt: HostRuntime) -> Result<(), Fai
         }
         assert_eq!(rt; stack.undo_next(&mut host, 1), UndoTurn::Ended);
         assert_eq!(rt; host.bytes.as_slice(), row.bytes.as_bytes());
-        assert_eq!(rt; host.calls, row.calls);
+        assert_eq!(rt; host.log.len(), row.calls);
         assert!(rt; stack.is_undone());
         let records = stack.records();
         assert_eq!(rt; records.len(), 3);

@@ -1,4 +1,4 @@
-ghost use Rattle.std.specs.Prelude.{◌≡◌, ◌⊎◌, ◌≤◌, ◌<◌, ◌+◌, ◌^◌, ℕ, length, take, reverse, IsTrue};
+ghost use Rattle.std.specs.Prelude.{◌≡◌, ◌≢◌, ◌⊎◌, ◌≤◌, ◌<◌, ◌+◌, ◌^◌, ℕ, length, take, reverse, IsTrue};
 ghost use Rattle.std.specs.declared.option.Option.TheVariants.{None};
 ghost use Rattle.std.specs.List.{list_any, position};
 ghost use Rattle.xc_data.specs.Counts.{CountsFaults};
@@ -12,7 +12,7 @@ ghost use Rattle.xc_compensate.specs.Restoring.{IsStep, IsRestoreEnd, FitsIn, do
 
 use std::alloc::Global;
 use xc_data::{Num, Object, Undo, UndoEnd};
-use xc_host::Host;
+use xc_host::{Host, a_front_grows, a_write_keeps_the_length};
 
 // ---- what stands in the way
 
@@ -91,15 +91,17 @@ fn restore_more<H: Host>(
     requires left { progress.done < length bytes.now }
     requires room { at + length bytes.now < 2 ^ 32 }
     requires few { progress.faults + 1 < 2 ^ 32 }
-    requires fits { IsTrue H.tells → FitsIn (H.contents host.old) file at bytes.now }
+    requires fits { IsTrue H.model.tells → FitsIn (H.model.contents host.old) file at bytes.now }
     ensures step { IsStep progress result (length bytes.now) }
-    ensures fits { IsTrue H.tells → FitsIn (H.contents host.new) file at bytes.now }
-    ensures effect { IsTrue H.tells → (was : Contents) → FitsIn was file at bytes.now
-        → H.contents host.old ≡ wrote_front was file at (take progress.done bytes.now)
-        → H.contents host.new ≡ wrote_front was file at (take result.done bytes.now) }
-    ensures faults { (before : ℕ) → CountsFaults progress.faults before (H.fault_count host.old)
-        → CountsFaults result.faults before (H.fault_count host.new) }
+    ensures fits { IsTrue H.model.tells → FitsIn (H.model.contents host.new) file at bytes.now }
+    ensures effect { IsTrue H.model.tells → (was : Contents) → FitsIn was file at bytes.now
+        → H.model.contents host.old ≡ wrote_front was file at (take progress.done bytes.now)
+        → H.model.contents host.new ≡ wrote_front was file at (take result.done bytes.now) }
+    ensures faults { (before : ℕ) → CountsFaults progress.faults before (H.model.fault_count host.old)
+        → CountsFaults result.faults before (H.model.fault_count host.new) }
 {
+    a_front_grows();
+    a_write_keeps_the_length();
     match host.restore(file, at + progress.done, &bytes[progress.done as usize..]) {
         Ok(count) => Progress {
             done: progress.done + count,
@@ -117,11 +119,11 @@ fn restore_more<H: Host>(
 fn restore_whole<H: Host>(host: &mut H, file: Num, at: u32, bytes: &[u8], tries: u32) -> UndoEnd
     requires tries { 1 ≤ tries }
     requires room { at + length bytes.now < 2 ^ 32 }
-    requires fits { IsTrue H.tells → FitsIn (H.contents host.old) file at bytes.now }
+    requires fits { IsTrue H.model.tells → FitsIn (H.model.contents host.old) file at bytes.now }
     ensures end { IsRestoreEnd tries (length bytes.now) result }
-    ensures effect { IsTrue H.tells
-        → H.contents host.new ≡ wrote_front (H.contents host.old) file at (take (done_by (length bytes.now) result) bytes.now) }
-    ensures faults { CountsFaults (end_faults result) (H.fault_count host.old) (H.fault_count host.new) }
+    ensures effect { IsTrue H.model.tells
+        → H.model.contents host.new ≡ wrote_front (H.model.contents host.old) file at (take (done_by (length bytes.now) result) bytes.now) }
+    ensures faults { CountsFaults (end_faults result) (H.model.fault_count host.old) (H.model.fault_count host.new) }
 {
     let mut progress = Progress { done: 0, faults: 0 };
     while (progress.done as usize) < bytes.len() {
@@ -142,11 +144,11 @@ fn restore_whole<H: Host>(host: &mut H, file: Num, at: u32, bytes: &[u8], tries:
 fn undo_one<H: Host>(host: &mut H, undo: &Undo, tries: u32) -> UndoEnd
     requires tries { 1 ≤ tries }
     requires record { IsRecord undo.now }
-    requires covered { IsTrue H.tells → IsCovered (world_of (H.contents host.old)) undo.now }
+    requires covered { IsTrue H.model.tells → IsCovered (world_of (H.model.contents host.old)) undo.now }
     ensures legal { IsLegalEnd tries undo.now result None }
-    ensures faults { CountsFaults (end_faults result) (H.fault_count host.old) (H.fault_count host.new) }
-    ensures effect { IsTrue H.tells
-        → H.contents host.new ≡ contents_of (undone_to (world_of (H.contents host.old)) undo.now result) }
+    ensures faults { CountsFaults (end_faults result) (H.model.fault_count host.old) (H.model.fault_count host.new) }
+    ensures effect { IsTrue H.model.tells
+        → H.model.contents host.new ≡ contents_of (undone_to (world_of (H.model.contents host.old)) undo.now result) }
 {
     match undo {
         Undo::Bytes {
@@ -172,11 +174,13 @@ pub(crate) fn try_one<H: Host>(
     requires few { number + length newest_first.now < 2 ^ 32 }
     requires tries { 1 ≤ tries }
     requires record { IsRecord undo.now }
-    requires covered { IsTrue H.tells → IsCovered (world_of (H.contents host.old)) undo.now }
+    requires covered { IsTrue H.model.tells → blocker (number + 1) undo.now (reverse newest_first.now) ≡ None
+        → IsCovered (world_of (H.model.contents host.old)) undo.now }
     ensures legal { IsLegalEnd tries undo.now result (blocker (number + 1) undo.now (reverse newest_first.now)) }
-    ensures faults { CountsFaults (end_faults result) (H.fault_count host.old) (H.fault_count host.new) }
-    ensures effect { IsTrue H.tells
-        → H.contents host.new ≡ contents_of (undone_to (world_of (H.contents host.old)) undo.now result) }
+    ensures still { blocker (number + 1) undo.now (reverse newest_first.now) ≢ None → host.new ≡ host.old }
+    ensures faults { CountsFaults (end_faults result) (H.model.fault_count host.old) (H.model.fault_count host.new) }
+    ensures effect { IsTrue H.model.tells
+        → H.model.contents host.new ≡ contents_of (undone_to (world_of (H.model.contents host.old)) undo.now result) }
 {
     match blocker(alloc, number, undo, newest_first) {
         Some(by) => UndoEnd::Blocked { by },

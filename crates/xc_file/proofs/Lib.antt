@@ -1,2 +1,2 @@
 pub mod ReadFronts
-pub mod WriteFronts
+pub mod FileCalls

@@ -1,12 +1,14 @@
 -- What an overwrite does, where the host tells.
-use Rattle.std.specs.Prelude.{◌≡◌, ◌⊎◌, ℕ, ◌+◌, ◌<◌, ◌≤◌, ◌==◌, List, length, take, if◌then◌else◌}
+use Rattle.std.specs.Prelude.{◌≡◌, ◌⊎◌, ℕ, ◌+◌, ◌<◌, ◌≤◌, ◌==◌, List, ◌++◌, length, take, if◌then◌else◌}
 use Rattle.xc_data.specs.declared.object.Num.{Num}
 use Rattle.xc_data.specs.declared.call.Reply.{Reply}
 use Rattle.xc_data.specs.declared.call.Reply.TheVariants.{Done, PastEnd, Fault}
 use Rattle.xc_data.specs.declared.private.Place.TheVariants.{File}
 use Rattle.xc_data.specs.declared.private.Private.{Private}
+use Rattle.xc_data.specs.declared.undo.Undo.{Undo}
 use Rattle.xc_data.specs.Private.{with_place}
 use Rattle.xc_host.specs.Contents.{Contents, file_in, wrote_front}
+use Rattle.xc_compensate.specs.Records.{Records}
 
 -- the bytes fit into a file from `at` on
 abbrev pub IsInside : Contents → Num → ℕ → List ℕ → Type 0
@@ -16,9 +18,16 @@ IsInside c file at bytes = at + length bytes ≤ length (file_in c file)
 abbrev pub Overwrote : Contents → Contents → Num → ℕ → List ℕ → Reply → Type 0
 Overwrote was is file at bytes PastEnd = (is ≡ was) × (length (file_in was file) < at + length bytes)
 Overwrote was is file at bytes Done = (is ≡ wrote_front was file at bytes) × IsInside was file at bytes
-Overwrote was is file at bytes (Fault n) = (is ≡ wrote_front was file at (take n bytes)) × ((n ≡ 0) ⊎ ((n < length bytes) × IsInside was file at bytes))
+Overwrote was is file at bytes (Fault n) = (is ≡ wrote_front was file at (take n bytes))
+    × ((n ≡ 0) ⊎ ((n < length bytes) × IsInside was file at bytes))
 Overwrote was is file at bytes _ = ⊥
 
 -- the position of an open file is behind what was done
 abbrev pub moved_on : Private → ℕ → Num → ℕ → ℕ → Private
 moved_on me h file at done = if done == 0 then me else with_place me h (File file (at + done))
+
+-- the older records stay, and at most one comes behind them
+pub record AddsOne (old new : Records) : Type 0 where
+  pub made : List Undo
+  pub one : length made ≤ 1
+  pub undo : new ≡ record old { pending = old.pending ++ made }

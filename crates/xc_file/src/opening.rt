@@ -1,26 +1,27 @@
-ghost use Rattle.std.specs.Prelude.{◌≡◌, false, ℕ, IfOk, OnErr, IsTrue};
-ghost use Rattle.xc_data.specs.Counts.{CountsFault};
-ghost use Rattle.xc_data.specs.declared.call.Call.TheVariants.{XOpen};
+ghost use Rattle.std.specs.Prelude.{◌≡◌, ◌<◌, false, Some, IfOk, OnErr, IsTrue};
 ghost use Rattle.xc_world.specs.Late.{is_late};
-ghost use Rattle.xc_world.specs.World.{World};
-ghost use Rattle.xc_file.specs.Calls.{Acts, replies_fault};
+ghost use Rattle.xc_data.specs.Counts.{CountsFault};
+ghost use Rattle.xc_data.specs.Private.{lowest_vacant};
+ghost use Rattle.xc_data.specs.declared.call.Call.TheVariants.{XOpen};
+ghost use Rattle.xc_compensate.specs.Records.{Records};
+ghost use Rattle.xc_file.specs.Calls.{Acts, IsFileCall, is_check_reply, replies_fault};
 
 use xc_data::{Name, NoMemory, Place, Private, Reply};
 use xc_host::{Host, HostErr};
 
-/// Opens a name's file at its begin.
-pub fn x_open<H: Host>(host: &mut H, me: &mut Private, name: &Name) -> Result<Reply, NoMemory>
-    ensures acts { IsTrue H.tells → IfOk result (λ reply. (w : World) (tx : ℕ) →
-        Acts w (H.contents host.old) (H.contents host.new) me.old me.new tx (XOpen name.now) reply) }
-    ensures contents { IsTrue H.tells → H.contents host.new ≡ H.contents host.old }
-    ensures stored { (me.new.stored ≡ me.old.stored) × (me.new.made ≡ me.old.made) }
+// Opens a name's file at the lowest vacant handle.
+fn open_at<H: Host>(host: &mut H, me: &mut Private, name: &Name, h: u16) -> Result<Reply, NoMemory>
+    requires vacant { lowest_vacant me.old.places ≡ Some h }
+    requires handle { h < 256 }
+    ensures acts { IsTrue H.model.tells
+        → IfOk result (Acts (XOpen name.now) (H.model.contents host.old) (H.model.contents host.new) me.old me.new) }
+    ensures reply { IfOk result (λ reply. is_check_reply (XOpen name.now) reply ≡ false) }
+    ensures contents { IsTrue H.model.tells → H.model.contents host.new ≡ H.model.contents host.old }
+    ensures same { (me.new.stored ≡ me.old.stored) × (me.new.made ≡ me.old.made) }
     ensures err { OnErr result (me.new ≡ me.old) }
+    ensures cause { CountsFault (replies_fault result) (H.model.fault_count host.old) (H.model.fault_count host.new) }
     ensures now { IfOk result (λ reply. is_late reply ≡ false) }
-    ensures cause { CountsFault (replies_fault result) (H.fault_count host.old) (H.fault_count host.new) }
 {
-    let Some(h) = me.vacant() else {
-        return Ok(Reply::TooMuch);
-    };
     let num = match host.lookup(name) {
         Ok(Some(num)) => num,
         Ok(None) => return Ok(Reply::NoName),
@@ -29,4 +30,19 @@ pub fn x_open<H: Host>(host: &mut H, me: &mut Private, name: &Name) -> Result<Re
     };
     me.set_place(h, Place::File { num, at: 0 });
     Ok(Reply::Made(h))
+}
+
+/// Opens a name's file at its begin.
+pub fn x_open<H: Host>(host: &mut H, me: &mut Private, name: &Name) -> Result<Reply, NoMemory>
+    ensures call { (undo : Records) → IsFileCall H.model (XOpen name.now)
+        (record { host = host.old; me = me.old; undo = undo })
+        (record { host = host.new; me = me.new; undo = undo }) result }
+    ensures contents { IsTrue H.model.tells → H.model.contents host.new ≡ H.model.contents host.old }
+    ensures same { (me.new.stored ≡ me.old.stored) × (me.new.made ≡ me.old.made) }
+    ensures now { IfOk result (λ reply. is_late reply ≡ false) }
+{
+    let Some(h) = me.vacant() else {
+        return Ok(Reply::TooMuch);
+    };
+    open_at(host, me, name, h)
 }

@@ -1,14 +1,17 @@
-ghost use Rattle.std.specs.Prelude.{◌≡◌, false, ◌<◌, ◌≤◌, ◌+◌, ◌^◌, ℕ, true, length, take, drop, IfOk, OnErr, IsTrue};
+ghost use Rattle.std.specs.Prelude.{◌≡◌, ◌<◌, ◌≤◌, ◌+◌, ◌^◌, ℕ, true, false, length, take, drop, IfOk, OnErr, IsTrue};
+ghost use Rattle.xc_world.specs.Late.{is_late};
 ghost use Rattle.xc_data.specs.Counts.{CountsFault};
 ghost use Rattle.xc_data.specs.Private.{place_of};
 ghost use Rattle.xc_data.specs.declared.call.Call.TheVariants.{XRead};
-ghost use Rattle.xc_world.specs.Late.{is_late};
-ghost use Rattle.xc_world.specs.World.{World};
+ghost use Rattle.xc_data.specs.declared.private.Place.TheVariants.{File};
 ghost use Rattle.xc_host.specs.Cause.{is_fault};
 ghost use Rattle.xc_host.specs.Contents.{file_in, has_file};
-ghost use Rattle.xc_file.specs.Calls.{Acts, IsOpenIn, replies_fault};
+ghost use Rattle.xc_compensate.specs.Records.{Records};
+ghost use Rattle.xc_file.specs.Calls.{Acts, IsFileCall, IsOpenIn, is_check_reply, replies_fault};
+ghost use Rattle.xc_file.specs.Checks.{IsOpenAt};
 ghost use Rattle.xc_file.specs.Reading.{AppendsFront};
 
+use crate::checks::{OpenFile, open_file};
 use std::alloc::Global;
 use xc_data::{Chunk, NoMemory, Num, Place, Private, Reply};
 use xc_host::{Host, HostErr};
@@ -21,11 +24,12 @@ fn read_more<H: Host>(
     n: u32,
     bytes: &mut Vec<u8>,
 ) -> Result<u32, HostErr>
-    requires there { IsTrue H.tells → has_file (H.contents host.old) file ≡ true }
+    requires there { IsTrue H.model.tells → has_file (H.model.contents host.old) file ≡ true }
     ensures bound { IfOk result (λ more. (more ≤ n) × (length bytes.new.items ≡ length bytes.old.items + more)) }
-    ensures value { IsTrue H.tells → IfOk result (λ more. AppendsFront (file_in (H.contents host.old) file) at n more bytes.old.items bytes.new.items) }
-    ensures contents { IsTrue H.tells → H.contents host.new ≡ H.contents host.old }
-    ensures cause { CountsFault (is_fault result) (H.fault_count host.old) (H.fault_count host.new) }
+    ensures value { IsTrue H.model.tells
+        → IfOk result (λ more. AppendsFront (file_in (H.model.contents host.old) file) at n more bytes.old.items bytes.new.items) }
+    ensures contents { IsTrue H.model.tells → H.model.contents host.new ≡ H.model.contents host.old }
+    ensures cause { CountsFault (is_fault result) (H.model.fault_count host.old) (H.model.fault_count host.new) }
 {
     let piece = host.read_at(file, at, n)?;
     bytes.extend_from_slice(piece.as_slice())?;
@@ -42,11 +46,12 @@ pub(crate) fn read_whole<H: Host>(
     n: u32,
 ) -> Result<Vec<u8>, HostErr>
     requires room { at + n < 2 ^ 32 }
-    requires there { IsTrue H.tells → has_file (H.contents host.old) file ≡ true }
+    requires there { IsTrue H.model.tells → has_file (H.model.contents host.old) file ≡ true }
     ensures bound { IfOk result (λ bytes. length bytes.items ≤ n) }
-    ensures value { IsTrue H.tells → IfOk result (λ bytes. bytes.items ≡ take n (drop at (file_in (H.contents host.old) file))) }
-    ensures contents { IsTrue H.tells → H.contents host.new ≡ H.contents host.old }
-    ensures cause { CountsFault (is_fault result) (H.fault_count host.old) (H.fault_count host.new) }
+    ensures value { IsTrue H.model.tells
+        → IfOk result (λ bytes. bytes.items ≡ take n (drop at (file_in (H.model.contents host.old) file))) }
+    ensures contents { IsTrue H.model.tells → H.model.contents host.new ≡ H.model.contents host.old }
+    ensures cause { CountsFault (is_fault result) (H.model.fault_count host.old) (H.model.fault_count host.new) }
 {
     let mut bytes = Vec::new(alloc);
     let mut len: u32 = 0;
@@ -60,35 +65,28 @@ pub(crate) fn read_whole<H: Host>(
     Ok(bytes)
 }
 
-/// Reads the next n bytes of an open file, fewer where it ends before.
-pub fn x_read<H: Host>(
+// Reads the next n bytes of an open file that the checks let pass.
+fn read_next<H: Host>(
     alloc: Global,
     host: &mut H,
     me: &mut Private,
-    h: u16,
-    n: u64,
+    file: OpenFile,
+    n: u32,
 ) -> Result<Reply, NoMemory>
-    requires stored { me.old.stored ≤ 16384 }
-    requires open { IsTrue H.tells → IsOpenIn (H.contents host.old) (place_of me.old.places h) }
-    ensures acts { IsTrue H.tells → IfOk result (λ reply. (w : World) (tx : ℕ) →
-        Acts w (H.contents host.old) (H.contents host.new) me.old me.new tx (XRead h n) reply) }
-    ensures contents { IsTrue H.tells → H.contents host.new ≡ H.contents host.old }
+    requires file { IsOpenAt me.old file }
+    requires few { (n ≤ 1024) × (me.old.stored + n ≤ 16384) }
+    requires there { IsTrue H.model.tells → IsOpenIn (H.model.contents host.old) (File file.num file.at) }
+    ensures acts { IsTrue H.model.tells
+        → IfOk result (Acts (XRead file.h n) (H.model.contents host.old) (H.model.contents host.new) me.old me.new) }
+    ensures reply { IfOk result (λ reply. is_check_reply (XRead file.h n) reply ≡ false) }
+    ensures contents { IsTrue H.model.tells → H.model.contents host.new ≡ H.model.contents host.old }
     ensures stored { me.new.stored ≤ 16384 }
     ensures made { me.new.made ≡ me.old.made }
     ensures err { OnErr result (me.new ≡ me.old) }
+    ensures cause { CountsFault (replies_fault result) (H.model.fault_count host.old) (H.model.fault_count host.new) }
     ensures now { IfOk result (λ reply. is_late reply ≡ false) }
-    ensures cause { CountsFault (replies_fault result) (H.fault_count host.old) (H.fault_count host.new) }
 {
-    let Place::File { num, at } = me.place(h) else {
-        return Ok(Reply::BadHandle);
-    };
-    if n > 1024 {
-        return Ok(Reply::TooBig);
-    }
-    if me.stored as u64 + n > 16384 {
-        return Ok(Reply::TooMuch);
-    }
-    let n = n as u32;
+    let OpenFile { h, num, at } = file;
     if n == 0 {
         return Ok(Reply::Got(Chunk::new(alloc, &[])?));
     }
@@ -108,4 +106,29 @@ pub fn x_read<H: Host>(
     me.set_place(h, Place::File { num, at: at + len });
     me.stored += len;
     Ok(Reply::Got(bytes))
+}
+
+/// Reads the next n bytes of an open file, fewer where it ends before.
+pub fn x_read<H: Host>(
+    alloc: Global,
+    host: &mut H,
+    me: &mut Private,
+    h: u16,
+    n: u64,
+) -> Result<Reply, NoMemory>
+    requires stored { me.old.stored ≤ 16384 }
+    requires open { IsTrue H.model.tells → IsOpenIn (H.model.contents host.old) (place_of me.old.places h) }
+    ensures call { (undo : Records) → IsFileCall H.model (XRead h n)
+        (record { host = host.old; me = me.old; undo = undo })
+        (record { host = host.new; me = me.new; undo = undo }) result }
+    ensures contents { IsTrue H.model.tells → H.model.contents host.new ≡ H.model.contents host.old }
+    ensures stored { me.new.stored ≤ 16384 }
+    ensures made { me.new.made ≡ me.old.made }
+    ensures now { IfOk result (λ reply. is_late reply ≡ false) }
+{
+    let file = match open_file(me, h, n) {
+        Ok(file) => file,
+        Err(reply) => return Ok(reply),
+    };
+    read_next(alloc, host, me, file, n as u32)
 }

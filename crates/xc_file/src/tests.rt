@@ -1,138 +1,22 @@
-ghost use Rattle.std.specs.Prelude.{◌≡◌, ◌≤◌, true, false};
-ghost use Rattle.xc_data.specs.Counts.{CountsFault};
-ghost use Rattle.xc_host.specs.Contents.{nothing};
+ghost use Rattle.std.specs.Prelude.{◌≡◌, ◌≤◌};
 
 use crate::{x_open, x_read, x_write_ovr};
+use Asked::{Len, Read, Write};
 use std::alloc::Global;
 use std::test::Fail;
 use xc_compensate::Stack;
-use xc_data::{Chunk, Name, NoMemory, Num, Place, Private, Prologue, Reply};
-use xc_host::{Fault, Host, HostErr, OpenErr};
+use xc_data::{Chunk, Name, NoMemory, Num, Place, Private, Reply};
+use xc_testhost::{Asked, TestHost};
 
 const NUM: Num = Num { tx: 0, k: 0 };
 
 const ALL: u32 = 100;
 
-// A call of the host, with its place and the length that it asks for.
-#[derive(Clone, Copy, Debug, PartialEq)]
-enum Asked {
-    Lookup,
-    Len,
-    Read(u32, u32),
-    Write(u32, usize),
-}
-
-use Asked::{Len, Lookup, Read, Write};
-
-// A host of one file, `a`, that tells nothing. It does at most `grain` bytes a call, fails one call,
-// counted from 1, and writes down each.
-#[derive(Drop)]
-struct Logged {
-    alloc: Global,
-    bytes: Vec<u8>,
-    // What it says of the file's length.
-    len: u32,
-    grain: u32,
-    fail: usize,
-    faults: u64,
-    log: Vec<Asked>,
-}
-
-impl Logged {
-    // Writes down a call, and says whether it fails.
-    fn fails(&mut self, call: Asked) -> bool
-        ensures { CountsFault result self.old.faults self.new.faults }
-    {
-        let written = self.log.push(call);
-        if written.is_ok() && self.log.len() != self.fail {
-            return false;
-        }
-        self.faults = self.faults.saturating_add(1);
-        true
-    }
-}
-
-// Writes new bytes over those from a place on.
-fn put(bytes: &mut [u8], at: usize, new: &[u8]) {
-    for (place, byte) in bytes.iter_mut().skip(at).zip(new) {
-        *place = *byte;
-    }
-}
-
-impl Host for Logged {
-    ghost tells = { false };
-
-    ghost takes_scripts = { true };
-
-    ghost contents = { λ _. nothing };
-
-    ghost fault_count = { λ s. s.faults };
-
-    fn faults(&self) -> u64 {
-        self.faults
-    }
-
-    fn scripted(&self) -> bool {
-        true
-    }
-
-    fn open_with(&mut self, _prologue: &Prologue) -> Result<(), OpenErr> {
-        Err(OpenErr::NoMemory)
-    }
-
-    fn lookup(&mut self, name: &Name) -> Result<Option<Num>, HostErr> {
-        if self.fails(Lookup) {
-            return Err(HostErr::Fault);
-        }
-        if name.as_slice() == b"a".as_slice() {
-            Ok(Some(NUM))
-        } else {
-            Ok(None)
-        }
-    }
-
-    fn len(&mut self, _file: Num) -> Result<u32, Fault> {
-        if self.fails(Len) {
-            return Err(Fault);
-        }
-        Ok(self.len)
-    }
-
-    fn read_at(&mut self, _file: Num, at: u32, n: u32) -> Result<Chunk, HostErr> {
-        if self.fails(Read(at, n)) {
-            return Err(HostErr::Fault);
-        }
-        let from = self.bytes.len().min(at as usize);
-        let to = self.bytes.len().min(from + n.min(self.grain) as usize);
-        Ok(Chunk::new(self.alloc, &self.bytes[from..to])?)
-    }
-
-    fn write_at(&mut self, _file: Num, at: u32, bytes: &[u8]) -> Result<u32, Fault> {
-        if self.fails(Write(at, bytes.len())) {
-            return Err(Fault);
-        }
-        let n = bytes.len().min(self.grain as usize).max(1);
-        put(&mut self.bytes, at as usize, &bytes[..n]);
-        Ok(n as u32)
-    }
-
-    fn restore(&mut self, file: Num, at: u32, bytes: &[u8]) -> Result<u32, Fault> {
-        self.write_at(file, at, bytes)
-    }
-}
-
-fn host_of(alloc: Global, bytes: &[u8], grain: u32, fail: usize) -> Result<Logged, NoMemory> {
-    let mut copy = Vec::new(alloc);
-    copy.extend_from_slice(bytes)?;
-    Ok(Logged {
-        alloc,
-        bytes: copy,
-        len: bytes.len().min(65536) as u32,
-        grain,
-        fail,
-        faults: 0,
-        log: Vec::new(alloc),
-    })
+fn host_of(alloc: Global, bytes: &[u8], grain: u32, fail: usize) -> Result<TestHost, NoMemory> {
+    let mut host = TestHost::new(alloc, bytes, bytes.len().min(65536) as u32)?;
+    host.grain = grain;
+    host.fails = [fail, 0, 0];
+    Ok(host)
 }
 
 // The file is open at handle 0.
@@ -339,7 +223,7 @@ fn a_name_is_opened(rt: HostRuntime) -> Result<(), Fail> {
 // A read and an overwrite of so many bytes at a handle, where a file of four bytes is open at handle 0.
 fn both(
     alloc: Global,
-    host: &mut Logged,
+    host: &mut TestHost,
     mut me: Private,
     h: u16,
     n: usize,
@@ -400,7 +284,7 @@ fn old_bytes_that_are_not_there(rt: HostRuntime) -> Result<(), Fail> {
 // Reads a file in pieces of 1,024, each by a transaction of its own, and answers the last reply.
 fn read_in_pieces(
     alloc: Global,
-    host: &mut Logged,
+    host: &mut TestHost,
     text: &mut Vec<u8>,
 ) -> Result<&'static str, NoMemory> {
     let mut at = 0;

@@ -3,7 +3,7 @@ ghost use Rattle.xc_data.specs.Counts.{CountsFault};
 ghost use Rattle.xc_host.specs.Contents.{file_in, has_file, wrote_front};
 
 use xc_data::Num;
-use xc_host::Host;
+use xc_host::{Host, a_front_grows, a_write_keeps_the_length};
 
 /// How many bytes are done, and whether a fault stopped the write there.
 #[derive(Clone, Copy)]
@@ -15,13 +15,16 @@ pub(crate) struct Written {
 /// Writes until all is written or a write fails.
 pub(crate) fn write_whole<H: Host>(host: &mut H, file: Num, at: u32, bytes: &[u8]) -> Written
     requires room { at + length bytes.now < 2 ^ 32 }
-    requires there { IsTrue H.tells → has_file (H.contents host.old) file ≡ true }
-    requires inside { IsTrue H.tells → at + length bytes.now ≤ length (file_in (H.contents host.old) file) }
+    requires there { IsTrue H.model.tells → has_file (H.model.contents host.old) file ≡ true }
+    requires inside { IsTrue H.model.tells → at + length bytes.now ≤ length (file_in (H.model.contents host.old) file) }
     ensures whole { result.fault ≡ false → result.done ≡ length bytes.now }
     ensures short { result.fault ≡ true → result.done < length bytes.now }
-    ensures contents { IsTrue H.tells → H.contents host.new ≡ wrote_front (H.contents host.old) file at (take result.done bytes.now) }
-    ensures cause { CountsFault result.fault (H.fault_count host.old) (H.fault_count host.new) }
+    ensures contents { IsTrue H.model.tells
+        → H.model.contents host.new ≡ wrote_front (H.model.contents host.old) file at (take result.done bytes.now) }
+    ensures cause { CountsFault result.fault (H.model.fault_count host.old) (H.model.fault_count host.new) }
 {
+    a_front_grows();
+    a_write_keeps_the_length();
     let mut done: u32 = 0;
     while (done as usize) < bytes.len() {
         match host.write_at(file, at + done, &bytes[done as usize..]) {

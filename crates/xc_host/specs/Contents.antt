@@ -20,6 +20,7 @@ pub record Contents : Type 0 where
 abbrev pub file_in : Contents → Num → List ℕ
 file_in c num = unwrap_or (map.get c.files num) []
 
+-- there is such a file
 abbrev pub has_file : Contents → Num → Bool
 has_file c num = is_some (map.get c.files num)
 

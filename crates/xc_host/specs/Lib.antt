@@ -1,3 +1,4 @@
 pub mod Contents
 pub mod Cause
 pub mod Fronts
+pub mod Model

@@ -5,6 +5,8 @@
 
 mod errors;
 mod host;
+mod laws;
 
 pub use errors::{Fault, HostErr, OpenErr};
 pub use host::Host;
+pub use laws::{a_front_grows, a_write_keeps_the_length};

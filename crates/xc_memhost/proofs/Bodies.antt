@@ -19,7 +19,8 @@ opens_contents c num (opened.Pipe bytes) = refl
 opens_contents c num opened.Pair = refl
 
 -- a file's body is taken out, written over and put back
-pub written_back : (c : Contents) (file : Num) (at : ℕ) (bytes empty body next : List ℕ) (without with_it : map.FinMap num_cmp (List ℕ)) → Some body ≡ map.get c.files file → without ≡ map.insert c.files file empty
+pub written_back : (c : Contents) (file : Num) (at : ℕ) (bytes empty body next : List ℕ) (without with_it : map.FinMap num_cmp (List ℕ))
+    → Some body ≡ map.get c.files file → without ≡ map.insert c.files file empty
     → next ≡ overwritten at bytes body → with_it ≡ map.insert without file next → record c { files = with_it } ≡ wrote c file at bytes
 written_back c file at bytes empty body next without with_it held taken over put =
     ap (λ m. record c { files = m })

@@ -12,6 +12,7 @@ use Rattle.xc_memhost.specs.declared.calls.HostAnswer.TheVariants.{Found, Number
 use Rattle.xc_memhost.specs.State.{HostState}
 use Rattle.xc_memhost.specs.Faults.{is_listed, begun, grained}
 
+-- the kind of a call
 abbrev pub kind_of : HostCall → Kind
 kind_of (call.Lookup name) = kind.Lookup
 kind_of (call.Len file) = kind.Len
@@ -32,6 +33,7 @@ written_of s bytes = grained s.grain (length bytes)
 abbrev pub written : HostState → Num → ℕ → List ℕ → Contents
 written s file at bytes = wrote s.contents file at (take (written_of s bytes) bytes)
 
+-- its answer
 abbrev pub done : HostState → HostCall → HostAnswer
 done s (call.Lookup name) = Found (map.get s.contents.names name)
 done s (call.Len file) = Number (length (file_in s.contents file))
@@ -39,23 +41,28 @@ done s (call.ReadAt file at n) = Got (front_of s file at n)
 done s (call.WriteAt file at bytes) = Number (written_of s bytes)
 done s (call.Restore file at bytes) = Number (written_of s bytes)
 
+-- the contents after it
 abbrev pub changed : HostState → HostCall → Contents
 changed s (call.WriteAt file at bytes) = written s file at bytes
 changed s (call.Restore file at bytes) = written s file at bytes
 changed s _ = s.contents
 
 -- ---- any call: a listed one fails and changes nothing but the counts
+-- its answer
 abbrev pub answer : HostState → HostCall → HostAnswer
 answer s c = if is_listed (kind_of c) s then Fault else done s c
 
+-- the state after it
 abbrev pub after : HostState → HostCall → HostState
 after s c = record (begun (kind_of c) s) { contents = if is_listed (kind_of c) s then s.contents else changed s c }
 
 -- ---- calls one after another
+-- what each answers
 abbrev pub answers : HostState → List HostCall → List HostAnswer
 answers s [] = []
 answers s (c ∷ cs) = answer s c ∷ answers (after s c) cs
 
+-- the state after all of them
 abbrev pub after_all : HostState → List HostCall → HostState
 after_all s [] = s
 after_all s (c ∷ cs) = after_all (after s c) cs
@@ -67,6 +74,7 @@ pub record MayWrite (c : Contents) (file : Num) (at : ℕ) (bytes : List ℕ) : 
   pub inside : at + length bytes ≤ length (file_in c file)
   pub some : 0 < length bytes
 
+-- a call asks of files that are there
 abbrev pub IsAllowed : Contents → HostCall → Type 0
 IsAllowed c (call.Lookup name) = Unit {0}
 IsAllowed c (call.Len file) = has_file c file ≡ true

@@ -1,4 +1,4 @@
-ghost use Rattle.std.specs.Prelude.{◌≡◌, IfOk, OnOk};
+ghost use Rattle.std.specs.Prelude.{◌≡◌, ◌≤◌, ℕ, length, take, IfOk, OnOk, OnErr};
 ghost use Rattle.xc_memhost.specs.Machine.{answer, after, answers, after_all, IsAllowed, AreAllowed};
 
 use crate::MemHost;
@@ -30,7 +30,7 @@ pub type AnswerList = Items<HostAnswer>;
 fn ask(host: &mut MemHost, call: &HostCall) -> Result<HostAnswer, NoMemory>
     requires { IsAllowed host.old.contents call.now }
     ensures answer { IfOk result (λ a. a ≡ answer host.old call.now) }
-    ensures state { OnOk result (host.new ≡ after host.old call.now) }
+    ensures state { host.new ≡ after host.old call.now }
 {
     match call {
         HostCall::Lookup(name) => match host.lookup(name) {
@@ -63,6 +63,7 @@ fn ask(host: &mut MemHost, call: &HostCall) -> Result<HostAnswer, NoMemory>
 }
 
 /// Makes the calls one after another. Their answers and the state afterwards are the plain machine's.
+/// Want of memory leaves the state behind a front of them.
 pub fn run_calls(
     alloc: Global,
     host: &mut MemHost,
@@ -71,6 +72,7 @@ pub fn run_calls(
     requires { AreAllowed host.old calls.now }
     ensures answers { IfOk result (λ list. list ≡ answers host.old calls.now) }
     ensures state { OnOk result (host.new ≡ after_all host.old calls.now) }
+    ensures memory { OnErr result ((k : ℕ) × (k ≤ length calls.now) × (host.new ≡ after_all host.old (take k calls.now))) }
 {
     let mut list = Items::new(alloc);
     for call in calls {

@@ -1,11 +1,12 @@
-ghost use Rattle.std.specs.Prelude.{◌≡◌, ◌≤◌, ◌<◌, ◌+◌, ◌&&◌, not, true, false, length, take, IsTrue, IfOk, IfSome, OnOk, OnErr, IsErrOf, is_some, is_err};
+ghost use Rattle.std.specs.Prelude.{◌≡◌, ◌≤◌, ◌<◌, ◌+◌, ◌&&◌, not, true, false, length};
+ghost use Rattle.std.specs.Prelude.{take, IsTrue, IfOk, IfSome, OnOk, OnErr, IsErrOf, is_some, is_err};
 ghost use Rattle.std.specs.FinMap as map;
 ghost use Rattle.xc_data.specs.Counts.{CountsFault};
 ghost use Rattle.xc_data.specs.Limits.{IsPrologue};
 ghost use Rattle.xc_host.specs.Cause.{is_fault};
 ghost use Rattle.xc_host.specs.Contents.{file_in, has_file, wrote, opened, needs_scripted};
 ghost use Rattle.xc_host.specs.Fronts.{IsFront};
-ghost use Rattle.xc_memhost.specs.State.{empty_state, opened_state};
+ghost use Rattle.xc_memhost.specs.State.{empty_state, opened_state, mem_host_model};
 ghost use Rattle.xc_memhost.specs.Faults.{is_listed, begun};
 ghost use Rattle.xc_memhost.specs.Machine.{front_of, written_of, written};
 
@@ -36,7 +37,8 @@ impl Model for MemHost {
 
     ghost coded = { coded_state };
 
-    ghost view = { λ a. record { contents = a.objects; lines = a.lines; grain = a.grain; calls = a.calls; all = a.all; fault_count = a.faults } };
+    ghost view = { λ a. record
+        { contents = a.objects; lines = a.lines; grain = a.grain; calls = a.calls; all = a.all; fault_count = a.faults } };
 
     ghost invariant = { λ a. IsGrain a.grain };
 }
@@ -100,33 +102,18 @@ impl MemHost {
 }
 
 impl Host for MemHost {
-    ghost tells = { true };
-
-    ghost takes_scripts = { true };
-
-    ghost contents = { λ s. s.contents };
-
-    ghost fault_count = { λ s. s.fault_count };
+    ghost model = { mem_host_model };
 
     fn faults(&self) -> u64 {
         self.faults
     }
 
-    fn scripted(&self) -> bool {
-        true
-    }
-
     fn open_with(&mut self, prologue: &Prologue) -> Result<(), OpenErr>
         requires { IsPrologue prologue.now }
-        ensures ok { IsTrue true → OnOk result (self.new.contents ≡ opened prologue.now.objects) }
-        ensures err { IsTrue true → OnErr result (self.new.contents ≡ self.old.contents) }
-        ensures taken { OnOk result (not true && needs_scripted prologue.now ≡ false) }
-        ensures refused { IsErrOf result OpenErr.NotScripted → not true && needs_scripted prologue.now ≡ true }
-        ensures count { self.new.fault_count ≡ self.old.fault_count }
-
-        // All counts of calls begin anew. Want of memory changes nothing.
+        // All counts of calls begin anew.
         ensures state { OnOk result (self.new ≡ opened_state prologue.now self.old.fault_count) }
         ensures unchanged { OnErr result (self.new ≡ self.old) }
+        ensures refused { IsErrOf result OpenErr.NotScripted → ⊥ }
     {
         let objects = Objects::of(self.alloc, prologue.objects.as_slice())?;
         let lines = lines_of(self.alloc, prologue.faults.as_slice())?;
@@ -139,8 +126,7 @@ impl Host for MemHost {
     }
 
     fn lookup(&mut self, name: &Name) -> Result<Option<Num>, HostErr>
-        ensures value { IsTrue true → IfOk result (λ found. found ≡ map.get self.old.contents.names name.now) }
-        ensures stays { IsTrue true → self.new.contents ≡ self.old.contents }
+        ensures value { IfOk result (λ found. found ≡ map.get self.old.contents.names name.now) }
         ensures cause { CountsFault (is_fault result) self.old.fault_count self.new.fault_count }
 
         // Exactly the listed calls fail, and none wants memory.
@@ -156,8 +142,7 @@ impl Host for MemHost {
 
     fn len(&mut self, file: Num) -> Result<u32, Fault>
         requires there { has_file self.old.contents file ≡ true }
-        ensures value { IsTrue true → IfOk result (λ n. n ≡ length (file_in self.old.contents file)) }
-        ensures stays { IsTrue true → self.new.contents ≡ self.old.contents }
+        ensures value { IfOk result (λ n. n ≡ length (file_in self.old.contents file)) }
         ensures cause { CountsFault (is_err result) self.old.fault_count self.new.fault_count }
 
         // Exactly the listed calls fail.
@@ -173,8 +158,7 @@ impl Host for MemHost {
     fn read_at(&mut self, file: Num, at: u32, n: u32) -> Result<Chunk, HostErr>
         requires there { has_file self.old.contents file ≡ true }
         ensures bound { IfOk result (λ front. length front ≤ n) }
-        ensures value { IsTrue true → IfOk result (λ front. IsFront (file_in self.old.contents file) at n front) }
-        ensures stays { IsTrue true → self.new.contents ≡ self.old.contents }
+        ensures value { IfOk result (λ front. IsFront (file_in self.old.contents file) at n front) }
         ensures cause { CountsFault (is_fault result) self.old.fault_count self.new.fault_count }
 
         // Exactly the listed calls fail, and a read gives exactly so many bytes.
@@ -194,8 +178,7 @@ impl Host for MemHost {
         requires inside { at + length bytes.now ≤ length (file_in self.old.contents file) }
         requires some { 0 < length bytes.now }
         ensures bound { IfOk result (λ n. (0 < n) × (n ≤ length bytes.now)) }
-        ensures ok { IsTrue true → IfOk result (λ n. self.new.contents ≡ wrote self.old.contents file at (take n bytes.now)) }
-        ensures err { IsTrue true → OnErr result (self.new.contents ≡ self.old.contents) }
+        ensures ok { IfOk result (λ n. self.new.contents ≡ wrote self.old.contents file at (take n bytes.now)) }
         ensures cause { CountsFault (is_err result) self.old.fault_count self.new.fault_count }
 
         // Exactly the listed calls fail, and a write does exactly so many bytes.
@@ -215,8 +198,7 @@ impl Host for MemHost {
         requires inside { at + length bytes.now ≤ length (file_in self.old.contents file) }
         requires some { 0 < length bytes.now }
         ensures bound { IfOk result (λ n. (0 < n) × (n ≤ length bytes.now)) }
-        ensures ok { IsTrue true → IfOk result (λ n. self.new.contents ≡ wrote self.old.contents file at (take n bytes.now)) }
-        ensures err { IsTrue true → OnErr result (self.new.contents ≡ self.old.contents) }
+        ensures ok { IfOk result (λ n. self.new.contents ≡ wrote self.old.contents file at (take n bytes.now)) }
         ensures cause { CountsFault (is_err result) self.old.fault_count self.new.fault_count }
 
         // As a write.

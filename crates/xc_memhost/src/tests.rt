@@ -1,16 +1,21 @@
-ghost use Rattle.std.specs.Prelude.{◌≡◌, ℕ, IsTrue, All, true, false};
+ghost use Rattle.std.specs.Prelude.{IsTrue, All};
 ghost use Rattle.xc_data.specs.Limits.{IsPrologue, IsOpenedFit, IsGrain};
-ghost use Rattle.xc_host.specs.Contents.{nothing, has_file};
 ghost use Rattle.xc_memhost.specs.Machine.{IsAllowed, MayWrite};
 
 use crate::{HostAnswer, HostCall, MemHost, run_calls};
 use std::alloc::Global;
 use std::test::Fail;
 use xc_data::{Chunk, FaultLine, Items, Kind, Name, NoMemory, Num, Opened, OpenedList, Prologue};
-use xc_host::{Fault, Host, HostErr, OpenErr};
+use xc_host::{Host, HostErr};
 
 // The file of the prologue.
 const FILE: Num = Num { tx: 0, k: 0 };
+
+// The most bytes of a file, and of one call.
+const MAX_FILE: usize = 65536;
+
+// The most bytes of a pipe.
+const MAX_PIPE: usize = 4096;
 
 // Calls with their answers, of a host with the file `a` of bytes `abcdef`.
 #[derive(Drop)]
@@ -27,8 +32,8 @@ fn is_fit(opened: &Opened) -> bool
     ensures { IsTrue result → IsOpenedFit opened.now }
 {
     match opened {
-        Opened::File { bytes, .. } => bytes.len() <= 65536,
-        Opened::Pipe { bytes } => bytes.len() <= 4096,
+        Opened::File { bytes, .. } => bytes.len() <= MAX_FILE,
+        Opened::Pipe { bytes } => bytes.len() <= MAX_PIPE,
         Opened::Pair => true,
     }
 }
@@ -48,7 +53,7 @@ fn is_grain(grain: Option<u32>) -> bool
     ensures { IsTrue result → IsGrain grain }
 {
     match grain {
-        Some(grain) => 1 <= grain && grain <= 65536,
+        Some(grain) => 1 <= grain && grain as usize <= MAX_FILE,
         None => true,
     }
 }
@@ -308,72 +313,4 @@ fn opened_again(rt: HostRuntime) -> Result<(), Fail> {
     assert!(rt; is_prologue(&nothing) && host.open_with(&nothing).is_ok());
     assert_eq!(rt; host.lookup(&name(b"a")?), Ok(None));
     Ok(())
-}
-
-// A host that tells nothing. Its reads and restorations fail.
-#[derive(Drop)]
-struct Silent {
-    faults: u64,
-}
-
-impl Host for Silent {
-    ghost tells = { false };
-
-    ghost takes_scripts = { false };
-
-    ghost contents = { λ _. nothing };
-
-    ghost fault_count = { λ s. s.faults };
-
-    fn faults(&self) -> u64 {
-        self.faults
-    }
-
-    fn scripted(&self) -> bool {
-        false
-    }
-
-    fn open_with(&mut self, prologue: &Prologue) -> Result<(), OpenErr> {
-        if !prologue.objects.is_empty() || !prologue.faults.is_empty() || prologue.grain.is_some() {
-            return Err(OpenErr::NotScripted);
-        }
-        Ok(())
-    }
-
-    fn lookup(&mut self, _name: &Name) -> Result<Option<Num>, HostErr> {
-        Ok(Some(FILE))
-    }
-
-    fn len(&mut self, _file: Num) -> Result<u32, Fault> {
-        Ok(7)
-    }
-
-    fn read_at(&mut self, _file: Num, _at: u32, _n: u32) -> Result<Chunk, HostErr> {
-        self.faults = self.faults.saturating_add(1);
-        Err(HostErr::Fault)
-    }
-
-    fn write_at(&mut self, _file: Num, _at: u32, _bytes: &[u8]) -> Result<u32, Fault> {
-        Ok(1)
-    }
-
-    fn restore(&mut self, _file: Num, _at: u32, _bytes: &[u8]) -> Result<u32, Fault> {
-        self.faults = self.faults.saturating_add(1);
-        Err(Fault)
-    }
-}
-
-// Whether a length comes and a read fails, and is counted.
-fn reads_fail<H: Host>(host: &mut H, file: Num) -> bool
-    requires { IsTrue H.tells → has_file (H.contents host.old) file ≡ true }
-{
-    let before = host.faults();
-    let told = host.len(file).is_ok();
-    told && host.read_at(file, 0, 1).is_err() && host.faults() > before
-}
-
-#[test]
-fn silent_host(rt: HostRuntime) {
-    let mut host = Silent { faults: 0 };
-    assert!(rt; reads_fail(&mut host, FILE));
 }

@@ -6,13 +6,13 @@ use Rattle.xc_compensate.proofs.undoing.restore_whole.Given as goal
 
 abbrev pub invariant-loop-progress : goal.invariant-loop-progress
 invariant-loop-progress g l =
-    let host = g.H.Host in
+    let model = g.H.Host.model in
     record {
       room : l.progress.done ≤ length l.bytes;
       left : l.progress.faults < l.tries;
-      fits : IsTrue host.tells → FitsIn (host.contents l.host) l.file l.at l.bytes;
-      told : IsTrue host.tells → host.contents l.host ≡ wrote_front (host.contents l.fn.host) l.file l.at (take l.progress.done l.bytes);
-      faults : CountsFaults l.progress.faults (host.fault_count l.fn.host) (host.fault_count l.host);
+      fits : IsTrue model.tells → FitsIn (model.contents l.host) l.file l.at l.bytes;
+      told : IsTrue model.tells → model.contents l.host ≡ wrote_front (model.contents l.fn.host) l.file l.at (take l.progress.done l.bytes);
+      faults : CountsFaults l.progress.faults (model.fault_count l.fn.host) (model.fault_count l.host);
     }
 
 -- the bytes and the tries that are left

@@ -5,13 +5,13 @@ use Rattle.xc_file.proofs.reading.read_whole.Given as goal
 -- what is read so far is a front, and no fault came
 abbrev pub invariant-loop-len : goal.invariant-loop-len
 invariant-loop-len g l =
-    let host = g.H.Host in
+    let model = g.H.Host.model in
     record {
       len : length l.bytes.items ≡ l.len;
       room : l.len ≤ l.n;
-      told : IsTrue host.tells → l.bytes.items ≡ take l.len (drop l.at (file_in (host.contents l.fn.host) l.file));
-      contents : IsTrue host.tells → host.contents l.host ≡ host.contents l.fn.host;
-      faults : host.fault_count l.host ≡ host.fault_count l.fn.host;
+      told : IsTrue model.tells → l.bytes.items ≡ take l.len (drop l.at (file_in (model.contents l.fn.host) l.file));
+      contents : IsTrue model.tells → model.contents l.host ≡ model.contents l.fn.host;
+      faults : model.fault_count l.host ≡ model.fault_count l.fn.host;
     }
 
 abbrev pub decreases-loop-len : goal.decreases-loop-len

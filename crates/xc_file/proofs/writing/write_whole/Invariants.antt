@@ -1,15 +1,17 @@
-use Rattle.std.proofs.Common.{◌≡◌, ◌-◌, ◌≤◌, length, take, IsTrue}
-use Rattle.xc_host.specs.Contents.{wrote_front}
+use Rattle.std.proofs.Common.{◌≡◌, ◌+◌, ◌-◌, ◌≤◌, true, length, take, IsTrue}
+use Rattle.xc_host.specs.Contents.{file_in, has_file, wrote_front}
 use Rattle.xc_file.proofs.writing.write_whole.Given as goal
 
 -- a front is written so far, and no fault came
 abbrev pub invariant-loop-done : goal.invariant-loop-done
 invariant-loop-done g l =
-    let host = g.H.Host in
+    let model = g.H.Host.model in
     record {
       room : l.done ≤ length l.bytes;
-      told : IsTrue host.tells → host.contents l.host ≡ wrote_front (host.contents l.fn.host) l.file l.at (take l.done l.bytes);
-      faults : host.fault_count l.host ≡ host.fault_count l.fn.host;
+      there : IsTrue model.tells → has_file (model.contents l.host) l.file ≡ true;
+      inside : IsTrue model.tells → l.at + length l.bytes ≤ length (file_in (model.contents l.host) l.file);
+      told : IsTrue model.tells → model.contents l.host ≡ wrote_front (model.contents l.fn.host) l.file l.at (take l.done l.bytes);
+      faults : model.fault_count l.host ≡ model.fault_count l.fn.host;
     }
 
 abbrev pub decreases-loop-done : goal.decreases-loop-done

@@ -10,5 +10,6 @@ replace-requires-2 c = record { there = ap (λ m. is_some (map.get m c.args.file
 
 pub returns : goal.returns
 returns c =
-    written_back _ _ c.args.at c.args.bytes.now _ _ _ _ _ (sym c.in-Some.is ∙ c.replace.ensures.value) c.replace.ensures.replaced c.overwrite.ensures c.replace-2.ensures.replaced
+    written_back _ _ c.args.at c.args.bytes.now _ _ _ _ _
+    (sym c.in-Some.is ∙ c.replace.ensures.value) c.replace.ensures.replaced c.overwrite.ensures c.replace-2.ensures.replaced
     ∙ ap (λ x. wrote x c.args.file c.args.at c.args.bytes.now) c.self.view_is

@@ -1,0 +1,40 @@
+ghost use Rattle.std.specs.Prelude.{◌≡◌, ◌≤◌, ◌+◌, false, IfOk, IfErr, OnOk, MatchResult};
+ghost use Rattle.std.specs.declared.option.Option.TheVariants.{None, Some};
+ghost use Rattle.xc_world.specs.Late.{is_late};
+ghost use Rattle.xc_file.specs.Checks.{IsOpenAt, refusal_at};
+
+use xc_data::{Num, Place, Private, Reply};
+
+/// The most bytes that one call reads or writes.
+const MAX_BYTES: u64 = 1024;
+
+/// The most bytes that a transaction stores.
+const MAX_STORED: u64 = 16384;
+
+/// A file that is open at a handle, and its position.
+#[derive(Clone, Copy)]
+pub(crate) struct OpenFile {
+    pub(crate) h: u16,
+    pub(crate) num: Num,
+    pub(crate) at: u32,
+}
+
+/// The file at a handle, for a call of n bytes, or the reply of the check that refuses it.
+pub(crate) fn open_file(me: &Private, h: u16, n: u64) -> Result<OpenFile, Reply>
+    requires stored { me.now.stored ≤ 16384 }
+    ensures open { IfOk result (λ file. (file.h ≡ h) × IsOpenAt me.now file) }
+    ensures few { OnOk result ((n ≤ 1024) × (me.now.stored + n ≤ 16384)) }
+    ensures now { IfErr result (λ reply. is_late reply ≡ false) }
+    ensures checks { MatchResult result (λ file. refusal_at me.now h n ≡ None) (λ reply. refusal_at me.now h n ≡ Some reply) }
+{
+    let Place::File { num, at } = me.place(h) else {
+        return Err(Reply::BadHandle);
+    };
+    if n > MAX_BYTES {
+        return Err(Reply::TooBig);
+    }
+    if me.stored as u64 + n > MAX_STORED {
+        return Err(Reply::TooMuch);
+    }
+    Ok(OpenFile { h, num, at })
+}

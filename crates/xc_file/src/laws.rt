@@ -1,0 +1,20 @@
+ghost use Rattle.std.specs.Prelude.{◌≡◌, ℕ};
+ghost use Rattle.std.specs.declared.option.Option.TheVariants.{None, Some};
+ghost use Rattle.xc_data.specs.declared.call.Call.{Call};
+ghost use Rattle.xc_data.specs.declared.call.Answer.{Answer};
+ghost use Rattle.xc_data.specs.declared.call.Reply.{Reply};
+ghost use Rattle.xc_data.specs.declared.private.Private.{Private};
+ghost use Rattle.xc_world.specs.World.{World};
+ghost use Rattle.xc_world.specs.Act.{act};
+ghost use Rattle.xc_world.specs.Act.Step.{stays};
+ghost use Rattle.xc_world.specs.Checks.{is_bad_word, is_refused};
+ghost use Rattle.xc_file.specs.Calls.{refusal_of};
+
+/// A check that refuses a call does so on the plain machine, with the same reply. Where none does, only
+/// a bad word is refused there.
+pub fn a_check_refuses_as_the_plain_machine()
+    ensures refused { (w : World) (me : Private) (tx : ℕ) (call : Call) (answer : Answer) (r : Reply) → refusal_of call me ≡ Some r
+        → act w me tx call answer ≡ stays w me r }
+    ensures passed { (me : Private) (call : Call) (words : ℕ) → refusal_of call me ≡ None
+        → is_refused call me words ≡ is_bad_word call words }
+{}

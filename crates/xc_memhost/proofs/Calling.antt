@@ -1,0 +1,24 @@
+-- Calls of a host in memory that follow each other.
+use Rattle.std.proofs.Common.{◌≡◌, ℕ, zero, suc, ◌+◌, ◌<◌, ◌≤◌, List, [], ◌∷◌, length, take, get_or, add-one, Result, Ok, Err, OnErr, ap, ◌∙◌, arith}
+use Rattle.xc_memhost.specs.declared.calls.HostCall.{HostCall}
+use Rattle.xc_memhost.specs.State.{HostState}
+use Rattle.xc_memhost.specs.Machine.{after, after_all}
+
+after_next : (s : HostState) (calls : List HostCall) (i : ℕ) (c : HostCall) → i < length calls → c ≡ get_or calls i c
+    → after (after_all s (take i calls)) c ≡ after_all s (take (suc i) calls)
+after_next s [] i c le is = absurd (omega (arith, le))
+after_next s (d ∷ ds) zero c le is = ap (after s) is
+after_next s (d ∷ ds) (suc i) c le is = after_next (after s d) ds i c (omega (arith, le)) is
+
+-- the state behind one more call of a list
+pub made_more : (old now host : HostState) (calls : List HostCall) (i : ℕ) (c : HostCall) → host ≡ after_all old (take i calls) → i < length calls
+    → c ≡ get_or calls i c → now ≡ after host c
+    → now ≡ after_all old (take (i + 1) calls)
+made_more old now host calls i c so_far le is one = one ∙ ap (λ s. after s c) so_far ∙ rw (add-one i) (after_next old calls i c le is)
+
+-- where memory is wanting, a front of the calls was made
+pub stopped_behind : {T E : Type 0} (r : Result T E) (old now host : HostState) (calls : List HostCall) (i : ℕ) (c : HostCall)
+    → host ≡ after_all old (take i calls) → i < length calls → c ≡ get_or calls i c → now ≡ after host c
+    → OnErr r ((k : ℕ) × (k ≤ length calls) × (now ≡ after_all old (take k calls)))
+stopped_behind (Ok x) old now host calls i c so_far le is one = tt
+stopped_behind (Err e) old now host calls i c so_far le is one = (i + 1, omega (arith, le), made_more old now host calls i c so_far le is one)

@@ -1,0 +1,8 @@
+//! A host for the tests of what stands above hosts.
+#![tactic(auto)]
+
+mod test_host;
+#[cfg(test)]
+mod tests;
+
+pub use test_host::{Asked, TestHost};
