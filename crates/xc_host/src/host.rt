@@ -39,7 +39,7 @@ pub trait Host: Drop {
     fn open_with(&mut self, prologue: &Prologue) -> Result<(), OpenErr>
         requires { IsPrologue prologue.now }
         ensures ok { IsTrue tells → OnOk result (contents self.new ≡ opened prologue.now.objects) }
-        ensures err { IsTrue tells → OnErr result (contents self.new ≡ contents self.old) }
+        ensures err { OnErr result (self.new ≡ self.old) }
         ensures taken { OnOk result (not takes_scripts && needs_scripted prologue.now ≡ false) }
         ensures refused { IsErrOf result OpenErr.NotScripted → not takes_scripts && needs_scripted prologue.now ≡ true }
         ensures count { fault_count self.new ≡ fault_count self.old };
