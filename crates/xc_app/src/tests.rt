@@ -46,11 +46,35 @@ fn scripts_and_faults(rt: HostRuntime) -> Result<(), Fail> {
         why: Why::UnknownLine,
     };
     let cases = [
-        ("a commit", ONE_COMMIT, (false, false), Status::Done, COMMITTED),
+        (
+            "a commit",
+            ONE_COMMIT,
+            (false, false),
+            Status::Done,
+            COMMITTED,
+        ),
         ("nothing", "", (false, false), Status::Done, NOTHING),
-        ("a bad line", "end\n", (false, false), unknown, "line 1: unknown line\n"),
-        ("a failed read", ONE_COMMIT, (true, false), Status::ReadFault, "read fault\n"),
-        ("a failed write", ONE_COMMIT, (false, true), Status::WriteFault, ""),
+        (
+            "a bad line",
+            "end\n",
+            (false, false),
+            unknown,
+            "line 1: unknown line\n",
+        ),
+        (
+            "a failed read",
+            ONE_COMMIT,
+            (true, false),
+            Status::ReadFault,
+            "read fault\n",
+        ),
+        (
+            "a failed write",
+            ONE_COMMIT,
+            (false, true),
+            Status::WriteFault,
+            "",
+        ),
     ];
     for (case, script, fails, status, text) in cases {
         let (finish, sink) = finish(&rt, script, fails.0, fails.1)?;
