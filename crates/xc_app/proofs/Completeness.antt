@@ -1,5 +1,5 @@
 -- A told script that is read without a fault is run.
-use Rattle.std.proofs.Common.{◌≡◌, ℕ, ◌<◌, ◌≤◌, List, [], ◌∷◌, ◌++◌, length, take, zero, suc, refl, ap, sym, ◌∙◌, subst, arith, ◌⊎◌, inl, inr}
+use Rattle.std.proofs.Common.{◌≡◌, rules, ℕ, ◌<◌, ◌≤◌, List, [], ◌∷◌, ◌++◌, length, take, zero, suc, refl, ap, sym, ◌∙◌, arith, ◌⊎◌, inl, inr}
 use Rattle.std.specs.Prelude.{Option, Result, Ok, Err}
 use Rattle.std.specs.declared.option.Option.TheVariants.{None, Some}
 use Rattle.std.specs.Prelude.{Bool, true, false, ◌||◌, ◌&&◌, IfSome}
@@ -10,17 +10,17 @@ use Rattle.xc_data.specs.declared.entry.JobLine.{JobLine}
 use Rattle.xc_station.specs.declared.rules.Rules.{Rules}
 use Rattle.xc_station.specs.Ending.{IsEnd, AreEnds, is_done, all_done}
 use Rattle.xc_station.specs.Progress.{Following, progress_of}
-use Rattle.xc_data.specs.Counts.{Rose}
-use Rattle.xc_edge.specs.Streams.{Came}
+use Rattle.std.specs.Io.KnownBytes.{Consumes, IsAtEnd}
 use Rattle.xc_station.specs.declared.rules.End.{End}
 use Rattle.xc_text.specs.declared.why.Why.{Why}
 use Rattle.xc_text.specs.declared.script.Script.{Script}
 use Rattle.xc_text.specs.Scripts.{parse_of}
 use Rattle.xc_app.specs.declared.finish.Status.{Status}
 use Rattle.xc_app.specs.declared.finish.Status.TheVariants as status
-use Rattle.xc_app.specs.declared.finish.TheConstants.{LIMIT}
-use Rattle.xc_host.specs.Contents.{Contents}
-use Rattle.xc_app.specs.Headline.{IsRefusal, is_refused_by, IsUnscripted, IsQuiet, AreScript, IsDone, IsDue, IsRun, IsDoneWith, is_memory, is_starved}
+use Rattle.xc_edge.specs.Told.{Told}
+use Rattle.xc_app.specs.Hosts.{HostModel}
+use Rattle.xc_app.specs.Headline.{IsRead, IsRefusal, is_refused_by, IsUnscripted, AreScript, IsCaused, IsDue, IsRun, IsDoneWith, is_memory, is_starved}
+use Rattle.xc_app.specs.Outcomes.{IsOfBytes}
 
 take_all : (n : ℕ) (bytes : List ℕ) → length bytes ≤ n → take n bytes ≡ bytes
 take_all zero [] le = refl
@@ -50,52 +50,65 @@ came_at limit told rest bytes e le end = elim (less_or_equal (length bytes) limi
 ]
 
 -- the bytes that came are the told ones, up to the limit
-pub came_told : (limit : ℕ) (told : List ℕ) (new : Option (List ℕ)) (bytes : List ℕ) → Came limit (Some told) new bytes → take limit told ≡ bytes
-came_told limit told None bytes came = absurd came.taken
-came_told limit told (Some rest) bytes came = came_at limit told rest bytes came.taken came.bound came.end
+came_told : (limit : ℕ) (left after : Option (List ℕ)) (bytes : List ℕ) → Consumes left after bytes → length bytes ≤ limit
+    → (length bytes < limit → IsAtEnd after) → IfSome left (λ told. take limit told ≡ bytes)
+came_told limit None after bytes taken bound end = tt
+came_told limit (Some told) None bytes taken bound end = absurd taken
+came_told limit (Some told) (Some rest) bytes taken bound end = came_at limit told rest bytes taken bound end
+
+-- the bytes are a script that the host follows
+abbrev AreFollowed : Bool → List ℕ → Type 0
+AreFollowed takes bytes = (script : Script) × (parse_of bytes ≡ Ok script) × (is_refused_by takes script ≡ false)
+
+are_followed : (takes : Bool) (left : Option (List ℕ)) (bytes : List ℕ) → AreScript takes left → IfSome left (λ told. take 1048577 told ≡ bytes) → AreFollowed takes bytes
+are_followed takes None bytes script same = absurd script
+are_followed takes (Some told) bytes (script, read, followed) same = (script, ap parse_of (sym same) ∙ read, followed)
+
+read_followed : (takes : Bool) (old new : Told) (bytes : List ℕ) → AreScript takes old.bytes → IsRead old new bytes → AreFollowed takes bytes
+read_followed takes old new bytes script came = are_followed takes old.bytes bytes script (came_told 1048577 old.bytes new.bytes bytes came.taken came.bound came.end)
 
 ok_is_err : (r : Result Script (ℕ × Why)) (s : Script) (e : ℕ × Why) → r ≡ Ok s → r ≡ Err e → ⊥
 ok_is_err (Ok t) s e ok is = cc
 ok_is_err (Err f) s e ok is = cc
 
-never_refused : (takes_scripts : Bool) (left new : Option (List ℕ)) (line : ℕ) (why : Why) → AreScript takes_scripts left → IsRefusal left new line why → ⊥
-never_refused takes_scripts None new line why script refusal = script
-never_refused takes_scripts (Some told) new line why script (bytes, came, e) = ok_is_err (parse_of (take LIMIT told)) script.0 (line, why) script.1 (ap parse_of (came_told LIMIT told new bytes came) ∙ e)
+never_refused : (takes : Bool) (old new : Told) (line : ℕ) (why : Why) → AreScript takes old.bytes → IsRefusal old new line why → ⊥
+never_refused takes old new line why script (bytes, came, e) =
+    let followed = read_followed takes old new bytes script came in ok_is_err (parse_of bytes) followed.0 (line, why) followed.1 e
 
 ok_both : (r : Result Script (ℕ × Why)) (s t : Script) → r ≡ Ok s → r ≡ Ok t → s ≡ t
 ok_both (Ok u) s t p q = let both : Ok s ≡ Ok t = sym p ∙ q in cc
 ok_both (Err f) s t p q = cc
 
-never_unscripted : (takes_scripts : Bool) (left new : Option (List ℕ)) → AreScript takes_scripts left → IsUnscripted takes_scripts left new → ⊥
-never_unscripted takes_scripts None new script refusal = script
-never_unscripted takes_scripts (Some told) new script (bytes, other, came, e, refused) =
-    let same : script.0 ≡ other = ok_both (parse_of (take LIMIT told)) script.0 other script.1 (ap parse_of (came_told LIMIT told new bytes came) ∙ e) in
-    let no : true ≡ false = sym refused ∙ ap (is_refused_by takes_scripts) (sym same) ∙ script.2 in
+never_unscripted : (takes : Bool) (old new : Told) → AreScript takes old.bytes → IsUnscripted takes old new → ⊥
+never_unscripted takes old new script (bytes, other, came, e, refused) =
+    let followed = read_followed takes old new bytes script came in
+    let same : followed.0 ≡ other = ok_both (parse_of bytes) followed.0 other followed.1 e in
+    let no : true ≡ false = sym refused ∙ ap (is_refused_by takes) (sym same) ∙ followed.2 in
     cc
 
-never_due_end : {H : Type 0} (o : Option (End H)) (due : List ℕ) → IsDue status.WriteFault o due → ⊥
-never_due_end None due h = h
-never_due_end (Some end) due h = h
-
--- nothing is due with a write fault
-pub never_due : {H : Type 0} (s : Status) (o : Option (End H)) (due : List ℕ) → IsDue s o due → s ≡ status.WriteFault → ⊥
-never_due s o due h e = never_due_end o due (subst (λ t. IsDue t o due) e h)
-
--- what was not refused for the words, for the script or for a fault is done
-pub is_complete : (s : Status) (takes_scripts : Bool) (words : ℕ) (left new : Option (List ℕ)) (source_before source_after sink_before sink_after : ℕ)
-    → (s ≡ status.Usage → 0 < words)
-    → ((line : ℕ) (why : Why) → s ≡ status.Refused line why → IsRefusal left new line why)
-    → (s ≡ status.NotScripted → IsUnscripted takes_scripts left new)
-    → (s ≡ status.ReadFault → Rose source_before source_after)
-    → (s ≡ status.WriteFault → Rose sink_before sink_after)
-    → words ≡ 0 → IsQuiet source_before source_after → IsQuiet sink_before sink_after → AreScript takes_scripts left → IsDone s
-is_complete status.Done takes words left new sb sa kb ka usage refused unscripted read write none quiet still script = tt
-is_complete (status.Refused line why) takes words left new sb sa kb ka usage refused unscripted read write none quiet still script = absurd (never_refused takes left new line why script (refused line why refl))
-is_complete status.Usage takes words left new sb sa kb ka usage refused unscripted read write none quiet still script = absurd (let some = usage refl in omega arith)
-is_complete status.ReadFault takes words left new sb sa kb ka usage refused unscripted read write none quiet still script = absurd (quiet (read refl))
-is_complete status.WriteFault takes words left new sb sa kb ka usage refused unscripted read write none quiet still script = absurd (still (write refl))
-is_complete status.NotScripted takes words left new sb sa kb ka usage refused unscripted read write none quiet still script = absurd (never_unscripted takes left new script (unscripted refl))
-is_complete status.NoMemory takes words left new sb sa kb ka usage refused unscripted read write none quiet still script = tt
+-- the status of bytes that were read has its cause
+pub caused_by_bytes : (words : ℕ) (takes : Bool) (old new : Told) (s : Status) → words ≡ 0 → IsOfBytes s
+    → ((line : ℕ) (why : Why) → s ≡ status.Refused line why → IsRefusal old new line why)
+    → (s ≡ status.NotScripted → IsUnscripted takes old new) → IsCaused words takes old new s
+caused_by_bytes words takes old new status.Done none answer refused unscripted = search (rules, none)
+caused_by_bytes words takes old new (status.Refused line why) none answer refused unscripted = record {
+  usage = (λ e. let no : status.Refused line why ≡ status.Usage = e in cc, λ some. absurd (omega arith));
+  refused = refused;
+  unscripted = unscripted;
+  read_fault = λ e. let no : status.Refused line why ≡ status.ReadFault = e in cc;
+  complete = λ _ _ script. absurd (never_refused takes old new line why script (refused line why refl));
+}
+caused_by_bytes words takes old new status.NotScripted none answer refused unscripted = record {
+  usage = (λ e. let no : status.NotScripted ≡ status.Usage = e in cc, λ some. absurd (omega arith));
+  refused = refused;
+  unscripted = unscripted;
+  read_fault = λ e. let no : status.NotScripted ≡ status.ReadFault = e in cc;
+  complete = λ _ _ script. absurd (never_unscripted takes old new script (unscripted refl));
+}
+caused_by_bytes words takes old new status.NoMemory none answer refused unscripted = search (rules, none)
+caused_by_bytes words takes old new status.Usage none answer refused unscripted = absurd answer
+caused_by_bytes words takes old new status.ReadFault none answer refused unscripted = absurd answer
+caused_by_bytes words takes old new status.WriteFault none answer refused unscripted = absurd answer
 
 -- ---- a run that is done
 or_false : (a b : Bool) → a || b ≡ false → (a ≡ false) × (b ≡ false)
@@ -116,14 +129,15 @@ all_done_of script (f ∷ jobs) (line ∷ lines) h e =
     let parts = or_false (is_starved line) (list_any is_starved lines) e in
     ap (λ b. b && all_done lines) (done_end script f line.end h.0 parts.0) ∙ all_done_of script jobs lines h.1 parts.1
 
-pub done_with : {H : Type 0} (s : Status) (o : Option (End H)) (due : List ℕ) (old new : Option (List ℕ)) (rules : Rules) (tells takes : Bool) (contents : End H → Contents) (before : ℕ) (now : End H → ℕ)
-    → IsDue s o due → IfSome o (λ end. IsRun old new rules tells takes (contents end) before (now end) end) → IsDoneWith s o
-done_with status.Done None due old new rules tells takes contents before now h run = h
-done_with status.Done (Some end) due old new rules tells takes contents before now h (bytes, came, run) =
+-- a run whose whole text is due without a starved job is done
+pub done_with : {H : Type 0} (model : HostModel H) (old new : Told) (rules : Rules) (host : H) (s : Status) (o : Option (End H)) (due : List ℕ)
+    → IsDue s o due → IfSome o (IsRun model old new rules host) → IsDoneWith s o
+done_with model old new rules host status.Done None due h run = h
+done_with model old new rules host status.Done (Some end) due h (bytes, came, read, run) =
     let whole = run.whole in whole.complete (all_done_of end.opening.script (progress_of end.opening.script end.journal.items).jobs end.jobs whole.ends h.1)
-done_with (status.Refused line why) o due old new rules tells takes contents before now h run = tt
-done_with status.Usage o due old new rules tells takes contents before now h run = tt
-done_with status.ReadFault o due old new rules tells takes contents before now h run = tt
-done_with status.WriteFault o due old new rules tells takes contents before now h run = tt
-done_with status.NotScripted o due old new rules tells takes contents before now h run = tt
-done_with status.NoMemory o due old new rules tells takes contents before now h run = tt
+done_with model old new rules host (status.Refused line why) o due h run = tt
+done_with model old new rules host status.Usage o due h run = tt
+done_with model old new rules host status.ReadFault o due h run = tt
+done_with model old new rules host status.WriteFault o due h run = tt
+done_with model old new rules host status.NotScripted o due h run = tt
+done_with model old new rules host status.NoMemory o due h run = tt

@@ -1,4 +1,6 @@
-pub mod Status
-pub mod Lines
-pub mod Headline
 pub mod Due
+pub mod Headline
+pub mod Hosts
+pub mod Lines
+pub mod Outcomes
+pub mod Status

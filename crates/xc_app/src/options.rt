@@ -4,6 +4,13 @@ ghost use Rattle.xc_app.specs.Headline.{default_rules};
 use thiserror::Error;
 use xc_station::Rules;
 
+// The rules where no word sets another.
+const ATTEMPTS: u32 = 100;
+
+const PATIENCE: u32 = 10_000;
+
+const UNDO_TRIES: u32 = 3;
+
 /// Why the words of a command line are not taken.
 #[derive(Clone, Copy, Debug, PartialEq, Eq, Error)]
 pub enum SettingsErr {
@@ -27,9 +34,9 @@ pub fn settings(words: &[String]) -> Result<Chosen, SettingsErr>
         return Err(SettingsErr::Usage);
     }
     let rules = Rules {
-        attempts: 100,
-        patience: 10_000,
-        undo_tries: 3,
+        attempts: ATTEMPTS,
+        patience: PATIENCE,
+        undo_tries: UNDO_TRIES,
     };
     Ok(Chosen { rules })
 }

@@ -1,13 +1,12 @@
-ghost use Rattle.std.specs.Prelude.{◌≡◌, ◌<◌, ◌≤◌, ℕ, Some, None, Ok, Err, IfSome, IsTrue, length, sum_by, true, false};
-ghost use Rattle.xc_data.specs.Counts.{Rose, CountsFaults};
-ghost use Rattle.xc_data.specs.Faults.{entry_faults};
+ghost use Rattle.std.specs.Prelude.{◌≡◌, ◌<◌, ◌≤◌, ℕ, Some, None, Ok, Err, IfSome, length, true, false};
 ghost use Rattle.xc_data.specs.Limits.{KeepsLimits};
 ghost use Rattle.xc_text.specs.declared.script.Script.{Script};
 ghost use Rattle.xc_text.specs.declared.why.Why.{Why};
 ghost use Rattle.xc_text.specs.Scripts.{parse_of, IsScript};
-ghost use Rattle.xc_station.specs.Ending.{IsTrueEnd};
 ghost use Rattle.xc_app.specs.Due.{due_bytes};
-ghost use Rattle.xc_app.specs.Headline.{IsDue, IsDueAlone, IsRefusal, is_refused_by, IsUnscripted, IsRun, IsRunOf, IsOneOf, IsOfBytes, IsForWords, IsDoneWith, IsQuiet, AreScript, IsDone, default_rules, IsSaid, starves, is_starved, IsRefusedBy, IsUnrefused};
+ghost use Rattle.xc_app.specs.Headline.{IsDue, IsDueAlone, is_refused_by, IsRun, IsRunOver, IsOneOf, IsCaused, IsDoneWith, IsSaid, default_rules, starves, is_starved};
+ghost use Rattle.xc_app.specs.Hosts.{model_of};
+ghost use Rattle.xc_app.specs.Outcomes.{IsOfBytes, IsRefusedBy, IsUnrefused};
 
 use crate::lines::refused;
 use crate::{Finish, LIMIT, Status, settings};
@@ -162,10 +161,8 @@ fn of_script<H: Host>(alloc: Global, host: H, script: Script, rules: Rules) -> O
     requires limits { KeepsLimits script.plain }
     requires tries { 1 ≤ rules.undo_tries }
     ensures due { IsDue result.status result.end (due_bytes result.due) }
-    ensures run { IfSome result.end (λ end. (end.opening ≡ record { script = script; faults = H.fault_count host }) × (is_refused_by H.takes_scripts script ≡ false)
-        × IsTrueEnd script H.tells rules.undo_tries end.journal.items end.words (H.contents end.host) end.jobs
-        × CountsFaults (sum_by entry_faults end.journal.items) (H.fault_count host) (H.fault_count end.host)) }
-    ensures host { IfSome result.host (λ back. (H.fault_count back ≡ H.fault_count host) × (IsTrue H.tells → H.contents back ≡ H.contents host)) }
+    ensures run { IfSome result.end (λ end. (end.opening.script ≡ script) × IsRunOver (model_of H.tells H.takes_scripts H.contents H.fault_count) rules host end) }
+    ensures host { IfSome result.host (λ back. back ≡ host) }
     ensures one { IsOneOf result.end result.host }
     ensures unscripted { result.status ≡ Status.NotScripted → is_refused_by H.takes_scripts script ≡ true }
     ensures bytes { IsOfBytes result.status }
@@ -185,8 +182,8 @@ fn of_script<H: Host>(alloc: Global, host: H, script: Script, rules: Rules) -> O
 fn of_bytes<H: Host>(alloc: Global, host: H, bytes: &[u8], rules: Rules) -> Outcome<H>
     requires tries { 1 ≤ rules.undo_tries }
     ensures due { IsDue result.status result.end (due_bytes result.due) }
-    ensures run { IfSome result.end (λ end. IsRunOf bytes.now rules H.tells H.takes_scripts (H.contents end.host) (H.fault_count host) (H.fault_count end.host) end) }
-    ensures host { IfSome result.host (λ back. (H.fault_count back ≡ H.fault_count host) × (IsTrue H.tells → H.contents back ≡ H.contents host)) }
+    ensures run { IfSome result.end (λ end. (parse_of bytes.now ≡ Ok end.opening.script) × IsRunOver (model_of H.tells H.takes_scripts H.contents H.fault_count) rules host end) }
+    ensures host { IfSome result.host (λ back. back ≡ host) }
     ensures one { IsOneOf result.end result.host }
     ensures refused { (line : ℕ) (why : Why) → result.status ≡ Status.Refused line why → parse_of bytes.now ≡ Err (line, why) }
     ensures unscripted { result.status ≡ Status.NotScripted → (script : Script) × (parse_of bytes.now ≡ Ok script) × (is_refused_by H.takes_scripts script ≡ true) }
@@ -207,15 +204,11 @@ fn decide<S: Source, H: Host>(
     host: H,
 ) -> Outcome<H>
     ensures due { IsDue result.status result.end (due_bytes result.due) }
-    ensures usage { result.status ≡ Status.Usage → 0 < length words.now }
-    ensures words { 0 < length words.now → (result.status ≡ Status.Usage) × (result.end ≡ None) }
-    ensures refused { (line : ℕ) (why : Why) → result.status ≡ Status.Refused line why → IsRefusal (S.left source.old) (S.left source.new) line why }
-    ensures unscripted { result.status ≡ Status.NotScripted → IsUnscripted H.takes_scripts (S.left source.old) (S.left source.new) }
-    ensures read_fault { result.status ≡ Status.ReadFault → Rose (S.fault_count source.old) (S.fault_count source.new) }
-    ensures run { IfSome result.end (λ end. IsRun (S.left source.old) (S.left source.new) default_rules H.tells H.takes_scripts (H.contents end.host) (H.fault_count host) (H.fault_count end.host) end) }
-    ensures host { IfSome result.host (λ back. (H.fault_count back ≡ H.fault_count host) × (IsTrue H.tells → H.contents back ≡ H.contents host)) }
+    ensures caused { IsCaused (length words.now) H.takes_scripts (S.told source.old) (S.told source.new) result.status }
+    ensures unread { 0 < length words.now → source.new ≡ source.old }
+    ensures run { IfSome result.end (IsRun (model_of H.tells H.takes_scripts H.contents H.fault_count) (S.told source.old) (S.told source.new) default_rules host) }
+    ensures host { IfSome result.host (λ back. back ≡ host) }
     ensures one { IsOneOf result.end result.host }
-    ensures later { S.fault_count source.old ≤ S.fault_count source.new }
 {
     let Ok(chosen) = settings(words) else {
         return alone(host, Status::Usage, Due::Usage);
@@ -239,34 +232,21 @@ pub fn xcalls_run<R: AllocGlobal, S: Source, K: Sink, H: Host>(
     sink: &mut K,
     host: H,
 ) -> Finish<H>
-    // What is due by the status was written; where a write failed, a front of what was due.
-    ensures written { IsSaid (K.taken sink.old) (K.taken sink.new) (K.fault_count sink.old) (K.fault_count sink.new) result.end result.status }
-    ensures usage { result.status ≡ Status.Usage → 0 < length words.now }
-    ensures words { 0 < length words.now → IsForWords result.status × (result.end ≡ None) }
-
-    // The bytes read are no script, and this is the first bad line with its first reason.
-    ensures refused { (line : ℕ) (why : Why) → result.status ≡ Status.Refused line why → IsRefusal (S.left source.old) (S.left source.new) line why }
-
-    // They are a script with a line that the host can't follow.
-    ensures unscripted { result.status ≡ Status.NotScripted → IsUnscripted H.takes_scripts (S.left source.old) (S.left source.new) }
-    ensures read_fault { result.status ≡ Status.ReadFault → Rose (S.fault_count source.old) (S.fault_count source.new) }
+    // A status was meant, and it has its cause. What is due with it was written, and it is the run's
+    // status; or the sink failed behind a front of that. A run that is meant to be done has an entry
+    // for each transaction, which committed or aborted itself.
+    ensures answered { (meant : Status) × IsCaused (length words.now) H.takes_scripts (S.told source.old) (S.told source.new) meant
+        × IsDoneWith meant result.end × IsSaid meant result (K.told sink.old) (K.told sink.new) }
+    ensures unread { 0 < length words.now → source.new ≡ source.old }
 
     // The headline: running the journal's committed transactions one after another on the plain
     // machine, with the recorded faults, gives the replies, the final words, the final host and the
     // jobs' ends; aborted ones change only what their reports say remains.
-    ensures run { IfSome result.end (λ end. IsRun (S.left source.old) (S.left source.new) default_rules H.tells H.takes_scripts (H.contents end.host) (H.fault_count host) (H.fault_count end.host) end) }
+    ensures run { IfSome result.end (IsRun (model_of H.tells H.takes_scripts H.contents H.fault_count) (S.told source.old) (S.told source.new) default_rules host) }
 
-    // A host without a run is as it was, in what it tells and in its count of faults.
-    ensures host { IfSome result.host (λ back. (H.fault_count back ≡ H.fault_count host) × (IsTrue H.tells → H.contents back ≡ H.contents host)) }
+    // Without a run the host is given back as it was handed in.
+    ensures host { IfSome result.host (λ back. back ≡ host) }
     ensures one { IsOneOf result.end result.host }
-
-    // A run that is done has an entry for each transaction, which committed or aborted itself.
-    ensures done { IsDoneWith result.status result.end }
-
-    // With no word, no failed read or write, and a script that the host follows, the run is done but for
-    // want of memory: faults of the host are replies.
-    ensures complete { length words.now ≡ 0 → IsQuiet (S.fault_count source.old) (S.fault_count source.new) → IsQuiet (K.fault_count sink.old) (K.fault_count sink.new)
-        → AreScript H.takes_scripts (S.left source.old) → IsDone result.status }
 {
     let Outcome {
         status,

@@ -39,18 +39,6 @@ fn numbers(alloc: Global, first: bool) -> Result<CallNumbers, Fail> {
     Ok(numbers)
 }
 
-// Whether a script comes to this status and text.
-fn comes_to<R: AllocGlobal>(
-    rt: &R,
-    script: &str,
-    fails: (bool, bool),
-    status: Status,
-    text: &str,
-) -> Result<bool, Fail> {
-    let (finish, sink) = finish(rt, script, fails.0, fails.1)?;
-    Ok(finish.status == status && sink.taken() == text.as_bytes())
-}
-
 #[test]
 fn scripts_and_faults(rt: HostRuntime) -> Result<(), Fail> {
     let unknown = Status::Refused {
@@ -58,14 +46,40 @@ fn scripts_and_faults(rt: HostRuntime) -> Result<(), Fail> {
         why: Why::UnknownLine,
     };
     let cases = [
-        (ONE_COMMIT, (false, false), Status::Done, COMMITTED),
-        ("", (false, false), Status::Done, NOTHING),
-        ("end\n", (false, false), unknown, "line 1: unknown line\n"),
-        (ONE_COMMIT, (true, false), Status::ReadFault, "read fault\n"),
-        (ONE_COMMIT, (false, true), Status::WriteFault, ""),
+        (
+            "a commit",
+            ONE_COMMIT,
+            (false, false),
+            Status::Done,
+            COMMITTED,
+        ),
+        ("nothing", "", (false, false), Status::Done, NOTHING),
+        (
+            "a bad line",
+            "end\n",
+            (false, false),
+            unknown,
+            "line 1: unknown line\n",
+        ),
+        (
+            "a failed read",
+            ONE_COMMIT,
+            (true, false),
+            Status::ReadFault,
+            "read fault\n",
+        ),
+        (
+            "a failed write",
+            ONE_COMMIT,
+            (false, true),
+            Status::WriteFault,
+            "",
+        ),
     ];
-    for (script, fails, status, text) in cases {
-        assert!(rt; comes_to(&rt, script, fails, status, text)?);
+    for (case, script, fails, status, text) in cases {
+        let (finish, sink) = finish(&rt, script, fails.0, fails.1)?;
+        assert_eq!(rt; finish.status, status, "{case}");
+        assert_eq!(rt; sink.taken(), text.as_bytes(), "{case}");
     }
     Ok(())
 }

@@ -1,6 +1,7 @@
 -- A source and a sink in memory.
-use Rattle.std.specs.Prelude.{◌≡◌, ◌⊎◌, ℕ, List, [], Contains, length, drop, take, Result, Ok, Err, ◌++◌}
+use Rattle.std.specs.Prelude.{◌≡◌, ◌⊎◌, ℕ, List, Some, Contains, length, drop, take, Result, Ok, Err, ◌++◌}
 use Rattle.xc_data.specs.Counts.{counted}
+use Rattle.xc_edge.specs.Told.{Told}
 
 -- what is left to be read; the numbers of the reads that fail; how many bytes a read gives at most
 pub record MemSource : Type 0 where
@@ -9,6 +10,10 @@ pub record MemSource : Type 0 where
   pub grain : ℕ
   pub reads : ℕ
   pub faults : ℕ
+
+-- it tells all
+abbrev pub told_of_source : MemSource → Told
+told_of_source source = record { bytes = Some source.left; faults = source.faults }
 
 -- the next read fails: its number is listed
 abbrev pub ReadFails : MemSource → Type 0
@@ -28,9 +33,13 @@ pub record MemSink : Type 0 where
   pub writes : ℕ
   pub faults : ℕ
 
--- the next write of this piece fails: its number is listed, the room is full, or the piece is empty
-abbrev pub WriteFails : MemSink → List ℕ → Type 0
-WriteFails sink piece = Contains sink.fails (counted sink.writes) ⊎ (length sink.taken ≡ sink.room) ⊎ (piece ≡ [])
+-- it tells all
+abbrev pub told_of_sink : MemSink → Told
+told_of_sink sink = record { bytes = Some sink.taken; faults = sink.faults }
+
+-- the next write fails: its number is listed, or the room is full
+abbrev pub WriteFails : MemSink → Type 0
+WriteFails sink = Contains sink.fails (counted sink.writes) ⊎ (length sink.taken ≡ sink.room)
 
 -- the sink after a write of this piece
 abbrev pub after_write : {E : Type 0} → MemSink → List ℕ → Result ℕ E → MemSink

@@ -2,7 +2,7 @@ ghost use Rattle.std.specs.Prelude.{◌≡◌, ◌↔◌, ◌≤◌, ◌<◌, �
 ghost use Rattle.std.specs.Io.{ReadsAtMost};
 ghost use Rattle.std.specs.Io.KnownBytes.{ReadConsumes, WriteAppends};
 ghost use Rattle.xc_edge.specs.Counts.{HasCause};
-ghost use Rattle.xc_edge.specs.Memory.{ReadFails, WriteFails, after_read, after_write};
+ghost use Rattle.xc_edge.specs.Memory.{ReadFails, WriteFails, after_read, after_write, told_of_source, told_of_sink};
 
 use crate::{Failed, Sink, Source};
 use std::alloc::Global;
@@ -66,9 +66,7 @@ impl MemSource {
 }
 
 impl Source for MemSource {
-    ghost left = { λ s. Some s.left };
-
-    ghost fault_count = { λ s. s.faults };
+    ghost told = { told_of_source };
 
     fn faults(&self) -> u64 {
         self.faults
@@ -77,7 +75,7 @@ impl Source for MemSource {
     fn read(&mut self, into: &mut [u8]) -> Result<usize, Failed>
         ensures bound { ReadsAtMost result into.new }
         ensures bytes { ReadConsumes (Some self.old.left) (Some self.new.left) result into.new }
-        ensures cause { HasCause self.old.faults self.new.faults result }
+        ensures cause { HasCause (told_of_source self.old) (told_of_source self.new) result }
         ensures fails { IsErr result ↔ ReadFails self.old }
         ensures count { IfOk result (λ n. n ≡ min (min (length self.old.left) (length into.old)) self.old.grain) }
         ensures after { self.new ≡ after_read self.old result }
@@ -95,7 +93,7 @@ impl Source for MemSource {
 }
 
 /// A sink in memory, with room for so many bytes. Its listed writes fail, counted from 1, and so
-/// does each write into the full room or of an empty piece.
+/// does each write into the full room.
 #[derive(Drop)]
 pub struct MemSink {
     bytes: Vec<u8>,
@@ -145,42 +143,40 @@ impl MemSink {
         self.bytes.as_slice()
     }
 
-    // Whether the next write fails, at this piece.
-    fn fails_at(&self, piece: &[u8]) -> bool
-        ensures { IsTrue result ↔ WriteFails self.now piece.now }
+    // Whether the next write fails.
+    fn fails_next(&self) -> bool
+        ensures { IsTrue result ↔ WriteFails self.now }
     {
         let number = self.writes.saturating_add(1);
-        is_listed(&self.fails, number) || self.bytes.len() == self.room as usize || piece.is_empty()
+        is_listed(&self.fails, number) || self.bytes.len() == self.room as usize
     }
 }
 
 impl Sink for MemSink {
-    ghost taken = { λ s. Some s.taken };
-
-    ghost fault_count = { λ s. s.faults };
+    ghost told = { told_of_sink };
 
     fn faults(&self) -> u64 {
         self.faults
     }
 
-    fn write(&mut self, bytes: &[u8]) -> Result<usize, Failed>
-        ensures bound { IfOk result (λ n. n ≤ length bytes.now) }
-        ensures some { IfOk result (λ n. 0 < n) }
-        ensures bytes { WriteAppends (Some self.old.taken) (Some self.new.taken) result bytes.now }
-        ensures cause { HasCause self.old.faults self.new.faults result }
-        ensures fails { IsErr result ↔ WriteFails self.old bytes.now }
-        ensures count { IfOk result (λ n. n ≡ min (min (length bytes.now) (self.old.room - length self.old.taken)) self.old.grain) }
-        ensures after { self.new ≡ after_write self.old bytes.now result }
+    fn write(&mut self, piece: &[u8]) -> Result<usize, Failed>
+        requires some { 0 < length piece.now }
+        ensures bound { IfOk result (λ n. (0 < n) × (n ≤ length piece.now)) }
+        ensures bytes { WriteAppends (Some self.old.taken) (Some self.new.taken) result piece.now }
+        ensures cause { HasCause (told_of_sink self.old) (told_of_sink self.new) result }
+        ensures fails { IsErr result ↔ WriteFails self.old }
+        ensures count { IfOk result (λ n. n ≡ min (min (length piece.now) (self.old.room - length self.old.taken)) self.old.grain) }
+        ensures after { self.new ≡ after_write self.old piece.now result }
     {
-        let fails = self.fails_at(bytes);
+        let fails = self.fails_next();
         self.writes = self.writes.saturating_add(1);
         if fails {
             self.faults = self.faults.saturating_add(1);
             return Err(Failed);
         }
         let room = self.room as usize - self.bytes.len();
-        let count = bytes.len().min(room).min(self.grain as usize);
-        self.bytes.extend_from_slice(&bytes[..count]).unwrap();
+        let count = piece.len().min(room).min(self.grain as usize);
+        self.bytes.extend_from_slice(&piece[..count]).unwrap();
         Ok(count)
     }
 }

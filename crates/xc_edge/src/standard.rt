@@ -1,7 +1,8 @@
-ghost use Rattle.std.specs.Prelude.{◌≡◌, ◌<◌, ◌≤◌, length, IfOk, OnOk};
+ghost use Rattle.std.specs.Prelude.{◌≡◌, ◌<◌, ◌≤◌, length, IfOk};
 ghost use Rattle.std.specs.Io.{ReadsAtMost};
 ghost use Rattle.std.specs.Io.KnownBytes.{ReadConsumes, WriteAppends};
 ghost use Rattle.xc_edge.specs.Counts.{HasCause, faults_after};
+ghost use Rattle.xc_edge.specs.Standard.{told_with};
 
 use crate::{Failed, Sink, Source};
 use std::io::{Read, Write};
@@ -33,9 +34,7 @@ impl<R: Read> StdSource<R> {
 }
 
 impl<R: Read> Source for StdSource<R> {
-    ghost left = { λ s. R.remaining s.inner };
-
-    ghost fault_count = { λ s. s.faults };
+    ghost told = { told_with R.remaining };
 
     fn faults(&self) -> u64 {
         self.faults
@@ -44,7 +43,7 @@ impl<R: Read> Source for StdSource<R> {
     fn read(&mut self, into: &mut [u8]) -> Result<usize, Failed>
         ensures bound { ReadsAtMost result into.new }
         ensures bytes { ReadConsumes (R.remaining self.old.inner) (R.remaining self.new.inner) result into.new }
-        ensures cause { HasCause self.old.faults self.new.faults result }
+        ensures cause { HasCause (told_with R.remaining self.old) (told_with R.remaining self.new) result }
         ensures faults { self.new.faults ≡ faults_after result self.old.faults }
     {
         match self.inner.read(into) {
@@ -84,22 +83,20 @@ impl<W: Write> StdSink<W> {
 }
 
 impl<W: Write> Sink for StdSink<W> {
-    ghost taken = { λ s. W.contents s.inner };
-
-    ghost fault_count = { λ s. s.faults };
+    ghost told = { told_with W.contents };
 
     fn faults(&self) -> u64 {
         self.faults
     }
 
-    fn write(&mut self, bytes: &[u8]) -> Result<usize, Failed>
-        ensures bound { IfOk result (λ n. n ≤ length bytes.now) }
-        ensures some { IfOk result (λ n. 0 < n) }
-        ensures bytes { WriteAppends (W.contents self.old.inner) (W.contents self.new.inner) result bytes.now }
-        ensures cause { HasCause self.old.faults self.new.faults result }
+    fn write(&mut self, piece: &[u8]) -> Result<usize, Failed>
+        requires some { 0 < length piece.now }
+        ensures bound { IfOk result (λ n. (0 < n) × (n ≤ length piece.now)) }
+        ensures bytes { WriteAppends (W.contents self.old.inner) (W.contents self.new.inner) result piece.now }
+        ensures cause { HasCause (told_with W.contents self.old) (told_with W.contents self.new) result }
         ensures faults { self.new.faults ≡ faults_after result self.old.faults }
     {
-        match self.inner.write(bytes) {
+        match self.inner.write(piece) {
             Ok(0) | Err(_) => {
                 self.faults = self.faults.saturating_add(1);
                 Err(Failed)

@@ -1,3 +1,5 @@
+ghost use Rattle.std.specs.Prelude.{◌<◌, length};
+
 use crate::{
     Failed, MemSink, MemSource, ReadErr, Sink, Source, StdSink, StdSource, read_up_to, write_whole,
 };
@@ -35,12 +37,14 @@ fn three_reads(alloc: Global, bytes: &[u8], fail: u64) -> Result<[Answer; 3], No
     Ok([first, second, source.read(&mut into)])
 }
 
-// The answers, and the sink, which has room for three bytes.
+// The answers to three writes of a piece, and the sink, which has room for three bytes.
 fn three_writes(
     alloc: Global,
     piece: &[u8],
     fail: u64,
-) -> Result<([Answer; 3], MemSink), NoMemory> {
+) -> Result<([Answer; 3], MemSink), NoMemory>
+    requires { 0 < length piece.now }
+{
     let mut sink = sink_of(alloc, 3, fail)?;
     let first = sink.write(piece);
     let second = sink.write(piece);
@@ -71,12 +75,6 @@ fn reads_in_grains(rt: HostRuntime) -> Result<(), Fail> {
 #[test]
 fn writes_in_grains(rt: HostRuntime) -> Result<(), Fail> {
     for (piece, fail, wanted, taken) in [
-        (
-            b"".as_slice(),
-            NONE,
-            [Err(Failed), Err(Failed), Err(Failed)],
-            b"".as_slice(),
-        ),
         (
             b"a".as_slice(),
             NONE,
@@ -114,6 +112,7 @@ fn writes_in_grains(rt: HostRuntime) -> Result<(), Fail> {
             b"aa".as_slice(),
         ),
     ] {
+        assert!(rt; !piece.is_empty());
         let (answers, sink) = three_writes(rt.alloc(), piece, fail)?;
         assert_eq!(rt; answers, wanted, "fail {fail}");
         assert_eq!(rt; sink.taken(), taken);
@@ -228,8 +227,7 @@ fn counts_errors_of_a_writer(rt: HostRuntime) {
     for want in [Ok(1), Err(Failed), Err(Failed), Ok(1)] {
         assert_eq!(rt; sink.write(b"abc"), want);
     }
-    assert_eq!(rt; sink.write(b""), Err(Failed));
-    assert_eq!(rt; sink.faults(), 3);
+    assert_eq!(rt; sink.faults(), 2);
 }
 
 fn copied(alloc: Global, text: &[u8]) -> Result<Vec<u8>, ReadErr> {

@@ -1,12 +1,14 @@
 ghost use Rattle.std.specs.Prelude.{◌≤◌, IfOk, OnOk, OnErr, IsErrOf};
-ghost use Rattle.std.specs.Io.KnownBytes.{Appends};
-ghost use Rattle.xc_data.specs.Counts.{Rose};
 ghost use Rattle.xc_edge.specs.Counts.{HasCause};
-ghost use Rattle.xc_edge.specs.Streams.{Came, ConsumesUpTo, AppendsPart};
+ghost use Rattle.xc_edge.specs.Streams.{Came, ConsumesUpTo, AppendsPart, AppendsWhole};
+ghost use Rattle.xc_edge.specs.Told.{HasFailed};
 
 use crate::{Failed, Sink, Source};
 use std::alloc::{AllocError, Global};
 use thiserror::Error;
+
+// How many bytes one read asks for.
+const BUFFER: usize = 1024;
 
 /// Why a source wasn't read.
 #[derive(Clone, Copy, Debug, PartialEq, Eq, Error)]
@@ -45,15 +47,15 @@ pub fn read_up_to<S: Source>(
     source: &mut S,
     limit: usize,
 ) -> Result<Vec<u8>, ReadErr>
-    ensures came { IfOk result (λ bytes. Came limit (S.left source.old) (S.left source.new) bytes.items) }
-    ensures lost { OnErr result (ConsumesUpTo limit (S.left source.old) (S.left source.new)) }
-    ensures later { S.fault_count source.old ≤ S.fault_count source.new }
-    ensures cause { IsErrOf result ReadErr.Failed → Rose (S.fault_count source.old) (S.fault_count source.new) }
+    ensures came { IfOk result (λ bytes. Came limit (S.told source.old) (S.told source.new) bytes.items) }
+    ensures lost { OnErr result (ConsumesUpTo limit (S.told source.old) (S.told source.new)) }
+    ensures later { (S.told source.old).faults ≤ (S.told source.new).faults }
+    ensures cause { IsErrOf result ReadErr.Failed → HasFailed (S.told source.old) (S.told source.new) }
 {
     let mut bytes = Vec::new(alloc);
-    let mut buffer = [0; 1024];
+    let mut buffer = [0; BUFFER];
     while bytes.len() < limit {
-        let room = (limit - bytes.len()).min(1024);
+        let room = (limit - bytes.len()).min(BUFFER);
         let count = source.read(&mut buffer[..room])?;
         if count == 0 {
             return Ok(bytes);
@@ -65,9 +67,9 @@ pub fn read_up_to<S: Source>(
 
 /// Writes a whole text, in as many writes as it takes.
 pub fn write_whole<K: Sink>(sink: &mut K, text: &[u8]) -> Result<(), Failed>
-    ensures whole { OnOk result (Appends (K.taken sink.old) (K.taken sink.new) text.now) }
-    ensures part { OnErr result (AppendsPart (K.taken sink.old) (K.taken sink.new) text.now) }
-    ensures cause { HasCause (K.fault_count sink.old) (K.fault_count sink.new) result }
+    ensures whole { OnOk result (AppendsWhole (K.told sink.old) (K.told sink.new) text.now) }
+    ensures part { OnErr result (AppendsPart (K.told sink.old) (K.told sink.new) text.now) }
+    ensures cause { HasCause (K.told sink.old) (K.told sink.new) result }
 {
     let mut done = 0;
     while done < text.len() {

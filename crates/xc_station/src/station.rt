@@ -277,7 +277,7 @@ impl<H: Host> Station<H> {
         ensures ok { IfOk result (λ s. (s.opening ≡ record { script = script; faults = H.fault_count host }) × (s.rules ≡ rules) × (s.journal ≡ []) × (s.taken ≡ false)) }
         ensures scripted { IfOk result (λ s. not H.takes_scripts && needs_scripted script.plain.prologue ≡ false) }
         ensures refused { IfErr result (λ n. n.why ≡ OpenErr.NotScripted → not H.takes_scripts && needs_scripted script.plain.prologue ≡ true) }
-        ensures err { IfErr result (λ n. (H.fault_count n.host ≡ H.fault_count host) × (IsTrue H.tells → H.contents n.host ≡ H.contents host)) }
+        ensures err { IfErr result (λ n. n.host ≡ host) }
     {
         let mut host = host;
         let faults = host.faults();

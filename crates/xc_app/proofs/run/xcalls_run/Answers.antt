@@ -1,10 +1,21 @@
-use Rattle.xc_app.proofs.Completeness.{is_complete, never_due, done_with}
+use Rattle.std.proofs.Common.{refl, inl, inr, subst}
+use Rattle.xc_edge.specs.Streams.{AppendsPart, AppendsWhole}
+use Rattle.xc_app.specs.Due.{due_bytes}
+use Rattle.xc_app.proofs.Completeness.{done_with}
 use Rattle.xc_app.proofs.run.xcalls_run.Goals as goal
 
-pub returns-in-Ok-clause-complete : goal.returns-in-Ok-clause-complete
-returns-in-Ok-clause-complete g c none quiet still script =
+pub returns-in-Ok-clause-answered : goal.returns-in-Ok-clause-answered
+returns-in-Ok-clause-answered g c =
+    let told = g.K.Sink.told in
+    let meant = c.decide-status.result in
     let d = c.decide-status.ensures in
-    is_complete _ _ _ _ _ _ _ _ _ d.usage d.refused d.unscripted d.read_fault (λ e. absurd (never_due _ _ _ d.due e)) none quiet still script
+    let wrote = subst (AppendsWhole (told c.args.sink.now) (told c.write_whole.new.sink)) c.as_bytes.ensures c.in-Ok.ensures.whole in
+    (meant.status, d.caused, done_with _ _ _ _ _ _ _ _ d.due d.run, (due_bytes meant.due, d.due, inl (refl, wrote)))
 
-pub returns-in-Ok-clause-done : goal.returns-in-Ok-clause-done
-returns-in-Ok-clause-done g c = done_with _ _ _ _ _ _ _ _ _ _ _ c.decide-status.ensures.due c.decide-status.ensures.run
+pub returns-clause-answered : goal.returns-clause-answered
+returns-clause-answered g c =
+    let told = g.K.Sink.told in
+    let meant = c.decide-status.result in
+    let d = c.decide-status.ensures in
+    let wrote = subst (AppendsPart (told c.args.sink.now) (told c.write_whole.new.sink)) c.as_bytes.ensures c.in-Err.ensures.part in
+    (meant.status, d.caused, done_with _ _ _ _ _ _ _ _ d.due d.run, (due_bytes meant.due, d.due, inr (refl, wrote, c.in-Err.ensures.cause.failed)))

@@ -6,7 +6,7 @@ use Rattle.xc_edge.proofs.whole.read_up_to.Goals as goal
 pub returns-in_err-extend_from_slice-clause-lost :
     goal.returns-in_err-extend_from_slice-clause-lost
 returns-in_err-extend_from_slice-clause-lost g c =
-    let left = g.S.Source.left in
+    let told = g.S.Source.told in
     let bound = c.in_ok-count.ensures.bound in
-    on_err _ (took_more c.args.limit (left c.args.source.now) (left c.loop-buffer.source) (left c.read.new.self) c.loop-buffer.bytes.items c.read.new.into c.in_ok-count.count
+    on_err _ (took_more c.args.limit (told c.args.source.now) (told c.loop-buffer.source) (told c.read.new.self) c.loop-buffer.bytes.items c.read.new.into c.in_ok-count.count
     c.loop-buffer.invariant.came c.in_ok-count.ensures.bytes.0 bound.0 (omega (arith, c.read.auto.into, length-take c.min-room.result c.loop-buffer.buffer)))

@@ -5,11 +5,11 @@ use Rattle.xc_edge.proofs.whole.read_up_to.Given as goal
 -- what came so far
 abbrev pub invariant-loop-buffer : goal.invariant-loop-buffer
 invariant-loop-buffer g l =
-    let source = g.S.Source in
+    let told = g.S.Source.told in
     record {
-      came : Consumes (source.left l.fn.source) (source.left l.source) l.bytes.items;
+      came : Consumes (told l.fn.source).bytes (told l.source).bytes l.bytes.items;
       room : length l.bytes.items ≤ l.limit;
-      faults : source.fault_count l.fn.source ≤ source.fault_count l.source;
+      faults : (told l.fn.source).faults ≤ (told l.source).faults;
     }
 
 abbrev pub decreases-loop-buffer : goal.decreases-loop-buffer

@@ -4,9 +4,9 @@ use Rattle.xc_edge.proofs.whole.write_whole.Goals as goal
 
 pub loop-done-preserved : goal.loop-done-preserved
 loop-done-preserved g c =
-    let taken = g.K.Sink.taken in
+    let told = g.K.Sink.told in
     record {
-      wrote = wrote_more (taken c.args.sink.now) (taken c.loop-done.sink) (taken c.write.new.self) c.args.text.now c.loop-done.done c.in_ok-done.field-0 c.loop-done.invariant.wrote c.in_ok-done.ensures.bytes;
+      wrote = wrote_more (told c.args.sink.now).bytes (told c.loop-done.sink).bytes (told c.write.new.self).bytes c.args.text.now c.loop-done.done c.in_ok-done.field-0 c.loop-done.invariant.wrote c.in_ok-done.ensures.bytes;
       room = omega (arith, c.in_ok-done.ensures.bound);
       faults = omega (arith, c.write.ensures.cause.later);
     }

@@ -5,11 +5,11 @@ use Rattle.xc_edge.proofs.whole.write_whole.Given as goal
 -- a front is written
 abbrev pub invariant-loop-done : goal.invariant-loop-done
 invariant-loop-done g l =
-    let sink = g.K.Sink in
+    let told = g.K.Sink.told in
     record {
-      wrote : Appends (sink.taken l.fn.sink) (sink.taken l.sink) (take l.done l.text);
+      wrote : Appends (told l.fn.sink).bytes (told l.sink).bytes (take l.done l.text);
       room : l.done ≤ length l.text;
-      faults : sink.fault_count l.fn.sink ≤ sink.fault_count l.sink;
+      faults : (told l.fn.sink).faults ≤ (told l.sink).faults;
     }
 
 abbrev pub decreases-loop-done : goal.decreases-loop-done
