@@ -8,6 +8,7 @@ use Rattle.xc_data.specs.declared.entry.JobEnd.{JobEnd}
 use Rattle.xc_data.specs.declared.entry.JobEnd.TheVariants as job_end
 use Rattle.xc_data.specs.declared.entry.JobLine.{JobLine}
 use Rattle.xc_station.specs.declared.rules.Rules.{Rules}
+use Rattle.xc_station.specs.Setting.{Setting, setting}
 use Rattle.xc_station.specs.Ending.{IsEnd, AreEnds, is_done, all_done}
 use Rattle.xc_station.specs.Progress.{Following, progress_of}
 use Rattle.std.specs.Io.KnownBytes.{Consumes, IsAtEnd}
@@ -18,7 +19,7 @@ use Rattle.xc_text.specs.Scripts.{parse_of}
 use Rattle.xc_app.specs.declared.finish.Status.{Status}
 use Rattle.xc_app.specs.declared.finish.Status.TheVariants as status
 use Rattle.xc_edge.specs.Told.{Told}
-use Rattle.xc_app.specs.Hosts.{HostModel}
+use Rattle.xc_host.specs.Model.{HostModel}
 use Rattle.xc_app.specs.Headline.{IsRead, IsRefusal, is_refused_by, IsUnscripted, AreScript, IsCaused, IsDue, IsRun, IsDoneWith, is_memory, is_starved}
 use Rattle.xc_app.specs.Outcomes.{IsOfBytes}
 
@@ -115,26 +116,26 @@ or_false : (a b : Bool) → a || b ≡ false → (a ≡ false) × (b ≡ false)
 or_false true b h = let no : true ≡ false = h in cc
 or_false false b h = (refl, h)
 
-done_end : (script : Script) (f : Following) (end : JobEnd) → IsEnd script f end → is_memory end ≡ false → is_done end ≡ true
-done_end script f job_end.Done h e = refl
-done_end script f (job_end.GaveUp c) h e = absurd h
-done_end script f job_end.JournalFull h e = absurd h
-done_end script f job_end.NoMemory h e = cc
+done_end : (s : Setting) (entries : ℕ) (f : Following) (end : JobEnd) → IsEnd s entries f end → is_memory end ≡ false → is_done end ≡ true
+done_end s entries f job_end.Done h e = refl
+done_end s entries f (job_end.GaveUp c) h e = absurd h
+done_end s entries f job_end.JournalFull h e = absurd h
+done_end s entries f job_end.NoMemory h e = cc
 
 -- where no job starved, each ended by its last transaction
-all_done_of : (script : Script) (jobs : List Following) (lines : List JobLine) → AreEnds script jobs lines → list_any is_starved lines ≡ false → all_done lines ≡ true
-all_done_of script [] lines h e = ap all_done h
-all_done_of script (f ∷ jobs) [] h e = absurd h
-all_done_of script (f ∷ jobs) (line ∷ lines) h e =
+all_done_of : (s : Setting) (entries : ℕ) (jobs : List Following) (lines : List JobLine) → AreEnds s entries jobs lines → list_any is_starved lines ≡ false → all_done lines ≡ true
+all_done_of s entries [] lines h e = ap all_done h
+all_done_of s entries (f ∷ jobs) [] h e = absurd h
+all_done_of s entries (f ∷ jobs) (line ∷ lines) h e =
     let parts = or_false (is_starved line) (list_any is_starved lines) e in
-    ap (λ b. b && all_done lines) (done_end script f line.end h.0 parts.0) ∙ all_done_of script jobs lines h.1 parts.1
+    ap (λ b. b && all_done lines) (done_end s entries f line.end h.0.end parts.0) ∙ all_done_of s entries jobs lines h.1 parts.1
 
 -- a run whose whole text is due without a starved job is done
 pub done_with : {H : Type 0} (model : HostModel H) (old new : Told) (rules : Rules) (host : H) (s : Status) (o : Option (End H)) (due : List ℕ)
     → IsDue s o due → IfSome o (IsRun model old new rules host) → IsDoneWith s o
 done_with model old new rules host status.Done None due h run = h
 done_with model old new rules host status.Done (Some end) due h (bytes, came, read, run) =
-    let whole = run.whole in whole.complete (all_done_of end.opening.script (progress_of end.opening.script end.journal.items).jobs end.jobs whole.ends h.1)
+    let whole = run.whole in whole.complete (all_done_of (setting end.opening.script rules model.tells) (length end.journal.items) (progress_of end.opening.script end.journal.items).jobs end.jobs whole.ends h.1)
 done_with model old new rules host (status.Refused line why) o due h run = tt
 done_with model old new rules host status.Usage o due h run = tt
 done_with model old new rules host status.ReadFault o due h run = tt

@@ -14,13 +14,15 @@ use Rattle.xc_edge.specs.Told.{Told, HasFailed}
 use Rattle.xc_print.specs.Text.{text}
 use Rattle.xc_station.specs.declared.rules.End.{End}
 use Rattle.xc_station.specs.declared.rules.Rules.{Rules}
-use Rattle.xc_station.specs.Ending.{IsTrueEnd, IsComplete}
+use Rattle.xc_station.specs.Ending.{Final, IsTrueEnd, IsComplete}
+use Rattle.xc_station.specs.Setting.{setting}
+use Rattle.xc_station.specs.Truth.{IsSerial}
 use Rattle.xc_text.specs.declared.why.Why.{Why}
 use Rattle.xc_text.specs.Scripts.{parse_of}
 use Rattle.xc_app.specs.declared.finish.Finish.{Finish}
 use Rattle.xc_app.specs.declared.finish.Status.{Status}
 use Rattle.xc_app.specs.declared.finish.Status.TheVariants as status
-use Rattle.xc_app.specs.Hosts.{HostModel}
+use Rattle.xc_host.specs.Model.{HostModel}
 use Rattle.xc_app.specs.Lines.{usage_line, read_fault_line, no_memory_line, not_scripted_line, refused_line}
 
 -- ---- what was read
@@ -50,12 +52,18 @@ AreScript takes_scripts (Some bytes) = (script : Script) × (parse_of (take 1048
 abbrev pub default_rules : Rules
 default_rules = record { attempts = 100; patience = 10000; undo_tries = 3 }
 
+-- what a run leaves beside its journal
+abbrev pub final_of : {H : Type 0} → HostModel H → End H → Final
+final_of model end = record { words = end.words; contents = model.contents end.host; lines = end.jobs }
+
 -- the end of a run by these rules over the host that was handed in
 pub record IsRunOver {H : Type 0} (model : HostModel H) (rules : Rules) (host : H) (end : End H) : Type 0 where
   pub scripted : is_refused_by model.takes_scripts end.opening.script ≡ false
   pub faults : end.opening.faults ≡ model.fault_count host
   -- the journal is true of the script, and leads to the words, to the host's contents and to the jobs' ends
-  pub whole : IsTrueEnd end.opening.script model.tells rules.undo_tries end.journal.items end.words (model.contents end.host) end.jobs
+  pub whole : IsTrueEnd (setting end.opening.script rules model.tells) end.journal.items (final_of model end)
+  -- its transactions ran one after another
+  pub serial : IsSerial end.journal.items
   -- the host's count rose by the recorded faults, and stayed where none is recorded
   pub counted : CountsFaults (sum_by entry_faults end.journal.items) (model.fault_count host) (model.fault_count end.host)
 

@@ -1,6 +1,5 @@
 pub mod Due
 pub mod Headline
-pub mod Hosts
 pub mod Lines
 pub mod Outcomes
 pub mod Status

@@ -5,7 +5,6 @@ ghost use Rattle.xc_text.specs.declared.why.Why.{Why};
 ghost use Rattle.xc_text.specs.Scripts.{parse_of, IsScript};
 ghost use Rattle.xc_app.specs.Due.{due_bytes};
 ghost use Rattle.xc_app.specs.Headline.{IsDue, IsDueAlone, is_refused_by, IsRun, IsRunOver, IsOneOf, IsCaused, IsDoneWith, IsSaid, default_rules, starves, is_starved};
-ghost use Rattle.xc_app.specs.Hosts.{model_of};
 ghost use Rattle.xc_app.specs.Outcomes.{IsOfBytes, IsRefusedBy, IsUnrefused};
 
 use crate::lines::refused;
@@ -161,10 +160,10 @@ fn of_script<H: Host>(alloc: Global, host: H, script: Script, rules: Rules) -> O
     requires limits { KeepsLimits script.plain }
     requires tries { 1 ≤ rules.undo_tries }
     ensures due { IsDue result.status result.end (due_bytes result.due) }
-    ensures run { IfSome result.end (λ end. (end.opening.script ≡ script) × IsRunOver (model_of H.tells H.takes_scripts H.contents H.fault_count) rules host end) }
+    ensures run { IfSome result.end (λ end. (end.opening.script ≡ script) × IsRunOver H.model rules host end) }
     ensures host { IfSome result.host (λ back. back ≡ host) }
     ensures one { IsOneOf result.end result.host }
-    ensures unscripted { result.status ≡ Status.NotScripted → is_refused_by H.takes_scripts script ≡ true }
+    ensures unscripted { result.status ≡ Status.NotScripted → is_refused_by H.model.takes_scripts script ≡ true }
     ensures bytes { IsOfBytes result.status }
     ensures unrefused { IsUnrefused result.status }
 {
@@ -182,11 +181,11 @@ fn of_script<H: Host>(alloc: Global, host: H, script: Script, rules: Rules) -> O
 fn of_bytes<H: Host>(alloc: Global, host: H, bytes: &[u8], rules: Rules) -> Outcome<H>
     requires tries { 1 ≤ rules.undo_tries }
     ensures due { IsDue result.status result.end (due_bytes result.due) }
-    ensures run { IfSome result.end (λ end. (parse_of bytes.now ≡ Ok end.opening.script) × IsRunOver (model_of H.tells H.takes_scripts H.contents H.fault_count) rules host end) }
+    ensures run { IfSome result.end (λ end. (parse_of bytes.now ≡ Ok end.opening.script) × IsRunOver H.model rules host end) }
     ensures host { IfSome result.host (λ back. back ≡ host) }
     ensures one { IsOneOf result.end result.host }
     ensures refused { (line : ℕ) (why : Why) → result.status ≡ Status.Refused line why → parse_of bytes.now ≡ Err (line, why) }
-    ensures unscripted { result.status ≡ Status.NotScripted → (script : Script) × (parse_of bytes.now ≡ Ok script) × (is_refused_by H.takes_scripts script ≡ true) }
+    ensures unscripted { result.status ≡ Status.NotScripted → (script : Script) × (parse_of bytes.now ≡ Ok script) × (is_refused_by H.model.takes_scripts script ≡ true) }
     ensures bytes { IsOfBytes result.status }
 {
     match parse(alloc, bytes) {
@@ -204,9 +203,9 @@ fn decide<S: Source, H: Host>(
     host: H,
 ) -> Outcome<H>
     ensures due { IsDue result.status result.end (due_bytes result.due) }
-    ensures caused { IsCaused (length words.now) H.takes_scripts (S.told source.old) (S.told source.new) result.status }
+    ensures caused { IsCaused (length words.now) H.model.takes_scripts (S.told source.old) (S.told source.new) result.status }
     ensures unread { 0 < length words.now → source.new ≡ source.old }
-    ensures run { IfSome result.end (IsRun (model_of H.tells H.takes_scripts H.contents H.fault_count) (S.told source.old) (S.told source.new) default_rules host) }
+    ensures run { IfSome result.end (IsRun H.model (S.told source.old) (S.told source.new) default_rules host) }
     ensures host { IfSome result.host (λ back. back ≡ host) }
     ensures one { IsOneOf result.end result.host }
 {
@@ -235,14 +234,14 @@ pub fn xcalls_run<R: AllocGlobal, S: Source, K: Sink, H: Host>(
     // A status was meant, and it has its cause. What is due with it was written, and it is the run's
     // status; or the sink failed behind a front of that. A run that is meant to be done has an entry
     // for each transaction, which committed or aborted itself.
-    ensures answered { (meant : Status) × IsCaused (length words.now) H.takes_scripts (S.told source.old) (S.told source.new) meant
+    ensures answered { (meant : Status) × IsCaused (length words.now) H.model.takes_scripts (S.told source.old) (S.told source.new) meant
         × IsDoneWith meant result.end × IsSaid meant result (K.told sink.old) (K.told sink.new) }
     ensures unread { 0 < length words.now → source.new ≡ source.old }
 
     // The headline: running the journal's committed transactions one after another on the plain
     // machine, with the recorded faults, gives the replies, the final words, the final host and the
     // jobs' ends; aborted ones change only what their reports say remains.
-    ensures run { IfSome result.end (IsRun (model_of H.tells H.takes_scripts H.contents H.fault_count) (S.told source.old) (S.told source.new) default_rules host) }
+    ensures run { IfSome result.end (IsRun H.model (S.told source.old) (S.told source.new) default_rules host) }
 
     // Without a run the host is given back as it was handed in.
     ensures host { IfSome result.host (λ back. back ≡ host) }

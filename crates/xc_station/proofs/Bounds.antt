@@ -261,8 +261,8 @@ past_all (x ∷ xs) (suc n) e = let le = past_all xs n e in omega arith
 
 done_is : (s : Setting) (entries : ℕ) (f : Following) (end : JobEnd) → is_done end ≡ true → IsEnd s entries f end → (f.starved ≡ false) × (next_body s.script f.job ≡ None)
 done_is s entries f job_end.Done e h = h
-done_is s entries f (job_end.GaveUp c) e h = cc
-done_is s entries f job_end.JournalFull e h = cc
+done_is s entries f (job_end.GaveUp c) e h = absurd h
+done_is s entries f job_end.JournalFull e h = absurd h
 done_is s entries f job_end.NoMemory e h = cc
 
 first_true : (b : Bool) → b && true ≡ true → b ≡ true

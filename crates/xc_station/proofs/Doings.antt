@@ -1,11 +1,11 @@
 -- Each call of a transaction is the plain machine's.
-use Rattle.std.specs.Prelude.{Result, Ok, Err, IfOk, IsOk, IsErr}
+use Rattle.std.specs.Prelude.{Result, Ok, Err, IfOk, OnErr, IsOk, IsErr}
 use Rattle.xc_data.specs.Counts.{CountsFault}
 use Rattle.std.specs.declared.option.Option.TheVariants.{None}
 use Rattle.xc_data.specs.Faults.{is_fault_reply}
 use Rattle.xc_data.specs.declared.call.Reply.TheVariants as reply
 use Rattle.xc_script.specs.Ask.{value_in}
-use Rattle.std.proofs.Common.{◌≡◌, ℕ, true, false, List, [], ◌++◌, refl, ap, sym, ◌∙◌, subst, IsTrue}
+use Rattle.std.proofs.Common.{◌≡◌, ℕ, ◌+◌, ◌≤◌, true, false, List, [], ◌++◌, length, length-append, refl, ap, sym, ◌∙◌, subst, arith, IsTrue}
 use Rattle.xc_data.specs.declared.call.Call.{Call}
 use Rattle.xc_data.specs.declared.call.Call.TheVariants as call
 use Rattle.xc_data.specs.declared.call.Answer.{Answer}
@@ -13,9 +13,12 @@ use Rattle.xc_data.specs.declared.call.Answer.TheVariants as answer
 use Rattle.xc_data.specs.declared.call.Reply.{Reply}
 use Rattle.xc_data.specs.declared.private.Private.{Private}
 use Rattle.xc_compensate.specs.Records.{Records}
-use Rattle.xc_file.specs.Calls.{Acts, replies_fault}
+use Rattle.xc_file.specs.Calls.{CallState, Acts, AreRecorded, IsFileCall, IsStarved, takes_memory_first, replies_fault}
+use Rattle.xc_host.specs.Model.{HostModel}
+use Rattle.xc_world.specs.Effects.{whole}
+use Rattle.xc_world.specs.Ends.{with_remains}
 use Rattle.xc_data.specs.declared.memory.NoMemory.{NoMemory}
-use Rattle.xc_host.specs.Contents.{Contents, with_contents}
+use Rattle.xc_host.specs.Contents.{Contents, contents_of, world_of}
 use Rattle.xc_txmem.specs.Overlay.{overlaid}
 use Rattle.xc_world.specs.World.{World}
 use Rattle.xc_world.specs.Act.{act}
@@ -42,25 +45,15 @@ does_words w was number me stores stores' undo words c reply is at gives after =
       records = sym (append_nil undo.pending) ∙ ap (λ us. undo.pending ++ us) (sym (word-trail v me number c reply is));
     }
 
+-- a call of the host
 pub does_host : (w : World) (was is : Contents) (number : ℕ) (me next : Private) (stores : List (ℕ × ℕ)) (undo undo' : Records) (c : Call) (reply : Reply)
-    → Acts (record w { words = overlaid w.words stores }) was is me next number c reply
-    → undo'.pending ≡ undo.pending ++ recorded (seen w was stores) me number c reply
+    → Acts c was is me next reply → undo'.pending ≡ undo.pending ++ recorded (seen w was stores) me number c reply
     → Does w was is number (record { me = me; stores = stores; undo = undo }) (record { me = next; stores = stores; undo = undo' }) c reply
-does_host w was is number me next stores undo undo' c reply acts records = record { step = acts.step; fits = acts.fits; records = records }
-
--- a call without a record
-pub does_still : (w : World) (was is : Contents) (number : ℕ) (me next : Private) (stores : List (ℕ × ℕ)) (undo : Records) (c : Call) (reply : Reply)
-    → recorded (seen w was stores) me number c reply ≡ []
-    → Acts (record w { words = overlaid w.words stores }) was is me next number c reply
-    → Does w was is number (record { me = me; stores = stores; undo = undo }) (record { me = next; stores = stores; undo = undo }) c reply
-does_still w was is number me next stores undo c reply none acts =
-    does_host w was is number me next stores undo undo c reply acts (sym (append_nil undo.pending) ∙ ap (λ us. undo.pending ++ us) (sym none))
+does_host w was is number me next stores undo undo' c reply acts records =
+    let v : World = record w { words = overlaid w.words stores } in
+    record { step = acts.step v number; fits = acts.fits v number; records = records }
 
 -- ---- as the calls answer it
-if_ok : {A E : Type 0} (r : Result A E) (P Q : A → Type 0) → ((x : A) → P x → Q x) → IfOk r P → IfOk r Q
-if_ok (Ok x) P Q f h = f x h
-if_ok (Err e) P Q f h = tt
-
 if_both : {A E : Type 0} (r : Result A E) (P Q R : A → Type 0) → ((x : A) → P x → Q x → R x) → IfOk r P → IfOk r Q → IfOk r R
 if_both (Ok x) P Q R f h k = f x h k
 if_both (Err e) P Q R f h k = tt
@@ -69,48 +62,24 @@ if_both (Err e) P Q R f h k = tt
 abbrev DoesIn : List ℕ → Contents → Contents → Parts → Parts → Call → Reply → Type 0
 DoesIn words was is old new c reply = (w : World) (number : ℕ) → w.words ≡ words → Does w was is number old new c reply
 
-abbrev ActsIn : Contents → Contents → Private → Private → Call → Reply → Type 0
-ActsIn was is me next c reply = (w : World) (tx : ℕ) → Acts w was is me next tx c reply
+-- a call's private state and records, with these stores
+abbrev pub parts_at : {H : Type 0} → List (ℕ × ℕ) → CallState H → Parts
+parts_at stores state = record { me = state.me; stores = stores; undo = state.undo }
 
-abbrev RecordsIn : Contents → Private → Records → Records → Call → Reply → Type 0
-RecordsIn was me undo undo' c reply = (w : World) (tx : ℕ) → undo' ≡ record { pending = undo.pending ++ recorded (with_contents w was) me tx c reply; ended = [] }
-
-still_does : (words : List ℕ) (was is : Contents) (me next : Private) (stores : List (ℕ × ℕ)) (undo : Records) (c : Call) (reply : Reply)
-    → ((w : World) (number : ℕ) → recorded w me number c reply ≡ []) → ActsIn was is me next c reply
-    → DoesIn words was is (record { me = me; stores = stores; undo = undo }) (record { me = next; stores = stores; undo = undo }) c reply
-still_does words was is me next stores undo c reply none acts w number at =
-    does_still w was is number me next stores undo c reply (none (seen w was stores) number) (acts (record w { words = overlaid w.words stores }) number)
-
-pub open_does : {E : Type 0} (T : Type 0) (r : Result Reply E) (words : List ℕ) (was is : Contents) (me next : Private) (stores : List (ℕ × ℕ)) (undo : Records) (c : Call) (name : List ℕ) → c ≡ call.XOpen name
-    → (T → IfOk r (λ reply. ActsIn was is me next (call.XOpen name) reply))
-    → T → IfOk r (λ reply. DoesIn words was is (record { me = me; stores = stores; undo = undo }) (record { me = next; stores = stores; undo = undo }) c reply)
-open_does T r words was is me next stores undo c name e acts t =
-    if_ok r (λ reply. ActsIn was is me next (call.XOpen name) reply) _
-    (λ reply h. subst (λ k. DoesIn words was is (record { me = me; stores = stores; undo = undo }) (record { me = next; stores = stores; undo = undo }) k reply) (sym e)
-    (still_does words was is me next stores undo (call.XOpen name) reply (λ w number. refl) h)) (acts t)
-
-pub read_does : {E : Type 0} (T : Type 0) (r : Result Reply E) (words : List ℕ) (was is : Contents) (me next : Private) (stores : List (ℕ × ℕ)) (undo : Records) (c : Call) (h n : ℕ) → c ≡ call.XRead h n
-    → (T → IfOk r (λ reply. ActsIn was is me next (call.XRead h n) reply))
-    → T → IfOk r (λ reply. DoesIn words was is (record { me = me; stores = stores; undo = undo }) (record { me = next; stores = stores; undo = undo }) c reply)
-read_does T r words was is me next stores undo c h n e acts t =
-    if_ok r (λ reply. ActsIn was is me next (call.XRead h n) reply) _
-    (λ reply a. subst (λ k. DoesIn words was is (record { me = me; stores = stores; undo = undo }) (record { me = next; stores = stores; undo = undo }) k reply) (sym e)
-    (still_does words was is me next stores undo (call.XRead h n) reply (λ w number. refl) a)) (acts t)
-
-overwrite_in : (words : List ℕ) (was is : Contents) (me next : Private) (stores : List (ℕ × ℕ)) (undo undo' : Records) (c : Call) (reply : Reply) → ActsIn was is me next c reply → RecordsIn was me undo undo' c reply
-    → DoesIn words was is (record { me = me; stores = stores; undo = undo }) (record { me = next; stores = stores; undo = undo' }) c reply
-overwrite_in words was is me next stores undo undo' c reply acts records w number at =
-    let v : World = record w { words = overlaid w.words stores } in
-    does_host w was is number me next stores undo undo' c reply (acts v number) (ap (λ (u : Records). u.pending) (records v number))
-
-pub overwrite_does : {E : Type 0} (T : Type 0) (r : Result Reply E) (words : List ℕ) (was is : Contents) (me next : Private) (stores : List (ℕ × ℕ)) (undo undo' : Records) (c : Call) (h : ℕ) (bytes : List ℕ) → c ≡ call.XWriteOvr h bytes
-    → (T → IfOk r (λ reply. ActsIn was is me next (call.XWriteOvr h bytes) reply))
-    → (T → IfOk r (λ reply. RecordsIn was me undo undo' (call.XWriteOvr h bytes) reply))
-    → T → IfOk r (λ reply. DoesIn words was is (record { me = me; stores = stores; undo = undo }) (record { me = next; stores = stores; undo = undo' }) c reply)
-overwrite_does T r words was is me next stores undo undo' c h bytes e acts records t =
-    if_both r (λ reply. ActsIn was is me next (call.XWriteOvr h bytes) reply) (λ reply. RecordsIn was me undo undo' (call.XWriteOvr h bytes) reply) _
-    (λ reply a b. subst (λ k. DoesIn words was is (record { me = me; stores = stores; undo = undo }) (record { me = next; stores = stores; undo = undo' }) k reply) (sym e)
-    (overwrite_in words was is me next stores undo undo' (call.XWriteOvr h bytes) reply a b)) (acts t) (records t)
+-- what a call on files promises, as the call of a transaction needs it
+module _ {H : Type 0} (model : HostModel H) (c d : Call) (is : c ≡ d) (old new : CallState H) (r : Result Reply NoMemory) (k : IsFileCall model d old new r) where
+  -- the plain machine does it
+  pub file_does : (words : List ℕ) (stores : List (ℕ × ℕ)) → IsTrue model.tells
+      → IfOk r (λ reply. DoesIn words (model.contents old.host) (model.contents new.host) (parts_at stores old) (parts_at stores new) c reply)
+  file_does words stores told =
+      let was = model.contents old.host in
+      subst (λ (e : Call). IfOk r (λ reply. DoesIn words was (model.contents new.host) (parts_at stores old) (parts_at stores new) e reply)) (sym is)
+      (if_both r (λ reply. Acts d was (model.contents new.host) old.me new.me reply) (λ reply. AreRecorded was old.me d k.made reply)
+      (λ reply. DoesIn words was (model.contents new.host) (parts_at stores old) (parts_at stores new) d reply)
+      (λ reply acts recorded w number at.
+      does_host w was (model.contents new.host) number old.me new.me stores old.undo new.undo d reply acts
+      (ap (λ (u : Records). u.pending) k.undo ∙ ap (λ us. old.undo.pending ++ us) (recorded (record w { words = overlaid w.words stores }) number)))
+      (k.acts told) (k.records told))
 
 -- ---- a reply that brings a value is no fault
 unfaulty : (r : Reply) → (value_in r ≡ None → ⊥) → is_fault_reply r ≡ false

@@ -22,13 +22,14 @@ use Rattle.xc_station.specs.declared.job.Activity.{Activity}
 use Rattle.xc_station.specs.declared.job.Activity.TheVariants as activity
 use Rattle.xc_station.specs.declared.job.Job.{Job}
 use Rattle.xc_station.specs.declared.job.Doing.TheVariants as doing
-use Rattle.xc_station.specs.Closing.{behind_abort}
+use Rattle.xc_station.specs.Closing.{behind_abort, JobAt}
+use Rattle.xc_host.specs.Model.{HostModel}
 use Rattle.xc_station.specs.Doing.{doing_of, doing_in}
 use Rattle.xc_station.specs.Flight.{IsActive, InFlight}
 use Rattle.xc_station.specs.Turns.{turns_of, phase_left, tx_left, activity_left, turns_left, IsNearer, BeginsAs, RunsOn}
 use Rattle.xc_data.specs.declared.private.Private.{Private}
 use Rattle.xc_station.proofs.Keeping.{idle_is, starved_is, undoing_is, undone_is, active_is, busy_running, busy_committing, busy_undoing, busy_undone}
-use Rattle.xc_station.proofs.Turning.{Tries, Aborts, Commits}
+use Rattle.xc_station.proofs.Turning.{Tries, tried_by, Aborts, Commits}
 
 -- the bodies from one that is there on
 from_suc : (bodies : List (List Statement)) (n : ℕ) (body : List Statement) → slice_get bodies n ≡ Some body → drop n bodies ≡ body ∷ drop (suc n) bodies
@@ -188,18 +189,18 @@ left_committing s words contents journal spare o job made k was commits gives =
     ap (λ (m : Job × Entry). turns_left s.script (Some m.0)) (gives one.0 one.1) in
     omega (arith, active_turns s.script o job one.0 was one.1, new, passed_falls s.script job.place one.0 left)
 
-pub left_undoing : (s : Setting) (o : Option Job) (job job' : Job) (was is : Contents) (before now : ℕ) → Some job ≡ o → doing_of o ≡ doing.Undoing → Tries s.tells s.rules.undo_tries job job' was is before now → turns_left s.script (Some job') < turns_left s.script o
-left_undoing s o job job' was is before now taken undoes tries_it =
-    let one = active_is job.activity (busy_undoing job.activity (ap doing_of taken ∙ undoes)) in
-    let tx = one.0 in
-    let back = undoing_is tx.undo.pending tx.phase (ap doing_in (sym one.1) ∙ ap doing_of taken ∙ undoes) in
-    let tried = tries_it tx back.1.0 back.1.1 one.1 back.1.2 in
-    let new : turns_left s.script (Some job') ≡ left_at_place s.script job.place (activity.Active (record tx { undo = tried.undo })) = ap (λ (j : Job). turns_left s.script (Some j)) tried.job in
+pub left_undoing : {H : Type 0} (model : HostModel H) (tries : ℕ) (script : Script) (o : Option Job) (old new : JobAt H) → Some old.job ≡ o → doing_of o ≡ doing.Undoing → Tries model tries old new
+    → turns_left script (Some new.job) < turns_left script o
+left_undoing model tries script o old new taken undoes tries_it =
+    let job = old.job in
+    let (tx, active, undoing, undone) = tried_by model tries o old new taken undoes tries_it in
+    let t = undone.tried in
+    let next : turns_left script (Some new.job) ≡ left_at_place script job.place (activity.Active (record tx { undo = undone.undo })) = ap (λ (j : Job). turns_left script (Some j)) undone.job in
     omega (
       arith,
-      active_turns s.script o job tx taken one.1,
-      new,
-      tried_falls (drop job.place.next (transactions_at s.script job.place.block)) job.place.at tx back.0.0 back.1.0 back.1.1 tried.undo back.0.1 back.1.2 (ap (λ (r : Records). r.pending) tried.tried.stack),
+      active_turns script o job tx taken active,
+      next,
+      tried_falls (drop job.place.next (transactions_at script job.place.block)) job.place.at tx undoing.0 t.older t.tried undone.undo undoing.1 t.was (ap (λ (r : Records). r.pending) t.stack),
     )
 
 pub left_undone : (s : Setting) (words : List ℕ) (contents : Contents) (journal : List Entry) (spare : ℕ) (o : Option Job) (job : Job) (made : Job × Entry) → InFlight s words contents journal spare o →

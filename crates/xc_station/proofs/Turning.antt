@@ -1,5 +1,5 @@
 -- The turns, as the station takes them: the job was taken out, and one is put back.
-use Rattle.std.proofs.Common.{◌≡◌, ℕ, ◌+◌, ◌≤◌, Bool, false, List, [], ◌∷◌, ◌++◌, length, refl, ap, sym, ◌∙◌, subst, arith, IsTrue}
+use Rattle.std.proofs.Common.{◌≡◌, ◌≢◌, ℕ, ◌+◌, ◌≤◌, Bool, false, List, [], ◌∷◌, ◌++◌, length, refl, ap, sym, ◌∙◌, subst, arith, IsTrue}
 use Rattle.std.specs.Prelude.{IsSome, Option, sum_by, count_by, slice_get}
 use Rattle.std.specs.declared.option.Option.TheVariants.{None, Some}
 use Rattle.xc_data.specs.Counts.{CountsFaults}
@@ -11,14 +11,14 @@ use Rattle.xc_data.specs.declared.entry.JobEnd.TheVariants as job_end
 use Rattle.xc_data.specs.declared.entry.Outcome.TheVariants.{Committed}
 use Rattle.xc_data.specs.declared.private.Private.{Private}
 use Rattle.xc_data.specs.declared.undo.Undo.{Undo}
-use Rattle.xc_compensate.specs.Records.{Records}
-use Rattle.xc_host.specs.Contents.{Contents, world_of}
+use Rattle.xc_compensate.specs.Records.{Records, NextIsCovered}
+use Rattle.xc_host.specs.Model.{HostModel}
+use Rattle.xc_host.specs.Contents.{Contents}
 use Rattle.xc_text.specs.declared.script.Script.{Script}
 use Rattle.xc_script.specs.Ask.{next_body, walk_from, all_answered, transactions_at}
 use Rattle.xc_script.specs.Place.{Place, at_begin, job_of, walk_of}
 use Rattle.xc_txmem.specs.Overlay.{AreWithin}
 use Rattle.xc_world.specs.World.{World, beginning}
-use Rattle.xc_world.specs.Effects.{IsCovered}
 use Rattle.xc_world.specs.Sound.{IsSound}
 use Rattle.xc_station.specs.Setting.{Setting, setting}
 use Rattle.xc_station.specs.Truth.{AsksEach}
@@ -31,7 +31,7 @@ use Rattle.xc_station.specs.declared.job.Job.{Job}
 use Rattle.xc_station.specs.declared.job.Activity.{Activity}
 use Rattle.xc_station.specs.declared.job.Activity.TheVariants as activity
 use Rattle.xc_station.specs.declared.job.Doing.TheVariants.{Idle, Running, Committing, Undoing, Undone, Starved}
-use Rattle.xc_station.specs.Closing.{behind_commit, behind_abort, Undoes}
+use Rattle.xc_station.specs.Closing.{behind_commit, behind_abort, JobAt, Undoes}
 use Rattle.xc_station.specs.Doing.{doing_in, doing_of, IsGoingBack}
 use Rattle.xc_station.specs.Notes.{entry_of}
 use Rattle.xc_station.specs.Progress.{Following, kept_of, progress_of}
@@ -226,13 +226,12 @@ counts_committing s words contents journal journal' spare o job made before now 
     subst (λ js. AreCounted js (Some made.0) before now) (sym grown) (subst (λ (m : Job × Entry). AreCounted (journal ++ m.1 ∷ []) (Some m.0) before now) (sym (gives one.0 one.1)) there)
 
 -- ---- one turn of the way back
-abbrev pub Tries : Bool → ℕ → Job → Job → Contents → Contents → ℕ → ℕ → Type 0
-Tries tells tries job job' was is before now =
-    (tx : Tx) (older : List Undo) (u : Undo) → job.activity ≡ activity.Active tx → tx.undo.pending ≡ older ++ u ∷ [] → Undoes tells tries job job' tx was is before now older u
+abbrev pub Tries : {H : Type 0} → HostModel H → ℕ → JobAt H → JobAt H → Type 0
+Tries model tries old new = (tx : Tx) → old.job.activity ≡ activity.Active tx → tx.undo.pending ≢ [] → Undoes model tries old new tx
 
 pub may_undo : (s : Setting) (words : List ℕ) (contents : Contents) (journal : List Entry) (spare : ℕ) (o : Option Job) (job : Job) → Some job ≡ o → doing_of o ≡ Undoing
-    → InFlight s words contents journal spare o → IsTrue s.tells → (tx : Tx) (older : List Undo) (u : Undo) → job.activity ≡ activity.Active tx → tx.undo.pending ≡ older ++ u ∷ [] → IsCovered (world_of contents) u
-may_undo s words contents journal spare o job was undoes k t tx older u is pending =
+    → InFlight s words contents journal spare o → IsTrue s.tells → (tx : Tx) → job.activity ≡ activity.Active tx → NextIsCovered contents tx.undo
+may_undo s words contents journal spare o job was undoes k t tx is older u pending free =
     let inside = taken_in s words contents journal spare o job was k in
     let f = inside.job.following in
     let doing = ap doing_of was ∙ undoes in
@@ -243,48 +242,60 @@ may_undo s words contents journal spare o job was undoes k t tx older u is pendi
     let now : IsPlayedBy w job.me words contents (activity.Active tx) = subst (IsPlayedBy w job.me words contents) is p.now in
     covered_now s.script f words (length journal) w job.me contents tx back.0.0 older u back.0.1 pending active.1.noted (p.begin.sound (length journal + 1) (omega arith)) now
 
+-- records are left
+pub some_pending : (us older : List Undo) (u : Undo) → us ≡ older ++ u ∷ [] → us ≢ []
+some_pending us [] u is none = let both : u ∷ [] ≡ [] = sym is ∙ none in cc
+some_pending us (v ∷ older) u is none = let both : v ∷ (older ++ u ∷ []) ≡ [] = sym is ∙ none in cc
+
+-- the transaction that tries one, and what came of it
+pub tried_by : {H : Type 0} (model : HostModel H) (tries : ℕ) (o : Option Job) (old new : JobAt H) → Some old.job ≡ o → doing_of o ≡ Undoing → Tries model tries old new
+    → (tx : Tx) × (old.job.activity ≡ activity.Active tx) × ((c : Cause) × (tx.phase ≡ phase.Undoing c)) × Undoes model tries old new tx
+tried_by model tries o old new was undoes tries_it =
+    let doing = ap doing_of was ∙ undoes in
+    let one = active_is old.job.activity (busy_undoing old.job.activity doing) in
+    let back = undoing_is one.0.undo.pending one.0.phase (ap doing_in (sym one.1) ∙ doing) in
+    (one.0, one.1, back.0, tries_it one.0 one.1 (some_pending one.0.undo.pending back.1.0 back.1.1 back.1.2))
+
 tried_tx : (tx : Tx) (undo : Records) (older : List Undo) (u : Undo) (end : UndoEnd) → undo ≡ record { pending = older; ended = (u, end) ∷ tx.undo.ended } → record tx { undo = record { pending = older; ended = (u, end) ∷ tx.undo.ended } } ≡ record tx { undo = undo }
 tried_tx tx undo older u end is = ap (λ (r : Records). record tx { undo = r }) (sym is)
 
-pub turn_undoing : (s : Setting) (words : List ℕ) (contents contents' : Contents) (journal : List Entry) (spare : ℕ) (o : Option Job) (job job' : Job) (was is : ℕ)
-    → Some job ≡ o → doing_of o ≡ Undoing → Tries s.tells s.rules.undo_tries job job' contents contents' was is
-    → InFlight s words contents journal spare o → InFlight s words contents' journal spare (Some job')
-turn_undoing s words contents contents' journal spare o job job' before now was undoes tries_it k =
+pub turn_undoing : {H : Type 0} (model : HostModel H) (script : Script) (rules : Rules) (words : List ℕ) (journal : List Entry) (spare : ℕ) (o : Option Job) (old new : JobAt H)
+    → Some old.job ≡ o → doing_of o ≡ Undoing → Tries model rules.undo_tries old new
+    → InFlight (setting script rules model.tells) words (model.contents old.host) journal spare o → InFlight (setting script rules model.tells) words (model.contents new.host) journal spare (Some new.job)
+turn_undoing model script rules words journal spare o old new was undoes tries_it k =
+    let s = setting script rules model.tells in
+    let job = old.job in
+    let contents = model.contents old.host in
+    let contents' = model.contents new.host in
     let inside = taken_in s words contents journal spare o job was k in
-    let doing = ap doing_of was ∙ undoes in
-    let one = active_is job.activity (busy_undoing job.activity doing) in
-    let tx = one.0 in
-    let back = undoing_is tx.undo.pending tx.phase (ap doing_in (sym one.1) ∙ doing) in
-    let older = back.1.0 in
-    let u = back.1.1 in
-    let tried = tries_it tx older u one.1 back.1.2 in
-    let next : Tx = record tx { undo = tried.undo } in
-    let same = tried_tx tx tried.undo older u tried.end tried.tried.stack in
+    let (tx, is, undoing, undone) = tried_by model rules.undo_tries o old new was undoes tries_it in
+    let t = undone.tried in
+    let next : Tx = record tx { undo = undone.undo } in
+    let same = tried_tx tx undone.undo t.older t.tried t.end t.stack in
     let job_next : Job = record job { activity = activity.Active next } in
-    subst (λ j. InFlight s words contents' journal spare (Some j)) (sym tried.job)
+    subst (λ j. InFlight s words contents' journal spare (Some j)) (sym undone.job)
     (keep_job s journal words words contents contents' spare spare job job_next refl refl refl
     (λ f before.
-    let active = subst (IsActive s f words (length journal) spare job.place) one.1 before in
-    (active.0, subst (Flight s f words (length journal) job.place) same (flight_tried s f words (length journal) job.place tx back.0.0 older u tried.end back.0.1 back.1.2 tried.tried.legal active.1)))
-    (λ t f before b now'.
-    let active = subst (IsActive s f words (length journal) spare job.place) one.1 before in
+    let active = subst (IsActive s f words (length journal) spare job.place) is before in
+    (active.0, subst (Flight s f words (length journal) job.place) same (flight_tried s f words (length journal) job.place tx undoing.0 t.older t.tried t.end undoing.1 t.was t.legal active.1)))
+    (λ told f before b now'.
+    let active = subst (IsActive s f words (length journal) spare job.place) is before in
     let w = (progress_of s.script journal).state.world in
-    let played : IsPlayedBy w job.me words contents (activity.Active tx) = subst (IsPlayedBy w job.me words contents) one.1 now' in
+    let played : IsPlayedBy w job.me words contents (activity.Active tx) = subst (IsPlayedBy w job.me words contents) is now' in
     subst (λ (x : Tx). IsPlayedBy w job.me words contents' (activity.Active x)) same
-    (played_tried s f words (length journal) job.place w job.me contents contents' tx back.0.0 older u tried.end back.0.1 back.1.2 tried.tried.legal (tried.tried.effect t) active.1.noted (b.sound (length journal + 1) (omega arith)) played))
+    (played_tried s f words (length journal) job.place w job.me contents contents' tx undoing.0 t.older t.tried t.end undoing.1 t.was t.legal (t.effect told) active.1.noted (b.sound (length journal + 1) (omega arith)) played))
     inside)
 
-pub counts_undoing : (tells : Bool) (tries : ℕ) (contents contents' : Contents) (journal : List Entry) (o : Option Job) (job job' : Job) (before was is : ℕ)
-    → Some job ≡ o → doing_of o ≡ Undoing → Tries tells tries job job' contents contents' was is → AreCounted journal o before was → AreCounted journal (Some job') before is
-counts_undoing tells tries contents contents' journal o job job' before was is taken undoes tries_it h =
-    let doing = ap doing_of taken ∙ undoes in
-    let one = active_is job.activity (busy_undoing job.activity doing) in
-    let tx = one.0 in
-    let back = undoing_is tx.undo.pending tx.phase (ap doing_in (sym one.1) ∙ doing) in
-    let tried = tries_it tx back.1.0 back.1.1 one.1 back.1.2 in
-    let here = subst (λ a. CountsFaults (sum_by entry_faults journal + faults_noted a) before was) one.1 (counted_as journal o job before was taken h) in
-    let more = noted_tried (sum_by entry_faults journal) before was is tx tried.undo back.1.1 tried.end (ap (λ (r : Records). r.ended) tried.tried.stack) tried.tried.faults here in
-    subst (λ j. AreCounted journal (Some j) before is) (sym tried.job) more
+pub counts_undoing : {H : Type 0} (model : HostModel H) (tries : ℕ) (journal : List Entry) (o : Option Job) (old new : JobAt H) (before : ℕ) → Some old.job ≡ o → doing_of o ≡ Undoing → Tries model tries old new
+    → AreCounted journal o before (model.fault_count old.host) → AreCounted journal (Some new.job) before (model.fault_count new.host)
+counts_undoing model tries journal o old new before taken undoes tries_it h =
+    let was = model.fault_count old.host in
+    let is = model.fault_count new.host in
+    let (tx, active, undoing, undone) = tried_by model tries o old new taken undoes tries_it in
+    let t = undone.tried in
+    let here = subst (λ a. CountsFaults (sum_by entry_faults journal + faults_noted a) before was) active (counted_as journal o old.job before was taken h) in
+    let more = noted_tried (sum_by entry_faults journal) before was is tx undone.undo t.tried t.end (ap (λ (r : Records). r.ended) t.stack) t.faults here in
+    subst (λ j. AreCounted journal (Some j) before is) (sym undone.job) more
 
 -- ---- an abort's entry
 abbrev pub Aborts : Job → Job × Entry → Type 0

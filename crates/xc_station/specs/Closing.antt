@@ -1,11 +1,9 @@
 -- A job behind the end of its transaction, and one turn of the way back.
-use Rattle.std.specs.Prelude.{◌≡◌, ℕ, ◌+◌, Bool, List}
+use Rattle.std.specs.Prelude.{◌≡◌, ℕ, ◌+◌}
 use Rattle.xc_data.specs.declared.entry.Cause.{Cause}
 use Rattle.xc_data.specs.declared.entry.Cause.TheVariants as cause
-use Rattle.xc_data.specs.declared.undo.Undo.{Undo}
-use Rattle.xc_data.specs.declared.undo.UndoEnd.{UndoEnd}
 use Rattle.xc_compensate.specs.Records.{Records, IsTried}
-use Rattle.xc_host.specs.Contents.{Contents}
+use Rattle.xc_host.specs.Model.{HostModel}
 use Rattle.xc_script.specs.Place.{at_begin}
 use Rattle.xc_world.specs.World.{beginning}
 use Rattle.xc_station.specs.declared.tx.Tx.{Tx}
@@ -34,10 +32,13 @@ behind_abort job cause.Asked =
     }
 behind_abort job _ = record { block = job.block; me = job.me; place = job.place; activity = activity.Starved }
 
--- one record of an undoing transaction was tried, and has its end; `was` and `is` are the told contents,
--- `before` and `now` the host's counts of faults
-pub record Undoes (tells : Bool) (tries : ℕ) (old new : Job) (tx : Tx) (was is : Contents) (before now : ℕ) (older : List Undo) (u : Undo) : Type 0 where
-  pub end : UndoEnd
+-- a job, and the host that its calls go to
+pub record JobAt (H : Type 0) : Type 0 where
+  pub host : H
+  pub job : Job
+
+-- a record of an undoing transaction was tried, and has its end
+pub record Undoes {H : Type 0} (model : HostModel H) (tries : ℕ) (old new : JobAt H) (tx : Tx) : Type 0 where
   pub undo : Records
-  pub job : new ≡ record old { activity = activity.Active (record tx { undo = undo }) }
-  pub tried : IsTried tells tries tx.undo undo was is before now older u end
+  pub job : new.job ≡ record old.job { activity = activity.Active (record tx { undo = undo }) }
+  pub tried : IsTried model tries (record { host = old.host; undo = tx.undo }) (record { host = new.host; undo = undo })

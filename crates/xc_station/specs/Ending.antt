@@ -1,8 +1,7 @@
 -- How jobs end, and what a whole run ends in.
-use Rattle.std.specs.Prelude.{◌≡◌, ◌≢◌, ℕ, ◌+◌, Bool, true, false, List, [], ◌∷◌, length, map, IsSome, IsTrue}
-use Rattle.std.specs.List.{list_all, last_or}
-use Rattle.std.specs.declared.option.Option.TheVariants.{None, Some}
-use Rattle.xc_data.specs.declared.entry.Cause.{Cause}
+use Rattle.std.specs.Prelude.{◌≡◌, ℕ, ◌+◌, Bool, true, false, List, [], ◌∷◌, length, map, IsSome, IsTrue}
+use Rattle.std.specs.List.{list_all}
+use Rattle.std.specs.declared.option.Option.TheVariants.{None}
 use Rattle.xc_data.specs.declared.entry.JobEnd.{JobEnd}
 use Rattle.xc_data.specs.declared.entry.JobEnd.TheVariants as job_end
 use Rattle.xc_data.specs.declared.entry.JobLine.{JobLine}
@@ -15,26 +14,12 @@ use Rattle.xc_station.specs.Setting.{Setting}
 use Rattle.xc_station.specs.Progress.{Following, progress_of}
 use Rattle.xc_station.specs.Truth.{IsTrueJournal, all_settled}
 
--- a transaction of the job is left, and its attempts at it didn't all fail
-pub record MayGoOn (s : Setting) (f : Following) : Type 0 where
-  pub goes_on : f.starved ≡ false
-  pub left : IsSome (next_body s.script f.job)
-  pub tries : length f.failed ≢ s.rules.attempts
-
--- as many attempts at the next transaction failed as are allowed, the last one for this cause
-pub record HasGivenUp (s : Setting) (f : Following) (c : Cause) : Type 0 where
-  pub goes_on : f.starved ≡ false
-  pub left : IsSome (next_body s.script f.job)
-  pub tries : length f.failed ≡ s.rules.attempts
-  pub last : last_or None f.failed ≡ Some c
-
--- done where no transaction is left; a full journal has 10,000 entries, those of active transactions among them;
--- without memory wherever a transaction is left
+-- done where no transaction is left; without memory only where one is. Giving up, by the attempts that the rules
+-- allow, and a full journal, by the number of entries, come with conflicts and with several jobs
 abbrev pub IsEnd : Setting → ℕ → Following → JobEnd → Type 0
 IsEnd s entries f job_end.Done = (f.starved ≡ false) × (next_body s.script f.job ≡ None)
-IsEnd s entries f (job_end.GaveUp c) = HasGivenUp s f c
-IsEnd s entries f job_end.JournalFull = MayGoOn s f × (entries ≡ 10000)
 IsEnd s entries f job_end.NoMemory = IsSome (next_body s.script f.job)
+IsEnd s entries f _ = ⊥
 
 -- a job's line has its block's name, and its end
 pub record IsLine (s : Setting) (entries : ℕ) (f : Following) (line : JobLine) : Type 0 where

@@ -72,18 +72,18 @@ fn act<H: Host>(
     requires within { AreWithin (length words.now) writes.old }
     requires stored { me.old.stored ≤ 16384 }
     requires none { undo.old.ended ≡ [] }
-    requires open { IsTrue H.tells → AreOpenIn (H.contents host.old) me.old }
+    requires open { IsTrue H.model.tells → AreOpenIn (H.model.contents host.old) me.old }
     ensures within { AreWithin (length words.now) writes.new }
     ensures stored { me.new.stored ≤ 16384 }
     ensures none { undo.new.ended ≡ [] }
     ensures grows { length undo.new.pending ≤ length undo.old.pending + 1 }
     ensures now { IfOk result (λ reply. is_late reply ≡ false) }
-    ensures still { is_overwrite call.now ≡ false → (undo.new ≡ undo.old) × (IsTrue H.tells → H.contents host.new ≡ H.contents host.old) }
+    ensures still { is_overwrite call.now ≡ false → (undo.new ≡ undo.old) × (IsTrue H.model.tells → H.model.contents host.new ≡ H.model.contents host.old) }
     ensures err_undo { OnErr result (undo.new ≡ undo.old) }
-    ensures err_host { IsTrue H.tells → OnErr result (H.contents host.new ≡ H.contents host.old) }
-    ensures cause { CountsFault (replies_fault result) (H.fault_count host.old) (H.fault_count host.new) }
-    ensures does { IsTrue H.tells → IfOk result (λ reply. (w : World) (number : ℕ) → w.words ≡ words.now
-        → Does w (H.contents host.old) (H.contents host.new) number (record { me = me.old; stores = writes.old; undo = undo.old }) (record { me = me.new; stores = writes.new; undo = undo.new }) call.now reply) }
+    ensures err_host { IsTrue H.model.tells → OnErr result (H.model.contents host.new ≡ H.model.contents host.old) }
+    ensures cause { CountsFault (replies_fault result) (H.model.fault_count host.old) (H.model.fault_count host.new) }
+    ensures does { IsTrue H.model.tells → IfOk result (λ reply. (w : World) (number : ℕ) → w.words ≡ words.now
+        → Does w (H.model.contents host.old) (H.model.contents host.new) number (record { me = me.old; stores = writes.old; undo = undo.old }) (record { me = me.new; stores = writes.new; undo = undo.new }) call.now reply) }
 {
     match call {
         Call::Load { .. } | Call::Store { .. } => act_on_words(words, writes, call),
@@ -107,7 +107,7 @@ fn do_call<H: Host>(
 ) -> Result<Reply, NoMemory>
     requires asked { asks (walk_of script.now place.old) ≡ AskedCall call.now }
     requires may { MayGo script.now words.now place.old tx.old }
-    requires open { IsTrue H.tells → AreOpenIn (H.contents host.old) tx.old.me }
+    requires open { IsTrue H.model.tells → AreOpenIn (H.model.contents host.old) tx.old.me }
     ensures same { KeepsNotes tx.old tx.new }
     ensures room { OnOk result (HasRoom tx.new) }
     ensures within { AreWithin (length words.now) tx.new.writes }
@@ -119,10 +119,10 @@ fn do_call<H: Host>(
     ensures at { OnOk result (place.new.at ≡ place.old.at + 1) }
     ensures standing { IsSameBegin place.old place.new }
     ensures err_undo { OnErr result (tx.new.undo ≡ tx.old.undo) }
-    ensures err_host { IsTrue H.tells → OnErr result (H.contents host.new ≡ H.contents host.old) }
-    ensures cause { CountsFault (replies_fault result) (H.fault_count host.old) (H.fault_count host.new) }
-    ensures does { IsTrue H.tells → IfOk result (λ reply. (w : World) (number : ℕ) → w.words ≡ words.now
-        → Does w (H.contents host.old) (H.contents host.new) number (parts_of tx.old) (parts_of tx.new) call.now reply) }
+    ensures err_host { IsTrue H.model.tells → OnErr result (H.model.contents host.new ≡ H.model.contents host.old) }
+    ensures cause { CountsFault (replies_fault result) (H.model.fault_count host.old) (H.model.fault_count host.new) }
+    ensures does { IsTrue H.model.tells → IfOk result (λ reply. (w : World) (number : ℕ) → w.words ≡ words.now
+        → Does w (H.model.contents host.old) (H.model.contents host.new) number (parts_of tx.old) (parts_of tx.new) call.now reply) }
 {
     tx.room()?;
     let Tx {
@@ -157,11 +157,11 @@ fn try_call<H: Host>(
     requires asked { asks (walk_of script.now place.old) ≡ AskedCall call }
     requires may { MayGo script.now words.now place.old tx.old }
     requires count { length words.now ≤ 4096 }
-    requires open { IsTrue H.tells → AreOpenIn (H.contents host.old) tx.old.me }
+    requires open { IsTrue H.model.tells → AreOpenIn (H.model.contents host.old) tx.old.me }
     ensures flight { (rules : PlainRules) (tells : Bool) (f : Following) (entered : ℕ) → Flight (setting script.now rules tells) f words.now entered place.old tx.old → Flight (setting script.now rules tells) f words.now entered place.new tx.new }
-    ensures played { IsTrue H.tells → (w : World) (me : PlainPrivate) (rules : PlainRules) (tells : Bool) (f : Following) (entered : ℕ) → Flight (setting script.now rules tells) f words.now entered place.old tx.old → IsSound w me (entered + 1)
-        → IsPlayedBy w me words.now (H.contents host.old) (PlainActivity.Active tx.old) → IsPlayedBy w me words.now (H.contents host.new) (PlainActivity.Active tx.new) }
-    ensures faults { (n before : ℕ) → CountsFaults (n + faults_noted (PlainActivity.Active tx.old)) before (H.fault_count host.old) → CountsFaults (n + faults_noted (PlainActivity.Active tx.new)) before (H.fault_count host.new) }
+    ensures played { IsTrue H.model.tells → (w : World) (me : PlainPrivate) (rules : PlainRules) (tells : Bool) (f : Following) (entered : ℕ) → Flight (setting script.now rules tells) f words.now entered place.old tx.old → IsSound w me (entered + 1)
+        → IsPlayedBy w me words.now (H.model.contents host.old) (PlainActivity.Active tx.old) → IsPlayedBy w me words.now (H.model.contents host.new) (PlainActivity.Active tx.new) }
+    ensures faults { (n before : ℕ) → CountsFaults (n + faults_noted (PlainActivity.Active tx.old)) before (H.model.fault_count host.old) → CountsFaults (n + faults_noted (PlainActivity.Active tx.new)) before (H.model.fault_count host.new) }
     ensures block { IsSameBegin place.old place.new }
     ensures falls { IsNearer (length (unwrap_or (next_body script.now (job_of place.old)) [])) place.old place.new tx.old tx.new }
     ensures answer { IsGoing result }
@@ -192,11 +192,11 @@ pub fn go<H: Host>(
 ) -> Turn
     requires may { MayGo script.now words.old place.old tx.old }
     requires count { length words.old ≤ 4096 }
-    requires open { IsTrue H.tells → AreOpenIn (H.contents host.old) tx.old.me }
+    requires open { IsTrue H.model.tells → AreOpenIn (H.model.contents host.old) tx.old.me }
     ensures flight { (rules : PlainRules) (tells : Bool) (f : Following) (entered : ℕ) → Flight (setting script.now rules tells) f words.old entered place.old tx.old → Flight (setting script.now rules tells) f words.new entered place.new tx.new }
-    ensures played { IsTrue H.tells → (w : World) (me : PlainPrivate) (rules : PlainRules) (tells : Bool) (f : Following) (entered : ℕ) → Flight (setting script.now rules tells) f words.old entered place.old tx.old → IsSound w me (entered + 1)
-        → IsPlayedBy w me words.old (H.contents host.old) (PlainActivity.Active tx.old) → IsPlayedBy w me words.new (H.contents host.new) (PlainActivity.Active tx.new) }
-    ensures faults { (n before : ℕ) → CountsFaults (n + faults_noted (PlainActivity.Active tx.old)) before (H.fault_count host.old) → CountsFaults (n + faults_noted (PlainActivity.Active tx.new)) before (H.fault_count host.new) }
+    ensures played { IsTrue H.model.tells → (w : World) (me : PlainPrivate) (rules : PlainRules) (tells : Bool) (f : Following) (entered : ℕ) → Flight (setting script.now rules tells) f words.old entered place.old tx.old → IsSound w me (entered + 1)
+        → IsPlayedBy w me words.old (H.model.contents host.old) (PlainActivity.Active tx.old) → IsPlayedBy w me words.new (H.model.contents host.new) (PlainActivity.Active tx.new) }
+    ensures faults { (n before : ℕ) → CountsFaults (n + faults_noted (PlainActivity.Active tx.old)) before (H.model.fault_count host.old) → CountsFaults (n + faults_noted (PlainActivity.Active tx.new)) before (H.model.fault_count host.new) }
     ensures words { length words.new ≡ length words.old }
     ensures block { IsSameBegin place.old place.new }
     ensures falls { IsNearer (length (unwrap_or (next_body script.now (job_of place.old)) [])) place.old place.new tx.old tx.new }
@@ -232,12 +232,12 @@ pub fn run<H: Host>(
 ) -> (Job, Turn)
     requires can { CanRun script.now words.old job.place job.activity }
     requires count { length words.old ≤ 4096 }
-    requires open { IsTrue H.tells → HasOpenFiles (H.contents host.old) job.activity }
+    requires open { IsTrue H.model.tells → HasOpenFiles (H.model.contents host.old) job.activity }
     ensures active { (rules : PlainRules) (tells : Bool) (f : Following) (entered : ℕ) (spare : ℕ) → IsActive (setting script.now rules tells) f words.old entered spare job.place job.activity
         → IsActive (setting script.now rules tells) f words.new entered spare result.0.place result.0.activity }
-    ensures played { IsTrue H.tells → (w : World) (me : PlainPrivate) (rules : PlainRules) (tells : Bool) (f : Following) (entered : ℕ) (spare : ℕ) → IsActive (setting script.now rules tells) f words.old entered spare job.place job.activity → IsSound w me (entered + 1)
-        → IsPlayedBy w me words.old (H.contents host.old) job.activity → IsPlayedBy w me words.new (H.contents host.new) result.0.activity }
-    ensures faults { (n before : ℕ) → CountsFaults (n + faults_noted job.activity) before (H.fault_count host.old) → CountsFaults (n + faults_noted result.0.activity) before (H.fault_count host.new) }
+    ensures played { IsTrue H.model.tells → (w : World) (me : PlainPrivate) (rules : PlainRules) (tells : Bool) (f : Following) (entered : ℕ) (spare : ℕ) → IsActive (setting script.now rules tells) f words.old entered spare job.place job.activity → IsSound w me (entered + 1)
+        → IsPlayedBy w me words.old (H.model.contents host.old) job.activity → IsPlayedBy w me words.new (H.model.contents host.new) result.0.activity }
+    ensures faults { (n before : ℕ) → CountsFaults (n + faults_noted job.activity) before (H.model.fault_count host.old) → CountsFaults (n + faults_noted result.0.activity) before (H.model.fault_count host.new) }
     ensures words { length words.new ≡ length words.old }
     ensures same { (result.0.block ≡ job.block) × (result.0.me ≡ job.me) }
     ensures place { (result.0.place.block ≡ job.place.block) × (result.0.place.next ≡ job.place.next) }

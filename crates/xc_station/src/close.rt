@@ -1,9 +1,7 @@
-ghost use Rattle.std.specs.Prelude.{◌≡◌, ◌<◌, ◌≤◌, ◌+◌, ◌^◌, ◌++◌, ◌∷◌, [], List, IsTrue};
+ghost use Rattle.std.specs.Prelude.{◌≡◌, ◌≢◌, ◌<◌, ◌≤◌, ◌+◌, ◌^◌, [], IsTrue};
 ghost use Rattle.xc_data.specs.declared.entry.Cause.{Cause as PlainCause};
 ghost use Rattle.xc_data.specs.declared.entry.Outcome.TheVariants.{Committed, Aborted};
-ghost use Rattle.xc_data.specs.declared.undo.Undo.{Undo as PlainUndo};
-ghost use Rattle.xc_host.specs.Contents.{world_of};
-ghost use Rattle.xc_world.specs.Effects.{IsCovered};
+ghost use Rattle.xc_compensate.specs.Records.{NextIsCovered};
 ghost use Rattle.xc_script.specs.Place.{at_begin};
 ghost use Rattle.xc_station.specs.declared.tx.Tx.{Tx as PlainTx};
 ghost use Rattle.xc_station.specs.declared.tx.Phase.TheVariants as PlainPhase;
@@ -62,9 +60,9 @@ pub fn commit(alloc: Global, job: Job) -> (Job, Entry)
 pub fn undo<H: Host>(host: &mut H, tries: u32, job: Job) -> Job
     requires busy { IsBusy job.activity }
     requires tries { 1 ≤ tries }
-    requires covered { IsTrue H.tells → (tx : PlainTx) (older : List PlainUndo) (u : PlainUndo) → job.activity ≡ activity.Active tx → tx.undo.pending ≡ older ++ u ∷ [] → IsCovered (world_of (H.contents host.old)) u }
-    ensures undoes { (tx : PlainTx) (older : List PlainUndo) (u : PlainUndo) → job.activity ≡ activity.Active tx → tx.undo.pending ≡ older ++ u ∷ []
-        → Undoes H.tells tries job result tx (H.contents host.old) (H.contents host.new) (H.fault_count host.old) (H.fault_count host.new) older u }
+    requires covered { IsTrue H.model.tells → (tx : PlainTx) → job.activity ≡ activity.Active tx → NextIsCovered (H.model.contents host.old) tx.undo }
+    ensures undoes { (tx : PlainTx) → job.activity ≡ activity.Active tx → tx.undo.pending ≢ []
+        → Undoes H.model tries (record { host = host.old; job = job }) (record { host = host.new; job = result }) tx }
     ensures going { EndsIn Turn.Went result.activity }
 {
     let (block, me, place, mut tx) = taken(job);

@@ -63,8 +63,8 @@ ghost use Rattle.xc_station.specs.Truth.{IsSerial};
       taken = s.taken;
     } };
 
-    ghost invariant = { λ s. InFlight (setting s.opening.script s.rules H.tells) s.words (H.contents s.host) s.journal.items s.journal.spare s.job
-        × AreCounted s.journal.items s.job s.opening.faults (H.fault_count s.host) × (1 ≤ s.rules.undo_tries) × HasLine s.lines };
+    ghost invariant = { λ s. InFlight (setting s.opening.script s.rules H.model.tells) s.words (H.model.contents s.host) s.journal.items s.journal.spare s.job
+        × AreCounted s.journal.items s.job s.opening.faults (H.model.fault_count s.host) × (1 ≤ s.rules.undo_tries) × HasLine s.lines };
 }
 
 impl<H: Host> Station<H> {
@@ -274,9 +274,9 @@ impl<H: Host> Station<H> {
         requires script { IsScript script }
         requires limits { KeepsLimits script.plain }
         requires tries { 1 ≤ rules.undo_tries }
-        ensures ok { IfOk result (λ s. (s.opening ≡ record { script = script; faults = H.fault_count host }) × (s.rules ≡ rules) × (s.journal ≡ []) × (s.taken ≡ false)) }
-        ensures scripted { IfOk result (λ s. not H.takes_scripts && needs_scripted script.plain.prologue ≡ false) }
-        ensures refused { IfErr result (λ n. n.why ≡ OpenErr.NotScripted → not H.takes_scripts && needs_scripted script.plain.prologue ≡ true) }
+        ensures ok { IfOk result (λ s. (s.opening ≡ record { script = script; faults = H.model.fault_count host }) × (s.rules ≡ rules) × (s.journal ≡ []) × (s.taken ≡ false)) }
+        ensures scripted { IfOk result (λ s. not H.model.takes_scripts && needs_scripted script.plain.prologue ≡ false) }
+        ensures refused { IfErr result (λ n. n.why ≡ OpenErr.NotScripted → not H.model.takes_scripts && needs_scripted script.plain.prologue ≡ true) }
         ensures err { IfErr result (λ n. n.host ≡ host) }
     {
         let mut host = host;
@@ -312,11 +312,11 @@ impl<H: Host> Station<H> {
         ensures opening { result.opening ≡ self.opening }
         ensures journal { result.journal.items ≡ self.journal }
         ensures few { length result.journal.items ≤ 1000 }
-        ensures whole { IsTrueEnd (setting self.opening.script self.rules H.tells) result.journal.items
-            (record { words = result.words; contents = H.contents result.host; lines = result.jobs }) }
+        ensures whole { IsTrueEnd (setting self.opening.script self.rules H.model.tells) result.journal.items
+            (record { words = result.words; contents = H.model.contents result.host; lines = result.jobs }) }
 
         // The host's count rose by the faults that are recorded, and stayed where none is.
-        ensures faults { CountsFaults (sum_by entry_faults result.journal.items) self.opening.faults (H.fault_count result.host) }
+        ensures faults { CountsFaults (sum_by entry_faults result.journal.items) self.opening.faults (H.model.fault_count result.host) }
     {
         let Station {
             host,

@@ -1,11 +1,17 @@
-use Rattle.xc_station.proofs.Doings.{open_does, read_does, overwrite_does}
+use Rattle.xc_station.proofs.Doings.{file_does}
 use Rattle.xc_station.proofs.calls.act.Goals as goal
 
 pub returns-in-XOpen-clause-does : goal.returns-in-XOpen-clause-does
-returns-in-XOpen-clause-does g c = open_does _ _ _ _ _ _ _ _ _ _ _ c.in-XOpen.is c.x_open.ensures.acts
+returns-in-XOpen-clause-does g c = file_does g.H.Host.model _ _ c.in-XOpen.is _ _ _ (c.x_open.ensures.call c.args.undo.now) _ _
 
 pub returns-in-XRead-clause-does : goal.returns-in-XRead-clause-does
-returns-in-XRead-clause-does g c = read_does _ _ _ _ _ _ _ _ _ _ _ _ c.in-XRead.is c.x_read.ensures.acts
+returns-in-XRead-clause-does g c = file_does g.H.Host.model _ _ c.in-XRead.is _ _ _ (c.x_read.ensures.call c.args.undo.now) _ _
 
 pub returns-in-XWriteOvr-clause-does : goal.returns-in-XWriteOvr-clause-does
-returns-in-XWriteOvr-clause-does g c = overwrite_does _ _ _ _ _ _ _ _ _ _ _ _ _ c.in-XWriteOvr.is c.x_write_ovr.ensures.acts c.x_write_ovr.ensures.records
+returns-in-XWriteOvr-clause-does g c = file_does g.H.Host.model _ _ c.in-XWriteOvr.is _ _ _ c.x_write_ovr.ensures.call _ _
+
+pub returns-in-XOpen-clause-cause : goal.returns-in-XOpen-clause-cause
+returns-in-XOpen-clause-cause g c = (c.x_open.ensures.call c.args.undo.now).cause
+
+pub returns-in-XRead-clause-cause : goal.returns-in-XRead-clause-cause
+returns-in-XRead-clause-cause g c = (c.x_read.ensures.call c.args.undo.now).cause

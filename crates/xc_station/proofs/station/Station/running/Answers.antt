@@ -20,7 +20,7 @@ returns-clause-falls g c =
     let doing = ap (λ v. doing_of v.job) c.self.view_is ∙ c.requires in
     let station = c.self.inside in
     subst (λ n. turns_left station.opening.script (Some c.run-job.result.0) < n) (ap (λ v. turns_left v.opening.script v.job) c.self.view_is)
-    (left_running (setting station.opening.script station.rules g.H.Host.tells) _ _ _ _ station.job c.in-Some.job c.run-job.result.0 c.self.invariant.0 c.in-Some.ensures.value doing c.run-job.ensures.place.0 c.run-job.ensures.place.1 c.run-job.ensures.falls)
+    (left_running (setting station.opening.script station.rules g.H.Host.model.tells) _ _ _ _ station.job c.in-Some.job c.run-job.result.0 c.self.invariant.0 c.in-Some.ensures.value doing c.run-job.ensures.place.0 c.run-job.ensures.place.1 c.run-job.ensures.falls)
 
 pub run-job-requires-clause-open : goal.run-job-requires-clause-open
 run-job-requires-clause-open g c = may_open _ _ _ _ _ _ _ c.in-Some.ensures.value (ap (λ v. doing_of v.job) c.self.view_is ∙ c.requires) c.self.invariant.0
