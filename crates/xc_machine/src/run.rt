@@ -40,7 +40,8 @@ impl Replied {
     // A call that got this reply leaves its late call where that is Late.
     fn keep(&mut self, reply: &Reply, late: Option<LateCall>) -> Result<(), NoMemory>
         ensures replies { OnOk result (self.new.replies ≡ self.old.replies) }
-        ensures late { (call : _) (me : _) → MatchOption late (late_call call me ≡ []) (λ l. late_call call me ≡ l ∷ []) → OnOk result (self.new.late ≡ self.old.late ++ kept_call call me reply.now) }
+        ensures late { (call : _) (me : _) → MatchOption late (late_call call me ≡ []) (λ l. late_call call me ≡ l ∷ [])
+            → OnOk result (self.new.late ≡ self.old.late ++ kept_call call me reply.now) }
         ensures taken { OnOk result (self.new.taken ≡ self.old.taken) }
         ensures held { OnOk result (self.new.held ≡ self.old.held) }
     {
@@ -78,10 +79,14 @@ impl Replied {
         ensures sound { OnOk result (IsSound world.new me.new tx) }
         ensures world { OnOk result (world.new ≡ (act world.old me.old tx asked.now.call asked.now.answer).world) }
         ensures me { OnOk result (me.new ≡ (act world.old me.old tx asked.now.call asked.now.answer).me) }
-        ensures replies { OnOk result (self.new.replies ≡ self.old.replies ++ (act world.old me.old tx asked.now.call asked.now.answer).reply ∷ []) }
-        ensures late { OnOk result (self.new.late ≡ self.old.late ++ kept_call asked.now.call me.old (act world.old me.old tx asked.now.call asked.now.answer).reply) }
-        ensures taken { OnOk result (self.new.taken ≡ self.old.taken ++ taken_by asked.now.call me.old (act world.old me.old tx asked.now.call asked.now.answer).reply) }
-        ensures held { OnOk result (self.new.held.items ≡ holding self.old.held.items (claims_of asked.now.call me.old (length world.old.words))) }
+        ensures replies { OnOk result (self.new.replies
+            ≡ self.old.replies ++ (act world.old me.old tx asked.now.call asked.now.answer).reply ∷ []) }
+        ensures late { OnOk result (self.new.late
+            ≡ self.old.late ++ kept_call asked.now.call me.old (act world.old me.old tx asked.now.call asked.now.answer).reply) }
+        ensures taken { OnOk result (self.new.taken
+            ≡ self.old.taken ++ taken_by asked.now.call me.old (act world.old me.old tx asked.now.call asked.now.answer).reply) }
+        ensures held { OnOk result (self.new.held.items
+            ≡ holding self.old.held.items (claims_of asked.now.call me.old (length world.old.words))) }
     {
         let before = *me;
         let late = late_call(&asked.call, me)?;

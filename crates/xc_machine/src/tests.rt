@@ -5,8 +5,8 @@ ghost use Rattle.xc_data.specs.Limits.{KeepsLimits, IsOpenedFit};
 use crate::{Replied, World, run_body};
 use std::alloc::Global;
 use xc_data::{
-    Answer, Asked, Call, Chunk, Claim, Items, LateAnswer, LateCall, LateEnd, Mode, Name, NoMemory, Num,
-    Object, Opened, Prologue, Reply, Script0,
+    Answer, Asked, Call, Chunk, Claim, Items, LateAnswer, LateCall, LateEnd, Mode, Name, NoMemory,
+    Num, Object, Opened, Prologue, Reply, Script0,
 };
 use xc_world::opening_private;
 
@@ -106,7 +106,12 @@ fn run(alloc: Global, script: &Script0, asked: &[Asked]) -> Result<Option<Outcom
 }
 
 // The outcome is a row's.
-fn says(outcome: &Option<Outcome>, replies: &[Reply], held: &[Claim], end: Option<LateEnd>) -> bool {
+fn says(
+    outcome: &Option<Outcome>,
+    replies: &[Reply],
+    held: &[Claim],
+    end: Option<LateEnd>,
+) -> bool {
     match outcome {
         Some(outcome) => {
             outcome.replied.replies.as_slice() == replies
@@ -185,7 +190,10 @@ fn exclusive(object: Object) -> Claim {
 fn a_word_is_stored(rt: HostRuntime) -> Result<(), NoMemory> {
     let alloc = rt.alloc();
     let script = script_of(alloc, vec![in alloc; 100]?, Vec::new(alloc));
-    let asked = vec![in alloc; fine(Call::Load { at: 0 }), fine(Call::Store { at: 0, value: 105 })]?;
+    let asked = vec![in alloc;
+        fine(Call::Load { at: 0 }),
+        fine(Call::Store { at: 0, value: 105 }),
+    ]?;
     let outcome = run(alloc, &script, &asked)?;
     let replies = [Reply::Number(100), Reply::Done];
     assert!(rt; says(&outcome, &replies, &[exclusive(Object::Word(0))], None));

@@ -3,7 +3,8 @@ ghost use Rattle.xc_data.specs.declared.private.Private.{Private};
 ghost use Rattle.xc_world.specs.World.{pipe_of, pair_of, with_pair};
 ghost use Rattle.xc_world.specs.Fits.{is_within};
 ghost use Rattle.xc_world.specs.Sound.{IsSound, IsShortCall, late_bytes_of, is_there, names_there};
-ghost use Rattle.xc_world.specs.Late.{late, late_fine, ends, unlinked, room, with_put, pipe_written, shut_down, sent, sent_to, is_block, thread_started, stopped};
+ghost use Rattle.xc_world.specs.Late.{late, late_fine, ends, unlinked, room, with_put, pipe_written, stopped};
+ghost use Rattle.xc_world.specs.Late.{shut_down, sent, sent_to, is_block, thread_started};
 ghost use Rattle.std.specs.FinMap as map;
 
 use super::pipes::other_side;

@@ -34,10 +34,16 @@ loop-call-preserved c =
       world = gave.world ∙ ap (λ (s : Stepped). s.world) same ∙ ap (λ (r : Ran). r.world) more;
       me = gave.me ∙ ap (λ (s : Stepped). s.me) same ∙ ap (λ (r : Ran). r.me) more;
       replies = gave.replies ∙ ap₂ (λ rs (s : Stepped). rs ++ s.reply ∷ []) before.replies same ∙ ap (λ (r : Ran). r.replies) more;
-      words = subst (λ x. length x.words < 2 ^ 32) (sym gave.world) (subst (λ n. n < 2 ^ 32) (sym (body_keeps c.loop-call.world c.loop-call.me c.args.tx (item ∷ [])).count) before.words);
-      taken = gave.taken ∙ ap₂ (λ ts t. ts ++ t) before.taken (ap₂ (λ m (s : Stepped). taken_by item.call m s.reply) before.me same) ∙ ap (λ (r : Ran). r.taken) more;
+      words = subst (λ x. length x.words < 2 ^ 32) (sym gave.world)
+          (subst (λ n. n < 2 ^ 32) (sym (body_keeps c.loop-call.world c.loop-call.me c.args.tx (item ∷ [])).count) before.words);
+      taken =
+          gave.taken ∙ ap₂ (λ ts t. ts ++ t) before.taken (ap₂ (λ m (s : Stepped). taken_by item.call m s.reply) before.me same)
+          ∙ ap (λ (r : Ran). r.taken) more;
       held =
           gave.held ∙ ap₂ holding before.held (ap₂ (λ m (w : World). claims_of item.call m (length w.words)) before.me before.world)
-          ∙ sym (fold-append holding_one [] ran.touched (claims_of item.call ran.me (length ran.world.words))) ∙ ap (λ (r : Ran). held_of r.touched) more;
-      late = gave.late ∙ ap₂ (λ ls k. ls ++ k) before.late (ap₂ (λ m (s : Stepped). kept_call item.call m s.reply) before.me same) ∙ ap (λ (r : Ran). r.late) more;
+          ∙ sym (fold-append holding_one [] ran.touched (claims_of item.call ran.me (length ran.world.words)))
+          ∙ ap (λ (r : Ran). held_of r.touched) more;
+      late =
+          gave.late ∙ ap₂ (λ ls k. ls ++ k) before.late (ap₂ (λ m (s : Stepped). kept_call item.call m s.reply) before.me same)
+          ∙ ap (λ (r : Ran). r.late) more;
     }
