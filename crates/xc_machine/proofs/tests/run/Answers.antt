@@ -1,4 +1,4 @@
-use Rattle.std.proofs.Common.{◌<◌, ◌≤◌, ◌^◌, length, subst, sym, arith}
+use Rattle.std.proofs.Common.{subst, sym, arith}
 use Rattle.xc_data.specs.declared.private.Private.{Private}
 use Rattle.xc_world.specs.Sound.{IsSound}
 use Rattle.xc_machine.proofs.MachineRun.{fine_fits}
