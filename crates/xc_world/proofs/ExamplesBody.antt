@@ -80,10 +80,12 @@ taken_of_four_calls = rw (no_name (codes "a"), file_there, name_there, none_ther
 
 -- each object in the order of the calls
 pub touched_of_four_calls : (body small me 1 calls).touched
-    ≡ claim Exclusive (object.Name (codes "a")) ∷ claim Exclusive (object.File new) ∷ claim Exclusive (object.Name (codes "a")) ∷ claim Exclusive (object.Name (codes "b")) ∷ claim Exclusive (object.Pair first) ∷ []
+    ≡ claim Exclusive (object.Name (codes "a")) ∷ claim Exclusive (object.File new)
+    ∷ claim Exclusive (object.Name (codes "a")) ∷ claim Exclusive (object.Name (codes "b")) ∷ claim Exclusive (object.Pair first) ∷ []
 touched_of_four_calls = rw (no_name (codes "a"), file_there, name_there, none_there) refl
 
 -- the name is held once
 pub held_of_four_calls : held_of (body small me 1 calls).touched
-    ≡ claim Exclusive (object.Name (codes "a")) ∷ claim Exclusive (object.File new) ∷ claim Exclusive (object.Name (codes "b")) ∷ claim Exclusive (object.Pair first) ∷ []
+    ≡ claim Exclusive (object.Name (codes "a")) ∷ claim Exclusive (object.File new)
+    ∷ claim Exclusive (object.Name (codes "b")) ∷ claim Exclusive (object.Pair first) ∷ []
 held_of_four_calls = ap held_of touched_of_four_calls

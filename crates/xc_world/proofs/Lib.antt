@@ -1,7 +1,3 @@
-pub mod MachineMaps
-pub mod MachineFits
-pub mod MachineCounts
-pub mod MachineRun
 pub mod MachineHandles
 pub mod Examples
 pub mod ExamplesBody

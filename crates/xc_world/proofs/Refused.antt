@@ -137,7 +137,8 @@ act_refused w me tx c a =
 -- ---- a private refusal
 -- the first check that refuses gives the reply
 first_refusal : (w : World) (me : Private) (a b c d : Bool) (s : Stepped) → (a || b || c || d) ≡ true
-    → (if a then stays w me reply.BadHandle else if b then stays w me reply.TooBig else if c then stays w me reply.TooMuch else if d then stays w me reply.BadWord else s)
+    → (if a then stays w me reply.BadHandle else if b then stays w me reply.TooBig else if c then stays w me reply.TooMuch
+    else if d then stays w me reply.BadWord else s)
     ≡ stays w me (if a then reply.BadHandle else if b then reply.TooBig else if c then reply.TooMuch else reply.BadWord)
 first_refusal w me true b c d s e = refl
 first_refusal w me false true c d s e = refl
@@ -146,6 +147,7 @@ first_refusal w me false false false true s e = refl
 first_refusal w me false false false false s e = cc
 
 -- a call that a private check refuses leaves the world and the private state
-pub act_refused_whole : (w : World) (me : Private) (tx : ℕ) (call : Call) (answer : Answer) → IsTrue (is_refused call me (length w.words)) → act w me tx call answer ≡ stays w me (refusal call me)
+pub act_refused_whole : (w : World) (me : Private) (tx : ℕ) (call : Call) (answer : Answer) → IsTrue (is_refused call me (length w.words))
+    → act w me tx call answer ≡ stays w me (refusal call me)
 act_refused_whole w me tx c a e =
     first_refusal w me (is_bad_handle c me) (is_too_big c) (is_too_much c me) (is_bad_word c (length w.words)) (counted c (done w me tx c a)) e

@@ -1,6 +1,6 @@
 -- A whole run: the late calls behind a body depend on and change what the body claims.
-use Rattle.std.proofs.Common.{◌≡◌, ℕ, ◌&&◌, true, not, List, [], ◌∷◌, length, ap, ap₂, sym, ◌∙◌, subst, refl, inl, inr}
-use Rattle.std.specs.Prelude.{All, Contains, ◌==◌, min, nat_lt, if◌then◌else◌}
+use Rattle.std.proofs.Common.{arith, ◌≡◌, ℕ, ◌&&◌, true, not, List, [], ◌∷◌, length, ap, ap₂, sym, ◌∙◌, subst, refl, inl, inr}
+use Rattle.std.specs.Prelude.{IsTrue, All, Contains, ◌==◌, min, nat_lt, if◌then◌else◌}
 use Rattle.std.proofs.lemmas.List.Elements.{All-nil, All-cons, All-head, All-tail, All-contains, All-contains_itself}
 use Rattle.xc_data.specs.declared.object.Object.{Object}
 use Rattle.xc_data.specs.declared.object.Object.TheVariants as object
@@ -12,7 +12,7 @@ use Rattle.xc_data.specs.declared.call.LateAnswer.TheVariants as late_answer
 use Rattle.xc_data.specs.declared.private.Private.{Private}
 use Rattle.xc_world.specs.World.{World, Pipe}
 use Rattle.xc_world.specs.Late.{late, room}
-use Rattle.xc_world.specs.Fits.{late_fits, late_answer_of}
+use Rattle.xc_world.specs.Fits.{late_fits, is_within, late_answer_of}
 use Rattle.xc_world.specs.Run.{lates, lates_fit, late_asked_of}
 use Rattle.xc_world.specs.Laws.{AgreeAt, late_objects}
 use Rattle.xc_world.proofs.LocalParts.{agree_itself, first_in}
@@ -53,6 +53,14 @@ late_fits_alike w v (WritePipe num bytes) (late_answer.Fault n) agree =
 late_fits_alike w v (WritePipe num bytes) (late_answer.NoMemory n) agree =
     ap (λ (p : Pipe). if n == 0 then true else not p.shut && nat_lt n (min (length bytes) (room p))) (same_pipe (object.Pipe num ∷ []) w v num (first_in (object.Pipe num) []) agree)
 late_fits_alike w v c a agree = refl
+
+-- an answer that fits a late call tells of no more bytes than the call carries
+pub late_within : (w : World) (call : LateCall) (answer : LateAnswer) → IsTrue (late_fits w call answer) → IsTrue (is_within call answer)
+late_within w call late_answer.Fine fit = grind arith
+late_within w (WritePipe num bytes) (late_answer.Fault n) fit = grind arith
+late_within w (WritePipe num bytes) (late_answer.NoMemory n) fit = grind arith
+late_within w call (late_answer.Fault n) fit = grind arith
+late_within w call (late_answer.NoMemory n) fit = grind arith
 
 -- ---- all of them
 abbrev pub Within : (Object → Type 0) → (Object → Type 0) → LateCall × LateAnswer → Type 0

@@ -23,7 +23,7 @@ fn is_pair(place: Place) -> bool
 }
 
 /// The handle isn't open, or is of another kind than the call needs.
-pub(crate) fn is_bad_handle(call: &Call, me: &Private) -> bool
+pub fn is_bad_handle(call: &Call, me: &Private) -> bool
     ensures { result ≡ check.is_bad_handle call.now me.now }
 {
     match call {
@@ -39,7 +39,7 @@ pub(crate) fn is_bad_handle(call: &Call, me: &Private) -> bool
 }
 
 /// Bytes or a read of more than 1,024, a seek past 65,536.
-pub(crate) fn is_too_big(call: &Call) -> bool
+pub fn is_too_big(call: &Call) -> bool
     ensures { result ≡ check.is_too_big call.now }
 {
     match call {
@@ -50,7 +50,7 @@ pub(crate) fn is_too_big(call: &Call) -> bool
 }
 
 /// The length of the bytes that a call carries.
-pub(crate) fn bytes_len(call: &Call) -> usize
+pub fn bytes_len(call: &Call) -> usize
     ensures value { result ≡ length (check.bytes_of call.now) }
     ensures bound { result < 2 ^ 63 }
 {
@@ -81,7 +81,7 @@ fn vacant_count(places: &[Place]) -> usize
 }
 
 /// The bytes or a read would pass the store; an object or a handle too many.
-pub(crate) fn is_too_much(call: &Call, me: &Private) -> bool
+pub fn is_too_much(call: &Call, me: &Private) -> bool
     ensures { result ≡ check.is_too_much call.now me.now }
 {
     match call {
@@ -101,7 +101,7 @@ pub(crate) fn is_too_much(call: &Call, me: &Private) -> bool
 }
 
 /// There is no such word.
-pub(crate) fn is_bad_word(call: &Call, words: u64) -> bool
+pub fn is_bad_word(call: &Call, words: u64) -> bool
     ensures { result ≡ check.is_bad_word call.now words }
 {
     match call {
@@ -111,7 +111,7 @@ pub(crate) fn is_bad_word(call: &Call, words: u64) -> bool
 }
 
 /// One of the checks refuses the call.
-pub(crate) fn is_refused(call: &Call, me: &Private, words: u64) -> bool
+pub fn is_refused(call: &Call, me: &Private, words: u64) -> bool
     ensures { result ≡ check.is_refused call.now me.now words }
 {
     is_bad_handle(call, me) || is_too_big(call) || is_too_much(call, me) || is_bad_word(call, words)

@@ -45,8 +45,8 @@ pub fn a_record_is_undone()
 /// The bytes that the newest record covers that still stands whole are in its file, however the
 /// newer ones ended, where none of them stands in its way.
 pub fn the_newest_record_is_covered()
-    ensures { (w : World) (older : List Undo) (u : Undo) (newer : List Ending) → AreMadeIn w (older ++ u ∷ map (λ r. r.0) newer)
-        → blocker (length older + 1 + 1) u newer ≡ None
+    ensures { (w : World) (older : List Undo) (u : Undo) (newer : List Ending)
+        → AreMadeIn w (older ++ u ∷ map (λ r. r.0) newer) → blocker (length older + 1 + 1) u newer ≡ None
         → IsCovered (with_remains w (whole (older ++ u ∷ []) ++ remains newer)) u }
 {}
 

@@ -19,7 +19,8 @@ ghost use Rattle.xc_world.specs.Laws.{is_refusal, AgreeAt, ActsAlike, EndsAlike,
 
 /// A call whose reply is a refusal, the end, or a fault of no byte leaves the world as it was.
 pub fn a_refused_call_changes_nothing()
-    ensures { (w : World) (me : Private) (tx : ℕ) (call : Call) (answer : Answer) → IsTrue (is_refusal (act w me tx call answer).reply) → (act w me tx call answer).world ≡ w }
+    ensures { (w : World) (me : Private) (tx : ℕ) (call : Call) (answer : Answer) → IsTrue (is_refusal (act w me tx call answer).reply)
+        → (act w me tx call answer).world ≡ w }
 {}
 
 /// A call that a private check refuses leaves the private state too, and nothing is counted.

@@ -1,4 +1,4 @@
-use Rattle.xc_world.proofs.MachineFits.{late_within}
+use Rattle.xc_world.proofs.Runs.{late_within}
 use Rattle.xc_world.proofs.laws.what_fits_a_late_call_is_within_it.Goals as goal
 
 pub returns : goal.returns

@@ -1,0 +1,4 @@
+pub mod MachineMaps
+pub mod MachineFits
+pub mod MachineCounts
+pub mod MachineRun

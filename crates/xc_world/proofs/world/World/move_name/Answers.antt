@@ -1,8 +1,0 @@
-use Rattle.std.proofs.Common.{arith}
-use Rattle.xc_world.proofs.MachineMaps.{moved}
-use Rattle.xc_world.proofs.world.World.move_name.Goals as goal
-
-pub returns-clause-ok : goal.returns-clause-ok
-returns-clause-ok c =
-    let names = moved c.args.self.now.names c.args.from c.args.to c.args.num c.requires.there c.requires.absent in
-    grind (arith, names, c.in_ok-insert.ensures.ok, c.remove.ensures.removed, c.self.view_is)

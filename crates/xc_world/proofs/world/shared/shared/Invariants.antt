@@ -1,6 +1,0 @@
-use Rattle.std.proofs.Common.{◌≡◌, take}
-use Rattle.xc_world.proofs.world.shared.shared.Given as goal
-
--- the messages so far
-abbrev pub invariant-loop-message : goal.invariant-loop-message
-invariant-loop-message l = l.list ≡ take l.message-index l.messages
