@@ -1,5 +1,6 @@
 -- A line cut into tokens.
-use Rattle.std.specs.Prelude.{ℕ, zero, suc, ◌==◌, ◌||◌, Bool, not, List, [], ◌∷◌, length, take, drop, nat_le, ok_or, option_map, Option, Some, None, Result, Ok, Err, if◌then◌else◌}
+use Rattle.std.specs.Prelude.{ℕ, zero, suc, ◌==◌, ◌||◌, Bool, not, List, [], ◌∷◌, length, take, drop, nat_le, ok_or, option_map, Option}
+use Rattle.std.specs.Prelude.{Some, None, Result, Ok, Err, if◌then◌else◌}
 use Rattle.std.specs.List.{list_any, prefix_len}
 use Rattle.xc_text.specs.declared.why.Why.{Why}
 use Rattle.xc_text.specs.declared.why.Why.TheVariants.{BadLiteral}
