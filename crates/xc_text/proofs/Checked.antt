@@ -12,7 +12,8 @@ use Rattle.xc_text.specs.Answers.{Stops, both, seen}
 use Rattle.xc_text.specs.Grammar.{overwrite_line}
 use Rattle.xc_text.specs.Pieces.{item_of, items_of, data_of}
 use Rattle.xc_text.specs.Terms.{ident}
-use Rattle.xc_text.specs.Tokens.{Lexeme, lexeme}
+use Rattle.xc_text.specs.Tokens.{Lexeme}
+use Rattle.xc_text.specs.Views.{lexeme}
 
 -- whether a part is good, and else the reason against it
 abbrev pub checked : {A : Type 0} → Result A Why → Result (Unit {0}) Why

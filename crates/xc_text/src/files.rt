@@ -18,7 +18,7 @@ pub struct Files {
 impl Model for Files {
     ghost use Rattle.std.specs.Prelude.{List};
     ghost use Rattle.xc_data.specs.declared.script.Opened.{Opened};
-    ghost use Rattle.xc_text.specs.Named.{NamesFiles};
+    ghost use Rattle.xc_text.specs.Views.{NamesFiles};
 
     ghost Value = { List Opened };
 

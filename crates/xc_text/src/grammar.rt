@@ -7,7 +7,7 @@ ghost use Rattle.xc_text.specs.Grammar.{block_line as block_said, statement_line
 ghost use Rattle.xc_text.specs.Grammar.{worded_line as worded_said, first_line as first_word_said, line_of as line_said};
 ghost use Rattle.xc_text.specs.Literals.{only_literals as literals_alone};
 ghost use Rattle.xc_text.specs.Terms.{term as term_of_token, ident as ident_of_token};
-ghost use Rattle.xc_text.specs.Tokens.{lexeme};
+ghost use Rattle.xc_text.specs.Views.{lexeme};
 
 use crate::line::{Line, Section};
 use crate::literals::{are_literals, contents};

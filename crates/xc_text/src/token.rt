@@ -2,9 +2,10 @@ ghost use Rattle.std.specs.Prelude.{◌≡◌, false, ◌≤◌, ◌<◌, ◌+�
 ghost use Rattle.std.specs.List.{list_any};
 ghost use Rattle.xc_text.specs.declared.why.Why.TheVariants.{BadLiteral};
 ghost use Rattle.xc_text.specs.Answers.{Gives};
-ghost use Rattle.xc_text.specs.Quoted.{is_hex, is_escape, escaped, digit_value, hex_byte, literal_of, escape_of, hex_of, behind_piece};
-ghost use Rattle.xc_text.specs.Tokens.{lexeme, is_blank, past_blanks as behind_blanks, run_len as length_of_run, repeat_of, repeat_from};
+ghost use Rattle.xc_text.specs.Quoted.{is_hex, is_escape, escaped, digit_value, hex_byte, literal_of, escape_of, hex_of};
+ghost use Rattle.xc_text.specs.Tokens.{is_blank, past_blanks as behind_blanks, run_len as length_of_run, repeat_of, repeat_from};
 ghost use Rattle.xc_text.specs.Tokens.{literal_from, word_from, token_at, tokens_of};
+ghost use Rattle.xc_text.specs.Views.{behind_piece, lexeme};
 
 use crate::limits::{MOST_LITERAL_BYTES, MOST_REPEAT};
 use crate::number::number;
