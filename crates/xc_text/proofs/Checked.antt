@@ -1,5 +1,6 @@
 -- Parts of a line that are checked first, and made then.
-use Rattle.std.proofs.Common.{◌≡◌, ℕ, ◌-◌, ◌<◌, List, [], ◌∷◌, length, map, take, drop, get_or, take_all, drop-cons, suc, subst, arith, Result, Ok, Err, refl, ap, sym, ◌∙◌}
+use Rattle.std.proofs.Common.{◌≡◌, ℕ, ◌-◌, ◌<◌, List, [], ◌∷◌, length, map, take, drop, get_or, take_all, drop-cons, suc, subst, arith, Result, Ok, Err, refl}
+use Rattle.std.proofs.Common.{ap, sym, ◌∙◌}
 use Rattle.std.specs.Prelude.{IsOk}
 use Rattle.xc_text.specs.declared.script.Item.{Item}
 use Rattle.xc_text.specs.declared.script.Statement.TheVariants.{Overwrite}
@@ -11,11 +12,14 @@ use Rattle.xc_text.specs.Answers.{Stops, both, seen}
 use Rattle.xc_text.specs.Grammar.{overwrite_line}
 use Rattle.xc_text.specs.Pieces.{item_of, items_of, data_of}
 use Rattle.xc_text.specs.Terms.{ident}
-use Rattle.xc_text.specs.Tokens.{Lexeme, lexeme}
+use Rattle.xc_text.specs.Tokens.{Lexeme}
+use Rattle.xc_text.specs.Views.{lexeme}
 
+-- whether a part is good, and else the reason against it
 abbrev pub checked : {A : Type 0} → Result A Why → Result (Unit {0}) Why
 checked a = seen (λ _. tt) a
 
+-- the first of two parts, where both are good
 abbrev pub first_of : {A B : Type 0} → Result A Why → Result B Why → Result A Why
 first_of {A} {B} a b = seen (λ (p : A × B). p.0) (both a b)
 

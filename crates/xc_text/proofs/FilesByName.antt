@@ -9,7 +9,7 @@ use Rattle.std.proofs.lemmas.List.Folds.{list_any-append}
 use Rattle.xc_data.specs.declared.script.Opened.{Opened}
 use Rattle.xc_data.specs.declared.script.Opened.TheVariants.{File}
 use Rattle.xc_maps.specs.Keys.{name_cmp}
-use Rattle.xc_text.specs.Named.{NamesFiles}
+use Rattle.xc_text.specs.Views.{NamesFiles}
 use Rattle.xc_text.specs.Steps.{is_file_of}
 
 -- no name has no file

@@ -4,7 +4,7 @@ use Rattle.xc_text.specs.declared.token.Token.{Token}
 use Rattle.xc_text.specs.declared.why.Why.TheVariants.{BadForm}
 use Rattle.xc_text.specs.Grammar.{read_line}
 use Rattle.xc_text.specs.Terms.{expression_of}
-use Rattle.xc_text.specs.Tokens.{lexeme}
+use Rattle.xc_text.specs.Views.{lexeme}
 
 -- neither one token nor three
 pub no_expression : (ts : List Token) → (length ts ≡ 1 → ⊥) → (length ts ≡ 3 → ⊥) → Err BadForm ≡ expression_of (map lexeme ts)

@@ -1,5 +1,6 @@
 -- What a script that was read keeps to.
-use Rattle.std.proofs.Common.{◌≡◌, ℕ, ◌+◌, ◌<◌, ◌≤◌, Bool, true, false, List, [], ◌∷◌, ◌++◌, length, Option, None, Some, Result, Ok, Err, IfOk, IfSome, cond, refl, subst, arith, lit≤, nat_lt, nat_le, ◌||◌, ◌&&◌}
+use Rattle.std.proofs.Common.{◌≡◌, ℕ, ◌+◌, ◌<◌, ◌≤◌, Bool, true, false, List, [], ◌∷◌, ◌++◌, length, Option, None, Some, Result, Ok, Err, IfOk, IfSome, cond}
+use Rattle.std.proofs.Common.{refl, subst, arith, lit≤, nat_lt, nat_le, ◌||◌, ◌&&◌}
 use Rattle.std.specs.Prelude.{All, codes, count_by, nat_eq, if◌then◌else◌}
 use Rattle.std.specs.Cmp.Lexicographic.{pointwise}
 use Rattle.std.specs.List.{list_all, list_any, IsDistinct}
@@ -26,7 +27,8 @@ use Rattle.xc_text.specs.Literals.{is_within, contents, only_literals}
 use Rattle.xc_text.specs.Said.{Said, opening}
 use Rattle.xc_text.specs.Sections.{block_in, transaction_in, is_outside}
 use Rattle.xc_text.specs.Scripts.{names_of, IsBlock, IsFileLine, IsScript, at_line, script_of, closed, read_from, parse_of}
-use Rattle.xc_text.specs.Steps.{is_call, is_file_of, has_few_calls, sized_by, valued_by, added, filed, begun, stated, committed, ended_block, after, after_any, after_tokens, after_bytes, with_statement}
+use Rattle.xc_text.specs.Steps.{is_call, is_file_of, has_few_calls, sized_by, valued_by, added, filed, begun, stated, committed, ended_block, after, after_any}
+use Rattle.xc_text.specs.Steps.{after_tokens, after_bytes, with_statement}
 use Rattle.xc_text.specs.Terms.{spells, number, ident, name}
 use Rattle.xc_text.specs.Tokens.{Lexeme, Word, Literal, tokens_of}
 
@@ -423,6 +425,7 @@ parse_of-keeps bytes =
 pub parsed : (bytes : List ℕ) (s : Script) → parse_of bytes ≡ Ok s → IsScript s
 parsed bytes s e = subst (λ (a : Result Script Refusal). IfOk a IsScript) e (parse_of-keeps bytes)
 
+-- such a script keeps the limits of every prologue
 pub in_limits : (s : Script) → IsScript s → KeepsLimits s.plain
 in_limits s k =
     record {

@@ -1,5 +1,6 @@
 -- Literals that are read piece by piece.
-use Rattle.std.proofs.Common.{◌≡◌, ℕ, ◌-◌, ◌<◌, length, take, drop, get_or, take_all, arith, List, [], ◌∷◌, ◌++◌, Option, Some, None, refl, ap, ◌∙◌, append_assoc}
+use Rattle.std.proofs.Common.{◌≡◌, ℕ, ◌-◌, ◌<◌, length, take, drop, get_or, take_all, arith, List, [], ◌∷◌, ◌++◌, Option, Some, None, refl, ap, ◌∙◌}
+use Rattle.std.proofs.Common.{append_assoc}
 use Rattle.xc_text.specs.Quoted.{then_rest, literal_of}
 
 -- what the rest of a literal means, behind what it meant so far

@@ -1,12 +1,14 @@
 -- The first tokens of a line, one after another.
-use Rattle.std.proofs.Common.{◌≡◌, ℕ, ◌-◌, ◌<◌, ◌≤◌, zero, suc, List, [], ◌∷◌, ◌++◌, length, map, Some, None, Result, Ok, Err, refl, ap, sym, ◌∙◌, append_assoc, append-nil, arith, length-append}
+use Rattle.std.proofs.Common.{◌≡◌, ℕ, ◌-◌, ◌<◌, ◌≤◌, zero, suc, List, [], ◌∷◌, ◌++◌, length, map, Some, None, Result, Ok, Err, refl, ap, sym, ◌∙◌, append_assoc}
+use Rattle.std.proofs.Common.{append-nil, arith, length-append}
 use Rattle.std.proofs.lemmas.List.{map-append}
 use Rattle.xc_text.specs.declared.token.Token.{Token}
 use Rattle.xc_text.specs.declared.why.Stop.{Stop}
 use Rattle.xc_text.specs.declared.why.Stop.TheVariants as stop
 use Rattle.xc_text.specs.declared.why.Why.{Why}
 use Rattle.xc_text.specs.Answers.{Stops, and_then, seen}
-use Rattle.xc_text.specs.Tokens.{Lexeme, lexeme, past_blanks, token_at, and_others, first_tokens}
+use Rattle.xc_text.specs.Tokens.{Lexeme, past_blanks, token_at, and_others, first_tokens}
+use Rattle.xc_text.specs.Views.{lexeme}
 
 -- none is left
 no_more : (n : ℕ) (bs : List ℕ) → token_at (past_blanks bs) ≡ Ok None → first_tokens n bs ≡ Ok []

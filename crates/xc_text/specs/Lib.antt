@@ -2,7 +2,6 @@ pub mod Answers
 pub mod Grammar
 pub mod Lines
 pub mod Literals
-pub mod Named
 pub mod Numbers
 pub mod Pieces
 pub mod Quoted
@@ -12,3 +11,4 @@ pub mod Sections
 pub mod Steps
 pub mod Terms
 pub mod Tokens
+pub mod Views

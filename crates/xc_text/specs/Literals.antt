@@ -5,6 +5,7 @@ use Rattle.xc_text.specs.declared.why.Why.{Why}
 use Rattle.xc_text.specs.declared.why.Why.TheVariants.{BadForm}
 use Rattle.xc_text.specs.Tokens.{Lexeme, Word, Literal}
 
+-- a token is a literal, and no word
 abbrev pub is_literal : Lexeme → Bool
 is_literal (Word word) = false
 is_literal (Literal meant times) = true

@@ -14,5 +14,6 @@ value_from acc (b ∷ bs) = value_from (acc * 10 + (b - 48)) bs
 -- 1 to 20 digits whose value is below 2 ^ 64
 abbrev pub number_of : List ℕ → Option ℕ
 number_of bs =
-    if nat_le 1 (length bs) && nat_le (length bs) 20 && list_all is_digit bs && nat_lt (value_from 0 bs) (2 ^ 64) then Some (value_from 0 bs)
+    if nat_le 1 (length bs) && nat_le (length bs) 20 && list_all is_digit bs && nat_lt (value_from 0 bs) (2 ^ 64) then
+    Some (value_from 0 bs)
     else None

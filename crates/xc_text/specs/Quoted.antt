@@ -62,8 +62,3 @@ abbrev mutual
       if is_hex first && is_hex second then then_rest (hex_byte first second) (literal_of bs)
       else None
   hex_of _ = None
-
--- a literal behind a piece of it: the byte that the piece means, and what stands behind it
-abbrev pub behind_piece : Option (ℕ × List ℕ) → Option (List ℕ × List ℕ)
-behind_piece (Some (b, behind)) = then_rest b (literal_of behind)
-behind_piece None = None

@@ -1,5 +1,6 @@
 -- What a script says, and what a script that was read keeps to.
-use Rattle.std.specs.Prelude.{◌≡◌, ℕ, ◌+◌, ◌≤◌, List, [], ◌∷◌, length, map, All, count_by, nat_eq, nat_lt, None, Result, Ok, Err, if◌then◌else◌}
+use Rattle.std.specs.Prelude.{◌≡◌, ℕ, ◌+◌, ◌≤◌, List, [], ◌∷◌, length, map, All, count_by, nat_eq, nat_lt, None, Result, Ok, Err}
+use Rattle.std.specs.Prelude.{if◌then◌else◌}
 use Rattle.std.specs.Cmp.Lexicographic.{pointwise}
 use Rattle.std.specs.List.{IsDistinct}
 use Rattle.xc_data.specs.declared.script.Opened.{Opened}
@@ -27,7 +28,12 @@ names_of blocks = map (λ b. b.name) blocks
 -- the whole script
 abbrev pub script_of : Said → Script
 script_of s = record {
-  plain = record { words = s.words; prologue = record { objects = s.objects; faults = []; grain = None }; bodies = []; jobs = names_of s.blocks };
+  plain = record {
+    words = s.words;
+    prologue = record { objects = s.objects; faults = []; grain = None };
+    bodies = [];
+    jobs = names_of s.blocks;
+  };
   blocks = s.blocks;
 }
 

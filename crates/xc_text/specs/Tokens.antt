@@ -1,10 +1,9 @@
 -- A line cut into tokens.
-use Rattle.std.specs.Prelude.{ℕ, zero, suc, ◌==◌, ◌||◌, Bool, not, List, [], ◌∷◌, length, take, drop, nat_le, ok_or, option_map, Option, Some, None, Result, Ok, Err, if◌then◌else◌}
+use Rattle.std.specs.Prelude.{ℕ, zero, suc, ◌==◌, ◌||◌, Bool, not, List, [], ◌∷◌, length, take, drop, nat_le, ok_or, option_map, Option}
+use Rattle.std.specs.Prelude.{Some, None, Result, Ok, Err, if◌then◌else◌}
 use Rattle.std.specs.List.{list_any, prefix_len}
 use Rattle.xc_text.specs.declared.why.Why.{Why}
 use Rattle.xc_text.specs.declared.why.Why.TheVariants.{BadLiteral}
-use Rattle.xc_text.specs.declared.token.Token.{Token}
-use Rattle.xc_text.specs.declared.token.Token.TheVariants as token
 use Rattle.xc_text.specs.Answers.{and_then, seen}
 use Rattle.xc_text.specs.Numbers.{number_of}
 use Rattle.xc_text.specs.Quoted.{literal_of}
@@ -13,11 +12,6 @@ use Rattle.xc_text.specs.Quoted.{literal_of}
 pub data Lexeme : Type 0 where
   Word : List ℕ → Lexeme
   Literal : List ℕ → ℕ → Lexeme
-
--- what a token of the code is
-abbrev pub lexeme : Token → Lexeme
-lexeme (token.Word bytes) = Word bytes.now
-lexeme (token.Literal bytes times) = Literal bytes.items times
 
 -- a space or a TAB
 abbrev pub is_blank : ℕ → Bool

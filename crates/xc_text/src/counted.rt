@@ -80,6 +80,7 @@ impl Counted {
         Ok(())
     }
 
+    /// It takes no memory.
     pub fn into_body(self) -> Body
         ensures { result ≡ self }
     {

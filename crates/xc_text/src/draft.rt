@@ -4,7 +4,8 @@ ghost use Rattle.xc_text.specs.Answers.{Gives};
 ghost use Rattle.xc_text.specs.Said.{opening};
 ghost use Rattle.xc_text.specs.Scripts.{names_of, script_of};
 ghost use Rattle.xc_text.specs.Sections.{block_in, is_outside, transaction_in};
-ghost use Rattle.xc_text.specs.Steps.{is_file_of, sized_by, valued_by, filed, added, begun, stated, committed, ended_block, after, after_bytes};
+ghost use Rattle.xc_text.specs.Steps.{is_file_of, sized_by, valued_by, filed, added, begun, stated, committed, ended_block, after};
+ghost use Rattle.xc_text.specs.Steps.{after_bytes};
 
 use crate::counted::Counted;
 use crate::files::Files;
@@ -77,6 +78,7 @@ fn job_names(alloc: Global, blocks: &[Block]) -> Result<IdentList, NoMemory>
 }
 
 impl Draft {
+    /// No line was read.
     pub fn new(alloc: Global) -> Result<Draft, NoMemory>
         ensures { IfOk result (λ draft. draft ≡ opening) }
     {

@@ -18,7 +18,7 @@ pub struct Files {
 impl Model for Files {
     ghost use Rattle.std.specs.Prelude.{List};
     ghost use Rattle.xc_data.specs.declared.script.Opened.{Opened};
-    ghost use Rattle.xc_text.specs.Named.{NamesFiles};
+    ghost use Rattle.xc_text.specs.Views.{NamesFiles};
 
     ghost Value = { List Opened };
 
@@ -50,6 +50,7 @@ impl Files {
         self.names.get(name).is_some()
     }
 
+    /// Adds a file of a name that none of them has.
     pub fn push(&mut self, name: Name, bytes: Chunk) -> Result<(), NoMemory>
         requires new { list_any (is_file_of name) self.old ≡ false }
         ensures ok { OnOk result (self.new ≡ self.old ++ File name bytes ∷ []) }
@@ -65,6 +66,7 @@ impl Files {
         }
     }
 
+    /// It takes no memory.
     pub fn into_objects(self) -> OpenedList
         ensures { result ≡ self }
     {

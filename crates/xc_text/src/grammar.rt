@@ -1,9 +1,13 @@
 ghost use Rattle.std.specs.Prelude.{◌≡◌, ◌∷◌, [], map, Ok, Err};
 ghost use Rattle.xc_text.specs.Answers.{Gives, both as together};
-ghost use Rattle.xc_text.specs.Grammar.{words_line as words_said, word_line as word_said, file_line as file_said, job_line as job_said, bare as bare_said, load_line as load_said, store_line as store_said, open_line as open_said, read_line as read_said, overwrite_line as overwrite_said, prologue_line as prologue_said, block_line as block_said, statement_line as statement_said, transaction_line as transaction_said, worded_line as worded_said, first_line as first_word_said, line_of as line_said};
+ghost use Rattle.xc_text.specs.Grammar.{words_line as words_said, word_line as word_said, file_line as file_said, job_line as job_said};
+ghost use Rattle.xc_text.specs.Grammar.{bare as bare_said, load_line as load_said, store_line as store_said, open_line as open_said};
+ghost use Rattle.xc_text.specs.Grammar.{read_line as read_said, overwrite_line as overwrite_said, prologue_line as prologue_said};
+ghost use Rattle.xc_text.specs.Grammar.{block_line as block_said, statement_line as statement_said, transaction_line as transaction_said};
+ghost use Rattle.xc_text.specs.Grammar.{worded_line as worded_said, first_line as first_word_said, line_of as line_said};
 ghost use Rattle.xc_text.specs.Literals.{only_literals as literals_alone};
 ghost use Rattle.xc_text.specs.Terms.{term as term_of_token, ident as ident_of_token};
-ghost use Rattle.xc_text.specs.Tokens.{lexeme};
+ghost use Rattle.xc_text.specs.Views.{lexeme};
 
 use crate::line::{Line, Section};
 use crate::literals::{are_literals, contents};

@@ -1,7 +1,8 @@
 ghost use Rattle.std.specs.Prelude.{◌≡◌, ◌<◌, ◌^◌, ◌++◌, length, map, IfOk, OnOk};
 ghost use Rattle.std.specs.List.{list_all, repeat as repeat_of_list};
-ghost use Rattle.xc_text.specs.Literals.{is_literal as is_literal_token, given, joined as joined_literals, is_within as is_within_bound, contents as contents_said};
-ghost use Rattle.xc_text.specs.Tokens.{lexeme};
+ghost use Rattle.xc_text.specs.Literals.{is_literal as is_literal_token, given, joined as joined_literals, is_within as is_within_bound};
+ghost use Rattle.xc_text.specs.Literals.{contents as contents_said};
+ghost use Rattle.xc_text.specs.Views.{lexeme};
 
 use crate::limits::MOST_FILE_BYTES;
 use crate::token::Token;

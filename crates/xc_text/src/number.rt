@@ -4,6 +4,7 @@ ghost use Rattle.xc_text.specs.Numbers.{is_digit, value_from, number_of};
 
 use crate::limits::MOST_DIGITS;
 
+/// `0` to `9`.
 pub fn is_digit_byte(b: u8) -> bool
     ensures { result ≡ is_digit b }
 {

@@ -1,7 +1,7 @@
 ghost use Rattle.std.specs.Prelude.{◌≡◌, map, IsOk};
 ghost use Rattle.xc_text.specs.Answers.{Gives, seen};
 ghost use Rattle.xc_text.specs.Pieces.{word_item as word_item_said, item_of, items_of, data_of};
-ghost use Rattle.xc_text.specs.Tokens.{lexeme};
+ghost use Rattle.xc_text.specs.Views.{lexeme};
 
 use crate::limits::{MOST_DATA_BYTES, MOST_ITEMS};
 use crate::literals::{is_within, repeated};

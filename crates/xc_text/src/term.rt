@@ -1,6 +1,8 @@
 ghost use Rattle.std.specs.Prelude.{◌≡◌, ◌∷◌, [], map};
-ghost use Rattle.xc_text.specs.Terms.{spells as is_spelled, is_sign as is_sign_of, number as number_of_token, number_in, ident as ident_of_token, ident_in, name as name_of_token, name_in, term as term_of_token, term_in, begins_with_digit as has_digit_first, expression_of};
-ghost use Rattle.xc_text.specs.Tokens.{lexeme};
+ghost use Rattle.xc_text.specs.Terms.{spells as is_spelled, is_sign as is_sign_of, number as number_of_token, number_in};
+ghost use Rattle.xc_text.specs.Terms.{ident as ident_of_token, ident_in, name as name_of_token, name_in, term as term_of_token, term_in};
+ghost use Rattle.xc_text.specs.Terms.{begins_with_digit as has_digit_first, expression_of};
+ghost use Rattle.xc_text.specs.Views.{lexeme};
 
 use crate::number::{is_digit_byte, number as spelled_number};
 use crate::reason::both;

@@ -2,8 +2,10 @@ ghost use Rattle.std.specs.Prelude.{◌≡◌, false, ◌≤◌, ◌<◌, ◌+�
 ghost use Rattle.std.specs.List.{list_any};
 ghost use Rattle.xc_text.specs.declared.why.Why.TheVariants.{BadLiteral};
 ghost use Rattle.xc_text.specs.Answers.{Gives};
-ghost use Rattle.xc_text.specs.Quoted.{is_hex, is_escape, escaped, digit_value, hex_byte, literal_of, escape_of, hex_of, behind_piece};
-ghost use Rattle.xc_text.specs.Tokens.{lexeme, is_blank, past_blanks as behind_blanks, run_len as length_of_run, repeat_of, repeat_from, literal_from, word_from, token_at, tokens_of};
+ghost use Rattle.xc_text.specs.Quoted.{is_hex, is_escape, escaped, digit_value, hex_byte, literal_of, escape_of, hex_of};
+ghost use Rattle.xc_text.specs.Tokens.{is_blank, past_blanks as behind_blanks, run_len as length_of_run, repeat_of, repeat_from};
+ghost use Rattle.xc_text.specs.Tokens.{literal_from, word_from, token_at, tokens_of};
+ghost use Rattle.xc_text.specs.Views.{behind_piece, lexeme};
 
 use crate::limits::{MOST_LITERAL_BYTES, MOST_REPEAT};
 use crate::number::number;
@@ -207,7 +209,7 @@ fn has_quote(bytes: &[u8]) -> bool
 // The word in front, and what stands behind it.
 fn word(bytes: &[u8]) -> Option<(Token, &[u8])>
     requires some { 0 < length bytes.now }
-    ensures value { (first : _) (others : _) → bytes.now ≡ first ∷ others → option_map (λ p. (lexeme p.0, p.1.now)) result ≡ word_from first others }
+    ensures value { (b : _) (bs : _) → bytes.now ≡ b ∷ bs → option_map (λ p. (lexeme p.0, p.1.now)) result ≡ word_from b bs }
     ensures fewer { IfSome result (λ p. length p.1.now < length bytes.now) }
 {
     let n = run_len(&bytes[1..]) + 1;

@@ -1,6 +1,6 @@
 use Rattle.std.proofs.Common.{◌≡◌, Err, length, map, ◌<◌, arith, rules}
 use Rattle.xc_text.specs.Grammar.{overwrite_line}
-use Rattle.xc_text.specs.Tokens.{lexeme}
+use Rattle.xc_text.specs.Views.{lexeme}
 use Rattle.xc_text.proofs.Checked.{overwrite_refused}
 use Rattle.xc_text.proofs.grammar.overwrite_line.Goals as goal
 

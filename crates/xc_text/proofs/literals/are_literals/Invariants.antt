@@ -1,7 +1,7 @@
 use Rattle.std.proofs.Common.{◌≡◌, map, drop}
 use Rattle.std.specs.List.{list_all}
 use Rattle.xc_text.specs.Literals.{is_literal}
-use Rattle.xc_text.specs.Tokens.{lexeme}
+use Rattle.xc_text.specs.Views.{lexeme}
 use Rattle.xc_text.proofs.literals.are_literals.Given as goal
 
 -- what is left decides

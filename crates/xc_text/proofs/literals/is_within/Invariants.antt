@@ -1,6 +1,6 @@
 use Rattle.std.proofs.Common.{◌≡◌, ◌≤◌, ◌+◌, length, map, drop}
 use Rattle.xc_text.specs.Literals.{joined}
-use Rattle.xc_text.specs.Tokens.{lexeme}
+use Rattle.xc_text.specs.Views.{lexeme}
 use Rattle.xc_text.proofs.literals.is_within.Given as goal
 
 -- the bytes so far, and those that are left

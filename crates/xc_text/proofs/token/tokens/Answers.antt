@@ -1,5 +1,6 @@
 use Rattle.std.proofs.Common.{◌≡◌, ◌<◌, ◌-◌, ◌++◌, List, length, map, Some, None, Ok, rules, arith}
-use Rattle.xc_text.specs.Tokens.{Lexeme, lexeme, past_blanks, token_at, tokens_of}
+use Rattle.xc_text.specs.Tokens.{Lexeme, past_blanks, token_at, tokens_of}
+use Rattle.xc_text.specs.Views.{lexeme}
 use Rattle.xc_text.proofs.TokenLists.{ended, one_more, stopped}
 use Rattle.xc_text.proofs.token.tokens.Goals as goal
 

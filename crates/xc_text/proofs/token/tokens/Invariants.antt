@@ -1,6 +1,7 @@
 use Rattle.std.proofs.Common.{◌≡◌, ◌≤◌, ◌+◌, ◌-◌, List, ◌++◌, length, map}
 use Rattle.xc_text.specs.Answers.{seen}
-use Rattle.xc_text.specs.Tokens.{Lexeme, lexeme, first_tokens, tokens_of}
+use Rattle.xc_text.specs.Tokens.{Lexeme, first_tokens, tokens_of}
+use Rattle.xc_text.specs.Views.{lexeme}
 use Rattle.xc_text.proofs.token.tokens.Given as goal
 
 -- the tokens so far, and those of the rest, which are no more than its bytes
