@@ -10,5 +10,7 @@ pub record HostModel (H : Type 0) : Type 0 where
   pub contents : H → Contents
   pub fault_count : H → ℕ
 
+-- of a host's four ghost members
 abbrev pub model_of : {H : Type 0} → Bool → Bool → (H → Contents) → (H → ℕ) → HostModel H
-model_of tells takes_scripts contents fault_count = record { tells = tells; takes_scripts = takes_scripts; contents = contents; fault_count = fault_count }
+model_of tells takes_scripts contents fault_count =
+    record { tells = tells; takes_scripts = takes_scripts; contents = contents; fault_count = fault_count }
