@@ -61,12 +61,14 @@ came_told limit (Some told) (Some rest) bytes taken bound end = came_at limit to
 abbrev AreFollowed : Bool → List ℕ → Type 0
 AreFollowed takes bytes = (script : Script) × (parse_of bytes ≡ Ok script) × (is_refused_by takes script ≡ false)
 
-are_followed : (takes : Bool) (left : Option (List ℕ)) (bytes : List ℕ) → AreScript takes left → IfSome left (λ told. take 1048577 told ≡ bytes) → AreFollowed takes bytes
+are_followed : (takes : Bool) (left : Option (List ℕ)) (bytes : List ℕ) → AreScript takes left
+    → IfSome left (λ told. take 1048577 told ≡ bytes) → AreFollowed takes bytes
 are_followed takes None bytes script same = absurd script
 are_followed takes (Some told) bytes (script, read, followed) same = (script, ap parse_of (sym same) ∙ read, followed)
 
 read_followed : (takes : Bool) (old new : Told) (bytes : List ℕ) → AreScript takes old.bytes → IsRead old new bytes → AreFollowed takes bytes
-read_followed takes old new bytes script came = are_followed takes old.bytes bytes script (came_told 1048577 old.bytes new.bytes bytes came.taken came.bound came.end)
+read_followed takes old new bytes script came =
+    are_followed takes old.bytes bytes script (came_told 1048577 old.bytes new.bytes bytes came.taken came.bound came.end)
 
 ok_is_err : (r : Result Script (ℕ × Why)) (s : Script) (e : ℕ × Why) → r ≡ Ok s → r ≡ Err e → ⊥
 ok_is_err (Ok t) s e ok is = cc
@@ -123,7 +125,8 @@ done_end s entries f job_end.JournalFull h e = absurd h
 done_end s entries f job_end.NoMemory h e = cc
 
 -- where no job starved, each ended by its last transaction
-all_done_of : (s : Setting) (entries : ℕ) (jobs : List Following) (lines : List JobLine) → AreEnds s entries jobs lines → list_any is_starved lines ≡ false → all_done lines ≡ true
+all_done_of : (s : Setting) (entries : ℕ) (jobs : List Following) (lines : List JobLine) → AreEnds s entries jobs lines
+    → list_any is_starved lines ≡ false → all_done lines ≡ true
 all_done_of s entries [] lines h e = ap all_done h
 all_done_of s entries (f ∷ jobs) [] h e = absurd h
 all_done_of s entries (f ∷ jobs) (line ∷ lines) h e =
@@ -131,14 +134,16 @@ all_done_of s entries (f ∷ jobs) (line ∷ lines) h e =
     ap (λ b. b && all_done lines) (done_end s entries f line.end h.0.end parts.0) ∙ all_done_of s entries jobs lines h.1 parts.1
 
 -- a run whose whole text is due without a starved job is done
-pub done_with : {H : Type 0} (model : HostModel H) (old new : Told) (rules : Rules) (host : H) (s : Status) (o : Option (End H)) (due : List ℕ)
-    → IsDue s o due → IfSome o (IsRun model old new rules host) → IsDoneWith s o
-done_with model old new rules host status.Done None due h run = h
-done_with model old new rules host status.Done (Some end) due h (bytes, came, read, run) =
-    let whole = run.whole in whole.complete (all_done_of (setting end.opening.script rules model.tells) (length end.journal.items) (progress_of end.opening.script end.journal.items).jobs end.jobs whole.ends h.1)
-done_with model old new rules host (status.Refused line why) o due h run = tt
-done_with model old new rules host status.Usage o due h run = tt
-done_with model old new rules host status.ReadFault o due h run = tt
-done_with model old new rules host status.WriteFault o due h run = tt
-done_with model old new rules host status.NotScripted o due h run = tt
-done_with model old new rules host status.NoMemory o due h run = tt
+pub done_with : {H : Type 0} (model : HostModel H) (old new : Told) (by_rules : Rules) (host : H) (s : Status) (o : Option (End H)) (due : List ℕ)
+    → IsDue s o due → IfSome o (IsRun model old new by_rules host) → IsDoneWith s o
+done_with model old new by_rules host status.Done None due h run = h
+done_with model old new by_rules host status.Done (Some end) due h (bytes, came, (read, run)) =
+    let whole = run.whole in
+    let s = setting end.opening.script by_rules model.tells in
+    whole.complete (all_done_of s (length end.journal.items) (progress_of end.opening.script end.journal.items).jobs end.jobs whole.ends h.1)
+done_with model old new by_rules host (status.Refused line why) o due h run = tt
+done_with model old new by_rules host status.Usage o due h run = tt
+done_with model old new by_rules host status.ReadFault o due h run = tt
+done_with model old new by_rules host status.WriteFault o due h run = tt
+done_with model old new by_rules host status.NotScripted o due h run = tt
+done_with model old new by_rules host status.NoMemory o due h run = tt

@@ -4,6 +4,7 @@ use Rattle.xc_app.specs.declared.run.Due.{Due}
 use Rattle.xc_app.specs.declared.run.Due.TheVariants.{Usage, ReadFault, NoMemory, NotScripted, Line, Whole}
 use Rattle.xc_app.specs.Lines.{usage_line, read_fault_line, no_memory_line, not_scripted_line}
 
+-- what is to be written, as bytes
 abbrev pub due_bytes : Due → List ℕ
 due_bytes Usage = usage_line
 due_bytes ReadFault = read_fault_line

@@ -40,12 +40,14 @@ is_refused_by takes_scripts script = not takes_scripts && needs_scripted script.
 
 -- the bytes read are a script with a line that this host can't follow
 abbrev pub IsUnscripted : Bool → Told → Told → Type 0
-IsUnscripted takes_scripts old new = (bytes : List ℕ) × (script : Script) × IsRead old new bytes × (parse_of bytes ≡ Ok script) × (is_refused_by takes_scripts script ≡ true)
+IsUnscripted takes_scripts old new =
+    (bytes : List ℕ) × (script : Script) × IsRead old new bytes × (parse_of bytes ≡ Ok script) × (is_refused_by takes_scripts script ≡ true)
 
 -- the told bytes, up to those that are read, are a script that this host follows
 abbrev pub AreScript : Bool → Option (List ℕ) → Type 0
 AreScript takes_scripts None = ⊥
-AreScript takes_scripts (Some bytes) = (script : Script) × (parse_of (take 1048577 bytes) ≡ Ok script) × (is_refused_by takes_scripts script ≡ false)
+AreScript takes_scripts (Some bytes) =
+    (script : Script) × (parse_of (take 1048577 bytes) ≡ Ok script) × (is_refused_by takes_scripts script ≡ false)
 
 -- ---- the run
 -- the rules where no word sets another
@@ -67,9 +69,13 @@ pub record IsRunOver {H : Type 0} (model : HostModel H) (rules : Rules) (host : 
   -- the host's count rose by the recorded faults, and stayed where none is recorded
   pub counted : CountsFaults (sum_by entry_faults end.journal.items) (model.fault_count host) (model.fault_count end.host)
 
--- the bytes read are a script, and this is the end of its run
+-- the bytes are a script, and this is the end of its run
+abbrev pub IsRunOf : {H : Type 0} → HostModel H → List ℕ → Rules → H → End H → Type 0
+IsRunOf model bytes rules host end = (parse_of bytes ≡ Ok end.opening.script) × IsRunOver model rules host end
+
+-- bytes were read, and this is the end of their run
 abbrev pub IsRun : {H : Type 0} → HostModel H → Told → Told → Rules → H → End H → Type 0
-IsRun model old new rules host end = (bytes : List ℕ) × IsRead old new bytes × (parse_of bytes ≡ Ok end.opening.script) × IsRunOver model rules host end
+IsRun model old new rules host end = (bytes : List ℕ) × IsRead old new bytes × IsRunOf model bytes rules host end
 
 -- the end of a run is there, or the host, and not both
 abbrev pub IsOneOf : {A B : Type 0} → Option A → Option B → Type 0
@@ -107,12 +113,15 @@ abbrev pub is_memory : JobEnd → Bool
 is_memory job_end.NoMemory = true
 is_memory _ = false
 
+-- the line of a job that ended for want of memory
 abbrev pub is_starved : JobLine → Bool
 is_starved line = is_memory line.end
 
+-- some job ended for want of memory
 abbrev pub starves : {H : Type 0} → End H → Bool
 starves end = list_any is_starved end.jobs
 
+-- the text of a run's end
 abbrev pub end_text : {H : Type 0} → End H → List ℕ
 end_text end = text end.journal.items end.jobs end.words
 
@@ -138,7 +147,8 @@ IsDue meant (Some end) due = IsDueWithEnd meant end due
 
 -- all was written, and the run ends with the status that was meant; or a front, and it ends with the sink's failure
 abbrev pub IsWritten : Status → Status → List ℕ → Told → Told → Type 0
-IsWritten meant ends due old new = ((ends ≡ meant) × AppendsWhole old new due) ⊎ ((ends ≡ status.WriteFault) × AppendsPart old new due × HasFailed old new)
+IsWritten meant ends due old new =
+    ((ends ≡ meant) × AppendsWhole old new due) ⊎ ((ends ≡ status.WriteFault) × AppendsPart old new due × HasFailed old new)
 
 -- what is due with this status was written, or a front of it
 abbrev pub IsSaid : {H : Type 0} → Status → Finish H → Told → Told → Type 0

@@ -2,20 +2,26 @@
 use Rattle.std.specs.Prelude.{ℕ, List, ◌++◌, codes}
 use Rattle.std.specs.Fmt.{decimal}
 use Rattle.xc_text.specs.declared.why.Why.{Why}
-use Rattle.xc_text.specs.declared.why.Why.TheVariants.{TooLong, BadByte, BadLiteral, UnknownLine, BadForm, BadNumber, BadName, Twice, TooMany, Unclosed}
+use Rattle.xc_text.specs.declared.why.Why.TheVariants.{TooLong, BadByte, BadLiteral, UnknownLine, BadForm, BadNumber, BadName}
+use Rattle.xc_text.specs.declared.why.Why.TheVariants.{Twice, TooMany, Unclosed}
 
+-- with status 2
 abbrev pub usage_line : List ℕ
 usage_line = codes "usage: xcalls [--workers N] [--schedule LIST] [--attempts N] [--patience N] [--undo-tries N] [--seed N]\n"
 
+-- with status 3
 abbrev pub read_fault_line : List ℕ
 read_fault_line = codes "read fault\n"
 
+-- with status 5, where memory is wanting for the text itself or before a run
 abbrev pub no_memory_line : List ℕ
 no_memory_line = codes "no memory\n"
 
+-- with status 8
 abbrev pub not_scripted_line : List ℕ
 not_scripted_line = codes "not scripted\n"
 
+-- the words of a reason
 abbrev pub why_text : Why → List ℕ
 why_text TooLong = codes "too long"
 why_text BadByte = codes "bad byte"

@@ -3,6 +3,7 @@ use Rattle.std.specs.Prelude.{ℕ}
 use Rattle.xc_app.specs.declared.finish.Status.{Status}
 use Rattle.xc_app.specs.declared.finish.Status.TheVariants.{Done, Refused, Usage, ReadFault, WriteFault, NoMemory, NotScripted}
 
+-- a status as the program's exit status
 abbrev pub status_number : Status → ℕ
 status_number Done = 0
 status_number (Refused line why) = 1

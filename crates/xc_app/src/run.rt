@@ -4,7 +4,8 @@ ghost use Rattle.xc_text.specs.declared.script.Script.{Script};
 ghost use Rattle.xc_text.specs.declared.why.Why.{Why};
 ghost use Rattle.xc_text.specs.Scripts.{parse_of, IsScript};
 ghost use Rattle.xc_app.specs.Due.{due_bytes};
-ghost use Rattle.xc_app.specs.Headline.{IsDue, IsDueAlone, is_refused_by, IsRun, IsRunOver, IsOneOf, IsCaused, IsDoneWith, IsSaid, default_rules, starves, is_starved};
+ghost use Rattle.xc_app.specs.Headline.{is_refused_by, default_rules, IsRun, IsRunOf, IsRunOver, IsOneOf, IsCaused, IsDoneWith};
+ghost use Rattle.xc_app.specs.Headline.{IsDue, IsDueAlone, IsSaid, starves, is_starved};
 ghost use Rattle.xc_app.specs.Outcomes.{IsOfBytes, IsRefusedBy, IsUnrefused};
 
 use crate::lines::refused;
@@ -160,7 +161,8 @@ fn of_script<H: Host>(alloc: Global, host: H, script: Script, rules: Rules) -> O
     requires limits { KeepsLimits script.plain }
     requires tries { 1 ≤ rules.undo_tries }
     ensures due { IsDue result.status result.end (due_bytes result.due) }
-    ensures run { IfSome result.end (λ end. (end.opening.script ≡ script) × IsRunOver H.model rules host end) }
+    ensures run { IfSome result.end (λ end. (end.opening.script ≡ script)
+        × IsRunOver H.model rules host end) }
     ensures host { IfSome result.host (λ back. back ≡ host) }
     ensures one { IsOneOf result.end result.host }
     ensures unscripted { result.status ≡ Status.NotScripted → is_refused_by H.model.takes_scripts script ≡ true }
@@ -181,11 +183,12 @@ fn of_script<H: Host>(alloc: Global, host: H, script: Script, rules: Rules) -> O
 fn of_bytes<H: Host>(alloc: Global, host: H, bytes: &[u8], rules: Rules) -> Outcome<H>
     requires tries { 1 ≤ rules.undo_tries }
     ensures due { IsDue result.status result.end (due_bytes result.due) }
-    ensures run { IfSome result.end (λ end. (parse_of bytes.now ≡ Ok end.opening.script) × IsRunOver H.model rules host end) }
+    ensures run { IfSome result.end (IsRunOf H.model bytes.now rules host) }
     ensures host { IfSome result.host (λ back. back ≡ host) }
     ensures one { IsOneOf result.end result.host }
     ensures refused { (line : ℕ) (why : Why) → result.status ≡ Status.Refused line why → parse_of bytes.now ≡ Err (line, why) }
-    ensures unscripted { result.status ≡ Status.NotScripted → (script : Script) × (parse_of bytes.now ≡ Ok script) × (is_refused_by H.model.takes_scripts script ≡ true) }
+    ensures unscripted { result.status ≡ Status.NotScripted
+        → (script : Script) × (parse_of bytes.now ≡ Ok script) × (is_refused_by H.model.takes_scripts script ≡ true) }
     ensures bytes { IsOfBytes result.status }
 {
     match parse(alloc, bytes) {
@@ -205,7 +208,8 @@ fn decide<S: Source, H: Host>(
     ensures due { IsDue result.status result.end (due_bytes result.due) }
     ensures caused { IsCaused (length words.now) H.model.takes_scripts (S.told source.old) (S.told source.new) result.status }
     ensures unread { 0 < length words.now → source.new ≡ source.old }
-    ensures run { IfSome result.end (IsRun H.model (S.told source.old) (S.told source.new) default_rules host) }
+    ensures run { IfSome result.end (
+        IsRun H.model (S.told source.old) (S.told source.new) default_rules host) }
     ensures host { IfSome result.host (λ back. back ≡ host) }
     ensures one { IsOneOf result.end result.host }
 {
@@ -241,7 +245,8 @@ pub fn xcalls_run<R: AllocGlobal, S: Source, K: Sink, H: Host>(
     // The headline: running the journal's committed transactions one after another on the plain
     // machine, with the recorded faults, gives the replies, the final words, the final host and the
     // jobs' ends; aborted ones change only what their reports say remains.
-    ensures run { IfSome result.end (IsRun H.model (S.told source.old) (S.told source.new) default_rules host) }
+    ensures run { IfSome result.end (
+        IsRun H.model (S.told source.old) (S.told source.new) default_rules host) }
 
     // Without a run the host is given back as it was handed in.
     ensures host { IfSome result.host (λ back. back ≡ host) }

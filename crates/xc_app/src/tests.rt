@@ -9,7 +9,8 @@ use xc_text::Why;
 const ONE_COMMIT: &str = "word 0 100\njob main\ntx\nload 0 -> x\nstore 0 x + 5\ncommit\nend\n";
 
 const COMMITTED: &str =
-    "commit t1 job 1 rank 1 began 0\n  load 0 = 100\n  store 0 105 = done\n  held word 0\njob 1 main done\nword 0 105\ntotal 1 committed, 0 aborted, 0 faults, 0 remains\n";
+    "commit t1 job 1 rank 1 began 0\n  load 0 = 100\n  store 0 105 = done\n  held word 0\njob 1 main done\nword 0 105
+total 1 committed, 0 aborted, 0 faults, 0 remains\n";
 
 const NOTHING: &str = "total 0 committed, 0 aborted, 0 faults, 0 remains\n";
 

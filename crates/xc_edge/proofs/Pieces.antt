@@ -1,5 +1,6 @@
 -- Pieces that are read or written one after another.
-use Rattle.std.proofs.Common.{ℕ, ◌+◌, ◌-◌, ◌≤◌, Option, List, ◌++◌, length, take, drop, ◌≡◌, ◌<◌, [], min, ap, sym, ◌∙◌, subst, arith, Result, Ok, Err, OnErr, length-append, length-take}
+use Rattle.std.proofs.Common.{ℕ, ◌+◌, ◌-◌, ◌≤◌, ◌≡◌, ◌<◌, min, List, [], ◌++◌, length, take, drop, Option, Result, Ok, Err, OnErr}
+use Rattle.std.proofs.Common.{ap, sym, ◌∙◌, subst, arith, length-append, length-take}
 use Rattle.std.proofs.Math.Seq.{take-add}
 use Rattle.std.proofs.Math.ListN.{drop_of_length-le}
 use Rattle.std.proofs.lemmas.List.{take_rest, take-append-drop, drop-drop, length-drop}
@@ -31,6 +32,7 @@ pub gave_front : (bytes into : List ℕ) (at n grain before : ℕ) → 1 ≤ gra
     → (drop at bytes ≡ take n into ++ drop (at + n) bytes) × (n ≡ 0 → 0 < length into → drop (at + n) bytes ≡ [])
 gave_front bytes into at n grain before some size count same =
     let rest = take_rest bytes at in (
-      sym (take-append-drop n (drop at bytes)) ∙ ap (λ xs. xs ++ drop n (drop at bytes)) (sym (same ∙ ap (take n) rest)) ∙ ap (λ xs. take n into ++ xs) (drop-drop n at bytes),
+      sym (take-append-drop n (drop at bytes)) ∙ ap (λ xs. xs ++ drop n (drop at bytes)) (sym (same ∙ ap (take n) rest))
+        ∙ ap (λ xs. take n into ++ xs) (drop-drop n at bytes),
       λ none room. drop_of_length-le bytes (omega (arith, ap length rest, length-drop at bytes)),
     )

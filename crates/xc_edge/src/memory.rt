@@ -110,7 +110,14 @@ impl Model for MemSink {
 
     ghost Value = { Taking };
 
-    ghost view = { λ a. record { taken = a.bytes.items; room = a.room; fails = a.fails; grain = a.grain; writes = a.writes; faults = a.faults } };
+    ghost view = { λ a. record {
+      taken = a.bytes.items;
+      room = a.room;
+      fails = a.fails;
+      grain = a.grain;
+      writes = a.writes;
+      faults = a.faults;
+    } };
 
     ghost invariant = { λ a. (vec_len a.bytes ≤ a.room) × (a.room ≤ vec_capacity a.bytes) × (1 ≤ a.grain) };
 }
