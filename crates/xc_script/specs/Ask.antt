@@ -1,5 +1,5 @@
 -- What a script asks next of a transaction, from the replies so far.
-use Rattle.std.specs.Prelude.{ℕ, ◌+◌, ◌-◌, ◌%◌, ◌^◌, ◌||◌, Bool, true, false, List, [], ◌∷◌, Option, length, unwrap_or, slice_get, position, nat_eq, nat_lt, if◌then◌else◌}
+use Rattle.std.specs.Prelude.{ℕ, ◌==◌, ◌+◌, ◌-◌, ◌%◌, ◌^◌, ◌||◌, Bool, true, false, List, [], ◌∷◌, Option, length, unwrap_or, slice_get, position, nat_eq, nat_lt, if◌then◌else◌}
 use Rattle.std.specs.List.{flat_map}
 use Rattle.std.specs.Fmt.{decimal}
 use Rattle.std.specs.declared.option.Option.TheVariants.{None, Some}
@@ -86,17 +86,18 @@ abbrev pub bytes_got : Reply → List ℕ
 bytes_got (reply.Got bytes) = bytes
 bytes_got _ = []
 
--- the call didn't pass the private checks
-abbrev pub is_refusal : Reply → Bool
-is_refusal reply.BadHandle = true
-is_refusal reply.TooBig = true
-is_refusal reply.TooMuch = true
-is_refusal reply.BadWord = true
-is_refusal _ = false
+-- A call that carried so many bytes failed a private check. Longer data than a call takes is asked of no call, so
+-- one that carries bytes is too big only for its file, which an append finds behind the checks.
+abbrev pub fails_check : ℕ → Reply → Bool
+fails_check carried reply.BadHandle = true
+fails_check carried reply.TooBig = carried == 0
+fails_check carried reply.TooMuch = true
+fails_check carried reply.BadWord = true
+fails_check carried _ = false
 
 -- a call that passed the private checks stores its bytes and its reply's
 abbrev pub stored_after : ℕ → ℕ → Reply → ℕ
-stored_after stored carried reply = if is_refusal reply then stored else stored + carried + length (bytes_got reply)
+stored_after stored carried reply = if fails_check carried reply then stored else stored + carried + length (bytes_got reply)
 
 -- ---- a transaction on its way: its variables, what it has stored, and the statements that are left
 pub record Walk : Type 0 where

@@ -1,5 +1,5 @@
 ghost use Rattle.std.specs.Prelude.{◌≡◌, ◌≤◌, ◌+◌, ◌<◌, ◌^◌, length, IfOk, OnOk, OnErr, IsOk, None};
-ghost use Rattle.xc_script.specs.Ask.{bytes_got, is_refusal, stored_after, value_in, target_of, bound};
+ghost use Rattle.xc_script.specs.Ask.{bytes_got, fails_check, stored_after, value_in, target_of, bound};
 
 use crate::value::{Value, Variables};
 use xc_data::{Ident, NoMemory, Reply};
@@ -49,13 +49,15 @@ pub fn bind(variables: &mut Variables, target: Option<Ident>, reply: &Reply) -> 
     }
 }
 
-fn is_refusal(reply: &Reply) -> bool
-    ensures { result ≡ is_refusal reply.now }
+// A call that carried so many bytes failed a private check.
+fn fails_check(carried: usize, reply: &Reply) -> bool
+    ensures { result ≡ fails_check carried reply.now }
 {
-    matches!(
-        reply,
-        Reply::BadHandle | Reply::TooBig | Reply::TooMuch | Reply::BadWord
-    )
+    match reply {
+        Reply::BadHandle | Reply::TooMuch | Reply::BadWord => true,
+        Reply::TooBig => carried == 0,
+        _ => false,
+    }
 }
 
 fn got(reply: &Reply) -> usize
@@ -75,7 +77,7 @@ pub fn stored_after(stored: u128, carried: usize, reply: &Reply) -> u128
     ensures value { result ≡ stored_after stored carried reply.now }
     ensures bound { result ≤ stored + 2 ^ 64 }
 {
-    if is_refusal(reply) {
+    if fails_check(carried, reply) {
         return stored;
     }
     stored + carried as u128 + got(reply) as u128
