@@ -33,6 +33,6 @@ pub gave_front : (bytes into : List ℕ) (at n grain before : ℕ) → 1 ≤ gra
 gave_front bytes into at n grain before some size count same =
     let rest = take_rest bytes at in (
       sym (take-append-drop n (drop at bytes)) ∙ ap (λ xs. xs ++ drop n (drop at bytes)) (sym (same ∙ ap (take n) rest))
-        ∙ ap (λ xs. take n into ++ xs) (drop-drop n at bytes),
+          ∙ ap (λ xs. take n into ++ xs) (drop-drop n at bytes),
       λ none room. drop_of_length-le bytes (omega (arith, ap length rest, length-drop at bytes)),
     )

@@ -38,11 +38,7 @@ fn three_reads(alloc: Global, bytes: &[u8], fail: u64) -> Result<[Answer; 3], No
 }
 
 // The answers to three writes of a piece, and the sink, which has room for three bytes.
-fn three_writes(
-    alloc: Global,
-    piece: &[u8],
-    fail: u64,
-) -> Result<([Answer; 3], MemSink), NoMemory>
+fn three_writes(alloc: Global, piece: &[u8], fail: u64) -> Result<([Answer; 3], MemSink), NoMemory>
     requires { 0 < length piece.now }
 {
     let mut sink = sink_of(alloc, 3, fail)?;

@@ -10,4 +10,4 @@ returns-in_err-extend_from_slice-clause-lost g c =
     let bound = c.in_ok-count.ensures.bound in
     let bytes = c.loop-buffer.bytes.items in
     on_err _ (took_more c.args.limit (told c.args.source.now) (told c.loop-buffer.source) (told c.read.new.self) bytes c.read.new.into c.in_ok-count.count
-      c.loop-buffer.invariant.came c.in_ok-count.ensures.bytes.0 bound.0 (omega (arith, c.read.auto.into, length-take c.min-room.result c.loop-buffer.buffer)))
+    c.loop-buffer.invariant.came c.in_ok-count.ensures.bytes.0 bound.0 (omega (arith, c.read.auto.into, length-take c.min-room.result c.loop-buffer.buffer)))

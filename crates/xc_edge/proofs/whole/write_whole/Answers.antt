@@ -7,7 +7,7 @@ loop-done-preserved g c =
     let told = g.K.Sink.told in
     record {
       wrote = wrote_more (told c.args.sink.now).bytes (told c.loop-done.sink).bytes (told c.write.new.self).bytes c.args.text.now c.loop-done.done
-        c.in_ok-done.field-0 c.loop-done.invariant.wrote c.in_ok-done.ensures.bytes;
+          c.in_ok-done.field-0 c.loop-done.invariant.wrote c.in_ok-done.ensures.bytes;
       room = omega (arith, c.in_ok-done.ensures.bound);
       faults = omega (arith, c.write.ensures.cause.later);
     }

@@ -8,7 +8,7 @@ returns-clause-bytes c =
     let count = c.copy_front-count.result in
     let into = c.copy_front-count.new.into in
     let gives : List ℕ → List ℕ → Type 0 = λ left bytes.
-      (left ≡ take count into ++ drop (at + count) bytes) × (count ≡ 0 → 0 < length into → drop (at + count) bytes ≡ []) in
+    (left ≡ take count into ++ drop (at + count) bytes) × (count ≡ 0 → 0 < length into → drop (at + count) bytes ≡ []) in
     let slice = c.as_slice.result.now in
     let same = c.as_slice.ensures in
     let copied = c.copy_front-count.ensures in
