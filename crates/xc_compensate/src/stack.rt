@@ -1,8 +1,8 @@
-ghost use Rattle.std.specs.Prelude.{◌≡◌, ◌≢◌, ◌==◌, ◌≤◌, ◌<◌, ◌+◌, ◌++◌, ◌∷◌, [], List, ℕ, length, OnOk, OnErr, IsTrue};
+ghost use Rattle.std.specs.Prelude.{◌≡◌, ◌≢◌, ◌==◌, ◌≤◌, ◌<◌, ◌+◌, ◌++◌, ◌∷◌, [], List, length, OnOk, OnErr, IsTrue};
 ghost use Rattle.xc_data.specs.declared.undo.Undo.{Undo};
 ghost use Rattle.xc_data.specs.declared.undo.UndoEnd.{UndoEnd};
 ghost use Rattle.xc_compensate.specs.declared.stack.UndoTurn.TheVariants.{Ended};
-ghost use Rattle.xc_compensate.specs.Records.{Records, AtHost, IsRecord, IsTried, NextIsCovered, covers, covered, cut_to};
+ghost use Rattle.xc_compensate.specs.Records.{Records, IsRecord, IsTried, NextIsCovered, covers, covered, cut_to};
 ghost use Rattle.xc_compensate.specs.Turns.{turn_of};
 
 use crate::undoing::try_one;

@@ -23,11 +23,11 @@ use Rattle.xc_world.specs.Act.{act, done}
 use Rattle.xc_world.specs.Act.Step.{Stepped, stays, counted}
 use Rattle.xc_world.specs.Checks.{is_bad_handle, is_too_big, is_too_much, is_bad_word, is_refused}
 use Rattle.xc_world.specs.Fits.{fits, answer_of}
-use Rattle.xc_world.specs.Trail.{recorded, overwrite_record, done_of}
+use Rattle.xc_world.specs.Trail.{overwrite_record, done_of}
 use Rattle.xc_host.specs.Model.{HostModel}
 use Rattle.xc_host.specs.Contents.{Contents, with_contents, world_of}
 use Rattle.xc_compensate.specs.Records.{Records}
-use Rattle.xc_file.specs.Calls.{CallState, IsFileCall, IsStarved, Acts, AreRecorded, refusal_of, is_check_reply, replies_fault}
+use Rattle.xc_file.specs.Calls.{CallState, IsFileCall, Acts, AreRecorded, refusal_of, is_check_reply, replies_fault}
 use Rattle.xc_file.specs.Writing.{AddsOne}
 
 -- the first of three checks that refuses

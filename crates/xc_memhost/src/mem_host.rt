@@ -1,10 +1,10 @@
-ghost use Rattle.std.specs.Prelude.{◌≡◌, ◌≤◌, ◌<◌, ◌+◌, ◌&&◌, not, true, false, length};
-ghost use Rattle.std.specs.Prelude.{take, IsTrue, IfOk, IfSome, OnOk, OnErr, IsErrOf, is_some, is_err};
+ghost use Rattle.std.specs.Prelude.{◌≡◌, ◌≤◌, ◌<◌, ◌+◌, not, true, length};
+ghost use Rattle.std.specs.Prelude.{take, IfOk, IfSome, OnOk, OnErr, IsErrOf, is_some, is_err};
 ghost use Rattle.std.specs.FinMap as map;
 ghost use Rattle.xc_data.specs.Counts.{CountsFault};
 ghost use Rattle.xc_data.specs.Limits.{IsPrologue};
 ghost use Rattle.xc_host.specs.Cause.{is_fault};
-ghost use Rattle.xc_host.specs.Contents.{file_in, has_file, wrote, opened, needs_scripted};
+ghost use Rattle.xc_host.specs.Contents.{file_in, has_file, wrote, opened};
 ghost use Rattle.xc_host.specs.Fronts.{IsFront};
 ghost use Rattle.xc_memhost.specs.State.{empty_state, opened_state, mem_host_model};
 ghost use Rattle.xc_memhost.specs.Faults.{is_listed, begun};
