@@ -122,16 +122,21 @@ fn all_items(alloc: Global, v: Ident) -> Result<Data, Fail> {
 
 fn all_statements(alloc: Global, name: Name, h: Ident, v: Ident) -> Result<Body, Fail> {
     let mut body = Body::new(alloc);
-    let at = Term::Number(1);
-    body.push(Statement::Load { at, into: Some(v) })?;
-    let value = Expression::Difference(Term::Number(3), Term::Variable(v));
-    body.push(Statement::Store { at, value })?;
-    let into = Some(h);
-    body.push(Statement::Open { name, into })?;
-    let n = Term::Variable(v);
+    body.push(Statement::Load {
+        at: Term::Number(1),
+        into: Some(v),
+    })?;
+    body.push(Statement::Store {
+        at: Term::Number(1),
+        value: Expression::Difference(Term::Number(3), Term::Variable(v)),
+    })?;
+    body.push(Statement::Open {
+        name,
+        into: Some(h),
+    })?;
     body.push(Statement::Read {
         handle: h,
-        n,
+        n: Term::Variable(v),
         into: None,
     })?;
     let data = all_items(alloc, v)?;
