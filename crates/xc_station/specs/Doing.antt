@@ -1,6 +1,7 @@
 -- Where the job stands between two turns.
 use Rattle.std.specs.Prelude.{◌≡◌, ℕ, ◌==◌, ◌&&◌, Bool, true, false, not, List, ◌∷◌, [], ◌++◌, ◌⊎◌, Option}
 use Rattle.std.specs.declared.option.Option.TheVariants.{None, Some}
+use Rattle.xc_data.specs.declared.entry.Cause.TheVariants as cause
 use Rattle.xc_data.specs.declared.entry.Entry.{Entry}
 use Rattle.xc_data.specs.declared.entry.Turn.{Turn}
 use Rattle.xc_data.specs.declared.entry.Turn.TheVariants as turn
@@ -50,6 +51,16 @@ abbrev pub goes_back : Doing → Bool
 goes_back Undoing = true
 goes_back Undone = true
 goes_back _ = false
+
+-- its transaction is on its way back for want of memory
+abbrev pub IsStarving : Activity → Type 0
+IsStarving (activity.Active tx) = tx.phase ≡ phase.Undoing cause.NoMemory
+IsStarving _ = ⊥
+
+-- the same of the job
+abbrev pub Starves : Option Job → Type 0
+Starves None = ⊥
+Starves (Some job) = IsStarving job.activity
 
 -- a transaction of the job is active
 abbrev pub IsBusy : Activity → Type 0

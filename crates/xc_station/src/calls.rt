@@ -1,4 +1,4 @@
-ghost use Rattle.std.specs.Prelude.{◌≡◌, ℕ, Bool, ◌≤◌, ◌+◌, [], true, false, length, unwrap_or, IfOk, OnOk, OnErr, IsSome, IsTrue};
+ghost use Rattle.std.specs.Prelude.{◌≡◌, ◌↔◌, ℕ, Bool, ◌≤◌, ◌+◌, [], true, false, length, unwrap_or, IfOk, OnOk, OnErr, IsSome, IsTrue};
 ghost use Rattle.xc_data.specs.Counts.{CountsFault, CountsFaults};
 ghost use Rattle.xc_data.specs.declared.private.Private.{Private as PlainPrivate};
 ghost use Rattle.xc_file.specs.Calls.{replies_fault};
@@ -10,7 +10,7 @@ ghost use Rattle.xc_world.specs.World.{World};
 ghost use Rattle.xc_world.specs.Late.{is_late};
 ghost use Rattle.xc_world.specs.Sound.{IsSound};
 ghost use Rattle.xc_world.specs.Modes.{claims_of};
-ghost use Rattle.xc_station.specs.Doing.{doing_in, doing_phase, goes_back};
+ghost use Rattle.xc_station.specs.Doing.{IsStarving};
 ghost use Rattle.xc_station.specs.Flight.{Flight, IsActive, faults_noted};
 ghost use Rattle.xc_station.specs.declared.job.Activity.TheVariants as PlainActivity;
 ghost use Rattle.xc_station.specs.Notes.{is_built, Does, KeepsNotes, HasRoom, parts_of};
@@ -165,7 +165,7 @@ fn try_call<H: Host>(
     ensures block { IsSameBegin place.old place.new }
     ensures falls { IsNearer (length (unwrap_or (next_body script.now (job_of place.old)) [])) place.old place.new tx.old tx.new }
     ensures answer { IsGoing result }
-    ensures memory { result ≡ Turn.NoMemory → goes_back (doing_in (PlainActivity.Active tx.new)) ≡ true }
+    ensures memory { (result ≡ Turn.NoMemory) ↔ (tx.new.phase ≡ Phase.Undoing Cause.NoMemory) }
 {
     let claims = touched_by(alloc, words, tx, &call);
     match do_call(alloc, host, words, script, place, tx, &call) {
@@ -201,7 +201,7 @@ pub fn go<H: Host>(
     ensures block { IsSameBegin place.old place.new }
     ensures falls { IsNearer (length (unwrap_or (next_body script.now (job_of place.old)) [])) place.old place.new tx.old tx.new }
     ensures answer { IsGoing result }
-    ensures memory { result ≡ Turn.NoMemory → goes_back (doing_in (PlainActivity.Active tx.new)) ≡ true }
+    ensures memory { (result ≡ Turn.NoMemory) ↔ (tx.new.phase ≡ Phase.Undoing Cause.NoMemory) }
 {
     match place.ask(script) {
         Ok(Ask::Call(call)) => try_call(alloc, host, words, script, place, tx, call),
@@ -243,7 +243,7 @@ pub fn run<H: Host>(
     ensures place { (result.0.place.block ≡ job.place.block) × (result.0.place.next ≡ job.place.next) }
     ensures falls { RunsOn (length (unwrap_or (next_body script.now (job_of job.place)) [])) job.place result.0.place job.activity result.0.activity }
     ensures answer { IsGoing result.1 }
-    ensures memory { result.1 ≡ Turn.NoMemory → goes_back (doing_in result.0.activity) ≡ true }
+    ensures memory { (result.1 ≡ Turn.NoMemory) ↔ IsStarving result.0.activity }
 {
     let Job {
         block,

@@ -1,11 +1,11 @@
-ghost use Rattle.std.specs.Prelude.{◌≡◌, ◌<◌, ◌≤◌, length, ℕ, [], ◌&&◌, ◌||◌, not, true, false, Some, None, IfOk, IfErr, slice_get, sum_by, IsTrue, if◌then◌else◌};
+ghost use Rattle.std.specs.Prelude.{◌≡◌, ◌↔◌, ◌<◌, ◌≤◌, length, ℕ, [], ◌&&◌, ◌||◌, not, true, false, Some, None, IfOk, IfErr, slice_get, sum_by, IsTrue, if◌then◌else◌};
 ghost use Rattle.xc_data.specs.Counts.{CountsFaults};
 ghost use Rattle.xc_data.specs.Faults.{entry_faults};
 ghost use Rattle.xc_data.specs.Limits.{KeepsLimits};
 ghost use Rattle.xc_host.specs.Contents.{needs_scripted};
 ghost use Rattle.xc_text.specs.Scripts.{IsScript};
 ghost use Rattle.xc_station.specs.declared.job.Doing.TheVariants as doing;
-ghost use Rattle.xc_station.specs.Doing.{doing_of, doing_in, goes_back, is_live, EndsIn, EndsWith, Grows, IsLineOf, AreLinesOf, opened_job};
+ghost use Rattle.xc_station.specs.Doing.{doing_of, doing_in, is_live, Starves, EndsIn, EndsWith, Grows, IsLineOf, AreLinesOf, opened_job};
 ghost use Rattle.xc_station.specs.Ending.{IsTrueEnd};
 ghost use Rattle.xc_station.specs.Setting.{setting};
 ghost use Rattle.xc_station.specs.Truth.{IsSerial};
@@ -117,7 +117,7 @@ impl<H: Host> Station<H> {
         ensures journal { Grows self.old.journal self.new.journal }
         ensures falls { turns_left self.new.opening.script self.new.job < turns_left self.old.opening.script self.old.job }
         ensures answer { EndsWith result self.new.job }
-        ensures memory { result ≡ Turn.NoMemory → goes_back (doing_of self.new.job) ≡ true }
+        ensures memory { (result ≡ Turn.NoMemory) ↔ Starves self.new.job }
     {
         let Some(job) = self.job.take() else {
             unreachable!()
@@ -221,8 +221,8 @@ impl<H: Host> Station<H> {
         ensures falls { turns_left self.new.opening.script self.new.job < turns_left self.old.opening.script self.old.job }
         ensures answer { EndsWith result self.new.job }
 
-        // Memory is wanting for a running transaction's call alone, which then undoes.
-        ensures memory { result ≡ Turn.NoMemory → (doing_of self.old.job ≡ doing.Running) × (goes_back (doing_of self.new.job) ≡ true) }
+        // Memory is wanting exactly where a running transaction goes over to its way back for want of it.
+        ensures memory { (result ≡ Turn.NoMemory) ↔ ((doing_of self.old.job ≡ doing.Running) × Starves self.new.job) }
     {
         match doing_now(&self.job) {
             Doing::Idle => self.idle(),

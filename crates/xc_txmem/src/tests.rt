@@ -11,5 +11,8 @@ fn stores_wait_until_they_are_applied(rt: HostRuntime) -> Result<(), Fail> {
     assert_eq!(rt; words.get(1), 4);
     assert_eq!(rt; writes.load(&words, 1), 41);
     assert_eq!(rt; writes.load(&words, 2), 5);
+    writes.apply(&mut words);
+    assert_eq!(rt; words.get(0), 3);
+    assert_eq!(rt; words.get(1), 41);
     Ok(())
 }
