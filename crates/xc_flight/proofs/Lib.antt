@@ -1,0 +1,5 @@
+pub mod Basics
+pub mod Worlds
+pub mod Frames
+pub mod Moving
+pub mod Rows

@@ -1,0 +1,43 @@
+ghost use Rattle.std.specs.Prelude.{◌≡◌, ◌<◌, ◌≤◌, ◌+◌, ◌++◌, ◌∷◌, [], ℕ, None, Some, length, slice_set};
+ghost use Rattle.xc_data.specs.declared.object.Object.{Object};
+ghost use Rattle.xc_world.specs.World.{World};
+ghost use Rattle.xc_world.specs.Own.{KeepsBut};
+ghost use Rattle.xc_flight.specs.Active.{Tx, Own, Has, num};
+ghost use Rattle.xc_flight.specs.Turns.{starting};
+ghost use Rattle.xc_data.specs.declared.private.Private.{Private};
+ghost use Rattle.xc_world.specs.Sound.{IsFree};
+ghost use Rattle.xc_flight.specs.Flight.{Flight};
+ghost use Rattle.xc_flight.specs.Standing.{Standing, InFlight, Move, active_at};
+
+/// A move of one transaction, which changes what it owns alone, keeps the flight of every other that
+/// has none of this.
+pub fn others_fly_on()
+    ensures { (w w2 now now2 : World) (t u : Tx) → KeepsBut (Own t) w w2 → KeepsBut (Own t) now now2 → ((o : Object) → Own t o → Has u o → ⊥)
+        → Flight w now u → Flight w2 now2 u }
+{}
+
+/// It keeps what is true of all.
+pub fn all_fly_on()
+    ensures { (s s2 : Standing) (job : ℕ) → InFlight s → Move s s2 job → InFlight s2 }
+{}
+
+/// Where nobody is active the station's world is the journal's.
+pub fn at_rest_all_is_as_the_journal_says()
+    ensures { (s : Standing) → InFlight s → ((job : ℕ) → active_at s job ≡ None) → s.now ≡ s.state }
+{}
+
+/// A start: nobody is active, the station's world is the journal's, and no number is given.
+pub fn an_opening_is_in_flight()
+    ensures { (s : Standing) → ((job : ℕ) → active_at s job ≡ None) → s.now ≡ s.state → ((m k : ℕ) → s.next ≤ m → IsFree s.state (num m k)) → InFlight s }
+{}
+
+/// A job more, which has no transaction, changes nothing.
+pub fn a_job_more_keeps_all()
+    ensures { (s : Standing) → InFlight s → InFlight (record s { active = s.active ++ None ∷ [] }) }
+{}
+
+/// A transaction begins with the next number: it holds nothing, and owns what it will make.
+pub fn a_begin_keeps_all()
+    ensures { (s : Standing) (job : ℕ) (began : Private) → InFlight s → job < length s.active → active_at s job ≡ None
+        → InFlight (record s { active = slice_set s.active job (Some (starting s.next began)); next = s.next + 1 }) }
+{}
