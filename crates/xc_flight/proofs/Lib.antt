@@ -3,3 +3,5 @@ pub mod Worlds
 pub mod Frames
 pub mod Moving
 pub mod Rows
+pub mod Bodies
+pub mod Calling

@@ -1,13 +1,14 @@
-ghost use Rattle.std.specs.Prelude.{◌≡◌, ◌<◌, ◌≤◌, ◌+◌, ◌++◌, ◌∷◌, [], ℕ, None, Some, length, slice_set};
+ghost use Rattle.std.specs.Prelude.{◌≡◌, ◌<◌, ◌≤◌, ◌+◌, ◌++◌, ◌∷◌, [], ℕ, List, None, Some, length, slice_set};
 ghost use Rattle.xc_data.specs.declared.object.Object.{Object};
 ghost use Rattle.xc_world.specs.World.{World};
-ghost use Rattle.xc_world.specs.Own.{KeepsBut};
-ghost use Rattle.xc_flight.specs.Active.{Tx, Own, Has, num};
-ghost use Rattle.xc_flight.specs.Turns.{starting};
+ghost use Rattle.xc_world.specs.Own.{KeepsBut, AgreeOn};
+ghost use Rattle.xc_data.specs.declared.call.Asked.{Asked};
+ghost use Rattle.xc_flight.specs.Active.{Tx, Own, Has, num, Running};
+ghost use Rattle.xc_flight.specs.Turns.{starting, seen, IsDone, noting, after_call};
 ghost use Rattle.xc_data.specs.declared.private.Private.{Private};
 ghost use Rattle.xc_world.specs.Sound.{IsFree};
-ghost use Rattle.xc_flight.specs.Flight.{Flight};
-ghost use Rattle.xc_flight.specs.Standing.{Standing, InFlight, Move, active_at};
+ghost use Rattle.xc_flight.specs.Flight.{Flight, ran};
+ghost use Rattle.xc_flight.specs.Standing.{Standing, InFlight, Move, active_at, IsActive, turned};
 
 /// A move of one transaction, which changes what it owns alone, keeps the flight of every other that
 /// has none of this.
@@ -40,4 +41,15 @@ pub fn a_job_more_keeps_all()
 pub fn a_begin_keeps_all()
     ensures { (s : Standing) (job : ℕ) (began : Private) → InFlight s → job < length s.active → active_at s job ≡ None
         → InFlight (record s { active = slice_set s.active job (Some (starting s.next began)); next = s.next + 1 }) }
+{}
+
+/// What a running transaction has it sees as its body left it.
+pub fn what_one_has_it_sees()
+    ensures { (s : Standing) (job : ℕ) (t : Tx) → InFlight s → IsActive s job t → t.phase ≡ Running → AgreeOn (Has t) (ran s.state t).world (seen s.now t) }
+{}
+
+/// A call of a running transaction, done by the plain machine in what it sees, keeps all.
+pub fn a_call_keeps_all()
+    ensures { (s : Standing) (job : ℕ) (t : Tx) (asked : Asked) (writes : List (ℕ × ℕ)) → InFlight s → IsActive s job t → t.phase ≡ Running
+        → IsDone s.now t asked writes → InFlight (turned s job (Some (noting s.now t asked writes)) (after_call s.now t asked)) }
 {}
