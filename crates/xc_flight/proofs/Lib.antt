@@ -5,3 +5,4 @@ pub mod Moving
 pub mod Rows
 pub mod Bodies
 pub mod Calling
+pub mod Ending

@@ -3,12 +3,16 @@ ghost use Rattle.xc_data.specs.declared.object.Object.{Object};
 ghost use Rattle.xc_world.specs.World.{World};
 ghost use Rattle.xc_world.specs.Own.{KeepsBut, AgreeOn};
 ghost use Rattle.xc_data.specs.declared.call.Asked.{Asked};
-ghost use Rattle.xc_flight.specs.Active.{Tx, Own, Has, num, Running};
-ghost use Rattle.xc_flight.specs.Turns.{starting, seen, IsDone, noting, after_call};
+ghost use Rattle.xc_flight.specs.Active.{Tx, Own, Has, num, Running, Committing};
+ghost use Rattle.xc_flight.specs.Turns.{starting, seen, IsDone, noting, after_call, in_phase, IsDoneLate, with_end};
+ghost use Rattle.xc_data.specs.declared.call.LateCall.{LateCall};
+ghost use Rattle.xc_data.specs.declared.call.LateAnswer.{LateAnswer};
+ghost use Rattle.xc_world.specs.Late.{late};
+ghost use Rattle.xc_world.specs.Run.{run, asked_of};
 ghost use Rattle.xc_data.specs.declared.private.Private.{Private};
 ghost use Rattle.xc_world.specs.Sound.{IsFree};
 ghost use Rattle.xc_flight.specs.Flight.{Flight, ran};
-ghost use Rattle.xc_flight.specs.Standing.{Standing, InFlight, Move, active_at, IsActive, turned};
+ghost use Rattle.xc_flight.specs.Standing.{Standing, InFlight, Move, active_at, IsActive, turned, entered};
 
 /// A move of one transaction, which changes what it owns alone, keeps the flight of every other that
 /// has none of this.
@@ -52,4 +56,21 @@ pub fn what_one_has_it_sees()
 pub fn a_call_keeps_all()
     ensures { (s : Standing) (job : ℕ) (t : Tx) (asked : Asked) (writes : List (ℕ × ℕ)) → InFlight s → IsActive s job t → t.phase ≡ Running
         → IsDone s.now t asked writes → InFlight (turned s job (Some (noting s.now t asked writes)) (after_call s.now t asked)) }
+{}
+
+/// A commit writes its stores.
+pub fn a_commit_keeps_all()
+    ensures { (s : Standing) (job : ℕ) (t : Tx) → InFlight s → IsActive s job t → t.phase ≡ Running → InFlight (turned s job (Some (in_phase t Committing)) (seen s.now t)) }
+{}
+
+/// The next late call of a committed transaction, done in the station's world, keeps all.
+pub fn a_late_call_keeps_all()
+    ensures { (s : Standing) (job : ℕ) (t : Tx) (call : LateCall) (answer : LateAnswer) → InFlight s → IsActive s job t → t.phase ≡ Committing
+        → IsDoneLate s.now t call answer → InFlight (turned s job (Some (with_end t (late s.now call answer).end)) (late s.now call answer).world) }
+{}
+
+/// A committed transaction whose late calls are all done enters: the journal's state is its run's.
+pub fn a_commit_enters()
+    ensures { (s : Standing) (job : ℕ) (t : Tx) → InFlight s → IsActive s job t → t.phase ≡ Committing → length t.late_ends ≡ length t.late
+        → InFlight (entered s job (run s.state t.began t.number (asked_of t.calls t.replies) t.late_ends).late.world s.now) }
 {}
