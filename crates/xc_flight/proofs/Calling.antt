@@ -140,7 +140,7 @@ module _ (s : Standing) (job : ℕ) (t : Tx) (c : Asked) (writes : List (ℕ × 
   steps : Alike (Has t) t.number (noted s.state t).world (seen s.now t) (step t.number (noted s.state t) c) (step t.number in_sight c)
   steps = step_alike (Has t) t.number (noted s.state t).world (seen s.now t) (noted s.state t) in_sight c both_alike within
 
-  step_covers : Covers t.held (step t.number (noted s.state t) c).touched
+  pub step_covers : Covers t.held (step t.number (noted s.state t) c).touched
   step_covers = covers_both t.held (noted s.state t).touched (claims_of c.call (noted s.state t).me (length (noted s.state t).world.words)) body_covers call_covers
 
   did_keeps : KeepsBut (Own t) (seen s.now t) (did s.now t c).world
@@ -178,7 +178,7 @@ module _ (s : Standing) (job : ℕ) (t : Tx) (c : Asked) (writes : List (ℕ × 
       ap (λ (r : Ran). r.trail) (sym (all_noted s job t h active phase)) ∙ inside.trail
       ∙ ap (λ es. t.pending ++ map (λ (e : Ending). e.0) es) (is_running s job t h active phase).none ∙ append-nil t.pending
 
-  step_trail : (step t.number (noted s.state t) c).trail ≡ (t.pending ++ leaving s.now t c) ++ map (λ r. r.0) t.ended
+  pub step_trail : (step t.number (noted s.state t) c).trail ≡ (t.pending ++ leaving s.now t c) ++ map (λ r. r.0) t.ended
   step_trail =
       steps.gave.trail ∙ ap (λ us. us ++ leaving s.now t c) old_trail ∙ sym (append-nil (t.pending ++ leaving s.now t c))
       ∙ ap (λ es. (t.pending ++ leaving s.now t c) ++ map (λ (e : Ending). e.0) es) (sym (is_running s job t h active phase).none)

@@ -6,3 +6,5 @@ pub mod Rows
 pub mod Bodies
 pub mod Calling
 pub mod Ending
+pub mod Taking
+pub mod Undoing

@@ -3,15 +3,19 @@ ghost use Rattle.xc_data.specs.declared.object.Object.{Object};
 ghost use Rattle.xc_world.specs.World.{World};
 ghost use Rattle.xc_world.specs.Own.{KeepsBut, AgreeOn};
 ghost use Rattle.xc_data.specs.declared.call.Asked.{Asked};
-ghost use Rattle.xc_flight.specs.Active.{Tx, Own, Has, num, Running, Committing};
-ghost use Rattle.xc_flight.specs.Turns.{starting, seen, IsDone, noting, after_call, in_phase, IsDoneLate, with_end};
+ghost use Rattle.xc_flight.specs.Active.{Tx, Own, Has, num, Running, Committing, Undoing};
+ghost use Rattle.xc_flight.specs.Turns.{starting, seen, IsDone, noting, after_call, in_phase, IsDoneLate, with_end, wanting, with_undone};
+ghost use Rattle.xc_data.specs.declared.undo.Undo.{Undo};
+ghost use Rattle.xc_data.specs.declared.undo.UndoEnd.{UndoEnd};
+ghost use Rattle.xc_world.specs.Ends.{remains, with_remains};
+ghost use Rattle.xc_world.specs.Effects.{undone_to};
 ghost use Rattle.xc_data.specs.declared.call.LateCall.{LateCall};
 ghost use Rattle.xc_data.specs.declared.call.LateAnswer.{LateAnswer};
 ghost use Rattle.xc_world.specs.Late.{late};
-ghost use Rattle.xc_world.specs.Run.{run, asked_of};
+ghost use Rattle.xc_world.specs.Run.{run, asked_of, given_back};
 ghost use Rattle.xc_data.specs.declared.private.Private.{Private};
-ghost use Rattle.xc_world.specs.Sound.{IsFree};
-ghost use Rattle.xc_flight.specs.Flight.{Flight, ran};
+ghost use Rattle.xc_world.specs.Sound.{IsFree, IsSound};
+ghost use Rattle.xc_flight.specs.Flight.{Flight, ran, effects};
 ghost use Rattle.xc_flight.specs.Standing.{Standing, InFlight, Move, active_at, IsActive, turned, entered};
 
 /// A move of one transaction, which changes what it owns alone, keeps the flight of every other that
@@ -73,4 +77,32 @@ pub fn a_late_call_keeps_all()
 pub fn a_commit_enters()
     ensures { (s : Standing) (job : ℕ) (t : Tx) → InFlight s → IsActive s job t → t.phase ≡ Committing → length t.late_ends ≡ length t.late
         → InFlight (entered s job (run s.state t.began t.number (asked_of t.calls t.replies) t.late_ends).late.world s.now) }
+{}
+
+/// A transaction that turns back leaves the station's world as it is.
+pub fn a_turn_back_keeps_all()
+    ensures { (s : Standing) (job : ℕ) (t : Tx) → InFlight s → IsActive s job t → t.phase ≡ Running → IsSound s.state t.began t.number
+        → InFlight (turned s job (Some (in_phase t Undoing)) s.now) }
+{}
+
+/// So does one whose call did its part before memory was wanting for the reply.
+pub fn a_call_without_memory_keeps_all()
+    ensures { (s : Standing) (job : ℕ) (t : Tx) (asked : Asked) (writes : List (ℕ × ℕ)) → InFlight s → IsActive s job t → t.phase ≡ Running
+        → IsDone s.now t asked writes → IsSound s.state t.began t.number → InFlight (turned s job (Some (wanting s.now t asked)) (after_call s.now t asked)) }
+{}
+
+/// A compensation of the newest record without an end keeps all, where on S with what stands it
+/// leads to S with what stands then.
+pub fn a_compensation_keeps_all()
+    ensures { (s : Standing) (job : ℕ) (t : Tx) (older : List Undo) (u : Undo) (end : UndoEnd) → InFlight s → IsActive s job t → t.phase ≡ Undoing
+        → IsSound s.state t.began t.number → t.pending ≡ older ++ u ∷ []
+        → undone_to (with_remains s.state (effects t)) u end ≡ with_remains s.state (effects (with_undone t older u end))
+        → InFlight (turned s job (Some (with_undone t older u end)) (undone_to s.now u end)) }
+{}
+
+/// An aborted transaction, each of whose records has its end, gives back what it took and enters: the
+/// journal's state is as before, with what remains.
+pub fn an_abort_enters()
+    ensures { (s : Standing) (job : ℕ) (t : Tx) → InFlight s → IsActive s job t → t.phase ≡ Undoing → IsSound s.state t.began t.number → t.pending ≡ []
+        → InFlight (entered s job (with_remains s.state (remains t.ended)) (given_back s.now (ran s.state t).taken)) }
 {}
