@@ -95,7 +95,7 @@ pub effects_own : (w : World) (t : Tx) → Inside w t → All (IsOf (Own t)) (ef
 effects_own w t i = effects_of (λ u. All (Own t) (objects_of u)) w t i (trail_own w t i.covers)
 
 -- ---- late calls with their answers
-answered : (P : LateCall → Type 0) (calls : List LateCall) (ends : List LateEnd) → All P calls → All (λ (c : LateCall × LateAnswer). P c.0) (late_asked_of calls ends)
+pub answered : (P : LateCall → Type 0) (calls : List LateCall) (ends : List LateEnd) → All P calls → All (λ (c : LateCall × LateAnswer). P c.0) (late_asked_of calls ends)
 answered P [] ends all = All-nil (λ (c : LateCall × LateAnswer). P c.0)
 answered P (c ∷ calls) [] all =
     All-cons (λ (x : LateCall × LateAnswer). P x.0) (c, late_answer.Fine) (late_asked_of calls []) (All-head P c calls all) (answered P calls [] (All-tail P c calls all))

@@ -8,3 +8,5 @@ pub mod Calling
 pub mod Ending
 pub mod Taking
 pub mod Undoing
+pub mod Claiming
+pub mod Sounding

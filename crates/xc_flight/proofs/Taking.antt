@@ -182,22 +182,18 @@ Coined tx (undo.NewPipe n) = n.tx ≡ tx
 Coined tx (undo.NewPair n) = n.tx ≡ tx
 Coined tx _ = Unit {0}
 
+one_or_none : (tx : ℕ) (b : Bool) (u : Undo) → Coined tx u → All (Coined tx) (if b then [] else u ∷ [])
+one_or_none tx true u coined = All-nil (Coined tx)
+one_or_none tx false u coined = All-cons (Coined tx) u [] coined (All-nil (Coined tx))
+
 overwrite_coined : (tx : ℕ) (w : World) (bytes : List ℕ) (n : ℕ) (p : Place) → All (Coined tx) (overwrite_record w bytes n p)
-overwrite_coined tx w bytes n (place.File q at) = by_test (n == 0)
-  where
-    by_test : (b : Bool) → All (Coined tx) (if b then [] else undo.Bytes q at _ bytes n ∷ [])
-    by_test true = All-nil (Coined tx)
-    by_test false = All-cons (Coined tx) (undo.Bytes q at _ bytes n) [] tt (All-nil (Coined tx))
+overwrite_coined tx w bytes n (place.File q at) = one_or_none tx (n == 0) (undo.Bytes q at _ bytes n) tt
 overwrite_coined tx w bytes n place.Vacant = All-nil (Coined tx)
 overwrite_coined tx w bytes n (place.Pipe q) = All-nil (Coined tx)
 overwrite_coined tx w bytes n (place.Pair q side) = All-nil (Coined tx)
 
 append_coined : (tx : ℕ) (w : World) (bytes : List ℕ) (n : ℕ) (p : Place) → All (Coined tx) (append_record w bytes n p)
-append_coined tx w bytes n (place.File q at) = by_test (n == 0)
-  where
-    by_test : (b : Bool) → All (Coined tx) (if b then [] else undo.Tail q _ bytes n ∷ [])
-    by_test true = All-nil (Coined tx)
-    by_test false = All-cons (Coined tx) (undo.Tail q _ bytes n) [] tt (All-nil (Coined tx))
+append_coined tx w bytes n (place.File q at) = one_or_none tx (n == 0) (undo.Tail q _ bytes n) tt
 append_coined tx w bytes n place.Vacant = All-nil (Coined tx)
 append_coined tx w bytes n (place.Pipe q) = All-nil (Coined tx)
 append_coined tx w bytes n (place.Pair q side) = All-nil (Coined tx)

@@ -27,7 +27,7 @@ use Rattle.xc_world.proofs.Records.{undone_to_alike}
 use Rattle.xc_flight.specs.Active.{Tx, Phase, Running, Undoing, Has, Own, Covers}
 use Rattle.xc_flight.specs.Flight.{noted, ran, asked, effects, left, returned, IsPhase, Inside, Flight}
 use Rattle.xc_flight.specs.Standing.{Standing, IsActive, InFlight, turned, entered}
-use Rattle.xc_flight.specs.Turns.{in_phase, IsDone, wanting, after_call, leaving, with_undone}
+use Rattle.xc_flight.specs.Turns.{in_phase, MayDo, wanting, after_call, leaving, with_undone}
 use Rattle.xc_flight.proofs.Basics.{owns_has}
 use Rattle.xc_flight.proofs.Worlds.{item_object, given_alike, given_away, given_words, given_blocks}
 use Rattle.xc_flight.proofs.Frames.{trail_own, left_keeps, all_front}
@@ -61,25 +61,25 @@ turns_back s job t h active phase sound =
     })
 
 -- the call did its part, and then memory was wanting
-pub wants : (s : Standing) (job : ℕ) (t : Tx) (c : Asked) (writes : List (ℕ × ℕ)) → InFlight s → IsActive s job t → t.phase ≡ Running → IsDone s.now t c writes → IsSound s.state t.began t.number
+pub wants : (s : Standing) (job : ℕ) (t : Tx) (c : Asked) → InFlight s → IsActive s job t → t.phase ≡ Running → MayDo s.now t c → IsSound s.state t.began t.number
     → InFlight (turned s job (Some (wanting s.now t c)) (after_call s.now t c))
-wants s job t c writes h active phase k sound =
+wants s job t c h active phase k sound =
     let i = (h.flights job t active).inside in
     let p = is_running s job t h active phase in
     let t' = wanting s.now t c in
     let i' : Inside s.state t' = record {
       new = i.new;
-      fits = fits_then s job t c writes h active phase k;
+      fits = fits_then s job t c h active phase k;
       replies = i.replies;
       me = i.me;
       late = i.late;
-      trail = step_trail s job t c writes h active phase k;
-      covers = step_covers s job t c writes h active phase k;
+      trail = step_trail s job t c h active phase k;
+      covers = step_covers s job t c h active phase k;
       phase = p.no_late_ends;
     } in
-    goes_on s job t t' (after_call s.now t c) h active refl refl (after_keeps s job t c writes h active phase k) (record {
+    goes_on s job t t' (after_call s.now t c) h active refl refl (after_keeps s job t c h active phase k) (record {
       inside = i';
-      owns = turn s.state (after_call s.now t c) t' i' sound p.none (λ o e. step_stands s job t c writes h active phase k o (owns_has t o e));
+      owns = turn s.state (after_call s.now t c) t' i' sound p.none (λ o e. step_stands s job t c h active phase k o (owns_has t o e));
     })
 
 -- ---- a compensation

@@ -56,6 +56,11 @@ pub record Covers (held claims : List Claim) : Type 0 where
   pub objects : (o : Object) → Contains (objects claims) o → Contains (objects held) o
   pub owned : (o : Object) → Contains (owned claims) o → Contains (owned held) o
 
+-- two lists of claims cover each other: they hold the same
+pub record HoldTheSame (a b : List Claim) : Type 0 where
+  pub left : Covers a b
+  pub right : Covers b a
+
 -- the k-th object that a transaction makes
 abbrev pub num : ℕ → ℕ → Num
 num tx k = record { tx = tx; k = k }

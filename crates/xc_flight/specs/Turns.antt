@@ -10,7 +10,7 @@ use Rattle.xc_data.specs.declared.call.LateAnswer.{LateAnswer}
 use Rattle.xc_data.specs.declared.undo.Undo.{Undo}
 use Rattle.xc_data.specs.declared.undo.UndoEnd.{UndoEnd}
 use Rattle.xc_data.specs.declared.private.Private.{Private}
-use Rattle.xc_data.specs.Claims.{compatible, holding}
+use Rattle.xc_data.specs.Claims.{compatible}
 use Rattle.xc_txmem.specs.Overlay.{overlaid}
 use Rattle.xc_world.specs.World.{World}
 use Rattle.xc_world.specs.Act.{act}
@@ -20,7 +20,7 @@ use Rattle.xc_world.specs.Fits.{fits, late_fits, answer_of, late_answer_of}
 use Rattle.xc_world.specs.Trail.{recorded}
 use Rattle.xc_world.specs.Modes.{claims_of}
 use Rattle.xc_world.specs.Own.{IsNumbered}
-use Rattle.xc_flight.specs.Active.{Tx, Phase, Running, Undoing, Own, Covers, IsBelow}
+use Rattle.xc_flight.specs.Active.{Tx, Phase, Running, Undoing, Has, Own, Covers, IsBelow}
 use Rattle.xc_flight.specs.Standing.{Standing, IsActive}
 
 -- ---- it begins
@@ -44,9 +44,9 @@ starting number began =
     }
 
 -- ---- it claims
--- the transaction with these claims added to what it holds
+-- the transaction with these claims held
 abbrev pub claiming : Tx → List Claim → Tx
-claiming t claims = record t { held = holding t.held claims }
+claiming t held = record t { held = held }
 
 -- no other active transaction made the object, and it has no number that is still to be given
 pub record IsOpen (s : Standing) (job : ℕ) (o : Object) : Type 0 where
@@ -61,6 +61,13 @@ GoTogether c d = d.object ≡ c.object → compatible c.mode d.mode ≡ true
 pub record IsGranted (s : Standing) (job : ℕ) (c : Claim) : Type 0 where
   pub object : IsOpen s job c.object
   pub together : (j : ℕ) (u : Tx) → j ≢ job → IsActive s j u → All (GoTogether c) u.held
+
+-- the claims of two transactions go together, and neither has what the other made
+pub record AreCompatible (t u : Tx) : Type 0 where
+  pub numbers : t.number ≢ u.number
+  pub together : All (λ c. All (GoTogether c) u.held) t.held
+  pub foreign : (o : Object) → Has t o → IsNumbered u.number o → ⊥
+  pub foreign_too : (o : Object) → Has u o → IsNumbered t.number o → ⊥
 
 -- ---- it makes a call
 -- what it sees: the station's world, its stores laid over the words
@@ -92,13 +99,17 @@ noting now t asked writes =
 abbrev pub after_call : World → Tx → Asked → World
 after_call now t asked = record (did now t asked).world { words = now.words }
 
--- what a call shows: the answer fits and is read off the reply, its stores tell the words, and its claims are held
-pub record IsDone (now : World) (t : Tx) (asked : Asked) (writes : List (ℕ × ℕ)) : Type 0 where
+-- a call may be made: its answer fits, and its claims are held
+pub record MayDo (now : World) (t : Tx) (asked : Asked) : Type 0 where
   pub fit : IsTrue (fits (seen now t) t.me t.number asked.call asked.answer)
+  pub covers : Covers t.held (claims_of asked.call t.me (length now.words))
+
+-- it is done and noted: the answer is read off the reply, and these are the stores with its own
+pub record IsDone (now : World) (t : Tx) (asked : Asked) (writes : List (ℕ × ℕ)) : Type 0 where
+  pub may : MayDo now t asked
   pub told : answer_of (did now t asked).reply ≡ asked.answer
   pub words : overlaid now.words writes ≡ (did now t asked).world.words
   pub stored : All (λ s. Own t (object.Word s.0)) writes
-  pub covers : Covers t.held (claims_of asked.call t.me (length now.words))
 
 -- the call did its part, and memory was wanting for its reply: it isn't noted, and the transaction turns back
 abbrev pub wanting : World → Tx → Asked → Tx

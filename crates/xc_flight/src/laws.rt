@@ -1,10 +1,15 @@
-ghost use Rattle.std.specs.Prelude.{◌≡◌, ◌<◌, ◌≤◌, ◌+◌, ◌++◌, ◌∷◌, [], ℕ, List, None, Some, length, slice_set};
+ghost use Rattle.std.specs.Prelude.{◌≡◌, ◌<◌, ◌≤◌, ◌+◌, ◌++◌, ◌∷◌, [], ℕ, List, All, Contains, None, Some, length, slice_set};
 ghost use Rattle.xc_data.specs.declared.object.Object.{Object};
 ghost use Rattle.xc_world.specs.World.{World};
 ghost use Rattle.xc_world.specs.Own.{KeepsBut, AgreeOn};
 ghost use Rattle.xc_data.specs.declared.call.Asked.{Asked};
-ghost use Rattle.xc_flight.specs.Active.{Tx, Own, Has, num, Running, Committing, Undoing};
-ghost use Rattle.xc_flight.specs.Turns.{starting, seen, IsDone, noting, after_call, in_phase, IsDoneLate, with_end, wanting, with_undone};
+ghost use Rattle.xc_data.specs.declared.claim.Claim.{Claim};
+ghost use Rattle.xc_data.specs.declared.call.Call.{Call};
+ghost use Rattle.xc_data.specs.declared.private.Place.{Place};
+ghost use Rattle.xc_world.specs.Touch.{touch};
+ghost use Rattle.xc_data.specs.Claims.{holding, held_of};
+ghost use Rattle.xc_flight.specs.Active.{Tx, Own, Has, HoldTheSame, num, Running, Committing, Undoing};
+ghost use Rattle.xc_flight.specs.Turns.{starting, seen, claiming, IsGranted, IsOpen, AreCompatible, MayDo, IsDone, noting, after_call, in_phase, IsDoneLate, with_end, wanting, with_undone};
 ghost use Rattle.xc_data.specs.declared.undo.Undo.{Undo};
 ghost use Rattle.xc_data.specs.declared.undo.UndoEnd.{UndoEnd};
 ghost use Rattle.xc_world.specs.Ends.{remains, with_remains};
@@ -16,7 +21,7 @@ ghost use Rattle.xc_world.specs.Run.{run, asked_of, given_back};
 ghost use Rattle.xc_data.specs.declared.private.Private.{Private};
 ghost use Rattle.xc_world.specs.Sound.{IsFree, IsSound};
 ghost use Rattle.xc_flight.specs.Flight.{Flight, ran, effects};
-ghost use Rattle.xc_flight.specs.Standing.{Standing, InFlight, Move, active_at, IsActive, turned, entered};
+ghost use Rattle.xc_flight.specs.Standing.{Standing, InFlight, Move, active_at, IsActive, AreSound, IsIdleSound, turned, entered};
 
 /// A move of one transaction, which changes what it owns alone, keeps the flight of every other that
 /// has none of this.
@@ -87,8 +92,8 @@ pub fn a_turn_back_keeps_all()
 
 /// So does one whose call did its part before memory was wanting for the reply.
 pub fn a_call_without_memory_keeps_all()
-    ensures { (s : Standing) (job : ℕ) (t : Tx) (asked : Asked) (writes : List (ℕ × ℕ)) → InFlight s → IsActive s job t → t.phase ≡ Running
-        → IsDone s.now t asked writes → IsSound s.state t.began t.number → InFlight (turned s job (Some (wanting s.now t asked)) (after_call s.now t asked)) }
+    ensures { (s : Standing) (job : ℕ) (t : Tx) (asked : Asked) → InFlight s → IsActive s job t → t.phase ≡ Running
+        → MayDo s.now t asked → IsSound s.state t.began t.number → InFlight (turned s job (Some (wanting s.now t asked)) (after_call s.now t asked)) }
 {}
 
 /// A compensation of the newest record without an end keeps all, where on S with what stands it
@@ -105,4 +110,47 @@ pub fn a_compensation_keeps_all()
 pub fn an_abort_enters()
     ensures { (s : Standing) (job : ℕ) (t : Tx) → InFlight s → IsActive s job t → t.phase ≡ Undoing → IsSound s.state t.began t.number → t.pending ≡ []
         → InFlight (entered s job (with_remains s.state (remains t.ended)) (given_back s.now (ran s.state t).taken)) }
+{}
+
+/// Claims that go together keep two transactions apart.
+pub fn compatible_claims_are_apart()
+    ensures { (t u : Tx) → AreCompatible t u → (o : Object) → Own t o → Has u o → ⊥ }
+{}
+
+/// Claims that go together with all that others hold may be granted to a running transaction: one
+/// that it holds shared becomes exclusive too.
+pub fn a_claim_keeps_all()
+    ensures { (s : Standing) (job : ℕ) (t : Tx) (claims held : List Claim) → InFlight s → IsActive s job t → t.phase ≡ Running → All (IsGranted s job) claims
+        → HoldTheSame held (t.held ++ claims) → InFlight (turned s job (Some (claiming t held)) s.now) }
+{}
+
+/// Claims that are merged into what is held of others hold the same as all of them.
+pub fn merged_claims_hold_the_same()
+    ensures { (old claims : List Claim) → HoldTheSame (holding (held_of old) claims) (held_of old ++ claims) }
+{}
+
+/// What a call of a running transaction touches no other active one has made, and its number, where
+/// it has one, was given.
+pub fn a_call_touches_no_new_object_of_another()
+    ensures { (s : Standing) (job : ℕ) (t : Tx) → InFlight s → IsActive s job t → t.phase ≡ Running → IsSound s.state t.began t.number
+        → (call : Call) (words : ℕ) (o : Object) → Contains (touch call t.me words) o → IsOpen s job o }
+{}
+
+/// The entry of a commit keeps the journal's state sound for every active transaction.
+pub fn a_commit_keeps_others_sound()
+    ensures { (s : Standing) (job : ℕ) (t : Tx) (now : World) → InFlight s → AreSound s → IsActive s job t → t.phase ≡ Committing
+        → AreSound (entered s job (run s.state t.began t.number (asked_of t.calls t.replies) t.late_ends).late.world now) }
+{}
+
+/// And for every job that has none.
+pub fn a_commit_keeps_idle_jobs_sound()
+    ensures { (s : Standing) (job : ℕ) (t : Tx) (places : List Place) → InFlight s → AreSound s → IsActive s job t → t.phase ≡ Committing
+        → IsIdleSound s.state s.next places → IsIdleSound (run s.state t.began t.number (asked_of t.calls t.replies) t.late_ends).late.world s.next places }
+{}
+
+/// And its own job may begin its next one, with the handles that it has.
+pub fn a_commit_leaves_its_job_sound()
+    ensures { (s : Standing) (job : ℕ) (t : Tx) (now : World) → InFlight s → AreSound s → IsActive s job t → t.phase ≡ Committing
+        → InFlight (entered s job (run s.state t.began t.number (asked_of t.calls t.replies) t.late_ends).late.world now)
+        → IsIdleSound (run s.state t.began t.number (asked_of t.calls t.replies) t.late_ends).late.world s.next t.me.places }
 {}
