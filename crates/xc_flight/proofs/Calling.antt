@@ -30,7 +30,7 @@ use Rattle.xc_world.proofs.Joined.{body_last}
 use Rattle.xc_flight.specs.Active.{Tx, Phase, Running, Committing, Undoing, Has, Own, Covers}
 use Rattle.xc_flight.specs.Flight.{noted, ran, asked, left, returned, IsRunning, IsPhase, Inside, Flight}
 use Rattle.xc_flight.specs.Standing.{Standing, IsActive, InFlight, HasAt, OwnAt, turned}
-use Rattle.xc_flight.specs.Turns.{seen, did, leaving, noting, after_call, MayDo, IsDone}
+use Rattle.xc_flight.specs.Turns.{seen, did, leaving, noting, after_call, MayDo, IsNoted}
 use Rattle.xc_flight.proofs.Basics.{has_decide, own_decide, owns_has, owns_own}
 use Rattle.xc_flight.proofs.Worlds.{overlaid_alike, overlaid_count}
 use Rattle.xc_flight.proofs.Frames.{ran_keeps, left_keeps, words_there}
@@ -191,14 +191,14 @@ module _ (s : Standing) (job : ℕ) (t : Tx) (c : Asked) (h : InFlight s) (activ
       (λ at e. words_now at (subst (Has t) e has))
 
 -- ---- it is noted
-module _ (s : Standing) (job : ℕ) (t : Tx) (c : Asked) (writes : List (ℕ × ℕ)) (h : InFlight s) (active : IsActive s job t) (phase : t.phase ≡ Running) (k : IsDone s.now t c writes) where
+module _ (s : Standing) (job : ℕ) (t : Tx) (c : Asked) (writes : List (ℕ × ℕ)) (h : InFlight s) (active : IsActive s job t) (phase : t.phase ≡ Running) (k : MayDo s.now t c) (d : IsNoted s.now t c writes) where
   noted_more : noted s.state (noting s.now t c writes) ≡ step t.number (noted s.state t) c
   noted_more =
       let calls = asked_count t.calls t.replies in
       let bodies = replies_count t.number (begins s.state t.began) (asked_of t.calls t.replies) in
-      let same = ap length (inside s job t c h active phase k.may).replies in
+      let same = ap length (inside s job t c h active phase k).replies in
       ap (body s.state t.began t.number) (asked_more t.calls t.replies c.call (did s.now t c).reply (omega (arith, calls, bodies, same))
-      ∙ ap (λ a. asked_of t.calls t.replies ++ record { call = c.call; answer = a } ∷ []) k.told)
+      ∙ ap (λ a. asked_of t.calls t.replies ++ record { call = c.call; answer = a } ∷ []) d.told)
       ∙ body_last s.state t.began t.number (asked_of t.calls t.replies) c
 
   ran_more : ran s.state (noting s.now t c writes) ≡ step t.number (noted s.state t) c
@@ -208,37 +208,37 @@ module _ (s : Standing) (job : ℕ) (t : Tx) (c : Asked) (writes : List (ℕ × 
   asked_now =
       let calls = asked_count t.calls t.replies in
       let bodies = replies_count t.number (begins s.state t.began) (asked_of t.calls t.replies) in
-      let same = ap length (inside s job t c h active phase k.may).replies in
+      let same = ap length (inside s job t c h active phase k).replies in
       ap₂ (λ l m. l ++ m) (asked_more t.calls t.replies c.call (did s.now t c).reply (omega (arith, calls, bodies, same))
-      ∙ ap (λ a. asked_of t.calls t.replies ++ record { call = c.call; answer = a } ∷ []) k.told) (is_running s job t h active phase).all_noted
+      ∙ ap (λ a. asked_of t.calls t.replies ++ record { call = c.call; answer = a } ∷ []) d.told) (is_running s job t h active phase).all_noted
       ∙ append-nil (asked_of t.calls t.replies ++ c ∷ [])
 
   words_then : (ran s.state (noting s.now t c writes)).world.words ≡ overlaid s.state.words writes
   words_then =
       ap (λ (r : Ran). r.world.words) ran_more
       ∙ words_there s.state (step t.number (noted s.state t) c).world t writes
-      (subst (λ (r : Ran). KeepsBut (Own t) s.state r.world) ran_more (ran_keeps s.state (noting s.now t c writes) (subst (λ (r : Ran). Covers t.held r.touched) (sym ran_more) (step_covers s job t c h active phase k.may))))
-      k.stored
-      (λ at has. (steps s job t c h active phase k.may).agree (object.Word at) has ∙ ap (λ ws. slice_get ws at) (sym k.words) ∙ overlaid_alike s.now.words s.state.words writes at ((words_now s job t c h active phase k.may) at has))
+      (subst (λ (r : Ran). KeepsBut (Own t) s.state r.world) ran_more (ran_keeps s.state (noting s.now t c writes) (subst (λ (r : Ran). Covers t.held r.touched) (sym ran_more) (step_covers s job t c h active phase k))))
+      d.stored
+      (λ at has. (steps s job t c h active phase k).agree (object.Word at) has ∙ ap (λ ws. slice_get ws at) (sym d.words) ∙ overlaid_alike s.now.words s.state.words writes at ((words_now s job t c h active phase k) at has))
 
   noted_inside : Inside s.state (noting s.now t c writes)
   noted_inside =
       let p = is_running s job t h active phase in
       record {
-        new = (inside s job t c h active phase k.may).new;
-        fits = subst (λ l. IsTrue (body_fits s.state t.began t.number l)) (sym asked_now) (fits_then s job t c h active phase k.may);
-        replies = ap (λ (r : Ran). r.replies) noted_more ∙ (steps s job t c h active phase k.may).gave.replies ∙ ap (λ l. l ++ (did s.now t c).reply ∷ []) (inside s job t c h active phase k.may).replies;
-        me = ap (λ (r : Ran). r.me) noted_more ∙ (steps s job t c h active phase k.may).gave.me;
-        late = ap (λ (r : Ran). r.late) noted_more ∙ (steps s job t c h active phase k.may).gave.late ∙ ap (λ l. l ++ kept_call c.call t.me (did s.now t c).reply) (inside s job t c h active phase k.may).late;
-        trail = ap (λ (r : Ran). r.trail) ran_more ∙ (step_trail s job t c h active phase k.may);
-        covers = subst (λ (r : Ran). Covers t.held r.touched) (sym ran_more) (step_covers s job t c h active phase k.may);
-        phase = subst (IsPhase s.state (noting s.now t c writes)) (sym phase) (record { none = p.none; all_noted = p.all_noted; no_late_ends = p.no_late_ends; words = words_then; stored = k.stored });
+        new = (inside s job t c h active phase k).new;
+        fits = subst (λ l. IsTrue (body_fits s.state t.began t.number l)) (sym asked_now) (fits_then s job t c h active phase k);
+        replies = ap (λ (r : Ran). r.replies) noted_more ∙ (steps s job t c h active phase k).gave.replies ∙ ap (λ l. l ++ (did s.now t c).reply ∷ []) (inside s job t c h active phase k).replies;
+        me = ap (λ (r : Ran). r.me) noted_more ∙ (steps s job t c h active phase k).gave.me;
+        late = ap (λ (r : Ran). r.late) noted_more ∙ (steps s job t c h active phase k).gave.late ∙ ap (λ l. l ++ kept_call c.call t.me (did s.now t c).reply) (inside s job t c h active phase k).late;
+        trail = ap (λ (r : Ran). r.trail) ran_more ∙ (step_trail s job t c h active phase k);
+        covers = subst (λ (r : Ran). Covers t.held r.touched) (sym ran_more) (step_covers s job t c h active phase k);
+        phase = subst (IsPhase s.state (noting s.now t c writes)) (sym phase) (record { none = p.none; all_noted = p.all_noted; no_late_ends = p.no_late_ends; words = words_then; stored = d.stored });
       }
 
   pub called : InFlight (turned s job (Some (noting s.now t c writes)) (after_call s.now t c))
   called =
-      job_goes_on s job t (noting s.now t c writes) (after_call s.now t c) h active refl refl (after_keeps s job t c h active phase k.may) (record {
+      job_goes_on s job t (noting s.now t c writes) (after_call s.now t c) h active refl refl (after_keeps s job t c h active phase k) (record {
         inside = noted_inside;
         owns = subst (λ p. AgreeOn (Own t) (returned s.state (after_call s.now t c) (noting s.now t c writes) p) (left s.state (noting s.now t c writes) p)) (sym phase)
-            (λ o e. subst (λ (r : Ran). AgreeAt (after_call s.now t c) (record r.world { words = s.state.words }) o) (sym ran_more) ((step_stands s job t c h active phase k.may) o (owns_has t o e)));
+            (λ o e. subst (λ (r : Ran). AgreeAt (after_call s.now t c) (record r.world { words = s.state.words }) o) (sym ran_more) ((step_stands s job t c h active phase k) o (owns_has t o e)));
       })

@@ -10,3 +10,4 @@ pub mod Taking
 pub mod Undoing
 pub mod Claiming
 pub mod Sounding
+pub mod Together

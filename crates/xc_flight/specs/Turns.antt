@@ -57,10 +57,14 @@ pub record IsOpen (s : Standing) (job : ℕ) (o : Object) : Type 0 where
 abbrev pub GoTogether : Claim → Claim → Type 0
 GoTogether c d = d.object ≡ c.object → compatible c.mode d.mode ≡ true
 
--- a job's claim may be granted: it goes together with all that others hold
+-- a job's claim goes together with all that others hold
+abbrev pub HasNoRival : Standing → ℕ → Claim → Type 0
+HasNoRival s job c = (j : ℕ) (u : Tx) → j ≢ job → IsActive s j u → All (GoTogether c) u.held
+
+-- it may be granted
 pub record IsGranted (s : Standing) (job : ℕ) (c : Claim) : Type 0 where
   pub object : IsOpen s job c.object
-  pub together : (j : ℕ) (u : Tx) → j ≢ job → IsActive s j u → All (GoTogether c) u.held
+  pub together : HasNoRival s job c
 
 -- the claims of two transactions go together, and neither has what the other made
 pub record AreCompatible (t u : Tx) : Type 0 where
@@ -104,9 +108,8 @@ pub record MayDo (now : World) (t : Tx) (asked : Asked) : Type 0 where
   pub fit : IsTrue (fits (seen now t) t.me t.number asked.call asked.answer)
   pub covers : Covers t.held (claims_of asked.call t.me (length now.words))
 
--- it is done and noted: the answer is read off the reply, and these are the stores with its own
-pub record IsDone (now : World) (t : Tx) (asked : Asked) (writes : List (ℕ × ℕ)) : Type 0 where
-  pub may : MayDo now t asked
+-- it is noted: the answer is read off the reply, and these are the stores with its own
+pub record IsNoted (now : World) (t : Tx) (asked : Asked) (writes : List (ℕ × ℕ)) : Type 0 where
   pub told : answer_of (did now t asked).reply ≡ asked.answer
   pub words : overlaid now.words writes ≡ (did now t asked).world.words
   pub stored : All (λ s. Own t (object.Word s.0)) writes

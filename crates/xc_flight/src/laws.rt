@@ -1,4 +1,4 @@
-ghost use Rattle.std.specs.Prelude.{◌≡◌, ◌<◌, ◌≤◌, ◌+◌, ◌++◌, ◌∷◌, [], ℕ, List, All, Contains, None, Some, length, slice_set};
+ghost use Rattle.std.specs.Prelude.{Option, ◌≡◌, ◌<◌, ◌≤◌, ◌+◌, ◌++◌, ◌∷◌, [], ℕ, List, IsTrue, map, All, Contains, None, Some, length, slice_set};
 ghost use Rattle.xc_data.specs.declared.object.Object.{Object};
 ghost use Rattle.xc_world.specs.World.{World};
 ghost use Rattle.xc_world.specs.Own.{KeepsBut, AgreeOn};
@@ -7,13 +7,16 @@ ghost use Rattle.xc_data.specs.declared.claim.Claim.{Claim};
 ghost use Rattle.xc_data.specs.declared.call.Call.{Call};
 ghost use Rattle.xc_data.specs.declared.private.Place.{Place};
 ghost use Rattle.xc_world.specs.Touch.{touch};
+ghost use Rattle.xc_world.specs.Modes.{claims_of};
+ghost use Rattle.xc_world.specs.Fits.{fits};
+ghost use Rattle.xc_world.specs.World.{beginning};
 ghost use Rattle.xc_data.specs.Claims.{holding, held_of};
 ghost use Rattle.xc_flight.specs.Active.{Tx, Own, Has, HoldTheSame, num, Running, Committing, Undoing};
-ghost use Rattle.xc_flight.specs.Turns.{starting, seen, claiming, IsGranted, IsOpen, AreCompatible, MayDo, IsDone, noting, after_call, in_phase, IsDoneLate, with_end, wanting, with_undone};
+ghost use Rattle.xc_flight.specs.Turns.{starting, seen, claiming, IsGranted, IsOpen, HasNoRival, AreCompatible, MayDo, IsNoted, noting, after_call, in_phase, IsDoneLate, with_end, wanting, with_undone};
 ghost use Rattle.xc_data.specs.declared.undo.Undo.{Undo};
 ghost use Rattle.xc_data.specs.declared.undo.UndoEnd.{UndoEnd};
 ghost use Rattle.xc_world.specs.Ends.{remains, with_remains};
-ghost use Rattle.xc_world.specs.Effects.{undone_to};
+ghost use Rattle.xc_world.specs.Effects.{AreMadeIn, undone_to};
 ghost use Rattle.xc_data.specs.declared.call.LateCall.{LateCall};
 ghost use Rattle.xc_data.specs.declared.call.LateAnswer.{LateAnswer};
 ghost use Rattle.xc_world.specs.Late.{late};
@@ -64,7 +67,7 @@ pub fn what_one_has_it_sees()
 /// A call of a running transaction, done by the plain machine in what it sees, keeps all.
 pub fn a_call_keeps_all()
     ensures { (s : Standing) (job : ℕ) (t : Tx) (asked : Asked) (writes : List (ℕ × ℕ)) → InFlight s → IsActive s job t → t.phase ≡ Running
-        → IsDone s.now t asked writes → InFlight (turned s job (Some (noting s.now t asked writes)) (after_call s.now t asked)) }
+        → MayDo s.now t asked → IsNoted s.now t asked writes → InFlight (turned s job (Some (noting s.now t asked writes)) (after_call s.now t asked)) }
 {}
 
 /// A commit writes its stores.
@@ -153,4 +156,55 @@ pub fn a_commit_leaves_its_job_sound()
     ensures { (s : Standing) (job : ℕ) (t : Tx) (now : World) → InFlight s → AreSound s → IsActive s job t → t.phase ≡ Committing
         → InFlight (entered s job (run s.state t.began t.number (asked_of t.calls t.replies) t.late_ends).late.world now)
         → IsIdleSound (run s.state t.began t.number (asked_of t.calls t.replies) t.late_ends).late.world s.next t.me.places }
+{}
+
+/// A transaction that changes only what it owns, with the same number and the same claims, and has a
+/// flight after it, goes on.
+pub fn a_step_keeps_all()
+    ensures { (s : Standing) (job : ℕ) (t u : Tx) (now : World) → InFlight s → IsActive s job t → u.number ≡ t.number → u.held ≡ t.held
+        → KeepsBut (Own t) s.now now → Flight s.state now u → InFlight (turned s job (Some u) now) }
+{}
+
+/// Two turns of one job are one.
+pub fn two_turns_are_one()
+    ensures { (s : Standing) (job : ℕ) (t u : Option Tx) (now later : World) → turned (turned s job t now) job u later ≡ turned s job u later }
+{}
+
+/// The claims of a call of a running transaction may be granted where they have no rival.
+pub fn claims_without_a_rival_may_be_granted()
+    ensures { (s : Standing) (job : ℕ) (t : Tx) (call : Call) (words : ℕ) → InFlight s → IsActive s job t → t.phase ≡ Running → IsSound s.state t.began t.number
+        → All (HasNoRival s job) (claims_of call t.me words) → All (IsGranted s job) (claims_of call t.me words) }
+{}
+
+/// A call whose claims have no rival, done and noted in one turn, keeps all.
+pub fn a_call_with_claims_keeps_all()
+    ensures { (s : Standing) (job : ℕ) (t : Tx) (asked : Asked) (held : List Claim) (writes : List (ℕ × ℕ)) → InFlight s → IsActive s job t → t.phase ≡ Running
+        → IsSound s.state t.began t.number → All (HasNoRival s job) (claims_of asked.call t.me (length s.now.words))
+        → HoldTheSame held (t.held ++ claims_of asked.call t.me (length s.now.words))
+        → IsTrue (fits (seen s.now t) t.me t.number asked.call asked.answer) → IsNoted s.now (claiming t held) asked writes
+        → InFlight (turned s job (Some (noting s.now (claiming t held) asked writes)) (after_call s.now t asked)) }
+{}
+
+/// A turn of an active transaction keeps all sound.
+pub fn a_step_keeps_all_sound()
+    ensures { (s : Standing) (job : ℕ) (t u : Tx) (now : World) → AreSound s → IsActive s job t → u.number ≡ t.number → u.began ≡ t.began
+        → AreSound (turned s job (Some u) now) }
+{}
+
+/// A begin does, where the job's handles are sound.
+pub fn a_begin_keeps_all_sound()
+    ensures { (s : Standing) (job : ℕ) (places : List Place) → AreSound s → job < length s.active → IsIdleSound s.state s.next places
+        → AreSound (record s { active = slice_set s.active job (Some (starting s.next (beginning places))); next = s.next + 1 }) }
+{}
+
+/// The entry of an abort does, where its records are of overwrites.
+pub fn an_abort_keeps_others_sound()
+    ensures { (s : Standing) (job : ℕ) (t : Tx) (now : World) → AreSound s → AreMadeIn s.state (map (λ r. r.0) t.ended) → IsActive s job t
+        → AreSound (entered s job (with_remains s.state (remains t.ended)) now) }
+{}
+
+/// And every job may begin its next one.
+pub fn an_abort_keeps_idle_jobs_sound()
+    ensures { (s : Standing) (t : Tx) (places : List Place) → AreMadeIn s.state (map (λ r. r.0) t.ended) → IsIdleSound s.state s.next places
+        → IsIdleSound (with_remains s.state (remains t.ended)) s.next places }
 {}
