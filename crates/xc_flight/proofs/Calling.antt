@@ -1,5 +1,5 @@
 -- What a running transaction sees, and a call that it makes.
-use Rattle.std.proofs.Common.{◌≡◌, ◌≢◌, ℕ, ◌⊎◌, inl, inr, ⊎_elim, List, [], ◌∷◌, ◌++◌, length, Some, ap, ap₂, sym, ◌∙◌, subst, refl, arith}
+use Rattle.std.proofs.Common.{◌≡◌, ◌≢◌, ℕ, inl, inr, ⊎_elim, List, [], ◌∷◌, ◌++◌, length, Some, ap, ap₂, sym, ◌∙◌, subst, refl, arith}
 use Rattle.std.specs.Prelude.{All, Contains, IsTrue, map, slice_get}
 use Rattle.std.proofs.lemmas.List.{append-nil}
 use Rattle.std.proofs.lemmas.List.Elements.{Contains-append_cases}
@@ -9,11 +9,9 @@ use Rattle.xc_data.specs.declared.object.Object.{Object}
 use Rattle.xc_data.specs.declared.object.Object.TheVariants as object
 use Rattle.xc_data.specs.declared.claim.Claim.{Claim}
 use Rattle.xc_data.specs.declared.call.Asked.{Asked}
-use Rattle.xc_data.specs.declared.undo.Undo.{Undo}
 use Rattle.xc_data.specs.Claims.{objects, owned}
 use Rattle.xc_txmem.specs.Overlay.{overlaid}
 use Rattle.xc_world.specs.World.{World}
-use Rattle.xc_world.specs.Act.{act}
 use Rattle.xc_world.specs.Touch.{touch, made_by}
 use Rattle.xc_world.specs.Late.{kept_call}
 use Rattle.xc_world.specs.Fits.{fits}
@@ -23,15 +21,14 @@ use Rattle.xc_world.specs.Modes.{claims_of}
 use Rattle.xc_world.specs.Laws.{AgreeAt}
 use Rattle.xc_world.specs.Own.{Owns, AgreeOn, KeepsBut}
 use Rattle.xc_world.proofs.Objects.{agree_back, agree_on}
-use Rattle.xc_world.proofs.LocalParts.{agree_itself}
 use Rattle.xc_world.proofs.Calls.{keeps_itself, fits_alike}
 use Rattle.xc_world.proofs.Bodies.{Alike, Within, step_alike, call_agreed, keeps_more, objects_append, owned_append}
 use Rattle.xc_world.proofs.Joined.{body_last}
-use Rattle.xc_flight.specs.Active.{Tx, Phase, Running, Committing, Undoing, Has, Own, Covers}
+use Rattle.xc_flight.specs.Active.{Tx, Phase, Running, Has, Own, Covers}
 use Rattle.xc_flight.specs.Flight.{noted, ran, asked, left, returned, IsRunning, IsPhase, Inside, Flight}
-use Rattle.xc_flight.specs.Standing.{Standing, IsActive, InFlight, HasAt, OwnAt, turned}
+use Rattle.xc_flight.specs.Standing.{Standing, IsActive, InFlight, OwnAt, turned}
 use Rattle.xc_flight.specs.Turns.{seen, did, leaving, noting, after_call, MayDo, IsNoted}
-use Rattle.xc_flight.proofs.Basics.{has_decide, own_decide, owns_has, owns_own}
+use Rattle.xc_flight.proofs.Basics.{own_decide, owns_has, owns_own}
 use Rattle.xc_flight.proofs.Worlds.{overlaid_alike, overlaid_count}
 use Rattle.xc_flight.proofs.Frames.{ran_keeps, left_keeps, words_there}
 use Rattle.xc_flight.proofs.Moving.{has_it, it_owns}

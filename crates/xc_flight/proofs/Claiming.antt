@@ -1,10 +1,10 @@
 -- A claim is granted; and what a call touches is nobody else's new object.
-use Rattle.std.proofs.Common.{◌≡◌, ◌≢◌, ℕ, ◌<◌, ◌≤◌, ◌⊎◌, inl, inr, ⊎_elim, Bool, true, false, ◌||◌, List, [], ◌∷◌, ◌++◌, length, Option, Some, None, ap, sym, ◌∙◌, subst, refl, arith}
-use Rattle.std.specs.Prelude.{All, Contains, IsTrue, slice_get, if◌then◌else◌}
-use Rattle.std.specs.List.{list_any, cons_option}
+use Rattle.std.proofs.Common.{◌≡◌, ◌≢◌, ℕ, ◌⊎◌, inl, inr, ⊎_elim, Bool, true, false, ◌||◌, List, [], ◌∷◌, ◌++◌, Option, Some, None, sym, ◌∙◌, subst, refl, arith}
+use Rattle.std.specs.Prelude.{All, Contains, if◌then◌else◌}
+use Rattle.std.specs.List.{cons_option}
 use mathlib.Core.Logic.{dite}
 use native.Mathlib.Decide.{ℕ_discrete}
-use Rattle.std.proofs.lemmas.List.Elements.{All-weaker, All-head, All-tail, All-contains, Contains-append_cases, Contains-append_left, Contains-append_right}
+use Rattle.std.proofs.lemmas.List.Elements.{All-weaker, All-head, All-tail, Contains-append_cases, Contains-append_left, Contains-append_right}
 use Rattle.std.proofs.lemmas.List.Sums.{fold-append}
 use Rattle.std.proofs.lemmas.Map.Views.{Contains-from_any}
 use Rattle.xc_data.specs.declared.object.Object.{Object}
@@ -12,23 +12,21 @@ use Rattle.xc_data.specs.declared.object.Object.TheVariants as object
 use Rattle.xc_data.specs.declared.claim.Claim.{Claim}
 use Rattle.xc_data.specs.declared.claim.Mode.{Mode}
 use Rattle.xc_data.specs.declared.claim.Mode.TheVariants.{Shared, Exclusive}
-use Rattle.xc_data.specs.Claims.{is_object, is_exclusive, exclusive, compatible, objects, owned, owned_object, holding, holding_one, held_of}
-use Rattle.xc_txmem.specs.Overlay.{overlaid}
-use Rattle.xc_world.specs.World.{World}
+use Rattle.xc_data.specs.Claims.{is_object, is_exclusive, exclusive, compatible, objects, owned, holding, holding_one, held_of}
 use Rattle.xc_world.specs.Laws.{AgreeAt}
 use Rattle.xc_world.specs.Own.{IsNumbered, AgreeOn}
 use Rattle.xc_world.proofs.Objects.{same_object, found, agree_on}
 use Rattle.xc_world.proofs.Calls.{keeps_itself}
 use Rattle.xc_world.proofs.Bodies.{objects_append, owned_append}
 use Rattle.xc_world.proofs.Holding.{has, held_seen, held_owned}
-use Rattle.xc_flight.specs.Active.{Tx, Phase, Running, Has, Own, Covers, HoldTheSame, IsBelow}
-use Rattle.xc_flight.specs.Flight.{ran, left, returned, IsPhase, IsRunning, Inside, Flight}
+use Rattle.xc_flight.specs.Active.{Tx, Running, Has, Own, Covers, HoldTheSame, IsBelow}
+use Rattle.xc_flight.specs.Flight.{ran, left, returned, IsPhase}
 use Rattle.xc_flight.specs.Standing.{Standing, active_at, IsActive, HasSome, OwnSome, HasAt, OwnAt, InFlight, turned}
-use Rattle.xc_flight.specs.Turns.{claiming, IsOpen, GoTogether, IsGranted, AreCompatible}
-use Rattle.xc_flight.proofs.Basics.{has_decide, own_decide, owns_has}
+use Rattle.xc_flight.specs.Turns.{claiming, GoTogether, IsGranted, AreCompatible}
+use Rattle.xc_flight.proofs.Basics.{own_decide, owns_has}
 use Rattle.xc_flight.proofs.Frames.{left_keeps}
-use Rattle.xc_flight.proofs.Moving.{has_it, own_it, it_has, it_owns, below_more}
-use Rattle.xc_flight.proofs.Rows.{Grows, goes_on_with}
+use Rattle.xc_flight.proofs.Moving.{has_it, own_it, it_owns}
+use Rattle.xc_flight.proofs.Rows.{goes_on_with}
 use Rattle.xc_flight.proofs.Calling.{is_running, covers_both}
 
 -- ---- what is held with new claims

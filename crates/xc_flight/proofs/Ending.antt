@@ -1,6 +1,6 @@
 -- A commit, its late calls, and its entry.
-use Rattle.std.proofs.Common.{◌≡◌, ◌≢◌, ℕ, ◌≤◌, ⊎_elim, Bool, true, false, ◌&&◌, List, [], ◌∷◌, ◌++◌, zero, suc, length, take, Some, ap, ap₂, sym, ◌∙◌, subst, refl, arith}
-use Rattle.std.specs.Prelude.{All, Contains, IsTrue}
+use Rattle.std.proofs.Common.{◌≡◌, ℕ, ◌≤◌, Bool, true, false, ◌&&◌, List, [], ◌∷◌, ◌++◌, zero, suc, length, take, Some, ap, ap₂, sym, ◌∙◌, subst, refl, arith}
+use Rattle.std.specs.Prelude.{All, IsTrue}
 use Rattle.std.proofs.lemmas.List.{take_all}
 use Rattle.std.proofs.lemmas.List.Elements.{All-head, All-tail, All-contains}
 use Rattle.xc_data.specs.declared.object.Object.{Object}
@@ -13,14 +13,13 @@ use Rattle.xc_world.specs.Late.{late}
 use Rattle.xc_world.specs.Fits.{late_fits, late_answer_of}
 use Rattle.xc_world.specs.Run.{Ran, goes_on as body_goes_on, run, lates, lates_fit, late_asked_of, asked_of}
 use Rattle.xc_world.specs.Laws.{AgreeAt, EndsAlike, late_objects}
-use Rattle.xc_world.specs.Own.{AgreeOn, KeepsBut, LooksWithin}
-use Rattle.xc_world.proofs.Objects.{agree_back, agree_on}
-use Rattle.xc_world.proofs.LocalParts.{agree_itself}
+use Rattle.xc_world.specs.Own.{AgreeOn, LooksWithin}
+use Rattle.xc_world.proofs.Objects.{agree_back}
 use Rattle.xc_world.proofs.LocalLate.{late_alike}
 use Rattle.xc_world.proofs.Calls.{agreed, still_agree, keeps_itself}
 use Rattle.xc_world.proofs.Runs.{late_keeps, late_fits_alike}
-use Rattle.xc_flight.specs.Active.{Tx, Phase, Running, Committing, Has, Own}
-use Rattle.xc_flight.specs.Flight.{noted, ran, late_done, done_late, left, returned, IsRunning, IsCommitting, IsPhase, Inside, Flight}
+use Rattle.xc_flight.specs.Active.{Tx, Running, Committing, Has, Own}
+use Rattle.xc_flight.specs.Flight.{noted, ran, late_done, left, returned, IsCommitting, IsPhase, Inside}
 use Rattle.xc_flight.specs.Standing.{Standing, IsActive, InFlight, turned, entered}
 use Rattle.xc_flight.specs.Turns.{seen, in_phase, IsDoneLate, with_end}
 use Rattle.xc_flight.proofs.Basics.{owns_has}

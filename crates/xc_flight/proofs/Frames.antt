@@ -1,7 +1,7 @@
 -- A transaction's flight depends on what it has alone.
-use Rattle.std.proofs.Common.{◌≡◌, ◌≢◌, ℕ, ◌⊎◌, inl, inr, ⊎_elim, List, [], ◌∷◌, ◌++◌, Option, ap, ap₂, sym, ◌∙◌, subst, refl}
+use Rattle.std.proofs.Common.{◌≡◌, ◌≢◌, ℕ, inl, inr, ⊎_elim, List, [], ◌∷◌, ◌++◌, Option, ap, sym, ◌∙◌, subst, refl}
 use Rattle.std.specs.Prelude.{All, Contains, IsTrue, length, take, map, slice_get}
-use Rattle.std.specs.List.{filter_map, cons_option}
+use Rattle.std.specs.List.{cons_option}
 use Rattle.std.specs.declared.option.Option.TheVariants.{None, Some}
 use Rattle.std.proofs.lemmas.List.Elements.{All-weaker, All-take, All-head, All-tail, All-nil, All-cons, All-append}
 use Rattle.std.proofs.lemmas.List.Sums.{fold-append}
@@ -16,13 +16,13 @@ use Rattle.xc_data.specs.Standing.{objects_of, stands_from}
 use Rattle.xc_txmem.specs.Overlay.{overlaid}
 use Rattle.xc_world.specs.World.{World}
 use Rattle.xc_world.specs.Fits.{late_answer_of}
-use Rattle.xc_world.specs.Run.{Ran, begins, step, goes_on, given_back, body, body_fits, lates, lates_fit, asked_of, late_asked_of}
-use Rattle.xc_world.specs.Ends.{Ending, standing_of, remains, with_remains}
+use Rattle.xc_world.specs.Run.{Ran, begins, step, given_back, body, body_fits, lates, lates_fit, asked_of, late_asked_of}
+use Rattle.xc_world.specs.Ends.{Ending, standing_of, remains}
 use Rattle.xc_world.specs.Effects.{whole}
 use Rattle.xc_world.specs.Laws.{AgreeAt, late_objects}
 use Rattle.xc_world.specs.Sound.{IsFree}
 use Rattle.xc_data.specs.Claims.{objects}
-use Rattle.xc_world.specs.Own.{IsNumbered, Sees, Owns, AgreeOn, KeepsBut, LooksWithin, SpeaksOfOwn, late_changes}
+use Rattle.xc_world.specs.Own.{Sees, Owns, AgreeOn, KeepsBut, LooksWithin, SpeaksOfOwn, late_changes}
 use Rattle.xc_world.proofs.Objects.{agree_back, agree_on}
 use Rattle.xc_world.proofs.LocalParts.{agree_itself}
 use Rattle.xc_world.proofs.Bodies.{Alike, begin_alike, goes_on_alike, on_fits_alike, keeps_touched, keeps_more, keeps_on, body_keeps}
@@ -30,8 +30,8 @@ use Rattle.xc_world.proofs.Records.{IsOf, remains_agree, remains_keep}
 use Rattle.xc_world.proofs.Runs.{Within, EndAlike, lates_alike, lates_keep}
 use Rattle.xc_world.proofs.Trails.{body_speaks}
 use Rattle.xc_flight.specs.Active.{Tx, Phase, Running, Committing, Undoing, Has, Own, Covers, num}
-use Rattle.xc_flight.specs.Flight.{noted, ran, asked, late_done, done_late, effects, left, returned, IsRunning, IsCommitting, IsPhase, Inside, Flight}
-use Rattle.xc_flight.proofs.Basics.{has_decide, own_decide, owns_has, sees_has, owns_own}
+use Rattle.xc_flight.specs.Flight.{noted, ran, asked, late_done, effects, left, returned, IsPhase, Inside, Flight}
+use Rattle.xc_flight.proofs.Basics.{has_decide, owns_has, sees_has, owns_own}
 use Rattle.xc_flight.proofs.Worlds.{words_agree, words_same, overlaid_other, overlaid_alike, given_alike}
 
 -- ---- what a body left, by what its transaction has and owns

@@ -11,3 +11,4 @@ pub mod Undoing
 pub mod Claiming
 pub mod Sounding
 pub mod Together
+pub mod Examples

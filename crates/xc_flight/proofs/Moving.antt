@@ -1,6 +1,6 @@
 -- A move of one transaction keeps what is true of all; and where none is active the station's world is the journal's.
-use Rattle.std.proofs.Common.{◌≡◌, ◌≢◌, ℕ, ◌<◌, ◌≤◌, ◌⊎◌, inl, inr, ⊎_elim, suc, zero, List, [], ◌∷◌, Option, Some, None, get_or, ap, sym, ◌∙◌, subst, refl, arith}
-use Rattle.std.specs.Prelude.{slice_get, slice_set, length}
+use Rattle.std.proofs.Common.{◌≡◌, ◌≢◌, ℕ, ◌<◌, ◌≤◌, ◌⊎◌, inr, ⊎_elim, suc, zero, List, [], ◌∷◌, Option, Some, None, get_or, ap, sym, ◌∙◌, subst, refl, arith}
+use Rattle.std.specs.Prelude.{slice_set, length}
 use mathlib.Core.Logic.{dite}
 use native.Mathlib.Decide.{ℕ_discrete}
 use Rattle.std.specs.FinMap as map
@@ -10,14 +10,12 @@ use Rattle.xc_maps.proofs.Maps.{num_total, num_exact}
 use Rattle.xc_data.specs.declared.object.Object.{Object}
 use Rattle.xc_data.specs.declared.object.Object.TheVariants as object
 use Rattle.xc_world.specs.World.{World}
-use Rattle.xc_world.specs.Sound.{IsFree}
 use Rattle.xc_world.specs.Laws.{AgreeAt}
-use Rattle.xc_world.specs.Own.{KeepsBut}
 use Rattle.xc_world.proofs.Objects.{agree_back, agree_on}
-use Rattle.xc_flight.specs.Active.{Tx, Has, Own, num, IsBelow}
+use Rattle.xc_flight.specs.Active.{Tx, Has, Own, IsBelow}
 use Rattle.xc_flight.specs.Flight.{Flight}
 use Rattle.xc_flight.specs.Standing.{Standing, active_at, IsActive, HasSome, OwnSome, HasAt, OwnAt, InFlight, Move}
-use Rattle.xc_flight.proofs.Basics.{has_decide, own_decide, owns_has}
+use Rattle.xc_flight.proofs.Basics.{own_decide, owns_has}
 use Rattle.xc_flight.proofs.Worlds.{words_same}
 use Rattle.xc_flight.proofs.Frames.{flight_kept}
 

@@ -1,28 +1,24 @@
 -- A transaction begins, goes on, claims or ends.
-use Rattle.std.proofs.Common.{◌≡◌, ◌≢◌, ℕ, ◌+◌, ◌<◌, ◌≤◌, ◌⊎◌, inl, inr, ⊎_elim, List, [], ◌∷◌, ◌++◌, zero, suc, Option, Some, None, get_or, true, false, ap, sym, ◌∙◌, subst, refl, arith}
-use Rattle.std.specs.Prelude.{All, Contains, slice_set, length}
-use Rattle.std.proofs.lemmas.List.Elements.{All-nil, All-weaker}
-use mathlib.Core.Logic.{dite}
-use native.Mathlib.Decide.{ℕ_discrete}
+use Rattle.std.proofs.Common.{◌≡◌, ◌≢◌, ℕ, ◌+◌, ◌<◌, ◌≤◌, inl, inr, List, [], ◌∷◌, ◌++◌, zero, suc, Option, Some, None, get_or, ap, sym, ◌∙◌, subst, refl, arith}
+use Rattle.std.specs.Prelude.{slice_set, length}
+use Rattle.std.proofs.lemmas.List.Elements.{All-nil}
 use Rattle.xc_data.specs.declared.object.Object.{Object}
 use Rattle.xc_data.specs.declared.object.Object.TheVariants as object
 use Rattle.xc_data.specs.declared.private.Private.{Private}
-use Rattle.xc_data.specs.declared.claim.Claim.{Claim}
-use Rattle.xc_data.specs.Claims.{objects, owned}
+use Rattle.xc_data.specs.Claims.{owned}
 use Rattle.xc_world.specs.World.{World}
 use Rattle.xc_world.specs.Sound.{IsFree}
 use Rattle.xc_world.specs.Laws.{AgreeAt}
 use Rattle.xc_world.specs.Own.{IsNumbered, Sees, Owns, KeepsBut, AgreeOn}
-use Rattle.xc_world.proofs.Objects.{agree_back, agree_on}
 use Rattle.xc_world.proofs.LocalParts.{agree_itself}
 use Rattle.xc_world.proofs.Calls.{keeps_itself}
 use Rattle.xc_world.proofs.Bodies.{keeps_more}
-use Rattle.xc_flight.specs.Active.{Tx, Phase, Running, Has, Own, Covers, num, IsBelow}
-use Rattle.xc_flight.specs.Flight.{left, returned, IsPhase, Inside, Flight}
-use Rattle.xc_flight.specs.Standing.{Standing, active_at, IsActive, HasSome, OwnSome, HasAt, OwnAt, InFlight, Move, turned, entered}
+use Rattle.xc_flight.specs.Active.{Tx, Has, Own, num, IsBelow}
+use Rattle.xc_flight.specs.Flight.{Inside, Flight}
+use Rattle.xc_flight.specs.Standing.{Standing, active_at, IsActive, HasSome, OwnSome, HasAt, OwnAt, InFlight, turned, entered}
 use Rattle.xc_flight.specs.Turns.{starting}
-use Rattle.xc_flight.proofs.Basics.{own_decide, owns_has}
-use Rattle.xc_flight.proofs.Moving.{moved, has_it, own_it, it_has, it_owns, own_at_has, below_more, get_set_same, get_set_other, is_inside, one_active}
+use Rattle.xc_flight.proofs.Basics.{owns_has}
+use Rattle.xc_flight.proofs.Moving.{moved, has_it, own_it, it_has, it_owns, own_at_has, get_set_same, get_set_other, is_inside, one_active}
 
 numbered_low : (n next : ℕ) (o : Object) → n < next → IsNumbered n o → IsBelow next o
 numbered_low n next (object.File q) lt e = omega (arith, lt, e)
@@ -106,9 +102,9 @@ ends s job t state now h active model host owned =
       names = λ o e. absurd (subst (λ x. HasSome x o) none e);
       rises = omega arith;
       future = λ m k le. (let f = h.future m k le in record {
-          file = sym (away (object.File (num m k)) (λ lt. omega (arith, lt, le))) ∙ f.file;
-          pipe = sym (away (object.Pipe (num m k)) (λ lt. omega (arith, lt, le))) ∙ f.pipe;
-          pair = sym (away (object.Pair (num m k)) (λ lt. omega (arith, lt, le))) ∙ f.pair;
+        file = sym (away (object.File (num m k)) (λ lt. omega (arith, lt, le))) ∙ f.file;
+        pipe = sym (away (object.Pipe (num m k)) (λ lt. omega (arith, lt, le))) ∙ f.pipe;
+        pair = sym (away (object.Pair (num m k)) (λ lt. omega (arith, lt, le))) ∙ f.pair;
       });
     })
 

@@ -1,5 +1,5 @@
 -- Soundness beside the flights: what a call touches, and the entry of a commit.
-use Rattle.std.proofs.Common.{◌≡◌, ◌≢◌, ℕ, ◌<◌, ◌≤◌, ◌⊎◌, inl, inr, ⊎_elim, Bool, true, false, is_some, List, [], ◌∷◌, ◌++◌, Option, Some, None, ap, sym, ◌∙◌, subst, refl, arith}
+use Rattle.std.proofs.Common.{◌≡◌, ◌≢◌, ℕ, ◌<◌, ◌≤◌, inr, ⊎_elim, Bool, true, false, List, [], ◌∷◌, ◌++◌, None, ap, sym, ◌∙◌, subst, refl, arith}
 use Rattle.std.specs.Prelude.{All, Contains, IsTrue, nat_eq, if◌then◌else◌}
 use Rattle.std.specs.Cmp.Lexicographic.{pointwise}
 use mathlib.Core.Logic.{dite}
@@ -35,9 +35,9 @@ use Rattle.xc_world.proofs.Sound.{act_sound}
 use Rattle.xc_world.proofs.SoundLate.{late_sound}
 use Rattle.xc_world.proofs.SoundReady.{act_keeps_ready, act_leaves_ready, late_keeps_ready}
 use Rattle.xc_world.proofs.EffectsBody.{body-sound, body-others_sound}
-use Rattle.xc_flight.specs.Active.{Tx, Running, Committing, Has, Own, num, IsBelow}
-use Rattle.xc_flight.specs.Flight.{noted, ran, asked, IsCommitting, IsPhase, Inside, Flight}
-use Rattle.xc_flight.specs.Standing.{Standing, active_at, IsActive, InFlight, AreSound, IsIdleSound, entered}
+use Rattle.xc_flight.specs.Active.{Tx, Committing, Has, num, IsBelow}
+use Rattle.xc_flight.specs.Flight.{noted, ran, asked, IsCommitting, IsPhase, Inside}
+use Rattle.xc_flight.specs.Standing.{Standing, IsActive, InFlight, AreSound, IsIdleSound, entered}
 use Rattle.xc_flight.specs.Turns.{IsOpen}
 use Rattle.xc_flight.proofs.Basics.{owns_has}
 use Rattle.xc_flight.proofs.Frames.{ran_whole, ran_keeps, answered}

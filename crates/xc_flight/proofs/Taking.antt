@@ -1,14 +1,12 @@
 -- What a body took from pipes and pairs: it owns them, and made none of them.
-use Rattle.std.proofs.Common.{◌≡◌, ◌≢◌, ℕ, ◌+◌, ◌<◌, ◌≤◌, ◌==◌, ◌⊎◌, inl, inr, ⊎_elim, Bool, true, false, Some, None, Option, List, [], ◌∷◌, ◌++◌, length, ap, ap₂, sym, ◌∙◌, subst, refl, arith}
-use Rattle.std.specs.Prelude.{All, Contains, IsTrue, unwrap_or, map, if◌then◌else◌}
+use Rattle.std.proofs.Common.{◌≡◌, ℕ, ◌+◌, ◌<◌, ◌≤◌, ◌==◌, ◌⊎◌, inl, inr, Bool, true, false, Some, None, Option, List, [], ◌∷◌, ◌++◌, length, ap, sym, ◌∙◌, subst, refl, arith}
+use Rattle.std.specs.Prelude.{All, unwrap_or, if◌then◌else◌}
 use Rattle.std.specs.FinMap as finite
-use Rattle.std.proofs.lemmas.List.{append-nil, length-append}
+use Rattle.std.proofs.lemmas.List.{length-append}
 use Rattle.std.proofs.lemmas.List.Elements.{All-nil, All-cons, All-head, All-tail, All-weaker, All-append}
 use Rattle.xc_maps.proofs.Maps.{num_total, num_exact}
 use Rattle.xc_maps.proofs.Laws.{get-insert_same, get-insert_cases}
 use Rattle.xc_data.specs.declared.object.Num.{Num}
-use Rattle.xc_data.specs.declared.object.Object.{Object}
-use Rattle.xc_data.specs.declared.object.Object.TheVariants as object
 use Rattle.xc_data.specs.declared.call.Call.{Call}
 use Rattle.xc_data.specs.declared.call.Call.TheVariants as call
 use Rattle.xc_data.specs.declared.call.Asked.{Asked}
@@ -24,21 +22,20 @@ use Rattle.xc_data.specs.declared.private.Private.{Private}
 use Rattle.xc_data.specs.Private.{place_of}
 use Rattle.xc_data.specs.Standing.{objects_of}
 use Rattle.xc_world.specs.World.{World, Pipe, Pair, pipe_of, pair_of, empty_pipe, empty_pair, waiting, with_waiting}
-use Rattle.xc_world.specs.Run.{Ran, begins, step, goes_on, body, body_fits, bytes_taken, message_taken, taken_by, gives, given_back}
+use Rattle.xc_world.specs.Run.{Ran, begins, step, goes_on, bytes_taken, message_taken, taken_by, gives, given_back}
 use Rattle.xc_world.specs.Trail.{recorded, with_effect, move_name, overwrite_record, append_record, create_record, rename_record, pipe_record, pair_record}
 use Rattle.xc_world.specs.Ends.{with_remains}
 use Rattle.xc_world.specs.Effects.{whole}
 use Rattle.xc_world.specs.Sound.{IsSound, IsFree}
 use Rattle.xc_world.specs.Laws.{AgreeAt}
-use Rattle.xc_world.specs.Own.{IsNumbered, KeepsBut}
-use Rattle.xc_world.proofs.Objects.{agree_back, agree_on}
+use Rattle.xc_world.specs.Own.{IsNumbered}
 use Rattle.xc_world.proofs.Records.{remains_keep}
 use Rattle.xc_world.proofs.Taken.{body_returns}
 use Rattle.xc_world.proofs.EffectsParts.{remains-words}
 use Rattle.xc_flight.specs.Active.{Tx, Own, num}
-use Rattle.xc_flight.specs.Flight.{noted, ran, asked, effects, Inside}
-use Rattle.xc_flight.proofs.Basics.{own_decide, numbered_decide}
-use Rattle.xc_flight.proofs.Worlds.{item_object, given_alike, given_words}
+use Rattle.xc_flight.specs.Flight.{ran, asked, Inside}
+use Rattle.xc_flight.proofs.Basics.{own_decide}
+use Rattle.xc_flight.proofs.Worlds.{item_object}
 use Rattle.xc_flight.proofs.Frames.{ran_whole, ran_keeps, trail_own, whole_of}
 
 -- ---- bytes that were taken are some

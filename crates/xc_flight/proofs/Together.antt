@@ -16,7 +16,7 @@ use Rattle.xc_world.specs.World.{World, beginning}
 use Rattle.xc_world.specs.Fits.{fits}
 use Rattle.xc_world.specs.Touch.{touch}
 use Rattle.xc_world.specs.Modes.{mode_of, claims_of}
-use Rattle.xc_world.specs.Ends.{Ending, remains, with_remains}
+use Rattle.xc_world.specs.Ends.{remains, with_remains}
 use Rattle.xc_world.specs.Effects.{AreMadeIn}
 use Rattle.xc_world.specs.Sound.{IsSound}
 use Rattle.xc_world.proofs.EffectsRemains.{remains-sound}

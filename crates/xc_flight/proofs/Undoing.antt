@@ -1,6 +1,6 @@
 -- A turn back, want of memory behind a call, a compensation, and the entry of an abort.
-use Rattle.std.proofs.Common.{◌≡◌, ◌≢◌, ℕ, ◌⊎◌, inl, inr, ⊎_elim, List, [], ◌∷◌, ◌++◌, length, Some, append_assoc, ap, ap₂, sym, ◌∙◌, subst, refl, arith}
-use Rattle.std.specs.Prelude.{All, Contains, IsTrue, map}
+use Rattle.std.proofs.Common.{◌≡◌, ◌≢◌, ℕ, ⊎_elim, List, [], ◌∷◌, ◌++◌, length, Some, append_assoc, ap, sym, ◌∙◌, subst, refl}
+use Rattle.std.specs.Prelude.{All, Contains, map}
 use Rattle.std.proofs.lemmas.List.{append-nil}
 use Rattle.std.proofs.lemmas.List.Elements.{All-nil, All-cons, All-head, All-tail, All-weaker, All-contains, All-contains_itself}
 use Rattle.xc_data.specs.declared.object.Num.{Num}
@@ -14,20 +14,19 @@ use Rattle.xc_data.specs.declared.undo.Undo.TheVariants as undo
 use Rattle.xc_data.specs.declared.undo.UndoEnd.{UndoEnd}
 use Rattle.xc_data.specs.Standing.{objects_of}
 use Rattle.xc_world.specs.World.{World}
-use Rattle.xc_world.specs.Run.{Ran, step, given_back, body_fits, asked_of}
+use Rattle.xc_world.specs.Run.{given_back}
 use Rattle.xc_world.specs.Ends.{Ending, remains, with_remains}
 use Rattle.xc_world.specs.Effects.{whole, undone_to}
 use Rattle.xc_world.specs.Sound.{IsSound}
 use Rattle.xc_world.specs.Laws.{AgreeAt, GoAlike}
-use Rattle.xc_world.specs.Own.{IsNumbered, AgreeOn, KeepsBut}
+use Rattle.xc_world.specs.Own.{IsNumbered, AgreeOn}
 use Rattle.xc_world.proofs.Objects.{agree_back, agree_on, decide}
-use Rattle.xc_world.proofs.LocalParts.{agree_itself}
 use Rattle.xc_world.proofs.Calls.{keeps_itself}
 use Rattle.xc_world.proofs.Records.{undone_to_alike}
-use Rattle.xc_flight.specs.Active.{Tx, Phase, Running, Undoing, Has, Own, Covers}
-use Rattle.xc_flight.specs.Flight.{noted, ran, asked, effects, left, returned, IsPhase, Inside, Flight}
+use Rattle.xc_flight.specs.Active.{Tx, Running, Undoing, Own}
+use Rattle.xc_flight.specs.Flight.{ran, effects, left, returned, IsPhase, Inside}
 use Rattle.xc_flight.specs.Standing.{Standing, IsActive, InFlight, turned, entered}
-use Rattle.xc_flight.specs.Turns.{in_phase, MayDo, wanting, after_call, leaving, with_undone}
+use Rattle.xc_flight.specs.Turns.{in_phase, MayDo, wanting, after_call, with_undone}
 use Rattle.xc_flight.proofs.Basics.{owns_has}
 use Rattle.xc_flight.proofs.Worlds.{item_object, given_alike, given_away, given_words, given_blocks}
 use Rattle.xc_flight.proofs.Frames.{trail_own, left_keeps, all_front}

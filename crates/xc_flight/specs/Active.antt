@@ -1,5 +1,5 @@
 -- An active transaction as plain data, and what it has and owns.
-use Rattle.std.specs.Prelude.{◌⊎◌, ℕ, ◌<◌, List, [], Contains}
+use Rattle.std.specs.Prelude.{ℕ, ◌<◌, List, Contains}
 use Rattle.xc_data.specs.declared.object.Num.{Num}
 use Rattle.xc_data.specs.declared.object.Object.{Object}
 use Rattle.xc_data.specs.declared.object.Object.TheVariants as object

@@ -1,6 +1,28 @@
-//! Several transactions in flight over the plain machine's world.
+//! Several active transactions in flight over one world: what is true of all of them at each moment,
+//! and that each turn of one keeps it. Plain data and laws, with no code; a station is built over it.
+//! It needs no host and no table of claims: what a transaction has is read off the claims it holds.
+//!
+//! 1. The journal's state S is the world after the transactions that entered, one after another.
+//! 2. The station's world is its words with what is outside. Active transactions have changed it.
+//! 3. A transaction has what it holds, and owns what it holds exclusively or made itself.
+//! 4. What one owns no other has. What nobody owns is in the station as it is in S.
+//! 5. The body of each active one, run on S alone, gives what it noted: replies, records, late calls.
+//! 6. What it owns is in the station as that body left it; its stores wait until it commits.
+//! 7. While it undoes, what it took from pipes and pairs is still to be given back.
+//! 8. A turn changes only what its transaction owns, so all others fly on as if it weren't there.
+//! 9. An entry makes S what its run or its remains tell; so the order of entries is a serial order.
+//! 10. Where nobody is active, the station's world is S.
+//!
+//! ```text
+//!             reads only          owns
+//!   1   [ file b, word 0 ]   [ file a, word 1, pipe 1.0 ]      both read file b and word 0,
+//!   2   [ file b, word 0 ]   [ word 2, name "x" ]              which are in the station as in S
+//!
+//!   S         file a   file b   word 0   word 1   word 2   name "x"
+//!   station   by 1     as S     as S     as S *   as S *   by 2         * the stores wait
+//! ```
 #![tactic(auto)]
 
-mod laws;
-
-pub use laws::{a_step_keeps_all, an_abort_keeps_idle_jobs_sound, an_abort_keeps_others_sound, a_begin_keeps_all_sound, a_step_keeps_all_sound, a_call_with_claims_keeps_all, claims_without_a_rival_may_be_granted, two_turns_are_one, a_call_touches_no_new_object_of_another, a_commit_keeps_others_sound, a_commit_keeps_idle_jobs_sound, a_commit_leaves_its_job_sound, compatible_claims_are_apart, a_claim_keeps_all, merged_claims_hold_the_same, a_turn_back_keeps_all, a_call_without_memory_keeps_all, a_compensation_keeps_all, an_abort_enters, a_commit_keeps_all, a_late_call_keeps_all, a_commit_enters, a_call_keeps_all, what_one_has_it_sees, a_begin_keeps_all, a_job_more_keeps_all, an_opening_is_in_flight, all_fly_on, at_rest_all_is_as_the_journal_says, others_fly_on};
+pub mod flying;
+pub mod soundness;
+pub mod turns;

@@ -1,5 +1,0 @@
-use Rattle.xc_flight.proofs.Rows.{begins}
-use Rattle.xc_flight.proofs.laws.a_begin_keeps_all.Goals as goal
-
-pub returns : goal.returns
-returns c = begins

@@ -1,5 +1,0 @@
-use Rattle.xc_flight.proofs.Calling.{called}
-use Rattle.xc_flight.proofs.laws.a_call_keeps_all.Goals as goal
-
-pub returns : goal.returns
-returns c = λ s job t asked writes h active phase k d. called s job t asked writes h active phase k d

@@ -1,5 +1,0 @@
-use Rattle.xc_flight.proofs.Together.{called_with_claims}
-use Rattle.xc_flight.proofs.laws.a_call_with_claims_keeps_all.Goals as goal
-
-pub returns : goal.returns
-returns c = called_with_claims

@@ -1,5 +1,0 @@
-use Rattle.xc_flight.proofs.Undoing.{wants}
-use Rattle.xc_flight.proofs.laws.a_call_without_memory_keeps_all.Goals as goal
-
-pub returns : goal.returns
-returns c = wants

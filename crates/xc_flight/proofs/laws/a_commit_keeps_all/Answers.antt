@@ -1,5 +1,0 @@
-use Rattle.xc_flight.proofs.Ending.{commits}
-use Rattle.xc_flight.proofs.laws.a_commit_keeps_all.Goals as goal
-
-pub returns : goal.returns
-returns c = commits

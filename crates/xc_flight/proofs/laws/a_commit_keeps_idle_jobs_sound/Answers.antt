@@ -1,5 +1,0 @@
-use Rattle.xc_flight.proofs.Sounding.{idle_after}
-use Rattle.xc_flight.proofs.laws.a_commit_keeps_idle_jobs_sound.Goals as goal
-
-pub returns : goal.returns
-returns c = λ s job t places h sound active phase. idle_after s job t h sound active phase places

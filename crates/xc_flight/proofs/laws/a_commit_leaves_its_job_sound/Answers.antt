@@ -1,5 +1,0 @@
-use Rattle.xc_flight.proofs.Sounding.{own_after}
-use Rattle.xc_flight.proofs.laws.a_commit_leaves_its_job_sound.Goals as goal
-
-pub returns : goal.returns
-returns c = λ s job t now h sound active phase. own_after s job t h sound active phase now

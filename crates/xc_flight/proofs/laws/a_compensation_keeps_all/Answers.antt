@@ -1,5 +1,0 @@
-use Rattle.xc_flight.proofs.Undoing.{undoes}
-use Rattle.xc_flight.proofs.laws.a_compensation_keeps_all.Goals as goal
-
-pub returns : goal.returns
-returns c = λ s job t older u end h active phase sound newest. undoes s job t older u end h active phase sound newest

@@ -1,5 +1,0 @@
-use Rattle.xc_flight.proofs.Ending.{does_late}
-use Rattle.xc_flight.proofs.laws.a_late_call_keeps_all.Goals as goal
-
-pub returns : goal.returns
-returns c = λ s job t call answer h active phase k. does_late s job t call answer h active phase k

@@ -1,5 +1,0 @@
-use Rattle.xc_flight.proofs.Undoing.{turns_back}
-use Rattle.xc_flight.proofs.laws.a_turn_back_keeps_all.Goals as goal
-
-pub returns : goal.returns
-returns c = turns_back

@@ -1,5 +1,0 @@
-use Rattle.xc_flight.proofs.Moving.{moved}
-use Rattle.xc_flight.proofs.laws.all_fly_on.Goals as goal
-
-pub returns : goal.returns
-returns c = moved

@@ -1,5 +1,0 @@
-use Rattle.xc_flight.proofs.Together.{abort_sound}
-use Rattle.xc_flight.proofs.laws.an_abort_keeps_others_sound.Goals as goal
-
-pub returns : goal.returns
-returns c = abort_sound

@@ -1,5 +1,0 @@
-use Rattle.xc_flight.proofs.Together.{call_granted}
-use Rattle.xc_flight.proofs.laws.claims_without_a_rival_may_be_granted.Goals as goal
-
-pub returns : goal.returns
-returns c = call_granted

@@ -1,5 +1,0 @@
-use Rattle.xc_flight.proofs.Claiming.{claims_apart}
-use Rattle.xc_flight.proofs.laws.compatible_claims_are_apart.Goals as goal
-
-pub returns : goal.returns
-returns c = claims_apart

@@ -1,5 +1,0 @@
-use Rattle.xc_flight.proofs.Claiming.{merged_held}
-use Rattle.xc_flight.proofs.laws.merged_claims_hold_the_same.Goals as goal
-
-pub returns : goal.returns
-returns c = merged_held

@@ -1,5 +1,0 @@
-use Rattle.xc_flight.proofs.Together.{two_turns}
-use Rattle.xc_flight.proofs.laws.two_turns_are_one.Goals as goal
-
-pub returns : goal.returns
-returns c = two_turns

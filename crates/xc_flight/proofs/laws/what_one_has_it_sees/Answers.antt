@@ -1,5 +1,0 @@
-use Rattle.xc_flight.proofs.Calling.{sees}
-use Rattle.xc_flight.proofs.laws.what_one_has_it_sees.Goals as goal
-
-pub returns : goal.returns
-returns c = sees
