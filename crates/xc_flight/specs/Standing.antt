@@ -1,5 +1,5 @@
 -- All active transactions together, and a move of one of them.
-use Rattle.std.specs.Prelude.{◌≡◌, ◌≢◌, ℕ, ◌<◌, ◌≤◌, List, length, get_or, slice_set, Option}
+use Rattle.std.specs.Prelude.{◌≡◌, ◌≢◌, ℕ, ◌<◌, ◌≤◌, ◌+◌, List, [], ◌∷◌, ◌++◌, length, get_or, slice_set, Option}
 use Rattle.std.specs.declared.option.Option.TheVariants.{None, Some}
 use Rattle.xc_data.specs.declared.object.Object.{Object}
 use Rattle.xc_data.specs.declared.private.Place.{Place}
@@ -7,7 +7,7 @@ use Rattle.xc_world.specs.World.{World, beginning}
 use Rattle.xc_world.specs.Sound.{IsFree, IsSound}
 use Rattle.xc_world.specs.Laws.{AgreeAt}
 use Rattle.xc_world.specs.Own.{KeepsBut}
-use Rattle.xc_flight.specs.Active.{Tx, Has, Own, num, IsBelow}
+use Rattle.xc_flight.specs.Active.{Tx, Phase, Has, Own, num, IsBelow}
 use Rattle.xc_flight.specs.Flight.{Flight}
 
 -- where several transactions stand
@@ -58,6 +58,12 @@ pub record InFlight (s : Standing) : Type 0 where
   pub names : (job : ℕ) (o : Object) → HasAt s job o → IsBelow s.next o
   pub future : (m k : ℕ) → s.next ≤ m → IsFree s.state (num m k)
 
+-- all are in flight, and this is the active transaction of the job, in this phase
+pub record Flies (s : Standing) (job : ℕ) (t : Tx) (stage : Phase) : Type 0 where
+  pub all : InFlight s
+  pub active : IsActive s job t
+  pub phase : t.phase ≡ stage
+
 -- the transaction of one job begins, goes on or ends
 pub record Move (s s' : Standing) (job : ℕ) : Type 0 where
   -- S and the station's world change at most where it owned something
@@ -79,9 +85,13 @@ pub record Move (s s' : Standing) (job : ℕ) : Type 0 where
   pub future : (m k : ℕ) → s'.next ≤ m → IsFree s'.state (num m k)
 
 -- ---- beside the flights
--- S is sound for each active transaction's begin
+-- the world is sound for a transaction's begin
+abbrev pub IsSoundFor : World → Tx → Type 0
+IsSoundFor w t = IsSound w t.began t.number
+
+-- S is, for each active one
 abbrev pub AreSound : Standing → Type 0
-AreSound s = (job : ℕ) (t : Tx) → IsActive s job t → IsSound s.state t.began t.number
+AreSound s = (job : ℕ) (t : Tx) → IsActive s job t → IsSoundFor s.state t
 
 -- a job with these handles may begin its next transaction
 abbrev pub IsIdleSound : World → ℕ → List Place → Type 0
@@ -92,6 +102,14 @@ IsIdleSound w next places = (m : ℕ) → next ≤ m → IsSound w (beginning pl
 abbrev pub turned : Standing → ℕ → Option Tx → World → Standing
 turned s job t now = record s { now = now; active = slice_set s.active job t }
 
--- and the journal's state is this, the job having none any more
+-- the job has an active transaction, and its number is given
+abbrev pub begun : Standing → ℕ → Tx → Standing
+begun s job t = record s { active = slice_set s.active job (Some t); next = s.next + 1 }
+
+-- the journal's state is this too, and the job has none any more
 abbrev pub entered : Standing → ℕ → World → World → Standing
 entered s job state now = record s { state = state; now = now; active = slice_set s.active job None }
+
+-- a job more, which has none
+abbrev pub joined : Standing → Standing
+joined s = record s { active = s.active ++ None ∷ [] }

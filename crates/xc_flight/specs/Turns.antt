@@ -19,6 +19,8 @@ use Rattle.xc_world.specs.Late.{kept_call, late}
 use Rattle.xc_world.specs.Fits.{fits, late_fits, answer_of, late_answer_of}
 use Rattle.xc_world.specs.Trail.{recorded}
 use Rattle.xc_world.specs.Modes.{claims_of}
+use Rattle.xc_world.specs.Run.{run, asked_of}
+use Rattle.xc_world.specs.Ends.{remains, with_remains}
 use Rattle.xc_world.specs.Own.{IsNumbered}
 use Rattle.xc_flight.specs.Active.{Tx, Phase, Running, Undoing, Has, Own, Covers, IsBelow}
 use Rattle.xc_flight.specs.Standing.{Standing, IsActive}
@@ -139,3 +141,12 @@ pub record IsDoneLate (now : World) (t : Tx) (call : LateCall) (answer : LateAns
 -- the newest record without an end has this one
 abbrev pub with_undone : Tx → List Undo → Undo → UndoEnd → Tx
 with_undone t older u end = record t { pending = older; ended = (u, end) ∷ t.ended }
+
+-- ---- its entry
+-- S behind the entry of a commit: its body and its late calls are run
+abbrev pub after_commit : World → Tx → World
+after_commit w t = (run w t.began t.number (asked_of t.calls t.replies) t.late_ends).late.world
+
+-- S behind the entry of an abort: what remains of its records is there
+abbrev pub after_abort : World → Tx → World
+after_abort w t = with_remains w (remains t.ended)

@@ -1,4 +1,4 @@
-ghost use Rattle.std.specs.Prelude.{◌≡◌, ◌<◌, ◌+◌, ◌++◌, ◌∷◌, [], ℕ, List, IsTrue, All, Contains, None, Some, length, slice_set};
+ghost use Rattle.std.specs.Prelude.{◌≡◌, ◌<◌, ◌+◌, ◌++◌, ◌∷◌, [], ℕ, List, IsTrue, All, Contains, None, Some, length};
 ghost use Rattle.xc_data.specs.declared.object.Object.{Object};
 ghost use Rattle.xc_world.specs.Own.{AgreeOn};
 ghost use Rattle.xc_data.specs.declared.call.Asked.{Asked};
@@ -9,7 +9,8 @@ ghost use Rattle.xc_world.specs.Modes.{claims_of};
 ghost use Rattle.xc_world.specs.Fits.{fits};
 ghost use Rattle.xc_data.specs.Claims.{holding, held_of};
 ghost use Rattle.xc_flight.specs.Active.{Tx, Own, Has, HoldTheSame, Running, Committing, Undoing};
-ghost use Rattle.xc_flight.specs.Turns.{starting, seen, claiming, IsGranted, IsOpen, HasNoRival, AreCompatible, MayDo, IsNoted, noting, after_call, in_phase, IsDoneLate, with_end, wanting, with_undone};
+ghost use Rattle.xc_flight.specs.Turns.{starting, seen, claiming, IsGranted, IsOpen, HasNoRival, AreCompatible, MayDo, IsNoted, noting};
+ghost use Rattle.xc_flight.specs.Turns.{after_call, in_phase, IsDoneLate, with_end, wanting, with_undone, after_commit, after_abort};
 ghost use Rattle.xc_data.specs.declared.undo.Undo.{Undo};
 ghost use Rattle.xc_data.specs.declared.undo.UndoEnd.{UndoEnd};
 ghost use Rattle.xc_world.specs.Ends.{remains, with_remains};
@@ -17,16 +18,15 @@ ghost use Rattle.xc_world.specs.Effects.{undone_to};
 ghost use Rattle.xc_data.specs.declared.call.LateCall.{LateCall};
 ghost use Rattle.xc_data.specs.declared.call.LateAnswer.{LateAnswer};
 ghost use Rattle.xc_world.specs.Late.{late};
-ghost use Rattle.xc_world.specs.Run.{run, asked_of, given_back};
+ghost use Rattle.xc_world.specs.Run.{run};
 ghost use Rattle.xc_data.specs.declared.private.Private.{Private};
-ghost use Rattle.xc_world.specs.Sound.{IsSound};
-ghost use Rattle.xc_flight.specs.Flight.{ran, effects};
-ghost use Rattle.xc_flight.specs.Standing.{Standing, InFlight, active_at, IsActive, turned, entered};
+ghost use Rattle.xc_flight.specs.Flight.{ran, effects, returned};
+ghost use Rattle.xc_flight.specs.Standing.{Standing, InFlight, active_at, turned, entered, Flies, begun, IsSoundFor};
 
 /// A transaction begins with the next number: it holds nothing, and owns what it will make.
 pub fn a_begin_keeps_all()
     ensures { (s : Standing) (job : ℕ) (began : Private) → InFlight s → job < length s.active → active_at s job ≡ None
-        → InFlight (record s { active = slice_set s.active job (Some (starting s.next began)); next = s.next + 1 }) }
+        → InFlight (begun s job (starting s.next began)) }
 {}
 
 /// Claims that go together keep two transactions apart.
@@ -37,13 +37,13 @@ pub fn compatible_claims_are_apart()
 /// What a call of a running transaction touches no other active one has made, and its number, where
 /// it has one, was given.
 pub fn a_call_touches_no_new_object_of_another()
-    ensures { (s : Standing) (job : ℕ) (t : Tx) → InFlight s → IsActive s job t → t.phase ≡ Running → IsSound s.state t.began t.number
+    ensures { (s : Standing) (job : ℕ) (t : Tx) → Flies s job t Running → IsSoundFor s.state t
         → (call : Call) (words : ℕ) (o : Object) → Contains (touch call t.me words) o → IsOpen s job o }
 {}
 
 /// The claims of a call of a running transaction may be granted where they have no rival.
 pub fn claims_without_a_rival_may_be_granted()
-    ensures { (s : Standing) (job : ℕ) (t : Tx) (call : Call) (words : ℕ) → InFlight s → IsActive s job t → t.phase ≡ Running → IsSound s.state t.began t.number
+    ensures { (s : Standing) (job : ℕ) (t : Tx) (call : Call) (words : ℕ) → Flies s job t Running → IsSoundFor s.state t
         → All (HasNoRival s job) (claims_of call t.me words) → All (IsGranted s job) (claims_of call t.me words) }
 {}
 
@@ -55,25 +55,26 @@ pub fn merged_claims_hold_the_same()
 /// Claims that go together with all that others hold may be granted to a running transaction: one
 /// that it holds shared becomes exclusive too.
 pub fn a_claim_keeps_all()
-    ensures { (s : Standing) (job : ℕ) (t : Tx) (claims held : List Claim) → InFlight s → IsActive s job t → t.phase ≡ Running → All (IsGranted s job) claims
+    ensures { (s : Standing) (job : ℕ) (t : Tx) (claims held : List Claim) → Flies s job t Running → All (IsGranted s job) claims
         → HoldTheSame held (t.held ++ claims) → InFlight (turned s job (Some (claiming t held)) s.now) }
 {}
 
 /// What a running transaction has it sees as its body left it.
 pub fn what_one_has_it_sees()
-    ensures { (s : Standing) (job : ℕ) (t : Tx) → InFlight s → IsActive s job t → t.phase ≡ Running → AgreeOn (Has t) (ran s.state t).world (seen s.now t) }
+    ensures { (s : Standing) (job : ℕ) (t : Tx) → Flies s job t Running → AgreeOn (Has t) (ran s.state t).world (seen s.now t) }
 {}
 
 /// A call of a running transaction, done by the plain machine in what it sees, keeps all.
 pub fn a_call_keeps_all()
-    ensures { (s : Standing) (job : ℕ) (t : Tx) (asked : Asked) (writes : List (ℕ × ℕ)) → InFlight s → IsActive s job t → t.phase ≡ Running
-        → MayDo s.now t asked → IsNoted s.now t asked writes → InFlight (turned s job (Some (noting s.now t asked writes)) (after_call s.now t asked)) }
+    ensures { (s : Standing) (job : ℕ) (t : Tx) (asked : Asked) (writes : List (ℕ × ℕ)) → Flies s job t Running
+        → MayDo s.now t asked → IsNoted s.now t asked writes
+        → InFlight (turned s job (Some (noting s.now t asked writes)) (after_call s.now t asked)) }
 {}
 
 /// A call whose claims have no rival, done and noted in one turn, keeps all.
 pub fn a_call_with_claims_keeps_all()
-    ensures { (s : Standing) (job : ℕ) (t : Tx) (asked : Asked) (held : List Claim) (writes : List (ℕ × ℕ)) → InFlight s → IsActive s job t → t.phase ≡ Running
-        → IsSound s.state t.began t.number → All (HasNoRival s job) (claims_of asked.call t.me (length s.now.words))
+    ensures { (s : Standing) (job : ℕ) (t : Tx) (asked : Asked) (held : List Claim) (writes : List (ℕ × ℕ)) → Flies s job t Running
+        → IsSoundFor s.state t → All (HasNoRival s job) (claims_of asked.call t.me (length s.now.words))
         → HoldTheSame held (t.held ++ claims_of asked.call t.me (length s.now.words))
         → IsTrue (fits (seen s.now t) t.me t.number asked.call asked.answer) → IsNoted s.now (claiming t held) asked writes
         → InFlight (turned s job (Some (noting s.now (claiming t held) asked writes)) (after_call s.now t asked)) }
@@ -81,38 +82,40 @@ pub fn a_call_with_claims_keeps_all()
 
 /// So does one whose call did its part before memory was wanting for the reply.
 pub fn a_call_without_memory_keeps_all()
-    ensures { (s : Standing) (job : ℕ) (t : Tx) (asked : Asked) → InFlight s → IsActive s job t → t.phase ≡ Running
-        → MayDo s.now t asked → IsSound s.state t.began t.number → InFlight (turned s job (Some (wanting s.now t asked)) (after_call s.now t asked)) }
+    ensures { (s : Standing) (job : ℕ) (t : Tx) (asked : Asked) → Flies s job t Running
+        → MayDo s.now t asked → IsSoundFor s.state t → InFlight (turned s job (Some (wanting s.now t asked)) (after_call s.now t asked)) }
 {}
 
 /// A commit writes its stores.
 pub fn a_commit_keeps_all()
-    ensures { (s : Standing) (job : ℕ) (t : Tx) → InFlight s → IsActive s job t → t.phase ≡ Running → InFlight (turned s job (Some (in_phase t Committing)) (seen s.now t)) }
+    ensures { (s : Standing) (job : ℕ) (t : Tx) → Flies s job t Running
+        → InFlight (turned s job (Some (in_phase t Committing)) (seen s.now t)) }
 {}
 
 /// The next late call of a committed transaction, done in the station's world, keeps all.
 pub fn a_late_call_keeps_all()
-    ensures { (s : Standing) (job : ℕ) (t : Tx) (call : LateCall) (answer : LateAnswer) → InFlight s → IsActive s job t → t.phase ≡ Committing
-        → IsDoneLate s.now t call answer → InFlight (turned s job (Some (with_end t (late s.now call answer).end)) (late s.now call answer).world) }
+    ensures { (s : Standing) (job : ℕ) (t : Tx) (call : LateCall) (answer : LateAnswer) → Flies s job t Committing
+        → IsDoneLate s.now t call answer
+        → InFlight (turned s job (Some (with_end t (late s.now call answer).end)) (late s.now call answer).world) }
 {}
 
 /// A committed transaction whose late calls are all done enters: the journal's state is its run's.
 pub fn a_commit_enters()
-    ensures { (s : Standing) (job : ℕ) (t : Tx) → InFlight s → IsActive s job t → t.phase ≡ Committing → length t.late_ends ≡ length t.late
-        → InFlight (entered s job (run s.state t.began t.number (asked_of t.calls t.replies) t.late_ends).late.world s.now) }
+    ensures { (s : Standing) (job : ℕ) (t : Tx) → Flies s job t Committing → length t.late_ends ≡ length t.late
+        → InFlight (entered s job (after_commit s.state t) s.now) }
 {}
 
 /// A transaction that turns back leaves the station's world as it is.
 pub fn a_turn_back_keeps_all()
-    ensures { (s : Standing) (job : ℕ) (t : Tx) → InFlight s → IsActive s job t → t.phase ≡ Running → IsSound s.state t.began t.number
+    ensures { (s : Standing) (job : ℕ) (t : Tx) → Flies s job t Running → IsSoundFor s.state t
         → InFlight (turned s job (Some (in_phase t Undoing)) s.now) }
 {}
 
 /// A compensation of the newest record without an end keeps all, where on S with what stands it
 /// leads to S with what stands then.
 pub fn a_compensation_keeps_all()
-    ensures { (s : Standing) (job : ℕ) (t : Tx) (older : List Undo) (u : Undo) (end : UndoEnd) → InFlight s → IsActive s job t → t.phase ≡ Undoing
-        → IsSound s.state t.began t.number → t.pending ≡ older ++ u ∷ []
+    ensures { (s : Standing) (job : ℕ) (t : Tx) (older : List Undo) (u : Undo) (end : UndoEnd) → Flies s job t Undoing
+        → IsSoundFor s.state t → t.pending ≡ older ++ u ∷ []
         → undone_to (with_remains s.state (effects t)) u end ≡ with_remains s.state (effects (with_undone t older u end))
         → InFlight (turned s job (Some (with_undone t older u end)) (undone_to s.now u end)) }
 {}
@@ -120,6 +123,6 @@ pub fn a_compensation_keeps_all()
 /// An aborted transaction, each of whose records has its end, gives back what it took and enters: the
 /// journal's state is as before, with what remains.
 pub fn an_abort_enters()
-    ensures { (s : Standing) (job : ℕ) (t : Tx) → InFlight s → IsActive s job t → t.phase ≡ Undoing → IsSound s.state t.began t.number → t.pending ≡ []
-        → InFlight (entered s job (with_remains s.state (remains t.ended)) (given_back s.now (ran s.state t).taken)) }
+    ensures { (s : Standing) (job : ℕ) (t : Tx) → Flies s job t Undoing → IsSoundFor s.state t → t.pending ≡ []
+        → InFlight (entered s job (after_abort s.state t) (returned s.state s.now t Undoing)) }
 {}
