@@ -18,7 +18,7 @@ use Rattle.xc_flight.specs.Active.{Tx, Has, Own, Covers}
 of_number : (a b : ℕ) → (a ≡ b) ⊎ (a ≢ b)
 of_number a b = dite (ℕ_discrete a b) (λ e. inl e) (λ ne. inr ne)
 
-pub numbered_decide : (tx : ℕ) (o : Object) → IsNumbered tx o ⊎ (IsNumbered tx o → ⊥)
+numbered_decide : (tx : ℕ) (o : Object) → IsNumbered tx o ⊎ (IsNumbered tx o → ⊥)
 numbered_decide tx (object.File num) = of_number num.tx tx
 numbered_decide tx (object.Pipe num) = of_number num.tx tx
 numbered_decide tx (object.Pair num) = of_number num.tx tx
@@ -35,9 +35,11 @@ either_decide {P = P} {Q = Q} (inr none) (inr lacks) = inr at
     at (inl p) = none p
     at (inr q) = lacks q
 
+-- it has an object, or not
 pub has_decide : (t : Tx) (o : Object) → Has t o ⊎ (Has t o → ⊥)
 has_decide t o = either_decide (decide (objects t.held) o) (numbered_decide t.number o)
 
+-- it owns it, or not
 pub own_decide : (t : Tx) (o : Object) → Own t o ⊎ (Own t o → ⊥)
 own_decide t o = either_decide (decide (owned t.held) o) (numbered_decide t.number o)
 
@@ -59,9 +61,10 @@ any_owned : (cs : List Claim) (o : Object) → list_any (is_object o) (owned cs)
 any_owned [] o e = e
 any_owned (c ∷ cs) o e = any_of_mode c o (owned cs) (list_any (is_object o) (objects cs)) (any_owned cs o) (exclusive c) e
 
-pub owned_held : (cs : List Claim) (o : Object) → Contains (owned cs) o → Contains (objects cs) o
+owned_held : (cs : List Claim) (o : Object) → Contains (owned cs) o → Contains (objects cs) o
 owned_held cs o at = Contains-from_any same_object o (objects cs) (any_owned cs o (found (owned cs) o at))
 
+-- it has what it owns
 pub owns_has : (t : Tx) (o : Object) → Own t o → Has t o
 owns_has t o (inl at) = inl (owned_held t.held o at)
 owns_has t o (inr numbered) = inr numbered
@@ -71,6 +74,7 @@ pub sees_has : (t : Tx) (claims : List Claim) → Covers t.held claims → (o : 
 sees_has t claims covers o (inl at) = inl (covers.objects o at)
 sees_has t claims covers o (inr numbered) = inr numbered
 
+-- what its claims own, it owns
 pub owns_own : (t : Tx) (claims : List Claim) → Covers t.held claims → (o : Object) → Owns t.number claims o → Own t o
 owns_own t claims covers o (inl at) = inl (covers.owned o at)
 owns_own t claims covers o (inr numbered) = inr numbered

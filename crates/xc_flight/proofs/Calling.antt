@@ -36,7 +36,8 @@ use Rattle.xc_flight.proofs.Rows.{goes_on as job_goes_on}
 use Rattle.xc_flight.proofs.Bodies.{fits_more, asked_more, replies_count, asked_count}
 
 -- ---- worlds with other words
-pub reworded : (w v : World) (xs ys : List ℕ) (o : Object) → AgreeAt w v o → ((at : ℕ) → o ≡ object.Word at → slice_get xs at ≡ slice_get ys at) → AgreeAt (record w { words = xs }) (record v { words = ys }) o
+pub reworded : (w v : World) (xs ys : List ℕ) (o : Object) → AgreeAt w v o → ((at : ℕ) → o ≡ object.Word at → slice_get xs at ≡ slice_get ys at)
+    → AgreeAt (record w { words = xs }) (record v { words = ys }) o
 reworded w v xs ys (object.Word at) e f = f at refl
 reworded w v xs ys (object.Name name) e f = e
 reworded w v xs ys (object.File num) e f = e
@@ -62,7 +63,8 @@ free_of s job t h active o has lacks =
     (λ (ne : j ≢ job). h.apart j job o ne e (has_it s job t o active has)))
 
 -- until it turns back the station tells what it left at all that it has
-pub now_left : (s : Standing) (job : ℕ) (t : Tx) → InFlight s → IsActive s job t → (p : Phase) → AgreeOn (Own t) s.now (left s.state t p) → AgreeOn (Has t) s.now (left s.state t p)
+pub now_left : (s : Standing) (job : ℕ) (t : Tx) → InFlight s → IsActive s job t → (p : Phase) → AgreeOn (Own t) s.now (left s.state t p)
+    → AgreeOn (Has t) s.now (left s.state t p)
 now_left s job t h active p owns o has =
     ⊎_elim (λ (e : Own t o). owns o e) (λ (lacks : Own t o → ⊥). agree_on s.now s.state (left s.state t p) o (free_of s job t h active o has lacks)
     ((left_keeps s.state t (h.flights job t active).inside p).others o lacks)) (own_decide t o)
@@ -71,16 +73,20 @@ module _ (s : Standing) (job : ℕ) (t : Tx) (h : InFlight s) (active : IsActive
   flight : Flight s.state s.now t
   flight = h.flights job t active
 
+  -- what its phase says
   pub is_running : IsRunning s.state t
   is_running = subst (IsPhase s.state t) phase flight.inside.phase
 
+  -- what it left is in the station, its stores aside
   pub running_left : AgreeOn (Has t) s.now (left s.state t Running)
   running_left = now_left s job t h active Running (subst (λ p. AgreeOn (Own t) (returned s.state s.now t p) (left s.state t p)) phase flight.owns)
 
   -- all that it has it sees as its body left it
   pub sees : AgreeOn (Has t) (ran s.state t).world (seen s.now t)
-  sees o has = agree_back (seen s.now t) (ran s.state t).world o (over_words s.now s.state (ran s.state t).world t.writes o is_running.words (running_left o has))
+  sees o has = agree_back (seen s.now t) (ran s.state t).world o (over_words s.now s.state (ran s.state t).world t.writes o is_running.words
+      (running_left o has))
 
+  -- no call of its is without a reply
   pub all_noted : ran s.state t ≡ noted s.state t
   all_noted = ap (goes_on t.number (noted s.state t)) is_running.all_noted
 
@@ -88,7 +94,8 @@ module _ (s : Standing) (job : ℕ) (t : Tx) (h : InFlight s) (active : IsActive
 pub covers_both : (held a b : List Claim) → Covers held a → Covers held b → Covers held (a ++ b)
 covers_both held a b p q =
     record {
-      objects = λ o at. ⊎_elim (p.objects o) (q.objects o) (Contains-append_cases (objects a) (objects b) o (subst (λ l. Contains l o) (objects_append a b) at));
+      objects = λ o at. ⊎_elim (p.objects o) (q.objects o) (Contains-append_cases (objects a) (objects b) o
+          (subst (λ l. Contains l o) (objects_append a b) at));
       owned = λ o at. ⊎_elim (p.owned o) (q.owned o) (Contains-append_cases (owned a) (owned b) o (subst (λ l. Contains l o) (owned_append a b) at));
     }
 
@@ -137,14 +144,17 @@ module _ (s : Standing) (job : ℕ) (t : Tx) (c : Asked) (h : InFlight s) (activ
   steps : Alike (Has t) t.number (noted s.state t).world (seen s.now t) (step t.number (noted s.state t) c) (step t.number in_sight c)
   steps = step_alike (Has t) t.number (noted s.state t).world (seen s.now t) (noted s.state t) in_sight c both_alike within
 
+  -- its claims cover those of the call too
   pub step_covers : Covers t.held (step t.number (noted s.state t) c).touched
-  step_covers = covers_both t.held (noted s.state t).touched (claims_of c.call (noted s.state t).me (length (noted s.state t).world.words)) body_covers call_covers
+  step_covers = covers_both t.held (noted s.state t).touched (claims_of c.call (noted s.state t).me
+      (length (noted s.state t).world.words)) body_covers call_covers
 
   did_keeps : KeepsBut (Own t) (seen s.now t) (did s.now t c).world
   did_keeps =
       keeps_more (Owns t.number (step t.number in_sight c).touched) (Own t) (seen s.now t) (did s.now t c).world
       (owns_own t (step t.number in_sight c).touched (subst (Covers t.held) steps.gave.touched step_covers)) steps.right
 
+  -- the call changes only what it owns
   pub after_keeps : KeepsBut (Own t) s.now (after_call s.now t c)
   after_keeps =
       record {
@@ -153,17 +163,21 @@ module _ (s : Standing) (job : ℕ) (t : Tx) (c : Asked) (h : InFlight s) (activ
         blocks = did_keeps.blocks;
       }
 
-  pub step_fits : IsTrue (fits (noted s.state t).world (noted s.state t).me t.number c.call c.answer)
+  step_fits : IsTrue (fits (noted s.state t).world (noted s.state t).me t.number c.call c.answer)
   step_fits =
       subst (λ m. IsTrue (fits (noted s.state t).world m t.number c.call c.answer)) (sym inside.me)
       (subst IsTrue (sym (fits_alike (noted s.state t).world (seen s.now t) t.me t.number c.call c.answer both_alike.count
-      (subst (λ m. All (AgreeAt (noted s.state t).world (seen s.now t)) (touch c.call m (length (noted s.state t).world.words) ++ made_by c.call m t.number)) inside.me
+      (subst (λ m. All (AgreeAt (noted s.state t).world (seen s.now t)) (touch c.call m
+      (length (noted s.state t).world.words) ++ made_by c.call m t.number)) inside.me
       (call_agreed (Has t) t.number (noted s.state t) in_sight c body_sees within)))) k.fit)
 
+  -- the answer fits its body
   pub fits_then : IsTrue (body_fits s.state t.began t.number (asked_of t.calls t.replies ++ c ∷ []))
   fits_then =
       fits_more t.number (begins s.state t.began) (asked_of t.calls t.replies) c
-      (subst (λ l. IsTrue (body_fits s.state t.began t.number l)) (append-nil (asked_of t.calls t.replies)) (subst (λ l. IsTrue (body_fits s.state t.began t.number (asked_of t.calls t.replies ++ l))) (is_running s job t h active phase).all_noted inside.fits))
+      (subst (λ l. IsTrue (body_fits s.state t.began t.number l)) (append-nil (asked_of t.calls t.replies))
+      (subst (λ l. IsTrue (body_fits s.state t.began t.number (asked_of t.calls t.replies ++ l)))
+      (is_running s job t h active phase).all_noted inside.fits))
       step_fits
 
   -- the words that it has are those of S
@@ -175,6 +189,7 @@ module _ (s : Standing) (job : ℕ) (t : Tx) (c : Asked) (h : InFlight s) (activ
       ap (λ (r : Ran). r.trail) (sym (all_noted s job t h active phase)) ∙ inside.trail
       ∙ ap (λ es. t.pending ++ map (λ (e : Ending). e.0) es) (is_running s job t h active phase).none ∙ append-nil t.pending
 
+  -- its records, and then that of the call
   pub step_trail : (step t.number (noted s.state t) c).trail ≡ (t.pending ++ leaving s.now t c) ++ map (λ r. r.0) t.ended
   step_trail =
       steps.gave.trail ∙ ap (λ us. us ++ leaving s.now t c) old_trail ∙ sym (append-nil (t.pending ++ leaving s.now t c))
@@ -188,7 +203,8 @@ module _ (s : Standing) (job : ℕ) (t : Tx) (c : Asked) (h : InFlight s) (activ
       (λ at e. words_now at (subst (Has t) e has))
 
 -- ---- it is noted
-module _ (s : Standing) (job : ℕ) (t : Tx) (c : Asked) (writes : List (ℕ × ℕ)) (h : InFlight s) (active : IsActive s job t) (phase : t.phase ≡ Running) (k : MayDo s.now t c) (d : IsNoted s.now t c writes) where
+module _ (s : Standing) (job : ℕ) (t : Tx) (c : Asked) (writes : List (ℕ × ℕ)) (h : InFlight s) (active : IsActive s job t) (phase : t.phase ≡ Running)
+    (k : MayDo s.now t c) (d : IsNoted s.now t c writes) where
   noted_more : noted s.state (noting s.now t c writes) ≡ step t.number (noted s.state t) c
   noted_more =
       let calls = asked_count t.calls t.replies in
@@ -214,9 +230,11 @@ module _ (s : Standing) (job : ℕ) (t : Tx) (c : Asked) (writes : List (ℕ × 
   words_then =
       ap (λ (r : Ran). r.world.words) ran_more
       ∙ words_there s.state (step t.number (noted s.state t) c).world t writes
-      (subst (λ (r : Ran). KeepsBut (Own t) s.state r.world) ran_more (ran_keeps s.state (noting s.now t c writes) (subst (λ (r : Ran). Covers t.held r.touched) (sym ran_more) (step_covers s job t c h active phase k))))
+      (subst (λ (r : Ran). KeepsBut (Own t) s.state r.world) ran_more (ran_keeps s.state (noting s.now t c writes)
+      (subst (λ (r : Ran). Covers t.held r.touched) (sym ran_more) (step_covers s job t c h active phase k))))
       d.stored
-      (λ at has. (steps s job t c h active phase k).agree (object.Word at) has ∙ ap (λ ws. slice_get ws at) (sym d.words) ∙ overlaid_alike s.now.words s.state.words writes at ((words_now s job t c h active phase k) at has))
+      (λ at has. (steps s job t c h active phase k).agree (object.Word at) has ∙ ap (λ ws. slice_get ws at) (sym d.words)
+      ∙ overlaid_alike s.now.words s.state.words writes at ((words_now s job t c h active phase k) at has))
 
   noted_inside : Inside s.state (noting s.now t c writes)
   noted_inside =
@@ -224,18 +242,24 @@ module _ (s : Standing) (job : ℕ) (t : Tx) (c : Asked) (writes : List (ℕ × 
       record {
         new = (inside s job t c h active phase k).new;
         fits = subst (λ l. IsTrue (body_fits s.state t.began t.number l)) (sym asked_now) (fits_then s job t c h active phase k);
-        replies = ap (λ (r : Ran). r.replies) noted_more ∙ (steps s job t c h active phase k).gave.replies ∙ ap (λ l. l ++ (did s.now t c).reply ∷ []) (inside s job t c h active phase k).replies;
+        replies = ap (λ (r : Ran). r.replies) noted_more ∙ (steps s job t c h active phase k).gave.replies ∙ ap (λ l. l ++ (did s.now t c).reply ∷ [])
+            (inside s job t c h active phase k).replies;
         me = ap (λ (r : Ran). r.me) noted_more ∙ (steps s job t c h active phase k).gave.me;
-        late = ap (λ (r : Ran). r.late) noted_more ∙ (steps s job t c h active phase k).gave.late ∙ ap (λ l. l ++ kept_call c.call t.me (did s.now t c).reply) (inside s job t c h active phase k).late;
+        late = ap (λ (r : Ran). r.late) noted_more ∙ (steps s job t c h active phase k).gave.late ∙ ap
+            (λ l. l ++ kept_call c.call t.me (did s.now t c).reply) (inside s job t c h active phase k).late;
         trail = ap (λ (r : Ran). r.trail) ran_more ∙ (step_trail s job t c h active phase k);
         covers = subst (λ (r : Ran). Covers t.held r.touched) (sym ran_more) (step_covers s job t c h active phase k);
-        phase = subst (IsPhase s.state (noting s.now t c writes)) (sym phase) (record { none = p.none; all_noted = p.all_noted; no_late_ends = p.no_late_ends; words = words_then; stored = d.stored });
+        phase = subst (IsPhase s.state (noting s.now t c writes)) (sym phase)
+            (record { none = p.none; all_noted = p.all_noted; no_late_ends = p.no_late_ends; words = words_then; stored = d.stored });
       }
 
+  -- a call that is noted keeps all
   pub called : InFlight (turned s job (Some (noting s.now t c writes)) (after_call s.now t c))
   called =
       job_goes_on s job t (noting s.now t c writes) (after_call s.now t c) h active refl refl (after_keeps s job t c h active phase k) (record {
         inside = noted_inside;
-        owns = subst (λ p. AgreeOn (Own t) (returned s.state (after_call s.now t c) (noting s.now t c writes) p) (left s.state (noting s.now t c writes) p)) (sym phase)
-            (λ o e. subst (λ (r : Ran). AgreeAt (after_call s.now t c) (record r.world { words = s.state.words }) o) (sym ran_more) ((step_stands s job t c h active phase k) o (owns_has t o e)));
+        owns = subst (λ p. AgreeOn (Own t) (returned s.state (after_call s.now t c) (noting s.now t c writes) p)
+            (left s.state (noting s.now t c writes) p)) (sym phase)
+            (λ o e. subst (λ (r : Ran). AgreeAt (after_call s.now t c) (record r.world { words = s.state.words }) o) (sym ran_more)
+            ((step_stands s job t c h active phase k) o (owns_has t o e)));
       })

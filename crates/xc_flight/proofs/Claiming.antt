@@ -1,5 +1,6 @@
 -- A claim is granted; and what a call touches is nobody else's new object.
-use Rattle.std.proofs.Common.{◌≡◌, ◌≢◌, ℕ, ◌⊎◌, inl, inr, ⊎_elim, Bool, true, false, ◌||◌, List, [], ◌∷◌, ◌++◌, Option, Some, None, sym, ◌∙◌, subst, refl, arith}
+use Rattle.std.proofs.Common.{◌≡◌, ◌≢◌, ℕ, ◌⊎◌, inl, inr, ⊎_elim, Bool, true, false, ◌||◌, List, [], ◌∷◌, ◌++◌, Option, Some, None, sym, ◌∙◌, subst}
+use Rattle.std.proofs.Common.{refl, arith}
 use Rattle.std.specs.Prelude.{All, Contains, if◌then◌else◌}
 use Rattle.std.specs.List.{cons_option}
 use mathlib.Core.Logic.{dite}
@@ -37,6 +38,7 @@ front_held a b =
       owned = λ o at. subst (λ l. Contains l o) (sym (owned_append a b)) (Contains-append_left (owned a) (owned b) o at);
     }
 
+-- claims cover those at their end
 pub back_held : (a b : List Claim) → Covers (a ++ b) b
 back_held a b =
     record {
@@ -44,6 +46,7 @@ back_held a b =
       owned = λ o at. subst (λ l. Contains l o) (sym (owned_append a b)) (Contains-append_right (owned a) (owned b) o at);
     }
 
+-- covering goes on
 pub covers_through : (a b c : List Claim) → Covers a b → Covers b c → Covers a c
 covers_through a b c p q = record { objects = λ o at. p.objects o (q.objects o at); owned = λ o at. p.owned o (q.owned o at) }
 
@@ -64,20 +67,24 @@ held_covers claims =
       right = record { objects = λ o. (held_seen claims o).0; owned = λ o. (held_owned claims o).0 };
     }
 
+-- claims that are merged hold the same as the list of them
 pub merged_held : (old claims : List Claim) → HoldTheSame (holding (held_of old) claims) (held_of old ++ claims)
 merged_held old claims =
     let all = held_covers (old ++ claims) in
     let first = held_covers old in
     let merged = holding (held_of old) claims in
     record {
-      left = covers_both merged (held_of old) claims (through_merge old claims (held_of old) (covers_through (old ++ claims) old (held_of old) (front_held old claims) first.right)) (through_merge old claims claims (back_held old claims));
+      left = covers_both merged (held_of old) claims (through_merge old claims (held_of old)
+          (covers_through (old ++ claims) old (held_of old) (front_held old claims) first.right)) (through_merge old claims claims (back_held old claims));
       right = covers_through (held_of old ++ claims) (old ++ claims) merged
-          (covers_both (held_of old ++ claims) old claims (covers_through (held_of old ++ claims) (held_of old) old (front_held (held_of old) claims) first.left) (back_held (held_of old) claims))
+          (covers_both (held_of old ++ claims) old claims (covers_through (held_of old ++ claims) (held_of old) old
+          (front_held (held_of old) claims) first.left) (back_held (held_of old) claims))
           (subst (Covers (old ++ claims)) (sym (one_after_another old claims)) all.right);
     }
   where
     through_merge : (old claims some : List Claim) → Covers (old ++ claims) some → Covers (holding (held_of old) claims) some
-    through_merge old claims some c = subst (λ l. Covers l some) (sym (one_after_another old claims)) (covers_through (held_of (old ++ claims)) (old ++ claims) some (held_covers (old ++ claims)).left c)
+    through_merge old claims some c = subst (λ l. Covers l some) (sym (one_after_another old claims))
+        (covers_through (held_of (old ++ claims)) (old ++ claims) some (held_covers (old ++ claims)).left c)
 
 -- ---- claims that go together
 in_list : (os : List Object) (o : Object) → has os o ≡ true → Contains os o
@@ -86,15 +93,18 @@ in_list os o e = Contains-from_any same_object o os e
 -- of each claim on an object
 of_object : (P : Claim → Type 0) (cs : List Claim) (o : Object) (Q : Type 0) → All P cs → Contains (objects cs) o → ((c : Claim) → P c → c.object ≡ o → Q) → Q
 of_object P [] o Q all at f = (let lt = at.1 in absurd (omega (arith, lt)))
-of_object P (c ∷ cs) o Q all at f = first_or_later (is_object o c.object) refl (found (objects (c ∷ cs)) o at) (λ later. of_object P cs o Q (All-tail P c cs all) (in_list (objects cs) o later) f)
+of_object P (c ∷ cs) o Q all at f = first_or_later (is_object o c.object) refl (found (objects (c ∷ cs)) o at)
+    (λ later. of_object P cs o Q (All-tail P c cs all) (in_list (objects cs) o later) f)
   where
     first_or_later : (b : Bool) → is_object o c.object ≡ b → (b || has (objects cs) o) ≡ true → (has (objects cs) o ≡ true → Q) → Q
     first_or_later true e is later = f c (All-head P c cs all) (sym (same_object o c.object e))
     first_or_later false e is later = later is
 
-of_owned : (P : Claim → Type 0) (cs : List Claim) (o : Object) (Q : Type 0) → All P cs → Contains (owned cs) o → ((c : Claim) → P c → c.object ≡ o → exclusive c ≡ true → Q) → Q
+of_owned : (P : Claim → Type 0) (cs : List Claim) (o : Object) (Q : Type 0) → All P cs → Contains (owned cs) o
+    → ((c : Claim) → P c → c.object ≡ o → exclusive c ≡ true → Q) → Q
 of_owned P [] o Q all at f = (let lt = at.1 in absurd (omega (arith, lt)))
-of_owned P (c ∷ cs) o Q all at f = by_mode (exclusive c) refl (found (owned (c ∷ cs)) o at) (λ later. of_owned P cs o Q (All-tail P c cs all) (in_list (owned cs) o later) f)
+of_owned P (c ∷ cs) o Q all at f = by_mode (exclusive c) refl (found (owned (c ∷ cs)) o at)
+    (λ later. of_owned P cs o Q (All-tail P c cs all) (in_list (owned cs) o later) f)
   where
     first_or_later : (b : Bool) → exclusive c ≡ true → is_object o c.object ≡ b → (b || has (owned cs) o) ≡ true → (has (owned cs) o ≡ true → Q) → Q
     first_or_later true x e is later = f c (All-head P c cs all) (sym (same_object o c.object e)) x
@@ -112,7 +122,8 @@ apart_modes Exclusive Shared e x = cc e
 apart_modes Exclusive Exclusive e x = cc e
 
 -- ---- a running transaction takes claims that are granted
-module _ (s : Standing) (job : ℕ) (t : Tx) (claims held : List Claim) (h : InFlight s) (active : IsActive s job t) (granted : All (IsGranted s job) claims) (same : HoldTheSame held (t.held ++ claims)) where
+module _ (s : Standing) (job : ℕ) (t : Tx) (claims held : List Claim) (h : InFlight s) (active : IsActive s job t) (granted : All (IsGranted s job) claims)
+    (same : HoldTheSame held (t.held ++ claims)) where
   still_held : Covers held t.held
   still_held = covers_through held (t.held ++ claims) t.held same.left (front_held t.held claims)
 
@@ -125,11 +136,13 @@ module _ (s : Standing) (job : ℕ) (t : Tx) (claims held : List Claim) (h : InF
   own_more o (inr numbered) = inr numbered
 
   has_before : (o : Object) → Has (claiming t held) o → Has t o ⊎ Contains (objects claims) o
-  has_before o (inl at) = ⊎_elim (λ (x : Contains (objects t.held) o). inl (inl x)) (λ (x : Contains (objects claims) o). inr x) (object_cases t.held claims o (same.right.objects o at))
+  has_before o (inl at) = ⊎_elim (λ (x : Contains (objects t.held) o). inl (inl x)) (λ (x : Contains (objects claims) o). inr x)
+      (object_cases t.held claims o (same.right.objects o at))
   has_before o (inr numbered) = inl (inr numbered)
 
   own_before : (o : Object) → Own (claiming t held) o → Own t o ⊎ Contains (owned claims) o
-  own_before o (inl at) = ⊎_elim (λ (x : Contains (owned t.held) o). inl (inl x)) (λ (x : Contains (owned claims) o). inr x) (owned_cases t.held claims o (same.right.owned o at))
+  own_before o (inl at) = ⊎_elim (λ (x : Contains (owned t.held) o). inl (inl x)) (λ (x : Contains (owned claims) o). inr x)
+      (owned_cases t.held claims o (same.right.owned o at))
   own_before o (inr numbered) = inl (inr numbered)
 
   -- no other has what is claimed exclusively
@@ -153,18 +166,21 @@ module _ (s : Standing) (job : ℕ) (t : Tx) (claims held : List Claim) (h : InF
     where
       by_tx : (x : Option Tx) → active_at s j ≡ x → HasSome x o → ⊥
       by_tx None is q = q
-      by_tx (Some u) is q = ⊎_elim (λ (old : Own t o). h.apart job j o (λ z. ne (sym z)) (own_it s job t o active old) (has_it s j u o is q)) (λ (new : Contains (owned claims) o). new_owned j u o ne is new q) (own_before o e)
+      by_tx (Some u) is q = ⊎_elim (λ (old : Own t o). h.apart job j o (λ z. ne (sym z)) (own_it s job t o active old) (has_it s j u o is q))
+          (λ (new : Contains (owned claims) o). new_owned j u o ne is new q) (own_before o e)
 
   joins : (j : ℕ) (o : Object) → j ≢ job → Has (claiming t held) o → OwnAt s j o → ⊥
   joins j o ne e q = by_tx (active_at s j) refl q
     where
       by_tx : (x : Option Tx) → active_at s j ≡ x → OwnSome x o → ⊥
       by_tx None is q = q
-      by_tx (Some u) is q = ⊎_elim (λ (old : Has t o). h.apart j job o ne (own_it s j u o is q) (has_it s job t o active old)) (λ (new : Contains (objects claims) o). new_held j u o ne is new q) (has_before o e)
+      by_tx (Some u) is q = ⊎_elim (λ (old : Has t o). h.apart j job o ne (own_it s j u o is q) (has_it s job t o active old))
+          (λ (new : Contains (objects claims) o). new_held j u o ne is new q) (has_before o e)
 
   names : (o : Object) → Has (claiming t held) o → IsBelow s.next o
   names o e = ⊎_elim (λ (old : Has t o). h.names job o (has_it s job t o active old))
-      (λ (new : Contains (objects claims) o). of_object (IsGranted s job) claims o (IsBelow s.next o) granted new (λ c g one. subst (IsBelow s.next) one g.object.below)) (has_before o e)
+      (λ (new : Contains (objects claims) o). of_object (IsGranted s job) claims o (IsBelow s.next o) granted new
+      (λ c g one. subst (IsBelow s.next) one g.object.below)) (has_before o e)
 
   -- nobody owned what it owns from now on
   unowned : (o : Object) (j : ℕ) → j ≢ job → Contains (owned claims) o → OwnAt s j o → ⊥
@@ -176,8 +192,10 @@ module _ (s : Standing) (job : ℕ) (t : Tx) (claims held : List Claim) (h : InF
 
   was_free : (o : Object) → (Own t o → ⊥) → Contains (owned claims) o → AgreeAt s.now s.state o
   was_free o lacks new =
-      h.free o (λ j e. dite (ℕ_discrete j job) (λ (q : j ≡ job). lacks (it_owns s job t o active (subst (λ k. OwnAt s k o) q e))) (λ (ne : j ≢ job). unowned o j ne new e))
+      h.free o (λ j e. dite (ℕ_discrete j job) (λ (q : j ≡ job). lacks (it_owns s job t o active (subst (λ k. OwnAt s k o) q e)))
+      (λ (ne : j ≢ job). unowned o j ne new e))
 
+  -- granted claims keep all
   pub claimed : t.phase ≡ Running → InFlight (turned s job (Some (claiming t held)) s.now)
   claimed phase =
       let w = s.state in
@@ -186,7 +204,8 @@ module _ (s : Standing) (job : ℕ) (t : Tx) (claims held : List Claim) (h : InF
       let i = f.inside in
       let p = is_running s job t h active phase in
       let owns : AgreeOn (Own t) s.now (left w t Running) = subst (λ q. AgreeOn (Own t) (returned w s.now t q) (left w t q)) phase f.owns in
-      goes_on_with s job t t' s.now h active (record { same = refl; own = own_more; gains = gains; joins = joins; names = names }) (keeps_itself (Own t) s.now) (record {
+      goes_on_with s job t t' s.now h active (record { same = refl; own = own_more; gains = gains; joins = joins; names = names })
+      (keeps_itself (Own t) s.now) (record {
         inside = record {
           new = i.new;
           fits = i.fits;
@@ -200,12 +219,14 @@ module _ (s : Standing) (job : ℕ) (t : Tx) (claims held : List Claim) (h : InF
             all_noted = p.all_noted;
             no_late_ends = p.no_late_ends;
             words = p.words;
-            stored = All-weaker (λ (x : ℕ × ℕ). Own t (object.Word x.0)) (λ (x : ℕ × ℕ). Own t' (object.Word x.0)) (λ x e. own_more (object.Word x.0) e) t.writes p.stored;
+            stored = All-weaker (λ (x : ℕ × ℕ). Own t (object.Word x.0)) (λ (x : ℕ × ℕ). Own t' (object.Word x.0))
+                (λ x e. own_more (object.Word x.0) e) t.writes p.stored;
           });
         };
         owns = subst (λ q. AgreeOn (Own t') (returned w s.now t' q) (left w t' q)) (sym phase)
             (λ o e. ⊎_elim (λ (own : Own t o). owns o own)
-            (λ (lacks : Own t o → ⊥). agree_on s.now w (left w t Running) o (was_free o lacks (⊎_elim (λ (own : Own t o). absurd (lacks own)) (λ (new : Contains (owned claims) o). new) (own_before o e)))
+            (λ (lacks : Own t o → ⊥). agree_on s.now w (left w t Running) o (was_free o lacks
+            (⊎_elim (λ (own : Own t o). absurd (lacks own)) (λ (new : Contains (owned claims) o). new) (own_before o e)))
             ((left_keeps w t i Running).others o lacks)) (own_decide t o));
       })
 
@@ -218,6 +239,7 @@ one_number m n (object.Word at) a b = absurd a
 one_number m n (object.Name name) a b = absurd a
 one_number m n object.Jobs a b = absurd a
 
+-- what one of them owns the other has not
 pub claims_apart : (t u : Tx) → AreCompatible t u → (o : Object) → Own t o → Has u o → ⊥
 claims_apart t u k o (inl a) (inl b) =
     of_owned (λ c. All (GoTogether c) u.held) t.held o ⊥ k.together a (λ c together one x.

@@ -38,7 +38,9 @@ unwritten now t stored (object.Pipe q) lacks = refl
 unwritten now t stored (object.Pair q) lacks = refl
 unwritten now t stored object.Jobs lacks = refl
 
-pub commits : (s : Standing) (job : ℕ) (t : Tx) → InFlight s → IsActive s job t → t.phase ≡ Running → InFlight (turned s job (Some (in_phase t Committing)) (seen s.now t))
+-- a commit keeps all
+pub commits : (s : Standing) (job : ℕ) (t : Tx) → InFlight s → IsActive s job t → t.phase ≡ Running
+    → InFlight (turned s job (Some (in_phase t Committing)) (seen s.now t))
 commits s job t h active phase =
     let w = s.state in
     let i = (h.flights job t active).inside in
@@ -119,7 +121,8 @@ front_count [] c rest = omega arith
 front_count (d ∷ front) c rest = let more = front_count front c rest in omega (arith, more)
 
 -- ---- a committing transaction does its next late call
-module _ (s : Standing) (job : ℕ) (t : Tx) (c : LateCall) (a : LateAnswer) (h : InFlight s) (active : IsActive s job t) (phase : t.phase ≡ Committing) (k : IsDoneLate s.now t c a) where
+module _ (s : Standing) (job : ℕ) (t : Tx) (c : LateCall) (a : LateAnswer) (h : InFlight s) (active : IsActive s job t) (phase : t.phase ≡ Committing)
+    (k : IsDoneLate s.now t c a) where
   inside : Inside s.state t
   inside = (h.flights job t active).inside
 
@@ -144,7 +147,8 @@ module _ (s : Standing) (job : ℕ) (t : Tx) (c : LateCall) (a : LateAnswer) (h 
   there : AgreeOn (Has t) (left s.state t Committing) s.now
   there o e =
       agree_back s.now (left s.state t Committing) o
-      (now_left s job t h active Committing (subst (λ p. AgreeOn (Own t) (returned s.state s.now t p) (left s.state t p)) phase (h.flights job t active).owns) o e)
+      (now_left s job t h active Committing (subst (λ p. AgreeOn (Own t) (returned s.state s.now t p) (left s.state t p)) phase
+      (h.flights job t active).owns) o e)
 
   speaks : LooksWithin (Has t) (Own t) c
   speaks = one_of (LooksWithin (Has t) (Own t)) k.front c k.rest (subst (All (LooksWithin (Has t) (Own t))) split (late_within s.state t inside.covers))
@@ -174,22 +178,27 @@ module _ (s : Standing) (job : ℕ) (t : Tx) (c : LateCall) (a : LateAnswer) (h 
         phase = subst (IsPhase s.state (with_end t (late s.now c a).end)) (sym phase) (record {
           none = p.none;
           all_noted = p.all_noted;
-          few = (let a1 = push_count t.late_ends (late s.now c a).end in let a2 = front_count k.front c k.rest in let a3 = k.done in let a4 = ap length k.split in omega (arith, a1, a2, a3, a4));
+          few = (let a1 = push_count t.late_ends
+              (late s.now c a).end in let a2 = front_count k.front c k.rest in let a3 = k.done in let a4 = ap length k.split in omega (arith, a1, a2, a3, a4));
           ends = ap (λ l. (lates x l).ends) one_more ∙ more.ends ∙ ap₂ (λ es e. es ++ e ∷ []) p.ends late_both.end;
           fits = subst (λ l. IsTrue (lates_fit x l)) (sym one_more) (subst IsTrue (sym more.fits)
-              (both_true (lates_fit x (late_done s.state t)) (late_fits (left s.state t Committing) c a) p.fits (subst IsTrue (sym (late_fits_alike (left s.state t Committing) s.now c a agree)) k.fit)));
+              (both_true (lates_fit x (late_done s.state t)) (late_fits (left s.state t Committing) c a) p.fits
+              (subst IsTrue (sym (late_fits_alike (left s.state t Committing) s.now c a agree)) k.fit)));
         });
       }
 
+  -- a late call keeps all
   pub does_late : InFlight (turned s job (Some (with_end t (late s.now c a).end)) (late s.now c a).world)
   does_late =
       let x = (ran s.state t).world in
       goes_on s job t (with_end t (late s.now c a).end) (late s.now c a).world h active refl refl (late_keeps (Own t) s.now c a speaks.changes) (record {
         inside = late_inside;
-        owns = subst (λ p. AgreeOn (Own t) (returned s.state (late s.now c a).world (with_end t (late s.now c a).end) p) (left s.state (with_end t (late s.now c a).end) p)) (sym phase)
+        owns = subst (λ p. AgreeOn (Own t) (returned s.state (late s.now c a).world (with_end t (late s.now c a).end) p)
+            (left s.state (with_end t (late s.now c a).end) p)) (sym phase)
             (λ o e. let y = late (left s.state t Committing) c a in
             subst (λ v. AgreeAt (late s.now c a).world v o) (sym (ap (λ l. (lates x l).world) one_more ∙ more.world))
-            (agree_back y.world (late s.now c a).world o (still_agree (Has t) (left s.state t Committing) s.now y.world (late s.now c a).world (late_objects c) late_both.worlds there o (owns_has t o e))));
+            (agree_back y.world (late s.now c a).world o (still_agree (Has t) (left s.state t Committing) s.now y.world (late s.now c a).world
+            (late_objects c) late_both.worlds there o (owns_has t o e))));
       })
 
 -- ---- a committed transaction whose late calls are all done enters
@@ -201,8 +210,11 @@ committed s job t h active phase all =
     let p : IsCommitting w t = subst (IsPhase w t) phase f.inside.phase in
     let same_body : ran w t ≡ noted w t = ap (λ l. body_goes_on t.number (noted w t) l) p.all_noted in
     let late_same : (ran w t).late ≡ t.late = ap (λ (r : Ran). r.late) same_body ∙ f.inside.late in
-    let done : take (length t.late_ends) (ran w t).late ≡ (ran w t).late = take_all (length t.late_ends) (ran w t).late (let e = ap length late_same in omega (arith, e, all)) in
+    let done : take (length t.late_ends) (ran w t).late ≡ (ran w t).late = take_all (length t.late_ends) (ran w t).late
+    (let e = ap length late_same in omega (arith, e, all)) in
     let same : left w t Committing ≡ (run w t.began t.number (asked_of t.calls t.replies) t.late_ends).late.world =
-    ap (λ l. (lates (ran w t).world (late_asked_of l t.late_ends)).world) done ∙ ap (λ (r : Ran). (lates r.world (late_asked_of r.late t.late_ends)).world) same_body in
+    ap (λ l. (lates (ran w t).world (late_asked_of l t.late_ends)).world) done ∙ ap
+    (λ (r : Ran). (lates r.world (late_asked_of r.late t.late_ends)).world) same_body in
     subst (λ v. InFlight (entered s job v s.now)) same
-    (ends s job t (left w t Committing) s.now h active (left_keeps w t f.inside Committing) (keeps_itself (Own t) s.now) (subst (λ q. AgreeOn (Own t) (returned w s.now t q) (left w t q)) phase f.owns))
+    (ends s job t (left w t Committing) s.now h active (left_keeps w t f.inside Committing) (keeps_itself (Own t) s.now)
+    (subst (λ q. AgreeOn (Own t) (returned w s.now t q) (left w t q)) phase f.owns))

@@ -36,8 +36,14 @@ nobody (suc (suc job)) = refl
 pub two_begin :
     InFlight (record idle { active = Some (starting 1 nothing_yet) ∷ Some (starting 2 nothing_yet) ∷ []; next = 3 })
 two_begin =
-    let opening = starts idle nobody refl (λ m k le. record { file = map.get-empty num_cmp (num m k); pipe = map.get-empty num_cmp (num m k); pair = map.get-empty num_cmp (num m k) }) in
-    begins (record idle { active = Some (starting 1 nothing_yet) ∷ None ∷ []; next = 2 }) 1 nothing_yet (begins idle 0 nothing_yet opening (omega arith) refl) (omega arith) refl
+    let opening = starts idle nobody refl (λ m k le. record {
+      file = map.get-empty num_cmp (num m k);
+      pipe = map.get-empty num_cmp
+          (num m k);
+      pair = map.get-empty num_cmp (num m k);
+    }) in
+    begins (record idle { active = Some (starting 1 nothing_yet) ∷ None ∷ []; next = 2 }) 1 nothing_yet
+    (begins idle 0 nothing_yet opening (omega arith) refl) (omega arith) refl
 
 -- one that holds the first word exclusively, and the second one shared
 abbrev first : Tx
@@ -50,9 +56,11 @@ store = record { call = call.Store 0 9; answer = answer.Fine }
 pub a_store_waits : (after_call small first store).words ≡ 5 ∷ 6 ∷ []
 a_store_waits = refl
 
+-- and it sees it
 pub it_sees_its_store : (seen small (noting small first store ((0, 9) ∷ []))).words ≡ 9 ∷ 6 ∷ []
 it_sees_its_store = refl
 
+-- with this reply
 pub its_reply : (noting small first store ((0, 9) ∷ [])).replies ≡ reply.Done ∷ []
 its_reply = refl
 
@@ -60,5 +68,6 @@ its_reply = refl
 pub both_may_read : GoTogether (claim Shared (object.Word 1)) (claim Shared (object.Word 1))
 both_may_read same = refl
 
+-- but none does beside one that holds it exclusively
 pub a_writer_is_alone : GoTogether (claim Exclusive (object.Word 1)) (claim Shared (object.Word 1)) → ⊥
 a_writer_is_alone together = (let no = together refl in cc no)

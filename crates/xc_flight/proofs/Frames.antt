@@ -38,6 +38,7 @@ use Rattle.xc_flight.proofs.Worlds.{words_agree, words_same, overlaid_other, ove
 pub ran_whole : (w : World) (t : Tx) → body w t.began t.number (asked t) ≡ ran w t
 ran_whole w t = fold-append (step t.number) (begins w t.began) (asked_of t.calls t.replies) t.unnoted
 
+-- it changes only what it owns
 pub ran_keeps : (w : World) (t : Tx) → Covers t.held (ran w t).touched → KeepsBut (Own t) w (ran w t).world
 ran_keeps w t covers =
     keeps_more (Owns t.number (ran w t).touched) (Own t) w (ran w t).world (owns_own t (ran w t).touched covers)
@@ -46,6 +47,7 @@ ran_keeps w t covers =
 ran_speaks : (w : World) (t : Tx) → SpeaksOfOwn t.number (ran w t)
 ran_speaks w t = subst (SpeaksOfOwn t.number) (ran_whole w t) (body_speaks w t.began t.number (asked t))
 
+-- its late calls look at what it has, and change what it owns
 pub late_within : (w : World) (t : Tx) → Covers t.held (ran w t).touched → All (LooksWithin (Has t) (Own t)) (ran w t).late
 late_within w t covers =
     let sees = Sees t.number (ran w t).touched in
@@ -56,10 +58,12 @@ late_within w t covers =
       changes = All-weaker owns (Own t) (owns_own t (ran w t).touched covers) (late_changes l) of.changes;
     }) (ran w t).late (ran_speaks w t).late
 
+-- its records speak of what it owns
 pub trail_own : (w : World) (t : Tx) → Covers t.held (ran w t).touched → All (λ u. All (Own t) (objects_of u)) (ran w t).trail
 trail_own w t covers =
     let owns = Owns t.number (ran w t).touched in
-    All-weaker (λ u. All owns (objects_of u)) (λ u. All (Own t) (objects_of u)) (λ u of. All-weaker owns (Own t) (owns_own t (ran w t).touched covers) (objects_of u) of)
+    All-weaker (λ u. All owns (objects_of u)) (λ u. All (Own t) (objects_of u))
+    (λ u of. All-weaker owns (Own t) (owns_own t (ran w t).touched covers) (objects_of u) of)
     (ran w t).trail (ran_speaks w t).trail
 
 -- ---- of records, what stands of them
@@ -67,44 +71,52 @@ pub whole_of : (P : Undo → Type 0) (us : List Undo) → All P us → All (λ e
 whole_of P [] all = All-nil (λ (e : Undo × ℕ). P e.0)
 whole_of P (u ∷ us) all = All-cons (λ (e : Undo × ℕ). P e.0) (u, 0) (whole us) (All-head P u us all) (whole_of P us (All-tail P u us all))
 
-one_remains : (Q : Undo × ℕ → Type 0) (u : Undo) (rest : List (Undo × ℕ)) → ((k : ℕ) → Q (u, k)) → All Q rest → (from : Option ℕ) → All Q (cons_option (standing_of u from) rest)
+one_remains : (Q : Undo × ℕ → Type 0) (u : Undo) (rest : List (Undo × ℕ)) → ((k : ℕ) → Q (u, k)) → All Q rest → (from : Option ℕ)
+    → All Q (cons_option (standing_of u from) rest)
 one_remains Q u rest here all None = all
 one_remains Q u rest here all (Some k) = All-cons Q (u, k) rest (here k) all
 
-pub remains_of : (P : Undo → Type 0) (es : List Ending) → All P (map (λ r. r.0) es) → All (λ e. P e.0) (remains es)
+remains_of : (P : Undo → Type 0) (es : List Ending) → All P (map (λ r. r.0) es) → All (λ e. P e.0) (remains es)
 remains_of P [] all = All-nil (λ (e : Undo × ℕ). P e.0)
 remains_of P ((u, end) ∷ es) all =
-    one_remains (λ (e : Undo × ℕ). P e.0) u (remains es) (λ k. All-head P u (map (λ (r : Ending). r.0) es) all) (remains_of P es (All-tail P u (map (λ (r : Ending). r.0) es) all)) (stands_from u end)
+    one_remains (λ (e : Undo × ℕ). P e.0) u (remains es) (λ k. All-head P u (map (λ (r : Ending). r.0) es) all)
+    (remains_of P es (All-tail P u (map (λ (r : Ending). r.0) es) all)) (stands_from u end)
 
+-- what is so of a list is so of its front
 pub all_front : {X : Type 0} (P : X → Type 0) (xs ys : List X) → All P (xs ++ ys) → All P xs
 all_front P [] ys all = All-nil P
 all_front P (x ∷ xs) ys all = All-cons P x xs (All-head P x (xs ++ ys) all) (all_front P xs ys (All-tail P x (xs ++ ys) all))
 
-pub all_back : {X : Type 0} (P : X → Type 0) (xs ys : List X) → All P (xs ++ ys) → All P ys
+all_back : {X : Type 0} (P : X → Type 0) (xs ys : List X) → All P (xs ++ ys) → All P ys
 all_back P [] ys all = all
 all_back P (x ∷ xs) ys all = all_back P xs ys (All-tail P x (xs ++ ys) all)
 
-pub effects_of : (P : Undo → Type 0) (w : World) (t : Tx) → Inside w t → All P (ran w t).trail → All (λ e. P e.0) (effects t)
+effects_of : (P : Undo → Type 0) (w : World) (t : Tx) → Inside w t → All P (ran w t).trail → All (λ e. P e.0) (effects t)
 effects_of P w t i all =
     let ends = map (λ (r : Ending). r.0) t.ended in
     let parts = subst (All P) i.trail all in
-    All-append (λ (e : Undo × ℕ). P e.0) (whole t.pending) (remains t.ended) (whole_of P t.pending (all_front P t.pending ends parts)) (remains_of P t.ended (all_back P t.pending ends parts))
+    All-append (λ (e : Undo × ℕ). P e.0) (whole t.pending) (remains t.ended) (whole_of P t.pending (all_front P t.pending ends parts))
+    (remains_of P t.ended (all_back P t.pending ends parts))
 
 -- what stands of its records speaks of its own objects
 pub effects_own : (w : World) (t : Tx) → Inside w t → All (IsOf (Own t)) (effects t)
 effects_own w t i = effects_of (λ u. All (Own t) (objects_of u)) w t i (trail_own w t i.covers)
 
 -- ---- late calls with their answers
-pub answered : (P : LateCall → Type 0) (calls : List LateCall) (ends : List LateEnd) → All P calls → All (λ (c : LateCall × LateAnswer). P c.0) (late_asked_of calls ends)
+pub answered : (P : LateCall → Type 0) (calls : List LateCall) (ends : List LateEnd) → All P calls
+    → All (λ (c : LateCall × LateAnswer). P c.0) (late_asked_of calls ends)
 answered P [] ends all = All-nil (λ (c : LateCall × LateAnswer). P c.0)
 answered P (c ∷ calls) [] all =
-    All-cons (λ (x : LateCall × LateAnswer). P x.0) (c, late_answer.Fine) (late_asked_of calls []) (All-head P c calls all) (answered P calls [] (All-tail P c calls all))
+    All-cons (λ (x : LateCall × LateAnswer). P x.0) (c, late_answer.Fine) (late_asked_of calls []) (All-head P c calls all)
+    (answered P calls [] (All-tail P c calls all))
 answered P (c ∷ calls) (e ∷ ends) all =
-    All-cons (λ (x : LateCall × LateAnswer). P x.0) (c, late_answer_of e) (late_asked_of calls ends) (All-head P c calls all) (answered P calls ends (All-tail P c calls all))
+    All-cons (λ (x : LateCall × LateAnswer). P x.0) (c, late_answer_of e) (late_asked_of calls ends) (All-head P c calls all)
+    (answered P calls ends (All-tail P c calls all))
 
-pub done_within : (w : World) (t : Tx) → Covers t.held (ran w t).touched → All (Within (Has t) (Own t)) (late_done w t)
+done_within : (w : World) (t : Tx) → Covers t.held (ran w t).touched → All (Within (Has t) (Own t)) (late_done w t)
 done_within w t covers =
-    answered (LooksWithin (Has t) (Own t)) (take (length t.late_ends) (ran w t).late) t.late_ends (All-take (LooksWithin (Has t) (Own t)) (length t.late_ends) (ran w t).late (late_within w t covers))
+    answered (LooksWithin (Has t) (Own t)) (take (length t.late_ends) (ran w t).late) t.late_ends
+    (All-take (LooksWithin (Has t) (Own t)) (length t.late_ends) (ran w t).late (late_within w t covers))
 
 -- ---- what it left differs from S in what it owns at most
 pub left_keeps : (w : World) (t : Tx) → Inside w t → (p : Phase) → KeepsBut (Own t) w (left w t p)
@@ -112,15 +124,18 @@ left_keeps w t i Running =
     let keeps = ran_keeps w t i.covers in
     record { others = λ o lacks. words_agree w (ran w t).world w w o (keeps.others o lacks) (agree_itself w o); count = refl; blocks = keeps.blocks }
 left_keeps w t i Committing =
-    keeps_on (Own t) w (ran w t).world (left w t Committing) (ran_keeps w t i.covers) (lates_keep (Has t) (Own t) (ran w t).world (late_done w t) (done_within w t i.covers))
+    keeps_on (Own t) w (ran w t).world (left w t Committing) (ran_keeps w t i.covers)
+    (lates_keep (Has t) (Own t) (ran w t).world (late_done w t) (done_within w t i.covers))
 left_keeps w t i Undoing = remains_keep (Own t) w (effects t) (effects_own w t i)
 
 -- ---- words that are as its stores tell wherever it has them are so everywhere
 pub unstored : (t : Tx) (xs : List ℕ) (stores : List (ℕ × ℕ)) (at : ℕ) → All (λ (s : ℕ × ℕ). Own t (object.Word s.0)) stores → (Own t (object.Word at) → ⊥)
     → slice_get xs at ≡ slice_get (overlaid xs stores) at
 unstored t xs stores at stored lacks =
-    overlaid_other xs stores at (All-weaker (λ (s : ℕ × ℕ). Own t (object.Word s.0)) (λ (s : ℕ × ℕ). s.0 ≢ at) (λ s e q. lacks (subst (λ k. Own t (object.Word k)) q e)) stores stored)
+    overlaid_other xs stores at (All-weaker (λ (s : ℕ × ℕ). Own t (object.Word s.0)) (λ (s : ℕ × ℕ). s.0 ≢ at)
+    (λ s e q. lacks (subst (λ k. Own t (object.Word k)) q e)) stores stored)
 
+-- its stores give its words
 pub words_there : (w x : World) (t : Tx) (stores : List (ℕ × ℕ)) → KeepsBut (Own t) w x → All (λ (s : ℕ × ℕ). Own t (object.Word s.0)) stores
     → ((at : ℕ) → Has t (object.Word at) → slice_get x.words at ≡ slice_get (overlaid w.words stores) at) → x.words ≡ overlaid w.words stores
 words_there w x t stores keeps stored there =
@@ -133,7 +148,8 @@ words_there w x t stores keeps stored there =
 module _ (w v : World) (t : Tx) (count : length w.words ≡ length v.words) (blocks : w.blocks ≡ v.blocks) (agree : AgreeOn (Has t) w v) (i : Inside w t) where
   noted_alike : Alike (Has t) t.number w v (noted w t) (noted v t)
   noted_alike =
-      goes_on_alike (Has t) t.number w v (begins w t.began) (begins v t.began) (asked_of t.calls t.replies) (begin_alike (Has t) t.number w v t.began count agree)
+      goes_on_alike (Has t) t.number w v (begins w t.began) (begins v t.began) (asked_of t.calls t.replies)
+      (begin_alike (Has t) t.number w v t.began count agree)
       (λ o at. inl (i.covers.objects o (keeps_touched t.number (noted w t) t.unnoted o at))) (λ o e. inr e)
 
   ran_alike : Alike (Has t) t.number w v (ran w t) (ran v t)
@@ -146,7 +162,8 @@ module _ (w v : World) (t : Tx) (count : length w.words ≡ length v.words) (blo
 
   ends_alike : EndAlike (Has t) (Own t) (ran w t).world (ran v t).world (late_done w t)
   ends_alike =
-      lates_alike (Has t) (Own t) (ran w t).world (ran v t).world (late_done w t) (ran_alike.left.blocks ∙ blocks ∙ sym ran_alike.right.blocks) ran_alike.agree (done_within w t i.covers)
+      lates_alike (Has t) (Own t) (ran w t).world (ran v t).world (late_done w t)
+      (ran_alike.left.blocks ∙ blocks ∙ sym ran_alike.right.blocks) ran_alike.agree (done_within w t i.covers)
 
   same_done : late_done w t ≡ late_done v t
   same_done = ap (λ l. late_asked_of (take (length t.late_ends) l) t.late_ends) ran_alike.gave.late
@@ -166,7 +183,8 @@ module _ (w v : World) (t : Tx) (count : length w.words ≡ length v.words) (blo
         all_noted = h.all_noted;
         no_late_ends = h.no_late_ends;
         words = words_there v (ran v t).world t t.writes (ran_keeps v t covers_alike) h.stored
-            (λ at e. sym (ran_alike.agree (object.Word at) e) ∙ ap (λ ws. slice_get ws at) h.words ∙ overlaid_alike w.words v.words t.writes at (agree (object.Word at) e));
+            (λ at e. sym (ran_alike.agree (object.Word at) e) ∙ ap (λ ws. slice_get ws at) h.words ∙ overlaid_alike w.words v.words t.writes at
+            (agree (object.Word at) e));
         stored = h.stored;
       }
   phase_alike Committing h =
@@ -180,7 +198,7 @@ module _ (w v : World) (t : Tx) (count : length w.words ≡ length v.words) (blo
   phase_alike Undoing h = h
 
   -- it is inside the other as it is in the one, where that has no object with its number either
-  pub inside_alike : ((k : ℕ) → IsFree v (num t.number k)) → Inside v t
+  inside_alike : ((k : ℕ) → IsFree v (num t.number k)) → Inside v t
   inside_alike new =
       record {
         new = new;
@@ -199,7 +217,8 @@ module _ (w v : World) (t : Tx) (count : length w.words ≡ length v.words) (blo
   returned_alike now now' same Undoing o e =
       subst (λ ts. AgreeAt (returned w now t Undoing) (given_back now' ts) o) ran_alike.gave.taken (given_alike now now' (ran w t).taken o (same o e))
 
-  pub owns_alike : (now now' : World) → AgreeOn (Own t) now now' → (p : Phase) → AgreeOn (Own t) (returned w now t p) (left w t p) → AgreeOn (Own t) (returned v now' t p) (left v t p)
+  owns_alike : (now now' : World) → AgreeOn (Own t) now now' → (p : Phase) → AgreeOn (Own t) (returned w now t p) (left w t p)
+      → AgreeOn (Own t) (returned v now' t p) (left v t p)
   owns_alike now now' same p owns o e =
       let x = returned w now t p in
       let y = returned v now' t p in
@@ -217,7 +236,8 @@ free_alike w v t agree new k =
     }
 
 -- what another owns it doesn't have: so its flight goes on
-pub flight_kept : (own : Object → Type 0) (w v now now' : World) (t : Tx) → KeepsBut own w v → KeepsBut own now now' → ((o : Object) → own o → Has t o → ⊥) → Flight w now t → Flight v now' t
+pub flight_kept : (own : Object → Type 0) (w v now now' : World) (t : Tx) → KeepsBut own w v → KeepsBut own now now' → ((o : Object) → own o → Has t o → ⊥)
+    → Flight w now t → Flight v now' t
 flight_kept own w v now now' t state host apart f =
     let agree : AgreeOn (Has t) w v = λ o e. state.others o (λ q. apart o q e) in
     let i = f.inside in

@@ -31,6 +31,7 @@ own_some_has : (t : Option Tx) (o : Object) → OwnSome t o → HasSome t o
 own_some_has None o e = e
 own_some_has (Some t) o e = owns_has t o e
 
+-- a job has what it owns
 pub own_at_has : (s : Standing) (job : ℕ) (o : Object) → OwnAt s job o → HasAt s job o
 own_at_has s job o e = own_some_has (active_at s job) o e
 
@@ -38,12 +39,15 @@ own_at_has s job o e = own_some_has (active_at s job) o e
 pub has_it : (s : Standing) (job : ℕ) (t : Tx) (o : Object) → IsActive s job t → Has t o → HasAt s job o
 has_it s job t o active e = subst (λ x. HasSome x o) (sym active) e
 
+-- it owns what its transaction owns
 pub own_it : (s : Standing) (job : ℕ) (t : Tx) (o : Object) → IsActive s job t → Own t o → OwnAt s job o
 own_it s job t o active e = subst (λ x. OwnSome x o) (sym active) e
 
+-- its transaction has what it has
 pub it_has : (s : Standing) (job : ℕ) (t : Tx) (o : Object) → IsActive s job t → HasAt s job o → Has t o
 it_has s job t o active e = subst (λ x. HasSome x o) active e
 
+-- its transaction owns what it owns
 pub it_owns : (s : Standing) (job : ℕ) (t : Tx) (o : Object) → IsActive s job t → OwnAt s job o → Own t o
 it_owns s job t o active e = subst (λ x. OwnSome x o) active e
 
@@ -85,8 +89,10 @@ module _ (s s' : Standing) (job : ℕ) (h : InFlight s) (m : Move s s' job) wher
 
   free_after : (o : Object) → ((j : ℕ) → OwnAt s' j o → ⊥) → AgreeAt s'.now s'.state o
   free_after o nobody = ⊎_elim (λ (e : OwnAt s job o). m.free o e (nobody job)) (λ (lacks : OwnAt s job o → ⊥).
-      let none : (j : ℕ) → OwnAt s j o → ⊥ = λ j e. dite (ℕ_discrete j job) (λ (q : j ≡ job). lacks (subst (λ k. OwnAt s k o) q e)) (λ (ne : j ≢ job). nobody j (own_again j o ne e)) in
-      agree_on s'.now s.now s'.state o (agree_back s.now s'.now o (m.now.others o lacks)) (agree_on s.now s.state s'.state o (h.free o none) (m.state.others o lacks)))
+      let none : (j : ℕ) → OwnAt s j o → ⊥ = λ j e. dite (ℕ_discrete j job) (λ (q : j ≡ job). lacks (subst (λ k. OwnAt s k o) q e))
+      (λ (ne : j ≢ job). nobody j (own_again j o ne e)) in
+      agree_on s'.now s.now s'.state o (agree_back s.now s'.now o (m.now.others o lacks))
+      (agree_on s.now s.state s'.state o (h.free o none) (m.state.others o lacks)))
       (own_at_decide s job o)
 
   single_after : (i j : ℕ) (t u : Tx) → IsActive s' i t → IsActive s' j u → t.number ≡ u.number → i ≡ j
@@ -108,6 +114,7 @@ module _ (s s' : Standing) (job : ℕ) (h : InFlight s) (m : Move s s' job) wher
       (λ (e : j ≡ job). m.names o (subst (λ k. HasAt s' k o) e q))
       (λ (ne : j ≢ job). below_more s.next s'.next o m.rises (h.names j o (same_has j o ne q)))
 
+  -- a move keeps what is true of all
   pub moved : InFlight s'
   moved =
       record {
@@ -133,6 +140,7 @@ worlds_same v w h blocks =
     let started = h object.Jobs in
     λ i. record { words = words i; names = names i; files = files i; pipes = pipes i; pairs = pairs i; started = started i; blocks = blocks i }
 
+-- where nobody is active, the two worlds are one
 pub all_free : (s : Standing) → InFlight s → ((job : ℕ) → active_at s job ≡ None) → s.now ≡ s.state
 all_free s h none = worlds_same s.now s.state (λ o. h.free o (λ job e. subst (λ x. OwnSome x o) (none job) e)) h.blocks
 
@@ -142,6 +150,7 @@ get_set_same [] i x lt = let no = lt in absurd (omega (arith, no))
 get_set_same (y ∷ ys) zero x lt = refl
 get_set_same (y ∷ ys) (suc i) x lt = get_set_same ys i x (omega (arith, lt))
 
+-- the others stay
 pub get_set_other : (xs : List (Option Tx)) (i j : ℕ) (x : Option Tx) → j ≢ i → get_or (slice_set xs i x) j None ≡ get_or xs j None
 get_set_other [] i j x ne = refl
 get_set_other (y ∷ ys) zero zero x ne = absurd (ne refl)
@@ -149,11 +158,13 @@ get_set_other (y ∷ ys) zero (suc j) x ne = refl
 get_set_other (y ∷ ys) (suc i) zero x ne = refl
 get_set_other (y ∷ ys) (suc i) (suc j) x ne = get_set_other ys i j x (λ e. ne (ap suc e))
 
+-- a job with an active transaction is in the list
 pub is_inside : (xs : List (Option Tx)) (i : ℕ) (t : Tx) → get_or xs i None ≡ Some t → i < length xs
 is_inside [] i t e = cc e
 is_inside (y ∷ ys) zero t e = omega arith
 is_inside (y ∷ ys) (suc i) t e = let lt = is_inside ys i t e in omega (arith, lt)
 
+-- a job has one at most
 pub one_active : (s : Standing) (job : ℕ) (t u : Tx) → IsActive s job t → IsActive s job u → t ≡ u
 one_active s job t u a b = some_same t u (sym a ∙ b)
   where

@@ -1,5 +1,6 @@
 -- A transaction begins, goes on, claims or ends.
-use Rattle.std.proofs.Common.{◌≡◌, ◌≢◌, ℕ, ◌+◌, ◌<◌, ◌≤◌, inl, inr, List, [], ◌∷◌, ◌++◌, zero, suc, Option, Some, None, get_or, ap, sym, ◌∙◌, subst, refl, arith}
+use Rattle.std.proofs.Common.{◌≡◌, ◌≢◌, ℕ, ◌+◌, ◌<◌, ◌≤◌, inl, inr, List, [], ◌∷◌, ◌++◌, zero, suc, Option, Some, None, get_or, ap, sym, ◌∙◌, subst}
+use Rattle.std.proofs.Common.{refl, arith}
 use Rattle.std.specs.Prelude.{slice_set, length}
 use Rattle.std.proofs.lemmas.List.Elements.{All-nil}
 use Rattle.xc_data.specs.declared.object.Object.{Object}
@@ -28,7 +29,7 @@ numbered_low n next (object.Word at) lt e = tt
 numbered_low n next (object.Name name) lt e = tt
 numbered_low n next object.Jobs lt e = tt
 
-pub not_below : (n next : ℕ) (o : Object) → next ≤ n → IsBelow next o → IsNumbered n o → ⊥
+not_below : (n next : ℕ) (o : Object) → next ≤ n → IsBelow next o → IsNumbered n o → ⊥
 not_below n next (object.File q) le lt e = omega (arith, le, lt, e)
 not_below n next (object.Pipe q) le lt e = omega (arith, le, lt, e)
 not_below n next (object.Pair q) le lt e = omega (arith, le, lt, e)
@@ -49,6 +50,7 @@ module _ (s : Standing) (job : ℕ) (t t' : Tx) (now' : World) (h : InFlight s) 
     pub joins : (j : ℕ) (o : Object) → j ≢ job → Has t' o → OwnAt s j o → ⊥
     pub names : (o : Object) → Has t' o → IsBelow s.next o
 
+  -- it goes on, and has and owns more
   pub goes_on_with : Grows → KeepsBut (Own t) s.now now' → Flight s.state now' t' → InFlight (turned s job (Some t') now')
   goes_on_with g keeps flight =
       let is : active_at (turned s job (Some t') now') job ≡ Some t' = get_set_same s.active job (Some t') in_list in
@@ -82,13 +84,15 @@ module _ (s : Standing) (job : ℕ) (t t' : Tx) (now' : World) (h : InFlight s) 
       }) keeps flight
 
 -- ---- it ends: what it owned is as the new state says
-pub ends : (s : Standing) (job : ℕ) (t : Tx) (state now : World) → InFlight s → IsActive s job t → KeepsBut (Own t) s.state state → KeepsBut (Own t) s.now now → AgreeOn (Own t) now state
+pub ends : (s : Standing) (job : ℕ) (t : Tx) (state now : World) → InFlight s → IsActive s job t → KeepsBut (Own t) s.state state
+    → KeepsBut (Own t) s.now now → AgreeOn (Own t) now state
     → InFlight (entered s job state now)
 ends s job t state now h active model host owned =
     let s' = entered s job state now in
     let none : active_at s' job ≡ None = get_set_same s.active job None (is_inside s.active job t active) in
     let nobody : (u : Tx) → IsActive s' job u → ⊥ = λ u e. cc (none, e) in
-    let away : (o : Object) → (IsBelow s.next o → ⊥) → AgreeAt s.state state o = λ o far. model.others o (λ e. far (h.names job o (has_it s job t o active (owns_has t o e)))) in
+    let away : (o : Object) → (IsBelow s.next o → ⊥) → AgreeAt s.state state o = λ o far. model.others o
+    (λ e. far (h.names job o (has_it s job t o active (owns_has t o e)))) in
     moved s s' job h (record {
       state = keeps_more (Own t) (OwnAt s job) s.state state (λ o e. own_it s job t o active e) model;
       now = keeps_more (Own t) (OwnAt s job) s.now now (λ o e. own_it s job t o active e) host;
@@ -119,7 +123,14 @@ starts_inside w n began new =
       late = refl;
       trail = refl;
       covers = record { objects = λ o at. at; owned = λ o at. at };
-      phase = record { none = refl; all_noted = refl; no_late_ends = refl; words = refl; stored = All-nil (λ (s : ℕ × ℕ). Own (starting n began) (object.Word s.0)) };
+      phase = record {
+        none = refl;
+        all_noted = refl;
+        no_late_ends = refl;
+        words = refl;
+        stored = All-nil
+            (λ (s : ℕ × ℕ). Own (starting n began) (object.Word s.0));
+      };
     }
 
 none_held : (n : ℕ) (began : Private) (o : Object) → Has (starting n began) o → IsNumbered n o
@@ -129,6 +140,7 @@ none_held n began o (inr numbered) = numbered
 none_owned : (n : ℕ) (began : Private) (o : Object) → Own (starting n began) o → IsNumbered n o
 none_owned n began o e = none_held n began o (owns_has (starting n began) o e)
 
+-- a begin keeps all
 pub begins : (s : Standing) (job : ℕ) (began : Private) → InFlight s → job < length s.active → active_at s job ≡ None
     → InFlight (record s { active = slice_set s.active job (Some (starting s.next began)); next = s.next + 1 })
 begins s job began h lt idle =
@@ -179,6 +191,7 @@ get_push [] (suc j) = refl
 get_push (x ∷ xs) zero = refl
 get_push (x ∷ xs) (suc j) = get_push xs j
 
+-- a job more changes nothing
 pub one_job_more : (s : Standing) → InFlight s → InFlight (record s { active = s.active ++ None ∷ [] })
 one_job_more s h =
     let s' = record s { active = s.active ++ None ∷ [] } in

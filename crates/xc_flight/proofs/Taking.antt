@@ -1,5 +1,6 @@
 -- What a body took from pipes and pairs: it owns them, and made none of them.
-use Rattle.std.proofs.Common.{◌≡◌, ℕ, ◌+◌, ◌<◌, ◌≤◌, ◌==◌, ◌⊎◌, inl, inr, Bool, true, false, Some, None, Option, List, [], ◌∷◌, ◌++◌, length, ap, sym, ◌∙◌, subst, refl, arith}
+use Rattle.std.proofs.Common.{◌≡◌, ℕ, ◌+◌, ◌<◌, ◌≤◌, ◌==◌, ◌⊎◌, inl, inr, Bool, true, false, Some, None, Option, List, [], ◌∷◌, ◌++◌, length, ap, sym}
+use Rattle.std.proofs.Common.{◌∙◌, subst, refl, arith}
 use Rattle.std.specs.Prelude.{All, unwrap_or, if◌then◌else◌}
 use Rattle.std.specs.FinMap as finite
 use Rattle.std.proofs.lemmas.List.{length-append}
@@ -84,10 +85,12 @@ filled_alike w v (Bytes num bytes) e = ap in_pipe e
 filled_alike w v (Message num side bytes) e = ap in_pair e
 
 more_waiting : (p : Pair) (side : ℕ) (bytes : List ℕ)
-    → length p.first + length p.second < length (with_waiting p side (bytes ∷ waiting p side)).first + length (with_waiting p side (bytes ∷ waiting p side)).second
+    → length p.first + length p.second < length (with_waiting p side (bytes ∷ waiting p side)).first + length
+    (with_waiting p side (bytes ∷ waiting p side)).second
 more_waiting p side bytes = by_side (side == 0)
   where
-    by_side : (b : Bool) → (let q = if b then record p { first = bytes ∷ (if b then p.first else p.second) } else record p { second = bytes ∷ (if b then p.first else p.second) } in
+    by_side : (b : Bool) → (let was = if b then p.first else p.second in
+        let q = if b then record p { first = bytes ∷ was } else record p { second = bytes ∷ was } in
         length p.first + length p.second < length q.first + length q.second)
     by_side true = omega arith
     by_side false = omega arith
@@ -121,7 +124,8 @@ gives_no_less w (Message num side bytes) (Bytes q more) = omega arith
 gives_no_less w (Message num side bytes) (Message q other more) =
     let lt = more_waiting (pair_of w num) side bytes in
     elim (get-insert_cases num_total num_exact w.pairs num q (with_waiting (pair_of w num) side (bytes ∷ waiting (pair_of w num) side))) [
-      | inl same ↦ (let put = ap in_pair same.1 in let one = ap (λ n. length (pair_of w n).first + length (pair_of w n).second) same.0 in omega (arith, lt, put, one))
+      | inl same ↦ (let put = ap in_pair same.1 in let one = ap (λ n. length (pair_of w n).first + length (pair_of w n).second) same.0 in omega
+          (arith, lt, put, one))
       | inr e ↦ (let put = ap in_pair e in omega (arith, put))
     ]
 
@@ -138,7 +142,8 @@ all_fuller w (t ∷ ts) solid =
     let x = given_back w ts in
     All-cons (IsFuller w (gives x t)) t ts
     (let a = given_no_less w ts t in let b = gives_more x t (All-head Solid t ts solid) in omega (arith, a, b))
-    (All-weaker (IsFuller w x) (IsFuller w (gives x t)) (λ k lt. let b = gives_no_less x t k in omega (arith, lt, b)) ts (all_fuller w ts (All-tail Solid t ts solid)))
+    (All-weaker (IsFuller w x) (IsFuller w (gives x t)) (λ k lt. let b = gives_no_less x t k in omega (arith, lt, b)) ts
+    (all_fuller w ts (All-tail Solid t ts solid)))
 
 -- ---- in what records leave, the pipes and pairs that they made are empty
 moved_filled : (w : World) (from to : List ℕ) (o : Option Num) (k : KeptItem) → filled (move_name w from to o) k ≡ filled w k
@@ -224,8 +229,10 @@ all_coined : (tx : ℕ) (r : Ran) (asked : List Asked) → All (Coined tx) r.tra
 all_coined tx r [] coined = coined
 all_coined tx r (c ∷ asked) coined = all_coined tx (step tx r c) asked (All-append (Coined tx) r.trail _ coined (recorded_coined r.world r.me tx c.call _))
 
+-- of a whole body
 pub trail_coined : (w : World) (t : Tx) → All (Coined t.number) (ran w t).trail
-trail_coined w t = subst (λ (r : Ran). All (Coined t.number) r.trail) (ran_whole w t) (all_coined t.number (begins w t.began) (asked t) (All-nil (Coined t.number)))
+trail_coined w t = subst (λ (r : Ran). All (Coined t.number) r.trail) (ran_whole w t)
+    (all_coined t.number (begins w t.began) (asked t) (All-nil (Coined t.number)))
 
 -- ---- giving back, and words
 given_reworded : (x : World) (words : List ℕ) (ts : List KeptItem) → given_back (record x { words = words }) ts ≡ record (given_back x ts) { words = words }
@@ -237,12 +244,14 @@ given_reworded x words (Message num side bytes ∷ ts) = ap (λ v. gives v (Mess
 module _ (w : World) (t : Tx) (i : Inside w t) (sound : IsSound w t.began t.number) where
   returns : given_back (ran w t).world (ran w t).taken ≡ record (with_remains w (whole (ran w t).trail)) { words = (ran w t).world.words }
   returns =
-      subst (λ (r : Ran). given_back r.world r.taken ≡ record (with_remains w (whole r.trail)) { words = r.world.words }) (ran_whole w t) (body_returns w t.began t.number (asked t) sound i.fits)
+      subst (λ (r : Ran). given_back r.world r.taken ≡ record (with_remains w (whole r.trail)) { words = r.world.words }) (ran_whole w t)
+      (body_returns w t.began t.number (asked t) sound i.fits)
 
   -- with what it took given back, its body's world is S with its records, the words aside
   pub returns_left : given_back (record (ran w t).world { words = w.words }) (ran w t).taken ≡ with_remains w (whole (ran w t).trail)
   returns_left =
-      given_reworded (ran w t).world w.words (ran w t).taken ∙ ap (λ (x : World). record x { words = w.words }) returns ∙ sym (remains-words w w.words (whole (ran w t).trail))
+      given_reworded (ran w t).world w.words (ran w t).taken ∙ ap (λ (x : World). record x { words = w.words }) returns ∙ sym
+      (remains-words w w.words (whole (ran w t).trail))
 
   fuller : All (IsFuller (ran w t).world (with_remains w (whole (ran w t).trail))) (ran w t).taken
   fuller =
@@ -250,21 +259,25 @@ module _ (w : World) (t : Tx) (i : Inside w t) (sound : IsSound w t.began t.numb
       All-weaker (IsFuller (ran w t).world (given_back (ran w t).world (ran w t).taken)) (IsFuller (ran w t).world (with_remains w (whole (ran w t).trail)))
       (λ k lt. same_filled k (ap (λ x. filled x k) returns) lt) (ran w t).taken (all_fuller (ran w t).world (ran w t).taken solid)
     where
-      same_filled : (k : KeptItem) → filled (given_back (ran w t).world (ran w t).taken) k ≡ filled (record (with_remains w (whole (ran w t).trail)) { words = (ran w t).world.words }) k
+      same_filled : (k : KeptItem)
+          → filled (given_back (ran w t).world (ran w t).taken) k ≡ filled (record (with_remains w (whole (ran w t).trail)) { words = (ran w t).world.words }) k
           → IsFuller (ran w t).world (given_back (ran w t).world (ran w t).taken) k → IsFuller (ran w t).world (with_remains w (whole (ran w t).trail)) k
       same_filled (Bytes num bytes) e lt = omega (arith, e, lt)
       same_filled (Message num side bytes) e lt = omega (arith, e, lt)
 
   -- it owns what it took from
   pub taken_own : All (λ k. Own t (item_object k)) (ran w t).taken
-  taken_own = All-weaker (IsFuller (ran w t).world (with_remains w (whole (ran w t).trail))) (λ k. Own t (item_object k)) (λ k lt. one k lt (own_decide t (item_object k))) (ran w t).taken fuller
+  taken_own = All-weaker (IsFuller (ran w t).world (with_remains w (whole (ran w t).trail))) (λ k. Own t (item_object k))
+      (λ k lt. one k lt (own_decide t (item_object k))) (ran w t).taken fuller
     where
-      one : (k : KeptItem) → IsFuller (ran w t).world (with_remains w (whole (ran w t).trail)) k → Own t (item_object k) ⊎ (Own t (item_object k) → ⊥) → Own t (item_object k)
+      one : (k : KeptItem) → IsFuller (ran w t).world (with_remains w (whole (ran w t).trail)) k → Own t (item_object k) ⊎ (Own t (item_object k) → ⊥)
+          → Own t (item_object k)
       one k lt (inl own) = own
       one k lt (inr lacks) =
           let here = filled_alike w (ran w t).world k ((ran_keeps w t i.covers).others (item_object k) lacks) in
           let us = whole (ran w t).trail in
-          let there = filled_alike w (with_remains w us) k ((remains_keep (Own t) w us (whole_of (λ u. All (Own t) (objects_of u)) (ran w t).trail (trail_own w t i.covers))).others (item_object k) lacks) in
+          let there = filled_alike w (with_remains w us) k ((remains_keep (Own t) w us
+          (whole_of (λ u. All (Own t) (objects_of u)) (ran w t).trail (trail_own w t i.covers))).others (item_object k) lacks) in
           absurd (omega (arith, lt, here, there))
 
   -- and has not made it

@@ -48,7 +48,9 @@ turn w now t i sound none there o e =
     subst (λ x. AgreeAt (given_back now (ran w t).taken) x o) (returns_left w t i sound ∙ ap (with_remains w) (all_whole t (ran w t).trail i.trail none))
     (given_alike now (record (ran w t).world { words = w.words }) (ran w t).taken o (there o e))
 
-pub turns_back : (s : Standing) (job : ℕ) (t : Tx) → InFlight s → IsActive s job t → t.phase ≡ Running → IsSound s.state t.began t.number → InFlight (turned s job (Some (in_phase t Undoing)) s.now)
+-- a turn back keeps all
+pub turns_back : (s : Standing) (job : ℕ) (t : Tx) → InFlight s → IsActive s job t → t.phase ≡ Running → IsSound s.state t.began t.number
+    → InFlight (turned s job (Some (in_phase t Undoing)) s.now)
 turns_back s job t h active phase sound =
     let i = (h.flights job t active).inside in
     let p = is_running s job t h active phase in
@@ -60,7 +62,8 @@ turns_back s job t h active phase sound =
     })
 
 -- the call did its part, and then memory was wanting
-pub wants : (s : Standing) (job : ℕ) (t : Tx) (c : Asked) → InFlight s → IsActive s job t → t.phase ≡ Running → MayDo s.now t c → IsSound s.state t.began t.number
+pub wants : (s : Standing) (job : ℕ) (t : Tx) (c : Asked) → InFlight s → IsActive s job t → t.phase ≡ Running → MayDo s.now t c
+    → IsSound s.state t.began t.number
     → InFlight (turned s job (Some (wanting s.now t c)) (after_call s.now t c))
 wants s job t c h active phase k sound =
     let i = (h.flights job t active).inside in
@@ -115,7 +118,8 @@ last_of P [] u all = All-head P u [] all
 last_of P (x ∷ older) u all = last_of P older u (All-tail P x (older ++ u ∷ []) all)
 
 module _ (s : Standing) (job : ℕ) (t : Tx) (older : List Undo) (u : Undo) (end : UndoEnd)
-    (h : InFlight s) (active : IsActive s job t) (phase : t.phase ≡ Undoing) (sound : IsSound s.state t.began t.number) (newest : t.pending ≡ older ++ u ∷ []) where
+    (h : InFlight s) (active : IsActive s job t) (phase : t.phase ≡ Undoing) (sound : IsSound s.state t.began t.number)
+    (newest : t.pending ≡ older ++ u ∷ []) where
   inside : Inside s.state t
   inside = (h.flights job t active).inside
 
@@ -131,7 +135,8 @@ module _ (s : Standing) (job : ℕ) (t : Tx) (older : List Undo) (u : Undo) (end
   not_taken : (o : Object) → Contains (objects_of u) o → All (λ k. item_object k ≢ o) (ran s.state t).taken
   not_taken o at =
       All-weaker (λ k. IsNumbered t.number (item_object k) → ⊥) (λ k. item_object k ≢ o)
-      (λ k elsewhere. All-contains (λ p. item_object k ≢ p) (objects_of u) o (all_away t.number u k (of_record (Coined t.number) (trail_coined s.state t)) elsewhere) at)
+      (λ k elsewhere. All-contains (λ p. item_object k ≢ p) (objects_of u) o (all_away t.number u k
+      (of_record (Coined t.number) (trail_coined s.state t)) elsewhere) at)
       (ran s.state t).taken (taken_elsewhere s.state t inside sound)
 
   there : (o : Object) → Contains (objects_of u) o → AgreeAt s.now (with_remains s.state (effects t)) o
@@ -150,19 +155,27 @@ module _ (s : Standing) (job : ℕ) (t : Tx) (older : List Undo) (u : Undo) (end
       let r = with_remains s.state (effects t) in
       let now' = undone_to s.now u end in
       let r' = undone_to r u end in
-      ⊎_elim (λ (at : Contains (objects_of u) o). agree_on (given_back now' ts) now' r' o (agree_back now' (given_back now' ts) o (given_away now' ts o (not_taken o at))) (All-contains (AgreeAt now' r') (objects_of u) o both.agree at))
+      ⊎_elim (λ (at : Contains (objects_of u) o). agree_on (given_back now' ts) now' r' o
+      (agree_back now' (given_back now' ts) o (given_away now' ts o (not_taken o at))) (All-contains (AgreeAt now' r') (objects_of u) o both.agree at))
       (λ (lacks : Contains (objects_of u) o → ⊥).
       agree_on (given_back now' ts) (given_back s.now ts) r' o (given_alike now' s.now ts o (agree_back s.now now' o (both.left.others o lacks)))
       (agree_on (given_back s.now ts) r r' o (owns o e) (both.right.others o lacks)))
       (decide (objects_of u) o)
 
-  pub undoes : undone_to (with_remains s.state (effects t)) u end ≡ with_remains s.state (effects (with_undone t older u end)) → InFlight (turned s job (Some (with_undone t older u end)) (undone_to s.now u end))
+  -- a compensation keeps all
+  pub undoes : undone_to (with_remains s.state (effects t)) u end ≡ with_remains s.state (effects (with_undone t older u end))
+      → InFlight (turned s job (Some (with_undone t older u end)) (undone_to s.now u end))
   undoes law =
       let i = inside in
       let now' = undone_to s.now u end in
       let t' = with_undone t older u end in
       goes_on s job t t' now' h active refl refl
-      (record { others = λ o lacks. both.left.others o (λ at. lacks (All-contains (Own t) (objects_of u) o record_own at)); count = both.left.count; blocks = both.left.blocks }) (record {
+      (record {
+        others = λ o lacks. both.left.others o (λ at. lacks (All-contains (Own t)
+            (objects_of u) o record_own at));
+        count = both.left.count;
+        blocks = both.left.blocks;
+      }) (record {
         inside = record {
           new = i.new;
           fits = i.fits;
@@ -187,7 +200,8 @@ aborted s job t h active phase sound none =
     let same : effects t ≡ remains t.ended = ap (λ us. whole us ++ remains t.ended) none in
     subst (λ es. InFlight (entered s job (with_remains s.state es) now')) same
     (ends s job t (with_remains s.state (effects t)) now' h active (left_keeps s.state t f.inside Undoing) (record {
-      others = λ o lacks. given_away s.now ts o (All-weaker (λ k. Own t (item_object k)) (λ k. item_object k ≢ o) (λ k own e. lacks (subst (Own t) e own)) ts (taken_own s.state t f.inside sound));
+      others = λ o lacks. given_away s.now ts o (All-weaker (λ k. Own t (item_object k)) (λ k. item_object k ≢ o)
+          (λ k own e. lacks (subst (Own t) e own)) ts (taken_own s.state t f.inside sound));
       count = ap length (given_words s.now ts);
       blocks = given_blocks s.now ts;
     }) (subst (λ p. AgreeOn (Own t) (returned s.state s.now t p) (left s.state t p)) phase f.owns))

@@ -41,7 +41,8 @@ pub overlaid_other : (xs : List ℕ) (stores : List (ℕ × ℕ)) (at : ℕ) →
 overlaid_other xs [] at away = refl
 overlaid_other xs ((place, value) ∷ stores) at away =
     let P : ℕ × ℕ → Type 0 = λ s. s.0 ≢ at in
-    set_other xs place at value (All-head P (place, value) stores away) ∙ overlaid_other (slice_set xs place value) stores at (All-tail P (place, value) stores away)
+    set_other xs place at value (All-head P (place, value) stores away) ∙ overlaid_other (slice_set xs place value) stores at
+    (All-tail P (place, value) stores away)
   where
     set_other : (xs : List ℕ) (i j x : ℕ) → i ≢ j → slice_get xs j ≡ slice_get (slice_set xs i x) j
     set_other [] i j x ne = refl
@@ -51,9 +52,11 @@ overlaid_other xs ((place, value) ∷ stores) at away =
     set_other (y ∷ ys) (suc i) (suc j) x ne = set_other ys i j x (λ e. ne (ap suc e))
 
 -- the same stores over words that agree at a place agree there
-pub overlaid_alike : (xs ys : List ℕ) (stores : List (ℕ × ℕ)) (at : ℕ) → slice_get xs at ≡ slice_get ys at → slice_get (overlaid xs stores) at ≡ slice_get (overlaid ys stores) at
+pub overlaid_alike : (xs ys : List ℕ) (stores : List (ℕ × ℕ)) (at : ℕ) → slice_get xs at ≡ slice_get ys at
+    → slice_get (overlaid xs stores) at ≡ slice_get (overlaid ys stores) at
 overlaid_alike xs ys [] at e = e
-overlaid_alike xs ys ((place, value) ∷ stores) at e = overlaid_alike (slice_set xs place value) (slice_set ys place value) stores at (set_alike xs ys place at value e)
+overlaid_alike xs ys ((place, value) ∷ stores) at e = overlaid_alike (slice_set xs place value) (slice_set ys place value) stores at
+    (set_alike xs ys place at value e)
   where
     set_alike : (xs ys : List ℕ) (i j x : ℕ) → slice_get xs j ≡ slice_get ys j → slice_get (slice_set xs i x) j ≡ slice_get (slice_set ys i x) j
     set_alike [] [] i j x e = refl
@@ -70,6 +73,7 @@ overlaid_alike xs ys ((place, value) ∷ stores) at e = overlaid_alike (slice_se
     set_alike (z ∷ zs) (y ∷ ys) (suc i) zero x e = e
     set_alike (z ∷ zs) (y ∷ ys) (suc i) (suc j) x e = set_alike zs ys i j x e
 
+-- there are as many words as before
 pub overlaid_count : (xs : List ℕ) (stores : List (ℕ × ℕ)) → length (overlaid xs stores) ≡ length xs
 overlaid_count xs [] = refl
 overlaid_count xs ((place, value) ∷ stores) = overlaid_count (slice_set xs place value) stores ∙ set_count xs place value
@@ -82,27 +86,31 @@ overlaid_count xs ((place, value) ∷ stores) = overlaid_count (slice_set xs pla
 -- ---- giving back touches each object by itself
 put_alike : {X : Type 0} (m n : map.FinMap num_cmp X) (k q : Num) (f : Option X → X) → map.get m q ≡ map.get n q
     → map.get (map.insert m k (f (map.get m k))) q ≡ map.get (map.insert n k (f (map.get n k))) q
-put_alike m n k q f e = map.get-insert num_total m k (f (map.get m k)) q ∙ by_test (eq_by_cmp num_cmp q k) refl ∙ sym (map.get-insert num_total n k (f (map.get n k)) q)
+put_alike m n k q f e = map.get-insert num_total m k (f (map.get m k)) q ∙ by_test (eq_by_cmp num_cmp q k) refl ∙ sym
+    (map.get-insert num_total n k (f (map.get n k)) q)
   where
     by_test : (b : Bool) → eq_by_cmp num_cmp q k ≡ b → cond b (Some (f (map.get m k))) (map.get m q) ≡ cond b (Some (f (map.get n k))) (map.get n q)
     by_test true t = ap (λ o. Some (f o)) (subst (λ x. map.get m x ≡ map.get n x) (tied num_total num_exact q k t) e)
     by_test false t = e
 
-pub gives_alike : (w v : World) (t : KeptItem) (o : Object) → AgreeAt w v o → AgreeAt (gives w t) (gives v t) o
-gives_alike w v (Bytes num bytes) (object.Pipe q) e = put_alike w.pipes v.pipes num q (λ (found : Option Pipe). record (unwrap_or found empty_pipe) { held = bytes ++ (unwrap_or found empty_pipe).held }) e
+gives_alike : (w v : World) (t : KeptItem) (o : Object) → AgreeAt w v o → AgreeAt (gives w t) (gives v t) o
+gives_alike w v (Bytes num bytes) (object.Pipe q) e = put_alike w.pipes v.pipes num q
+    (λ (found : Option Pipe). record (unwrap_or found empty_pipe) { held = bytes ++ (unwrap_or found empty_pipe).held }) e
 gives_alike w v (Bytes num bytes) (object.Word at) e = e
 gives_alike w v (Bytes num bytes) (object.Name name) e = e
 gives_alike w v (Bytes num bytes) (object.File q) e = e
 gives_alike w v (Bytes num bytes) (object.Pair q) e = e
 gives_alike w v (Bytes num bytes) object.Jobs e = e
 gives_alike w v (Message num side bytes) (object.Pair q) e =
-    put_alike w.pairs v.pairs num q (λ (found : Option Pair). with_waiting (unwrap_or found empty_pair) side (bytes ∷ waiting (unwrap_or found empty_pair) side)) e
+    put_alike w.pairs v.pairs num q (λ (found : Option Pair). with_waiting (unwrap_or found empty_pair) side
+    (bytes ∷ waiting (unwrap_or found empty_pair) side)) e
 gives_alike w v (Message num side bytes) (object.Word at) e = e
 gives_alike w v (Message num side bytes) (object.Name name) e = e
 gives_alike w v (Message num side bytes) (object.File q) e = e
 gives_alike w v (Message num side bytes) (object.Pipe q) e = e
 gives_alike w v (Message num side bytes) object.Jobs e = e
 
+-- giving back in two worlds that agree
 pub given_alike : (w v : World) (ts : List KeptItem) (o : Object) → AgreeAt w v o → AgreeAt (given_back w ts) (given_back v ts) o
 given_alike w v [] o e = e
 given_alike w v (t ∷ ts) o e = gives_alike (given_back w ts) (given_back v ts) t o (given_alike w v ts o e)
@@ -131,13 +139,16 @@ pub given_away : (w : World) (ts : List KeptItem) (o : Object) → All (λ t. it
 given_away w [] o away = agree_itself w o
 given_away w (t ∷ ts) o away =
     let P : KeptItem → Type 0 = λ x. item_object x ≢ o in
-    agree_on w (given_back w ts) (gives (given_back w ts) t) o (given_away w ts o (All-tail P t ts away)) (gives_away (given_back w ts) t o (All-head P t ts away))
+    agree_on w (given_back w ts) (gives (given_back w ts) t) o (given_away w ts o (All-tail P t ts away))
+    (gives_away (given_back w ts) t o (All-head P t ts away))
 
+-- it changes no word
 pub given_words : (w : World) (ts : List KeptItem) → (given_back w ts).words ≡ w.words
 given_words w [] = refl
 given_words w (Bytes num bytes ∷ ts) = given_words w ts
 given_words w (Message num side bytes ∷ ts) = given_words w ts
 
+-- nor a block
 pub given_blocks : (w : World) (ts : List KeptItem) → (given_back w ts).blocks ≡ w.blocks
 given_blocks w [] = refl
 given_blocks w (Bytes num bytes ∷ ts) = given_blocks w ts

@@ -23,6 +23,7 @@ noted w t = body w t.began t.number (asked_of t.calls t.replies)
 abbrev pub ran : World → Tx → Ran
 ran w t = goes_on t.number (noted w t) t.unnoted
 
+-- all its calls with their answers
 abbrev pub asked : Tx → List Asked
 asked t = asked_of t.calls t.replies ++ t.unnoted
 
@@ -30,6 +31,7 @@ asked t = asked_of t.calls t.replies ++ t.unnoted
 abbrev pub late_done : World → Tx → List (LateCall × LateAnswer)
 late_done w t = late_asked_of (take (length t.late_ends) (ran w t).late) t.late_ends
 
+-- where they lead
 abbrev pub done_late : World → Tx → Finished
 done_late w t = lates (ran w t).world (late_done w t)
 
@@ -50,6 +52,7 @@ returned w now t Undoing = given_back now (ran w t).taken
 returned w now t _ = now
 
 -- ---- what each phase says
+-- a running one: its stores wait
 pub record IsRunning (w : World) (t : Tx) : Type 0 where
   pub none : t.ended ≡ []
   pub all_noted : t.unnoted ≡ []
@@ -58,6 +61,7 @@ pub record IsRunning (w : World) (t : Tx) : Type 0 where
   pub words : (ran w t).world.words ≡ overlaid w.words t.writes
   pub stored : All (λ s. Own t (object.Word s.0)) t.writes
 
+-- a committing one: its late calls so far ended as their ends tell
 pub record IsCommitting (w : World) (t : Tx) : Type 0 where
   pub none : t.ended ≡ []
   pub all_noted : t.unnoted ≡ []
@@ -66,6 +70,7 @@ pub record IsCommitting (w : World) (t : Tx) : Type 0 where
   pub ends : (done_late w t).ends ≡ t.late_ends
   pub fits : IsTrue (lates_fit (ran w t).world (late_done w t))
 
+-- a transaction in a phase
 abbrev pub IsPhase : World → Tx → Phase → Type 0
 IsPhase w t Running = IsRunning w t
 IsPhase w t Committing = IsCommitting w t
@@ -86,6 +91,7 @@ pub record Inside (w : World) (t : Tx) : Type 0 where
   pub covers : Covers t.held (ran w t).touched
   pub phase : IsPhase w t t.phase
 
+-- a transaction in flight
 pub record Flight (w now : World) (t : Tx) : Type 0 where
   pub inside : Inside w t
   -- what it owns is in the station as it left it

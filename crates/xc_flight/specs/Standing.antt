@@ -21,6 +21,7 @@ pub record Standing : Type 0 where
   -- the next transaction's number
   pub next : ℕ
 
+-- a job's active transaction, where it has one
 abbrev pub active_at : Standing → ℕ → Option Tx
 active_at s job = get_or s.active job None
 
@@ -33,13 +34,16 @@ abbrev pub HasSome : Option Tx → Object → Type 0
 HasSome None o = ⊥
 HasSome (Some t) o = Has t o
 
+-- what the transaction owns, where there is one
 abbrev pub OwnSome : Option Tx → Object → Type 0
 OwnSome None o = ⊥
 OwnSome (Some t) o = Own t o
 
+-- what a job has
 abbrev pub HasAt : Standing → ℕ → Object → Type 0
 HasAt s job o = HasSome (active_at s job) o
 
+-- what a job owns
 abbrev pub OwnAt : Standing → ℕ → Object → Type 0
 OwnAt s job o = OwnSome (active_at s job) o
 
