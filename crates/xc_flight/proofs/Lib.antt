@@ -12,3 +12,4 @@ pub mod Claiming
 pub mod Sounding
 pub mod Together
 pub mod Examples
+pub mod Overwriting

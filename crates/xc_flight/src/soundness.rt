@@ -4,7 +4,7 @@ ghost use Rattle.xc_data.specs.declared.private.Place.{Place};
 ghost use Rattle.xc_flight.specs.Active.{Tx, Committing};
 ghost use Rattle.xc_flight.specs.Turns.{starting, after_commit, after_abort};
 ghost use Rattle.xc_world.specs.Effects.{AreMadeIn};
-ghost use Rattle.xc_flight.specs.Standing.{Standing, InFlight, IsActive, AreSound, IsIdleSound, turned, entered, Flies, begun};
+ghost use Rattle.xc_flight.specs.Standing.{IsSoundFor, Standing, InFlight, IsActive, AreSound, IsIdleSound, turned, entered, Flies, begun};
 
 /// A turn of an active transaction keeps all sound.
 pub fn a_step_keeps_all_sound()
@@ -47,4 +47,10 @@ pub fn an_abort_keeps_others_sound()
 pub fn an_abort_keeps_idle_jobs_sound()
     ensures { (s : Standing) (t : Tx) (places : List Place) → AreMadeIn s.state (map (λ r. r.0) t.ended) → IsIdleSound s.state s.next places
         → IsIdleSound (after_abort s.state t) s.next places }
+{}
+
+/// And its own job may begin its next one, with the handles that it had.
+pub fn an_abort_leaves_its_job_sound()
+    ensures { (s : Standing) (job : ℕ) (t : Tx) (now : World) → IsSoundFor s.state t → AreMadeIn s.state (map (λ r. r.0) t.ended)
+        → InFlight (entered s job (after_abort s.state t) now) → IsIdleSound (after_abort s.state t) s.next t.began.places }
 {}

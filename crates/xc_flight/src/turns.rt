@@ -1,4 +1,4 @@
-ghost use Rattle.std.specs.Prelude.{◌≡◌, ◌<◌, ◌+◌, ◌++◌, ◌∷◌, [], ℕ, List, IsTrue, All, Contains, None, Some, length};
+ghost use Rattle.std.specs.Prelude.{map, true, ◌≡◌, ◌<◌, ◌+◌, ◌++◌, ◌∷◌, [], ℕ, List, IsTrue, All, Contains, None, Some, length};
 ghost use Rattle.xc_data.specs.declared.object.Object.{Object};
 ghost use Rattle.xc_world.specs.Own.{AgreeOn};
 ghost use Rattle.xc_data.specs.declared.call.Asked.{Asked};
@@ -13,15 +13,15 @@ ghost use Rattle.xc_flight.specs.Turns.{starting, seen, claiming, IsGranted, IsO
 ghost use Rattle.xc_flight.specs.Turns.{after_call, in_phase, IsDoneLate, with_end, wanting, with_undone, after_commit, after_abort};
 ghost use Rattle.xc_data.specs.declared.undo.Undo.{Undo};
 ghost use Rattle.xc_data.specs.declared.undo.UndoEnd.{UndoEnd};
-ghost use Rattle.xc_world.specs.Ends.{remains, with_remains};
-ghost use Rattle.xc_world.specs.Effects.{undone_to};
+ghost use Rattle.xc_world.specs.Ends.{IsLegalEnd, blocker, with_remains};
+ghost use Rattle.xc_world.specs.Effects.{AreMadeIn, only_overwrites, undone_to};
 ghost use Rattle.xc_data.specs.declared.call.LateCall.{LateCall};
 ghost use Rattle.xc_data.specs.declared.call.LateAnswer.{LateAnswer};
 ghost use Rattle.xc_world.specs.Late.{late};
 ghost use Rattle.xc_world.specs.Run.{run};
 ghost use Rattle.xc_data.specs.declared.private.Private.{Private};
-ghost use Rattle.xc_flight.specs.Flight.{ran, effects, returned};
-ghost use Rattle.xc_flight.specs.Standing.{Standing, InFlight, active_at, turned, entered, Flies, begun, IsSoundFor};
+ghost use Rattle.xc_flight.specs.Flight.{ran, asked, effects, returned};
+ghost use Rattle.xc_flight.specs.Standing.{Standing, InFlight, IsActive, active_at, turned, entered, Flies, begun, IsSoundFor};
 
 /// A transaction begins with the next number: it holds nothing, and owns what it will make.
 pub fn a_begin_keeps_all()
@@ -117,6 +117,20 @@ pub fn a_compensation_keeps_all()
     ensures { (s : Standing) (job : ℕ) (t : Tx) (older : List Undo) (u : Undo) (end : UndoEnd) → Flies s job t Undoing
         → IsSoundFor s.state t → t.pending ≡ older ++ u ∷ []
         → undone_to (with_remains s.state (effects t)) u end ≡ with_remains s.state (effects (with_undone t older u end))
+        → InFlight (turned s job (Some (with_undone t older u end)) (undone_to s.now u end)) }
+{}
+
+/// The records of a transaction that only overwrites were made one after another.
+pub fn an_overwriting_transaction_leaves_records()
+    ensures { (s : Standing) (job : ℕ) (t : Tx) → InFlight s → IsActive s job t → IsSoundFor s.state t
+        → All (λ c. only_overwrites c.call ≡ true) (asked t) → AreMadeIn s.state (t.pending ++ map (λ r. r.0) t.ended) }
+{}
+
+/// The compensation of such a record keeps all, however it ends.
+pub fn a_compensation_of_an_overwrite_keeps_all()
+    ensures { (s : Standing) (job : ℕ) (t : Tx) (older : List Undo) (u : Undo) (end : UndoEnd) → Flies s job t Undoing → IsSoundFor s.state t
+        → AreMadeIn s.state (t.pending ++ map (λ r. r.0) t.ended) → t.pending ≡ older ++ u ∷ []
+        → (tries : ℕ) → IsLegalEnd tries u end (blocker (length older + 1 + 1) u t.ended)
         → InFlight (turned s job (Some (with_undone t older u end)) (undone_to s.now u end)) }
 {}
 
