@@ -27,7 +27,7 @@ use Rattle.xc_world.proofs.Joined.{body_last}
 use Rattle.xc_flight.specs.Active.{Tx, Phase, Running, Has, Own, Covers}
 use Rattle.xc_flight.specs.Flight.{noted, ran, asked, left, returned, IsRunning, IsPhase, Inside, Flight}
 use Rattle.xc_flight.specs.Standing.{Standing, IsActive, InFlight, OwnAt, turned}
-use Rattle.xc_flight.specs.Turns.{seen, did, leaving, noting, after_call, MayDo, IsNoted}
+use Rattle.xc_flight.specs.Turns.{seen, did, leaving, taking, noting, after_call, MayDo, IsNoted}
 use Rattle.xc_flight.proofs.Basics.{own_decide, owns_has, owns_own}
 use Rattle.xc_flight.proofs.Worlds.{overlaid_alike, overlaid_count}
 use Rattle.xc_flight.proofs.Frames.{ran_keeps, left_keeps, words_there}
@@ -79,7 +79,7 @@ module _ (s : Standing) (job : ℕ) (t : Tx) (h : InFlight s) (active : IsActive
 
   -- what it left is in the station, its stores aside
   pub running_left : AgreeOn (Has t) s.now (left s.state t Running)
-  running_left = now_left s job t h active Running (subst (λ p. AgreeOn (Own t) (returned s.state s.now t p) (left s.state t p)) phase flight.owns)
+  running_left = now_left s job t h active Running (subst (λ p. AgreeOn (Own t) (returned s.now t p) (left s.state t p)) phase flight.owns)
 
   -- all that it has it sees as its body left it
   pub sees : AgreeOn (Has t) (ran s.state t).world (seen s.now t)
@@ -195,6 +195,10 @@ module _ (s : Standing) (job : ℕ) (t : Tx) (c : Asked) (h : InFlight s) (activ
       steps.gave.trail ∙ ap (λ us. us ++ leaving s.now t c) old_trail ∙ sym (append-nil (t.pending ++ leaving s.now t c))
       ∙ ap (λ es. (t.pending ++ leaving s.now t c) ++ map (λ (e : Ending). e.0) es) (sym (is_running s job t h active phase).none)
 
+  -- what it took, and then what the call took
+  pub step_taken : (step t.number (noted s.state t) c).taken ≡ t.taken ++ taking s.now t c
+  step_taken = steps.gave.taken ∙ ap (λ l. l ++ taking s.now t c) (ap (λ (r : Ran). r.taken) (sym (all_noted s job t h active phase)) ∙ inside.taken)
+
   -- the body's world after the step is in the station, its stores aside
   pub step_stands : AgreeOn (Has t) (after_call s.now t c) (record (step t.number (noted s.state t) c).world { words = s.state.words })
   step_stands o has =
@@ -248,6 +252,7 @@ module _ (s : Standing) (job : ℕ) (t : Tx) (c : Asked) (writes : List (ℕ × 
         late = ap (λ (r : Ran). r.late) noted_more ∙ (steps s job t c h active phase k).gave.late ∙ ap
             (λ l. l ++ kept_call c.call t.me (did s.now t c).reply) (inside s job t c h active phase k).late;
         trail = ap (λ (r : Ran). r.trail) ran_more ∙ (step_trail s job t c h active phase k);
+        taken = ap (λ (r : Ran). r.taken) ran_more ∙ step_taken s job t c h active phase k;
         covers = subst (λ (r : Ran). Covers t.held r.touched) (sym ran_more) (step_covers s job t c h active phase k);
         phase = subst (IsPhase s.state (noting s.now t c writes)) (sym phase)
             (record { none = p.none; all_noted = p.all_noted; no_late_ends = p.no_late_ends; words = words_then; stored = d.stored });
@@ -258,7 +263,7 @@ module _ (s : Standing) (job : ℕ) (t : Tx) (c : Asked) (writes : List (ℕ × 
   called =
       job_goes_on s job t (noting s.now t c writes) (after_call s.now t c) h active refl refl (after_keeps s job t c h active phase k) (record {
         inside = noted_inside;
-        owns = subst (λ p. AgreeOn (Own t) (returned s.state (after_call s.now t c) (noting s.now t c writes) p)
+        owns = subst (λ p. AgreeOn (Own t) (returned (after_call s.now t c) (noting s.now t c writes) p)
             (left s.state (noting s.now t c writes) p)) (sym phase)
             (λ o e. subst (λ (r : Ran). AgreeAt (after_call s.now t c) (record r.world { words = s.state.words }) o) (sym ran_more)
             ((step_stands s job t c h active phase k) o (owns_has t o e)));

@@ -203,7 +203,7 @@ module _ (s : Standing) (job : ℕ) (t : Tx) (claims held : List Claim) (h : InF
       let f = h.flights job t active in
       let i = f.inside in
       let p = is_running s job t h active phase in
-      let owns : AgreeOn (Own t) s.now (left w t Running) = subst (λ q. AgreeOn (Own t) (returned w s.now t q) (left w t q)) phase f.owns in
+      let owns : AgreeOn (Own t) s.now (left w t Running) = subst (λ q. AgreeOn (Own t) (returned s.now t q) (left w t q)) phase f.owns in
       goes_on_with s job t t' s.now h active (record { same = refl; own = own_more; gains = gains; joins = joins; names = names })
       (keeps_itself (Own t) s.now) (record {
         inside = record {
@@ -213,6 +213,7 @@ module _ (s : Standing) (job : ℕ) (t : Tx) (claims held : List Claim) (h : InF
           me = i.me;
           late = i.late;
           trail = i.trail;
+          taken = i.taken;
           covers = covers_through t'.held t.held (ran w t).touched still_held i.covers;
           phase = subst (IsPhase w t') (sym phase) (record {
             none = p.none;
@@ -223,7 +224,7 @@ module _ (s : Standing) (job : ℕ) (t : Tx) (claims held : List Claim) (h : InF
                 (λ x e. own_more (object.Word x.0) e) t.writes p.stored;
           });
         };
-        owns = subst (λ q. AgreeOn (Own t') (returned w s.now t' q) (left w t' q)) (sym phase)
+        owns = subst (λ q. AgreeOn (Own t') (returned s.now t' q) (left w t' q)) (sym phase)
             (λ o e. ⊎_elim (λ (own : Own t o). owns o own)
             (λ (lacks : Own t o → ⊥). agree_on s.now w (left w t Running) o (was_free o lacks
             (⊎_elim (λ (own : Own t o). absurd (lacks own)) (λ (new : Contains (owned claims) o). new) (own_before o e)))

@@ -55,6 +55,7 @@ commits s job t h active phase =
         me = i.me;
         late = i.late;
         trail = i.trail;
+        taken = i.taken;
         covers = i.covers;
         phase = record {
           none = p.none;
@@ -147,7 +148,7 @@ module _ (s : Standing) (job : ℕ) (t : Tx) (c : LateCall) (a : LateAnswer) (h 
   there : AgreeOn (Has t) (left s.state t Committing) s.now
   there o e =
       agree_back s.now (left s.state t Committing) o
-      (now_left s job t h active Committing (subst (λ p. AgreeOn (Own t) (returned s.state s.now t p) (left s.state t p)) phase
+      (now_left s job t h active Committing (subst (λ p. AgreeOn (Own t) (returned s.now t p) (left s.state t p)) phase
       (h.flights job t active).owns) o e)
 
   speaks : LooksWithin (Has t) (Own t) c
@@ -174,6 +175,7 @@ module _ (s : Standing) (job : ℕ) (t : Tx) (c : LateCall) (a : LateAnswer) (h 
         me = i.me;
         late = i.late;
         trail = i.trail;
+        taken = i.taken;
         covers = i.covers;
         phase = subst (IsPhase s.state (with_end t (late s.now c a).end)) (sym phase) (record {
           none = p.none;
@@ -193,7 +195,7 @@ module _ (s : Standing) (job : ℕ) (t : Tx) (c : LateCall) (a : LateAnswer) (h 
       let x = (ran s.state t).world in
       goes_on s job t (with_end t (late s.now c a).end) (late s.now c a).world h active refl refl (late_keeps (Own t) s.now c a speaks.changes) (record {
         inside = late_inside;
-        owns = subst (λ p. AgreeOn (Own t) (returned s.state (late s.now c a).world (with_end t (late s.now c a).end) p)
+        owns = subst (λ p. AgreeOn (Own t) (returned (late s.now c a).world (with_end t (late s.now c a).end) p)
             (left s.state (with_end t (late s.now c a).end) p)) (sym phase)
             (λ o e. let y = late (left s.state t Committing) c a in
             subst (λ v. AgreeAt (late s.now c a).world v o) (sym (ap (λ l. (lates x l).world) one_more ∙ more.world))
@@ -217,4 +219,4 @@ committed s job t h active phase all =
     (λ (r : Ran). (lates r.world (late_asked_of r.late t.late_ends)).world) same_body in
     subst (λ v. InFlight (entered s job v s.now)) same
     (ends s job t (left w t Committing) s.now h active (left_keeps w t f.inside Committing) (keeps_itself (Own t) s.now)
-    (subst (λ q. AgreeOn (Own t) (returned w s.now t q) (left w t q)) phase f.owns))
+    (subst (λ q. AgreeOn (Own t) (returned s.now t q) (left w t q)) phase f.owns))

@@ -16,7 +16,7 @@ use Rattle.xc_data.specs.Standing.{objects_of, stands_from}
 use Rattle.xc_txmem.specs.Overlay.{overlaid}
 use Rattle.xc_world.specs.World.{World}
 use Rattle.xc_world.specs.Fits.{late_answer_of}
-use Rattle.xc_world.specs.Run.{Ran, begins, step, given_back, body, body_fits, lates, lates_fit, asked_of, late_asked_of}
+use Rattle.xc_world.specs.Run.{Ran, begins, step, body, body_fits, lates, lates_fit, asked_of, late_asked_of}
 use Rattle.xc_world.specs.Ends.{Ending, standing_of, remains}
 use Rattle.xc_world.specs.Effects.{whole}
 use Rattle.xc_world.specs.Laws.{AgreeAt, late_objects}
@@ -207,21 +207,21 @@ module _ (w v : World) (t : Tx) (count : length w.words ≡ length v.words) (blo
         me = sym noted_alike.gave.me ∙ i.me;
         late = sym noted_alike.gave.late ∙ i.late;
         trail = sym ran_alike.gave.trail ∙ i.trail;
+        taken = sym ran_alike.gave.taken ∙ i.taken;
         covers = covers_alike;
         phase = phase_alike t.phase i.phase;
       }
 
-  returned_alike : (now now' : World) → AgreeOn (Own t) now now' → (p : Phase) → AgreeOn (Own t) (returned w now t p) (returned v now' t p)
+  returned_alike : (now now' : World) → AgreeOn (Own t) now now' → (p : Phase) → AgreeOn (Own t) (returned now t p) (returned now' t p)
   returned_alike now now' same Running o e = same o e
   returned_alike now now' same Committing o e = same o e
-  returned_alike now now' same Undoing o e =
-      subst (λ ts. AgreeAt (returned w now t Undoing) (given_back now' ts) o) ran_alike.gave.taken (given_alike now now' (ran w t).taken o (same o e))
+  returned_alike now now' same Undoing o e = given_alike now now' t.taken o (same o e)
 
-  owns_alike : (now now' : World) → AgreeOn (Own t) now now' → (p : Phase) → AgreeOn (Own t) (returned w now t p) (left w t p)
-      → AgreeOn (Own t) (returned v now' t p) (left v t p)
+  owns_alike : (now now' : World) → AgreeOn (Own t) now now' → (p : Phase) → AgreeOn (Own t) (returned now t p) (left w t p)
+      → AgreeOn (Own t) (returned now' t p) (left v t p)
   owns_alike now now' same p owns o e =
-      let x = returned w now t p in
-      let y = returned v now' t p in
+      let x = returned now t p in
+      let y = returned now' t p in
       agree_on y x (left v t p) o (agree_back x y o (returned_alike now now' same p o e)) (agree_on x (left w t p) (left v t p) o (owns o e) (left_alike p o e))
 
 -- ---- the move of another

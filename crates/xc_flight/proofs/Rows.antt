@@ -122,6 +122,7 @@ starts_inside w n began new =
       me = refl;
       late = refl;
       trail = refl;
+      taken = refl;
       covers = record { objects = λ o at. at; owned = λ o at. at };
       phase = record {
         none = refl;

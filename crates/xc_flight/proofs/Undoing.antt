@@ -31,7 +31,7 @@ use Rattle.xc_flight.proofs.Basics.{owns_has}
 use Rattle.xc_flight.proofs.Worlds.{item_object, given_alike, given_away, given_words, given_blocks}
 use Rattle.xc_flight.proofs.Frames.{trail_own, left_keeps, all_front}
 use Rattle.xc_flight.proofs.Rows.{goes_on, ends}
-use Rattle.xc_flight.proofs.Calling.{is_running, running_left, after_keeps, fits_then, step_trail, step_covers, step_stands}
+use Rattle.xc_flight.proofs.Calling.{is_running, running_left, after_keeps, fits_then, step_trail, step_taken, step_covers, step_stands}
 use Rattle.xc_flight.proofs.Taking.{Coined, trail_coined, returns_left, taken_own, taken_elsewhere}
 
 -- ---- a transaction that turns back
@@ -43,10 +43,11 @@ all_whole t trail e none =
 
 -- where the station has what its body left, it has, with what was taken given back, what its records tell
 turn : (w now : World) (t : Tx) → Inside w t → IsSound w t.began t.number → t.ended ≡ [] → AgreeOn (Own t) now (record (ran w t).world { words = w.words })
-    → AgreeOn (Own t) (given_back now (ran w t).taken) (with_remains w (effects t))
+    → AgreeOn (Own t) (given_back now t.taken) (with_remains w (effects t))
 turn w now t i sound none there o e =
-    subst (λ x. AgreeAt (given_back now (ran w t).taken) x o) (returns_left w t i sound ∙ ap (with_remains w) (all_whole t (ran w t).trail i.trail none))
-    (given_alike now (record (ran w t).world { words = w.words }) (ran w t).taken o (there o e))
+    subst (λ ts. AgreeAt (given_back now ts) (with_remains w (effects t)) o) i.taken
+    (subst (λ x. AgreeAt (given_back now (ran w t).taken) x o) (returns_left w t i sound ∙ ap (with_remains w) (all_whole t (ran w t).trail i.trail none))
+    (given_alike now (record (ran w t).world { words = w.words }) (ran w t).taken o (there o e)))
 
 -- a turn back keeps all
 pub turns_back : (s : Standing) (job : ℕ) (t : Tx) → InFlight s → IsActive s job t → t.phase ≡ Running → IsSound s.state t.began t.number
@@ -55,7 +56,7 @@ turns_back s job t h active phase sound =
     let i = (h.flights job t active).inside in
     let p = is_running s job t h active phase in
     let i' : Inside s.state (in_phase t Undoing) =
-    record { new = i.new; fits = i.fits; replies = i.replies; me = i.me; late = i.late; trail = i.trail; covers = i.covers; phase = p.no_late_ends } in
+    record { new = i.new; fits = i.fits; replies = i.replies; me = i.me; late = i.late; trail = i.trail; taken = i.taken; covers = i.covers; phase = p.no_late_ends } in
     goes_on s job t (in_phase t Undoing) s.now h active refl refl (keeps_itself (Own t) s.now) (record {
       inside = i';
       owns = turn s.state s.now (in_phase t Undoing) i' sound p.none (λ o e. running_left s job t h active phase o (owns_has t o e));
@@ -76,6 +77,7 @@ wants s job t c h active phase k sound =
       me = i.me;
       late = i.late;
       trail = step_trail s job t c h active phase k;
+      taken = step_taken s job t c h active phase k;
       covers = step_covers s job t c h active phase k;
       phase = p.no_late_ends;
     } in
@@ -123,8 +125,8 @@ module _ (s : Standing) (job : ℕ) (t : Tx) (older : List Undo) (u : Undo) (end
   inside : Inside s.state t
   inside = (h.flights job t active).inside
 
-  owns : AgreeOn (Own t) (given_back s.now (ran s.state t).taken) (with_remains s.state (effects t))
-  owns = subst (λ p. AgreeOn (Own t) (returned s.state s.now t p) (left s.state t p)) phase (h.flights job t active).owns
+  owns : AgreeOn (Own t) (given_back s.now t.taken) (with_remains s.state (effects t))
+  owns = subst (λ p. AgreeOn (Own t) (returned s.now t p) (left s.state t p)) phase (h.flights job t active).owns
 
   of_record : (P : Undo → Type 0) → All P (ran s.state t).trail → P u
   of_record P all = last_of P older u (subst (All P) newest (all_front P t.pending (map (λ (r : Ending). r.0) t.ended) (subst (All P) inside.trail all)))
@@ -132,16 +134,16 @@ module _ (s : Standing) (job : ℕ) (t : Tx) (older : List Undo) (u : Undo) (end
   record_own : All (Own t) (objects_of u)
   record_own = of_record (λ v. All (Own t) (objects_of v)) (trail_own s.state t inside.covers)
 
-  not_taken : (o : Object) → Contains (objects_of u) o → All (λ k. item_object k ≢ o) (ran s.state t).taken
+  not_taken : (o : Object) → Contains (objects_of u) o → All (λ k. item_object k ≢ o) t.taken
   not_taken o at =
       All-weaker (λ k. IsNumbered t.number (item_object k) → ⊥) (λ k. item_object k ≢ o)
       (λ k elsewhere. All-contains (λ p. item_object k ≢ p) (objects_of u) o (all_away t.number u k
       (of_record (Coined t.number) (trail_coined s.state t)) elsewhere) at)
-      (ran s.state t).taken (taken_elsewhere s.state t inside sound)
+      t.taken (subst (All (λ k. IsNumbered t.number (item_object k) → ⊥)) inside.taken (taken_elsewhere s.state t inside sound))
 
   there : (o : Object) → Contains (objects_of u) o → AgreeAt s.now (with_remains s.state (effects t)) o
   there o at =
-      agree_on s.now (given_back s.now (ran s.state t).taken) (with_remains s.state (effects t)) o (given_away s.now (ran s.state t).taken o (not_taken o at))
+      agree_on s.now (given_back s.now t.taken) (with_remains s.state (effects t)) o (given_away s.now t.taken o (not_taken o at))
       (owns o (All-contains (Own t) (objects_of u) o record_own at))
 
   both : GoAlike (objects_of u) s.now (with_remains s.state (effects t)) (undone_to s.now u end) (undone_to (with_remains s.state (effects t)) u end)
@@ -149,9 +151,9 @@ module _ (s : Standing) (job : ℕ) (t : Tx) (older : List Undo) (u : Undo) (end
       undone_to_alike s.now (with_remains s.state (effects t)) u end
       (All-weaker (Contains (objects_of u)) (AgreeAt s.now (with_remains s.state (effects t))) there (objects_of u) (All-contains_itself (objects_of u)))
 
-  undone_there : AgreeOn (Own t) (given_back (undone_to s.now u end) (ran s.state t).taken) (undone_to (with_remains s.state (effects t)) u end)
+  undone_there : AgreeOn (Own t) (given_back (undone_to s.now u end) t.taken) (undone_to (with_remains s.state (effects t)) u end)
   undone_there o e =
-      let ts = (ran s.state t).taken in
+      let ts = t.taken in
       let r = with_remains s.state (effects t) in
       let now' = undone_to s.now u end in
       let r' = undone_to r u end in
@@ -183,25 +185,26 @@ module _ (s : Standing) (job : ℕ) (t : Tx) (older : List Undo) (u : Undo) (end
           me = i.me;
           late = i.late;
           trail = i.trail ∙ ap (λ us. us ++ map (λ (r : Ending). r.0) t.ended) newest ∙ append_assoc older (u ∷ []) (map (λ (r : Ending). r.0) t.ended);
+          taken = i.taken;
           covers = i.covers;
           phase = subst (IsPhase s.state t') (sym phase) (subst (IsPhase s.state t) phase i.phase);
         };
-        owns = subst (λ p. AgreeOn (Own t) (returned s.state now' t' p) (left s.state t' p)) (sym phase)
-            (subst (λ x. AgreeOn (Own t) (given_back now' (ran s.state t).taken) x) law undone_there);
+        owns = subst (λ p. AgreeOn (Own t) (returned now' t' p) (left s.state t' p)) (sym phase)
+            (subst (λ x. AgreeOn (Own t) (given_back now' t.taken) x) law undone_there);
       })
 
 -- ---- an aborted transaction, each of whose records has its end, gives back what it took and enters
 pub aborted : (s : Standing) (job : ℕ) (t : Tx) → InFlight s → IsActive s job t → t.phase ≡ Undoing → IsSound s.state t.began t.number → t.pending ≡ []
-    → InFlight (entered s job (with_remains s.state (remains t.ended)) (given_back s.now (ran s.state t).taken))
+    → InFlight (entered s job (with_remains s.state (remains t.ended)) (given_back s.now t.taken))
 aborted s job t h active phase sound none =
     let f = h.flights job t active in
-    let ts = (ran s.state t).taken in
+    let ts = t.taken in
     let now' = given_back s.now ts in
     let same : effects t ≡ remains t.ended = ap (λ us. whole us ++ remains t.ended) none in
     subst (λ es. InFlight (entered s job (with_remains s.state es) now')) same
     (ends s job t (with_remains s.state (effects t)) now' h active (left_keeps s.state t f.inside Undoing) (record {
       others = λ o lacks. given_away s.now ts o (All-weaker (λ k. Own t (item_object k)) (λ k. item_object k ≢ o)
-          (λ k own e. lacks (subst (Own t) e own)) ts (taken_own s.state t f.inside sound));
+          (λ k own e. lacks (subst (Own t) e own)) ts (subst (All (λ k. Own t (item_object k))) f.inside.taken (taken_own s.state t f.inside sound)));
       count = ap length (given_words s.now ts);
       blocks = given_blocks s.now ts;
-    }) (subst (λ p. AgreeOn (Own t) (returned s.state s.now t p) (left s.state t p)) phase f.owns))
+    }) (subst (λ p. AgreeOn (Own t) (returned s.now t p) (left s.state t p)) phase f.owns))

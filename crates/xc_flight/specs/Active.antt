@@ -9,6 +9,7 @@ use Rattle.xc_data.specs.declared.call.Asked.{Asked}
 use Rattle.xc_data.specs.declared.call.Reply.{Reply}
 use Rattle.xc_data.specs.declared.call.LateCall.{LateCall}
 use Rattle.xc_data.specs.declared.call.LateEnd.{LateEnd}
+use Rattle.xc_data.specs.declared.entry.KeptItem.{KeptItem}
 use Rattle.xc_data.specs.declared.undo.Undo.{Undo}
 use Rattle.xc_data.specs.declared.private.Private.{Private}
 use Rattle.xc_data.specs.Claims.{objects, owned}
@@ -39,6 +40,8 @@ pub record Tx : Type 0 where
   -- its records with no end yet, and those that have one
   pub pending : List Undo
   pub ended : List Ending
+  -- what it took from pipes and pairs, to be given back where it undoes
+  pub taken : List KeptItem
   -- its late calls, and the ends of the first of them
   pub late : List LateCall
   pub late_ends : List LateEnd

@@ -47,9 +47,9 @@ left w t Committing = (done_late w t).world
 left w t Undoing = with_remains w (effects t)
 
 -- the world that is to be so: while it undoes, what it took from pipes and pairs is still to be given back
-abbrev pub returned : World → World → Tx → Phase → World
-returned w now t Undoing = given_back now (ran w t).taken
-returned w now t _ = now
+abbrev pub returned : World → Tx → Phase → World
+returned now t Undoing = given_back now t.taken
+returned now t _ = now
 
 -- ---- what each phase says
 -- a running one: its stores wait
@@ -87,6 +87,7 @@ pub record Inside (w : World) (t : Tx) : Type 0 where
   pub me : (noted w t).me ≡ t.me
   pub late : (noted w t).late ≡ t.late
   pub trail : (ran w t).trail ≡ t.pending ++ map (λ r. r.0) t.ended
+  pub taken : (ran w t).taken ≡ t.taken
   -- it holds what its body claims
   pub covers : Covers t.held (ran w t).touched
   pub phase : IsPhase w t t.phase
@@ -95,4 +96,4 @@ pub record Inside (w : World) (t : Tx) : Type 0 where
 pub record Flight (w now : World) (t : Tx) : Type 0 where
   pub inside : Inside w t
   -- what it owns is in the station as it left it
-  pub owns : AgreeOn (Own t) (returned w now t t.phase) (left w t t.phase)
+  pub owns : AgreeOn (Own t) (returned now t t.phase) (left w t t.phase)

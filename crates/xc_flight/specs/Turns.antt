@@ -7,6 +7,7 @@ use Rattle.xc_data.specs.declared.call.Asked.{Asked}
 use Rattle.xc_data.specs.declared.call.LateCall.{LateCall}
 use Rattle.xc_data.specs.declared.call.LateEnd.{LateEnd}
 use Rattle.xc_data.specs.declared.call.LateAnswer.{LateAnswer}
+use Rattle.xc_data.specs.declared.entry.KeptItem.{KeptItem}
 use Rattle.xc_data.specs.declared.undo.Undo.{Undo}
 use Rattle.xc_data.specs.declared.undo.UndoEnd.{UndoEnd}
 use Rattle.xc_data.specs.declared.private.Private.{Private}
@@ -19,7 +20,7 @@ use Rattle.xc_world.specs.Late.{kept_call, late}
 use Rattle.xc_world.specs.Fits.{fits, late_fits, answer_of, late_answer_of}
 use Rattle.xc_world.specs.Trail.{recorded}
 use Rattle.xc_world.specs.Modes.{claims_of}
-use Rattle.xc_world.specs.Run.{run, asked_of}
+use Rattle.xc_world.specs.Run.{run, asked_of, taken_by}
 use Rattle.xc_world.specs.Ends.{remains, with_remains}
 use Rattle.xc_world.specs.Own.{IsNumbered}
 use Rattle.xc_flight.specs.Active.{Tx, Phase, Running, Undoing, Has, Own, Covers, IsBelow}
@@ -41,6 +42,7 @@ starting number began =
       writes = [];
       pending = [];
       ended = [];
+      taken = [];
       late = [];
       late_ends = [];
     }
@@ -88,6 +90,10 @@ did now t asked = act (seen now t) t.me t.number asked.call asked.answer
 abbrev pub leaving : World → Tx → Asked → List Undo
 leaving now t asked = recorded (seen now t) t.me t.number asked.call (did now t asked).reply
 
+-- what it took from a pipe or a pair
+abbrev pub taking : World → Tx → Asked → List KeptItem
+taking now t asked = taken_by asked.call t.me (did now t asked).reply
+
 -- the transaction with the call noted, and with these stores
 abbrev pub noting : World → Tx → Asked → List (ℕ × ℕ) → Tx
 noting now t asked writes =
@@ -98,6 +104,7 @@ noting now t asked writes =
       replies = t.replies ++ s.reply ∷ [];
       writes = writes;
       pending = t.pending ++ leaving now t asked;
+      taken = t.taken ++ taking now t asked;
       late = t.late ++ kept_call asked.call t.me s.reply;
     }
 
@@ -118,7 +125,13 @@ pub record IsNoted (now : World) (t : Tx) (asked : Asked) (writes : List (ℕ ×
 
 -- the call did its part, and memory was wanting for its reply: it isn't noted, and the transaction turns back
 abbrev pub wanting : World → Tx → Asked → Tx
-wanting now t asked = record t { phase = Undoing; unnoted = asked ∷ []; pending = t.pending ++ leaving now t asked }
+wanting now t asked =
+    record t {
+      phase = Undoing;
+      unnoted = asked ∷ [];
+      pending = t.pending ++ leaving now t asked;
+      taken = t.taken ++ taking now t asked;
+    }
 
 -- ---- it commits, or turns back
 abbrev pub in_phase : Tx → Phase → Tx

@@ -138,5 +138,5 @@ pub fn a_compensation_of_an_overwrite_keeps_all()
 /// journal's state is as before, with what remains.
 pub fn an_abort_enters()
     ensures { (s : Standing) (job : ℕ) (t : Tx) → Flies s job t Undoing → IsSoundFor s.state t → t.pending ≡ []
-        → InFlight (entered s job (after_abort s.state t) (returned s.state s.now t Undoing)) }
+        → InFlight (entered s job (after_abort s.state t) (returned s.now t Undoing)) }
 {}
