@@ -34,7 +34,8 @@ overwrite_undone s job t older u end f sound made newest tries legal =
     let split : t.pending ++ map (λ (r : Ending). r.0) t.ended ≡ older ++ u ∷ map (λ (r : Ending). r.0) t.ended =
     ap (λ us. us ++ map (λ (r : Ending). r.0) t.ended) newest ∙ append_assoc older (u ∷ []) (map (λ (r : Ending). r.0) t.ended) in
     undoes s job t older u end f.all f.active f.phase sound newest
-    (subst (λ us. undone_to (with_remains s.state (whole us ++ remains t.ended)) u end ≡ with_remains s.state (effects (with_undone t older u end))) (sym newest)
+    (subst (λ us. undone_to (with_remains s.state (whole us ++ remains t.ended)) u end ≡ with_remains s.state (effects (with_undone t older u end)))
+    (sym newest)
     (record-undone s.state older u t.ended tries end (subst (AreMadeIn s.state) split made) legal))
 
 -- its own job may begin its next transaction, with the handles that it had

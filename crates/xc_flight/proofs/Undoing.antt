@@ -56,7 +56,17 @@ turns_back s job t h active phase sound =
     let i = (h.flights job t active).inside in
     let p = is_running s job t h active phase in
     let i' : Inside s.state (in_phase t Undoing) =
-    record { new = i.new; fits = i.fits; replies = i.replies; me = i.me; late = i.late; trail = i.trail; taken = i.taken; covers = i.covers; phase = p.no_late_ends } in
+    record {
+      new = i.new;
+      fits = i.fits;
+      replies = i.replies;
+      me = i.me;
+      late = i.late;
+      trail = i.trail;
+      taken = i.taken;
+      covers = i.covers;
+      phase = p.no_late_ends;
+    } in
     goes_on s job t (in_phase t Undoing) s.now h active refl refl (keeps_itself (Own t) s.now) (record {
       inside = i';
       owns = turn s.state s.now (in_phase t Undoing) i' sound p.none (λ o e. running_left s job t h active phase o (owns_has t o e));

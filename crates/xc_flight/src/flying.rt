@@ -10,9 +10,8 @@ ghost use Rattle.xc_flight.specs.Standing.{Standing, InFlight, Move, active_at, 
 /// A move of one transaction, which changes what it owns alone, keeps the flight of every other that
 /// has none of this.
 pub fn others_fly_on()
-    ensures { (w w2 now now2 : World) (t u : Tx) → KeepsBut (Own t) w w2 → KeepsBut (Own t) now now2 → ((o : Object) → Own t o
-        → Has u o → ⊥)
-        → Flight w now u → Flight w2 now2 u }
+    ensures { (w w2 now now2 : World) (t u : Tx) → KeepsBut (Own t) w w2 → KeepsBut (Own t) now now2
+        → ((o : Object) → Own t o → Has u o → ⊥) → Flight w now u → Flight w2 now2 u }
 {}
 
 /// It keeps what is true of all.
@@ -40,8 +39,8 @@ pub fn at_rest_all_is_as_the_journal_says()
 
 /// A start: nobody is active, the station's world is the journal's, and no number is given.
 pub fn an_opening_is_in_flight()
-    ensures { (s : Standing) → ((job : ℕ) → active_at s job ≡ None) → s.now ≡ s.state → ((m k : ℕ) → s.next ≤ m
-        → IsFree s.state (num m k)) → InFlight s }
+    ensures { (s : Standing) → ((job : ℕ) → active_at s job ≡ None) → s.now ≡ s.state
+        → ((m k : ℕ) → s.next ≤ m → IsFree s.state (num m k)) → InFlight s }
 {}
 
 /// A job more, which has no transaction, changes nothing.

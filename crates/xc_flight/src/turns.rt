@@ -80,7 +80,8 @@ pub fn a_call_with_claims_keeps_all()
         → InFlight (turned s job (Some (noting s.now (claiming t held) asked writes)) (after_call s.now t asked)) }
 {}
 
-/// So does one whose call did its part before memory was wanting for the reply.
+/// A call that did its part before memory was wanting for its reply turns its transaction back, and
+/// keeps all: what it left is undone with the rest.
 pub fn a_call_without_memory_keeps_all()
     ensures { (s : Standing) (job : ℕ) (t : Tx) (asked : Asked) → Flies s job t Running
         → MayDo s.now t asked → IsSoundFor s.state t → InFlight (turned s job (Some (wanting s.now t asked)) (after_call s.now t asked)) }
@@ -128,8 +129,8 @@ pub fn an_overwriting_transaction_leaves_records()
 
 /// The compensation of such a record keeps all, however it ends.
 pub fn a_compensation_of_an_overwrite_keeps_all()
-    ensures { (s : Standing) (job : ℕ) (t : Tx) (older : List Undo) (u : Undo) (end : UndoEnd) → Flies s job t Undoing → IsSoundFor s.state t
-        → AreMadeIn s.state (t.pending ++ map (λ r. r.0) t.ended) → t.pending ≡ older ++ u ∷ []
+    ensures { (s : Standing) (job : ℕ) (t : Tx) (older : List Undo) (u : Undo) (end : UndoEnd) → Flies s job t Undoing
+        → IsSoundFor s.state t → AreMadeIn s.state (t.pending ++ map (λ r. r.0) t.ended) → t.pending ≡ older ++ u ∷ []
         → (tries : ℕ) → IsLegalEnd tries u end (blocker (length older + 1 + 1) u t.ended)
         → InFlight (turned s job (Some (with_undone t older u end)) (undone_to s.now u end)) }
 {}
