@@ -1,6 +1,6 @@
 -- A call with its claims in one turn; and what keeps all sound.
 use Rattle.std.proofs.Common.{◌≡◌, ◌≢◌, ℕ, ◌+◌, ◌<◌, List, [], ◌∷◌, ◌++◌, length, Option, Some, None, zero, suc, ap, sym, ◌∙◌, subst, refl, arith}
-use Rattle.std.specs.Prelude.{All, Contains, IsTrue, map, slice_set}
+use Rattle.std.specs.Prelude.{All, Contains, IsTrue, map, replicate, slice_set}
 use mathlib.Core.Logic.{dite}
 use native.Mathlib.Decide.{ℕ_discrete}
 use Rattle.std.proofs.lemmas.List.Elements.{All-nil, All-cons, All-head, All-tail, All-weaker, All-contains_itself}
@@ -11,14 +11,16 @@ use Rattle.xc_data.specs.declared.call.Call.{Call}
 use Rattle.xc_data.specs.declared.call.Asked.{Asked}
 use Rattle.xc_data.specs.declared.private.Private.{Private}
 use Rattle.xc_data.specs.declared.private.Place.{Place}
+use Rattle.xc_data.specs.declared.private.Place.TheVariants as place
+use Rattle.xc_data.specs.Private.{place_of}
 use Rattle.xc_data.specs.Claims.{claim}
-use Rattle.xc_world.specs.World.{World, beginning}
+use Rattle.xc_world.specs.World.{World, beginning, no_handles}
 use Rattle.xc_world.specs.Fits.{fits}
 use Rattle.xc_world.specs.Touch.{touch}
 use Rattle.xc_world.specs.Modes.{mode_of, claims_of}
 use Rattle.xc_world.specs.Ends.{remains, with_remains}
 use Rattle.xc_world.specs.Effects.{AreMadeIn}
-use Rattle.xc_world.specs.Sound.{IsSound}
+use Rattle.xc_world.specs.Sound.{IsSound, IsFit, IsKnown}
 use Rattle.xc_world.proofs.EffectsRemains.{remains-sound}
 use Rattle.xc_flight.specs.Active.{Tx, Running, HoldTheSame}
 use Rattle.xc_flight.specs.Standing.{Standing, active_at, IsActive, InFlight, AreSound, IsIdleSound, turned, entered}
@@ -110,3 +112,20 @@ abort_sound s job t now sound made active j u e =
 pub abort_idle : (s : Standing) (t : Tx) (places : List Place) → AreMadeIn s.state (map (λ r. r.0) t.ended) → IsIdleSound s.state s.next places
     → IsIdleSound (with_remains s.state (remains t.ended)) s.next places
 abort_idle s t places made idle m le = remains-sound s.state (beginning places) m t.ended made (idle m le)
+
+-- ---- a job that has no handle
+vacant_at : (n h : ℕ) → place_of (replicate n place.Vacant) h ≡ place.Vacant
+vacant_at zero h = refl
+vacant_at (suc n) zero = refl
+vacant_at (suc n) (suc h) = vacant_at n h
+
+-- it may begin its first transaction in a world that is fit
+pub joining_sound : (s : Standing) → InFlight s → IsFit s.state → IsIdleSound s.state s.next no_handles
+joining_sound s h fit m le =
+    record {
+      world = fit;
+      made = omega arith;
+      stored = omega arith;
+      new = λ k low. h.future m k le;
+      handles = λ i. subst (IsKnown s.state) (sym (vacant_at 256 i)) tt;
+    }

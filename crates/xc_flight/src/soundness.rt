@@ -1,5 +1,6 @@
+ghost use Rattle.xc_world.specs.Sound.{IsFit};
 ghost use Rattle.std.specs.Prelude.{◌≡◌, ◌<◌, ℕ, List, map, Some, length};
-ghost use Rattle.xc_world.specs.World.{World, beginning};
+ghost use Rattle.xc_world.specs.World.{World, beginning, no_handles};
 ghost use Rattle.xc_data.specs.declared.private.Place.{Place};
 ghost use Rattle.xc_flight.specs.Active.{Tx, Committing};
 ghost use Rattle.xc_flight.specs.Turns.{starting, after_commit, after_abort};
@@ -10,6 +11,11 @@ ghost use Rattle.xc_flight.specs.Standing.{IsSoundFor, Standing, InFlight, IsAct
 pub fn a_step_keeps_all_sound()
     ensures { (s : Standing) (job : ℕ) (t u : Tx) (now : World) → AreSound s → IsActive s job t → u.number ≡ t.number → u.began ≡ t.began
         → AreSound (turned s job (Some u) now) }
+{}
+
+/// A job without a handle may begin its first transaction in a world that is fit.
+pub fn a_job_without_handles_is_sound()
+    ensures { (s : Standing) → InFlight s → IsFit s.state → IsIdleSound s.state s.next no_handles }
 {}
 
 /// A begin does, where the job's handles are sound.
