@@ -1,0 +1,15 @@
+pub mod Basics
+pub mod Worlds
+pub mod Frames
+pub mod Moving
+pub mod Rows
+pub mod Bodies
+pub mod Calling
+pub mod Ending
+pub mod Taking
+pub mod Undoing
+pub mod Claiming
+pub mod Sounding
+pub mod Together
+pub mod Examples
+pub mod Overwriting

@@ -1,0 +1,155 @@
+-- Worlds: words put in, and what was taken given back.
+use Rattle.std.proofs.Common.{◌≡◌, ◌≢◌, ℕ, Bool, true, false, cond, suc, zero, Option, Some, List, [], ◌∷◌, ap, sym, ◌∙◌, subst, refl}
+use Rattle.std.specs.Prelude.{All, slice_get, slice_set, length, unwrap_or, ◌++◌}
+use Rattle.std.specs.FinMap as map
+use Rattle.std.specs.Ordering.{eq_by_cmp}
+use Rattle.std.proofs.lemmas.List.Elements.{All-head, All-tail}
+use Rattle.xc_maps.proofs.Maps.{num_total, num_exact}
+use Rattle.xc_maps.proofs.Laws.{tied, get-insert_other}
+use Rattle.xc_maps.specs.Keys.{num_cmp}
+use Rattle.xc_data.specs.declared.object.Num.{Num}
+use Rattle.xc_data.specs.declared.object.Object.{Object}
+use Rattle.xc_data.specs.declared.object.Object.TheVariants as object
+use Rattle.xc_data.specs.declared.entry.KeptItem.{KeptItem}
+use Rattle.xc_data.specs.declared.entry.KeptItem.TheVariants.{Bytes, Message}
+use Rattle.xc_txmem.specs.Overlay.{overlaid}
+use Rattle.xc_world.specs.World.{World, Pipe, Pair, empty_pipe, empty_pair, waiting, with_waiting}
+use Rattle.xc_world.specs.Run.{gives, given_back}
+use Rattle.xc_world.specs.Laws.{AgreeAt}
+use Rattle.xc_world.proofs.LocalParts.{agree_itself}
+use Rattle.xc_world.proofs.Objects.{agree_on}
+
+-- ---- other words in a world
+-- two worlds with the words of others agree where both do
+pub words_agree : (w v x y : World) (o : Object) → AgreeAt w v o → AgreeAt x y o → AgreeAt (record w { words = x.words }) (record v { words = y.words }) o
+words_agree w v x y (object.Word at) e f = f
+words_agree w v x y (object.Name name) e f = e
+words_agree w v x y (object.File num) e f = e
+words_agree w v x y (object.Pipe num) e f = e
+words_agree w v x y (object.Pair num) e f = e
+words_agree w v x y object.Jobs e f = e
+
+-- ---- lists of words
+pub words_same : (xs ys : List ℕ) → ((k : ℕ) → slice_get xs k ≡ slice_get ys k) → xs ≡ ys
+words_same [] [] h = refl
+words_same [] (y ∷ ys) h = let e = h 0 in cc e
+words_same (x ∷ xs) [] h = let e = h 0 in cc e
+words_same (x ∷ xs) (y ∷ ys) h = let rest = words_same xs ys (λ k. h (suc k)) in cc (h 0, rest)
+
+-- stores elsewhere leave a word
+pub overlaid_other : (xs : List ℕ) (stores : List (ℕ × ℕ)) (at : ℕ) → All (λ (s : ℕ × ℕ). s.0 ≢ at) stores → slice_get xs at ≡ slice_get (overlaid xs stores) at
+overlaid_other xs [] at away = refl
+overlaid_other xs ((place, value) ∷ stores) at away =
+    let P : ℕ × ℕ → Type 0 = λ s. s.0 ≢ at in
+    set_other xs place at value (All-head P (place, value) stores away) ∙ overlaid_other (slice_set xs place value) stores at
+    (All-tail P (place, value) stores away)
+  where
+    set_other : (xs : List ℕ) (i j x : ℕ) → i ≢ j → slice_get xs j ≡ slice_get (slice_set xs i x) j
+    set_other [] i j x ne = refl
+    set_other (y ∷ ys) zero zero x ne = absurd (ne refl)
+    set_other (y ∷ ys) zero (suc j) x ne = refl
+    set_other (y ∷ ys) (suc i) zero x ne = refl
+    set_other (y ∷ ys) (suc i) (suc j) x ne = set_other ys i j x (λ e. ne (ap suc e))
+
+-- the same stores over words that agree at a place agree there
+pub overlaid_alike : (xs ys : List ℕ) (stores : List (ℕ × ℕ)) (at : ℕ) → slice_get xs at ≡ slice_get ys at
+    → slice_get (overlaid xs stores) at ≡ slice_get (overlaid ys stores) at
+overlaid_alike xs ys [] at e = e
+overlaid_alike xs ys ((place, value) ∷ stores) at e = overlaid_alike (slice_set xs place value) (slice_set ys place value) stores at
+    (set_alike xs ys place at value e)
+  where
+    set_alike : (xs ys : List ℕ) (i j x : ℕ) → slice_get xs j ≡ slice_get ys j → slice_get (slice_set xs i x) j ≡ slice_get (slice_set ys i x) j
+    set_alike [] [] i j x e = refl
+    set_alike [] (y ∷ ys) zero zero x e = cc e
+    set_alike [] (y ∷ ys) zero (suc j) x e = e
+    set_alike [] (y ∷ ys) (suc i) zero x e = e
+    set_alike [] (y ∷ ys) (suc i) (suc j) x e = set_alike [] ys i j x e
+    set_alike (z ∷ zs) [] zero zero x e = cc e
+    set_alike (z ∷ zs) [] zero (suc j) x e = e
+    set_alike (z ∷ zs) [] (suc i) zero x e = e
+    set_alike (z ∷ zs) [] (suc i) (suc j) x e = set_alike zs [] i j x e
+    set_alike (z ∷ zs) (y ∷ ys) zero zero x e = refl
+    set_alike (z ∷ zs) (y ∷ ys) zero (suc j) x e = e
+    set_alike (z ∷ zs) (y ∷ ys) (suc i) zero x e = e
+    set_alike (z ∷ zs) (y ∷ ys) (suc i) (suc j) x e = set_alike zs ys i j x e
+
+-- there are as many words as before
+pub overlaid_count : (xs : List ℕ) (stores : List (ℕ × ℕ)) → length (overlaid xs stores) ≡ length xs
+overlaid_count xs [] = refl
+overlaid_count xs ((place, value) ∷ stores) = overlaid_count (slice_set xs place value) stores ∙ set_count xs place value
+  where
+    set_count : (xs : List ℕ) (i x : ℕ) → length (slice_set xs i x) ≡ length xs
+    set_count [] i x = refl
+    set_count (y ∷ ys) zero x = refl
+    set_count (y ∷ ys) (suc i) x = ap suc (set_count ys i x)
+
+-- ---- giving back touches each object by itself
+put_alike : {X : Type 0} (m n : map.FinMap num_cmp X) (k q : Num) (f : Option X → X) → map.get m q ≡ map.get n q
+    → map.get (map.insert m k (f (map.get m k))) q ≡ map.get (map.insert n k (f (map.get n k))) q
+put_alike m n k q f e = map.get-insert num_total m k (f (map.get m k)) q ∙ by_test (eq_by_cmp num_cmp q k) refl ∙ sym
+    (map.get-insert num_total n k (f (map.get n k)) q)
+  where
+    by_test : (b : Bool) → eq_by_cmp num_cmp q k ≡ b → cond b (Some (f (map.get m k))) (map.get m q) ≡ cond b (Some (f (map.get n k))) (map.get n q)
+    by_test true t = ap (λ o. Some (f o)) (subst (λ x. map.get m x ≡ map.get n x) (tied num_total num_exact q k t) e)
+    by_test false t = e
+
+gives_alike : (w v : World) (t : KeptItem) (o : Object) → AgreeAt w v o → AgreeAt (gives w t) (gives v t) o
+gives_alike w v (Bytes num bytes) (object.Pipe q) e = put_alike w.pipes v.pipes num q
+    (λ (found : Option Pipe). record (unwrap_or found empty_pipe) { held = bytes ++ (unwrap_or found empty_pipe).held }) e
+gives_alike w v (Bytes num bytes) (object.Word at) e = e
+gives_alike w v (Bytes num bytes) (object.Name name) e = e
+gives_alike w v (Bytes num bytes) (object.File q) e = e
+gives_alike w v (Bytes num bytes) (object.Pair q) e = e
+gives_alike w v (Bytes num bytes) object.Jobs e = e
+gives_alike w v (Message num side bytes) (object.Pair q) e =
+    put_alike w.pairs v.pairs num q (λ (found : Option Pair). with_waiting (unwrap_or found empty_pair) side
+    (bytes ∷ waiting (unwrap_or found empty_pair) side)) e
+gives_alike w v (Message num side bytes) (object.Word at) e = e
+gives_alike w v (Message num side bytes) (object.Name name) e = e
+gives_alike w v (Message num side bytes) (object.File q) e = e
+gives_alike w v (Message num side bytes) (object.Pipe q) e = e
+gives_alike w v (Message num side bytes) object.Jobs e = e
+
+-- giving back in two worlds that agree
+pub given_alike : (w v : World) (ts : List KeptItem) (o : Object) → AgreeAt w v o → AgreeAt (given_back w ts) (given_back v ts) o
+given_alike w v [] o e = e
+given_alike w v (t ∷ ts) o e = gives_alike (given_back w ts) (given_back v ts) t o (given_alike w v ts o e)
+
+-- the object of what was taken
+abbrev pub item_object : KeptItem → Object
+item_object (Bytes num bytes) = object.Pipe num
+item_object (Message num side bytes) = object.Pair num
+
+gives_away : (w : World) (t : KeptItem) (o : Object) → item_object t ≢ o → AgreeAt w (gives w t) o
+gives_away w (Bytes num bytes) (object.Pipe q) away = sym (get-insert_other num_total num_exact w.pipes num q _ (λ e. away (ap object.Pipe (sym e))))
+gives_away w (Bytes num bytes) (object.Word at) away = refl
+gives_away w (Bytes num bytes) (object.Name name) away = refl
+gives_away w (Bytes num bytes) (object.File q) away = refl
+gives_away w (Bytes num bytes) (object.Pair q) away = refl
+gives_away w (Bytes num bytes) object.Jobs away = refl
+gives_away w (Message num side bytes) (object.Pair q) away = sym (get-insert_other num_total num_exact w.pairs num q _ (λ e. away (ap object.Pair (sym e))))
+gives_away w (Message num side bytes) (object.Word at) away = refl
+gives_away w (Message num side bytes) (object.Name name) away = refl
+gives_away w (Message num side bytes) (object.File q) away = refl
+gives_away w (Message num side bytes) (object.Pipe q) away = refl
+gives_away w (Message num side bytes) object.Jobs away = refl
+
+-- giving back leaves all other objects
+pub given_away : (w : World) (ts : List KeptItem) (o : Object) → All (λ t. item_object t ≢ o) ts → AgreeAt w (given_back w ts) o
+given_away w [] o away = agree_itself w o
+given_away w (t ∷ ts) o away =
+    let P : KeptItem → Type 0 = λ x. item_object x ≢ o in
+    agree_on w (given_back w ts) (gives (given_back w ts) t) o (given_away w ts o (All-tail P t ts away))
+    (gives_away (given_back w ts) t o (All-head P t ts away))
+
+-- it changes no word
+pub given_words : (w : World) (ts : List KeptItem) → (given_back w ts).words ≡ w.words
+given_words w [] = refl
+given_words w (Bytes num bytes ∷ ts) = given_words w ts
+given_words w (Message num side bytes ∷ ts) = given_words w ts
+
+-- nor a block
+pub given_blocks : (w : World) (ts : List KeptItem) → (given_back w ts).blocks ≡ w.blocks
+given_blocks w [] = refl
+given_blocks w (Bytes num bytes ∷ ts) = given_blocks w ts
+given_blocks w (Message num side bytes ∷ ts) = given_blocks w ts

@@ -1,0 +1,4 @@
+pub mod Active
+pub mod Flight
+pub mod Standing
+pub mod Turns

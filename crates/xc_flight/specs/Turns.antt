@@ -1,0 +1,165 @@
+-- The turns of one transaction: what it is afterwards, and what each turn has to show.
+use Rattle.std.specs.Prelude.{◌≡◌, ◌≢◌, ℕ, List, [], ◌∷◌, ◌++◌, All, IsTrue, length, true}
+use Rattle.xc_data.specs.declared.object.Object.{Object}
+use Rattle.xc_data.specs.declared.object.Object.TheVariants as object
+use Rattle.xc_data.specs.declared.claim.Claim.{Claim}
+use Rattle.xc_data.specs.declared.call.Asked.{Asked}
+use Rattle.xc_data.specs.declared.call.LateCall.{LateCall}
+use Rattle.xc_data.specs.declared.call.LateEnd.{LateEnd}
+use Rattle.xc_data.specs.declared.call.LateAnswer.{LateAnswer}
+use Rattle.xc_data.specs.declared.entry.KeptItem.{KeptItem}
+use Rattle.xc_data.specs.declared.undo.Undo.{Undo}
+use Rattle.xc_data.specs.declared.undo.UndoEnd.{UndoEnd}
+use Rattle.xc_data.specs.declared.private.Private.{Private}
+use Rattle.xc_data.specs.Claims.{compatible}
+use Rattle.xc_txmem.specs.Overlay.{overlaid}
+use Rattle.xc_world.specs.World.{World}
+use Rattle.xc_world.specs.Act.{act}
+use Rattle.xc_world.specs.Act.Step.{Stepped}
+use Rattle.xc_world.specs.Late.{kept_call, late}
+use Rattle.xc_world.specs.Fits.{fits, late_fits, answer_of, late_answer_of}
+use Rattle.xc_world.specs.Trail.{recorded}
+use Rattle.xc_world.specs.Modes.{claims_of}
+use Rattle.xc_world.specs.Run.{run, asked_of, taken_by}
+use Rattle.xc_world.specs.Ends.{remains, with_remains}
+use Rattle.xc_world.specs.Own.{IsNumbered}
+use Rattle.xc_flight.specs.Active.{Tx, Phase, Running, Undoing, Has, Own, Covers, IsBelow}
+use Rattle.xc_flight.specs.Standing.{Standing, IsActive}
+
+-- ---- it begins
+-- a transaction that has done nothing
+abbrev pub starting : ℕ → Private → Tx
+starting number began =
+    record {
+      number = number;
+      phase = Running;
+      began = began;
+      me = began;
+      calls = [];
+      replies = [];
+      unnoted = [];
+      held = [];
+      writes = [];
+      pending = [];
+      ended = [];
+      taken = [];
+      late = [];
+      late_ends = [];
+    }
+
+-- ---- it claims
+-- the transaction with these claims held
+abbrev pub claiming : Tx → List Claim → Tx
+claiming t held = record t { held = held }
+
+-- no other active transaction made the object, and it has no number that is still to be given
+pub record IsOpen (s : Standing) (job : ℕ) (o : Object) : Type 0 where
+  pub below : IsBelow s.next o
+  pub foreign : (j : ℕ) (u : Tx) → j ≢ job → IsActive s j u → IsNumbered u.number o → ⊥
+
+-- two claims on one object go together
+abbrev pub GoTogether : Claim → Claim → Type 0
+GoTogether c d = d.object ≡ c.object → compatible c.mode d.mode ≡ true
+
+-- a job's claim goes together with all that others hold
+abbrev pub HasNoRival : Standing → ℕ → Claim → Type 0
+HasNoRival s job c = (j : ℕ) (u : Tx) → j ≢ job → IsActive s j u → All (GoTogether c) u.held
+
+-- it may be granted
+pub record IsGranted (s : Standing) (job : ℕ) (c : Claim) : Type 0 where
+  pub object : IsOpen s job c.object
+  pub together : HasNoRival s job c
+
+-- the claims of two transactions go together, and neither has what the other made
+pub record AreCompatible (t u : Tx) : Type 0 where
+  pub numbers : t.number ≢ u.number
+  pub together : All (λ c. All (GoTogether c) u.held) t.held
+  pub foreign : (o : Object) → Has t o → IsNumbered u.number o → ⊥
+  pub foreign_too : (o : Object) → Has u o → IsNumbered t.number o → ⊥
+
+-- ---- it makes a call
+-- what it sees: the station's world, its stores laid over the words
+abbrev pub seen : World → Tx → World
+seen now t = record now { words = overlaid now.words t.writes }
+
+-- the call's step in what it sees
+abbrev pub did : World → Tx → Asked → Stepped
+did now t asked = act (seen now t) t.me t.number asked.call asked.answer
+
+-- the record of the call, where it leaves one
+abbrev pub leaving : World → Tx → Asked → List Undo
+leaving now t asked = recorded (seen now t) t.me t.number asked.call (did now t asked).reply
+
+-- what it took from a pipe or a pair
+abbrev pub taking : World → Tx → Asked → List KeptItem
+taking now t asked = taken_by asked.call t.me (did now t asked).reply
+
+-- the transaction with the call noted, and with these stores
+abbrev pub noting : World → Tx → Asked → List (ℕ × ℕ) → Tx
+noting now t asked writes =
+    let s = did now t asked in
+    record t {
+      me = s.me;
+      calls = t.calls ++ asked.call ∷ [];
+      replies = t.replies ++ s.reply ∷ [];
+      writes = writes;
+      pending = t.pending ++ leaving now t asked;
+      taken = t.taken ++ taking now t asked;
+      late = t.late ++ kept_call asked.call t.me s.reply;
+    }
+
+-- the station's world after it: its stores wait
+abbrev pub after_call : World → Tx → Asked → World
+after_call now t asked = record (did now t asked).world { words = now.words }
+
+-- a call may be made: its answer fits, and its claims are held
+pub record MayDo (now : World) (t : Tx) (asked : Asked) : Type 0 where
+  pub fit : IsTrue (fits (seen now t) t.me t.number asked.call asked.answer)
+  pub covers : Covers t.held (claims_of asked.call t.me (length now.words))
+
+-- it is noted: the answer is read off the reply, and these are the stores with its own
+pub record IsNoted (now : World) (t : Tx) (asked : Asked) (writes : List (ℕ × ℕ)) : Type 0 where
+  pub told : answer_of (did now t asked).reply ≡ asked.answer
+  pub words : overlaid now.words writes ≡ (did now t asked).world.words
+  pub stored : All (λ s. Own t (object.Word s.0)) writes
+
+-- the call did its part, and memory was wanting for its reply: it isn't noted, and the transaction turns back
+abbrev pub wanting : World → Tx → Asked → Tx
+wanting now t asked =
+    record t {
+      phase = Undoing;
+      unnoted = asked ∷ [];
+      pending = t.pending ++ leaving now t asked;
+      taken = t.taken ++ taking now t asked;
+    }
+
+-- ---- it commits, or turns back
+abbrev pub in_phase : Tx → Phase → Tx
+in_phase t phase = record t { phase = phase }
+
+-- ---- it does a late call
+abbrev pub with_end : Tx → LateEnd → Tx
+with_end t end = record t { late_ends = t.late_ends ++ end ∷ [] }
+
+-- the call is its next late call, and its answer fits the station's world and is read off its end
+pub record IsDoneLate (now : World) (t : Tx) (call : LateCall) (answer : LateAnswer) : Type 0 where
+  pub front : List LateCall
+  pub rest : List LateCall
+  pub split : t.late ≡ front ++ call ∷ rest
+  pub done : length front ≡ length t.late_ends
+  pub fit : IsTrue (late_fits now call answer)
+  pub told : late_answer_of (late now call answer).end ≡ answer
+
+-- ---- it compensates
+-- the newest record without an end has this one
+abbrev pub with_undone : Tx → List Undo → Undo → UndoEnd → Tx
+with_undone t older u end = record t { pending = older; ended = (u, end) ∷ t.ended }
+
+-- ---- its entry
+-- S behind the entry of a commit: its body and its late calls are run
+abbrev pub after_commit : World → Tx → World
+after_commit w t = (run w t.began t.number (asked_of t.calls t.replies) t.late_ends).late.world
+
+-- S behind the entry of an abort: what remains of its records is there
+abbrev pub after_abort : World → Tx → World
+after_abort w t = with_remains w (remains t.ended)
