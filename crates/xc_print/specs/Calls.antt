@@ -3,7 +3,9 @@ use Rattle.std.specs.Prelude.{ℕ, List, [], ◌++◌, codes, Option}
 use Rattle.std.specs.declared.option.Option.TheVariants.{None, Some}
 use Rattle.std.specs.Fmt.{decimal}
 use Rattle.xc_data.specs.declared.call.Call.{Call}
-use Rattle.xc_data.specs.declared.call.Call.TheVariants.{Load, Store, XOpen, XCreate, XRead, XWriteOvr, XWriteSeq, XSeek, XLen, XRename, XClose, XPipe, XReadPipe, XPair, XRecvmsg, XUnlink, XSync, XWritePipe, XShutdown, XSendmsg, XThreadCreate}
+use Rattle.xc_data.specs.declared.call.Call.TheVariants.{Load, Store, XOpen, XCreate, XRead, XWriteOvr, XWriteSeq, XSeek}
+use Rattle.xc_data.specs.declared.call.Call.TheVariants.{XLen, XRename, XClose, XPipe, XReadPipe, XPair, XRecvmsg}
+use Rattle.xc_data.specs.declared.call.Call.TheVariants.{XUnlink, XSync, XWritePipe, XShutdown, XSendmsg, XThreadCreate}
 use Rattle.xc_print.specs.Bytes.{bytes_text}
 use Rattle.xc_print.specs.Objects.{handle_text}
 

@@ -14,9 +14,11 @@ use Rattle.xc_print.specs.Objects.{object_text, held_line}
 use Rattle.xc_print.specs.Records.{undo_lines, remains_lines}
 use Rattle.xc_print.specs.Replies.{reply_text, late_end_text}
 
+-- why a transaction was aborted
 abbrev pub cause_text : Cause → List ℕ
 cause_text Asked = codes "asked"
-cause_text (Conflict object holder at) = codes "conflict " ++ object_text object ++ codes " holder t" ++ decimal holder ++ codes " at " ++ decimal at
+cause_text (Conflict object holder at) = codes "conflict " ++ object_text object
+    ++ codes " holder t" ++ decimal holder ++ codes " at " ++ decimal at
 cause_text (Revoked object by at) = codes "revoked " ++ object_text object ++ codes " by t" ++ decimal by ++ codes " at " ++ decimal at
 cause_text NoMemory = codes "no memory"
 
@@ -39,6 +41,7 @@ outcome_cause (Aborted report) = codes " " ++ cause_text report.cause
 abbrev pub head_line : Entry → List ℕ
 head_line entry = outcome_word entry.outcome ++ attempt_text entry ++ outcome_cause entry.outcome ++ codes "\n"
 
+-- the line of a call and its reply
 abbrev pub call_line : Call → Reply → List ℕ
 call_line call reply = codes "  " ++ call_text call ++ codes " = " ++ reply_text reply ++ codes "\n"
 
@@ -47,6 +50,7 @@ abbrev pub call_lines : List Call → List Reply → List ℕ
 call_lines (call ∷ calls) (reply ∷ replies) = call_line call reply ++ call_lines calls replies
 call_lines _ _ = []
 
+-- the line of the late call of this number
 abbrev pub late_line : ℕ → LateEnd → List ℕ
 late_line number end = codes "  late " ++ decimal number ++ codes " = " ++ late_end_text end ++ codes "\n"
 
@@ -60,6 +64,7 @@ abbrev pub outcome_lines : Outcome → List ℕ
 outcome_lines (Committed late) = late_lines 1 late
 outcome_lines (Aborted report) = undo_lines 1 report.records ++ remains_lines report.records
 
+-- an entry's lines
 abbrev pub entry_text : Entry → List ℕ
 entry_text entry = head_line entry ++ call_lines entry.calls entry.replies ++ outcome_lines entry.outcome ++ held_line entry.held
 

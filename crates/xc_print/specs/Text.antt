@@ -8,12 +8,14 @@ use Rattle.xc_data.specs.declared.entry.JobLine.{JobLine}
 use Rattle.xc_print.specs.Entries.{journal_text}
 use Rattle.xc_print.specs.Totals.{totals_of, totals_line}
 
+-- how a job ended
 abbrev pub job_end_text : JobEnd → List ℕ
 job_end_text Done = codes "done"
 job_end_text (GaveUp cause) = codes "gave up"
 job_end_text JournalFull = codes "journal full"
 job_end_text NoMemory = codes "no memory"
 
+-- the line of the job of this number
 abbrev pub job_line : ℕ → JobLine → List ℕ
 job_line number job = codes "job " ++ decimal number ++ codes " " ++ job.block ++ codes " " ++ job_end_text job.end ++ codes "\n"
 

@@ -10,9 +10,11 @@ use Rattle.xc_data.specs.declared.undo.Undo.{Undo}
 use Rattle.xc_data.specs.declared.undo.UndoEnd.{UndoEnd}
 use Rattle.xc_print.specs.declared.totals.Totals.{Totals}
 
+-- whether an entry is a commit
 abbrev pub is_committed : Entry → Bool
 is_committed entry = is_commit entry.outcome
 
+-- whether an entry is an abort
 abbrev pub is_aborted : Entry → Bool
 is_aborted entry = not (is_commit entry.outcome)
 
@@ -20,6 +22,7 @@ is_aborted entry = not (is_commit entry.outcome)
 abbrev pub stands : Undo × UndoEnd → Bool
 stands (undo, end) = is_some (stands_from undo end)
 
+-- how many effects stand behind an outcome
 abbrev pub outcome_remains : Outcome → ℕ
 outcome_remains (Committed late) = 0
 outcome_remains (Aborted report) = count_by stands report.records
@@ -40,4 +43,6 @@ totals_of journal = record {
 -- the last line of a text
 abbrev pub totals_line : Totals → List ℕ
 totals_line totals = codes "total " ++ decimal totals.committed ++ codes " committed, "
-    ++ decimal totals.aborted ++ codes " aborted, " ++ decimal totals.faults ++ codes " faults, " ++ decimal totals.remains ++ codes " remains\n"
+    ++ decimal totals.aborted ++ codes " aborted, "
+    ++ decimal totals.faults ++ codes " faults, "
+    ++ decimal totals.remains ++ codes " remains\n"

@@ -1,5 +1,6 @@
 ghost use Rattle.std.specs.Prelude.{◌≡◌, ◌++◌, OnOk};
-ghost use Rattle.xc_print.specs.Entries.{cause_text, attempt_text, outcome_word, outcome_cause, head_line, call_line, call_lines, late_line, late_lines, outcome_lines, entry_text, journal_text};
+ghost use Rattle.xc_print.specs.Entries.{cause_text, attempt_text, outcome_word, outcome_cause, head_line};
+ghost use Rattle.xc_print.specs.Entries.{call_line, call_lines, late_line, late_lines, outcome_lines, entry_text, journal_text};
 
 use crate::calls::push_call;
 use crate::objects::{push_held, push_object};

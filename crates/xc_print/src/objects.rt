@@ -1,8 +1,8 @@
 ghost use Rattle.std.specs.Prelude.{◌≡◌, ◌++◌, OnOk};
-ghost use Rattle.xc_print.specs.Objects.{handle_text, num_text, object_text, further_objects, held_line};
+ghost use Rattle.xc_print.specs.Objects.{handle_text, num_text, object_text, mode_text, claim_text, further_claims, held_line};
 
 use crate::page::Page;
-use xc_data::{NoMemory, Num, Object};
+use xc_data::{Claim, Mode, NoMemory, Num, Object};
 
 pub fn push_handle(out: &mut Page, h: u16) -> Result<(), NoMemory>
     ensures { OnOk result (out.new ≡ out.old ++ handle_text h) }
@@ -13,11 +13,19 @@ pub fn push_handle(out: &mut Page, h: u16) -> Result<(), NoMemory>
     write!(out, "h{h}")
 }
 
-pub fn push_num(out: &mut Page, num: Num) -> Result<(), NoMemory>
+fn push_num(out: &mut Page, num: Num) -> Result<(), NoMemory>
     ensures { OnOk result (out.new ≡ out.old ++ num_text num) }
 {
     let Num { tx, k } = num;
     write!(out, "{tx}.{k}")
+}
+
+/// A number behind its label.
+pub fn push_labelled(out: &mut Page, label: &str, num: Num) -> Result<(), NoMemory>
+    ensures { OnOk result (out.new ≡ out.old ++ (label.now ++ num_text num)) }
+{
+    write!(out, "{label}")?;
+    push_num(out, num)
 }
 
 pub fn push_object(out: &mut Page, object: &Object) -> Result<(), NoMemory>
@@ -29,40 +37,47 @@ pub fn push_object(out: &mut Page, object: &Object) -> Result<(), NoMemory>
             write!(out, "name ")?;
             out.push(name.as_slice())
         }
-        Object::File(num) => {
-            write!(out, "file ")?;
-            push_num(out, *num)
-        }
-        Object::Pipe(num) => {
-            write!(out, "pipe ")?;
-            push_num(out, *num)
-        }
-        Object::Pair(num) => {
-            write!(out, "pair ")?;
-            push_num(out, *num)
-        }
+        Object::File(num) => push_labelled(out, "file ", *num),
+        Object::Pipe(num) => push_labelled(out, "pipe ", *num),
+        Object::Pair(num) => push_labelled(out, "pair ", *num),
         Object::Jobs => write!(out, "jobs"),
     }
 }
 
-fn push_further(out: &mut Page, objects: &[Object]) -> Result<(), NoMemory>
-    ensures { OnOk result (out.new ≡ out.old ++ further_objects objects.now) }
+fn push_mode(out: &mut Page, mode: Mode) -> Result<(), NoMemory>
+    ensures { OnOk result (out.new ≡ out.old ++ mode_text mode) }
 {
-    for object in objects {
+    match mode {
+        Mode::Shared => write!(out, " shared"),
+        Mode::Exclusive => Ok(()),
+    }
+}
+
+fn push_claim(out: &mut Page, claim: &Claim) -> Result<(), NoMemory>
+    ensures { OnOk result (out.new ≡ out.old ++ claim_text claim.now) }
+{
+    push_object(out, &claim.object)?;
+    push_mode(out, claim.mode)
+}
+
+fn push_further(out: &mut Page, claims: &[Claim]) -> Result<(), NoMemory>
+    ensures { OnOk result (out.new ≡ out.old ++ further_claims claims.now) }
+{
+    for claim in claims {
         write!(out, ", ")?;
-        push_object(out, object)?;
+        push_claim(out, claim)?;
     }
     Ok(())
 }
 
-pub fn push_held(out: &mut Page, held: &[Object]) -> Result<(), NoMemory>
+pub fn push_held(out: &mut Page, held: &[Claim]) -> Result<(), NoMemory>
     ensures { OnOk result (out.new ≡ out.old ++ held_line held.now) }
 {
     match held {
         [] => Ok(()),
         [first, further @ ..] => {
             write!(out, "  held ")?;
-            push_object(out, first)?;
+            push_claim(out, first)?;
             push_further(out, further)?;
             write!(out, "\n")
         }

@@ -1,14 +1,12 @@
-ghost use Rattle.std.specs.Prelude.{◌≡◌, ◌++◌, take, drop, codes, OnOk};
-ghost use Rattle.std.specs.Fmt.{decimal};
+ghost use Rattle.std.specs.Prelude.{◌≡◌, ◌++◌, take, drop, OnOk};
 ghost use Rattle.xc_data.specs.Standing.{stands_from as standing_place};
-ghost use Rattle.xc_print.specs.Bytes.{bytes_text};
-ghost use Rattle.xc_print.specs.Objects.{num_text};
-ghost use Rattle.xc_print.specs.Records.{kind_text, undo_end_text, undo_line, undo_lines, effect_text, standing_line, remains_lines};
+ghost use Rattle.xc_print.specs.Records.{kind_text, undo_end_text, undo_line, undo_lines};
+ghost use Rattle.xc_print.specs.Records.{overwrite_text, tail_text, made_text, moved_text, effect_text, standing_line, remains_lines};
 
 use crate::bytes::push_bytes;
-use crate::objects::push_num;
+use crate::objects::push_labelled;
 use crate::page::Page;
-use xc_data::{Chunk, NoMemory, Num, Undo, UndoEnd};
+use xc_data::{Chunk, Name, NoMemory, Num, Undo, UndoEnd};
 
 fn push_kind(out: &mut Page, undo: &Undo) -> Result<(), NoMemory>
     ensures { OnOk result (out.new ≡ out.old ++ kind_text undo.now) }
@@ -96,21 +94,37 @@ fn standing(after: &Chunk, n: u32, k: u32) -> &[u8]
     }
 }
 
-// A number in a file and bytes, each with what stands before it.
-fn push_span(
-    out: &mut Page,
-    before: &str,
-    file: Num,
-    between: &str,
-    at: u64,
-    bytes: &[u8],
-) -> Result<(), NoMemory>
-    ensures { OnOk result (out.new ≡ out.old ++ (before.now ++ num_text file ++ between.now ++ decimal at ++ codes " " ++ bytes_text bytes.now)) }
+fn push_overwrite(out: &mut Page, file: Num, at: u64, bytes: &[u8]) -> Result<(), NoMemory>
+    ensures { OnOk result (out.new ≡ out.old ++ overwrite_text file at bytes.now) }
 {
-    write!(out, "{before}")?;
-    push_num(out, file)?;
-    write!(out, "{between}{at} ")?;
+    push_labelled(out, "bytes file ", file)?;
+    write!(out, " at {at} ")?;
     push_bytes(out, bytes)
+}
+
+fn push_tail(out: &mut Page, file: Num, from: u32, bytes: &[u8]) -> Result<(), NoMemory>
+    ensures { OnOk result (out.new ≡ out.old ++ tail_text file from bytes.now) }
+{
+    push_labelled(out, "tail file ", file)?;
+    write!(out, " from {from} ")?;
+    push_bytes(out, bytes)
+}
+
+fn push_made(out: &mut Page, name: &Name, num: Num) -> Result<(), NoMemory>
+    ensures { OnOk result (out.new ≡ out.old ++ made_text name.now num) }
+{
+    write!(out, "made ")?;
+    out.push(name.as_slice())?;
+    push_labelled(out, " file ", num)
+}
+
+fn push_moved(out: &mut Page, from: &Name, to: &Name) -> Result<(), NoMemory>
+    ensures { OnOk result (out.new ≡ out.old ++ moved_text from.now to.now) }
+{
+    write!(out, "moved ")?;
+    out.push(from.as_slice())?;
+    write!(out, " ")?;
+    out.push(to.as_slice())
 }
 
 fn push_effect(out: &mut Page, undo: &Undo, k: u32) -> Result<(), NoMemory>
@@ -125,50 +139,18 @@ fn push_effect(out: &mut Page, undo: &Undo, k: u32) -> Result<(), NoMemory>
             ..
         } => {
             let from = *at as u64 + k as u64;
-            push_span(
-                out,
-                "bytes file ",
-                *file,
-                " at ",
-                from,
-                standing(after, *n, k),
-            )
+            push_overwrite(out, *file, from, standing(after, *n, k))
         }
         Undo::Tail {
             file,
             from,
             after,
             n,
-        } => {
-            push_span(
-                out,
-                "tail file ",
-                *file,
-                " from ",
-                *from as u64,
-                covered(after, *n),
-            )
-        }
-        Undo::Made { name, num } => {
-            write!(out, "made ")?;
-            out.push(name.as_slice())?;
-            write!(out, " file ")?;
-            push_num(out, *num)
-        }
-        Undo::Moved { from, to } => {
-            write!(out, "moved ")?;
-            out.push(from.as_slice())?;
-            write!(out, " ")?;
-            out.push(to.as_slice())
-        }
-        Undo::NewPipe(num) => {
-            write!(out, "pipe ")?;
-            push_num(out, *num)
-        }
-        Undo::NewPair(num) => {
-            write!(out, "pair ")?;
-            push_num(out, *num)
-        }
+        } => push_tail(out, *file, *from, covered(after, *n)),
+        Undo::Made { name, num } => push_made(out, name, *num),
+        Undo::Moved { from, to } => push_moved(out, from, to),
+        Undo::NewPipe(num) => push_labelled(out, "pipe ", *num),
+        Undo::NewPair(num) => push_labelled(out, "pair ", *num),
     }
 }
 
