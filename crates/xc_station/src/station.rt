@@ -2,7 +2,7 @@ ghost use Rattle.std.specs.Prelude.{◌≡◌, ◌↔◌, ◌<◌, ◌≤◌, le
 ghost use Rattle.xc_data.specs.Counts.{CountsFaults};
 ghost use Rattle.xc_data.specs.Faults.{entry_faults};
 ghost use Rattle.xc_data.specs.Limits.{KeepsLimits};
-ghost use Rattle.xc_host.specs.Contents.{needs_scripted};
+ghost use Rattle.xc_host.specs.Contents.{needs_scripted, opened};
 ghost use Rattle.xc_text.specs.Scripts.{IsScript};
 ghost use Rattle.xc_station.specs.declared.job.Doing.TheVariants as doing;
 ghost use Rattle.xc_station.specs.Doing.{doing_of, doing_in, is_live, Starves, EndsIn, EndsWith, Grows, IsLineOf, AreLinesOf, opened_job};
@@ -275,6 +275,8 @@ impl<H: Host> Station<H> {
         requires limits { KeepsLimits script.plain }
         requires tries { 1 ≤ rules.undo_tries }
         ensures ok { IfOk result (λ s. (s.opening ≡ record { script = script; faults = H.model.fault_count host }) × (s.rules ≡ rules) × (s.journal ≡ []) × (s.taken ≡ false)) }
+        ensures words { IfOk result (λ s. (s.words ≡ script.plain.words) × (s.job ≡ opened_job script (slice_get script.plain.jobs 0))) }
+        ensures told { IsTrue H.model.tells → IfOk result (λ s. H.model.contents s.host ≡ opened script.plain.prologue.objects) }
         ensures scripted { IfOk result (λ s. not H.model.takes_scripts && needs_scripted script.plain.prologue ≡ false) }
         ensures refused { IfErr result (λ n. n.why ≡ OpenErr.NotScripted → not H.model.takes_scripts && needs_scripted script.plain.prologue ≡ true) }
         ensures err { IfErr result (λ n. n.host ≡ host) }
@@ -311,6 +313,7 @@ impl<H: Host> Station<H> {
         requires { is_live self.job 1 ≡ false }
         ensures opening { result.opening ≡ self.opening }
         ensures journal { result.journal.items ≡ self.journal }
+        ensures handed { (result.host ≡ self.host) × (result.words ≡ self.words) × AreLinesOf self.job result.jobs }
         ensures few { length result.journal.items ≤ 1000 }
         ensures whole { IsTrueEnd (setting self.opening.script self.rules H.model.tells) result.journal.items
             (record { words = result.words; contents = H.model.contents result.host; lines = result.jobs }) }
