@@ -62,7 +62,8 @@ module _ {K X : Type 0} {R : K → K → Ordering} (o : IsTotalOrder R) (same : 
       ∙ ap (cond (eq_by_cmp R q a) (Some x)) (sym (get-insert o m b y q)) ∙ sym (get-insert o _ a x q))
 
   -- what an insertion leaves at a key: the new value at its own, the old one elsewhere
-  cases_at : (m : FinMap R X) (k q : K) (x : X) (b : Bool) → eq_by_cmp R q k ≡ b → ((q ≡ k) × (get (insert m k x) q ≡ Some x)) ⊎ (get (insert m k x) q ≡ get m q)
+  cases_at : (m : FinMap R X) (k q : K) (x : X) (b : Bool) → eq_by_cmp R q k ≡ b
+      → ((q ≡ k) × (get (insert m k x) q ≡ Some x)) ⊎ (get (insert m k x) q ≡ get m q)
   cases_at m k q x true e = inl (tied o same q k e, get-insert o m k x q ∙ ap (λ b. cond b (Some x) (get m q)) e)
   cases_at m k q x false e = inr (get-insert o m k x q ∙ ap (λ b. cond b (Some x) (get m q)) e)
 
