@@ -72,13 +72,15 @@ act_cases w me tx c a P bad_handle too_big too_much bad_word passed =
     cond_both (is_bad_handle c me) _ _ P (λ _. bad_handle) (λ p.
     cond_both (is_too_big c) _ _ P (λ _. too_big) (λ q.
     cond_both (is_too_much c me) _ _ P (λ _. too_much) (λ r.
-    cond_both (is_bad_word c (length w.words)) _ _ P (λ _. bad_word) (λ s. passed (none_of (is_bad_handle c me) (is_too_big c) (is_too_much c me) (is_bad_word c (length w.words)) p q r s)))))
+    cond_both (is_bad_word c (length w.words)) _ _ P (λ _. bad_word)
+    (λ s. passed (none_of (is_bad_handle c me) (is_too_big c) (is_too_much c me) (is_bad_word c (length w.words)) p q r s)))))
 
 pub touched_all : (c : Call) (me : Private) (words : ℕ) → is_refused c me words ≡ false → touch c me words ≡ objects_of_call c me
 touched_all c me words e = ap (λ b. if b then [] else objects_of_call c me) e
 
 -- ---- its record
-overwrite_alike : (w v : World) (bytes : List ℕ) (n : ℕ) (p : Place) → All (AgreeAt w v) (object_at p) → overwrite_record w bytes n p ≡ overwrite_record v bytes n p
+overwrite_alike : (w v : World) (bytes : List ℕ) (n : ℕ) (p : Place) → All (AgreeAt w v) (object_at p)
+    → overwrite_record w bytes n p ≡ overwrite_record v bytes n p
 overwrite_alike w v bytes n (place.File num at) agree =
     let f : List ℕ → List Undo = λ file. if n == 0 then [] else Bytes num at (take (length bytes) (drop at file)) bytes n ∷ [] in
     ap f (same_file (object.File num ∷ []) w v num (first_in (object.File num) []) agree)
@@ -95,7 +97,8 @@ append_alike w v bytes n (place.Pipe num) agree = refl
 append_alike w v bytes n (place.Pair num side) agree = refl
 
 -- whatever the reply
-passed_recorded : (w v : World) (me : Private) (tx : ℕ) (c : Call) (r : Reply) → All (AgreeAt w v) (objects_of_call c me) → recorded w me tx c r ≡ recorded v me tx c r
+passed_recorded : (w v : World) (me : Private) (tx : ℕ) (c : Call) (r : Reply) → All (AgreeAt w v) (objects_of_call c me)
+    → recorded w me tx c r ≡ recorded v me tx c r
 passed_recorded w v me tx (call.XWriteOvr h bytes) r agree = overwrite_alike w v bytes (done_of (length bytes) r) (place_of me.places h) agree
 passed_recorded w v me tx (call.XWriteSeq h bytes) r agree = append_alike w v bytes (done_of (length bytes) r) (place_of me.places h) agree
 passed_recorded w v me tx _ r agree = refl
@@ -120,9 +123,12 @@ fits_alike w v me tx c (answer.Fault n) count agree = by_check (is_refused c me 
 
     later : (b : Bool) → is_refused c me (length w.words) ≡ b → of_reply b (fine w me tx c).reply ≡ of_reply b (fine v me tx c).reply
     later true e = refl
-    later false e = ap (of_reply false) (done_alike w v me tx c answer.Fine (subst (λ l. All (AgreeAt w v) (l ++ made_by c me tx)) (touched_all c me (length w.words) e) agree)).reply
+    later false e =
+        ap (of_reply false) (done_alike w v me tx c answer.Fine
+        (subst (λ l. All (AgreeAt w v) (l ++ made_by c me tx)) (touched_all c me (length w.words) e) agree)).reply
 
-    by_check : (b : Bool) → is_refused c me (length w.words) ≡ b → of_reply (is_refused c me (length w.words)) (fine w me tx c).reply ≡ of_reply (is_refused c me (length v.words)) (fine v me tx c).reply
+    by_check : (b : Bool) → is_refused c me (length w.words) ≡ b
+        → of_reply (is_refused c me (length w.words)) (fine w me tx c).reply ≡ of_reply (is_refused c me (length v.words)) (fine v me tx c).reply
     by_check b e =
         ap (λ x. of_reply x (fine w me tx c).reply) e ∙ later b e
         ∙ ap (λ x. of_reply x (fine v me tx c).reply) (sym e ∙ ap (is_refused c me) count)

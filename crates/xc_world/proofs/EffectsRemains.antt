@@ -1,5 +1,6 @@
 -- What remains of overwrites keeps each file's length, and with it a sound world sound.
-use Rattle.std.proofs.Common.{◌≡◌, ℕ, ◌+◌, ◌≤◌, inl, inr, true, is_some, List, [], ◌∷◌, ◌++◌, length, take, drop, map, unwrap_or, ap, sym, ◌∙◌, subst, arith, length-append, length-take, length-drop}
+use Rattle.std.proofs.Common.{◌≡◌, ℕ, ◌+◌, ◌≤◌, inl, inr, true, is_some, List, [], ◌∷◌, ◌++◌, length, take, drop, map, unwrap_or, ap, sym, ◌∙◌, subst, arith}
+use Rattle.std.proofs.Common.{length-append, length-take, length-drop}
 use Rattle.std.specs.FinMap as finite
 use Rattle.std.specs.List.{AllByRecursion}
 use Rattle.xc_data.specs.declared.object.Num.{Num}
@@ -33,9 +34,18 @@ effect-size : (at n k : ℕ) (after file : List ℕ) → at + n ≤ length file 
 effect-size at n k after file inside =
     let covered = drop k (take n after) in
     let l = length-append (take (at + k) file ++ covered) (drop (at + k + length covered) file) in
-    omega (arith, l, length-append (take (at + k) file) covered, length-take (at + k) file, length-drop (at + k + length covered) file, length-drop k (take n after), length-take n after)
+    omega (
+      arith,
+      l,
+      length-append (take (at + k) file) covered,
+      length-take (at + k) file,
+      length-drop (at + k + length covered) file,
+      length-drop k (take n after),
+      length-take n after,
+    )
 
-put-like : (w : World) (file : Num) (bytes : List ℕ) → is_some (finite.get w.files file) ≡ true → length bytes ≡ length (file_of w file) → IsLike w (with_file w file bytes)
+put-like : (w : World) (file : Num) (bytes : List ℕ) → is_some (finite.get w.files file) ≡ true → length bytes ≡ length (file_of w file)
+    → IsLike w (with_file w file bytes)
 put-like w file bytes there size =
     record {
       there = λ num. elim (get-insert_cases num_total num_exact w.files file num bytes) [
@@ -97,10 +107,12 @@ all-covered w (u ∷ us) made =
 abbrev pub IsKept : (World → Type 0) → Type 0
 IsKept P = (v : World) (u : Undo) (k : ℕ) → IsCovered v u → P v → P (with_effect v u k)
 
-still-covered : (w : World) (u : Undo) (k : ℕ) (records : List Ending) → AreCovered w (u ∷ map (λ r. r.0) records) → AreCovered (with_effect w u k) (map (λ r. r.0) records)
+still-covered : (w : World) (u : Undo) (k : ℕ) (records : List Ending) → AreCovered w (u ∷ map (λ r. r.0) records)
+    → AreCovered (with_effect w u k) (map (λ r. r.0) records)
 still-covered w u k records covered = all-covered-like w (with_effect w u k) (map (λ r. r.0) records) (effect-like w u k covered.0) covered.1
 
-pub remains-keep : (P : World → Type 0) → IsKept P → (w : World) (records : List Ending) → AreCovered w (map (λ r. r.0) records) → P w → P (with_remains w (remains records))
+pub remains-keep : (P : World → Type 0) → IsKept P → (w : World) (records : List Ending) → AreCovered w (map (λ r. r.0) records) → P w
+    → P (with_remains w (remains records))
 remains-keep P keep w [] covered p = p
 remains-keep P keep w ((u, Undone faults) ∷ records) covered p = remains-keep P keep w records covered.1 p
 remains-keep P keep w ((u, Failed done faults) ∷ records) covered p =

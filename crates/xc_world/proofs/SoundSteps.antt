@@ -15,7 +15,8 @@ use Rattle.xc_world.proofs.SoundParts.{Keeps, Adds, keeps_itself, keeps_all}
 
 -- ---- a private state that became another
 -- what stands at a handle after one place is set
-pub place_of-set : (places : List Place) (h k : ℕ) (p : Place) → (place_of (slice_set places h p) k ≡ p) ⊎ (place_of (slice_set places h p) k ≡ place_of places k)
+pub place_of-set : (places : List Place) (h k : ℕ) (p : Place)
+    → (place_of (slice_set places h p) k ≡ p) ⊎ (place_of (slice_set places h p) k ≡ place_of places k)
 place_of-set [] h k p = inr refl
 place_of-set (q ∷ places) zero zero p = inl refl
 place_of-set (q ∷ places) zero (suc k) p = inr refl
@@ -55,7 +56,9 @@ made_sound w v me tx adds le s =
       world = adds.fit;
       made = omega arith;
       stored = s.stored;
-      new = λ k more. adds.free (record { tx = tx; k = k }) (λ e. let same : k ≡ me.made = ap (λ (n : Num). n.k) e in absurd (omega arith)) (s.new k (omega arith));
+      new =
+          λ k more. adds.free (record { tx = tx; k = k }) (λ e. let same : k ≡ me.made = ap (λ (n : Num). n.k) e in absurd (omega arith))
+          (s.new k (omega arith));
       handles = λ h. adds.known (place_of me.places h) (s.handles h);
     }
 

@@ -1,5 +1,6 @@
 -- Undoing what one call left: the world before the call is brought back from the world behind it.
-use Rattle.std.proofs.Common.{◌≡◌, ℕ, ◌+◌, ◌≤◌, ◌<◌, Bool, true, false, Option, Some, None, is_some, List, [], ◌∷◌, ◌++◌, length, take, drop, refl, ap, sym, ◌∙◌, subst, arith}
+use Rattle.std.proofs.Common.{◌≡◌, ℕ, ◌+◌, ◌≤◌, ◌<◌, Bool, true, false, Option, Some, None, is_some, List, [], ◌∷◌, ◌++◌, length, take, drop, refl, ap, sym}
+use Rattle.std.proofs.Common.{◌∙◌, subst, arith}
 use Rattle.std.specs.Prelude.{IsTrue, ◌==◌, nat_lt, if◌then◌else◌}
 use Rattle.std.specs.FinMap as map
 use Rattle.std.specs.Ordering.{eq_by_cmp}
@@ -223,7 +224,8 @@ pub read_pipe_at-undoes : (w : World) (me : Private) (n : ℕ) (p : Place) → I
 read_pipe_at-undoes w me n (Pipe num) there =
     cond_both (n == 0) _ _ (UndoesNone w) (λ _. as_is w) (λ _.
     cond_both (length (pipe_of w num).held == 0) _ _ (UndoesNone w) (λ _. as_is w) (λ _ v back.
-    pipe-back w v num (record (pipe_of w num) { held = drop n (pipe_of w num).held }) there (record { shut = refl; held = rest-drop n (pipe_of w num).held }) back))
+    pipe-back w v num (record (pipe_of w num) { held = drop n (pipe_of w num).held }) there
+    (record { shut = refl; held = rest-drop n (pipe_of w num).held }) back))
 read_pipe_at-undoes w me n Vacant known = as_is w
 read_pipe_at-undoes w me n (File num at) known = as_is w
 read_pipe_at-undoes w me n (Pair num side) known = as_is w

@@ -1,6 +1,7 @@
 -- What undoing rests on: lists whose middle is put back, maps with one key put back, and what is
 -- left of pipes and pairs.
-use Rattle.std.proofs.Common.{◌≡◌, ℕ, ◌+◌, ◌≤◌, Bool, true, false, cond, Option, Some, None, is_some, unwrap_or, List, [], ◌++◌, length, take, drop, refl, ap, ap₂, sym, ◌∙◌, subst, append_assoc, arith, length-append, length-drop}
+use Rattle.std.proofs.Common.{◌≡◌, ℕ, ◌+◌, ◌≤◌, Bool, true, false, cond, Option, Some, None, is_some, unwrap_or, List, [], ◌++◌, length, take, drop, refl, ap}
+use Rattle.std.proofs.Common.{ap₂, sym, ◌∙◌, subst, append_assoc, arith, length-append, length-drop}
 use Rattle.std.specs.FinMap as map
 use Rattle.std.specs.Ordering.{eq_by_cmp}
 use Rattle.std.proofs.lemmas.List.{take-append-drop, take-take, drop-drop, length-take-le}
@@ -70,7 +71,11 @@ pair_rest-all p = record { shut = refl; first = rest-all p.first; second = rest-
 
 pair_rest-rest : (p q r : Pair) → IsPairRest p q → IsPairRest q r → IsPairRest p r
 pair_rest-rest p q r a b =
-    record { shut = b.shut ∙ a.shut; first = rest-rest p.first q.first r.first a.first b.first; second = rest-rest p.second q.second r.second a.second b.second }
+    record {
+      shut = b.shut ∙ a.shut;
+      first = rest-rest p.first q.first r.first a.first b.first;
+      second = rest-rest p.second q.second r.second a.second b.second;
+    }
 
 -- ---- maps of what is left
 abbrev pub AreRests : {X : Type 0} → (X → X → Type 0) → map.FinMap num_cmp X → map.FinMap num_cmp X → Type 0
