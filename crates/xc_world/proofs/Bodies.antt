@@ -36,6 +36,7 @@ keeps_on own w v x first later =
       blocks = later.blocks ∙ first.blocks;
     }
 
+-- what keeps all but some objects keeps all but more of them
 pub keeps_more : (own more : Object → Type 0) (w v : World) → ((o : Object) → own o → more o) → KeepsBut own w v → KeepsBut more w v
 keeps_more own more w v within keeps = record { others = λ o lacks. keeps.others o (λ has. lacks (within o has)); count = keeps.count; blocks = keeps.blocks }
 
@@ -43,18 +44,23 @@ keeps_more own more w v within keeps = record { others = λ o lacks. keeps.other
 pub objects_append : (a b : List Claim) → objects (a ++ b) ≡ objects a ++ objects b
 objects_append a b = map-append (λ (c : Claim). c.object) a b
 
+-- what claims one behind another own
 pub owned_append : (a b : List Claim) → owned (a ++ b) ≡ owned a ++ owned b
 owned_append a b = filter_map-append owned_object a b
 
+-- an object of the front claims is one of all
 pub in_front : (a b : List Claim) (o : Object) → Contains (objects a) o → Contains (objects (a ++ b)) o
 in_front a b o at = subst (λ l. Contains l o) (sym (objects_append a b)) (Contains-append_left (objects a) (objects b) o at)
 
+-- an object of the later claims is one of all
 pub behind : (a b : List Claim) (o : Object) → Contains (objects b) o → Contains (objects (a ++ b)) o
 behind a b o at = subst (λ l. Contains l o) (sym (objects_append a b)) (Contains-append_right (objects a) (objects b) o at)
 
+-- an owned object of the later claims is one of all
 pub owned_behind : (a b : List Claim) (o : Object) → Contains (owned b) o → Contains (owned (a ++ b)) o
 owned_behind a b o at = subst (λ l. Contains l o) (sym (owned_append a b)) (Contains-append_right (owned a) (owned b) o at)
 
+-- what the front claims own, all own
 pub owns_in_front : (tx : ℕ) (a b : List Claim) (o : Object) → Owns tx a o → Owns tx (a ++ b) o
 owns_in_front tx a b o (inl at) = inl (subst (λ l. Contains l o) (sym (owned_append a b)) (Contains-append_left (owned a) (owned b) o at))
 owns_in_front tx a b o (inr numbered) = inr numbered
@@ -104,6 +110,7 @@ step_keeps tx w r c before now =
     (keeps_more (Owns tx r.touched) (Owns tx (step tx r c).touched) w r.world
     (owns_in_front tx r.touched (claims_of c.call r.me (length r.world.words))) before) now
 
+-- two bodies stay alike over one call on objects of P
 pub step_alike : (P : Object → Type 0) (tx : ℕ) (w v : World) (r q : Ran) (c : Asked) → Alike P tx w v r q → Within P tx r c
     → Alike P tx w v (step tx r c) (step tx q c)
 step_alike P tx w v r q c so within =
@@ -151,6 +158,7 @@ next_within P tx ran c asked touched numbered =
       numbered = numbered;
     }
 
+-- two bodies stay alike over calls on objects of P
 pub goes_on_alike : (P : Object → Type 0) (tx : ℕ) (w v : World) (r q : Ran) (asked : List Asked) → Alike P tx w v r q
     → ((o : Object) → Contains (objects (goes_on tx r asked).touched) o → P o) → ((o : Object) → IsNumbered tx o → P o)
     → Alike P tx w v (goes_on tx r asked) (goes_on tx q asked)
@@ -158,6 +166,7 @@ goes_on_alike P tx w v r q [] so touched numbered = so
 goes_on_alike P tx w v r q (c ∷ asked) so touched numbered =
     goes_on_alike P tx w v (step tx r c) (step tx q c) asked (step_alike P tx w v r q c so (next_within P tx r c asked touched numbered)) touched numbered
 
+-- the same answers fit the calls of both
 pub on_fits_alike : (P : Object → Type 0) (tx : ℕ) (w v : World) (r q : Ran) (asked : List Asked) → Alike P tx w v r q
     → ((o : Object) → Contains (objects (goes_on tx r asked).touched) o → P o) → ((o : Object) → IsNumbered tx o → P o)
     → body_fits r.world r.me tx asked ≡ body_fits q.world q.me tx asked
@@ -197,10 +206,12 @@ free_agree tx w v free empty (object.Word at) e = absurd e
 free_agree tx w v free empty (object.Name name) e = absurd e
 free_agree tx w v free empty object.Jobs e = absurd e
 
+-- worlds that agree on what was touched and on the transaction's numbers agree on all that it sees
 pub seen_agree : (tx : ℕ) (w v : World) (claims : List Claim) → All (AgreeAt w v) (objects claims) → AgreeOn (IsNumbered tx) w v → AgreeOn (Sees tx claims) w v
 seen_agree tx w v claims touched numbered o (inl at) = All-contains (AgreeAt w v) (objects claims) o touched at
 seen_agree tx w v claims touched numbered o (inr e) = numbered o e
 
+-- a body gives the same in worlds that agree on what it touches and on its numbers
 pub body_alike : (w v : World) (me : Private) (tx : ℕ) (asked : List Asked) → length w.words ≡ length v.words
     → All (AgreeAt w v) (objects (body w me tx asked).touched) → AgreeOn (IsNumbered tx) w v
     → RanAlike tx w v (body w me tx asked) (body v me tx asked)
@@ -212,6 +223,7 @@ body_alike w v me tx asked count touched numbered =
     (λ o e. inr e) in
     record { gave = so.gave; agree = so.agree; left = so.left; right = so.right }
 
+-- the same answers fit a body in worlds that agree on what it touches and on its numbers
 pub body_fits_alike : (w v : World) (me : Private) (tx : ℕ) (asked : List Asked) → length w.words ≡ length v.words
     → All (AgreeAt w v) (objects (body w me tx asked).touched) → AgreeOn (IsNumbered tx) w v
     → body_fits w me tx asked ≡ body_fits v me tx asked
@@ -231,6 +243,7 @@ body_keeps w me tx asked =
 none_made : (w : World) (me : Private) (tx : ℕ) → IsSound w me tx → me.made ≡ 0 → (k : ℕ) → IsFree w (record { tx = tx; k = k })
 none_made w me tx sound none k = sound.new k (subst (λ n. n ≤ k) (sym none) (omega arith))
 
+-- a body that has made nothing before gives the same in sound worlds that agree on what it touches
 pub body_alike_begun : (w v : World) (me : Private) (tx : ℕ) (asked : List Asked) → IsSound w me tx → IsSound v me tx → me.made ≡ 0
     → length w.words ≡ length v.words
     → All (AgreeAt w v) (objects (body w me tx asked).touched) → RanAlike tx w v (body w me tx asked) (body v me tx asked)

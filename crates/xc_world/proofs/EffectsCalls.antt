@@ -196,6 +196,7 @@ done-leads w me tx c (answer.Fault n) e = faulty-leads w me tx c n
 refused-leads : (w : World) (us : List Undo) → us ≡ [] → Leads w w us
 refused-leads w us e = subst (Leads w w) (sym e) refl
 
+-- but for the words, a call that takes no data leaves the world with the effect of its record
 pub act-leads : (w : World) (me : Private) (tx : ℕ) (c : Call) (a : Answer) → takes_data c ≡ false
     → (act w me tx c a).world ≡ record (with_remains w (whole (recorded w me tx c (act w me tx c a).reply))) { words = (act w me tx c a).world.words }
 act-leads w me tx c a e =

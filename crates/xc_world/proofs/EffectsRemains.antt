@@ -58,6 +58,7 @@ put-like w file bytes there size =
       ];
     }
 
+-- a covered effect keeps which files are there and each one's length
 pub effect-like : (w : World) (u : Undo) (k : ℕ) → IsCovered w u → IsLike w (with_effect w u k)
 effect-like w (Bytes file at before after n) k covered = put-like w file _ covered.0 (effect-size at n k after (file_of w file) covered.1)
 effect-like w (Tail file from after n) k covered = absurd covered
@@ -89,6 +90,7 @@ one-covered w (Moved from to) made = made
 one-covered w (NewPipe num) made = made
 one-covered w (NewPair num) made = made
 
+-- each record is covered
 abbrev pub AreCovered : World → List Undo → Type 0
 AreCovered w us = AllByRecursion (IsCovered w) us
 
@@ -96,6 +98,7 @@ all-covered-like : (w v : World) (us : List Undo) → IsLike w v → AreCovered 
 all-covered-like w v [] like covered = tt
 all-covered-like w v (u ∷ us) like covered = (covered-like w v u like covered.0, all-covered-like w v us like covered.1)
 
+-- records that were made are covered in the world before the first
 pub all-covered : (w : World) (us : List Undo) → AreMadeIn w us → AreCovered w us
 all-covered w [] made = tt
 all-covered w (u ∷ us) made =
@@ -111,6 +114,7 @@ still-covered : (w : World) (u : Undo) (k : ℕ) (records : List Ending) → Are
     → AreCovered (with_effect w u k) (map (λ r. r.0) records)
 still-covered w u k records covered = all-covered-like w (with_effect w u k) (map (λ r. r.0) records) (effect-like w u k covered.0) covered.1
 
+-- what each covered effect keeps, what remains of covered records keeps
 pub remains-keep : (P : World → Type 0) → IsKept P → (w : World) (records : List Ending) → AreCovered w (map (λ r. r.0) records) → P w
     → P (with_remains w (remains records))
 remains-keep P keep w [] covered p = p
@@ -145,6 +149,7 @@ effect-sound me tx v (Moved from to) k covered sound = absurd covered
 effect-sound me tx v (NewPipe num) k covered sound = absurd covered
 effect-sound me tx v (NewPair num) k covered sound = absurd covered
 
+-- what remains of records that were made keeps a private state sound
 pub remains-sound : (w : World) (me : Private) (tx : ℕ) (records : List Ending) → AreMadeIn w (map (λ r. r.0) records) → IsSound w me tx
     → IsSound (with_remains w (remains records)) me tx
 remains-sound w me tx records made sound =

@@ -169,6 +169,7 @@ ended-beside w (Moved from to) newer tries i end made legal = absurd made.0
 ended-beside w (NewPipe num) newer tries i end made legal = absurd made.0
 ended-beside w (NewPair num) newer tries i end made legal = absurd made.0
 
+-- a compensation of the newest record that stands whole leaves what its end tells of
 pub record-undone : (w : World) (older : List Undo) (u : Undo) (newer : List Ending) (tries : ℕ) (end : UndoEnd)
     → AreMadeIn w (older ++ u ∷ map (λ r. r.0) newer)
     → IsLegalEnd tries u end (blocker (length older + 1 + 1) u newer)

@@ -15,6 +15,7 @@ use Rattle.xc_data.specs.Claims.{is_exclusive, exclusive, objects, owned, strong
 use Rattle.xc_world.proofs.Objects.{same_object, found}
 use Rattle.xc_world.proofs.Bodies.{objects_append, owned_append}
 
+-- whether an object is in a list
 abbrev pub has : List Object → Object → Bool
 has os o = list_any (is_object o) os
 
@@ -143,12 +144,14 @@ owned_all held (c ∷ claims) o =
 same_lists : (a b : List Object) (o : Object) → has a o ≡ has b o → Contains a o → Contains b o
 same_lists a b o e at = Contains-from_any same_object o b (sym e ∙ found a o at)
 
+-- the objects that are held are those that were claimed
 pub held_seen : (claims : List Claim) (o : Object) → Contains (objects (held_of claims)) o ↔ Contains (objects claims) o
 held_seen claims o = (
   same_lists (objects (held_of claims)) (objects claims) o (seen_all [] claims o),
   same_lists (objects claims) (objects (held_of claims)) o (sym (seen_all [] claims o)),
 )
 
+-- the objects that are owned by what is held are those that the claims own
 pub held_owned : (claims : List Claim) (o : Object) → Contains (owned (held_of claims)) o ↔ Contains (owned claims) o
 held_owned claims o = (
   same_lists (owned (held_of claims)) (owned claims) o (owned_all [] claims o),
@@ -188,9 +191,11 @@ once_all : (held claims : List Claim) → AreOnceAtMost (objects held) → AreOn
 once_all held [] once = once
 once_all held (c ∷ claims) once = once_all (holding_one held c) claims (once_one held c once)
 
+-- no object is held twice
 pub held_once : (claims : List Claim) → AreOnceAtMost (objects (held_of claims))
 held_once claims = once_all [] claims (λ o. omega arith)
 
+-- an object is in a list of held ones where a claim of them is on it
 pub has_object : (o : Object) (held : List Claim) → has (objects held) o ≡ list_any (λ (h : Claim). is_object o h.object) held
 has_object o [] = refl
 has_object o (h ∷ held) = ap (λ b. is_object o h.object || b) (has_object o held)

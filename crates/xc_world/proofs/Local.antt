@@ -54,6 +54,7 @@ act_alike w v me tx c a count agree =
 one_agrees : (w v : World) (o : Object) → AgreeAt w v o → All (AgreeAt w v) (o ∷ [])
 one_agrees w v o e = All-cons (AgreeAt w v) o [] e (All-nil (AgreeAt w v))
 
+-- worlds where the next number is free agree on what a call makes
 pub made_agree : (w v : World) (me : Private) (tx : ℕ) (c : Call) → IsFree w (next_num me tx) → IsFree v (next_num me tx) → All (AgreeAt w v) (made_by c me tx)
 made_agree w v me tx (call.XCreate name) a b = one_agrees w v (object.File (next_num me tx)) (a.file ∙ sym b.file)
 made_agree w v me tx call.XPipe a b = one_agrees w v (object.Pipe (next_num me tx)) (a.pipe ∙ sym b.pipe)

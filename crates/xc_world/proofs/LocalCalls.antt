@@ -257,6 +257,7 @@ to_in from to =
 abbrev pub OfCall : World → World → Private → ℕ → Call → Stepped → Stepped → Type 0
 OfCall w v me tx c = ActsAlike (objects_of_call c me ++ made_by c me tx) w v
 
+-- two worlds agree on a call's objects and on what it makes
 abbrev pub AgreeOfCall : World → World → Private → ℕ → Call → Type 0
 AgreeOfCall w v me tx c = All (AgreeAt w v) (objects_of_call c me ++ made_by c me tx)
 
@@ -295,6 +296,7 @@ faulty_alike w v me tx (call.XWriteOvr h bytes) n agree =
 faulty_alike w v me tx (call.XWriteSeq h bytes) n agree = append_short_alike _ w v me h bytes n (place_of me.places h) (has_it (place_of me.places h) []) agree
 faulty_alike w v me tx _ n agree = quiet _ w v me (reply.Fault n) agree
 
+-- a call that passes gives the same in worlds that agree on its objects
 pub done_alike : (w v : World) (me : Private) (tx : ℕ) (c : Call) (a : Answer) → AgreeOfCall w v me tx c
     → OfCall w v me tx c (done w me tx c a) (done v me tx c a)
 done_alike w v me tx c answer.Fine agree = fine_alike w v me tx c agree

@@ -31,6 +31,7 @@ both_so P false true x y z u e p q = cc
 pub first_in : (o : Object) (objects : List Object) → Contains (o ∷ objects) o
 first_in o objects = (0, omega arith, refl)
 
+-- an object of a list is in the list with one more in front
 pub later_in : (o p : Object) (objects : List Object) → Contains objects p → Contains (o ∷ objects) p
 later_in o p objects at = (suc at.0, omega (arith, at.1), at.2)
 
@@ -78,6 +79,7 @@ agree_itself w (object.Pipe num) = refl
 agree_itself w (object.Pair num) = refl
 agree_itself w object.Jobs = refl
 
+-- two worlds that stay as they are
 pub same_alike : (objects : List Object) (w v : World) → All (AgreeAt w v) objects → GoAlike objects w v w v
 same_alike objects w v agree =
     record {
@@ -114,6 +116,7 @@ word_left w objects at value has (object.Pipe num) lacks = refl
 word_left w objects at value has (object.Pair num) lacks = refl
 word_left w objects at value has object.Jobs lacks = refl
 
+-- a word is stored in both worlds
 pub word_alike : (objects : List Object) (w v : World) (at value : ℕ) → Contains objects (object.Word at) → All (AgreeAt w v) objects
     → GoAlike objects w v (with_word w at value) (with_word v at value)
 word_alike objects w v at value has agree =
@@ -161,6 +164,7 @@ new_left w objects name num named has (object.Pipe q) lacks = refl
 new_left w objects name num named has (object.Pair q) lacks = refl
 new_left w objects name num named has object.Jobs lacks = refl
 
+-- an empty file is put under a name in both worlds
 pub new_alike : (objects : List Object) (w v : World) (name : List ℕ) (num : Num) → Contains objects (object.Name name) → Contains objects (object.File num)
     → All (AgreeAt w v) objects
     → GoAlike objects w v (with_new_file w name num) (with_new_file v name num)
@@ -185,6 +189,7 @@ moved_left w objects from to num old new (object.Pipe q) lacks = refl
 moved_left w objects from to num old new (object.Pair q) lacks = refl
 moved_left w objects from to num old new object.Jobs lacks = refl
 
+-- a file takes another name in both worlds
 pub moved_alike : (objects : List Object) (w v : World) (from to : List ℕ) (num there : Num) → num ≡ there → Contains objects (object.Name from)
     → Contains objects (object.Name to) → All (AgreeAt w v) objects
     → GoAlike objects w v (with_moved w from to num) (with_moved v from to there)
@@ -193,6 +198,7 @@ moved_alike objects w v from to num there e old new agree =
     (go (λ u. with_moved u from to num) objects w v (moved_kept w v from to num)
     (λ u. record { others = moved_left u objects from to num old new; count = refl; blocks = refl }) agree)
 
+-- the world without a name
 abbrev pub without_name : World → List ℕ → World
 without_name w name = record w { names = map.remove w.names name }
 
@@ -210,6 +216,7 @@ gone_left w objects name has (object.Pipe q) lacks = refl
 gone_left w objects name has (object.Pair q) lacks = refl
 gone_left w objects name has object.Jobs lacks = refl
 
+-- a name is removed in both worlds
 pub gone_alike : (objects : List Object) (w v : World) (name : List ℕ) → Contains objects (object.Name name) → All (AgreeAt w v) objects
     → GoAlike objects w v (without_name w name) (without_name v name)
 gone_alike objects w v name has agree =
@@ -229,6 +236,7 @@ pipe_left w objects num pipe has (object.File q) lacks = refl
 pipe_left w objects num pipe has (object.Pair q) lacks = refl
 pipe_left w objects num pipe has object.Jobs lacks = refl
 
+-- the same pipe is put in both worlds
 pub pipe_alike : (objects : List Object) (w v : World) (num : Num) (pipe other : Pipe) → pipe ≡ other → Contains objects (object.Pipe num)
     → All (AgreeAt w v) objects
     → GoAlike objects w v (with_pipe w num pipe) (with_pipe v num other)
@@ -251,6 +259,7 @@ pair_left w objects num pair has (object.File q) lacks = refl
 pair_left w objects num pair has (object.Pipe q) lacks = refl
 pair_left w objects num pair has object.Jobs lacks = refl
 
+-- the same pair is put in both worlds
 pub pair_alike : (objects : List Object) (w v : World) (num : Num) (pair other : Pair) → pair ≡ other → Contains objects (object.Pair num)
     → All (AgreeAt w v) objects
     → GoAlike objects w v (with_pair w num pair) (with_pair v num other)
@@ -276,6 +285,7 @@ job_left w objects body has (object.File q) lacks = refl
 job_left w objects body has (object.Pipe q) lacks = refl
 job_left w objects body has (object.Pair q) lacks = refl
 
+-- a block is started in both worlds
 pub job_alike : (objects : List Object) (w v : World) (body : List ℕ) → Contains objects object.Jobs → All (AgreeAt w v) objects
     → GoAlike objects w v (with_job w body) (with_job v body)
 job_alike objects w v body has agree =

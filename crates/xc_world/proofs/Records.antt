@@ -157,6 +157,7 @@ restored_alike w v (Moved from to) k agree = same_alike _ w v agree
 restored_alike w v (NewPipe num) k agree = same_alike _ w v agree
 restored_alike w v (NewPair num) k agree = same_alike _ w v agree
 
+-- a compensation depends on its record's objects alone, and changes no other
 pub undone_to_alike : (w v : World) (u : Undo) (end : UndoEnd) → All (AgreeAt w v) (objects_of u)
     → GoAlike (objects_of u) w v (undone_to w u end) (undone_to v u end)
 undone_to_alike w v u (Undone faults) agree = undone_alike w v u agree
@@ -171,6 +172,7 @@ IsOf P u = All P (objects_of u.0)
 of_one : (P : Object → Type 0) (u : Undo × ℕ) → IsOf P u → (o : Object) → Contains (objects_of u.0) o → P o
 of_one P u of o at = All-contains P (objects_of u.0) o of at
 
+-- worlds that agree on a kind of objects agree on it with what remains of records of these
 pub remains_agree : (P : Object → Type 0) (w v : World) (us : List (Undo × ℕ)) → All (IsOf P) us → AgreeOn P w v
     → AgreeOn P (with_remains w us) (with_remains v us)
 remains_agree P w v [] of agree = agree
@@ -179,6 +181,7 @@ remains_agree P w v ((u, k) ∷ us) of agree =
     remains_agree P (with_effect w u k) (with_effect v u k) us (All-tail (IsOf P) (u, k) us of)
     (still_agree P w v (with_effect w u k) (with_effect v u k) (objects_of u) (effect_alike w v u k (agreed P w v (objects_of u) agree one)) agree)
 
+-- what remains keeps all but the objects of its records
 pub remains_keep : (P : Object → Type 0) (w : World) (us : List (Undo × ℕ)) → All (IsOf P) us → KeepsBut P w (with_remains w us)
 remains_keep P w [] of = keeps_itself P w
 remains_keep P w ((u, k) ∷ us) of =
@@ -188,10 +191,12 @@ remains_keep P w ((u, k) ∷ us) of =
     (record { others = λ o lacks. went.others o (λ at. lacks (one o at)); count = went.count; blocks = went.blocks })
     (remains_keep P (with_effect w u k) us (All-tail (IsOf P) (u, k) us of))
 
+-- the same of what a transaction owns
 pub remains_agree_own : (tx : ℕ) (claims : List Claim) (w v : World) (us : List (Undo × ℕ)) → All (IsOf (Owns tx claims)) us → AgreeOn (Owns tx claims) w v
     → AgreeOn (Owns tx claims) (with_remains w us) (with_remains v us)
 remains_agree_own tx claims w v us of agree = remains_agree (Owns tx claims) w v us of agree
 
+-- what remains of a transaction's records keeps all but what it owns
 pub remains_keep_own : (tx : ℕ) (claims : List Claim) (w : World) (us : List (Undo × ℕ)) → All (IsOf (Owns tx claims)) us
     → KeepsBut (Owns tx claims) w (with_remains w us)
 remains_keep_own tx claims w us of = remains_keep (Owns tx claims) w us of

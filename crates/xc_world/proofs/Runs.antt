@@ -36,12 +36,14 @@ keeps_listed own w c a has =
     let went = (late_alike w w c a refl (anywhere w (late_objects c))).worlds.left in
     record { others = λ o lacks. went.others o (λ at. lacks (All-contains own (late_objects c) o has at)); count = went.count; blocks = went.blocks }
 
+-- a late call keeps all but what it may change
 pub late_keeps : (own : Object → Type 0) (w : World) (c : LateCall) (a : LateAnswer) → All own (late_changes c) → KeepsBut own w (late w c a).world
 late_keeps own w (Sync num) late_answer.Fine has = keeps_itself own w
 late_keeps own w (Sync num) (late_answer.Fault n) has = keeps_itself own w
 late_keeps own w (Sync num) (late_answer.NoMemory n) has = keeps_itself own w
 late_keeps own w c a has = keeps_listed own w c a has
 
+-- a late call keeps all objects that it may not change
 pub late_keeps_others : (w : World) (c : LateCall) (a : LateAnswer) → KeepsBut (Contains (late_changes c)) w (late w c a).world
 late_keeps_others w c a = late_keeps (Contains (late_changes c)) w c a (All-contains_itself (late_changes c))
 
@@ -68,11 +70,13 @@ late_within w call (late_answer.NoMemory n) fit = grind arith
 abbrev pub Within : (Object → Type 0) → (Object → Type 0) → LateCall × LateAnswer → Type 0
 Within sees own c = LooksWithin sees own c.0
 
+-- late calls that end the same in two worlds, that leave both agreeing on what is seen, and that the same answers fit
 pub record EndAlike (sees own : Object → Type 0) (w v : World) (asked : List (LateCall × LateAnswer)) : Type 0 where
   pub ends : (lates w asked).ends ≡ (lates v asked).ends
   pub agree : AgreeOn sees (lates w asked).world (lates v asked).world
   pub fits : lates_fit w asked ≡ lates_fit v asked
 
+-- late calls keep all but their own objects
 pub lates_keep : (sees own : Object → Type 0) (w : World) (asked : List (LateCall × LateAnswer)) → All (Within sees own) asked
     → KeepsBut own w (lates w asked).world
 lates_keep sees own w [] within = keeps_itself own w
@@ -81,6 +85,7 @@ lates_keep sees own w ((c, a) ∷ asked) within =
     keeps_on own w e.world (lates e.world asked).world (late_keeps own w c a (All-head (Within sees own) (c, a) asked within).changes)
     (lates_keep sees own e.world asked (All-tail (Within sees own) (c, a) asked within))
 
+-- late calls end alike in worlds that agree on what they look at
 pub lates_alike : (sees own : Object → Type 0) (w v : World) (asked : List (LateCall × LateAnswer)) → w.blocks ≡ v.blocks → AgreeOn sees w v
     → All (Within sees own) asked → EndAlike sees own w v asked
 lates_alike sees own w v [] blocks agree within = record { ends = refl; agree = agree; fits = refl }
@@ -154,6 +159,7 @@ pub kept_for_others : (tx ty : ℕ) (w x : World) (seen owned : List Claim) → 
     → AgreeOn (Sees tx seen) w x
 kept_for_others tx ty w x seen owned keeps apart o sees = keeps.others o (apart o sees)
 
+-- a body gives the same after a run of another that owns nothing that the body sees
 pub other_run_apart : (w : World) (me you : Private) (tx ty : ℕ) (asked others : List Asked) (ends : List LateEnd)
     → ((o : Object) → Sees tx (body w me tx asked).touched o → Owns ty (body w you ty others).touched o → ⊥)
     → RanAlike tx w (run w you ty others ends).late.world (body w me tx asked) (body (run w you ty others ends).late.world me tx asked)

@@ -96,6 +96,7 @@ faulty_well w me tx (call.XWriteSeq h bytes) n fit s =
     append_short_well w me tx h bytes n (place_of me.places h) (s.handles h) may s
 faulty_well w me tx c n fit s = quiet w me tx (read_size c) (reply.Fault n) (omega arith) s
 
+-- a call that passes steps well
 pub done_well : (w : World) (me : Private) (tx : ℕ) (c : Call) (a : Answer) → IsTrue (fits w me tx c a) → is_too_much c me ≡ false → IsSound w me tx
     → StepsWell w tx me (read_size c) (done w me tx c a)
 done_well w me tx c answer.Fine fit few s = fine_well w me tx c few s
@@ -136,6 +137,7 @@ pub record ActsWell (w : World) (me : Private) (tx : ℕ) (s : Stepped) : Type 0
   pub sound : IsSound s.world s.me tx
   pub grows : Adds w s.world (next_num me tx)
 
+-- a call that its answer fits leaves all sound, and takes at most the next number
 pub act_well : (w : World) (me : Private) (tx : ℕ) (c : Call) (a : Answer) → IsTrue (fits w me tx c a) → IsSound w me tx → ActsWell w me tx (act w me tx c a)
 act_well w me tx c a fit s =
     let still : Adds w w (next_num me tx) = adds_nothing w (next_num me tx) s.world in
@@ -146,6 +148,7 @@ act_well w me tx c a fit s =
     let well = done_well w me tx c a fit few s in
     record { sound = counted_sound w me tx c (done w me tx c a) few well; grows = well.grows }))))
 
+-- a call that its answer fits leaves its world and private state sound
 pub act_sound : (w : World) (me : Private) (tx : ℕ) (c : Call) (a : Answer) → IsTrue (fits w me tx c a) → IsSound w me tx
     → IsSound (act w me tx c a).world (act w me tx c a).me tx
 act_sound w me tx c a fit s = (act_well w me tx c a fit s).sound

@@ -32,6 +32,7 @@ opened_well w me tx name (Some num) (Some h) e s =
       got = omega arith;
     }
 
+-- to make a file under a name steps well
 pub created_well : (w : World) (me : Private) (tx : ℕ) (name : List ℕ) (o : Option Num) (vacant : Option ℕ) → me.made < 16 → IsSound w me tx
     → StepsWell w tx me 0 (created w me tx name o vacant)
 created_well w me tx name (Some num) vacant lt s = quiet w me tx 0 reply.Exists (omega arith) s
@@ -46,6 +47,7 @@ created_well w me tx name None (Some h) lt s =
       got = omega arith;
     }
 
+-- to give a file another name steps well
 pub renamed_well : (w : World) (me : Private) (tx : ℕ) (from to : List ℕ) (o there : Option Num) → map.get w.names from ≡ o → IsSound w me tx
     → StepsWell w tx me 0 (renamed w me from to o there)
 renamed_well w me tx from to None there e s = quiet w me tx 0 reply.NoName (omega arith) s
@@ -72,6 +74,7 @@ no_bytes : (b : Bool) (n : ℕ) → got_length (if b then reply.End else reply.E
 no_bytes true n = omega arith
 no_bytes false n = omega arith
 
+-- to read from a pipe steps well
 pub read_pipe_well : (w : World) (me : Private) (tx n : ℕ) (p : Place) → IsKnown w p → IsSound w me tx → StepsWell w tx me n (read_pipe_at w me n p)
 read_pipe_well w me tx n (place.Pipe num) known s =
     chosen_so (StepsWell w tx me n) (n == 0) _ _ (λ _. quiet w me tx n (reply.Got []) (omega arith) s) (λ _.
@@ -135,6 +138,7 @@ vacant_set (q ∷ places) (suc h) p =
       step_at (is_vacant q) (count_by is_vacant places) (count_by is_vacant (slice_set places h p)) (vacant_set places h p),
     )
 
+-- to make a pair, whose first side has its handle, steps well
 pub pair_made_well : (w : World) (me : Private) (tx h : ℕ) (vacant : Option ℕ) → lowest_vacant (with_place me h (place.Pair (next_num me tx) 0)).places ≡ vacant
     → 2 ≤ count_by is_vacant me.places → me.made < 16 → IsSound w me tx
     → StepsWell w tx me 0 (pair_made w (with_place me h (place.Pair (next_num me tx) 0)) tx h vacant)
@@ -154,19 +158,23 @@ pair_made_well w me tx h (Some g) e two lt s =
       got = omega arith;
     }
 
+-- to make a pair steps well
 pub new_pair_well : (w : World) (me : Private) (tx : ℕ) (vacant : Option ℕ) → 2 ≤ count_by is_vacant me.places → me.made < 16 → IsSound w me tx
     → StepsWell w tx me 0 (new_pair w me tx vacant)
 new_pair_well w me tx None two lt s = quiet w me tx 0 reply.TooMuch (omega arith) s
 new_pair_well w me tx (Some h) two lt s = pair_made_well w me tx h (lowest_vacant (with_place me h (place.Pair (next_num me tx) 0)).places) refl two lt s
 
+-- the messages that wait for a side are short
 pub waiting_short : (pair : Pair) (side : ℕ) → HoldsShort pair → AreShort (waiting pair side)
 waiting_short pair side short = chosen_so AreShort (side == 0) _ _ (λ _. short.first) (λ _. short.second)
 
+-- a pair stays short where the messages put for a side are
 pub with_waiting_short : (pair : Pair) (side : ℕ) (messages : List (List ℕ)) → AreShort messages → HoldsShort pair
     → HoldsShort (with_waiting pair side messages)
 with_waiting_short pair side messages all short =
     chosen_so HoldsShort (side == 0) _ _ (λ _. record { first = all; second = short.second }) (λ _. record { first = short.first; second = all })
 
+-- to take a message of a pair steps well
 pub received_well : (w : World) (me : Private) (tx : ℕ) (num : Num) (side : ℕ) (messages : List (List ℕ)) → is_some (map.get w.pairs num) ≡ true
     → AreShort messages → IsSound w me tx
     → StepsWell w tx me 1024 (received w me num side messages)
@@ -183,6 +191,7 @@ received_well w me tx num side (message ∷ messages) there short s =
       got = All-head (λ (m : List ℕ). length m ≤ 1024) message messages short;
     }
 
+-- to take a message at a handle steps well
 pub receive_well : (w : World) (me : Private) (tx : ℕ) (p : Place) → IsKnown w p → IsSound w me tx → StepsWell w tx me 1024 (receive_at w me p)
 receive_well w me tx (place.Pair num side) known s =
     received_well w me tx num side (waiting (pair_of w num) side) known.0 (waiting_short (pair_of w num) side (s.world.messages num)) s

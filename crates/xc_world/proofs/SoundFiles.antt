@@ -16,6 +16,7 @@ use Rattle.xc_world.specs.Act.Files.{read_at, overwritten, put, overwrite_at, ap
 use Rattle.xc_world.proofs.SoundParts.{chosen_so, keeps_all, keeps_file}
 use Rattle.xc_world.proofs.SoundSteps.{StepsWell, got_length, quiet, adds_nothing, kept_sound, with_place_sound}
 
+-- to read from a file steps well
 pub read_well : (w : World) (me : Private) (tx h n : ℕ) (p : Place) → IsKnown w p → IsSound w me tx → StepsWell w tx me n (read_at w me h n p)
 read_well w me tx h n (place.File num at) known s =
     chosen_so (StepsWell w tx me n) (n == 0) _ _ (λ _. quiet w me tx n (reply.Got []) (omega arith) s) (λ _.
@@ -49,6 +50,7 @@ put_well w me tx h num at bytes r there inside none s =
       got = none;
     }
 
+-- to overwrite bytes of a file steps well
 pub overwrite_well : (w : World) (me : Private) (tx h : ℕ) (bytes : List ℕ) (p : Place) → IsKnown w p → IsSound w me tx
     → StepsWell w tx me 0 (overwrite_at w me h bytes p)
 overwrite_well w me tx h bytes (place.File num at) known s =
@@ -74,6 +76,7 @@ appended_well w me tx h num bytes r there inside none s =
       got = none;
     }
 
+-- to append to a file steps well
 pub append_well : (w : World) (me : Private) (tx h : ℕ) (bytes : List ℕ) (p : Place) → IsKnown w p → IsSound w me tx
     → StepsWell w tx me 0 (append_at w me h bytes p)
 append_well w me tx h bytes (place.File num at) known s =
@@ -84,6 +87,7 @@ append_well w me tx h bytes place.Vacant known s = quiet w me tx 0 reply.BadHand
 append_well w me tx h bytes (place.Pipe num) known s = quiet w me tx 0 reply.BadHandle (omega arith) s
 append_well w me tx h bytes (place.Pair num side) known s = quiet w me tx 0 reply.BadHandle (omega arith) s
 
+-- to set a handle's position steps well
 pub seek_well : (w : World) (me : Private) (tx h to : ℕ) (p : Place) → IsKnown w p → IsSound w me tx → StepsWell w tx me 0 (seek_at w me h to p)
 seek_well w me tx h to (place.File num at) known s =
     record { sound = with_place_sound w me tx h (place.File num to) known s; grows = adds_nothing w (next_num me tx) s.world; stored = refl; got = omega arith }
@@ -91,6 +95,7 @@ seek_well w me tx h to place.Vacant known s = quiet w me tx 0 reply.BadHandle (o
 seek_well w me tx h to (place.Pipe num) known s = quiet w me tx 0 reply.BadHandle (omega arith) s
 seek_well w me tx h to (place.Pair num side) known s = quiet w me tx 0 reply.BadHandle (omega arith) s
 
+-- to ask for a file's length steps well
 pub len_well : (w : World) (me : Private) (tx : ℕ) (p : Place) → IsSound w me tx → StepsWell w tx me 0 (len_at w me p)
 len_well w me tx (place.File num at) s = quiet w me tx 0 (reply.Number (length (file_of w num))) (omega arith) s
 len_well w me tx place.Vacant s = quiet w me tx 0 reply.BadHandle (omega arith) s
@@ -103,6 +108,7 @@ pub may_overwrite : (w : World) (me : Private) (h : ℕ) (bytes : List ℕ) (n :
     → is_done (overwrite_at w me h bytes (place.File num at)).reply ≡ true → n < length bytes → at + n ≤ length (file_of w num)
 may_overwrite w me h bytes n num at done lt = grind (arith, done)
 
+-- an overwrite that stops after n bytes steps well
 pub overwrite_short_well : (w : World) (me : Private) (tx h : ℕ) (bytes : List ℕ) (n : ℕ) (p : Place) → IsKnown w p
     → (n ≡ 0) ⊎ ((is_done (overwrite_at w me h bytes p).reply ≡ true) × (n < length bytes)) → IsSound w me tx
     → StepsWell w tx me 0 (overwrite_short w me h bytes n p)
@@ -116,10 +122,12 @@ overwrite_short_well w me tx h bytes n place.Vacant known may s = quiet w me tx 
 overwrite_short_well w me tx h bytes n (place.Pipe num) known may s = quiet w me tx 0 (reply.Fault n) (omega arith) s
 overwrite_short_well w me tx h bytes n (place.Pair num side) known may s = quiet w me tx 0 (reply.Fault n) (omega arith) s
 
+-- where an append would be done, its first n bytes fit the file
 pub may_append : (w : World) (me : Private) (h : ℕ) (bytes : List ℕ) (n : ℕ) (num : Num) (at : ℕ)
     → is_done (append_at w me h bytes (place.File num at)).reply ≡ true → n < length bytes → length (file_of w num) + n ≤ 65536
 may_append w me h bytes n num at done lt = grind (arith, done)
 
+-- an append that stops after n bytes steps well
 pub append_short_well : (w : World) (me : Private) (tx h : ℕ) (bytes : List ℕ) (n : ℕ) (p : Place) → IsKnown w p
     → (n ≡ 0) ⊎ ((is_done (append_at w me h bytes p).reply ≡ true) × (n < length bytes)) → IsSound w me tx
     → StepsWell w tx me 0 (append_short w me h bytes n p)

@@ -18,6 +18,7 @@ use Rattle.xc_world.proofs.SoundParts.{chosen_so, Keeps, keeps_itself, keeps_rem
 use Rattle.xc_world.proofs.SoundSteps.{kept_sound}
 use Rattle.xc_world.proofs.SoundCalls.{waiting_short, with_waiting_short}
 
+-- the world that a late call leaves keeps what the world before had
 abbrev pub KeepsEnd : Bool → World → Ended → Type 0
 KeepsEnd there w e = Keeps there w e.world
 
@@ -80,9 +81,11 @@ late_keeps w c late_answer.Fine short fit = fine_keeps w c short fit
 late_keeps w c (late_answer.Fault n) short fit = stopped_keeps w c n fit
 late_keeps w c (late_answer.NoMemory n) short fit = stopped_keeps w c n fit
 
+-- a short late call leaves a fit world fit
 pub late_fit : (w : World) (c : LateCall) (a : LateAnswer) → IsShortCall c → IsFit w → IsFit (late w c a).world
 late_fit w c a short fit = (late_keeps w c a short fit).fit
 
+-- a short late call on an object that is there keeps a private state sound
 pub late_sound : (w : World) (me : Private) (tx : ℕ) (c : LateCall) (a : LateAnswer) → IsShortCall c → IsTrue (names_there w c) → IsSound w me tx
     → IsSound (late w c a).world me tx
 late_sound w me tx c a short there s = kept_sound w (late w c a).world me tx (late_keeps w c a short s.world) there s

@@ -103,6 +103,7 @@ bare_fit script =
 bare_free : (script : Script0) (q : Num) → IsFree (bare script) q
 bare_free script q = record { file = map.get-empty num_cmp q; pipe = map.get-empty num_cmp q; pair = map.get-empty num_cmp q }
 
+-- a script within its limits opens a sound world
 pub opening_sound : (script : Script0) → KeepsLimits script → (tx : ℕ) → 0 < tx → IsSound (opening script) (beginning (opening_handles script)) tx
 opening_sound script limits tx lt =
     let objects = script.prologue.objects in

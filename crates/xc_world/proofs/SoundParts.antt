@@ -66,6 +66,7 @@ dropped_at false g x e = e
 pub dropped : (m : map.FinMap name_cmp Num) (from q : List ℕ) (num : Num) → map.get (map.remove m from) q ≡ Some num → map.get m q ≡ Some num
 dropped m from q num e = dropped_at (eq_by_cmp name_cmp q from) (map.get m q) num (sym (map.get-remove nat_list_cmp_total m from q) ∙ e)
 
+-- each name is that of a file that is there
 abbrev pub AreNamed : map.FinMap name_cmp Num → map.FinMap num_cmp (List ℕ) → Type 0
 AreNamed names files = (name : List ℕ) (num : Num) → map.get names name ≡ Some num → is_some (map.get files num) ≡ true
 
@@ -99,6 +100,7 @@ pub record Adds (w v : World) (num : Num) : Type 0 where
   pub known : (p : Place) → IsKnown w p → IsKnown v p
   pub free : (q : Num) → (q ≢ num) → IsFree w q → IsFree v q
 
+-- a fit world keeps itself
 pub keeps_itself : (there : Bool) (w : World) → IsFit w → Keeps there w w
 keeps_itself there w fit = record { fit = fit; known = λ p known. known; free = λ _ q free. free }
 
@@ -127,18 +129,22 @@ keeps_objects there w v files pipes pairs named fit =
       };
     }
 
+-- the words become others
 pub keeps_words : (there : Bool) (w : World) (words : List ℕ) → IsFit w → Keeps there w (record w { words = words })
 keeps_words there w words fit = keeps_objects there w (record w { words = words }) refl refl refl fit.names fit
 
+-- the started blocks become others
 pub keeps_started : (there : Bool) (w : World) (started : List (List ℕ)) → IsFit w → Keeps there w (record w { started = started })
 keeps_started there w started fit = keeps_objects there w (record w { started = started }) refl refl refl fit.names fit
 
+-- a file takes another name
 pub keeps_moved : (there : Bool) (w : World) (from to : List ℕ) (num : Num) → map.get w.names from ≡ Some num → IsFit w
     → Keeps there w (with_moved w from to num)
 keeps_moved there w from to num e fit =
     keeps_objects there w (with_moved w from to num) refl refl refl
     (named_insert (map.remove w.names from) w.files to num (fit.names from num e) (λ q n is. fit.names q n (dropped w.names from q n is))) fit
 
+-- a name is removed
 pub keeps_removed : (there : Bool) (w : World) (name : List ℕ) → IsFit w → Keeps there w (record w { names = map.remove w.names name })
 keeps_removed there w name fit =
     keeps_objects there w (record w { names = map.remove w.names name }) refl refl refl (λ q n is. fit.names q n (dropped w.names name q n is)) fit
@@ -155,6 +161,7 @@ fit_file w num bytes le fit =
 known_file : (w : World) (num : Num) (bytes : List ℕ) (p : Place) → IsKnown w p → IsKnown (with_file w num bytes) p
 known_file w num bytes = known_by w (with_file w num bytes) (λ q. there_insert w.files num q bytes) (λ q there. there) (λ q there. there)
 
+-- the bytes of a file become others
 pub keeps_file : (w : World) (num : Num) (bytes : List ℕ) → length bytes ≤ 65536 → IsFit w → Keeps (is_some (map.get w.files num)) w (with_file w num bytes)
 keeps_file w num bytes le fit =
     record {
@@ -184,6 +191,7 @@ known_pipe w num pipe = known_by w (with_pipe w num pipe) (λ q there. there) (�
 fit_pipe : (w : World) (num : Num) (pipe : Pipe) → IsFit w → IsFit (with_pipe w num pipe)
 fit_pipe w num pipe fit = record { files = fit.files; messages = fit.messages; names = fit.names }
 
+-- a pipe becomes another
 pub keeps_pipe : (w : World) (num : Num) (pipe : Pipe) → IsFit w → Keeps (is_some (map.get w.pipes num)) w (with_pipe w num pipe)
 keeps_pipe w num pipe fit =
     record {
@@ -192,6 +200,7 @@ keeps_pipe w num pipe fit =
       free = λ there q free. record { file = free.file; pipe = free_insert w.pipes num q pipe there free.pipe; pair = free.pair };
     }
 
+-- a pipe is put under a number
 pub adds_pipe : (w : World) (num : Num) (pipe : Pipe) → IsFit w → Adds w (with_pipe w num pipe) num
 adds_pipe w num pipe fit =
     record {
@@ -207,6 +216,7 @@ fit_pair : (w : World) (num : Num) (pair : Pair) → HoldsShort pair → IsFit w
 fit_pair w num pair short fit =
     record { files = fit.files; messages = λ q. all_insert HoldsShort w.pairs num q pair empty_pair short (fit.messages q); names = fit.names }
 
+-- a pair becomes another
 pub keeps_pair : (w : World) (num : Num) (pair : Pair) → HoldsShort pair → IsFit w → Keeps (is_some (map.get w.pairs num)) w (with_pair w num pair)
 keeps_pair w num pair short fit =
     record {
@@ -215,6 +225,7 @@ keeps_pair w num pair short fit =
       free = λ there q free. record { file = free.file; pipe = free.pipe; pair = free_insert w.pairs num q pair there free.pair };
     }
 
+-- a pair is put under a number
 pub adds_pair : (w : World) (num : Num) (pair : Pair) → HoldsShort pair → IsFit w → Adds w (with_pair w num pair) num
 adds_pair w num pair short fit =
     record {

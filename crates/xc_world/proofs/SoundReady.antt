@@ -44,10 +44,12 @@ names_known w v known _ there = refl
 ready_known : (w v : World) → ((p : Place) → IsKnown w p → IsKnown v p) → (c : LateCall) → IsReady w c → IsReady v c
 ready_known w v known c ready = record { short = ready.short; there = names_known w v known c ready.there }
 
+-- a call keeps a late call ready
 pub act_keeps_ready : (w : World) (me : Private) (tx : ℕ) (c : Call) (a : Answer) (d : LateCall) → IsTrue (fits w me tx c a) → IsSound w me tx → IsReady w d
     → IsReady (act w me tx c a).world d
 act_keeps_ready w me tx c a d fit s ready = ready_known w (act w me tx c a).world (act_well w me tx c a fit s).grows.known d ready
 
+-- a short late call keeps another one ready
 pub late_keeps_ready : (w : World) (c : LateCall) (a : LateAnswer) (d : LateCall) → IsShortCall c → IsFit w → IsReady w d → IsReady (late w c a).world d
 late_keeps_ready w c a d short fit ready = ready_known w (late w c a).world (late_keeps w c a short fit).known d ready
 
@@ -95,6 +97,7 @@ kept_ready w me c _ all = All-nil (IsReady w)
 abbrev LeavesReady : World → Private → Call → Stepped → Type 0
 LeavesReady w me c s = All (IsReady w) (kept_call c me s.reply)
 
+-- a call leaves its own late call ready
 pub act_leaves_ready : (w : World) (me : Private) (tx : ℕ) (c : Call) (a : Answer) → IsTrue (fits w me tx c a) → IsSound w me tx
     → All (IsReady (act w me tx c a).world) (kept_call c me (act w me tx c a).reply)
 act_leaves_ready w me tx c a fit s =

@@ -114,6 +114,7 @@ gives_words : (x : World) (words : List ℕ) (t : KeptItem) → gives (with_word
 gives_words x words (Bytes num bytes) = refl
 gives_words x words (Message num side bytes) = refl
 
+-- an item that was taken is apart from each record
 abbrev pub AllApart : List Undo → KeptItem → Type 0
 AllApart us t = All (λ u. Apart u t) us
 
@@ -408,6 +409,7 @@ goes_on_returns w tx r (c ∷ asked) fit so =
     let both = and_parts (fits r.world r.me tx c.call c.answer) (body_fits (step tx r c).world (step tx r c).me tx asked) fit in
     goes_on_returns w tx (step tx r c) asked both.1 (step_returns w tx r c both.0 so)
 
+-- but for the words, what a body took, given back, leaves the world with the effects of its records
 pub body_returns : (w : World) (me : Private) (tx : ℕ) (asked : List Asked) → IsSound w me tx → IsTrue (body_fits w me tx asked)
     → given_back (body w me tx asked).world (body w me tx asked).taken
     ≡ record (with_remains w (whole (body w me tx asked).trail)) { words = (body w me tx asked).world.words }

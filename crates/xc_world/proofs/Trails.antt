@@ -249,6 +249,7 @@ goes_on_speaks : (tx : ℕ) (r : Ran) (asked : List Asked) → SpeaksOfOwn tx r 
 goes_on_speaks tx r [] so = so
 goes_on_speaks tx r (c ∷ asked) so = goes_on_speaks tx (step tx r c) asked (step_speaks tx r c so)
 
+-- the records and the late calls of a body speak of its own
 pub body_speaks : (w : World) (me : Private) (tx : ℕ) (asked : List Asked) → SpeaksOfOwn tx (body w me tx asked)
 body_speaks w me tx asked =
     goes_on_speaks tx (begins w me) asked (record { trail = All-nil (Speaks (Owns tx [])); late = All-nil (LooksWithin (Sees tx []) (Owns tx [])) })

@@ -57,6 +57,7 @@ pub record NoneRecorded (w : World) (me : Private) (tx : ℕ) (c : Call) : Type 
   pub too_much : recorded w me tx c reply.TooMuch ≡ []
   pub bad_word : recorded w me tx c reply.BadWord ≡ []
 
+-- a refused call has no record
 pub refusal-none : (w : World) (me : Private) (tx : ℕ) (c : Call) → NoneRecorded w me tx c
 refusal-none w me tx (call.XWriteOvr h bytes) =
     let e = overwrite_record-none w bytes (place_of me.places h) in
@@ -148,6 +149,7 @@ all_undone-append : (w : World) (us vs : List Undo) → all_undone w (us ++ vs) 
 all_undone-append w [] vs = refl
 all_undone-append w (u ∷ us) vs = ap (λ v. undone v u) (all_undone-append w us vs)
 
+-- all records of a body undone bring its world back
 pub body-undoes : (w : World) (me : Private) (tx : ℕ) (asked : List Asked) → IsSound w me tx → IsTrue (body_fits w me tx asked)
     → BroughtBack w (all_undone (body w me tx asked).world (body w me tx asked).trail)
 body-undoes w me tx [] sound fit = same-back w

@@ -151,6 +151,7 @@ file-back w v num bytes g there e b =
       words = b.words;
     }
 
+-- what brings back a world with the rest of a pipe brings back the world before
 pub pipe-back : (w v : World) (num : Num) (now : Pipe) → is_some (map.get w.pipes num) ≡ true → IsPipeRest (pipe_of w num) now
     → BroughtBack (with_pipe w num now) v → BroughtBack w v
 pipe-back w v num now there rest b =
@@ -165,6 +166,7 @@ pipe-back w v num now there rest b =
       words = b.words;
     }
 
+-- what brings back a world with the rest of a pair brings back the world before
 pub pair-back : (w v : World) (num : Num) (now : Pair) → is_some (map.get w.pairs num) ≡ true → IsPairRest (pair_of w num) now
     → BroughtBack (with_pair w num now) v → BroughtBack w v
 pair-back w v num now there rest b =
@@ -179,6 +181,7 @@ pair-back w v num now there rest b =
       words = b.words;
     }
 
+-- what brings back a world with a new pipe brings back the world before, once the pipe is removed
 pub new_pipe-back : (w v : World) (num : Num) (now : Pipe) → map.get w.pipes num ≡ None → BroughtBack (with_pipe w num now) v
     → BroughtBack w (record v { pipes = map.remove v.pipes num })
 new_pipe-back w v num now none b =
@@ -192,6 +195,7 @@ new_pipe-back w v num now none b =
       words = b.words;
     }
 
+-- what brings back a world with a new pair brings back the world before, once the pair is removed
 pub new_pair-back : (w v : World) (num : Num) (now : Pair) → map.get w.pairs num ≡ None → BroughtBack (with_pair w num now) v
     → BroughtBack w (record v { pairs = map.remove v.pairs num })
 new_pair-back w v num now none b =
