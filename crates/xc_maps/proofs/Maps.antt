@@ -37,6 +37,7 @@ module _ {K X : Type 0} {R : K → K → Ordering} (o : IsTotalOrder R) where
       → ((q : K) → lookup (is_at (R q)) fs ≡ cond (is_at (R k) q) (Some x) (lookup (is_at (R q)) es)) → from_entries {R = R} fs ≡ insert (from_entries es) k x
   inserted same es fs k x h = same_map o same _ _ (λ q. get-lookup fs q ∙ h q ∙ turned_at es k q (Some x) ∙ sym (get-insert o (from_entries es) k x q))
 
+  -- entries of which one lacks a key make maps that differ there
   pub removed : CmpEqualImpliesEq R → (es fs : List (K × X)) (k : K) → ((q : K) → lookup (is_at (R q)) fs ≡ cond (is_at (R k) q) None (lookup (is_at (R q)) es))
       → from_entries {R = R} fs ≡ remove (from_entries es) k
   removed same es fs k h = same_map o same _ _ (λ q. get-lookup fs q ∙ h q ∙ turned_at es k q None ∙ sym (get-remove o (from_entries es) k q))
@@ -48,6 +49,7 @@ module _ {K X : Type 0} {R : K → K → Ordering} (o : IsTotalOrder R) where
   undone_at m k q x none Equal e = sym none ∙ get_tied o m q k e
   undone_at m k q x none Greater e = refl
 
+  -- a new key that is inserted and then removed leaves the map as it was
   pub undone : CmpEqualImpliesEq R → (m : FinMap R X) (k : K) (x : X) → get m k ≡ None → remove (insert m k x) k ≡ m
   undone same m k x none = same_map o same _ _ (λ q.
       get-remove o (insert m k x) k q ∙ ap (cond (eq_by_cmp R q k) None) (get-insert o m k x q) ∙ undone_at m k q x none (R q k) refl)

@@ -96,6 +96,7 @@ module _ (P : Object → Type 0) (tx : ℕ) (r q : Ran) (c : Asked) where
     | inr made ↦ within.numbered o (made_numbered r.me tx c.call o made)
   ]
 
+  -- worlds that agree on P agree on what the call touches and makes
   pub call_agreed : AgreeOn P r.world q.world → Within P tx r c → All (AgreeAt r.world q.world) listed
   call_agreed agree within = agreed P r.world q.world listed agree (listed_within within)
 

@@ -48,9 +48,11 @@ module _ (objects : List Object) (w v : World) where
       → ActsAlike objects w v (stays x me r) (stays y you q)
   changed x y me you r q same e worlds = record { reply = e; me = same; worlds = worlds }
 
+  -- a call that changes neither world gives the same in both
   pub looked : (me you : Private) (r q : Reply) → me ≡ you → r ≡ q → All (AgreeAt w v) objects → ActsAlike objects w v (stays w me r) (stays v you q)
   looked me you r q same e agree = changed w v me you r q same e (same_alike objects w v agree)
 
+  -- a call that changes nothing gives the same in both worlds
   pub quiet : (me : Private) (r : Reply) → All (AgreeAt w v) objects → ActsAlike objects w v (stays w me r) (stays v me r)
   quiet me r agree = looked me me r r refl refl agree
 
@@ -58,12 +60,15 @@ module _ (objects : List Object) (w v : World) where
   pub same_file : (num : Num) → Contains objects (object.File num) → All (AgreeAt w v) objects → file_of w num ≡ file_of v num
   same_file num has agree = ap (λ (o : Option (List ℕ)). unwrap_or o []) (All-contains (AgreeAt w v) objects (object.File num) agree has)
 
+  -- worlds that agree on a pipe have the same there
   pub same_pipe : (num : Num) → Contains objects (object.Pipe num) → All (AgreeAt w v) objects → pipe_of w num ≡ pipe_of v num
   same_pipe num has agree = ap (λ o. unwrap_or o empty_pipe) (All-contains (AgreeAt w v) objects (object.Pipe num) agree has)
 
+  -- worlds that agree on a pair have the same there
   pub same_pair : (num : Num) → Contains objects (object.Pair num) → All (AgreeAt w v) objects → pair_of w num ≡ pair_of v num
   same_pair num has agree = ap (λ o. unwrap_or o empty_pair) (All-contains (AgreeAt w v) objects (object.Pair num) agree has)
 
+  -- worlds that agree on a name have the same file there
   pub same_name : (name : List ℕ) → Contains objects (object.Name name) → All (AgreeAt w v) objects → map.get w.names name ≡ map.get v.names name
   same_name name has agree = All-contains (AgreeAt w v) objects (object.Name name) agree has
 

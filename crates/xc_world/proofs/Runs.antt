@@ -130,6 +130,7 @@ module _ (w v : World) (me : Private) (tx : ℕ) (asked : List Asked) (ends : Li
       (so.left.blocks ∙ blocks ∙ sym so.right.blocks) so.agree
       (asked_within (Sees tx ran.touched) (Owns tx ran.touched) ran.late ends (body_speaks w me tx asked).late)
 
+  -- a run gives the same in worlds with the same blocks that agree on what its body touches and on its numbers
   pub run_alike : length w.words ≡ length v.words → w.blocks ≡ v.blocks → All (AgreeAt w v) (objects (body w me tx asked).touched) → AgreeOn (IsNumbered tx) w v
       → RunAlike tx w v (run w me tx asked ends) (run v me tx asked ends)
   run_alike count blocks touched numbered =
@@ -146,6 +147,7 @@ module _ (w v : World) (me : Private) (tx : ℕ) (asked : List Asked) (ends : Li
         right = run_keeps v me tx asked ends so.right;
       }
 
+  -- the same answers fit a run in worlds with the same blocks that agree on what its body touches and on its numbers
   pub run_fits_alike : length w.words ≡ length v.words → w.blocks ≡ v.blocks → All (AgreeAt w v) (objects (body w me tx asked).touched)
       → AgreeOn (IsNumbered tx) w v
       → run_fits w me tx asked ends ≡ run_fits v me tx asked ends

@@ -50,9 +50,11 @@ there_by (Some y) x there = refl
 
 -- ---- rests
 module _ {A : Type 0} where
+  -- all of a list is a rest of it
   pub rest-all : (xs : List A) → IsRest xs xs
   rest-all xs = record { taken = []; split = refl }
 
+  -- a list without its first items is a rest of it
   pub rest-drop : (n : ℕ) (xs : List A) → IsRest xs (drop n xs)
   rest-drop n xs = record { taken = take n xs; split = sym (take-append-drop n xs) }
 

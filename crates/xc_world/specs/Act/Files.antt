@@ -44,7 +44,7 @@ abbrev pub appended : World → Private → ℕ → Num → List ℕ → Reply �
 appended w me h num bytes r =
     stays (with_file w num (file_of w num ++ bytes)) (with_place me h (File num (length (file_of w num) + length bytes))) r
 
--- the bytes are appended, and none where the file would pass 65536
+-- the bytes are appended, and none where the file would pass 65536 bytes
 abbrev pub append_at : World → Private → ℕ → List ℕ → Place → Stepped
 append_at w me h bytes (File num at) =
     if length bytes == 0 then stays w me Done
