@@ -11,14 +11,17 @@ use Rattle.xc_data.specs.declared.undo.Undo.{Undo}
 use Rattle.xc_data.specs.declared.undo.UndoEnd.{UndoEnd}
 use Rattle.xc_data.specs.declared.undo.UndoEnd.TheVariants.{Undone, Failed, Blocked}
 
+-- whether a transaction committed
 abbrev pub is_commit : Outcome → Bool
 is_commit (Committed late) = true
 is_commit (Aborted report) = false
 
+-- whether a call was answered by a fault
 abbrev pub is_fault_reply : Reply → Bool
 is_fault_reply (reply.Fault n) = true
 is_fault_reply _ = false
 
+-- whether a late call ended in a fault
 abbrev pub is_fault_end : LateEnd → Bool
 is_fault_end (late_end.Fault n) = true
 is_fault_end _ = false
@@ -29,9 +32,11 @@ end_faults (Undone faults) = faults
 end_faults (Failed done faults) = faults
 end_faults (Blocked by) = 0
 
+-- the faults that a record's compensation met
 abbrev pub undo_faults : Undo × UndoEnd → ℕ
 undo_faults (undo, end) = end_faults end
 
+-- the late calls that ended in a fault, or the faults of the compensations
 abbrev pub outcome_faults : Outcome → ℕ
 outcome_faults (Committed late) = count_by is_fault_end late
 outcome_faults (Aborted report) = sum_by undo_faults report.records

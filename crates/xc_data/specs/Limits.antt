@@ -6,19 +6,23 @@ use Rattle.xc_data.specs.declared.script.Opened.TheVariants.{File, Pipe, Pair}
 use Rattle.xc_data.specs.declared.script.Prologue.{Prologue}
 use Rattle.xc_data.specs.declared.script.Script0.{Script0}
 
+-- a file of at most 65536 bytes, a pipe that holds at most 4096, or a pair
 abbrev pub IsOpenedFit : Opened → Type 0
 IsOpenedFit (File name bytes) = length bytes ≤ 65536
 IsOpenedFit (Pipe bytes) = length bytes ≤ 4096
 IsOpenedFit Pair = Unit {0}
 
+-- whether a line opens a pipe
 abbrev pub is_pipe_line : Opened → Bool
 is_pipe_line (Pipe bytes) = true
 is_pipe_line _ = false
 
+-- whether a line opens a pair
 abbrev pub is_pair_line : Opened → Bool
 is_pair_line Pair = true
 is_pair_line _ = false
 
+-- no grain, or one from 1 to 65536
 abbrev pub IsGrain : Option ℕ → Type 0
 IsGrain None = Unit {0}
 IsGrain (Some grain) = (1 ≤ grain) × (grain ≤ 65536)
@@ -31,6 +35,7 @@ pub record IsPrologue (prologue : Prologue) : Type 0 where
   pub pairs : count_by is_pair_line prologue.objects ≤ 32
   pub grain : IsGrain prologue.grain
 
+-- the words, the prologue and the blocks are within their limits
 pub record KeepsLimits (script : Script0) : Type 0 where
   pub words : length script.words ≤ 4096
   pub prologue : IsPrologue script.prologue

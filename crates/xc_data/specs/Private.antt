@@ -8,12 +8,15 @@ use Rattle.xc_data.specs.declared.private.Private.{Private}
 abbrev pub place_of : List Place → ℕ → Place
 place_of places h = unwrap_or (slice_get places h) Vacant
 
+-- whether nothing stands at a place
 abbrev pub is_vacant : Place → Bool
 is_vacant Vacant = true
 is_vacant _ = false
 
+-- the lowest vacant handle, if one is
 abbrev pub lowest_vacant : List Place → Option ℕ
 lowest_vacant places = position is_vacant places
 
+-- the private state with another place at a handle
 abbrev pub with_place : Private → ℕ → Place → Private
 with_place me h place = record me { places = slice_set me.places h place }

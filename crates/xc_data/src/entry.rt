@@ -2,7 +2,9 @@ ghost use Rattle.std.specs.Prelude.{◌≡◌, IsTrue};
 ghost use Rattle.std.specs.List.{list_any};
 ghost use Rattle.xc_data.specs.Standing.{leaves};
 
-use crate::{Call, Chunk, Claim, Ident, Items, LateEnd, Num, Object, RecordList, Reply, Undo, UndoEnd};
+use crate::{
+    Call, Chunk, Claim, Ident, Items, LateEnd, Num, Object, RecordList, Reply, Undo, UndoEnd,
+};
 
 pub type CallList = Items<Call>;
 

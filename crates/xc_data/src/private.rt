@@ -1,4 +1,5 @@
-ghost use Rattle.std.specs.Prelude.{◌≡◌, false, ◌<◌, ◌+◌, ℕ, replicate, position, length, slice_get, slice_set, Some, IfSome, IsNone, IfNone, All};
+ghost use Rattle.std.specs.Prelude.{◌≡◌, false, ◌<◌, ◌+◌, ℕ, replicate, position, length, slice_get, slice_set, Some, IfSome, IsNone};
+ghost use Rattle.std.specs.Prelude.{IfNone, All};
 ghost use Rattle.xc_data.specs.declared.private.Place.{Place};
 ghost use Rattle.xc_data.specs.declared.private.Place.TheVariants.{Vacant};
 ghost use Rattle.xc_data.specs.Private.{place_of, is_vacant, lowest_vacant, with_place};

@@ -30,7 +30,9 @@ pub record IsCountable (me next : Private) (r : Reply) : Type 0 where
   pub stored : next.stored ≡ me.stored
   pub short : IsShortReply r
 
-pub passed-countable : (w v : World) (me next : Private) (tx : ℕ) (c : Call) (a : Answer) (r : Reply) → IsSound w me tx → IsTrue (fits w me tx c a) → is_too_big c ≡ false → is_too_much c me ≡ false → done w me tx c a ≡ stays v next r → IsCountable me next r
+-- a call that passes, and that its answer fits, is countable
+pub passed-countable : (w v : World) (me next : Private) (tx : ℕ) (c : Call) (a : Answer) (r : Reply) → IsSound w me tx → IsTrue (fits w me tx c a)
+    → is_too_big c ≡ false → is_too_much c me ≡ false → done w me tx c a ≡ stays v next r → IsCountable me next r
 passed-countable w v me next tx c a r sound fit big much e =
     let well : StepsWell w tx me (read_size c) (stays v next r) = subst (StepsWell w tx me (read_size c)) e (done_well w me tx c a fit much sound) in
     let most = read_size-short c big in

@@ -16,11 +16,13 @@ either_at num g false true h = refl
 either_at num g false false h = refl
 
 -- a name that is there goes and an absent one comes, in either order
-pub moved : (m : FinMap name_cmp Num) (from to : List ℕ) (num : Num) → get m from ≡ Some num → get m to ≡ None → remove (insert m to num) from ≡ insert (remove m from) to num
+pub moved : (m : FinMap name_cmp Num) (from to : List ℕ) (num : Num) → get m from ≡ Some num → get m to ≡ None
+    → remove (insert m to num) from ≡ insert (remove m from) to num
 moved m from to num there absent = same_map nat_list_cmp_total exact_bytes _ _ (λ q.
     get-remove nat_list_cmp_total (insert m to num) from q
     ∙ ap (cond (eq_by_cmp name_cmp q from) None) (get-insert nat_list_cmp_total m to num q)
     ∙ either_at num (get m q) (eq_by_cmp name_cmp q from) (eq_by_cmp name_cmp q to)
-    (λ a b. let same : get m from ≡ get m to = ap (get m) (sym (tied nat_list_cmp_total exact_bytes q from a) ∙ tied nat_list_cmp_total exact_bytes q to b) in cc)
+    (λ a b.
+    let same : get m from ≡ get m to = ap (get m) (sym (tied nat_list_cmp_total exact_bytes q from a) ∙ tied nat_list_cmp_total exact_bytes q to b) in cc)
     ∙ ap (cond (eq_by_cmp name_cmp q to) (Some num)) (sym (get-remove nat_list_cmp_total m from q))
     ∙ sym (get-insert nat_list_cmp_total (remove m from) to num q))

@@ -14,6 +14,7 @@ use Rattle.std.specs.Prelude.{◌&&◌, IsTrue}
 pub left-cons : {X : Type 0} (xs : List X) (i : ℕ) (x : X) → i < length xs → x ≡ get_or xs i x → drop i xs ≡ x ∷ drop (i + 1) xs
 left-cons xs i x lt e = rw add-one (drop-cons xs i x lt ∙ ap (λ y. y ∷ drop (suc i) xs) (sym e))
 
+-- where two tests hold, the second does
 pub behind_test : (r b : Bool) → (r && b) ≡ true → b ≡ true
 behind_test true b e = e
 behind_test false b e = cc

@@ -70,7 +70,16 @@ impl Model for World {
 
     ghost coded = { coded_world };
 
-    ghost view = { λ a. record { words = a.words; names = a.names; files = a.files; pipes = a.pipes; pairs = a.pairs; started = a.started; blocks = a.blocks } };
+    ghost view = { λ a.
+        record {
+          words = a.words;
+          names = a.names;
+          files = a.files;
+          pipes = a.pipes;
+          pairs = a.pairs;
+          started = a.started;
+          blocks = a.blocks;
+        } };
 }
 
 impl World {

@@ -17,6 +17,7 @@ module _ {K : Type 0} {R : K → K → Ordering} (o : IsTotalOrder R) (same : Cm
   pub apart : (a b : K) → (a ≢ b) → eq_by_cmp R a b ≡ false
   apart a b ne = apart_at a b ne (R a b) refl
 
+  -- a key compares as equal to itself
   pub alike : (a : K) → eq_by_cmp R a a ≡ true
   alike a = (eq_by_cmp_equiv o).refl a
 
@@ -30,12 +31,15 @@ module _ {K : Type 0} {R : K → K → Ordering} (o : IsTotalOrder R) (same : Cm
   tied u v t = tied_at u v (R u v) refl t
 
 module _ {K X : Type 0} {R : K → K → Ordering} (o : IsTotalOrder R) (same : CmpEqualImpliesEq R) where
+  -- a map has the inserted value at its key
   pub get-insert_same : (m : FinMap R X) (k : K) (x : X) → get (insert m k x) k ≡ Some x
   get-insert_same m k x = get-insert o m k x k ∙ ap (λ b. cond b (Some x) (get m k)) (alike o same k)
 
+  -- an insertion leaves every other key
   pub get-insert_other : (m : FinMap R X) (k q : K) (x : X) → (q ≢ k) → get (insert m k x) q ≡ get m q
   get-insert_other m k q x ne = get-insert o m k x q ∙ ap (λ b. cond b (Some x) (get m q)) (apart o same q k ne)
 
+  -- a removal leaves every other key
   pub get-remove_other : (m : FinMap R X) (k q : K) → (q ≢ k) → get (remove m k) q ≡ get m q
   get-remove_other m k q ne = get-remove o m k q ∙ ap (λ b. cond b None (get m q)) (apart o same q k ne)
 
@@ -43,6 +47,7 @@ module _ {K X : Type 0} {R : K → K → Ordering} (o : IsTotalOrder R) (same : 
   twice_at x y g true = refl
   twice_at x y g false = refl
 
+  -- of two insertions at one key the later counts
   pub insert-insert_same : (m : FinMap R X) (k : K) (x y : X) → insert (insert m k x) k y ≡ insert m k y
   insert-insert_same m k x y = same_map o same _ _ (λ q.
       get-insert o _ k y q ∙ ap (cond (eq_by_cmp R q k) (Some y)) (get-insert o m k x q) ∙ twice_at x y (get m q) (eq_by_cmp R q k)
@@ -62,10 +67,12 @@ module _ {K X : Type 0} {R : K → K → Ordering} (o : IsTotalOrder R) (same : 
       ∙ ap (cond (eq_by_cmp R q a) (Some x)) (sym (get-insert o m b y q)) ∙ sym (get-insert o _ a x q))
 
   -- what an insertion leaves at a key: the new value at its own, the old one elsewhere
-  cases_at : (m : FinMap R X) (k q : K) (x : X) (b : Bool) → eq_by_cmp R q k ≡ b → ((q ≡ k) × (get (insert m k x) q ≡ Some x)) ⊎ (get (insert m k x) q ≡ get m q)
+  cases_at : (m : FinMap R X) (k q : K) (x : X) (b : Bool) → eq_by_cmp R q k ≡ b
+      → ((q ≡ k) × (get (insert m k x) q ≡ Some x)) ⊎ (get (insert m k x) q ≡ get m q)
   cases_at m k q x true e = inl (tied o same q k e, get-insert o m k x q ∙ ap (λ b. cond b (Some x) (get m q)) e)
   cases_at m k q x false e = inr (get-insert o m k x q ∙ ap (λ b. cond b (Some x) (get m q)) e)
 
+  -- an insertion leaves the new value at its own key, and the old one elsewhere
   pub get-insert_cases : (m : FinMap R X) (k q : K) (x : X) → ((q ≡ k) × (get (insert m k x) q ≡ Some x)) ⊎ (get (insert m k x) q ≡ get m q)
   get-insert_cases m k q x = cases_at m k q x (eq_by_cmp R q k) refl
 

@@ -14,8 +14,10 @@ name_cmp = slice_cmp nat_cmp
 abbrev pub num_cmp : Num → Num → Ordering
 num_cmp a b = ordering_then (nat_cmp a.tx b.tx) (nat_cmp a.k b.k)
 
+-- how a proof stores a name
 abbrev pub coded_name : Coded (List ℕ)
 coded_name = coded_list coded_ℕ
 
+-- how a proof stores a number
 abbrev pub coded_num : Coded Num
 coded_num = code_by (ℕ × ℕ) (coded× coded_ℕ coded_ℕ) (λ n. (n.tx, n.k)) (λ p. record { tx = p.0; k = p.1 }) (λ _. refl)

@@ -4,7 +4,8 @@ use Rattle.std.specs.Prelude.{slice_index, slice_set, ◌==◌, if◌then◌else
 use Rattle.xc_txmem.specs.Overlay.{overlaid, left_at}
 
 -- one store at one place
-index-set : (words : List ℕ) (place at value : ℕ) → at < length words → slice_index (slice_set words place value) at ≡ (if place == at then value else slice_index words at)
+index-set : (words : List ℕ) (place at value : ℕ) → at < length words
+    → slice_index (slice_set words place value) at ≡ (if place == at then value else slice_index words at)
 index-set [] place at value lt = grind arith
 index-set (w ∷ words) zero zero value lt = refl
 index-set (w ∷ words) zero (suc at) value lt = grind arith
@@ -16,10 +17,13 @@ length-set [] place value = refl
 length-set (w ∷ words) zero value = refl
 length-set (w ∷ words) (suc place) value = ap suc (length-set words place value)
 
-pub index-overlaid : (words : List ℕ) (stores : List (ℕ × ℕ)) (at : ℕ) → at < length words → left_at at (slice_index words at) stores ≡ slice_index (overlaid words stores) at
+-- a word under stores is what they leave of the old word at its place
+pub index-overlaid : (words : List ℕ) (stores : List (ℕ × ℕ)) (at : ℕ) → at < length words
+    → left_at at (slice_index words at) stores ≡ slice_index (overlaid words stores) at
 index-overlaid words [] at lt = refl
 index-overlaid words ((place, value) ∷ stores) at lt =
-    ap (λ v. left_at at v stores) (sym (index-set words place at value lt)) ∙ index-overlaid (slice_set words place value) stores at (omega (arith, length-set words place value))
+    ap (λ v. left_at at v stores) (sym (index-set words place at value lt))
+    ∙ index-overlaid (slice_set words place value) stores at (omega (arith, length-set words place value))
 
 -- stores change no count
 pub overlay_count : (words : List ℕ) (stores : List (ℕ × ℕ)) → length (overlaid words stores) ≡ length words
@@ -27,6 +31,7 @@ overlay_count words [] = refl
 overlay_count words ((place, value) ∷ stores) = overlay_count (slice_set words place value) stores ∙ length-set words place value
 
 -- one store more
-pub overlay_adds : (words : List ℕ) (stores : List (ℕ × ℕ)) (place value : ℕ) → overlaid words (stores ++ (place, value) ∷ []) ≡ slice_set (overlaid words stores) place value
+pub overlay_adds : (words : List ℕ) (stores : List (ℕ × ℕ)) (place value : ℕ)
+    → overlaid words (stores ++ (place, value) ∷ []) ≡ slice_set (overlaid words stores) place value
 overlay_adds words [] place value = refl
 overlay_adds words ((at, v) ∷ stores) place value = overlay_adds (slice_set words at v) stores place value

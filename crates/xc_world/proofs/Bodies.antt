@@ -3,7 +3,8 @@ use Rattle.std.proofs.Common.{◌≡◌, inl, inr, ℕ, ◌≤◌, arith, ◌&&�
 use Rattle.std.specs.Prelude.{All, Contains}
 use Rattle.std.specs.FinMap as map
 use Rattle.std.proofs.lemmas.List.{map-append}
-use Rattle.std.proofs.lemmas.List.Elements.{All-contains, All-weaker, All-contains_itself, filter_map-append, Contains-append_left, Contains-append_right, Contains-append_cases}
+use Rattle.std.proofs.lemmas.List.Elements.{All-contains, All-weaker, All-contains_itself, filter_map-append, Contains-append_left, Contains-append_right}
+use Rattle.std.proofs.lemmas.List.Elements.{Contains-append_cases}
 use Rattle.xc_data.specs.declared.object.Object.{Object}
 use Rattle.xc_data.specs.declared.object.Object.TheVariants as object
 use Rattle.xc_data.specs.declared.private.Private.{Private}
@@ -35,6 +36,7 @@ keeps_on own w v x first later =
       blocks = later.blocks ∙ first.blocks;
     }
 
+-- what keeps all but some objects keeps all but more of them
 pub keeps_more : (own more : Object → Type 0) (w v : World) → ((o : Object) → own o → more o) → KeepsBut own w v → KeepsBut more w v
 keeps_more own more w v within keeps = record { others = λ o lacks. keeps.others o (λ has. lacks (within o has)); count = keeps.count; blocks = keeps.blocks }
 
@@ -42,24 +44,30 @@ keeps_more own more w v within keeps = record { others = λ o lacks. keeps.other
 pub objects_append : (a b : List Claim) → objects (a ++ b) ≡ objects a ++ objects b
 objects_append a b = map-append (λ (c : Claim). c.object) a b
 
+-- what claims one behind another own
 pub owned_append : (a b : List Claim) → owned (a ++ b) ≡ owned a ++ owned b
 owned_append a b = filter_map-append owned_object a b
 
+-- an object of the front claims is one of all
 pub in_front : (a b : List Claim) (o : Object) → Contains (objects a) o → Contains (objects (a ++ b)) o
 in_front a b o at = subst (λ l. Contains l o) (sym (objects_append a b)) (Contains-append_left (objects a) (objects b) o at)
 
+-- an object of the later claims is one of all
 pub behind : (a b : List Claim) (o : Object) → Contains (objects b) o → Contains (objects (a ++ b)) o
 behind a b o at = subst (λ l. Contains l o) (sym (objects_append a b)) (Contains-append_right (objects a) (objects b) o at)
 
+-- an owned object of the later claims is one of all
 pub owned_behind : (a b : List Claim) (o : Object) → Contains (owned b) o → Contains (owned (a ++ b)) o
 owned_behind a b o at = subst (λ l. Contains l o) (sym (owned_append a b)) (Contains-append_right (owned a) (owned b) o at)
 
+-- what the front claims own, all own
 pub owns_in_front : (tx : ℕ) (a b : List Claim) (o : Object) → Owns tx a o → Owns tx (a ++ b) o
 owns_in_front tx a b o (inl at) = inl (subst (λ l. Contains l o) (sym (owned_append a b)) (Contains-append_left (owned a) (owned b) o at))
 owns_in_front tx a b o (inr numbered) = inr numbered
 
 -- what was touched stays touched
-pub keeps_touched : (tx : ℕ) (ran : Ran) (asked : List Asked) (o : Object) → Contains (objects ran.touched) o → Contains (objects (goes_on tx ran asked).touched) o
+pub keeps_touched : (tx : ℕ) (ran : Ran) (asked : List Asked) (o : Object) → Contains (objects ran.touched) o
+    → Contains (objects (goes_on tx ran asked).touched) o
 keeps_touched tx ran [] o at = at
 keeps_touched tx ran (c ∷ asked) o at =
     keeps_touched tx (step tx ran c) asked o (in_front ran.touched (claims_of c.call ran.me (length ran.world.words)) o at)
@@ -88,6 +96,7 @@ module _ (P : Object → Type 0) (tx : ℕ) (r q : Ran) (c : Asked) where
     | inr made ↦ within.numbered o (made_numbered r.me tx c.call o made)
   ]
 
+  -- worlds that agree on P agree on what the call touches and makes
   pub call_agreed : AgreeOn P r.world q.world → Within P tx r c → All (AgreeAt r.world q.world) listed
   call_agreed agree within = agreed P r.world q.world listed agree (listed_within within)
 
@@ -99,9 +108,12 @@ step_keeps : (tx : ℕ) (w : World) (r : Ran) (c : Asked) → KeepsBut (Owns tx 
     → KeepsBut (Owns tx (step tx r c).touched) r.world (step tx r c).world → KeepsBut (Owns tx (step tx r c).touched) w (step tx r c).world
 step_keeps tx w r c before now =
     keeps_on _ w r.world (step tx r c).world
-    (keeps_more (Owns tx r.touched) (Owns tx (step tx r c).touched) w r.world (owns_in_front tx r.touched (claims_of c.call r.me (length r.world.words))) before) now
+    (keeps_more (Owns tx r.touched) (Owns tx (step tx r c).touched) w r.world
+    (owns_in_front tx r.touched (claims_of c.call r.me (length r.world.words))) before) now
 
-pub step_alike : (P : Object → Type 0) (tx : ℕ) (w v : World) (r q : Ran) (c : Asked) → Alike P tx w v r q → Within P tx r c → Alike P tx w v (step tx r c) (step tx q c)
+-- two bodies stay alike over one call on objects of P
+pub step_alike : (P : Object → Type 0) (tx : ℕ) (w v : World) (r q : Ran) (c : Asked) → Alike P tx w v r q → Within P tx r c
+    → Alike P tx w v (step tx r c) (step tx q c)
 step_alike P tx w v r q c so within =
     let words = length r.world.words in
     let both = call_agreed P tx r q c so.agree within in
@@ -109,7 +121,8 @@ step_alike P tx w v r q c so within =
     let t = act q.world q.me tx c.call c.answer in
     let L = touch c.call r.me words ++ made_by c.call r.me tx in
     let acts : ActsAlike L r.world q.world s t =
-    subst (λ m. ActsAlike L r.world q.world s (act q.world m tx c.call c.answer)) so.gave.me (act_alike r.world q.world r.me tx c.call c.answer so.count both) in
+    subst (λ m. ActsAlike L r.world q.world s (act q.world m tx c.call c.answer)) so.gave.me
+    (act_alike r.world q.world r.me tx c.call c.answer so.count both) in
     let same_claims : claims_of c.call r.me words ≡ claims_of c.call q.me (length q.world.words) = ap₂ (claims_of c.call) so.gave.me so.count in
     let record_there : recorded r.world r.me tx c.call s.reply ≡ recorded q.world q.me tx c.call t.reply =
     recorded_alike r.world q.world r.me tx c.call c.answer (first_part (AgreeAt r.world q.world) (touch c.call r.me words) (made_by c.call r.me tx) both)
@@ -118,7 +131,8 @@ step_alike P tx w v r q c so within =
     (λ o at. inl (owned_behind r.touched (claims_of c.call r.me words) o at)) (λ o numbered. inr numbered) acts.worlds.left in
     let there = act_keeps (Owns tx (step tx q c).touched) q.world q.me tx c.call c.answer
     (λ o at. inl (owned_behind q.touched (claims_of c.call q.me (length q.world.words)) o at)) (λ o numbered. inr numbered)
-    (subst (λ n. ChangesOnly (touch c.call q.me n ++ made_by c.call q.me tx) q.world t.world) so.count (subst (λ m. ChangesOnly (touch c.call m words ++ made_by c.call m tx) q.world t.world) so.gave.me acts.worlds.right)) in
+    (subst (λ n. ChangesOnly (touch c.call q.me n ++ made_by c.call q.me tx) q.world t.world) so.count
+    (subst (λ m. ChangesOnly (touch c.call m words ++ made_by c.call m tx) q.world t.world) so.gave.me acts.worlds.right)) in
     record {
       gave = record {
         me = acts.me;
@@ -136,7 +150,8 @@ step_alike P tx w v r q c so within =
 
 -- ---- the whole
 -- the next call's objects are among those of the body
-next_within : (P : Object → Type 0) (tx : ℕ) (ran : Ran) (c : Asked) (asked : List Asked) → ((o : Object) → Contains (objects (goes_on tx ran (c ∷ asked)).touched) o → P o)
+next_within : (P : Object → Type 0) (tx : ℕ) (ran : Ran) (c : Asked) (asked : List Asked)
+    → ((o : Object) → Contains (objects (goes_on tx ran (c ∷ asked)).touched) o → P o)
     → ((o : Object) → IsNumbered tx o → P o) → Within P tx ran c
 next_within P tx ran c asked touched numbered =
     record {
@@ -144,6 +159,7 @@ next_within P tx ran c asked touched numbered =
       numbered = numbered;
     }
 
+-- two bodies stay alike over calls on objects of P
 pub goes_on_alike : (P : Object → Type 0) (tx : ℕ) (w v : World) (r q : Ran) (asked : List Asked) → Alike P tx w v r q
     → ((o : Object) → Contains (objects (goes_on tx r asked).touched) o → P o) → ((o : Object) → IsNumbered tx o → P o)
     → Alike P tx w v (goes_on tx r asked) (goes_on tx q asked)
@@ -151,6 +167,7 @@ goes_on_alike P tx w v r q [] so touched numbered = so
 goes_on_alike P tx w v r q (c ∷ asked) so touched numbered =
     goes_on_alike P tx w v (step tx r c) (step tx q c) asked (step_alike P tx w v r q c so (next_within P tx r c asked touched numbered)) touched numbered
 
+-- the same answers fit the calls of both
 pub on_fits_alike : (P : Object → Type 0) (tx : ℕ) (w v : World) (r q : Ran) (asked : List Asked) → Alike P tx w v r q
     → ((o : Object) → Contains (objects (goes_on tx r asked).touched) o → P o) → ((o : Object) → IsNumbered tx o → P o)
     → body_fits r.world r.me tx asked ≡ body_fits q.world q.me tx asked
@@ -158,11 +175,13 @@ on_fits_alike P tx w v r q [] so touched numbered = refl
 on_fits_alike P tx w v r q (c ∷ asked) so touched numbered =
     let within = next_within P tx r c asked touched numbered in
     ap₂ (λ x y. x && y)
-    (fits_alike r.world q.world r.me tx c.call c.answer so.count (call_agreed P tx r q c so.agree within) ∙ ap (λ m. fits q.world m tx c.call c.answer) so.gave.me)
+    (fits_alike r.world q.world r.me tx c.call c.answer so.count (call_agreed P tx r q c so.agree within)
+    ∙ ap (λ m. fits q.world m tx c.call c.answer) so.gave.me)
     (on_fits_alike P tx w v (step tx r c) (step tx q c) asked (step_alike P tx w v r q c so within) touched numbered)
 
 -- ---- from the begin
-pub begin_alike : (P : Object → Type 0) (tx : ℕ) (w v : World) (me : Private) → length w.words ≡ length v.words → AgreeOn P w v → Alike P tx w v (begins w me) (begins v me)
+pub begin_alike : (P : Object → Type 0) (tx : ℕ) (w v : World) (me : Private) → length w.words ≡ length v.words → AgreeOn P w v
+    → Alike P tx w v (begins w me) (begins v me)
 begin_alike P tx w v me count agree =
     record {
       gave = record { me = refl; replies = refl; late = refl; trail = refl; taken = refl; touched = refl };
@@ -173,44 +192,61 @@ begin_alike P tx w v me count agree =
     }
 
 -- no object has the transaction's number, so both worlds have the same there
-pub free_agree : (tx : ℕ) (w v : World) → ((k : ℕ) → IsFree w (record { tx = tx; k = k })) → ((k : ℕ) → IsFree v (record { tx = tx; k = k })) → AgreeOn (IsNumbered tx) w v
-free_agree tx w v free empty (object.File num) e = subst (λ t. map.get w.files (record { tx = t; k = num.k }) ≡ map.get v.files (record { tx = t; k = num.k })) (sym e) ((free num.k).file ∙ sym (empty num.k).file)
-free_agree tx w v free empty (object.Pipe num) e = subst (λ t. map.get w.pipes (record { tx = t; k = num.k }) ≡ map.get v.pipes (record { tx = t; k = num.k })) (sym e) ((free num.k).pipe ∙ sym (empty num.k).pipe)
-free_agree tx w v free empty (object.Pair num) e = subst (λ t. map.get w.pairs (record { tx = t; k = num.k }) ≡ map.get v.pairs (record { tx = t; k = num.k })) (sym e) ((free num.k).pair ∙ sym (empty num.k).pair)
+pub free_agree : (tx : ℕ) (w v : World) → ((k : ℕ) → IsFree w (record { tx = tx; k = k })) → ((k : ℕ) → IsFree v (record { tx = tx; k = k }))
+    → AgreeOn (IsNumbered tx) w v
+free_agree tx w v free empty (object.File num) e =
+    subst (λ t. map.get w.files (record { tx = t; k = num.k }) ≡ map.get v.files (record { tx = t; k = num.k })) (sym e)
+    ((free num.k).file ∙ sym (empty num.k).file)
+free_agree tx w v free empty (object.Pipe num) e =
+    subst (λ t. map.get w.pipes (record { tx = t; k = num.k }) ≡ map.get v.pipes (record { tx = t; k = num.k })) (sym e)
+    ((free num.k).pipe ∙ sym (empty num.k).pipe)
+free_agree tx w v free empty (object.Pair num) e =
+    subst (λ t. map.get w.pairs (record { tx = t; k = num.k }) ≡ map.get v.pairs (record { tx = t; k = num.k })) (sym e)
+    ((free num.k).pair ∙ sym (empty num.k).pair)
 free_agree tx w v free empty (object.Word at) e = absurd e
 free_agree tx w v free empty (object.Name name) e = absurd e
 free_agree tx w v free empty object.Jobs e = absurd e
 
+-- worlds that agree on what was touched and on the transaction's numbers agree on all that it sees
 pub seen_agree : (tx : ℕ) (w v : World) (claims : List Claim) → All (AgreeAt w v) (objects claims) → AgreeOn (IsNumbered tx) w v → AgreeOn (Sees tx claims) w v
 seen_agree tx w v claims touched numbered o (inl at) = All-contains (AgreeAt w v) (objects claims) o touched at
 seen_agree tx w v claims touched numbered o (inr e) = numbered o e
 
+-- a body gives the same in worlds that agree on what it touches and on its numbers
 pub body_alike : (w v : World) (me : Private) (tx : ℕ) (asked : List Asked) → length w.words ≡ length v.words
     → All (AgreeAt w v) (objects (body w me tx asked).touched) → AgreeOn (IsNumbered tx) w v
     → RanAlike tx w v (body w me tx asked) (body v me tx asked)
 body_alike w v me tx asked count touched numbered =
     let claims = (body w me tx asked).touched in
     let P = Sees tx claims in
-    let so = goes_on_alike P tx w v (begins w me) (begins v me) asked (begin_alike P tx w v me count (seen_agree tx w v claims touched numbered)) (λ o at. inl at) (λ o e. inr e) in
+    let so =
+    goes_on_alike P tx w v (begins w me) (begins v me) asked (begin_alike P tx w v me count (seen_agree tx w v claims touched numbered)) (λ o at. inl at)
+    (λ o e. inr e) in
     record { gave = so.gave; agree = so.agree; left = so.left; right = so.right }
 
+-- the same answers fit a body in worlds that agree on what it touches and on its numbers
 pub body_fits_alike : (w v : World) (me : Private) (tx : ℕ) (asked : List Asked) → length w.words ≡ length v.words
     → All (AgreeAt w v) (objects (body w me tx asked).touched) → AgreeOn (IsNumbered tx) w v
     → body_fits w me tx asked ≡ body_fits v me tx asked
 body_fits_alike w v me tx asked count touched numbered =
     let claims = (body w me tx asked).touched in
     let P = Sees tx claims in
-    on_fits_alike P tx w v (begins w me) (begins v me) asked (begin_alike P tx w v me count (seen_agree tx w v claims touched numbered)) (λ o at. inl at) (λ o e. inr e)
+    on_fits_alike P tx w v (begins w me) (begins v me) asked (begin_alike P tx w v me count (seen_agree tx w v claims touched numbered)) (λ o at. inl at)
+    (λ o e. inr e)
 
 -- what it changes, whatever other world there is
 pub body_keeps : (w : World) (me : Private) (tx : ℕ) (asked : List Asked) → KeepsBut (Owns tx (body w me tx asked).touched) w (body w me tx asked).world
-body_keeps w me tx asked = (body_alike w w me tx asked refl (agreed (λ _. Unit {0}) w w (objects (body w me tx asked).touched) (λ o _. agree_itself w o) (λ _ _. tt)) (λ o _. agree_itself w o)).left
+body_keeps w me tx asked =
+    (body_alike w w me tx asked refl (agreed (λ _. Unit {0}) w w (objects (body w me tx asked).touched) (λ o _. agree_itself w o) (λ _ _. tt))
+    (λ o _. agree_itself w o)).left
 
 -- ---- from a transaction's begin, where it has made nothing yet
 none_made : (w : World) (me : Private) (tx : ℕ) → IsSound w me tx → me.made ≡ 0 → (k : ℕ) → IsFree w (record { tx = tx; k = k })
 none_made w me tx sound none k = sound.new k (subst (λ n. n ≤ k) (sym none) (omega arith))
 
-pub body_alike_begun : (w v : World) (me : Private) (tx : ℕ) (asked : List Asked) → IsSound w me tx → IsSound v me tx → me.made ≡ 0 → length w.words ≡ length v.words
+-- a body that has made nothing before gives the same in sound worlds that agree on what it touches
+pub body_alike_begun : (w v : World) (me : Private) (tx : ℕ) (asked : List Asked) → IsSound w me tx → IsSound v me tx → me.made ≡ 0
+    → length w.words ≡ length v.words
     → All (AgreeAt w v) (objects (body w me tx asked).touched) → RanAlike tx w v (body w me tx asked) (body v me tx asked)
 body_alike_begun w v me tx asked here there none count touched =
     body_alike w v me tx asked count touched (free_agree tx w v (none_made w me tx here none) (none_made v me tx there none))

@@ -41,10 +41,12 @@ pub objects_of_claims : (m : Mode) (os : List Object) → objects (map (claim m)
 objects_of_claims m [] = refl
 objects_of_claims m (o ∷ os) = ap (λ l. o ∷ l) (objects_of_claims m os)
 
+-- exclusive claims own all their objects
 pub owned_exclusive : (os : List Object) → owned (map (claim Exclusive) os) ≡ os
 owned_exclusive [] = refl
 owned_exclusive (o ∷ os) = ap (λ l. o ∷ l) (owned_exclusive os)
 
+-- a call that claims exclusively owns all that it touches
 pub owned_of_call : (c : Call) (me : Private) (words : ℕ) → mode_of c ≡ Exclusive → owned (claims_of c me words) ≡ touch c me words
 owned_of_call c me words e = ap (λ m. owned (map (claim m) (touch c me words))) e ∙ owned_exclusive (touch c me words)
 
@@ -58,6 +60,7 @@ all_numbered me tx call.XPipe = one_numbered tx _ refl
 all_numbered me tx call.XPair = one_numbered tx _ refl
 all_numbered me tx _ = All-nil (IsNumbered tx)
 
+-- what a call makes has the transaction's number
 pub made_numbered : (me : Private) (tx : ℕ) (c : Call) (o : Object) → Contains (made_by c me tx) o → IsNumbered tx o
 made_numbered me tx c o at = All-contains (IsNumbered tx) (made_by c me tx) o (all_numbered me tx c) at
 
@@ -65,6 +68,7 @@ made_numbered me tx c o at = All-contains (IsNumbered tx) (made_by c me tx) o (a
 none_of : (a b c d : Bool) → a ≡ false → b ≡ false → c ≡ false → d ≡ false → (a || b || c || d) ≡ false
 none_of a b c d p q r s = ap (λ x. x || b || c || d) p ∙ ap (λ x. x || c || d) q ∙ ap (λ x. x || d) r ∙ s
 
+-- what holds of each refusal, and of a call that passes, holds of what a call does
 pub act_cases : (w : World) (me : Private) (tx : ℕ) (c : Call) (a : Answer) (P : Stepped → Type 0)
     → P (stays w me reply.BadHandle) → P (stays w me reply.TooBig) → P (stays w me reply.TooMuch) → P (stays w me reply.BadWord)
     → (is_refused c me (length w.words) ≡ false → P (counted c (done w me tx c a))) → P (act w me tx c a)
@@ -72,13 +76,16 @@ act_cases w me tx c a P bad_handle too_big too_much bad_word passed =
     cond_both (is_bad_handle c me) _ _ P (λ _. bad_handle) (λ p.
     cond_both (is_too_big c) _ _ P (λ _. too_big) (λ q.
     cond_both (is_too_much c me) _ _ P (λ _. too_much) (λ r.
-    cond_both (is_bad_word c (length w.words)) _ _ P (λ _. bad_word) (λ s. passed (none_of (is_bad_handle c me) (is_too_big c) (is_too_much c me) (is_bad_word c (length w.words)) p q r s)))))
+    cond_both (is_bad_word c (length w.words)) _ _ P (λ _. bad_word)
+    (λ s. passed (none_of (is_bad_handle c me) (is_too_big c) (is_too_much c me) (is_bad_word c (length w.words)) p q r s)))))
 
+-- a call that is not refused touches all its objects
 pub touched_all : (c : Call) (me : Private) (words : ℕ) → is_refused c me words ≡ false → touch c me words ≡ objects_of_call c me
 touched_all c me words e = ap (λ b. if b then [] else objects_of_call c me) e
 
 -- ---- its record
-overwrite_alike : (w v : World) (bytes : List ℕ) (n : ℕ) (p : Place) → All (AgreeAt w v) (object_at p) → overwrite_record w bytes n p ≡ overwrite_record v bytes n p
+overwrite_alike : (w v : World) (bytes : List ℕ) (n : ℕ) (p : Place) → All (AgreeAt w v) (object_at p)
+    → overwrite_record w bytes n p ≡ overwrite_record v bytes n p
 overwrite_alike w v bytes n (place.File num at) agree =
     let f : List ℕ → List Undo = λ file. if n == 0 then [] else Bytes num at (take (length bytes) (drop at file)) bytes n ∷ [] in
     ap f (same_file (object.File num ∷ []) w v num (first_in (object.File num) []) agree)
@@ -95,11 +102,13 @@ append_alike w v bytes n (place.Pipe num) agree = refl
 append_alike w v bytes n (place.Pair num side) agree = refl
 
 -- whatever the reply
-passed_recorded : (w v : World) (me : Private) (tx : ℕ) (c : Call) (r : Reply) → All (AgreeAt w v) (objects_of_call c me) → recorded w me tx c r ≡ recorded v me tx c r
+passed_recorded : (w v : World) (me : Private) (tx : ℕ) (c : Call) (r : Reply) → All (AgreeAt w v) (objects_of_call c me)
+    → recorded w me tx c r ≡ recorded v me tx c r
 passed_recorded w v me tx (call.XWriteOvr h bytes) r agree = overwrite_alike w v bytes (done_of (length bytes) r) (place_of me.places h) agree
 passed_recorded w v me tx (call.XWriteSeq h bytes) r agree = append_alike w v bytes (done_of (length bytes) r) (place_of me.places h) agree
 passed_recorded w v me tx _ r agree = refl
 
+-- a call's record is the same in worlds that agree on what it touches
 pub recorded_alike : (w v : World) (me : Private) (tx : ℕ) (c : Call) (a : Answer) → All (AgreeAt w v) (touch c me (length w.words))
     → recorded w me tx c (act w me tx c a).reply ≡ recorded v me tx c (act w me tx c a).reply
 recorded_alike w v me tx c a agree =
@@ -120,9 +129,12 @@ fits_alike w v me tx c (answer.Fault n) count agree = by_check (is_refused c me 
 
     later : (b : Bool) → is_refused c me (length w.words) ≡ b → of_reply b (fine w me tx c).reply ≡ of_reply b (fine v me tx c).reply
     later true e = refl
-    later false e = ap (of_reply false) (done_alike w v me tx c answer.Fine (subst (λ l. All (AgreeAt w v) (l ++ made_by c me tx)) (touched_all c me (length w.words) e) agree)).reply
+    later false e =
+        ap (of_reply false) (done_alike w v me tx c answer.Fine
+        (subst (λ l. All (AgreeAt w v) (l ++ made_by c me tx)) (touched_all c me (length w.words) e) agree)).reply
 
-    by_check : (b : Bool) → is_refused c me (length w.words) ≡ b → of_reply (is_refused c me (length w.words)) (fine w me tx c).reply ≡ of_reply (is_refused c me (length v.words)) (fine v me tx c).reply
+    by_check : (b : Bool) → is_refused c me (length w.words) ≡ b
+        → of_reply (is_refused c me (length w.words)) (fine w me tx c).reply ≡ of_reply (is_refused c me (length v.words)) (fine v me tx c).reply
     by_check b e =
         ap (λ x. of_reply x (fine w me tx c).reply) e ∙ later b e
         ∙ ap (λ x. of_reply x (fine v me tx c).reply) (sym e ∙ ap (is_refused c me) count)
@@ -131,6 +143,7 @@ fits_alike w v me tx c (answer.Fault n) count agree = by_check (is_refused c me 
 pub agreed : (P : Object → Type 0) (w v : World) (listed : List Object) → AgreeOn P w v → ((o : Object) → Contains listed o → P o) → All (AgreeAt w v) listed
 agreed P w v listed agree within = All-weaker (Contains listed) (AgreeAt w v) (λ o at. agree o (within o at)) listed (All-contains_itself listed)
 
+-- worlds that agree on a kind of objects still do after going on alike
 pub still_agree : (P : Object → Type 0) (w v x y : World) (listed : List Object) → GoAlike listed w v x y → AgreeOn P w v → AgreeOn P x y
 still_agree P w v x y listed go agree o p = elim (decide listed o) [
   | inl at ↦ All-contains (AgreeAt x y) listed o go.agree at
@@ -141,6 +154,7 @@ still_agree P w v x y listed go agree o p = elim (decide listed o) [
 pub keeps_itself : (own : Object → Type 0) (w : World) → KeepsBut own w w
 keeps_itself own w = record { others = λ o _. agree_itself w o; count = refl; blocks = refl }
 
+-- a call keeps all but what it claims exclusively or makes
 pub act_keeps : (own : Object → Type 0) (w : World) (me : Private) (tx : ℕ) (c : Call) (a : Answer)
     → ((o : Object) → Contains (owned (claims_of c me (length w.words))) o → own o) → ((o : Object) → IsNumbered tx o → own o)
     → ChangesOnly (touch c me (length w.words) ++ made_by c me tx) w (act w me tx c a).world → KeepsBut own w (act w me tx c a).world

@@ -11,6 +11,7 @@ use Rattle.xc_world.specs.Run.{Ran, begins, step, goes_on, body, body_fits}
 use Rattle.xc_data.specs.declared.call.Asked.{Asked}
 use Rattle.xc_world.proofs.Sound.{act_sound, others_sound}
 
+-- a sound body stays sound over calls that their answers fit
 pub goes_on-sound : (tx : ℕ) (r : Ran) (asked : List Asked) → IsSound r.world r.me tx → IsTrue (body_fits r.world r.me tx asked)
     → IsSound (goes_on tx r asked).world (goes_on tx r asked).me tx
 goes_on-sound tx r [] sound fit = sound
@@ -19,6 +20,7 @@ goes_on-sound tx r (c ∷ asked) sound fit =
     let both = and_parts (fits r.world r.me tx c.call c.answer) (body_fits s.world s.me tx asked) fit in
     goes_on-sound tx (step tx r c) asked (act_sound r.world r.me tx c.call c.answer both.0 sound) both.1
 
+-- a body that its answers fit leaves its world and private state sound
 pub body-sound : (w : World) (me : Private) (tx : ℕ) (asked : List Asked) → IsSound w me tx → IsTrue (body_fits w me tx asked)
     → IsSound (body w me tx asked).world (body w me tx asked).me tx
 body-sound w me tx asked sound fit = goes_on-sound tx (begins w me) asked sound fit
@@ -32,6 +34,7 @@ others-on tx ty you r (c ∷ asked) sound fit other apart =
     others-on tx ty you (step tx r c) asked (act_sound r.world r.me tx c.call c.answer both.0 sound) both.1
     (others_sound r.world r.me you tx ty c.call c.answer both.0 apart sound other) apart
 
+-- a body that its answers fit leaves another transaction's private state sound
 pub body-others_sound : (w : World) (me you : Private) (tx ty : ℕ) (asked : List Asked) → IsSound w me tx → IsTrue (body_fits w me tx asked)
     → IsSound w you ty → (ty ≢ tx) → IsSound (body w me tx asked).world you ty
 body-others_sound w me you tx ty asked sound fit other apart = others-on tx ty you (begins w me) asked sound fit other apart

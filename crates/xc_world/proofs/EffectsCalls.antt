@@ -1,5 +1,6 @@
 -- What a call does is the effect of its record, outside the words.
-use Rattle.std.proofs.Common.{◌≡◌, ℕ, ◌+◌, Bool, true, false, Option, Some, None, List, [], ◌∷◌, ◌++◌, length, take, drop, refl, ap, sym, ◌∙◌, subst, arith, take_all}
+use Rattle.std.proofs.Common.{◌≡◌, ℕ, ◌+◌, Bool, true, false, Option, Some, None, List, [], ◌∷◌, ◌++◌, length, take, drop, refl, ap, sym, ◌∙◌, subst, arith}
+use Rattle.std.proofs.Common.{take_all}
 use Rattle.std.specs.Prelude.{◌==◌, nat_lt, nat_le, if◌then◌else◌}
 use Rattle.std.specs.FinMap as finite
 use Rattle.std.proofs.lemmas.Bool.{cond_both}
@@ -59,7 +60,8 @@ overwrite_at-leads : (w : World) (me : Private) (h : ℕ) (bytes : List ℕ) (p 
 overwrite_at-leads w me h bytes (File num at) =
     let before = take (length bytes) (drop at (file_of w num)) in
     cond_both (length bytes == 0) _ _ (LeadsOverwrite w bytes (File num at)) (λ none. none_leads w _ (length bytes == 0) none) (λ some.
-    cond_both (nat_lt (length (file_of w num)) (at + length bytes)) (stays w me reply.PastEnd) (put w me h num at bytes reply.Done) (LeadsOverwrite w bytes (File num at)) (λ _. refl) (λ _.
+    cond_both (nat_lt (length (file_of w num)) (at + length bytes)) (stays w me reply.PastEnd) (put w me h num at bytes reply.Done)
+    (LeadsOverwrite w bytes (File num at)) (λ _. refl) (λ _.
     one_leads w _ (Bytes num at before bytes (length bytes) ∷ []) (length bytes == 0) some
     (put-leads w num at (length bytes) before bytes bytes (sym (take_all (length bytes) bytes (omega arith))))))
 overwrite_at-leads w me h bytes Vacant = refl
@@ -87,7 +89,8 @@ append_at-leads : (w : World) (me : Private) (h : ℕ) (bytes : List ℕ) (p : P
 append_at-leads w me h bytes (File num at) =
     let from = length (file_of w num) in
     cond_both (length bytes == 0) _ _ (LeadsAppend w bytes (File num at)) (λ none. none_leads w _ (length bytes == 0) none) (λ some.
-    cond_both (nat_lt 65536 (from + length bytes)) (stays w me reply.TooBig) (appended w me h num bytes reply.Done) (LeadsAppend w bytes (File num at)) (λ _. refl) (λ _.
+    cond_both (nat_lt 65536 (from + length bytes)) (stays w me reply.TooBig) (appended w me h num bytes reply.Done) (LeadsAppend w bytes (File num at))
+    (λ _. refl) (λ _.
     one_leads w _ (Tail num from bytes (length bytes) ∷ []) (length bytes == 0) some
     (appended-leads w num from (length bytes) bytes bytes (sym (take_all (length bytes) bytes (omega arith))))))
 append_at-leads w me h bytes Vacant = refl
@@ -121,7 +124,8 @@ opened-leads w me None vacant = refl
 opened-leads w me (Some num) None = refl
 opened-leads w me (Some num) (Some h) = refl
 
-new_pipe-leads : (w : World) (me : Private) (tx : ℕ) (vacant : Option ℕ) → Leads w (new_pipe w me tx vacant).world (pipe_record me tx (new_pipe w me tx vacant).reply)
+new_pipe-leads : (w : World) (me : Private) (tx : ℕ) (vacant : Option ℕ)
+    → Leads w (new_pipe w me tx vacant).world (pipe_record me tx (new_pipe w me tx vacant).reply)
 new_pipe-leads w me tx None = refl
 new_pipe-leads w me tx (Some h) = refl
 
@@ -130,7 +134,8 @@ pair_made-leads : (w : World) (me : Private) (tx h : ℕ) (p : Place) (vacant : 
 pair_made-leads w me tx h p None = refl
 pair_made-leads w me tx h p (Some g) = refl
 
-new_pair-leads : (w : World) (me : Private) (tx : ℕ) (vacant : Option ℕ) → Leads w (new_pair w me tx vacant).world (pair_record me tx (new_pair w me tx vacant).reply)
+new_pair-leads : (w : World) (me : Private) (tx : ℕ) (vacant : Option ℕ)
+    → Leads w (new_pair w me tx vacant).world (pair_record me tx (new_pair w me tx vacant).reply)
 new_pair-leads w me tx None = refl
 new_pair-leads w me tx (Some h) =
     let first = Pair (next_num me tx) 0 in
@@ -140,7 +145,8 @@ new_pair-leads w me tx (Some h) =
 read_at-leads : (w : World) (me : Private) (h n : ℕ) (p : Place) → Rests w (read_at w me h n p)
 read_at-leads w me h n (File num at) =
     cond_both (n == 0) (stays w me (reply.Got [])) _ (Rests w) (λ _. refl) (λ _.
-    cond_both (nat_le (length (file_of w num)) at) (stays w me reply.End) (got w me h num at (take n (drop at (file_of w num)))) (Rests w) (λ _. refl) (λ _. refl))
+    cond_both (nat_le (length (file_of w num)) at) (stays w me reply.End) (got w me h num at (take n (drop at (file_of w num)))) (Rests w) (λ _. refl)
+    (λ _. refl))
 read_at-leads w me h n Vacant = refl
 read_at-leads w me h n (Pipe num) = refl
 read_at-leads w me h n (Pair num side) = refl
@@ -190,6 +196,7 @@ done-leads w me tx c (answer.Fault n) e = faulty-leads w me tx c n
 refused-leads : (w : World) (us : List Undo) → us ≡ [] → Leads w w us
 refused-leads w us e = subst (Leads w w) (sym e) refl
 
+-- but for the words, a call that takes no data leaves the world with the effect of its record
 pub act-leads : (w : World) (me : Private) (tx : ℕ) (c : Call) (a : Answer) → takes_data c ≡ false
     → (act w me tx c a).world ≡ record (with_remains w (whole (recorded w me tx c (act w me tx c a).reply))) { words = (act w me tx c a).world.words }
 act-leads w me tx c a e =

@@ -197,6 +197,7 @@ made-by w v (u ∷ us) e made =
     let one = one_made-by w v u e made.0 in
     (one.0, made-by (with_effect w u 0) (with_effect v u 0) us one.1 made.1)
 
+-- each record of a body that only overwrites was made in the world that the ones before it leave
 pub body-made : (w : World) (me : Private) (tx : ℕ) (asked : List Asked) → IsSound w me tx → IsTrue (body_fits w me tx asked)
     → All (λ (c : Asked). only_overwrites c.call ≡ true) asked → AreMadeIn w (body w me tx asked).trail
 body-made w me tx [] sound fit only = tt

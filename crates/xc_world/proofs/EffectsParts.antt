@@ -27,6 +27,7 @@ effect-words w words (Moved from to) k = move_name-words w words from to (finite
 effect-words w words (NewPipe num) k = refl
 effect-words w words (NewPair num) k = refl
 
+-- what remains asks for no word
 pub remains-words : (w : World) (words : List ℕ) (us : List (Undo × ℕ)) → with_remains (with_words w words) us ≡ with_words (with_remains w us) words
 remains-words w words [] = refl
 remains-words w words ((u, k) ∷ us) = ap (λ v. with_remains v us) (effect-words w words u k) ∙ remains-words (with_effect w u k) words us
@@ -36,6 +37,7 @@ pub remains-append : (w : World) (us vs : List (Undo × ℕ)) → with_remains w
 remains-append w [] vs = refl
 remains-append w ((u, k) ∷ us) vs = remains-append (with_effect w u k) us vs
 
+-- records that stand whole, one behind another
 pub whole-append : (us vs : List Undo) → whole (us ++ vs) ≡ whole us ++ whole vs
 whole-append us vs = map-append (λ (u : Undo). (u, 0)) us vs
 
@@ -52,6 +54,7 @@ pub made-behind : (w : World) (us vs : List Undo) → AreMadeIn w (us ++ vs) →
 made-behind w [] vs made = made
 made-behind w (u ∷ us) vs made = made-behind (with_effect w u 0) us vs made.1
 
+-- records that were made, and then others in the world that they leave
 pub made-append : (w : World) (us vs : List Undo) → AreMadeIn w us → AreMadeIn (with_remains w (whole us)) vs → AreMadeIn w (us ++ vs)
 made-append w [] vs first later = later
 made-append w (u ∷ us) vs first later = (first.0, made-append (with_effect w u 0) us vs first.1 later)

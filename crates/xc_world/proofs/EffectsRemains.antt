@@ -1,5 +1,6 @@
 -- What remains of overwrites keeps each file's length, and with it a sound world sound.
-use Rattle.std.proofs.Common.{◌≡◌, ℕ, ◌+◌, ◌≤◌, inl, inr, true, is_some, List, [], ◌∷◌, ◌++◌, length, take, drop, map, unwrap_or, ap, sym, ◌∙◌, subst, arith, length-append, length-take, length-drop}
+use Rattle.std.proofs.Common.{◌≡◌, ℕ, ◌+◌, ◌≤◌, inl, inr, true, is_some, List, [], ◌∷◌, ◌++◌, length, take, drop, map, unwrap_or, ap, sym, ◌∙◌, subst, arith}
+use Rattle.std.proofs.Common.{length-append, length-take, length-drop}
 use Rattle.std.specs.FinMap as finite
 use Rattle.std.specs.List.{AllByRecursion}
 use Rattle.xc_data.specs.declared.object.Num.{Num}
@@ -33,9 +34,18 @@ effect-size : (at n k : ℕ) (after file : List ℕ) → at + n ≤ length file 
 effect-size at n k after file inside =
     let covered = drop k (take n after) in
     let l = length-append (take (at + k) file ++ covered) (drop (at + k + length covered) file) in
-    omega (arith, l, length-append (take (at + k) file) covered, length-take (at + k) file, length-drop (at + k + length covered) file, length-drop k (take n after), length-take n after)
+    omega (
+      arith,
+      l,
+      length-append (take (at + k) file) covered,
+      length-take (at + k) file,
+      length-drop (at + k + length covered) file,
+      length-drop k (take n after),
+      length-take n after,
+    )
 
-put-like : (w : World) (file : Num) (bytes : List ℕ) → is_some (finite.get w.files file) ≡ true → length bytes ≡ length (file_of w file) → IsLike w (with_file w file bytes)
+put-like : (w : World) (file : Num) (bytes : List ℕ) → is_some (finite.get w.files file) ≡ true → length bytes ≡ length (file_of w file)
+    → IsLike w (with_file w file bytes)
 put-like w file bytes there size =
     record {
       there = λ num. elim (get-insert_cases num_total num_exact w.files file num bytes) [
@@ -48,6 +58,7 @@ put-like w file bytes there size =
       ];
     }
 
+-- a covered effect keeps which files are there and each one's length
 pub effect-like : (w : World) (u : Undo) (k : ℕ) → IsCovered w u → IsLike w (with_effect w u k)
 effect-like w (Bytes file at before after n) k covered = put-like w file _ covered.0 (effect-size at n k after (file_of w file) covered.1)
 effect-like w (Tail file from after n) k covered = absurd covered
@@ -79,6 +90,7 @@ one-covered w (Moved from to) made = made
 one-covered w (NewPipe num) made = made
 one-covered w (NewPair num) made = made
 
+-- each record is covered
 abbrev pub AreCovered : World → List Undo → Type 0
 AreCovered w us = AllByRecursion (IsCovered w) us
 
@@ -86,6 +98,7 @@ all-covered-like : (w v : World) (us : List Undo) → IsLike w v → AreCovered 
 all-covered-like w v [] like covered = tt
 all-covered-like w v (u ∷ us) like covered = (covered-like w v u like covered.0, all-covered-like w v us like covered.1)
 
+-- records that were made are covered in the world before the first
 pub all-covered : (w : World) (us : List Undo) → AreMadeIn w us → AreCovered w us
 all-covered w [] made = tt
 all-covered w (u ∷ us) made =
@@ -97,10 +110,13 @@ all-covered w (u ∷ us) made =
 abbrev pub IsKept : (World → Type 0) → Type 0
 IsKept P = (v : World) (u : Undo) (k : ℕ) → IsCovered v u → P v → P (with_effect v u k)
 
-still-covered : (w : World) (u : Undo) (k : ℕ) (records : List Ending) → AreCovered w (u ∷ map (λ r. r.0) records) → AreCovered (with_effect w u k) (map (λ r. r.0) records)
+still-covered : (w : World) (u : Undo) (k : ℕ) (records : List Ending) → AreCovered w (u ∷ map (λ r. r.0) records)
+    → AreCovered (with_effect w u k) (map (λ r. r.0) records)
 still-covered w u k records covered = all-covered-like w (with_effect w u k) (map (λ r. r.0) records) (effect-like w u k covered.0) covered.1
 
-pub remains-keep : (P : World → Type 0) → IsKept P → (w : World) (records : List Ending) → AreCovered w (map (λ r. r.0) records) → P w → P (with_remains w (remains records))
+-- what each covered effect keeps, what remains of covered records keeps
+pub remains-keep : (P : World → Type 0) → IsKept P → (w : World) (records : List Ending) → AreCovered w (map (λ r. r.0) records) → P w
+    → P (with_remains w (remains records))
 remains-keep P keep w [] covered p = p
 remains-keep P keep w ((u, Undone faults) ∷ records) covered p = remains-keep P keep w records covered.1 p
 remains-keep P keep w ((u, Failed done faults) ∷ records) covered p =
@@ -133,6 +149,7 @@ effect-sound me tx v (Moved from to) k covered sound = absurd covered
 effect-sound me tx v (NewPipe num) k covered sound = absurd covered
 effect-sound me tx v (NewPair num) k covered sound = absurd covered
 
+-- what remains of records that were made keeps a private state sound
 pub remains-sound : (w : World) (me : Private) (tx : ℕ) (records : List Ending) → AreMadeIn w (map (λ r. r.0) records) → IsSound w me tx
     → IsSound (with_remains w (remains records)) me tx
 remains-sound w me tx records made sound =

@@ -1,5 +1,6 @@
 -- A compensation with a legal end leaves what remains with that end.
-use Rattle.std.proofs.Common.{◌≡◌, ◌≢◌, ℕ, ◌+◌, ◌-◌, ◌≤◌, ◌<◌, rules, Bool, true, false, Option, Some, None, is_some, unwrap_or, List, [], ◌∷◌, ◌++◌, length, take, drop, map, refl, ap, ap₂, sym, ◌∙◌, append_assoc, arith, length-drop}
+use Rattle.std.proofs.Common.{◌≡◌, ◌≢◌, ℕ, ◌+◌, ◌-◌, ◌≤◌, ◌<◌, rules, Bool, true, false, Option, Some, None, is_some, unwrap_or, List, [], ◌∷◌, ◌++◌, length}
+use Rattle.std.proofs.Common.{take, drop, map, refl, ap, ap₂, sym, ◌∙◌, append_assoc, arith, length-drop}
 use Rattle.std.specs.Prelude.{◌==◌, if◌then◌else◌}
 use Rattle.std.specs.FinMap as finite
 use Rattle.std.proofs.lemmas.Bool.{false≢true, eqb-true, cond_both}
@@ -24,7 +25,8 @@ use Rattle.xc_world.proofs.EffectsCalls.{at_start}
 -- ---- lists
 -- where the first bytes of an overwrite are put back, it stands from there on
 front_restored : (at n done : ℕ) (after file : List ℕ) → done ≤ n → n ≤ length after → at + length after ≤ length file
-    → overwritten at (take done (take (length after) (drop at file))) (overwritten at (take n after) file) ≡ overwritten (at + done) (drop done (take n after)) file
+    → overwritten at (take done (take (length after) (drop at file))) (overwritten at (take n after) file)
+    ≡ overwritten (at + done) (drop done (take n after)) file
 front_restored at n done after file le within inside =
     let a = take n after in
     let q = drop (at + length a) file in
@@ -78,10 +80,12 @@ none_blocks : (b : Bool) (from : ℕ) (o : Option ℕ) → (if b then Some from 
 none_blocks true from o e = cc
 none_blocks false from o e = (refl, e)
 
-shares_itself : (file : Num) (at n : ℕ) (before after : List ℕ) (i m : ℕ) (xs ys : List ℕ) → share_object (Bytes file at before after n) (Bytes file i xs ys m) ≡ true
+shares_itself : (file : Num) (at n : ℕ) (before after : List ℕ) (i m : ℕ) (xs ys : List ℕ)
+    → share_object (Bytes file at before after n) (Bytes file i xs ys m) ≡ true
 shares_itself file at n before after i m xs ys = search (rules)
 
-shares_none : (file other : Num) (at n : ℕ) (before after : List ℕ) (i m : ℕ) (xs ys : List ℕ) → share_object (Bytes file at before after n) (Bytes other i xs ys m) ≡ false → (other ≢ file)
+shares_none : (file other : Num) (at n : ℕ) (before after : List ℕ) (i m : ℕ) (xs ys : List ℕ)
+    → share_object (Bytes file at before after n) (Bytes other i xs ys m) ≡ false → (other ≢ file)
 shares_none file other at n before after i m xs ys apart e =
     false≢true (sym apart ∙ (ap (λ f. share_object (Bytes file at before after n) (Bytes f i xs ys m)) e ∙ shares_itself file at n before after i m xs ys))
 
@@ -92,11 +96,15 @@ newer-beside w from file at n before after [] made free = tt
 newer-beside w from file at n before after ((Bytes other i xs ys m, Undone faults) ∷ newer) made free =
     newer-beside (with_effect w (Bytes other i xs ys m) 0) (from + 1) file at n before after newer made.1 free
 newer-beside w from file at n before after ((Bytes other i xs ys m, Failed done faults) ∷ newer) made free =
-    let both = none_blocks (share_object (Bytes file at before after n) (Bytes other i xs ys m)) from _ free in
-    (shares_none file other at n before after i m xs ys both.0, newer-beside (with_effect w (Bytes other i xs ys m) 0) (from + 1) file at n before after newer made.1 both.1)
+    let both = none_blocks (share_object (Bytes file at before after n) (Bytes other i xs ys m)) from _ free in (
+      shares_none file other at n before after i m xs ys both.0,
+      newer-beside (with_effect w (Bytes other i xs ys m) 0) (from + 1) file at n before after newer made.1 both.1,
+    )
 newer-beside w from file at n before after ((Bytes other i xs ys m, Blocked by) ∷ newer) made free =
-    let both = none_blocks (share_object (Bytes file at before after n) (Bytes other i xs ys m)) from _ free in
-    (shares_none file other at n before after i m xs ys both.0, newer-beside (with_effect w (Bytes other i xs ys m) 0) (from + 1) file at n before after newer made.1 both.1)
+    let both = none_blocks (share_object (Bytes file at before after n) (Bytes other i xs ys m)) from _ free in (
+      shares_none file other at n before after i m xs ys both.0,
+      newer-beside (with_effect w (Bytes other i xs ys m) 0) (from + 1) file at n before after newer made.1 both.1,
+    )
 newer-beside w from file at n before after ((Tail other i xs m, end) ∷ newer) made free = absurd made.0
 newer-beside w from file at n before after ((Made name num, end) ∷ newer) made free = absurd made.0
 newer-beside w from file at n before after ((Moved old new, end) ∷ newer) made free = absurd made.0
@@ -117,9 +125,11 @@ changed-beside w file bytes next g rest beside e =
 
 -- the file as it is
 file-again : (w : World) (file : Num) → is_some (finite.get w.files file) ≡ true → with_file w file (file_of w file) ≡ w
-file-again w file there = ap (λ m. record w { files = m }) (insert-get_same num_total num_exact w.files file (file_of w file) (there_by (finite.get w.files file) [] there))
+file-again w file there =
+    ap (λ m. record w { files = m }) (insert-get_same num_total num_exact w.files file (file_of w file) (there_by (finite.get w.files file) [] there))
 
-undone-beside : (w : World) (file : Num) (at n : ℕ) (before after : List ℕ) (rest : List (Undo × ℕ)) → IsOverwriteIn w file at before after n → IsBeside file rest
+undone-beside : (w : World) (file : Num) (at n : ℕ) (before after : List ℕ) (rest : List (Undo × ℕ)) → IsOverwriteIn w file at before after n
+    → IsBeside file rest
     → undone (with_remains (with_effect w (Bytes file at before after n) 0) rest) (Bytes file at before after n) ≡ with_remains w rest
 undone-beside w file at n before after rest made beside =
     let f = file_of w file in
@@ -129,8 +139,10 @@ undone-beside w file at n before after rest made beside =
     changed-beside w file (overwritten (at + 0) (take n after) f) f (overwritten at (take n before)) rest beside whole_again
     ∙ ap (λ v. with_remains v rest) (file-again w file made.there)
 
-restored-beside : (w : World) (file : Num) (at n : ℕ) (before after : List ℕ) (rest : List (Undo × ℕ)) (done : ℕ) → IsOverwriteIn w file at before after n → done ≤ n → IsBeside file rest
-    → restored (with_remains (with_effect w (Bytes file at before after n) 0) rest) (Bytes file at before after n) done ≡ with_remains (with_effect w (Bytes file at before after n) done) rest
+restored-beside : (w : World) (file : Num) (at n : ℕ) (before after : List ℕ) (rest : List (Undo × ℕ)) (done : ℕ) → IsOverwriteIn w file at before after n
+    → done ≤ n → IsBeside file rest
+    → restored (with_remains (with_effect w (Bytes file at before after n) 0) rest) (Bytes file at before after n) done
+    ≡ with_remains (with_effect w (Bytes file at before after n) done) rest
 restored-beside w file at n before after rest done made le beside =
     let f = file_of w file in
     let u = Bytes file at before after n in
@@ -142,7 +154,8 @@ restored-beside w file at n before after rest done made le beside =
     (λ _. changed-beside w file (overwritten (at + 0) (take n after) f) next (overwritten at (take done before)) rest beside front)
 
 -- ---- with what stands of newer ones
-ended-beside : (w : World) (u : Undo) (newer : List Ending) (tries from : ℕ) (end : UndoEnd) → AreMadeIn w (u ∷ map (λ r. r.0) newer) → IsLegalEnd tries u end (blocker from u newer)
+ended-beside : (w : World) (u : Undo) (newer : List Ending) (tries from : ℕ) (end : UndoEnd) → AreMadeIn w (u ∷ map (λ r. r.0) newer)
+    → IsLegalEnd tries u end (blocker from u newer)
     → undone_to (with_remains (with_effect w u 0) (remains newer)) u end ≡ with_remains w (remains ((u, end) ∷ newer))
 ended-beside w u newer tries from (Blocked by) made legal = refl
 ended-beside w (Bytes file at before after n) newer tries from (Undone faults) made legal =
@@ -156,7 +169,9 @@ ended-beside w (Moved from to) newer tries i end made legal = absurd made.0
 ended-beside w (NewPipe num) newer tries i end made legal = absurd made.0
 ended-beside w (NewPair num) newer tries i end made legal = absurd made.0
 
-pub record-undone : (w : World) (older : List Undo) (u : Undo) (newer : List Ending) (tries : ℕ) (end : UndoEnd) → AreMadeIn w (older ++ u ∷ map (λ r. r.0) newer)
+-- a compensation of the newest record that stands whole leaves what its end tells of
+pub record-undone : (w : World) (older : List Undo) (u : Undo) (newer : List Ending) (tries : ℕ) (end : UndoEnd)
+    → AreMadeIn w (older ++ u ∷ map (λ r. r.0) newer)
     → IsLegalEnd tries u end (blocker (length older + 1 + 1) u newer)
     → undone_to (with_remains w (whole (older ++ u ∷ []) ++ remains newer)) u end ≡ with_remains w (whole older ++ remains ((u, end) ∷ newer))
 record-undone w older u newer tries end made legal =

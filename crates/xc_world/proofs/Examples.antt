@@ -27,7 +27,16 @@ first_num = record { tx = 0; k = 0 }
 
 -- a world of one word and two blocks
 abbrev small : World
-small = record { words = 7 ∷ []; names = map.empty; files = map.empty; pipes = map.empty; pairs = map.empty; started = []; blocks = codes "main" ∷ codes "child" ∷ [] }
+small =
+    record {
+      words = 7 ∷ [];
+      names = map.empty;
+      files = map.empty;
+      pipes = map.empty;
+      pairs = map.empty;
+      started = [];
+      blocks = codes "main" ∷ codes "child" ∷ [];
+    }
 
 -- with a file that has a name
 abbrev with_hello : World
@@ -110,7 +119,8 @@ sends_nothing_when_shut = rw (pair_there (record { first = []; second = []; shut
 -- a message from side 0 waits for side 1
 pub sends_to_the_other_side :
     late (with_pair_of (record { first = []; second = []; shut = false })) (late_call.Send first_num 0 (codes "hi")) late_answer.Fine
-    ≡ ends (with_pair (with_pair_of (record { first = []; second = []; shut = false })) first_num (record { first = []; second = codes "hi" ∷ []; shut = false })) end.Done
+    ≡ ends (with_pair (with_pair_of (record { first = []; second = []; shut = false })) first_num
+    (record { first = []; second = codes "hi" ∷ []; shut = false })) end.Done
 sends_to_the_other_side = rw (pair_there (record { first = []; second = []; shut = false })) refl
 
 -- a block that the script doesn't have

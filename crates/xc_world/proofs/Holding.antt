@@ -15,6 +15,7 @@ use Rattle.xc_data.specs.Claims.{is_exclusive, exclusive, objects, owned, strong
 use Rattle.xc_world.proofs.Objects.{same_object, found}
 use Rattle.xc_world.proofs.Bodies.{objects_append, owned_append}
 
+-- whether an object is in a list
 abbrev pub has : List Object → Object → Bool
 has os o = list_any (is_object o) os
 
@@ -69,7 +70,8 @@ either_mode Exclusive Shared false = refl
 either_mode Shared n x = refl
 
 merged_owns : (new h : Claim) (o : Object)
-    → (exclusive (merged new h) && is_object o (merged new h).object) ≡ ((exclusive h && is_object o h.object) || ((exclusive new && is_object o new.object) && is_object new.object h.object))
+    → (exclusive (merged new h) && is_object o (merged new h).object)
+    ≡ ((exclusive h && is_object o h.object) || ((exclusive new && is_object o new.object) && is_object new.object h.object))
 merged_owns new h o = by_test (is_object new.object h.object) refl
   where
     by_test : (b : Bool) → is_object new.object h.object ≡ b
@@ -77,8 +79,11 @@ merged_owns new h o = by_test (is_object new.object h.object) refl
         (exclusive c && is_object o c.object) ≡ ((exclusive h && is_object o h.object) || ((exclusive new && is_object o new.object) && b)))
     by_test true e =
         either_mode h.mode new.mode (is_object o h.object)
-        ∙ ap (λ x. (exclusive h && is_object o h.object) || x) (ap (λ p. exclusive new && is_object o p) (sym (same_object new.object h.object e)) ∙ sym (and_true (exclusive new && is_object o new.object)))
-    by_test false e = sym (ap (λ x. (exclusive h && is_object o h.object) || x) (and_false (exclusive new && is_object o new.object)) ∙ or_none (exclusive h && is_object o h.object))
+        ∙ ap (λ x. (exclusive h && is_object o h.object) || x)
+        (ap (λ p. exclusive new && is_object o p) (sym (same_object new.object h.object e)) ∙ sym (and_true (exclusive new && is_object o new.object)))
+    by_test false e =
+        sym (ap (λ x. (exclusive h && is_object o h.object) || x) (and_false (exclusive new && is_object o new.object))
+        ∙ or_none (exclusive h && is_object o h.object))
 
 owned_merged : (new : Claim) (held : List Claim) (o : Object)
     → has (owned (map (merged new) held)) o ≡ (has (owned held) o || ((exclusive new && is_object o new.object) && has (objects held) new.object))
@@ -102,18 +107,21 @@ seen_one held new o = by_test (has (objects held) new.object) refl
       where
         within : (x : Bool) → is_object o new.object ≡ x → has (objects held) o ≡ (has (objects held) o || x)
         within false f = sym (or_none (has (objects held) o))
-        within true f = ap (has (objects held)) (same_object o new.object f) ∙ e ∙ sym (ap (λ y. y || true) (ap (has (objects held)) (same_object o new.object f) ∙ e))
+        within true f =
+            ap (has (objects held)) (same_object o new.object f) ∙ e ∙ sym (ap (λ y. y || true) (ap (has (objects held)) (same_object o new.object f) ∙ e))
     by_test false e =
         ap (λ l. has l o) (objects_append held (new ∷ [])) ∙ list_any-append (is_object o) (objects held) (new.object ∷ [])
         ∙ ap (λ x. has (objects held) o || x) (or_none (is_object o new.object))
 
-owned_one : (held : List Claim) (new : Claim) (o : Object) → has (owned (holding_one held new)) o ≡ (has (owned held) o || (exclusive new && is_object o new.object))
+owned_one : (held : List Claim) (new : Claim) (o : Object)
+    → has (owned (holding_one held new)) o ≡ (has (owned held) o || (exclusive new && is_object o new.object))
 owned_one held new o = by_test (has (objects held) new.object) refl
   where
     by_test : (b : Bool) → has (objects held) new.object ≡ b
         → has (owned (if b then map (merged new) held else held ++ new ∷ [])) o ≡ (has (owned held) o || (exclusive new && is_object o new.object))
     by_test true e =
-        owned_merged new held o ∙ ap (λ x. has (owned held) o || ((exclusive new && is_object o new.object) && x)) e ∙ ap (λ x. has (owned held) o || x) (and_true (exclusive new && is_object o new.object))
+        owned_merged new held o ∙ ap (λ x. has (owned held) o || ((exclusive new && is_object o new.object) && x)) e
+        ∙ ap (λ x. has (owned held) o || x) (and_true (exclusive new && is_object o new.object))
     by_test false e =
         ap (λ l. has l o) (owned_append held (new ∷ [])) ∙ list_any-append (is_object o) (owned held) (owned (new ∷ []))
         ∙ ap (λ x. has (owned held) o || x) (has_owned_cons new [] o ∙ or_none (exclusive new && is_object o new.object))
@@ -122,23 +130,33 @@ owned_one held new o = by_test (has (objects held) new.object) refl
 seen_all : (held claims : List Claim) (o : Object) → has (objects (holding held claims)) o ≡ (has (objects held) o || has (objects claims) o)
 seen_all held [] o = sym (or_none (has (objects held) o))
 seen_all held (c ∷ claims) o =
-    seen_all (holding_one held c) claims o ∙ ap (λ x. x || has (objects claims) o) (seen_one held c o) ∙ or_assoc (has (objects held) o) (is_object o c.object) (has (objects claims) o)
+    seen_all (holding_one held c) claims o ∙ ap (λ x. x || has (objects claims) o) (seen_one held c o)
+    ∙ or_assoc (has (objects held) o) (is_object o c.object) (has (objects claims) o)
 
 owned_all : (held claims : List Claim) (o : Object) → has (owned (holding held claims)) o ≡ (has (owned held) o || has (owned claims) o)
 owned_all held [] o = sym (or_none (has (owned held) o))
 owned_all held (c ∷ claims) o =
     owned_all (holding_one held c) claims o ∙ ap (λ x. x || has (owned claims) o) (owned_one held c o)
-    ∙ or_assoc (has (owned held) o) (exclusive c && is_object o c.object) (has (owned claims) o) ∙ ap (λ x. has (owned held) o || x) (sym (has_owned_cons c claims o))
+    ∙ or_assoc (has (owned held) o) (exclusive c && is_object o c.object) (has (owned claims) o)
+    ∙ ap (λ x. has (owned held) o || x) (sym (has_owned_cons c claims o))
 
 -- two lists that pass the same tests have the same
 same_lists : (a b : List Object) (o : Object) → has a o ≡ has b o → Contains a o → Contains b o
 same_lists a b o e at = Contains-from_any same_object o b (sym e ∙ found a o at)
 
+-- the objects that are held are those that were claimed
 pub held_seen : (claims : List Claim) (o : Object) → Contains (objects (held_of claims)) o ↔ Contains (objects claims) o
-held_seen claims o = (same_lists (objects (held_of claims)) (objects claims) o (seen_all [] claims o), same_lists (objects claims) (objects (held_of claims)) o (sym (seen_all [] claims o)))
+held_seen claims o = (
+  same_lists (objects (held_of claims)) (objects claims) o (seen_all [] claims o),
+  same_lists (objects claims) (objects (held_of claims)) o (sym (seen_all [] claims o)),
+)
 
+-- the objects that are owned by what is held are those that the claims own
 pub held_owned : (claims : List Claim) (o : Object) → Contains (owned (held_of claims)) o ↔ Contains (owned claims) o
-held_owned claims o = (same_lists (owned (held_of claims)) (owned claims) o (owned_all [] claims o), same_lists (owned claims) (owned (held_of claims)) o (sym (owned_all [] claims o)))
+held_owned claims o = (
+  same_lists (owned (held_of claims)) (owned claims) o (owned_all [] claims o),
+  same_lists (owned claims) (owned (held_of claims)) o (sym (owned_all [] claims o)),
+)
 
 -- ---- each once
 or_parts : (a b : Bool) → (a || b) ≡ false → (a ≡ false) × (b ≡ false)
@@ -173,9 +191,11 @@ once_all : (held claims : List Claim) → AreOnceAtMost (objects held) → AreOn
 once_all held [] once = once
 once_all held (c ∷ claims) once = once_all (holding_one held c) claims (once_one held c once)
 
+-- no object is held twice
 pub held_once : (claims : List Claim) → AreOnceAtMost (objects (held_of claims))
 held_once claims = once_all [] claims (λ o. omega arith)
 
+-- an object is in a list of held ones where a claim of them is on it
 pub has_object : (o : Object) (held : List Claim) → has (objects held) o ≡ list_any (λ (h : Claim). is_object o h.object) held
 has_object o [] = refl
 has_object o (h ∷ held) = ap (λ b. is_object o h.object || b) (has_object o held)

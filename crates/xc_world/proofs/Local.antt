@@ -31,18 +31,22 @@ counted_alike objects w v c s t alike =
 -- what passed all checks touches its objects
 passed : (a b c d : Bool) (objects : List Object) → a ≡ false → b ≡ false → c ≡ false → d ≡ false → (if a || b || c || d then [] else objects) ≡ objects
 passed a b c d objects p q r s =
-    ap (λ x. if x || b || c || d then [] else objects) p ∙ ap (λ x. if x || c || d then [] else objects) q ∙ ap (λ x. if x || d then [] else objects) r ∙ ap (λ x. if x then [] else objects) s
+    ap (λ x. if x || b || c || d then [] else objects) p ∙ ap (λ x. if x || c || d then [] else objects) q ∙ ap (λ x. if x || d then [] else objects) r
+    ∙ ap (λ x. if x then [] else objects) s
 
 -- each object that is not in the list is as before, on both sides; the others agree afterwards
-pub act_alike : (w v : World) (me : Private) (tx : ℕ) (c : Call) (a : Answer) → length w.words ≡ length v.words → All (AgreeAt w v) (touch c me (length w.words) ++ made_by c me tx)
+pub act_alike : (w v : World) (me : Private) (tx : ℕ) (c : Call) (a : Answer) → length w.words ≡ length v.words
+    → All (AgreeAt w v) (touch c me (length w.words) ++ made_by c me tx)
     → ActsAlike (touch c me (length w.words) ++ made_by c me tx) w v (act w me tx c a) (act v me tx c a)
 act_alike w v me tx c a count agree =
     let P = ActsAlike (touch c me (length w.words) ++ made_by c me tx) w v in
     both_so P (is_bad_handle c me) (is_bad_handle c me) _ _ _ _ refl (λ _. quiet _ w v me reply.BadHandle agree) (λ handle.
     both_so P (is_too_big c) (is_too_big c) _ _ _ _ refl (λ _. quiet _ w v me reply.TooBig agree) (λ size.
     both_so P (is_too_much c me) (is_too_much c me) _ _ _ _ refl (λ _. quiet _ w v me reply.TooMuch agree) (λ few.
-    both_so P (is_bad_word c (length w.words)) (is_bad_word c (length v.words)) _ _ _ _ (ap (is_bad_word c) count) (λ _. quiet _ w v me reply.BadWord agree) (λ word.
-    let e : touch c me (length w.words) ≡ objects_of_call c me = passed (is_bad_handle c me) (is_too_big c) (is_too_much c me) (is_bad_word c (length w.words)) (objects_of_call c me) handle size few word in
+    both_so P (is_bad_word c (length w.words)) (is_bad_word c (length v.words)) _ _ _ _ (ap (is_bad_word c) count)
+    (λ _. quiet _ w v me reply.BadWord agree) (λ word.
+    let e : touch c me (length w.words) ≡ objects_of_call c me =
+    passed (is_bad_handle c me) (is_too_big c) (is_too_much c me) (is_bad_word c (length w.words)) (objects_of_call c me) handle size few word in
     subst (λ l. ActsAlike (l ++ made_by c me tx) w v (counted c (done w me tx c a)) (counted c (done v me tx c a))) (sym e)
     (counted_alike _ w v c (done w me tx c a) (done v me tx c a) (done_alike w v me tx c a (subst (λ l. All (AgreeAt w v) (l ++ made_by c me tx)) e agree)))))))
 
@@ -50,6 +54,7 @@ act_alike w v me tx c a count agree =
 one_agrees : (w v : World) (o : Object) → AgreeAt w v o → All (AgreeAt w v) (o ∷ [])
 one_agrees w v o e = All-cons (AgreeAt w v) o [] e (All-nil (AgreeAt w v))
 
+-- worlds where the next number is free agree on what a call makes
 pub made_agree : (w v : World) (me : Private) (tx : ℕ) (c : Call) → IsFree w (next_num me tx) → IsFree v (next_num me tx) → All (AgreeAt w v) (made_by c me tx)
 made_agree w v me tx (call.XCreate name) a b = one_agrees w v (object.File (next_num me tx)) (a.file ∙ sym b.file)
 made_agree w v me tx call.XPipe a b = one_agrees w v (object.Pipe (next_num me tx)) (a.pipe ∙ sym b.pipe)

@@ -16,6 +16,7 @@ use Rattle.xc_world.specs.Laws.{AgreeAt}
 same_num : (n m : Num) → is_object (object.File n) (object.File m) ≡ true → n ≡ m
 same_num n m e = grind arith
 
+-- objects that the test calls equal are the same
 pub same_object : (a b : Object) → is_object a b ≡ true → a ≡ b
 same_object (object.Word i) (object.Word j) e = grind arith
 same_object (object.Name n) (object.Name m) e = ap object.Name (same_text n m (sym e))
@@ -39,9 +40,11 @@ itself object.Jobs = refl
 true_not_false : true ≡ false → ⊥
 true_not_false e = cc
 
+-- the test finds an object that is in a list
 pub found : (objects : List Object) (o : Object) → Contains objects o → list_any (is_object o) objects ≡ true
 found objects o at = list_any_at (is_object o) objects at.0 o at.1 (subst (λ x. is_object o x ≡ true) (sym at.2) (itself o))
 
+-- an object is in a list or is not
 pub decide : (objects : List Object) (o : Object) → Contains objects o ⊎ (Contains objects o → ⊥)
 decide objects o = by_test (list_any (is_object o) objects) refl
   where
@@ -58,6 +61,7 @@ agree_back w v (object.Pipe num) e = sym e
 agree_back w v (object.Pair num) e = sym e
 agree_back w v object.Jobs e = sym e
 
+-- where one world agrees with another, and that with a third, the first agrees with the third
 pub agree_on : (w v x : World) (o : Object) → AgreeAt w v o → AgreeAt v x o → AgreeAt w x o
 agree_on w v x (object.Word at) e f = e ∙ f
 agree_on w v x (object.Name name) e f = e ∙ f

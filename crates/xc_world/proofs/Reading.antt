@@ -21,6 +21,7 @@ use Rattle.xc_world.proofs.UndoingBody.{act-cases}
 use Rattle.xc_data.specs.declared.claim.Mode.TheVariants.{Shared}
 use Rattle.xc_world.specs.Modes.{mode_of}
 
+-- a call leaves the world as it is
 abbrev pub Leaves : World → Stepped → Type 0
 Leaves w s = s.world ≡ w
 
@@ -55,5 +56,6 @@ done_leaves w me tx (call.XSync h slot) answer.Fine shared = refl
 done_leaves w me tx (call.XSync h slot) (answer.Fault n) shared = refl
 done_leaves w me tx c a shared = cc
 
+-- a call that claims nothing exclusively leaves the world as it is
 pub act_leaves : (w : World) (me : Private) (tx : ℕ) (c : Call) (a : Answer) → mode_of c ≡ Shared → (act w me tx c a).world ≡ w
 act_leaves w me tx c a shared = act-cases w me tx c a (Leaves w) refl refl refl refl (done_leaves w me tx c a shared)

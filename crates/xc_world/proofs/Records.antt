@@ -33,7 +33,8 @@ use Rattle.xc_world.proofs.Calls.{agreed, still_agree, keeps_itself}
 use Rattle.xc_world.proofs.Bodies.{keeps_on}
 
 -- ---- what is taken away
-removed_alike : {K X : Type 0} {R : K → K → Ordering} (o : IsTotalOrder R) (m n : FinMap R X) (k q : K) → map.get m q ≡ map.get n q → map.get (map.remove m k) q ≡ map.get (map.remove n k) q
+removed_alike : {K X : Type 0} {R : K → K → Ordering} (o : IsTotalOrder R) (m n : FinMap R X) (k q : K) → map.get m q ≡ map.get n q
+    → map.get (map.remove m k) q ≡ map.get (map.remove n k) q
 removed_alike {R = R} o m n k q e = map.get-remove o m k q ∙ ap (cond (eq_by_cmp R q k) None) e ∙ sym (map.get-remove o n k q)
 
 two : {X : Type 0} (as_object : X → Object) (objects : List Object) (a b : X) → Contains objects (as_object a) → (Contains objects (as_object b) → ⊥) → b ≢ a
@@ -47,9 +48,12 @@ unmade_kept w v name num (object.Name q) e = removed_alike nat_list_cmp_total w.
 unmade_kept w v name num (object.File q) e = removed_alike num_total w.files v.files num q e
 unmade_kept w v name num _ e = e
 
-unmade_left : (w : World) (objects : List Object) (name : List ℕ) (num : Num) → Contains objects (object.Name name) → Contains objects (object.File num) → (o : Object) → (Contains objects o → ⊥) → AgreeAt w (unmade w name num) o
-unmade_left w objects name num named has (object.Name q) lacks = sym (get-remove_other nat_list_cmp_total exact_bytes w.names name q (two object.Name objects name q named lacks))
-unmade_left w objects name num named has (object.File q) lacks = sym (get-remove_other num_total num_exact w.files num q (two object.File objects num q has lacks))
+unmade_left : (w : World) (objects : List Object) (name : List ℕ) (num : Num) → Contains objects (object.Name name) → Contains objects (object.File num)
+    → (o : Object) → (Contains objects o → ⊥) → AgreeAt w (unmade w name num) o
+unmade_left w objects name num named has (object.Name q) lacks =
+    sym (get-remove_other nat_list_cmp_total exact_bytes w.names name q (two object.Name objects name q named lacks))
+unmade_left w objects name num named has (object.File q) lacks =
+    sym (get-remove_other num_total num_exact w.files num q (two object.File objects num q has lacks))
 unmade_left w objects name num named has (object.Word at) lacks = refl
 unmade_left w objects name num named has (object.Pipe q) lacks = refl
 unmade_left w objects name num named has (object.Pair q) lacks = refl
@@ -62,7 +66,8 @@ no_pipe_kept : (w v : World) (num : Num) (o : Object) → AgreeAt w v o → Agre
 no_pipe_kept w v num (object.Pipe q) e = removed_alike num_total w.pipes v.pipes num q e
 no_pipe_kept w v num _ e = e
 
-no_pipe_left : (w : World) (objects : List Object) (num : Num) → Contains objects (object.Pipe num) → (o : Object) → (Contains objects o → ⊥) → AgreeAt w (without_pipe w num) o
+no_pipe_left : (w : World) (objects : List Object) (num : Num) → Contains objects (object.Pipe num) → (o : Object) → (Contains objects o → ⊥)
+    → AgreeAt w (without_pipe w num) o
 no_pipe_left w objects num has (object.Pipe q) lacks = sym (get-remove_other num_total num_exact w.pipes num q (two object.Pipe objects num q has lacks))
 no_pipe_left w objects num has (object.Word at) lacks = refl
 no_pipe_left w objects num has (object.Name q) lacks = refl
@@ -77,7 +82,8 @@ no_pair_kept : (w v : World) (num : Num) (o : Object) → AgreeAt w v o → Agre
 no_pair_kept w v num (object.Pair q) e = removed_alike num_total w.pairs v.pairs num q e
 no_pair_kept w v num _ e = e
 
-no_pair_left : (w : World) (objects : List Object) (num : Num) → Contains objects (object.Pair num) → (o : Object) → (Contains objects o → ⊥) → AgreeAt w (without_pair w num) o
+no_pair_left : (w : World) (objects : List Object) (num : Num) → Contains objects (object.Pair num) → (o : Object) → (Contains objects o → ⊥)
+    → AgreeAt w (without_pair w num) o
 no_pair_left w objects num has (object.Pair q) lacks = sym (get-remove_other num_total num_exact w.pairs num q (two object.Pair objects num q has lacks))
 no_pair_left w objects num has (object.Word at) lacks = refl
 no_pair_left w objects num has (object.Name q) lacks = refl
@@ -87,12 +93,14 @@ no_pair_left w objects num has object.Jobs lacks = refl
 
 -- ---- a file that is changed by its own bytes, a name that moves
 changed_file : (w v : World) (num : Num) (f : List ℕ → List ℕ) → All (AgreeAt w v) (object.File num ∷ [])
-    → GoAlike (object.File num ∷ []) w v (record w { files = map.insert w.files num (f (file_of w num)) }) (record v { files = map.insert v.files num (f (file_of v num)) })
+    → GoAlike (object.File num ∷ []) w v (record w { files = map.insert w.files num (f (file_of w num)) })
+    (record v { files = map.insert v.files num (f (file_of v num)) })
 changed_file w v num f agree =
     let has = first_in (object.File num) [] in
     file_alike (object.File num ∷ []) w v num (f (file_of w num)) (f (file_of v num)) (ap f (same_file (object.File num ∷ []) w v num has agree)) has agree
 
-moves_alike : (objects : List Object) (w v : World) (from to : List ℕ) (o q : Option Num) → o ≡ q → Contains objects (object.Name from) → Contains objects (object.Name to) → All (AgreeAt w v) objects
+moves_alike : (objects : List Object) (w v : World) (from to : List ℕ) (o q : Option Num) → o ≡ q → Contains objects (object.Name from)
+    → Contains objects (object.Name to) → All (AgreeAt w v) objects
     → GoAlike objects w v (move_name w from to o) (move_name v from to q)
 moves_alike objects w v from to o q e old new agree = subst (λ x. GoAlike objects w v (move_name w from to o) (move_name v from to x)) e (same o)
   where
@@ -106,7 +114,8 @@ effect_alike w v (Bytes file at before after n) k agree = changed_file w v file 
 effect_alike w v (Tail file from after n) k agree = changed_file w v file (λ bytes. bytes ++ drop k (take n after)) agree
 effect_alike w v (Made name num) k agree =
     let file = object.File num in
-    new_alike (object.Name name ∷ file ∷ []) w v name num (first_in (object.Name name) (file ∷ [])) (later_in (object.Name name) file (file ∷ []) (first_in file [])) agree
+    new_alike (object.Name name ∷ file ∷ []) w v name num (first_in (object.Name name) (file ∷ []))
+    (later_in (object.Name name) file (file ∷ []) (first_in file [])) agree
 effect_alike w v (Moved from to) k agree =
     let L = object.Name from ∷ object.Name to ∷ [] in
     let old = first_in (object.Name from) (object.Name to ∷ []) in
@@ -140,14 +149,17 @@ undone_alike w v (NewPair num) agree =
 -- a front that is restored
 restored_alike : (w v : World) (u : Undo) (n : ℕ) → All (AgreeAt w v) (objects_of u) → GoAlike (objects_of u) w v (restored w u n) (restored v u n)
 restored_alike w v (Bytes file at before after n) k agree =
-    both_so (GoAlike (object.File file ∷ []) w v) (k == 0) (k == 0) _ _ _ _ refl (λ _. same_alike _ w v agree) (λ _. changed_file w v file (overwritten at (take k before)) agree)
+    both_so (GoAlike (object.File file ∷ []) w v) (k == 0) (k == 0) _ _ _ _ refl (λ _. same_alike _ w v agree)
+    (λ _. changed_file w v file (overwritten at (take k before)) agree)
 restored_alike w v (Tail file from after n) k agree = same_alike _ w v agree
 restored_alike w v (Made name num) k agree = same_alike _ w v agree
 restored_alike w v (Moved from to) k agree = same_alike _ w v agree
 restored_alike w v (NewPipe num) k agree = same_alike _ w v agree
 restored_alike w v (NewPair num) k agree = same_alike _ w v agree
 
-pub undone_to_alike : (w v : World) (u : Undo) (end : UndoEnd) → All (AgreeAt w v) (objects_of u) → GoAlike (objects_of u) w v (undone_to w u end) (undone_to v u end)
+-- a compensation depends on its record's objects alone, and changes no other
+pub undone_to_alike : (w v : World) (u : Undo) (end : UndoEnd) → All (AgreeAt w v) (objects_of u)
+    → GoAlike (objects_of u) w v (undone_to w u end) (undone_to v u end)
 undone_to_alike w v u (Undone faults) agree = undone_alike w v u agree
 undone_to_alike w v u (Failed n faults) agree = restored_alike w v u n agree
 undone_to_alike w v u (Blocked by) agree = same_alike (objects_of u) w v agree
@@ -160,13 +172,16 @@ IsOf P u = All P (objects_of u.0)
 of_one : (P : Object → Type 0) (u : Undo × ℕ) → IsOf P u → (o : Object) → Contains (objects_of u.0) o → P o
 of_one P u of o at = All-contains P (objects_of u.0) o of at
 
-pub remains_agree : (P : Object → Type 0) (w v : World) (us : List (Undo × ℕ)) → All (IsOf P) us → AgreeOn P w v → AgreeOn P (with_remains w us) (with_remains v us)
+-- worlds that agree on a kind of objects agree on it with what remains of records of these
+pub remains_agree : (P : Object → Type 0) (w v : World) (us : List (Undo × ℕ)) → All (IsOf P) us → AgreeOn P w v
+    → AgreeOn P (with_remains w us) (with_remains v us)
 remains_agree P w v [] of agree = agree
 remains_agree P w v ((u, k) ∷ us) of agree =
     let one = of_one P (u, k) (All-head (IsOf P) (u, k) us of) in
     remains_agree P (with_effect w u k) (with_effect v u k) us (All-tail (IsOf P) (u, k) us of)
     (still_agree P w v (with_effect w u k) (with_effect v u k) (objects_of u) (effect_alike w v u k (agreed P w v (objects_of u) agree one)) agree)
 
+-- what remains keeps all but the objects of its records
 pub remains_keep : (P : Object → Type 0) (w : World) (us : List (Undo × ℕ)) → All (IsOf P) us → KeepsBut P w (with_remains w us)
 remains_keep P w [] of = keeps_itself P w
 remains_keep P w ((u, k) ∷ us) of =
@@ -176,9 +191,12 @@ remains_keep P w ((u, k) ∷ us) of =
     (record { others = λ o lacks. went.others o (λ at. lacks (one o at)); count = went.count; blocks = went.blocks })
     (remains_keep P (with_effect w u k) us (All-tail (IsOf P) (u, k) us of))
 
+-- the same of what a transaction owns
 pub remains_agree_own : (tx : ℕ) (claims : List Claim) (w v : World) (us : List (Undo × ℕ)) → All (IsOf (Owns tx claims)) us → AgreeOn (Owns tx claims) w v
     → AgreeOn (Owns tx claims) (with_remains w us) (with_remains v us)
 remains_agree_own tx claims w v us of agree = remains_agree (Owns tx claims) w v us of agree
 
-pub remains_keep_own : (tx : ℕ) (claims : List Claim) (w : World) (us : List (Undo × ℕ)) → All (IsOf (Owns tx claims)) us → KeepsBut (Owns tx claims) w (with_remains w us)
+-- what remains of a transaction's records keeps all but what it owns
+pub remains_keep_own : (tx : ℕ) (claims : List Claim) (w : World) (us : List (Undo × ℕ)) → All (IsOf (Owns tx claims)) us
+    → KeepsBut (Owns tx claims) w (with_remains w us)
 remains_keep_own tx claims w us of = remains_keep (Owns tx claims) w us of

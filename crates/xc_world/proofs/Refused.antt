@@ -127,6 +127,7 @@ done_refused : (w : World) (me : Private) (tx : ℕ) (c : Call) (a : Answer) →
 done_refused w me tx c answer.Fine = fine_refused w me tx c
 done_refused w me tx c (answer.Fault n) = faulty_refused w me c n
 
+-- a refused call leaves the world as it is
 pub act_refused : (w : World) (me : Private) (tx : ℕ) (c : Call) (a : Answer) → IsTrue (is_refusal (act w me tx c a).reply) → (act w me tx c a).world ≡ w
 act_refused w me tx c a =
     chosen_so (StaysRefused w) (is_bad_handle c me) _ _ (λ _ _. refl) (λ _.

@@ -36,12 +36,14 @@ keeps_listed own w c a has =
     let went = (late_alike w w c a refl (anywhere w (late_objects c))).worlds.left in
     record { others = λ o lacks. went.others o (λ at. lacks (All-contains own (late_objects c) o has at)); count = went.count; blocks = went.blocks }
 
+-- a late call keeps all but what it may change
 pub late_keeps : (own : Object → Type 0) (w : World) (c : LateCall) (a : LateAnswer) → All own (late_changes c) → KeepsBut own w (late w c a).world
 late_keeps own w (Sync num) late_answer.Fine has = keeps_itself own w
 late_keeps own w (Sync num) (late_answer.Fault n) has = keeps_itself own w
 late_keeps own w (Sync num) (late_answer.NoMemory n) has = keeps_itself own w
 late_keeps own w c a has = keeps_listed own w c a has
 
+-- a late call keeps all objects that it may not change
 pub late_keeps_others : (w : World) (c : LateCall) (a : LateAnswer) → KeepsBut (Contains (late_changes c)) w (late w c a).world
 late_keeps_others w c a = late_keeps (Contains (late_changes c)) w c a (All-contains_itself (late_changes c))
 
@@ -49,9 +51,11 @@ late_keeps_others w c a = late_keeps (Contains (late_changes c)) w c a (All-cont
 pub late_fits_alike : (w v : World) (c : LateCall) (a : LateAnswer) → All (AgreeAt w v) (late_objects c) → late_fits w c a ≡ late_fits v c a
 late_fits_alike w v c late_answer.Fine agree = refl
 late_fits_alike w v (WritePipe num bytes) (late_answer.Fault n) agree =
-    ap (λ (p : Pipe). if n == 0 then true else not p.shut && nat_lt n (min (length bytes) (room p))) (same_pipe (object.Pipe num ∷ []) w v num (first_in (object.Pipe num) []) agree)
+    ap (λ (p : Pipe). if n == 0 then true else not p.shut && nat_lt n (min (length bytes) (room p)))
+    (same_pipe (object.Pipe num ∷ []) w v num (first_in (object.Pipe num) []) agree)
 late_fits_alike w v (WritePipe num bytes) (late_answer.NoMemory n) agree =
-    ap (λ (p : Pipe). if n == 0 then true else not p.shut && nat_lt n (min (length bytes) (room p))) (same_pipe (object.Pipe num ∷ []) w v num (first_in (object.Pipe num) []) agree)
+    ap (λ (p : Pipe). if n == 0 then true else not p.shut && nat_lt n (min (length bytes) (room p)))
+    (same_pipe (object.Pipe num ∷ []) w v num (first_in (object.Pipe num) []) agree)
 late_fits_alike w v c a agree = refl
 
 -- an answer that fits a late call tells of no more bytes than the call carries
@@ -66,18 +70,24 @@ late_within w call (late_answer.NoMemory n) fit = grind arith
 abbrev pub Within : (Object → Type 0) → (Object → Type 0) → LateCall × LateAnswer → Type 0
 Within sees own c = LooksWithin sees own c.0
 
+-- late calls that end the same in two worlds, that leave both agreeing on what is seen, and that the same answers fit
 pub record EndAlike (sees own : Object → Type 0) (w v : World) (asked : List (LateCall × LateAnswer)) : Type 0 where
   pub ends : (lates w asked).ends ≡ (lates v asked).ends
   pub agree : AgreeOn sees (lates w asked).world (lates v asked).world
   pub fits : lates_fit w asked ≡ lates_fit v asked
 
-pub lates_keep : (sees own : Object → Type 0) (w : World) (asked : List (LateCall × LateAnswer)) → All (Within sees own) asked → KeepsBut own w (lates w asked).world
+-- late calls keep all but their own objects
+pub lates_keep : (sees own : Object → Type 0) (w : World) (asked : List (LateCall × LateAnswer)) → All (Within sees own) asked
+    → KeepsBut own w (lates w asked).world
 lates_keep sees own w [] within = keeps_itself own w
 lates_keep sees own w ((c, a) ∷ asked) within =
     let e = late w c a in
-    keeps_on own w e.world (lates e.world asked).world (late_keeps own w c a (All-head (Within sees own) (c, a) asked within).changes) (lates_keep sees own e.world asked (All-tail (Within sees own) (c, a) asked within))
+    keeps_on own w e.world (lates e.world asked).world (late_keeps own w c a (All-head (Within sees own) (c, a) asked within).changes)
+    (lates_keep sees own e.world asked (All-tail (Within sees own) (c, a) asked within))
 
-pub lates_alike : (sees own : Object → Type 0) (w v : World) (asked : List (LateCall × LateAnswer)) → w.blocks ≡ v.blocks → AgreeOn sees w v → All (Within sees own) asked → EndAlike sees own w v asked
+-- late calls end alike in worlds that agree on what they look at
+pub lates_alike : (sees own : Object → Type 0) (w v : World) (asked : List (LateCall × LateAnswer)) → w.blocks ≡ v.blocks → AgreeOn sees w v
+    → All (Within sees own) asked → EndAlike sees own w v asked
 lates_alike sees own w v [] blocks agree within = record { ends = refl; agree = agree; fits = refl }
 lates_alike sees own w v ((c, a) ∷ asked) blocks agree within =
     let e = late w c a in
@@ -90,29 +100,37 @@ lates_alike sees own w v ((c, a) ∷ asked) blocks agree within =
     record { ends = ap₂ (λ x xs. x ∷ xs) ended.end rest.ends; agree = rest.agree; fits = ap₂ (λ x y. x && y) (late_fits_alike w v c a both) rest.fits }
 
 -- the late calls with their answers
-asked_within : (sees own : Object → Type 0) (calls : List LateCall) (ends : List LateEnd) → All (LooksWithin sees own) calls → All (Within sees own) (late_asked_of calls ends)
+asked_within : (sees own : Object → Type 0) (calls : List LateCall) (ends : List LateEnd) → All (LooksWithin sees own) calls
+    → All (Within sees own) (late_asked_of calls ends)
 asked_within sees own [] ends within = All-nil (Within sees own)
 asked_within sees own (c ∷ calls) [] within =
-    All-cons (Within sees own) (c, late_answer.Fine) (late_asked_of calls []) (All-head (LooksWithin sees own) c calls within) (asked_within sees own calls [] (All-tail (LooksWithin sees own) c calls within))
+    All-cons (Within sees own) (c, late_answer.Fine) (late_asked_of calls []) (All-head (LooksWithin sees own) c calls within)
+    (asked_within sees own calls [] (All-tail (LooksWithin sees own) c calls within))
 asked_within sees own (c ∷ calls) (e ∷ ends) within =
-    All-cons (Within sees own) (c, late_answer_of e) (late_asked_of calls ends) (All-head (LooksWithin sees own) c calls within) (asked_within sees own calls ends (All-tail (LooksWithin sees own) c calls within))
+    All-cons (Within sees own) (c, late_answer_of e) (late_asked_of calls ends) (All-head (LooksWithin sees own) c calls within)
+    (asked_within sees own calls ends (All-tail (LooksWithin sees own) c calls within))
 
 -- ---- the run
-pub run_keeps : (w : World) (me : Private) (tx : ℕ) (asked : List Asked) (ends : List LateEnd) → KeepsBut (Owns tx (body w me tx asked).touched) w (body w me tx asked).world
+pub run_keeps : (w : World) (me : Private) (tx : ℕ) (asked : List Asked) (ends : List LateEnd)
+    → KeepsBut (Owns tx (body w me tx asked).touched) w (body w me tx asked).world
     → KeepsBut (Owns tx (body w me tx asked).touched) w (run w me tx asked ends).late.world
 run_keeps w me tx asked ends left =
     let ran = body w me tx asked in
     let within = asked_within (Sees tx ran.touched) (Owns tx ran.touched) ran.late ends (body_speaks w me tx asked).late in
-    keeps_on _ w ran.world (run w me tx asked ends).late.world left (lates_keep (Sees tx ran.touched) (Owns tx ran.touched) ran.world (late_asked_of ran.late ends) within)
+    keeps_on _ w ran.world (run w me tx asked ends).late.world left
+    (lates_keep (Sees tx ran.touched) (Owns tx ran.touched) ran.world (late_asked_of ran.late ends) within)
 
 module _ (w v : World) (me : Private) (tx : ℕ) (asked : List Asked) (ends : List LateEnd) where
   late_part : w.blocks ≡ v.blocks → RanAlike tx w v (body w me tx asked) (body v me tx asked)
-      → EndAlike (Sees tx (body w me tx asked).touched) (Owns tx (body w me tx asked).touched) (body w me tx asked).world (body v me tx asked).world (late_asked_of (body w me tx asked).late ends)
+      → EndAlike (Sees tx (body w me tx asked).touched) (Owns tx (body w me tx asked).touched) (body w me tx asked).world (body v me tx asked).world
+      (late_asked_of (body w me tx asked).late ends)
   late_part blocks so =
       let ran = body w me tx asked in
-      lates_alike (Sees tx ran.touched) (Owns tx ran.touched) ran.world (body v me tx asked).world (late_asked_of ran.late ends) (so.left.blocks ∙ blocks ∙ sym so.right.blocks) so.agree
+      lates_alike (Sees tx ran.touched) (Owns tx ran.touched) ran.world (body v me tx asked).world (late_asked_of ran.late ends)
+      (so.left.blocks ∙ blocks ∙ sym so.right.blocks) so.agree
       (asked_within (Sees tx ran.touched) (Owns tx ran.touched) ran.late ends (body_speaks w me tx asked).late)
 
+  -- a run gives the same in worlds with the same blocks that agree on what its body touches and on its numbers
   pub run_alike : length w.words ≡ length v.words → w.blocks ≡ v.blocks → All (AgreeAt w v) (objects (body w me tx asked).touched) → AgreeOn (IsNumbered tx) w v
       → RunAlike tx w v (run w me tx asked ends) (run v me tx asked ends)
   run_alike count blocks touched numbered =
@@ -122,12 +140,16 @@ module _ (w v : World) (me : Private) (tx : ℕ) (asked : List Asked) (ends : Li
       record {
         body = so;
         ends = done.ends ∙ ap (λ calls. (lates there (late_asked_of calls ends)).ends) so.gave.late;
-        agree = subst (λ calls. AgreeOn (Sees tx (body w me tx asked).touched) (run w me tx asked ends).late.world (lates there (late_asked_of calls ends)).world) so.gave.late done.agree;
+        agree =
+            subst (λ calls. AgreeOn (Sees tx (body w me tx asked).touched) (run w me tx asked ends).late.world
+            (lates there (late_asked_of calls ends)).world) so.gave.late done.agree;
         left = run_keeps w me tx asked ends so.left;
         right = run_keeps v me tx asked ends so.right;
       }
 
-  pub run_fits_alike : length w.words ≡ length v.words → w.blocks ≡ v.blocks → All (AgreeAt w v) (objects (body w me tx asked).touched) → AgreeOn (IsNumbered tx) w v
+  -- the same answers fit a run in worlds with the same blocks that agree on what its body touches and on its numbers
+  pub run_fits_alike : length w.words ≡ length v.words → w.blocks ≡ v.blocks → All (AgreeAt w v) (objects (body w me tx asked).touched)
+      → AgreeOn (IsNumbered tx) w v
       → run_fits w me tx asked ends ≡ run_fits v me tx asked ends
   run_fits_alike count blocks touched numbered =
       let so = body_alike w v me tx asked count touched numbered in
@@ -135,9 +157,11 @@ module _ (w v : World) (me : Private) (tx : ℕ) (asked : List Asked) (ends : Li
       ((late_part blocks so).fits ∙ ap (λ calls. lates_fit (body v me tx asked).world (late_asked_of calls ends)) so.gave.late)
 
 -- ---- a run of another, which owns nothing that the body sees
-pub kept_for_others : (tx ty : ℕ) (w x : World) (seen owned : List Claim) → KeepsBut (Owns ty owned) w x → ((o : Object) → Sees tx seen o → Owns ty owned o → ⊥) → AgreeOn (Sees tx seen) w x
+pub kept_for_others : (tx ty : ℕ) (w x : World) (seen owned : List Claim) → KeepsBut (Owns ty owned) w x → ((o : Object) → Sees tx seen o → Owns ty owned o → ⊥)
+    → AgreeOn (Sees tx seen) w x
 kept_for_others tx ty w x seen owned keeps apart o sees = keeps.others o (apart o sees)
 
+-- a body gives the same after a run of another that owns nothing that the body sees
 pub other_run_apart : (w : World) (me you : Private) (tx ty : ℕ) (asked others : List Asked) (ends : List LateEnd)
     → ((o : Object) → Sees tx (body w me tx asked).touched o → Owns ty (body w you ty others).touched o → ⊥)
     → RanAlike tx w (run w you ty others ends).late.world (body w me tx asked) (body (run w you ty others ends).late.world me tx asked)

@@ -49,17 +49,20 @@ fine_well w me tx (call.Store at value) few s =
     let keeps = keeps_words true w (slice_set w.words at value) s.world in
     record { sound = kept_sound w _ me tx keeps refl s; grows = keeps_all w _ (next_num me tx) keeps refl; stored = refl; got = omega arith }
 fine_well w me tx (call.XOpen name) few s = opened_well w me tx name (map.get w.names name) (lowest_vacant me.places) refl s
-fine_well w me tx (call.XCreate name) few s = created_well w me tx name (map.get w.names name) (lowest_vacant me.places) (few_made me (is_none (lowest_vacant me.places)) few) s
+fine_well w me tx (call.XCreate name) few s =
+    created_well w me tx name (map.get w.names name) (lowest_vacant me.places) (few_made me (is_none (lowest_vacant me.places)) few) s
 fine_well w me tx (call.XRead h n) few s = read_well w me tx h n (place_of me.places h) (s.handles h) s
 fine_well w me tx (call.XWriteOvr h bytes) few s = overwrite_well w me tx h bytes (place_of me.places h) (s.handles h) s
 fine_well w me tx (call.XWriteSeq h bytes) few s = append_well w me tx h bytes (place_of me.places h) (s.handles h) s
 fine_well w me tx (call.XSeek h to) few s = seek_well w me tx h to (place_of me.places h) (s.handles h) s
 fine_well w me tx (call.XLen h) few s = len_well w me tx (place_of me.places h) s
 fine_well w me tx (call.XRename from to) few s = renamed_well w me tx from to (map.get w.names from) (map.get w.names to) refl s
-fine_well w me tx (call.XClose h) few s = record { sound = with_place_sound w me tx h Vacant tt s; grows = adds_nothing w (next_num me tx) s.world; stored = refl; got = omega arith }
+fine_well w me tx (call.XClose h) few s =
+    record { sound = with_place_sound w me tx h Vacant tt s; grows = adds_nothing w (next_num me tx) s.world; stored = refl; got = omega arith }
 fine_well w me tx call.XPipe few s = new_pipe_well w me tx (lowest_vacant me.places) (few_made me (is_none (lowest_vacant me.places)) few) s
 fine_well w me tx (call.XReadPipe h n) few s = read_pipe_well w me tx n (place_of me.places h) (s.handles h) s
-fine_well w me tx call.XPair few s = new_pair_well w me tx (lowest_vacant me.places) (two_vacant me few) (few_made me (nat_lt (count_by is_vacant me.places) 2) few) s
+fine_well w me tx call.XPair few s =
+    new_pair_well w me tx (lowest_vacant me.places) (two_vacant me few) (few_made me (nat_lt (count_by is_vacant me.places) 2) few) s
 fine_well w me tx (call.XRecvmsg h) few s = receive_well w me tx (place_of me.places h) (s.handles h) s
 fine_well w me tx _ few s = quiet w me tx 0 reply.Late (omega arith) s
 
@@ -79,16 +82,23 @@ front_at false t d l n is e = inr (stops_at d l n e)
 front_of : (r t d : Bool) (l n : ℕ) → (not r && (if n == 0 then t else (true && d && nat_lt n l))) ≡ true → (n ≡ 0) ⊎ ((d ≡ true) × (n < l))
 front_of r t d l n e = front_at (n == 0) t d l n refl (behind_test (not r) _ e)
 
-faulty_well : (w : World) (me : Private) (tx : ℕ) (c : Call) (n : ℕ) → IsTrue (fits w me tx c (answer.Fault n)) → IsSound w me tx → StepsWell w tx me (read_size c) (faulty w me c n)
+faulty_well : (w : World) (me : Private) (tx : ℕ) (c : Call) (n : ℕ) → IsTrue (fits w me tx c (answer.Fault n)) → IsSound w me tx
+    → StepsWell w tx me (read_size c) (faulty w me c n)
 faulty_well w me tx (call.XWriteOvr h bytes) n fit s =
-    let may = front_of (is_refused (call.XWriteOvr h bytes) me (length w.words)) (nat_le 1 (length bytes)) (is_done (overwrite_at w me h bytes (place_of me.places h)).reply) (length bytes) n fit in
+    let may =
+    front_of (is_refused (call.XWriteOvr h bytes) me (length w.words)) (nat_le 1 (length bytes))
+    (is_done (overwrite_at w me h bytes (place_of me.places h)).reply) (length bytes) n fit in
     overwrite_short_well w me tx h bytes n (place_of me.places h) (s.handles h) may s
 faulty_well w me tx (call.XWriteSeq h bytes) n fit s =
-    let may = front_of (is_refused (call.XWriteSeq h bytes) me (length w.words)) (nat_le 1 (length bytes)) (is_done (append_at w me h bytes (place_of me.places h)).reply) (length bytes) n fit in
+    let may =
+    front_of (is_refused (call.XWriteSeq h bytes) me (length w.words)) (nat_le 1 (length bytes))
+    (is_done (append_at w me h bytes (place_of me.places h)).reply) (length bytes) n fit in
     append_short_well w me tx h bytes n (place_of me.places h) (s.handles h) may s
 faulty_well w me tx c n fit s = quiet w me tx (read_size c) (reply.Fault n) (omega arith) s
 
-pub done_well : (w : World) (me : Private) (tx : ℕ) (c : Call) (a : Answer) → IsTrue (fits w me tx c a) → is_too_much c me ≡ false → IsSound w me tx → StepsWell w tx me (read_size c) (done w me tx c a)
+-- a call that passes steps well
+pub done_well : (w : World) (me : Private) (tx : ℕ) (c : Call) (a : Answer) → IsTrue (fits w me tx c a) → is_too_much c me ≡ false → IsSound w me tx
+    → StepsWell w tx me (read_size c) (done w me tx c a)
 done_well w me tx c answer.Fine fit few s = fine_well w me tx c few s
 done_well w me tx c (answer.Fault n) fit few s = faulty_well w me tx c n fit s
 
@@ -97,17 +107,21 @@ replied_sound : (w : World) (me : Private) (tx : ℕ) (r : Reply) → me.stored 
 replied_sound w me tx (reply.Got bytes) le s = storing_sound w me tx (length bytes) le s
 replied_sound w me tx _ le s = s
 
-read_sound : (w : World) (me : Private) (tx n : ℕ) (t : Stepped) → nat_lt 16384 (me.stored + n) ≡ false → StepsWell w tx me n t → IsSound t.world (storing_reply t.reply t.me) tx
+read_sound : (w : World) (me : Private) (tx n : ℕ) (t : Stepped) → nat_lt 16384 (me.stored + n) ≡ false → StepsWell w tx me n t
+    → IsSound t.world (storing_reply t.reply t.me) tx
 read_sound w me tx n t fits well = replied_sound t.world t.me tx t.reply (grind (arith, fits, well.stored, well.got)) well.sound
 
-write_sound : (w : World) (me : Private) (tx n : ℕ) (t : Stepped) → nat_lt 16384 (me.stored + n) ≡ false → StepsWell w tx me 0 t → IsSound t.world (storing_reply t.reply (storing t.me n)) tx
+write_sound : (w : World) (me : Private) (tx n : ℕ) (t : Stepped) → nat_lt 16384 (me.stored + n) ≡ false → StepsWell w tx me 0 t
+    → IsSound t.world (storing_reply t.reply (storing t.me n)) tx
 write_sound w me tx n t fits well =
-    replied_sound t.world (storing t.me n) tx t.reply (grind (arith, fits, well.stored, well.got)) (storing_sound t.world t.me tx n (grind (arith, fits, well.stored)) well.sound)
+    replied_sound t.world (storing t.me n) tx t.reply (grind (arith, fits, well.stored, well.got))
+    (storing_sound t.world t.me tx n (grind (arith, fits, well.stored)) well.sound)
 
 quiet_sound : (w : World) (me : Private) (tx : ℕ) (t : Stepped) → StepsWell w tx me 0 t → IsSound t.world (storing_reply t.reply t.me) tx
 quiet_sound w me tx t well = replied_sound t.world t.me tx t.reply (omega (arith, well.got, well.sound.stored)) well.sound
 
-counted_sound : (w : World) (me : Private) (tx : ℕ) (c : Call) (t : Stepped) → is_too_much c me ≡ false → StepsWell w tx me (read_size c) t → IsSound t.world (storing_reply t.reply (storing_call c t.me)) tx
+counted_sound : (w : World) (me : Private) (tx : ℕ) (c : Call) (t : Stepped) → is_too_much c me ≡ false → StepsWell w tx me (read_size c) t
+    → IsSound t.world (storing_reply t.reply (storing_call c t.me)) tx
 counted_sound w me tx (call.XRead h n) t few well = read_sound w me tx n t few well
 counted_sound w me tx (call.XReadPipe h n) t few well = read_sound w me tx n t few well
 counted_sound w me tx (call.XRecvmsg h) t few well = read_sound w me tx 1024 t few well
@@ -123,6 +137,7 @@ pub record ActsWell (w : World) (me : Private) (tx : ℕ) (s : Stepped) : Type 0
   pub sound : IsSound s.world s.me tx
   pub grows : Adds w s.world (next_num me tx)
 
+-- a call that its answer fits leaves all sound, and takes at most the next number
 pub act_well : (w : World) (me : Private) (tx : ℕ) (c : Call) (a : Answer) → IsTrue (fits w me tx c a) → IsSound w me tx → ActsWell w me tx (act w me tx c a)
 act_well w me tx c a fit s =
     let still : Adds w w (next_num me tx) = adds_nothing w (next_num me tx) s.world in
@@ -133,11 +148,14 @@ act_well w me tx c a fit s =
     let well = done_well w me tx c a fit few s in
     record { sound = counted_sound w me tx c (done w me tx c a) few well; grows = well.grows }))))
 
-pub act_sound : (w : World) (me : Private) (tx : ℕ) (c : Call) (a : Answer) → IsTrue (fits w me tx c a) → IsSound w me tx → IsSound (act w me tx c a).world (act w me tx c a).me tx
+-- a call that its answer fits leaves its world and private state sound
+pub act_sound : (w : World) (me : Private) (tx : ℕ) (c : Call) (a : Answer) → IsTrue (fits w me tx c a) → IsSound w me tx
+    → IsSound (act w me tx c a).world (act w me tx c a).me tx
 act_sound w me tx c a fit s = (act_well w me tx c a fit s).sound
 
 -- what another transaction has stays sound
-pub others_sound : (w : World) (me you : Private) (tx ty : ℕ) (c : Call) (a : Answer) → IsTrue (fits w me tx c a) → (ty ≢ tx) → IsSound w me tx → IsSound w you ty → IsSound (act w me tx c a).world you ty
+pub others_sound : (w : World) (me you : Private) (tx ty : ℕ) (c : Call) (a : Answer) → IsTrue (fits w me tx c a) → (ty ≢ tx) → IsSound w me tx
+    → IsSound w you ty → IsSound (act w me tx c a).world you ty
 others_sound w me you tx ty c a fit other s t =
     let grows = (act_well w me tx c a fit s).grows in
     record {

@@ -18,6 +18,7 @@ use Rattle.xc_world.proofs.SoundParts.{chosen_so, Keeps, keeps_itself, keeps_rem
 use Rattle.xc_world.proofs.SoundSteps.{kept_sound}
 use Rattle.xc_world.proofs.SoundCalls.{waiting_short, with_waiting_short}
 
+-- the world that a late call leaves keeps what the world before had
 abbrev pub KeepsEnd : Bool → World → Ended → Type 0
 KeepsEnd there w e = Keeps there w e.world
 
@@ -32,7 +33,8 @@ written_keeps : (w : World) (num : Num) (bytes : List ℕ) → IsFit w → Keeps
 written_keeps w num bytes fit =
     let there = is_some (map.get w.pipes num) in
     chosen_so (KeepsEnd there w) (pipe_of w num).shut _ _ (λ _. keeps_itself there w fit) (λ _.
-    chosen_so (KeepsEnd there w) (nat_lt (room (pipe_of w num)) (length bytes)) _ _ (λ _. put_keeps w num (take (room (pipe_of w num)) bytes) fit) (λ _. put_keeps w num bytes fit))
+    chosen_so (KeepsEnd there w) (nat_lt (room (pipe_of w num)) (length bytes)) _ _ (λ _. put_keeps w num (take (room (pipe_of w num)) bytes) fit)
+    (λ _. put_keeps w num bytes fit))
 
 shut_keeps : (w : World) (o : Object) → IsFit w → KeepsEnd (is_there w o) w (shut_down w o)
 shut_keeps w (object.Pipe num) fit = keeps_pipe w num (record (pipe_of w num) { shut = true }) fit
@@ -42,9 +44,11 @@ shut_keeps w o fit = keeps_itself (is_there w o) w fit
 
 sent_to_short : (pair : Pair) (side : ℕ) (bytes : List ℕ) → length bytes ≤ 1024 → HoldsShort pair → HoldsShort (sent_to pair side bytes)
 sent_to_short pair side bytes le short =
-    with_waiting_short pair side (waiting pair side ++ bytes ∷ []) (All-push (λ (m : List ℕ). length m ≤ 1024) (waiting pair side) bytes (waiting_short pair side short) le) short
+    with_waiting_short pair side (waiting pair side ++ bytes ∷ [])
+    (All-push (λ (m : List ℕ). length m ≤ 1024) (waiting pair side) bytes (waiting_short pair side short) le) short
 
-sent_keeps : (w : World) (num : Num) (side : ℕ) (bytes : List ℕ) → length bytes ≤ 1024 → IsFit w → KeepsEnd (is_some (map.get w.pairs num)) w (sent w num side bytes)
+sent_keeps : (w : World) (num : Num) (side : ℕ) (bytes : List ℕ) → length bytes ≤ 1024 → IsFit w
+    → KeepsEnd (is_some (map.get w.pairs num)) w (sent w num side bytes)
 sent_keeps w num side bytes le fit =
     let there = is_some (map.get w.pairs num) in
     chosen_so (KeepsEnd there w) (pair_of w num).shut _ _ (λ _. keeps_itself there w fit) (λ _.
@@ -67,7 +71,8 @@ fine_keeps w (Thread body) short fit = started_keeps w body fit
 stopped_keeps : (w : World) (c : LateCall) (n : ℕ) → IsFit w → Keeps (names_there w c) w (stopped w c n)
 stopped_keeps w (WritePipe num bytes) n fit =
     let there = is_some (map.get w.pipes num) in
-    chosen_so (Keeps there w) (n == 0 || (pipe_of w num).shut) _ _ (λ _. keeps_itself there w fit) (λ _. put_keeps w num (take (min n (room (pipe_of w num))) bytes) fit)
+    chosen_so (Keeps there w) (n == 0 || (pipe_of w num).shut) _ _ (λ _. keeps_itself there w fit)
+    (λ _. put_keeps w num (take (min n (room (pipe_of w num))) bytes) fit)
 stopped_keeps w c n fit = keeps_itself (names_there w c) w fit
 
 -- a late call keeps the objects and, where its object is there, what is free
@@ -76,8 +81,11 @@ late_keeps w c late_answer.Fine short fit = fine_keeps w c short fit
 late_keeps w c (late_answer.Fault n) short fit = stopped_keeps w c n fit
 late_keeps w c (late_answer.NoMemory n) short fit = stopped_keeps w c n fit
 
+-- a short late call leaves a fit world fit
 pub late_fit : (w : World) (c : LateCall) (a : LateAnswer) → IsShortCall c → IsFit w → IsFit (late w c a).world
 late_fit w c a short fit = (late_keeps w c a short fit).fit
 
-pub late_sound : (w : World) (me : Private) (tx : ℕ) (c : LateCall) (a : LateAnswer) → IsShortCall c → IsTrue (names_there w c) → IsSound w me tx → IsSound (late w c a).world me tx
+-- a short late call on an object that is there keeps a private state sound
+pub late_sound : (w : World) (me : Private) (tx : ℕ) (c : LateCall) (a : LateAnswer) → IsShortCall c → IsTrue (names_there w c) → IsSound w me tx
+    → IsSound (late w c a).world me tx
 late_sound w me tx c a short there s = kept_sound w (late w c a).world me tx (late_keeps w c a short s.world) there s

@@ -1,5 +1,6 @@
 -- The opening of a script within its limits is sound for every transaction.
-use Rattle.std.proofs.Common.{◌≡◌, ℕ, ◌+◌, ◌-◌, ◌≤◌, ◌<◌, true, false, Option, Some, None, is_some, List, [], ◌∷◌, ◌++◌, length, zero, suc, ap, sym, ◌∙◌, subst, refl, arith, unwrap_or}
+use Rattle.std.proofs.Common.{◌≡◌, ℕ, ◌+◌, ◌-◌, ◌≤◌, ◌<◌, true, false, Option, Some, None, is_some, List, [], ◌∷◌, ◌++◌, length, zero, suc, ap, sym, ◌∙◌}
+use Rattle.std.proofs.Common.{subst, refl, arith, unwrap_or}
 use Rattle.std.specs.Prelude.{replicate, All}
 use Rattle.std.specs.FinMap as map
 use Rattle.std.proofs.lemmas.List.Elements.{All-nil, All-cons, All-head, All-tail}
@@ -53,18 +54,21 @@ opening_words w k [] = refl
 opening_words w k (o ∷ objects) = opening_words (with_opened w (line_num k) o) (k + 1) objects ∙ opened_words w (line_num k) o
 
 -- each handle's object is there
-handles_known : (w : World) (k : ℕ) (objects : List Opened) → All IsOpenedFit objects → IsFit w → All (IsKnown (with_all_opened w k objects)) (handles_of k objects)
+handles_known : (w : World) (k : ℕ) (objects : List Opened) → All IsOpenedFit objects → IsFit w
+    → All (IsKnown (with_all_opened w k objects)) (handles_of k objects)
 handles_known w k [] fits fit = All-nil (IsKnown w)
 handles_known w k (opened.File name bytes ∷ objects) fits fit =
     let o = opened.File name bytes in
-    handles_known (with_opened w (line_num k) o) (k + 1) objects (All-tail IsOpenedFit o objects fits) (opened_adds w k o (All-head IsOpenedFit o objects fits) fit).fit
+    handles_known (with_opened w (line_num k) o) (k + 1) objects (All-tail IsOpenedFit o objects fits)
+    (opened_adds w k o (All-head IsOpenedFit o objects fits) fit).fit
 handles_known w k (opened.Pipe bytes ∷ objects) fits fit =
     let o = opened.Pipe bytes in
     let v = with_opened w (line_num k) o in
     let rest = All-tail IsOpenedFit o objects fits in
     let here = (opened_adds w k o (All-head IsOpenedFit o objects fits) fit).fit in
     All-cons (IsKnown (with_all_opened v (k + 1) objects)) (place.Pipe (line_num k)) (handles_of (k + 1) objects)
-    ((all_opened v (k + 1) objects rest here).known (place.Pipe (line_num k)) (there_put w.pipes (line_num k) (record { held = bytes; shut = false }))) (handles_known v (k + 1) objects rest here)
+    ((all_opened v (k + 1) objects rest here).known (place.Pipe (line_num k)) (there_put w.pipes (line_num k) (record { held = bytes; shut = false })))
+    (handles_known v (k + 1) objects rest here)
 handles_known w k (opened.Pair ∷ objects) fits fit =
     let v = with_opened w (line_num k) opened.Pair in
     let rest = All-tail IsOpenedFit opened.Pair objects fits in
@@ -72,8 +76,10 @@ handles_known w k (opened.Pair ∷ objects) fits fit =
     let there : is_some (map.get v.pairs (line_num k)) ≡ true = there_put w.pairs (line_num k) empty_pair in
     let all = all_opened v (k + 1) objects rest here in
     let known = IsKnown (with_all_opened v (k + 1) objects) in
-    All-cons known (place.Pair (line_num k) 0) (place.Pair (line_num k) 1 ∷ handles_of (k + 1) objects) (all.known (place.Pair (line_num k) 0) (there, omega arith))
-    (All-cons known (place.Pair (line_num k) 1) (handles_of (k + 1) objects) (all.known (place.Pair (line_num k) 1) (there, omega arith)) (handles_known v (k + 1) objects rest here))
+    All-cons known (place.Pair (line_num k) 0) (place.Pair (line_num k) 1 ∷ handles_of (k + 1) objects)
+    (all.known (place.Pair (line_num k) 0) (there, omega arith))
+    (All-cons known (place.Pair (line_num k) 1) (handles_of (k + 1) objects) (all.known (place.Pair (line_num k) 1) (there, omega arith))
+    (handles_known v (k + 1) objects rest here))
 
 vacant_at : (n h : ℕ) → place_of (replicate n place.Vacant) h ≡ place.Vacant
 vacant_at zero h = refl
@@ -97,6 +103,7 @@ bare_fit script =
 bare_free : (script : Script0) (q : Num) → IsFree (bare script) q
 bare_free script q = record { file = map.get-empty num_cmp q; pipe = map.get-empty num_cmp q; pair = map.get-empty num_cmp q }
 
+-- a script within its limits opens a sound world
 pub opening_sound : (script : Script0) → KeepsLimits script → (tx : ℕ) → 0 < tx → IsSound (opening script) (beginning (opening_handles script)) tx
 opening_sound script limits tx lt =
     let objects = script.prologue.objects in
@@ -107,5 +114,7 @@ opening_sound script limits tx lt =
       made = omega arith;
       stored = omega arith;
       new = λ k le. all.free (record { tx = tx; k = k }) lt (bare_free script (record { tx = tx; k = k }));
-      handles = λ h. place_in (IsKnown (opening script)) handles (256 - length handles) h tt (handles_known (bare script) 0 objects limits.prologue.contents (bare_fit script));
+      handles =
+          λ h. place_in (IsKnown (opening script)) handles (256 - length handles) h tt
+          (handles_known (bare script) 0 objects limits.prologue.contents (bare_fit script));
     }

@@ -44,9 +44,12 @@ names_known w v known _ there = refl
 ready_known : (w v : World) → ((p : Place) → IsKnown w p → IsKnown v p) → (c : LateCall) → IsReady w c → IsReady v c
 ready_known w v known c ready = record { short = ready.short; there = names_known w v known c ready.there }
 
-pub act_keeps_ready : (w : World) (me : Private) (tx : ℕ) (c : Call) (a : Answer) (d : LateCall) → IsTrue (fits w me tx c a) → IsSound w me tx → IsReady w d → IsReady (act w me tx c a).world d
+-- a call keeps a late call ready
+pub act_keeps_ready : (w : World) (me : Private) (tx : ℕ) (c : Call) (a : Answer) (d : LateCall) → IsTrue (fits w me tx c a) → IsSound w me tx → IsReady w d
+    → IsReady (act w me tx c a).world d
 act_keeps_ready w me tx c a d fit s ready = ready_known w (act w me tx c a).world (act_well w me tx c a fit s).grows.known d ready
 
+-- a short late call keeps another one ready
 pub late_keeps_ready : (w : World) (c : LateCall) (a : LateAnswer) (d : LateCall) → IsShortCall c → IsFit w → IsReady w d → IsReady (late w c a).world d
 late_keeps_ready w c a d short fit ready = ready_known w (late w c a).world (late_keeps w c a short fit).known d ready
 
@@ -94,7 +97,9 @@ kept_ready w me c _ all = All-nil (IsReady w)
 abbrev LeavesReady : World → Private → Call → Stepped → Type 0
 LeavesReady w me c s = All (IsReady w) (kept_call c me s.reply)
 
-pub act_leaves_ready : (w : World) (me : Private) (tx : ℕ) (c : Call) (a : Answer) → IsTrue (fits w me tx c a) → IsSound w me tx → All (IsReady (act w me tx c a).world) (kept_call c me (act w me tx c a).reply)
+-- a call leaves its own late call ready
+pub act_leaves_ready : (w : World) (me : Private) (tx : ℕ) (c : Call) (a : Answer) → IsTrue (fits w me tx c a) → IsSound w me tx
+    → All (IsReady (act w me tx c a).world) (kept_call c me (act w me tx c a).reply)
 act_leaves_ready w me tx c a fit s =
     All-weaker (IsReady w) (IsReady (act w me tx c a).world) (λ d. act_keeps_ready w me tx c a d fit s) (kept_call c me (act w me tx c a).reply)
     (chosen_so (LeavesReady w me c) (is_bad_handle c me) _ _ (λ _. All-nil (IsReady w)) (λ _.

@@ -15,13 +15,15 @@ use Rattle.xc_world.proofs.SoundParts.{Keeps, Adds, keeps_itself, keeps_all}
 
 -- ---- a private state that became another
 -- what stands at a handle after one place is set
-pub place_of-set : (places : List Place) (h k : ℕ) (p : Place) → (place_of (slice_set places h p) k ≡ p) ⊎ (place_of (slice_set places h p) k ≡ place_of places k)
+pub place_of-set : (places : List Place) (h k : ℕ) (p : Place)
+    → (place_of (slice_set places h p) k ≡ p) ⊎ (place_of (slice_set places h p) k ≡ place_of places k)
 place_of-set [] h k p = inr refl
 place_of-set (q ∷ places) zero zero p = inl refl
 place_of-set (q ∷ places) zero (suc k) p = inr refl
 place_of-set (q ∷ places) (suc h) zero p = inr refl
 place_of-set (q ∷ places) (suc h) (suc k) p = place_of-set places h k p
 
+-- a known place is set at a handle
 pub with_place_sound : (w : World) (me : Private) (tx h : ℕ) (p : Place) → IsKnown w p → IsSound w me tx → IsSound w (with_place me h p) tx
 with_place_sound w me tx h p known s =
     record {
@@ -35,9 +37,11 @@ with_place_sound w me tx h p known s =
       ];
     }
 
+-- bytes are stored within the limit
 pub storing_sound : (w : World) (me : Private) (tx n : ℕ) → me.stored + n ≤ 16384 → IsSound w me tx → IsSound w (storing me n) tx
 storing_sound w me tx n le s = record { world = s.world; made = s.made; stored = le; new = s.new; handles = s.handles }
 
+-- the world becomes one that keeps its objects and what is free
 pub kept_sound : {there : Bool} (w v : World) (me : Private) (tx : ℕ) → Keeps there w v → there ≡ true → IsSound w me tx → IsSound v me tx
 kept_sound w v me tx keeps there s =
     record {
@@ -55,7 +59,9 @@ made_sound w v me tx adds le s =
       world = adds.fit;
       made = omega arith;
       stored = s.stored;
-      new = λ k more. adds.free (record { tx = tx; k = k }) (λ e. let same : k ≡ me.made = ap (λ (n : Num). n.k) e in absurd (omega arith)) (s.new k (omega arith));
+      new =
+          λ k more. adds.free (record { tx = tx; k = k }) (λ e. let same : k ≡ me.made = ap (λ (n : Num). n.k) e in absurd (omega arith))
+          (s.new k (omega arith));
       handles = λ h. adds.known (place_of me.places h) (s.handles h);
     }
 
@@ -64,14 +70,17 @@ abbrev pub got_length : Reply → ℕ
 got_length (reply.Got bytes) = length bytes
 got_length _ = 0
 
+-- a step leaves all sound, takes at most the next number, stores nothing yet and replies at most n bytes
 pub record StepsWell (w : World) (tx : ℕ) (me : Private) (n : ℕ) (s : Stepped) : Type 0 where
   pub sound : IsSound s.world s.me tx
   pub grows : Adds w s.world (next_num me tx)
   pub stored : s.me.stored ≡ me.stored
   pub got : got_length s.reply ≤ n
 
+-- a fit world that stays adds nothing
 pub adds_nothing : (w : World) (num : Num) → IsFit w → Adds w w num
 adds_nothing w num fit = keeps_all w w num (keeps_itself true w fit) refl
 
+-- a call that changes nothing steps well
 pub quiet : (w : World) (me : Private) (tx n : ℕ) (r : Reply) → got_length r ≤ n → IsSound w me tx → StepsWell w tx me n (stays w me r)
 quiet w me tx n r le s = record { sound = s; grows = adds_nothing w (next_num me tx) s.world; stored = refl; got = le }

@@ -1,5 +1,6 @@
 -- A body's world with all that it took given back is its begin with the effects of its records, words aside.
-use Rattle.std.proofs.Common.{◌≡◌, ◌≢◌, ℕ, Bool, true, false, Option, Some, None, is_some, unwrap_or, List, [], ◌∷◌, ◌++◌, zero, suc, length, take, drop, ap, ap₂, sym, ◌∙◌, subst, refl, arith}
+use Rattle.std.proofs.Common.{◌≡◌, ◌≢◌, ℕ, Bool, true, false, Option, Some, None, is_some, unwrap_or, List, [], ◌∷◌, ◌++◌, zero, suc, length, take, drop, ap}
+use Rattle.std.proofs.Common.{ap₂, sym, ◌∙◌, subst, refl, arith}
 use Rattle.std.specs.Prelude.{All, IsTrue, ◌==◌, if◌then◌else◌}
 use Rattle.std.specs.FinMap as map
 use Rattle.std.proofs.Math.Dec.{eqb-suc-zero}
@@ -49,9 +50,12 @@ abbrev pub Stands : World → KeptItem → Type 0
 Stands w (Bytes num bytes) = is_some (map.get w.pipes num) ≡ true
 Stands w (Message num side bytes) = is_some (map.get w.pairs num) ≡ true
 
-stands_on : (w : World) (me : Private) (tx : ℕ) (c : Call) (a : Answer) (t : KeptItem) → IsTrue (fits w me tx c a) → IsSound w me tx → Stands w t → Stands (act w me tx c a).world t
-stands_on w me tx c a (Bytes num bytes) fit sound there = (act_keeps_ready w me tx c a (WritePipe num []) fit sound (record { short = omega arith; there = there })).there
-stands_on w me tx c a (Message num side bytes) fit sound there = (act_keeps_ready w me tx c a (Send num side []) fit sound (record { short = omega arith; there = there })).there
+stands_on : (w : World) (me : Private) (tx : ℕ) (c : Call) (a : Answer) (t : KeptItem) → IsTrue (fits w me tx c a) → IsSound w me tx → Stands w t
+    → Stands (act w me tx c a).world t
+stands_on w me tx c a (Bytes num bytes) fit sound there =
+    (act_keeps_ready w me tx c a (WritePipe num []) fit sound (record { short = omega arith; there = there })).there
+stands_on w me tx c a (Message num side bytes) fit sound there =
+    (act_keeps_ready w me tx c a (Send num side []) fit sound (record { short = omega arith; there = there })).there
 
 -- what is there reads as it is
 pipe_there : (w : World) (num : Num) → is_some (map.get w.pipes num) ≡ true → map.get w.pipes num ≡ Some (pipe_of w num)
@@ -110,6 +114,7 @@ gives_words : (x : World) (words : List ℕ) (t : KeptItem) → gives (with_word
 gives_words x words (Bytes num bytes) = refl
 gives_words x words (Message num side bytes) = refl
 
+-- an item that was taken is apart from each record
 abbrev pub AllApart : List Undo → KeptItem → Type 0
 AllApart us t = All (λ u. Apart u t) us
 
@@ -123,7 +128,8 @@ given_words : (x : World) (words : List ℕ) (ts : List KeptItem) → given_back
 given_words x words [] = refl
 given_words x words (t ∷ ts) = ap (λ y. gives y t) (given_words x words ts) ∙ gives_words (given_back x ts) words t
 
-given_remains : (x : World) (us : List Undo) (ts : List KeptItem) → All (AllApart us) ts → given_back (with_remains x (whole us)) ts ≡ with_remains (given_back x ts) (whole us)
+given_remains : (x : World) (us : List Undo) (ts : List KeptItem) → All (AllApart us) ts
+    → given_back (with_remains x (whole us)) ts ≡ with_remains (given_back x ts) (whole us)
 given_remains x us [] apart = refl
 given_remains x us (t ∷ ts) apart =
     ap (λ y. gives y t) (given_remains x us ts (All-tail (AllApart us) t ts apart)) ∙ gives_remains (given_back x ts) us t (All-head (AllApart us) t ts apart)
@@ -140,11 +146,13 @@ one_apart : (t : KeptItem) (u : Undo) → Apart u t → AllApart (u ∷ []) t
 one_apart t u apart = All-cons (λ v. Apart v t) u [] apart (nothing_apart t)
 
 new_pipe_apart : (w : World) (n : Num) (t : KeptItem) → IsFree w n → Stands w t → Apart (NewPipe n) t
-new_pipe_apart w n (Bytes num bytes) free there = λ e. let bad : is_some {T = Pipe} None ≡ true = ap is_some (sym free.pipe ∙ ap (map.get w.pipes) (sym e)) ∙ there in cc
+new_pipe_apart w n (Bytes num bytes) free there =
+    λ e. let bad : is_some {T = Pipe} None ≡ true = ap is_some (sym free.pipe ∙ ap (map.get w.pipes) (sym e)) ∙ there in cc
 new_pipe_apart w n (Message num side bytes) free there = tt
 
 new_pair_apart : (w : World) (n : Num) (t : KeptItem) → IsFree w n → Stands w t → Apart (NewPair n) t
-new_pair_apart w n (Message num side bytes) free there = λ e. let bad : is_some {T = Pair} None ≡ true = ap is_some (sym free.pair ∙ ap (map.get w.pairs) (sym e)) ∙ there in cc
+new_pair_apart w n (Message num side bytes) free there =
+    λ e. let bad : is_some {T = Pair} None ≡ true = ap is_some (sym free.pair ∙ ap (map.get w.pairs) (sym e)) ∙ there in cc
 new_pair_apart w n (Bytes num bytes) free there = tt
 
 overwrite_apart : (w : World) (bytes : List ℕ) (n : ℕ) (p : Place) (t : KeptItem) → AllApart (overwrite_record w bytes n p) t
@@ -175,7 +183,8 @@ pair_apart : (w : World) (me : Private) (tx : ℕ) (r : Reply) (t : KeptItem) �
 pair_apart w me tx (reply.MadePair h g) t free there = one_apart t _ (new_pair_apart w (next_num me tx) t free there)
 pair_apart w me tx _ t free there = nothing_apart t
 
-recorded_apart : (w : World) (me : Private) (tx : ℕ) (c : Call) (r : Reply) (t : KeptItem) → IsFree w (next_num me tx) → Stands w t → AllApart (recorded w me tx c r) t
+recorded_apart : (w : World) (me : Private) (tx : ℕ) (c : Call) (r : Reply) (t : KeptItem) → IsFree w (next_num me tx) → Stands w t
+    → AllApart (recorded w me tx c r) t
 recorded_apart w me tx (call.XWriteOvr h bytes) r t free there = overwrite_apart w bytes _ (place_of me.places h) t
 recorded_apart w me tx (call.XWriteSeq h bytes) r t free there = append_apart w bytes _ (place_of me.places h) t
 recorded_apart w me tx (call.XCreate name) r t free there = create_apart me tx name r t
@@ -195,20 +204,25 @@ takes_nothing : (w : World) (me : Private) (c : Call) (r : Reply) (you : Private
 takes_nothing w me c r you e = record { back = ap (given_back w) e; there = subst (All (Stands w)) (sym e) (All-nil (Stands w)); words = refl }
 
 -- put back where it was taken from
-pipe_back : (w : World) (num : Num) (p : Pipe) (bytes : List ℕ) → is_some (map.get w.pipes num) ≡ true → record p { held = bytes ++ p.held } ≡ pipe_of w num → gives (with_pipe w num p) (Bytes num bytes) ≡ w
+pipe_back : (w : World) (num : Num) (p : Pipe) (bytes : List ℕ) → is_some (map.get w.pipes num) ≡ true → record p { held = bytes ++ p.held } ≡ pipe_of w num
+    → gives (with_pipe w num p) (Bytes num bytes) ≡ w
 pipe_back w num p bytes there e =
     let f : Pipe → Pipe = λ q. record q { held = bytes ++ q.held } in
     let now : pipe_of (with_pipe w num p) num ≡ p = ap (λ o. unwrap_or o empty_pipe) (get-insert_same num_total num_exact w.pipes num p) in
     ap (λ q. with_pipe (with_pipe w num p) num (f q)) now ∙ ap (with_pipe (with_pipe w num p) num) e
-    ∙ ap (λ m. record w { pipes = m }) (insert-insert_same num_total num_exact w.pipes num p (pipe_of w num) ∙ insert-get_same num_total num_exact w.pipes num (pipe_of w num) (pipe_there w num there))
+    ∙ ap (λ m. record w { pipes = m })
+    (insert-insert_same num_total num_exact w.pipes num p (pipe_of w num)
+    ∙ insert-get_same num_total num_exact w.pipes num (pipe_of w num) (pipe_there w num there))
 
 some_taken : (n : ℕ) (held : List ℕ) → (n == 0) ≡ false → (length held == 0) ≡ false → (length (take n held) == 0) ≡ false
 some_taken zero held some more = cc
 some_taken (suc n) [] some more = cc
 some_taken (suc n) (x ∷ held) some more = eqb-suc-zero (length (take n held))
 
-took_back : (w : World) (me : Private) (h n : ℕ) (num : Num) → (n == 0) ≡ false → (length (pipe_of w num).held == 0) ≡ false → is_some (map.get w.pipes num) ≡ true
-    → (taken : List KeptItem) → taken ≡ Bytes num (take n (pipe_of w num).held) ∷ [] → (given_back (took w me num n).world taken ≡ w) × All (Stands (took w me num n).world) taken
+took_back : (w : World) (me : Private) (h n : ℕ) (num : Num) → (n == 0) ≡ false → (length (pipe_of w num).held == 0) ≡ false
+    → is_some (map.get w.pipes num) ≡ true
+    → (taken : List KeptItem) → taken ≡ Bytes num (take n (pipe_of w num).held) ∷ []
+    → (given_back (took w me num n).world taken ≡ w) × All (Stands (took w me num n).world) taken
 took_back w me h n num some more there taken e =
     let p = pipe_of w num in
     let bytes = take n p.held in
@@ -219,14 +233,17 @@ took_back w me h n num some more there taken e =
       subst (All (Stands after)) (sym e) (All-cons (Stands after) (Bytes num bytes) [] (there_put w.pipes num rest) (All-nil (Stands after))),
     )
 
-read_pipe_back : (w : World) (me : Private) (h n : ℕ) (p : Place) → p ≡ place_of me.places h → IsKnown w p → TakesBack w me (call.XReadPipe h n) (read_pipe_at w me n p)
+read_pipe_back : (w : World) (me : Private) (h n : ℕ) (p : Place) → p ≡ place_of me.places h → IsKnown w p
+    → TakesBack w me (call.XReadPipe h n) (read_pipe_at w me n p)
 read_pipe_back w me h n (place.Pipe num) is known =
     let c = call.XReadPipe h n in
     let empty : bytes_taken (place_of me.places h) [] ≡ [] = ap (λ q. bytes_taken q []) (sym is) in
     chosen_so (TakesBack w me c) (n == 0) _ _ (λ _. takes_nothing w me c (reply.Got []) me empty) (λ some.
-    chosen_so (TakesBack w me c) (length (pipe_of w num).held == 0) _ _ (λ _. takes_nothing w me c (nothing (pipe_of w num)) me (none_of_nothing (pipe_of w num).shut)) (λ more.
+    chosen_so (TakesBack w me c) (length (pipe_of w num).held == 0) _ _
+    (λ _. takes_nothing w me c (nothing (pipe_of w num)) me (none_of_nothing (pipe_of w num).shut)) (λ more.
     let bytes = take n (pipe_of w num).held in
-    let e : bytes_taken (place_of me.places h) bytes ≡ Bytes num bytes ∷ [] = ap (λ q. bytes_taken q bytes) (sym is) ∙ ap (λ b. if b then [] else Bytes num bytes ∷ []) (some_taken n (pipe_of w num).held some more) in
+    let e : bytes_taken (place_of me.places h) bytes ≡ Bytes num bytes ∷ [] =
+    ap (λ q. bytes_taken q bytes) (sym is) ∙ ap (λ b. if b then [] else Bytes num bytes ∷ []) (some_taken n (pipe_of w num).held some more) in
     let both = took_back w me h n num some more known (bytes_taken (place_of me.places h) bytes) e in
     record { back = both.0; there = both.1; words = refl }))
   where
@@ -244,11 +261,13 @@ of_side b p = if b then p.first else p.second
 abbrev with_side : Bool → Pair → List (List ℕ) → Pair
 with_side b p messages = if b then record p { first = messages } else record p { second = messages }
 
-side_back : (b : Bool) (p : Pair) (message : List ℕ) (messages : List (List ℕ)) → of_side b p ≡ message ∷ messages → with_side b (with_side b p messages) (message ∷ of_side b (with_side b p messages)) ≡ p
+side_back : (b : Bool) (p : Pair) (message : List ℕ) (messages : List (List ℕ)) → of_side b p ≡ message ∷ messages
+    → with_side b (with_side b p messages) (message ∷ of_side b (with_side b p messages)) ≡ p
 side_back true p message messages e = ap (λ l. record p { first = l }) (sym e)
 side_back false p message messages e = ap (λ l. record p { second = l }) (sym e)
 
-received_back : (w : World) (me : Private) (h : ℕ) (num : Num) (side : ℕ) (messages : List (List ℕ)) → place.Pair num side ≡ place_of me.places h → is_some (map.get w.pairs num) ≡ true
+received_back : (w : World) (me : Private) (h : ℕ) (num : Num) (side : ℕ) (messages : List (List ℕ)) → place.Pair num side ≡ place_of me.places h
+    → is_some (map.get w.pairs num) ≡ true
     → waiting (pair_of w num) side ≡ messages → TakesBack w me (call.XRecvmsg h) (received w me num side messages)
 received_back w me h num side [] is there e = takes_nothing w me (call.XRecvmsg h) _ me (none (pair_of w num).shut)
   where
@@ -265,10 +284,12 @@ received_back w me h num side (message ∷ messages) is there e =
     let again : f rest ≡ p = side_back (side == 0) p message messages e in
     let back : gives after (Message num side message) ≡ w =
     ap (λ q. with_pair after num (f q)) now ∙ ap (with_pair after num) again
-    ∙ ap (λ m. record w { pairs = m }) (insert-insert_same num_total num_exact w.pairs num rest p ∙ insert-get_same num_total num_exact w.pairs num p (pair_there w num there)) in
+    ∙ ap (λ m. record w { pairs = m })
+    (insert-insert_same num_total num_exact w.pairs num rest p ∙ insert-get_same num_total num_exact w.pairs num p (pair_there w num there)) in
     record {
       back = ap (given_back after) taken ∙ back;
-      there = subst (All (Stands after)) (sym taken) (All-cons (Stands after) (Message num side message) [] (there_put w.pairs num rest) (All-nil (Stands after)));
+      there =
+          subst (All (Stands after)) (sym taken) (All-cons (Stands after) (Message num side message) [] (there_put w.pairs num rest) (All-nil (Stands after)));
       words = refl;
     }
 
@@ -279,7 +300,8 @@ receive_back w me h (place.File num at) is known = takes_nothing w me (call.XRec
 receive_back w me h (place.Pipe num) is known = takes_nothing w me (call.XRecvmsg h) reply.BadHandle me refl
 
 -- a call that takes, with any answer
-pipe_answered : (w : World) (me : Private) (tx h n : ℕ) (a : Answer) → IsSound w me tx → TakesBack w me (call.XReadPipe h n) (done w me tx (call.XReadPipe h n) a)
+pipe_answered : (w : World) (me : Private) (tx h n : ℕ) (a : Answer) → IsSound w me tx
+    → TakesBack w me (call.XReadPipe h n) (done w me tx (call.XReadPipe h n) a)
 pipe_answered w me tx h n answer.Fine sound = read_pipe_back w me h n (place_of me.places h) refl (sound.handles h)
 pipe_answered w me tx h n (answer.Fault k) sound = takes_nothing w me (call.XReadPipe h n) (reply.Fault k) me refl
 
@@ -304,7 +326,8 @@ no_record w me tx c r takes = cc
 
 -- a refusal brings nothing
 abbrev pub BringsNone : Call → Private → Type 0
-BringsNone c me = (taken_by c me reply.BadHandle ≡ []) × (taken_by c me reply.TooBig ≡ []) × (taken_by c me reply.TooMuch ≡ []) × (taken_by c me reply.BadWord ≡ [])
+BringsNone c me =
+    (taken_by c me reply.BadHandle ≡ []) × (taken_by c me reply.TooBig ≡ []) × (taken_by c me reply.TooMuch ≡ []) × (taken_by c me reply.BadWord ≡ [])
 
 brings_none : (c : Call) (me : Private) → BringsNone c me
 brings_none (call.XReadPipe h n) me = (refl, refl, refl, refl)
@@ -314,7 +337,8 @@ brings_none c me = (refl, refl, refl, refl)
 act_takes : (w : World) (me : Private) (tx : ℕ) (c : Call) (a : Answer) → takes_data c ≡ true → IsSound w me tx → TakesBack w me c (act w me tx c a)
 act_takes w me tx c a takes sound =
     let none = brings_none c me in
-    act-cases w me tx c a (TakesBack w me c) (takes_nothing w me c reply.BadHandle me none.0) (takes_nothing w me c reply.TooBig me none.1) (takes_nothing w me c reply.TooMuch me none.2) (takes_nothing w me c reply.BadWord me none.3)
+    act-cases w me tx c a (TakesBack w me c) (takes_nothing w me c reply.BadHandle me none.0) (takes_nothing w me c reply.TooBig me none.1)
+    (takes_nothing w me c reply.TooMuch me none.2) (takes_nothing w me c reply.BadWord me none.3)
     (let d = answered w me tx c a takes sound in record { back = d.back; there = d.there; words = d.words })
 
 -- ---- a body
@@ -324,16 +348,20 @@ pub record Returns (w : World) (tx : ℕ) (r : Ran) : Type 0 where
   pub back : given_back r.world r.taken ≡ with_words (with_remains w (whole r.trail)) r.world.words
 
 -- what was taken stands on, and what a call takes stands
-stand_on : (tx : ℕ) (r : Ran) (c : Asked) → IsTrue (fits r.world r.me tx c.call c.answer) → IsSound r.world r.me tx → All (Stands r.world) r.taken → All (Stands (act r.world r.me tx c.call c.answer).world) r.taken
+stand_on : (tx : ℕ) (r : Ran) (c : Asked) → IsTrue (fits r.world r.me tx c.call c.answer) → IsSound r.world r.me tx → All (Stands r.world) r.taken
+    → All (Stands (act r.world r.me tx c.call c.answer).world) r.taken
 stand_on tx r c fit sound there =
-    All-weaker (Stands r.world) (Stands (act r.world r.me tx c.call c.answer).world) (λ t so. stands_on r.world r.me tx c.call c.answer t fit sound so) r.taken there
+    All-weaker (Stands r.world) (Stands (act r.world r.me tx c.call c.answer).world)
+    (λ t so. stands_on r.world r.me tx c.call c.answer t fit sound so) r.taken there
 
-taking_returns : (w : World) (tx : ℕ) (r : Ran) (c : Asked) → takes_data c.call ≡ true → IsTrue (fits r.world r.me tx c.call c.answer) → Returns w tx r → Returns w tx (step tx r c)
+taking_returns : (w : World) (tx : ℕ) (r : Ran) (c : Asked) → takes_data c.call ≡ true → IsTrue (fits r.world r.me tx c.call c.answer) → Returns w tx r
+    → Returns w tx (step tx r c)
 taking_returns w tx r c takes fit so =
     let s = act r.world r.me tx c.call c.answer in
     let took = act_takes r.world r.me tx c.call c.answer takes so.sound in
     let new = taken_by c.call r.me s.reply in
-    let same_trail : r.trail ≡ r.trail ++ recorded r.world r.me tx c.call s.reply = sym (ap (λ us. r.trail ++ us) (no_record r.world r.me tx c.call s.reply takes) ∙ append-nil r.trail) in
+    let same_trail : r.trail ≡ r.trail ++ recorded r.world r.me tx c.call s.reply =
+    sym (ap (λ us. r.trail ++ us) (no_record r.world r.me tx c.call s.reply takes) ∙ append-nil r.trail) in
     record {
       sound = act_sound r.world r.me tx c.call c.answer fit so.sound;
       there = All-append (Stands s.world) r.taken new (stand_on tx r c fit so.sound so.there) took.there;
@@ -342,7 +370,8 @@ taking_returns w tx r c takes fit so =
           ∙ ap₂ (λ us ws. with_words (with_remains w (whole us)) ws) same_trail (sym took.words);
     }
 
-quiet_returns : (w : World) (tx : ℕ) (r : Ran) (c : Asked) → takes_data c.call ≡ false → IsTrue (fits r.world r.me tx c.call c.answer) → Returns w tx r → Returns w tx (step tx r c)
+quiet_returns : (w : World) (tx : ℕ) (r : Ran) (c : Asked) → takes_data c.call ≡ false → IsTrue (fits r.world r.me tx c.call c.answer) → Returns w tx r
+    → Returns w tx (step tx r c)
 quiet_returns w tx r c quiet fit so =
     let s = act r.world r.me tx c.call c.answer in
     let us = recorded r.world r.me tx c.call s.reply in
@@ -351,7 +380,8 @@ quiet_returns w tx r c quiet fit so =
     let none = no_data c.call r.me s.reply quiet in
     let same_taken : r.taken ++ taken_by c.call r.me s.reply ≡ r.taken = ap (λ ts. r.taken ++ ts) none ∙ append-nil r.taken in
     let apart : All (AllApart us) r.taken =
-    All-weaker (Stands r.world) (AllApart us) (λ t there. recorded_apart r.world r.me tx c.call s.reply t (so.sound.new r.me.made (omega arith)) there) r.taken so.there in
+    All-weaker (Stands r.world) (AllApart us)
+    (λ t there. recorded_apart r.world r.me tx c.call s.reply t (so.sound.new r.me.made (omega arith)) there) r.taken so.there in
     record {
       sound = act_sound r.world r.me tx c.call c.answer fit so.sound;
       there = subst (All (Stands s.world)) (sym same_taken) (stand_on tx r c fit so.sound so.there);
@@ -372,12 +402,15 @@ step_returns w tx r c fit so = by_kind (takes_data c.call) refl
     by_kind true e = taking_returns w tx r c e fit so
     by_kind false e = quiet_returns w tx r c e fit so
 
-goes_on_returns : (w : World) (tx : ℕ) (r : Ran) (asked : List Asked) → IsTrue (body_fits r.world r.me tx asked) → Returns w tx r → Returns w tx (goes_on tx r asked)
+goes_on_returns : (w : World) (tx : ℕ) (r : Ran) (asked : List Asked) → IsTrue (body_fits r.world r.me tx asked) → Returns w tx r
+    → Returns w tx (goes_on tx r asked)
 goes_on_returns w tx r [] fit so = so
 goes_on_returns w tx r (c ∷ asked) fit so =
     let both = and_parts (fits r.world r.me tx c.call c.answer) (body_fits (step tx r c).world (step tx r c).me tx asked) fit in
     goes_on_returns w tx (step tx r c) asked both.1 (step_returns w tx r c both.0 so)
 
+-- but for the words, what a body took, given back, leaves the world with the effects of its records
 pub body_returns : (w : World) (me : Private) (tx : ℕ) (asked : List Asked) → IsSound w me tx → IsTrue (body_fits w me tx asked)
-    → given_back (body w me tx asked).world (body w me tx asked).taken ≡ record (with_remains w (whole (body w me tx asked).trail)) { words = (body w me tx asked).world.words }
+    → given_back (body w me tx asked).world (body w me tx asked).taken
+    ≡ record (with_remains w (whole (body w me tx asked).trail)) { words = (body w me tx asked).world.words }
 body_returns w me tx asked sound fit = (goes_on_returns w tx (begins w me) asked fit (record { sound = sound; there = All-nil (Stands w); back = refl })).back

@@ -48,7 +48,9 @@ abbrev both_of : List ℕ → List ℕ → List Object
 both_of from to = if pointwise nat_eq from to then object.Name from ∷ [] else object.Name from ∷ object.Name to ∷ []
 
 old_in : (from to : List ℕ) → Contains (both_of from to) (object.Name from)
-old_in from to = chosen_so (λ l. Contains l (object.Name from)) (pointwise nat_eq from to) _ _ (λ _. first_in (object.Name from) []) (λ _. first_in (object.Name from) (object.Name to ∷ []))
+old_in from to =
+    chosen_so (λ l. Contains l (object.Name from)) (pointwise nat_eq from to) _ _ (λ _. first_in (object.Name from) [])
+    (λ _. first_in (object.Name from) (object.Name to ∷ []))
 
 new_in : (from to : List ℕ) → Contains (both_of from to) (object.Name to)
 new_in from to =
@@ -70,22 +72,28 @@ module _ (sees own : Object → Type 0) where
   one_record u speaks = All-cons (Speaks own) u [] speaks (All-nil (Speaks own))
 
   -- ---- records
-  overwrite_speaks : (w : World) (bytes : List ℕ) (n : ℕ) (p : Place) → ((o : Object) → Contains (object_at p) o → own o) → All (Speaks own) (overwrite_record w bytes n p)
+  overwrite_speaks : (w : World) (bytes : List ℕ) (n : ℕ) (p : Place) → ((o : Object) → Contains (object_at p) o → own o)
+      → All (Speaks own) (overwrite_record w bytes n p)
   overwrite_speaks w bytes n (place.File num at) has =
-      chosen_so (All (Speaks own)) (n == 0) _ _ (λ _. no_record) (λ _. one_record _ (one (object.File num) (has (object.File num) (first_in (object.File num) []))))
+      chosen_so (All (Speaks own)) (n == 0) _ _ (λ _. no_record)
+      (λ _. one_record _ (one (object.File num) (has (object.File num) (first_in (object.File num) []))))
   overwrite_speaks w bytes n place.Vacant has = no_record
   overwrite_speaks w bytes n (place.Pipe num) has = no_record
   overwrite_speaks w bytes n (place.Pair num side) has = no_record
 
-  append_speaks : (w : World) (bytes : List ℕ) (n : ℕ) (p : Place) → ((o : Object) → Contains (object_at p) o → own o) → All (Speaks own) (append_record w bytes n p)
+  append_speaks : (w : World) (bytes : List ℕ) (n : ℕ) (p : Place) → ((o : Object) → Contains (object_at p) o → own o)
+      → All (Speaks own) (append_record w bytes n p)
   append_speaks w bytes n (place.File num at) has =
-      chosen_so (All (Speaks own)) (n == 0) _ _ (λ _. no_record) (λ _. one_record _ (one (object.File num) (has (object.File num) (first_in (object.File num) []))))
+      chosen_so (All (Speaks own)) (n == 0) _ _ (λ _. no_record)
+      (λ _. one_record _ (one (object.File num) (has (object.File num) (first_in (object.File num) []))))
   append_speaks w bytes n place.Vacant has = no_record
   append_speaks w bytes n (place.Pipe num) has = no_record
   append_speaks w bytes n (place.Pair num side) has = no_record
 
-  create_speaks : (me : Private) (tx : ℕ) (name : List ℕ) (r : Reply) → own (object.Name name) → own (object.File (next_num me tx)) → All (Speaks own) (create_record me tx name r)
-  create_speaks me tx name (reply.Made h) named made = one_record _ (All-cons own (object.Name name) (object.File (next_num me tx) ∷ []) named (one (object.File (next_num me tx)) made))
+  create_speaks : (me : Private) (tx : ℕ) (name : List ℕ) (r : Reply) → own (object.Name name) → own (object.File (next_num me tx))
+      → All (Speaks own) (create_record me tx name r)
+  create_speaks me tx name (reply.Made h) named made =
+      one_record _ (All-cons own (object.Name name) (object.File (next_num me tx) ∷ []) named (one (object.File (next_num me tx)) made))
   create_speaks me tx name _ named made = no_record
 
   rename_speaks : (from to : List ℕ) (r : Reply) → own (object.Name from) → own (object.Name to) → All (Speaks own) (rename_record from to r)
@@ -104,11 +112,13 @@ module _ (sees own : Object → Type 0) where
       → own (object.Name from) × own (object.Name to)
   both_names from to has = (has (object.Name from) (old_in from to), has (object.Name to) (new_in from to))
 
-  passed_speaks : (w : World) (me : Private) (tx : ℕ) (c : Call) (r : Reply) → (mode_of c ≡ Exclusive → (o : Object) → Contains (objects_of_call c me) o → own o) → ((o : Object) → IsNumbered tx o → own o)
+  passed_speaks : (w : World) (me : Private) (tx : ℕ) (c : Call) (r : Reply)
+      → (mode_of c ≡ Exclusive → (o : Object) → Contains (objects_of_call c me) o → own o) → ((o : Object) → IsNumbered tx o → own o)
       → All (Speaks own) (recorded w me tx c r)
   passed_speaks w me tx (call.XWriteOvr h bytes) r has numbered = overwrite_speaks w bytes _ (place_of me.places h) (has refl)
   passed_speaks w me tx (call.XWriteSeq h bytes) r has numbered = append_speaks w bytes _ (place_of me.places h) (has refl)
-  passed_speaks w me tx (call.XCreate name) r has numbered = create_speaks me tx name r (has refl (object.Name name) (first_in (object.Name name) [])) (numbered (object.File (next_num me tx)) refl)
+  passed_speaks w me tx (call.XCreate name) r has numbered =
+      create_speaks me tx name r (has refl (object.Name name) (first_in (object.Name name) [])) (numbered (object.File (next_num me tx)) refl)
   passed_speaks w me tx (call.XRename from to) r has numbered = let both = both_names from to (has refl) in rename_speaks from to r both.0 both.1
   passed_speaks w me tx call.XPipe r has numbered = pipe_speaks me tx r (numbered (object.Pipe (next_num me tx)) refl)
   passed_speaks w me tx call.XPair r has numbered = pair_speaks me tx r (numbered (object.Pair (next_num me tx)) refl)
@@ -131,31 +141,46 @@ module _ (sees own : Object → Type 0) where
     sync_looks (place.Pipe num) look = no_late
     sync_looks (place.Pair num side) look = no_late
 
-    write_looks : (p : Place) (bytes : List ℕ) → ((o : Object) → Contains (object_at p) o → sees o) → ((o : Object) → Contains (object_at p) o → own o) → All (LooksWithin sees own) (write_pipe_of p bytes)
-    write_looks (place.Pipe num) bytes look has = let here = first_in (object.Pipe num) [] in one_late (WritePipe num bytes) (seen _ (look (object.Pipe num) here)) (one _ (has (object.Pipe num) here))
+    write_looks : (p : Place) (bytes : List ℕ) → ((o : Object) → Contains (object_at p) o → sees o) → ((o : Object) → Contains (object_at p) o → own o)
+        → All (LooksWithin sees own) (write_pipe_of p bytes)
+    write_looks (place.Pipe num) bytes look has =
+        let here = first_in (object.Pipe num) [] in
+        one_late (WritePipe num bytes) (seen _ (look (object.Pipe num) here)) (one _ (has (object.Pipe num) here))
     write_looks place.Vacant bytes look has = no_late
     write_looks (place.File num at) bytes look has = no_late
     write_looks (place.Pair num side) bytes look has = no_late
 
-    shutdown_looks : (p : Place) → ((o : Object) → Contains (object_at p) o → sees o) → ((o : Object) → Contains (object_at p) o → own o) → All (LooksWithin sees own) (shutdown_of p)
-    shutdown_looks (place.Pipe num) look has = let here = first_in (object.Pipe num) [] in one_late (Shutdown (object.Pipe num)) (seen _ (look (object.Pipe num) here)) (one _ (has (object.Pipe num) here))
-    shutdown_looks (place.Pair num side) look has = let here = first_in (object.Pair num) [] in one_late (Shutdown (object.Pair num)) (seen _ (look (object.Pair num) here)) (one _ (has (object.Pair num) here))
+    shutdown_looks : (p : Place) → ((o : Object) → Contains (object_at p) o → sees o) → ((o : Object) → Contains (object_at p) o → own o)
+        → All (LooksWithin sees own) (shutdown_of p)
+    shutdown_looks (place.Pipe num) look has =
+        let here = first_in (object.Pipe num) [] in
+        one_late (Shutdown (object.Pipe num)) (seen _ (look (object.Pipe num) here)) (one _ (has (object.Pipe num) here))
+    shutdown_looks (place.Pair num side) look has =
+        let here = first_in (object.Pair num) [] in
+        one_late (Shutdown (object.Pair num)) (seen _ (look (object.Pair num) here)) (one _ (has (object.Pair num) here))
     shutdown_looks place.Vacant look has = no_late
     shutdown_looks (place.File num at) look has = no_late
 
-    send_looks : (p : Place) (bytes : List ℕ) → ((o : Object) → Contains (object_at p) o → sees o) → ((o : Object) → Contains (object_at p) o → own o) → All (LooksWithin sees own) (send_of p bytes)
-    send_looks (place.Pair num side) bytes look has = let here = first_in (object.Pair num) [] in one_late (Send num side bytes) (seen _ (look (object.Pair num) here)) (one _ (has (object.Pair num) here))
+    send_looks : (p : Place) (bytes : List ℕ) → ((o : Object) → Contains (object_at p) o → sees o) → ((o : Object) → Contains (object_at p) o → own o)
+        → All (LooksWithin sees own) (send_of p bytes)
+    send_looks (place.Pair num side) bytes look has =
+        let here = first_in (object.Pair num) [] in
+        one_late (Send num side bytes) (seen _ (look (object.Pair num) here)) (one _ (has (object.Pair num) here))
     send_looks place.Vacant bytes look has = no_late
     send_looks (place.File num at) bytes look has = no_late
     send_looks (place.Pipe num) bytes look has = no_late
 
     late_looks : (c : Call) → Each c sees → (mode_of c ≡ Exclusive → Each c own) → All (LooksWithin sees own) (late_call c me)
-    late_looks (call.XUnlink name slot) look has = let here = first_in (object.Name name) [] in one_late (Unlink name) (seen _ (look (object.Name name) here)) (one _ (has refl (object.Name name) here))
+    late_looks (call.XUnlink name slot) look has =
+        let here = first_in (object.Name name) [] in
+        one_late (Unlink name) (seen _ (look (object.Name name) here)) (one _ (has refl (object.Name name) here))
     late_looks (call.XSync h slot) look has = sync_looks (place_of me.places h) look
     late_looks (call.XWritePipe h bytes slot) look has = write_looks (place_of me.places h) bytes look (has refl)
     late_looks (call.XShutdown h slot) look has = shutdown_looks (place_of me.places h) look (has refl)
     late_looks (call.XSendmsg h bytes slot) look has = send_looks (place_of me.places h) bytes look (has refl)
-    late_looks (call.XThreadCreate name slot) look has = let here = first_in object.Jobs [] in one_late (Thread name) (seen _ (look object.Jobs here)) (one _ (has refl object.Jobs here))
+    late_looks (call.XThreadCreate name slot) look has =
+        let here = first_in object.Jobs [] in
+        one_late (Thread name) (seen _ (look object.Jobs here)) (one _ (has refl object.Jobs here))
     late_looks _ look has = no_late
 
     kept_looks : (c : Call) (r : Reply) → Each c sees → (mode_of c ≡ Exclusive → Each c own) → All (LooksWithin sees own) (kept_call c me r)
@@ -169,21 +194,29 @@ pub record CallSpeaks (sees own : Object → Type 0) (w : World) (me : Private) 
   pub late : All (LooksWithin sees own) (kept_call c me r)
 
 call_speaks : (sees own : Object → Type 0) (w : World) (me : Private) (tx : ℕ) (c : Call) (a : Answer)
-    → ((o : Object) → Contains (objects (claims_of c me (length w.words))) o → sees o) → ((o : Object) → Contains (owned (claims_of c me (length w.words))) o → own o)
+    → ((o : Object) → Contains (objects (claims_of c me (length w.words))) o → sees o)
+    → ((o : Object) → Contains (owned (claims_of c me (length w.words))) o → own o)
     → ((o : Object) → IsNumbered tx o → own o) → CallSpeaks sees own w me tx c (act w me tx c a).reply
 call_speaks sees own w me tx c a look has numbered =
     let words = length w.words in
     let none = refusal-none w me tx c in
     act_cases w me tx c a (λ (s : Stepped). CallSpeaks sees own w me tx c s.reply)
-    (refused reply.BadHandle none.bad_handle refl) (refused reply.TooBig none.too_big refl) (refused reply.TooMuch none.too_much refl) (refused reply.BadWord none.bad_word refl)
+    (refused reply.BadHandle none.bad_handle refl) (refused reply.TooBig none.too_big refl) (refused reply.TooMuch none.too_much refl)
+    (refused reply.BadWord none.bad_word refl)
     (λ passed.
     let all = touched_all c me words passed in
-    let looks : (o : Object) → Contains (objects_of_call c me) o → sees o = λ o at. look o (subst (λ l. Contains l o) (sym (objects_of_claims (mode_of c) (touch c me words) ∙ all)) at) in
-    let owns : mode_of c ≡ Exclusive → (o : Object) → Contains (objects_of_call c me) o → own o = λ e o at. has o (subst (λ l. Contains l o) (sym (owned_of_call c me words e ∙ all)) at) in
+    let looks : (o : Object) → Contains (objects_of_call c me) o → sees o =
+    λ o at. look o (subst (λ l. Contains l o) (sym (objects_of_claims (mode_of c) (touch c me words) ∙ all)) at) in
+    let owns : mode_of c ≡ Exclusive → (o : Object) → Contains (objects_of_call c me) o → own o =
+    λ e o at. has o (subst (λ l. Contains l o) (sym (owned_of_call c me words e ∙ all)) at) in
     record { trail = passed_speaks sees own w me tx c _ owns numbered; late = kept_looks sees own me c _ looks owns })
   where
     refused : (r : Reply) → recorded w me tx c r ≡ [] → kept_call c me r ≡ [] → CallSpeaks sees own w me tx c r
-    refused r e f = record { trail = subst (All (Speaks own)) (sym e) (All-nil (Speaks own)); late = subst (All (LooksWithin sees own)) (sym f) (All-nil (LooksWithin sees own)) }
+    refused r e f =
+        record {
+          trail = subst (All (Speaks own)) (sym e) (All-nil (Speaks own));
+          late = subst (All (LooksWithin sees own)) (sym f) (All-nil (LooksWithin sees own));
+        }
 
 -- ---- a body
 sees_in_front : (tx : ℕ) (a b : List Claim) (o : Object) → Sees tx a o → Sees tx (a ++ b) o
@@ -195,9 +228,12 @@ step_speaks tx r c so =
     let now = claims_of c.call r.me (length r.world.words) in
     let all = r.touched ++ now in
     let s = act r.world r.me tx c.call c.answer in
-    let one = call_speaks (Sees tx all) (Owns tx all) r.world r.me tx c.call c.answer (λ o at. inl (behind r.touched now o at)) (λ o at. inl (owned_behind r.touched now o at)) (λ o numbered. inr numbered) in
+    let one =
+    call_speaks (Sees tx all) (Owns tx all) r.world r.me tx c.call c.answer (λ o at. inl (behind r.touched now o at))
+    (λ o at. inl (owned_behind r.touched now o at)) (λ o numbered. inr numbered) in
     let before : All (Speaks (Owns tx all)) r.trail =
-    All-weaker (Speaks (Owns tx r.touched)) (Speaks (Owns tx all)) (λ u of. All-weaker (Owns tx r.touched) (Owns tx all) (owns_in_front tx r.touched now) (objects_of u) of) r.trail so.trail in
+    All-weaker (Speaks (Owns tx r.touched)) (Speaks (Owns tx all))
+    (λ u of. All-weaker (Owns tx r.touched) (Owns tx all) (owns_in_front tx r.touched now) (objects_of u) of) r.trail so.trail in
     let kept : All (LooksWithin (Sees tx all) (Owns tx all)) r.late =
     All-weaker (LooksWithin (Sees tx r.touched) (Owns tx r.touched)) (LooksWithin (Sees tx all) (Owns tx all))
     (λ l of. record {
@@ -213,5 +249,7 @@ goes_on_speaks : (tx : ℕ) (r : Ran) (asked : List Asked) → SpeaksOfOwn tx r 
 goes_on_speaks tx r [] so = so
 goes_on_speaks tx r (c ∷ asked) so = goes_on_speaks tx (step tx r c) asked (step_speaks tx r c so)
 
+-- the records and the late calls of a body speak of its own
 pub body_speaks : (w : World) (me : Private) (tx : ℕ) (asked : List Asked) → SpeaksOfOwn tx (body w me tx asked)
-body_speaks w me tx asked = goes_on_speaks tx (begins w me) asked (record { trail = All-nil (Speaks (Owns tx [])); late = All-nil (LooksWithin (Sees tx []) (Owns tx [])) })
+body_speaks w me tx asked =
+    goes_on_speaks tx (begins w me) asked (record { trail = All-nil (Speaks (Owns tx [])); late = All-nil (LooksWithin (Sees tx []) (Owns tx [])) })

@@ -28,7 +28,9 @@ use Rattle.xc_world.proofs.Joined.{body_first}
 use Rattle.xc_world.specs.Trail.{overwrite_record, append_record, recorded, undone, all_undone}
 use Rattle.xc_world.specs.Undoing.{BroughtBack}
 use Rattle.xc_world.proofs.UndoingParts.{same-back}
-use Rattle.xc_world.proofs.UndoingCalls.{Undoes, Stops, as_is, overwrite_at-undoes, overwrite_short-undoes, append_at-undoes, append_short-undoes, created-undoes, renamed-undoes, opened-undoes, read_at-undoes, seek_at-undoes, len_at-undoes, new_pipe-undoes, new_pair-undoes, read_pipe_at-undoes, receive_at-undoes}
+use Rattle.xc_world.proofs.UndoingCalls.{Undoes, Stops, as_is, overwrite_at-undoes, overwrite_short-undoes, append_at-undoes, append_short-undoes}
+use Rattle.xc_world.proofs.UndoingCalls.{created-undoes, renamed-undoes, opened-undoes, read_at-undoes, seek_at-undoes, len_at-undoes, new_pipe-undoes}
+use Rattle.xc_world.proofs.UndoingCalls.{new_pair-undoes, read_pipe_at-undoes, receive_at-undoes}
 use Rattle.xc_world.proofs.Sound.{act_sound}
 
 -- what a call with its reply records brings the world before it back
@@ -55,6 +57,7 @@ pub record NoneRecorded (w : World) (me : Private) (tx : ℕ) (c : Call) : Type 
   pub too_much : recorded w me tx c reply.TooMuch ≡ []
   pub bad_word : recorded w me tx c reply.BadWord ≡ []
 
+-- a refused call has no record
 pub refusal-none : (w : World) (me : Private) (tx : ℕ) (c : Call) → NoneRecorded w me tx c
 refusal-none w me tx (call.XWriteOvr h bytes) =
     let e = overwrite_record-none w bytes (place_of me.places h) in
@@ -146,6 +149,7 @@ all_undone-append : (w : World) (us vs : List Undo) → all_undone w (us ++ vs) 
 all_undone-append w [] vs = refl
 all_undone-append w (u ∷ us) vs = ap (λ v. undone v u) (all_undone-append w us vs)
 
+-- all records of a body undone bring its world back
 pub body-undoes : (w : World) (me : Private) (tx : ℕ) (asked : List Asked) → IsSound w me tx → IsTrue (body_fits w me tx asked)
     → BroughtBack w (all_undone (body w me tx asked).world (body w me tx asked).trail)
 body-undoes w me tx [] sound fit = same-back w
@@ -153,7 +157,8 @@ body-undoes w me tx (c ∷ asked) sound fit =
     let s = act w me tx c.call c.answer in
     let rest = body s.world s.me tx asked in
     let both = and_parts (fits w me tx c.call c.answer) (body_fits s.world s.me tx asked) fit in
-    let later : BroughtBack s.world (all_undone rest.world rest.trail) = body-undoes s.world s.me tx asked (act_sound w me tx c.call c.answer both.0 sound) both.1 in
+    let later : BroughtBack s.world (all_undone rest.world rest.trail) =
+    body-undoes s.world s.me tx asked (act_sound w me tx c.call c.answer both.0 sound) both.1 in
     subst (λ (r : Ran). BroughtBack w (all_undone r.world r.trail)) (sym (body_first w me tx c asked))
     (subst (BroughtBack w) (sym (all_undone-append rest.world (recorded w me tx c.call s.reply) rest.trail))
     (act-undoes w me tx c.call c.answer sound both.0 (all_undone rest.world rest.trail) later))

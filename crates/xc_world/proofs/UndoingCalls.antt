@@ -1,5 +1,6 @@
 -- Undoing what one call left: the world before the call is brought back from the world behind it.
-use Rattle.std.proofs.Common.{◌≡◌, ℕ, ◌+◌, ◌≤◌, ◌<◌, Bool, true, false, Option, Some, None, is_some, List, [], ◌∷◌, ◌++◌, length, take, drop, refl, ap, sym, ◌∙◌, subst, arith}
+use Rattle.std.proofs.Common.{◌≡◌, ℕ, ◌+◌, ◌≤◌, ◌<◌, Bool, true, false, Option, Some, None, is_some, List, [], ◌∷◌, ◌++◌, length, take, drop, refl, ap, sym}
+use Rattle.std.proofs.Common.{◌∙◌, subst, arith}
 use Rattle.std.specs.Prelude.{IsTrue, ◌==◌, nat_lt, if◌then◌else◌}
 use Rattle.std.specs.FinMap as map
 use Rattle.std.specs.Ordering.{eq_by_cmp}
@@ -33,6 +34,7 @@ use Rattle.xc_world.proofs.UndoingParts.{restored, rest-all, rest-drop, file-bac
 abbrev pub Undoes : World → World → List Undo → Type 0
 Undoes w s us = (v : World) → BroughtBack s v → BroughtBack w (all_undone v us)
 
+-- a call needs no record to be undone
 abbrev pub UndoesNone : World → Stepped → Type 0
 UndoesNone w s = Undoes w s.world []
 
@@ -60,6 +62,7 @@ put-undoes w num at n bytes written there e le inside v back =
     file-back w v num (overwritten at written (file_of w num)) (overwritten at (take n (take (length bytes) (drop at (file_of w num))))) there
     (restored at n (length bytes) written (file_of w num) e le inside) back
 
+-- the record of an overwrite undoes it
 pub overwrite_at-undoes : (w : World) (me : Private) (h : ℕ) (bytes : List ℕ) (p : Place) → IsKnown w p
     → UndoesOverwrite w bytes p (overwrite_at w me h bytes p)
 overwrite_at-undoes w me h bytes (File num at) there =
@@ -86,6 +89,7 @@ pub record Stops (n : ℕ) (bytes : List ℕ) (s : Stepped) : Type 0 where
   pub would : IsTrue (is_done s.reply)
   pub before : n < length bytes
 
+-- the record of an overwrite that stops after n bytes undoes it
 pub overwrite_short-undoes : (w : World) (me : Private) (h : ℕ) (bytes : List ℕ) (n : ℕ) (p : Place) → IsKnown w p
     → ((n == 0) ≡ false → Stops n bytes (overwrite_at w me h bytes p)) → UndoesOverwrite w bytes p (overwrite_short w me h bytes n p)
 overwrite_short-undoes w me h bytes n (File num at) there stops =
@@ -108,6 +112,7 @@ appended-undoes : (w : World) (num : Num) (n : ℕ) (bytes written : List ℕ) �
 appended-undoes w num n bytes written there v back =
     file-back w v num (file_of w num ++ written) (take (length (file_of w num))) there (take-append_seam (file_of w num) written) back
 
+-- the record of an append undoes it
 pub append_at-undoes : (w : World) (me : Private) (h : ℕ) (bytes : List ℕ) (p : Place) → IsKnown w p
     → UndoesAppend w bytes p (append_at w me h bytes p)
 append_at-undoes w me h bytes (File num at) there =
@@ -118,6 +123,7 @@ append_at-undoes w me h bytes Vacant known = as_is w
 append_at-undoes w me h bytes (Pipe num) known = as_is w
 append_at-undoes w me h bytes (Pair num side) known = as_is w
 
+-- the record of an append that stops after n bytes undoes it
 pub append_short-undoes : (w : World) (me : Private) (h : ℕ) (bytes : List ℕ) (n : ℕ) (p : Place) → IsKnown w p
     → UndoesAppend w bytes p (append_short w me h bytes n p)
 append_short-undoes w me h bytes n (File num at) there =
@@ -174,6 +180,7 @@ renamed-undoes w me from to (Some num) None e f v back =
       words = back.words;
     })
 
+-- to open a file leaves nothing to undo
 pub opened-undoes : (w : World) (me : Private) (o : Option Num) (vacant : Option ℕ) → UndoesNone w (opened w me o vacant)
 opened-undoes w me None vacant v back = back
 opened-undoes w me (Some num) None v back = back
@@ -188,12 +195,14 @@ read_at-undoes w me h n Vacant = as_is w
 read_at-undoes w me h n (Pipe num) = as_is w
 read_at-undoes w me h n (Pair num side) = as_is w
 
+-- to set a handle's position leaves nothing to undo
 pub seek_at-undoes : (w : World) (me : Private) (h to : ℕ) (p : Place) → UndoesNone w (seek_at w me h to p)
 seek_at-undoes w me h to (File num at) v back = back
 seek_at-undoes w me h to Vacant v back = back
 seek_at-undoes w me h to (Pipe num) v back = back
 seek_at-undoes w me h to (Pair num side) v back = back
 
+-- to ask for a file's length leaves nothing to undo
 pub len_at-undoes : (w : World) (me : Private) (p : Place) → UndoesNone w (len_at w me p)
 len_at-undoes w me (File num at) v back = back
 len_at-undoes w me Vacant v back = back
@@ -211,6 +220,7 @@ pair_made-undoes : (w : World) (me : Private) (tx h : ℕ) (p : Place) (vacant :
 pair_made-undoes w me tx h p None free v back = back
 pair_made-undoes w me tx h p (Some g) free v back = new_pair-back w v (next_num me tx) empty_pair free.pair back
 
+-- the record of a new pair undoes it
 pub new_pair-undoes : (w : World) (me : Private) (tx : ℕ) (vacant : Option ℕ) → IsFree w (next_num me tx)
     → Undoes w (new_pair w me tx vacant).world (pair_record me tx (new_pair w me tx vacant).reply)
 new_pair-undoes w me tx None free = as_is w
@@ -223,7 +233,8 @@ pub read_pipe_at-undoes : (w : World) (me : Private) (n : ℕ) (p : Place) → I
 read_pipe_at-undoes w me n (Pipe num) there =
     cond_both (n == 0) _ _ (UndoesNone w) (λ _. as_is w) (λ _.
     cond_both (length (pipe_of w num).held == 0) _ _ (UndoesNone w) (λ _. as_is w) (λ _ v back.
-    pipe-back w v num (record (pipe_of w num) { held = drop n (pipe_of w num).held }) there (record { shut = refl; held = rest-drop n (pipe_of w num).held }) back))
+    pipe-back w v num (record (pipe_of w num) { held = drop n (pipe_of w num).held }) there
+    (record { shut = refl; held = rest-drop n (pipe_of w num).held }) back))
 read_pipe_at-undoes w me n Vacant known = as_is w
 read_pipe_at-undoes w me n (File num at) known = as_is w
 read_pipe_at-undoes w me n (Pair num side) known = as_is w
@@ -240,6 +251,7 @@ received-undoes w me num side [] there e v back = back
 received-undoes w me num side (message ∷ messages) there e v back =
     pair-back w v num (with_waiting (pair_of w num) side messages) there (first-taken (pair_of w num) (side == 0) message messages e) back
 
+-- a message that was taken stays away
 pub receive_at-undoes : (w : World) (me : Private) (p : Place) → IsKnown w p → UndoesNone w (receive_at w me p)
 receive_at-undoes w me (Pair num side) known = received-undoes w me num side (waiting (pair_of w num) side) known.0 refl
 receive_at-undoes w me Vacant known = as_is w

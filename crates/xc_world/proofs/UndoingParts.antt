@@ -1,6 +1,7 @@
 -- What undoing rests on: lists whose middle is put back, maps with one key put back, and what is
 -- left of pipes and pairs.
-use Rattle.std.proofs.Common.{◌≡◌, ℕ, ◌+◌, ◌≤◌, Bool, true, false, cond, Option, Some, None, is_some, unwrap_or, List, [], ◌++◌, length, take, drop, refl, ap, ap₂, sym, ◌∙◌, subst, append_assoc, arith, length-append, length-drop}
+use Rattle.std.proofs.Common.{◌≡◌, ℕ, ◌+◌, ◌≤◌, Bool, true, false, cond, Option, Some, None, is_some, unwrap_or, List, [], ◌++◌, length, take, drop, refl, ap}
+use Rattle.std.proofs.Common.{ap₂, sym, ◌∙◌, subst, append_assoc, arith, length-append, length-drop}
 use Rattle.std.specs.FinMap as map
 use Rattle.std.specs.Ordering.{eq_by_cmp}
 use Rattle.std.proofs.lemmas.List.{take-append-drop, take-take, drop-drop, length-take-le}
@@ -49,9 +50,11 @@ there_by (Some y) x there = refl
 
 -- ---- rests
 module _ {A : Type 0} where
+  -- all of a list is a rest of it
   pub rest-all : (xs : List A) → IsRest xs xs
   rest-all xs = record { taken = []; split = refl }
 
+  -- a list without its first items is a rest of it
   pub rest-drop : (n : ℕ) (xs : List A) → IsRest xs (drop n xs)
   rest-drop n xs = record { taken = take n xs; split = sym (take-append-drop n xs) }
 
@@ -70,7 +73,11 @@ pair_rest-all p = record { shut = refl; first = rest-all p.first; second = rest-
 
 pair_rest-rest : (p q r : Pair) → IsPairRest p q → IsPairRest q r → IsPairRest p r
 pair_rest-rest p q r a b =
-    record { shut = b.shut ∙ a.shut; first = rest-rest p.first q.first r.first a.first b.first; second = rest-rest p.second q.second r.second a.second b.second }
+    record {
+      shut = b.shut ∙ a.shut;
+      first = rest-rest p.first q.first r.first a.first b.first;
+      second = rest-rest p.second q.second r.second a.second b.second;
+    }
 
 -- ---- maps of what is left
 abbrev pub AreRests : {X : Type 0} → (X → X → Type 0) → map.FinMap num_cmp X → map.FinMap num_cmp X → Type 0
@@ -146,6 +153,7 @@ file-back w v num bytes g there e b =
       words = b.words;
     }
 
+-- what brings back a world with the rest of a pipe brings back the world before
 pub pipe-back : (w v : World) (num : Num) (now : Pipe) → is_some (map.get w.pipes num) ≡ true → IsPipeRest (pipe_of w num) now
     → BroughtBack (with_pipe w num now) v → BroughtBack w v
 pipe-back w v num now there rest b =
@@ -160,6 +168,7 @@ pipe-back w v num now there rest b =
       words = b.words;
     }
 
+-- what brings back a world with the rest of a pair brings back the world before
 pub pair-back : (w v : World) (num : Num) (now : Pair) → is_some (map.get w.pairs num) ≡ true → IsPairRest (pair_of w num) now
     → BroughtBack (with_pair w num now) v → BroughtBack w v
 pair-back w v num now there rest b =
@@ -174,6 +183,7 @@ pair-back w v num now there rest b =
       words = b.words;
     }
 
+-- what brings back a world with a new pipe brings back the world before, once the pipe is removed
 pub new_pipe-back : (w v : World) (num : Num) (now : Pipe) → map.get w.pipes num ≡ None → BroughtBack (with_pipe w num now) v
     → BroughtBack w (record v { pipes = map.remove v.pipes num })
 new_pipe-back w v num now none b =
@@ -187,6 +197,7 @@ new_pipe-back w v num now none b =
       words = b.words;
     }
 
+-- what brings back a world with a new pair brings back the world before, once the pair is removed
 pub new_pair-back : (w v : World) (num : Num) (now : Pair) → map.get w.pairs num ≡ None → BroughtBack (with_pair w num now) v
     → BroughtBack w (record v { pairs = map.remove v.pairs num })
 new_pair-back w v num now none b =

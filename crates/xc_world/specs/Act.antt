@@ -50,10 +50,12 @@ faulty w me (call.XWriteOvr h bytes) n = overwrite_short w me h bytes n (place_o
 faulty w me (call.XWriteSeq h bytes) n = append_short w me h bytes n (place_of me.places h)
 faulty w me _ n = stays w me (reply.Fault n)
 
+-- what a call does that its private checks pass, as the host answers it
 abbrev pub done : World → Private → ℕ → Call → Answer → Stepped
 done w me tx call answer.Fine = fine w me tx call
 done w me tx call (answer.Fault n) = faulty w me call n
 
+-- what a call does: the private checks refuse it, or it is done
 abbrev pub act : World → Private → ℕ → Call → Answer → Stepped
 act w me tx call answer =
     if is_bad_handle call me then stays w me reply.BadHandle

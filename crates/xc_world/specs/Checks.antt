@@ -1,7 +1,8 @@
 -- The private checks of a call: what refuses it before anything is touched.
 use Rattle.std.specs.Prelude.{ℕ, ◌+◌, ◌||◌, Bool, true, false, not, is_none, List, [], length, count_by, nat_lt, nat_le, if◌then◌else◌}
 use Rattle.xc_data.specs.declared.call.Call.{Call}
-use Rattle.xc_data.specs.declared.call.Call.TheVariants.{Load, Store, XOpen, XCreate, XRead, XWriteOvr, XWriteSeq, XSeek, XLen, XClose, XPipe, XReadPipe, XPair, XRecvmsg, XSync, XWritePipe, XShutdown, XSendmsg}
+use Rattle.xc_data.specs.declared.call.Call.TheVariants.{Load, Store, XOpen, XCreate, XRead, XWriteOvr, XWriteSeq, XSeek, XLen, XClose}
+use Rattle.xc_data.specs.declared.call.Call.TheVariants.{XPipe, XReadPipe, XPair, XRecvmsg, XSync, XWritePipe, XShutdown, XSendmsg}
 use Rattle.xc_data.specs.declared.call.Reply.{Reply}
 use Rattle.xc_data.specs.declared.call.Reply.TheVariants as reply
 use Rattle.xc_data.specs.declared.private.Place.{Place}
@@ -9,14 +10,17 @@ use Rattle.xc_data.specs.declared.private.Place.TheVariants as place
 use Rattle.xc_data.specs.declared.private.Private.{Private}
 use Rattle.xc_data.specs.Private.{place_of, is_vacant, lowest_vacant}
 
+-- whether a file stands at a place
 abbrev pub is_file : Place → Bool
 is_file (place.File num at) = true
 is_file _ = false
 
+-- whether a pipe stands at a place
 abbrev pub is_pipe : Place → Bool
 is_pipe (place.Pipe num) = true
 is_pipe _ = false
 
+-- whether a side of a pair stands at a place
 abbrev pub is_pair : Place → Bool
 is_pair (place.Pair num side) = true
 is_pair _ = false

@@ -44,6 +44,7 @@ abbrev pub IsMadeIn : World → Undo → Type 0
 IsMadeIn w (Bytes file at before after n) = IsOverwriteIn w file at before after n
 IsMadeIn w _ = ⊥
 
+-- each record was made in the world that the records before it leave
 abbrev pub AreMadeIn : World → List Undo → Type 0
 AreMadeIn w [] = Unit {0}
 AreMadeIn w (u ∷ us) = IsMadeIn w u × AreMadeIn (with_effect w u 0) us
@@ -51,7 +52,8 @@ AreMadeIn w (u ∷ us) = IsMadeIn w u × AreMadeIn (with_effect w u 0) us
 -- ---- one record's compensation
 -- the first bytes of an overwrite are the old ones again
 abbrev pub restored : World → Undo → ℕ → World
-restored w (Bytes file at before after n) done = if done == 0 then w else with_file w file (overwritten at (take done before) (file_of w file))
+restored w (Bytes file at before after n) done =
+    if done == 0 then w else with_file w file (overwritten at (take done before) (file_of w file))
 restored w _ done = w
 
 -- what a compensation with this end did: all, a front, or nothing

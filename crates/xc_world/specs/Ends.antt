@@ -19,6 +19,7 @@ Ending = Undo × UndoEnd
 abbrev pub share_object : Undo → Undo → Bool
 share_object a b = list_any (λ o. list_any (is_object o) (objects_of b)) (objects_of a)
 
+-- whether a compensation undid its record
 abbrev pub is_undone : UndoEnd → Bool
 is_undone (Undone faults) = true
 is_undone _ = false
@@ -53,6 +54,7 @@ abbrev pub standing_of : Undo → Option ℕ → Option (Undo × ℕ)
 standing_of u None = None
 standing_of u (Some k) = Some (u, k)
 
+-- the records that stand, each with the byte from which it does
 abbrev pub remains : List Ending → List (Undo × ℕ)
 remains records = filter_map (λ r. standing_of r.0 (stands_from r.0 r.1)) records
 

@@ -1,7 +1,8 @@
 -- Which answers of the host fit a call, and a late call.
 use Rattle.std.specs.Prelude.{ℕ, ◌==◌, ◌&&◌, Bool, true, false, not, min, length, nat_lt, nat_le, if◌then◌else◌}
 use Rattle.xc_data.specs.declared.call.Call.{Call}
-use Rattle.xc_data.specs.declared.call.Call.TheVariants.{XOpen, XCreate, XRead, XWriteOvr, XWriteSeq, XLen, XRename, XPipe, XReadPipe, XPair, XRecvmsg}
+use Rattle.xc_data.specs.declared.call.Call.TheVariants.{XOpen, XCreate, XRead, XWriteOvr, XWriteSeq, XLen, XRename, XPipe, XReadPipe}
+use Rattle.xc_data.specs.declared.call.Call.TheVariants.{XPair, XRecvmsg}
 use Rattle.xc_data.specs.declared.call.Answer.{Answer}
 use Rattle.xc_data.specs.declared.call.Answer.TheVariants as answer
 use Rattle.xc_data.specs.declared.call.Reply.{Reply}
@@ -34,11 +35,13 @@ asks_host XPair = true
 asks_host (XRecvmsg h) = true
 asks_host _ = false
 
+-- whether a call writes to a file
 abbrev pub is_write : Call → Bool
 is_write (XWriteOvr h bytes) = true
 is_write (XWriteSeq h bytes) = true
 is_write _ = false
 
+-- whether a reply is `Done`
 abbrev pub is_done : Reply → Bool
 is_done reply.Done = true
 is_done _ = false
@@ -50,7 +53,8 @@ may_stop w me tx call n = is_write call && is_done (fine w me tx call).reply && 
 -- a fault fits what passes the private checks: with no byte done, what asks the host; else such a write
 abbrev pub fits : World → Private → ℕ → Call → Answer → Bool
 fits w me tx call answer.Fine = true
-fits w me tx call (answer.Fault n) = not (is_refused call me (length w.words)) && (if n == 0 then asks_host call else may_stop w me tx call n)
+fits w me tx call (answer.Fault n) =
+    not (is_refused call me (length w.words)) && (if n == 0 then asks_host call else may_stop w me tx call n)
 
 -- ---- late calls
 abbrev pub is_thread : LateCall → Bool
@@ -83,6 +87,7 @@ abbrev pub answer_of : Reply → Answer
 answer_of (reply.Fault n) = answer.Fault n
 answer_of _ = answer.Fine
 
+-- the answer that a late call's end tells of
 abbrev pub late_answer_of : LateEnd → LateAnswer
 late_answer_of (end.Fault n) = late_answer.Fault n
 late_answer_of (end.NoMemory n) = late_answer.NoMemory n

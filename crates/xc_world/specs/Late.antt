@@ -1,5 +1,6 @@
 -- Late calls: what a call leaves to be done after the commit, and how that ends.
-use Rattle.std.specs.Prelude.{ℕ, ◌-◌, ◌==◌, ◌||◌, Bool, true, false, not, min, Option, List, [], ◌∷◌, ◌++◌, length, take, nat_lt, nat_le, nat_eq, if◌then◌else◌}
+use Rattle.std.specs.Prelude.{ℕ, ◌-◌, ◌==◌, ◌||◌, Bool, true, false, not, min, Option, List, [], ◌∷◌, ◌++◌, length, take, nat_lt, nat_le}
+use Rattle.std.specs.Prelude.{nat_eq, if◌then◌else◌}
 use Rattle.std.specs.declared.option.Option.TheVariants.{None, Some}
 use Rattle.std.specs.FinMap as map
 use Rattle.std.specs.List.{list_any}
@@ -28,15 +29,18 @@ abbrev pub sync_of : Place → List LateCall
 sync_of (place.File num at) = Sync num ∷ []
 sync_of _ = []
 
+-- a write to the pipe at a handle, if one is there
 abbrev pub write_pipe_of : Place → List ℕ → List LateCall
 write_pipe_of (place.Pipe num) bytes = WritePipe num bytes ∷ []
 write_pipe_of _ bytes = []
 
+-- a shutdown of the pipe or the pair at a handle, if one is there
 abbrev pub shutdown_of : Place → List LateCall
 shutdown_of (place.Pipe num) = Shutdown (object.Pipe num) ∷ []
 shutdown_of (place.Pair num side) = Shutdown (object.Pair num) ∷ []
 shutdown_of _ = []
 
+-- a message from the side of a pair at a handle, if one is there
 abbrev pub send_of : Place → List ℕ → List LateCall
 send_of (place.Pair num side) bytes = Send num side bytes ∷ []
 send_of _ bytes = []
@@ -66,9 +70,11 @@ pub record Ended : Type 0 where
   pub world : World
   pub end : LateEnd
 
+-- a late call that leaves this world and ended so
 abbrev pub ends : World → LateEnd → Ended
 ends w e = record { world = w; end = e }
 
+-- a name that is there is removed
 abbrev pub unlinked : World → List ℕ → Option Num → Ended
 unlinked w name None = ends w end.NoName
 unlinked w name (Some num) = ends (record w { names = map.remove w.names name }) end.Done
@@ -81,12 +87,15 @@ room pipe = 4096 - length pipe.held
 abbrev pub with_put : World → Num → List ℕ → World
 with_put w num bytes = with_pipe w num (record (pipe_of w num) { held = (pipe_of w num).held ++ bytes })
 
+-- what fits of the bytes is put into the pipe, and none into a shut one
 abbrev pub pipe_written : World → Num → List ℕ → Ended
 pipe_written w num bytes =
     if (pipe_of w num).shut then ends w end.Shut
-    else if nat_lt (room (pipe_of w num)) (length bytes) then ends (with_put w num (take (room (pipe_of w num)) bytes)) (end.Full (room (pipe_of w num)))
+    else if nat_lt (room (pipe_of w num)) (length bytes)
+    then ends (with_put w num (take (room (pipe_of w num)) bytes)) (end.Full (room (pipe_of w num)))
     else ends (with_put w num bytes) end.Done
 
+-- the pipe or the pair is shut
 abbrev pub shut_down : World → Object → Ended
 shut_down w (object.Pipe num) = ends (with_pipe w num (record (pipe_of w num) { shut = true })) end.Done
 shut_down w (object.Pair num) = ends (with_pair w num (record (pair_of w num) { shut = true })) end.Done
@@ -96,15 +105,18 @@ shut_down w _ = ends w end.Done
 abbrev pub sent_to : Pair → ℕ → List ℕ → Pair
 sent_to pair side bytes = with_waiting pair side (waiting pair side ++ bytes ∷ [])
 
+-- the message is put behind the fewer than 8 that wait for the other side, and none into a shut pair
 abbrev pub sent : World → Num → ℕ → List ℕ → Ended
 sent w num side bytes =
     if (pair_of w num).shut then ends w end.Shut
     else if nat_le 8 (length (waiting (pair_of w num) (other_side side))) then ends w (end.Full 0)
     else ends (with_pair w num (sent_to (pair_of w num) (other_side side) bytes)) end.Done
 
+-- whether the world has this block
 abbrev pub is_block : World → List ℕ → Bool
 is_block w body = list_any (λ block. pointwise nat_eq block body) w.blocks
 
+-- a block of the world's is started, where fewer than 1000 are
 abbrev pub thread_started : World → List ℕ → Ended
 thread_started w body =
     if not (is_block w body) then ends w end.NoScript
@@ -128,6 +140,7 @@ stopped w (WritePipe num bytes) n =
     else with_put w num (take (min n (room (pipe_of w num))) bytes)
 stopped w _ n = w
 
+-- what a late call does, as the host answers it
 abbrev pub late : World → LateCall → LateAnswer → Ended
 late w c late_answer.Fine = late_fine w c
 late w c (late_answer.Fault n) = ends (stopped w c n) (end.Fault n)

@@ -13,6 +13,7 @@ use Rattle.xc_world.specs.World.{World, State, with_pipe, with_pair, empty_pair}
 abbrev pub line_num : ℕ → Num
 line_num k = record { tx = 0; k = k }
 
+-- the world with one object more, of this number
 abbrev pub with_opened : World → Num → Opened → World
 with_opened w num (opened.File name bytes) = record w { names = map.insert w.names name num; files = map.insert w.files num bytes }
 with_opened w num (opened.Pipe bytes) = with_pipe w num (record { held = bytes; shut = false })
@@ -25,8 +26,18 @@ with_all_opened w k (o ∷ objects) = with_all_opened (with_opened w (line_num k
 
 -- the script's words and blocks, its jobs started, and no object
 abbrev pub bare : Script0 → World
-bare script = record { words = script.words; names = map.empty; files = map.empty; pipes = map.empty; pairs = map.empty; started = script.jobs; blocks = script.jobs ++ script.bodies }
+bare script =
+    record {
+      words = script.words;
+      names = map.empty;
+      files = map.empty;
+      pipes = map.empty;
+      pairs = map.empty;
+      started = script.jobs;
+      blocks = script.jobs ++ script.bodies;
+    }
 
+-- the world that a script opens with
 abbrev pub opening : Script0 → World
 opening script = with_all_opened (bare script) 0 script.prologue.objects
 
@@ -41,5 +52,6 @@ handles_of k (opened.Pair ∷ objects) = place.Pair (line_num k) 0 ∷ place.Pai
 abbrev pub opening_handles : Script0 → List Place
 opening_handles script = let handles = handles_of 0 script.prologue.objects in handles ++ replicate (256 - length handles) place.Vacant
 
+-- the world that a script opens with, and each job's handles
 abbrev pub opening_state : Script0 → State
 opening_state script = record { world = opening script; handles = replicate (length script.jobs) (opening_handles script) }

@@ -58,6 +58,7 @@ abbrev pub late_changes : LateCall → List Object
 late_changes (Sync num) = []
 late_changes c = late_objects c
 
+-- a late call speaks of objects that are seen, and changes its own alone
 pub record LooksWithin (sees own : Object → Type 0) (c : LateCall) : Type 0 where
   pub looks : All sees (late_objects c)
   pub changes : All own (late_changes c)

@@ -33,6 +33,7 @@ abbrev pub bytes_taken : Place → List ℕ → List KeptItem
 bytes_taken (Pipe num) bytes = if length bytes == 0 then [] else Bytes num bytes ∷ []
 bytes_taken _ bytes = []
 
+-- the message that left the pair at a handle
 abbrev pub message_taken : Place → List ℕ → List KeptItem
 message_taken (Pair num side) bytes = Message num side bytes ∷ []
 message_taken _ bytes = []
@@ -64,6 +65,7 @@ pub record Ran : Type 0 where
   pub taken : List KeptItem
   pub touched : List Claim
 
+-- a body that has made no call yet
 abbrev pub begins : World → Private → Ran
 begins w me = record { world = w; me = me; replies = []; late = []; trail = []; taken = []; touched = [] }
 
@@ -80,6 +82,7 @@ stepped tx ran call s =
       touched = ran.touched ++ claims_of call ran.me (length ran.world.words);
     }
 
+-- a body with one call more
 abbrev pub step : ℕ → Ran → Asked → Ran
 step tx ran asked = stepped tx ran asked.call (act ran.world ran.me tx asked.call asked.answer)
 
@@ -87,6 +90,7 @@ step tx ran asked = stepped tx ran asked.call (act ran.world ran.me tx asked.cal
 abbrev pub goes_on : ℕ → Ran → List Asked → Ran
 goes_on tx ran asked = fold (step tx) ran asked
 
+-- the calls of a body, one after another from its begin
 abbrev pub body : World → Private → ℕ → List Asked → Ran
 body w me tx asked = goes_on tx (begins w me) asked
 
@@ -106,6 +110,7 @@ pub record Finished : Type 0 where
   pub world : World
   pub ends : List LateEnd
 
+-- the late calls, one after another
 abbrev pub lates : World → List (LateCall × LateAnswer) → Finished
 lates w [] = record { world = w; ends = [] }
 lates w ((call, answer) ∷ rest) =
@@ -113,6 +118,7 @@ lates w ((call, answer) ∷ rest) =
     let more = lates e.world rest in
     record { world = more.world; ends = e.end ∷ more.ends }
 
+-- each answer fits its late call where it is made
 abbrev pub lates_fit : World → List (LateCall × LateAnswer) → Bool
 lates_fit w [] = true
 lates_fit w ((call, answer) ∷ rest) = late_fits w call answer && lates_fit (late w call answer).world rest
@@ -123,6 +129,7 @@ asked_of [] replies = []
 asked_of (call ∷ calls) [] = record { call = call; answer = answer.Fine } ∷ asked_of calls []
 asked_of (call ∷ calls) (reply ∷ replies) = record { call = call; answer = answer_of reply } ∷ asked_of calls replies
 
+-- the late calls, each with the answer that its end tells of
 abbrev pub late_asked_of : List LateCall → List LateEnd → List (LateCall × LateAnswer)
 late_asked_of [] ends = []
 late_asked_of (call ∷ calls) [] = (call, late_answer.Fine) ∷ late_asked_of calls []
@@ -133,11 +140,13 @@ pub record Run : Type 0 where
   pub body : Ran
   pub late : Finished
 
+-- a body, and then its late calls with the answers that their ends tell of
 abbrev pub run : World → Private → ℕ → List Asked → List LateEnd → Run
 run w me tx asked ends =
     let ran = body w me tx asked in
     record { body = ran; late = lates ran.world (late_asked_of ran.late ends) }
 
+-- each answer fits its call, and each answer of a late call fits that
 abbrev pub run_fits : World → Private → ℕ → List Asked → List LateEnd → Bool
 run_fits w me tx asked ends =
     let ran = body w me tx asked in

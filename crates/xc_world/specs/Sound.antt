@@ -17,6 +17,7 @@ use Rattle.xc_world.specs.World.{World, Pair, file_of, pair_of}
 abbrev pub AreShort : List (List ℕ) → Type 0
 AreShort messages = All (λ message. length message ≤ 1024) messages
 
+-- the messages of both sides have at most 1024 bytes each
 pub record HoldsShort (pair : Pair) : Type 0 where
   pub first : AreShort pair.first
   pub second : AreShort pair.second
@@ -40,6 +41,7 @@ IsKnown w (place.File num at) = is_some (map.get w.files num) ≡ true
 IsKnown w (place.Pipe num) = is_some (map.get w.pipes num) ≡ true
 IsKnown w (place.Pair num side) = (is_some (map.get w.pairs num) ≡ true) × (side ≤ 1)
 
+-- the world is fit, the transaction is within its limits, its next numbers are free and its handles are known
 pub record IsSound (w : World) (me : Private) (tx : ℕ) : Type 0 where
   pub world : IsFit w
   pub made : me.made ≤ 16
@@ -54,6 +56,7 @@ late_bytes_of (WritePipe num bytes) = bytes
 late_bytes_of (Send num side bytes) = bytes
 late_bytes_of _ = []
 
+-- a late call carries at most 1024 bytes
 abbrev pub IsShortCall : LateCall → Type 0
 IsShortCall c = length (late_bytes_of c) ≤ 1024
 

@@ -30,7 +30,8 @@ objects_of_call (call.XWriteOvr h bytes) me = object_at (place_of me.places h)
 objects_of_call (call.XWriteSeq h bytes) me = object_at (place_of me.places h)
 objects_of_call (call.XSeek h to) me = []
 objects_of_call (call.XLen h) me = object_at (place_of me.places h)
-objects_of_call (call.XRename from to) me = if pointwise nat_eq from to then object.Name from ∷ [] else object.Name from ∷ object.Name to ∷ []
+objects_of_call (call.XRename from to) me =
+    if pointwise nat_eq from to then object.Name from ∷ [] else object.Name from ∷ object.Name to ∷ []
 objects_of_call (call.XClose h) me = []
 objects_of_call call.XPipe me = []
 objects_of_call (call.XReadPipe h n) me = object_at (place_of me.places h)

@@ -26,7 +26,8 @@ done_of all _ = 0
 
 -- an overwrite that did n bytes
 abbrev pub overwrite_record : World → List ℕ → ℕ → Place → List Undo
-overwrite_record w bytes n (place.File num at) = if n == 0 then [] else Bytes num at (take (length bytes) (drop at (file_of w num))) bytes n ∷ []
+overwrite_record w bytes n (place.File num at) =
+    if n == 0 then [] else Bytes num at (take (length bytes) (drop at (file_of w num))) bytes n ∷ []
 overwrite_record w bytes n _ = []
 
 -- an append that did n bytes
@@ -34,18 +35,22 @@ abbrev pub append_record : World → List ℕ → ℕ → Place → List Undo
 append_record w bytes n (place.File num at) = if n == 0 then [] else Tail num (length (file_of w num)) bytes n ∷ []
 append_record w bytes n _ = []
 
+-- the record of a file that was made
 abbrev pub create_record : Private → ℕ → List ℕ → Reply → List Undo
 create_record me tx name (reply.Made h) = Made name (next_num me tx) ∷ []
 create_record me tx name _ = []
 
+-- the record of a file that took another name
 abbrev pub rename_record : List ℕ → List ℕ → Reply → List Undo
 rename_record from to reply.Done = Moved from to ∷ []
 rename_record from to _ = []
 
+-- the record of a pipe that was made
 abbrev pub pipe_record : Private → ℕ → Reply → List Undo
 pipe_record me tx (reply.Made h) = NewPipe (next_num me tx) ∷ []
 pipe_record me tx _ = []
 
+-- the record of a pair that was made
 abbrev pub pair_record : Private → ℕ → Reply → List Undo
 pair_record me tx (reply.MadePair h g) = NewPair (next_num me tx) ∷ []
 pair_record me tx _ = []
@@ -65,6 +70,7 @@ abbrev pub move_name : World → List ℕ → List ℕ → Option Num → World
 move_name w from to None = w
 move_name w from to (Some num) = with_moved w from to num
 
+-- the world with what a record tells of, from its k-th byte on
 abbrev pub with_effect : World → Undo → ℕ → World
 with_effect w (Bytes file at before after n) k = with_file w file (overwritten (at + k) (drop k (take n after)) (file_of w file))
 with_effect w (Tail file from after n) k = with_file w file (file_of w file ++ drop k (take n after))

@@ -39,15 +39,19 @@ pub record State : Type 0 where
 abbrev pub file_of : World → Num → List ℕ
 file_of w num = unwrap_or (map.get w.files num) []
 
+-- a pipe that holds no byte and is not shut
 abbrev pub empty_pipe : Pipe
 empty_pipe = record { held = []; shut = false }
 
+-- the pipe of a number, or an empty one
 abbrev pub pipe_of : World → Num → Pipe
 pipe_of w num = unwrap_or (map.get w.pipes num) empty_pipe
 
+-- a pair in which no message waits, and which is not shut
 abbrev pub empty_pair : Pair
 empty_pair = record { first = []; second = []; shut = false }
 
+-- the pair of a number, or an empty one
 abbrev pub pair_of : World → Num → Pair
 pair_of w num = unwrap_or (map.get w.pairs num) empty_pair
 
@@ -59,6 +63,7 @@ waiting pair side = if side == 0 then pair.first else pair.second
 abbrev pub with_waiting : Pair → ℕ → List (List ℕ) → Pair
 with_waiting pair side messages = if side == 0 then record pair { first = messages } else record pair { second = messages }
 
+-- the side that is not this one
 abbrev pub other_side : ℕ → ℕ
 other_side side = if side == 0 then 1 else 0
 
@@ -66,9 +71,11 @@ other_side side = if side == 0 then 1 else 0
 abbrev pub with_file : World → Num → List ℕ → World
 with_file w num bytes = record w { files = map.insert w.files num bytes }
 
+-- the world with a pipe under a number
 abbrev pub with_pipe : World → Num → Pipe → World
 with_pipe w num pipe = record w { pipes = map.insert w.pipes num pipe }
 
+-- the world with a pair under a number
 abbrev pub with_pair : World → Num → Pair → World
 with_pair w num pair = record w { pairs = map.insert w.pairs num pair }
 
@@ -76,26 +83,40 @@ with_pair w num pair = record w { pairs = map.insert w.pairs num pair }
 abbrev pub beginning : List Place → Private
 beginning places = record { places = places; made = 0; stored = 0 }
 
+-- 256 vacant places
 abbrev pub no_handles : List Place
 no_handles = replicate 256 Vacant
 
 -- ---- how a proof stores a world
 abbrev pub coded_pipe : Coded Pipe
-coded_pipe = code_by (List ℕ × Bool) (coded× coded_name coded_bool) (λ p. (p.held, p.shut)) (λ p. record { held = p.0; shut = p.1 }) (λ _. refl)
+coded_pipe =
+    code_by (List ℕ × Bool) (coded× coded_name coded_bool) (λ p. (p.held, p.shut)) (λ p. record { held = p.0; shut = p.1 }) (λ _. refl)
 
+-- how a proof stores a pair
 abbrev pub coded_pair : Coded Pair
 coded_pair =
     code_by (List (List ℕ) × (List (List ℕ) × Bool)) (coded× (coded_list coded_name) (coded× (coded_list coded_name) coded_bool))
     (λ p. (p.first, (p.second, p.shut))) (λ p. record { first = p.0; second = p.1.0; shut = p.1.1 }) (λ _. refl)
 
+-- how a proof stores a world
 abbrev pub coded_world : Coded World
 coded_world =
     code_by
-    (List ℕ × (map.FinMap name_cmp Num × (map.FinMap num_cmp (List ℕ) × (map.FinMap num_cmp Pipe × (map.FinMap num_cmp Pair × (List (List ℕ) × List (List ℕ)))))))
+    (List ℕ × (map.FinMap name_cmp Num
+    × (map.FinMap num_cmp (List ℕ) × (map.FinMap num_cmp Pipe × (map.FinMap num_cmp Pair × (List (List ℕ) × List (List ℕ)))))))
     (coded× coded_name
     (coded× (map.code coded_name coded_num)
     (coded× (map.code coded_num coded_name)
-    (coded× (map.code coded_num coded_pipe) (coded× (map.code coded_num coded_pair) (coded× (coded_list coded_name) (coded_list coded_name)))))))
+    (coded× (map.code coded_num coded_pipe)
+    (coded× (map.code coded_num coded_pair) (coded× (coded_list coded_name) (coded_list coded_name)))))))
     (λ w. (w.words, (w.names, (w.files, (w.pipes, (w.pairs, (w.started, w.blocks)))))))
-    (λ p. record { words = p.0; names = p.1.0; files = p.1.1.0; pipes = p.1.1.1.0; pairs = p.1.1.1.1.0; started = p.1.1.1.1.1.0; blocks = p.1.1.1.1.1.1 })
+    (λ p. record {
+      words = p.0;
+      names = p.1.0;
+      files = p.1.1.0;
+      pipes = p.1.1.1.0;
+      pairs = p.1.1.1.1.0;
+      started = p.1.1.1.1.1.0;
+      blocks = p.1.1.1.1.1.1;
+    })
     (λ _. refl)

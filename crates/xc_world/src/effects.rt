@@ -18,28 +18,33 @@ ghost use Rattle.xc_world.specs.Effects.{whole, takes_data, only_overwrites, Are
 /// a message.
 pub fn a_call_has_the_effects_of_its_records()
     ensures { (w : World) (me : Private) (tx : ℕ) (call : Call) (answer : Answer) → takes_data call ≡ false
-        → (act w me tx call answer).world ≡ record (with_remains w (whole (recorded w me tx call (act w me tx call answer).reply))) { words = (act w me tx call answer).world.words } }
+        → (act w me tx call answer).world ≡ record (with_remains w (whole (recorded w me tx call (act w me tx call answer).reply)))
+        { words = (act w me tx call answer).world.words } }
 {}
 
 /// Outside the words, a body's world with all that it took given back is its begin with the effects
 /// of its records.
 pub fn a_body_has_the_effects_of_its_records()
     ensures { (w : World) (me : Private) (tx : ℕ) (asked : List Asked) → IsSound w me tx → IsTrue (body_fits w me tx asked)
-        → given_back (body w me tx asked).world (body w me tx asked).taken ≡ record (with_remains w (whole (body w me tx asked).trail)) { words = (body w me tx asked).world.words } }
+        → given_back (body w me tx asked).world (body w me tx asked).taken
+        ≡ record (with_remains w (whole (body w me tx asked).trail)) { words = (body w me tx asked).world.words } }
 {}
 
 /// A body that leaves no record but of overwrites: each fits the file as the ones before it left it.
 pub fn an_overwriting_body_leaves_a_trail()
-    ensures { (w : World) (me : Private) (tx : ℕ) (asked : List Asked) → IsSound w me tx → IsTrue (body_fits w me tx asked) → All (λ c. only_overwrites c.call ≡ true) asked
+    ensures { (w : World) (me : Private) (tx : ℕ) (asked : List Asked) → IsSound w me tx → IsTrue (body_fits w me tx asked)
+        → All (λ c. only_overwrites c.call ≡ true) asked
         → AreMadeIn w (body w me tx asked).trail }
 {}
 
 /// A compensation with a legal end leaves what remains with that end: as if the record had not been
 /// made, or only so much of it, whatever newer records still stand.
 pub fn a_record_is_undone()
-    ensures { (w : World) (older : List Undo) (u : Undo) (newer : List Ending) (tries : ℕ) (end : UndoEnd) → AreMadeIn w (older ++ u ∷ map (λ r. r.0) newer)
+    ensures { (w : World) (older : List Undo) (u : Undo) (newer : List Ending) (tries : ℕ) (end : UndoEnd)
+        → AreMadeIn w (older ++ u ∷ map (λ r. r.0) newer)
         → IsLegalEnd tries u end (blocker (length older + 1 + 1) u newer)
-        → undone_to (with_remains w (whole (older ++ u ∷ []) ++ remains newer)) u end ≡ with_remains w (whole older ++ remains ((u, end) ∷ newer)) }
+        → undone_to (with_remains w (whole (older ++ u ∷ []) ++ remains newer)) u end
+        ≡ with_remains w (whole older ++ remains ((u, end) ∷ newer)) }
 {}
 
 /// The bytes that the newest record covers that still stands whole are in its file, however the
@@ -64,6 +69,7 @@ pub fn a_body_keeps_all_sound()
 
 /// It keeps every other transaction's private state sound too.
 pub fn a_body_keeps_others_sound()
-    ensures { (w : World) (me you : Private) (tx ty : ℕ) (asked : List Asked) → IsSound w me tx → IsTrue (body_fits w me tx asked) → IsSound w you ty → (ty ≢ tx)
+    ensures { (w : World) (me you : Private) (tx ty : ℕ) (asked : List Asked) → IsSound w me tx → IsTrue (body_fits w me tx asked)
+        → IsSound w you ty → (ty ≢ tx)
         → IsSound (body w me tx asked).world you ty }
 {}

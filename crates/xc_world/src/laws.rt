@@ -56,7 +56,8 @@ pub fn a_call_keeps_all_sound()
 
 /// It keeps every other transaction's private state sound too.
 pub fn a_call_keeps_others_sound()
-    ensures { (w : World) (me you : Private) (tx ty : ℕ) (call : Call) (answer : Answer) → IsTrue (fits w me tx call answer) → (ty ≢ tx) → IsSound w me tx → IsSound w you ty
+    ensures { (w : World) (me you : Private) (tx ty : ℕ) (call : Call) (answer : Answer) → IsTrue (fits w me tx call answer) → (ty ≢ tx)
+        → IsSound w me tx → IsSound w you ty
         → IsSound (act w me tx call answer).world you ty }
 {}
 
@@ -67,13 +68,15 @@ pub fn a_late_call_keeps_the_limits()
 
 /// Where its object is there it also keeps every transaction's private state sound.
 pub fn a_late_call_keeps_all_sound()
-    ensures { (w : World) (me : Private) (tx : ℕ) (call : LateCall) (answer : LateAnswer) → IsShortCall call → IsTrue (names_there w call) → IsSound w me tx
+    ensures { (w : World) (me : Private) (tx : ℕ) (call : LateCall) (answer : LateAnswer) → IsShortCall call → IsTrue (names_there w call)
+        → IsSound w me tx
         → IsSound (late w call answer).world me tx }
 {}
 
 /// The opening of a script within its limits is sound for each job's first transaction.
 pub fn the_opening_is_sound()
-    ensures { (script : Script0) → KeepsLimits script → (tx : ℕ) → 0 < tx → IsSound (opening script) (beginning (opening_handles script)) tx }
+    ensures { (script : Script0) → KeepsLimits script → (tx : ℕ) → 0 < tx
+        → IsSound (opening script) (beginning (opening_handles script)) tx }
 {}
 
 /// The late call that a call leaves is ready where it is made.
@@ -84,11 +87,13 @@ pub fn a_call_leaves_ready_late_calls()
 
 /// What is ready stays so at every call, also of another transaction.
 pub fn a_call_keeps_late_calls_ready()
-    ensures { (w : World) (me : Private) (tx : ℕ) (call : Call) (answer : Answer) (kept : LateCall) → IsTrue (fits w me tx call answer) → IsSound w me tx → IsReady w kept
+    ensures { (w : World) (me : Private) (tx : ℕ) (call : Call) (answer : Answer) (kept : LateCall) → IsTrue (fits w me tx call answer)
+        → IsSound w me tx → IsReady w kept
         → IsReady (act w me tx call answer).world kept }
 {}
 
 /// And at every late call.
 pub fn a_late_call_keeps_late_calls_ready()
-    ensures { (w : World) (call : LateCall) (answer : LateAnswer) (kept : LateCall) → IsShortCall call → IsFit w → IsReady w kept → IsReady (late w call answer).world kept }
+    ensures { (w : World) (call : LateCall) (answer : LateAnswer) (kept : LateCall) → IsShortCall call → IsFit w → IsReady w kept
+        → IsReady (late w call answer).world kept }
 {}

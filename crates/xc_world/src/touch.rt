@@ -32,7 +32,8 @@ fn one(alloc: Global, mode: Mode, object: Object) -> SmallVec<Claim, 2>
 
 // Two names, once where they are equal.
 fn both_names(alloc: Global, mode: Mode, from: Name, to: Name) -> SmallVec<Claim, 2>
-    ensures { result.items ≡ map (claim mode) (if pointwise nat_eq from to then object.Name from ∷ [] else object.Name from ∷ object.Name to ∷ []) }
+    ensures { result.items
+        ≡ map (claim mode) (if pointwise nat_eq from to then object.Name from ∷ [] else object.Name from ∷ object.Name to ∷ []) }
 {
     let mut claims = one(alloc, mode, Object::Name(from));
     if from != to {
@@ -103,7 +104,8 @@ fn shutdown_of(place: Place) -> Option<LateCall>
 }
 
 fn write_pipe_of(place: Place, bytes: &Chunk) -> Result<Option<LateCall>, NoMemory>
-    ensures { IfOk result (λ found. MatchOption found (write_pipe_of place bytes.now ≡ []) (λ late. write_pipe_of place bytes.now ≡ late ∷ [])) }
+    ensures { IfOk result (λ found.
+        MatchOption found (write_pipe_of place bytes.now ≡ []) (λ late. write_pipe_of place bytes.now ≡ late ∷ [])) }
 {
     match place {
         Place::Pipe(num) => Ok(Some(LateCall::WritePipe(num, bytes.share()?))),

@@ -32,7 +32,8 @@ ghost use Rattle.xc_world.specs.Own.{AgreeOn, IsNumbered, KeepsBut, Owns, Sees, 
 
 /// A call that touches its objects in the shared mode leaves the world as it was.
 pub fn a_reading_call_changes_nothing()
-    ensures { (w : World) (me : Private) (tx : ℕ) (call : Call) (answer : Answer) → mode_of call ≡ Shared → (act w me tx call answer).world ≡ w }
+    ensures { (w : World) (me : Private) (tx : ℕ) (call : Call) (answer : Answer) → mode_of call ≡ Shared
+        → (act w me tx call answer).world ≡ w }
 {}
 
 /// Which answers fit a call depends on what it touches and makes alone.
@@ -58,7 +59,8 @@ pub fn a_body_is_local()
 
 /// They do agree on that where nothing has the number yet in either world.
 pub fn worlds_without_a_number_agree_there()
-    ensures { (tx : ℕ) (w v : World) → ((k : ℕ) → IsFree w (record { tx = tx; k = k })) → ((k : ℕ) → IsFree v (record { tx = tx; k = k })) → AgreeOn (IsNumbered tx) w v }
+    ensures { (tx : ℕ) (w v : World) → ((k : ℕ) → IsFree w (record { tx = tx; k = k })) → ((k : ℕ) → IsFree v (record { tx = tx; k = k }))
+        → AgreeOn (IsNumbered tx) w v }
 {}
 
 /// The same answers fit the body in both.
@@ -70,7 +72,8 @@ pub fn what_fits_a_body_is_local()
 
 /// A body changes nothing but what it touches exclusively or has its transaction's number.
 pub fn a_body_changes_its_own_alone()
-    ensures { (w : World) (me : Private) (tx : ℕ) (asked : List Asked) → KeepsBut (Owns tx (body w me tx asked).touched) w (body w me tx asked).world }
+    ensures { (w : World) (me : Private) (tx : ℕ) (asked : List Asked)
+        → KeepsBut (Owns tx (body w me tx asked).touched) w (body w me tx asked).world }
 {}
 
 /// The records that a body leaves speak of what it touches exclusively or what has its number
@@ -81,14 +84,16 @@ pub fn what_a_body_leaves_speaks_of_its_own()
 
 /// A whole run is local as its body is, where both worlds know the same blocks.
 pub fn a_run_is_local()
-    ensures { (w v : World) (me : Private) (tx : ℕ) (asked : List Asked) (ends : List LateEnd) → length w.words ≡ length v.words → w.blocks ≡ v.blocks
+    ensures { (w v : World) (me : Private) (tx : ℕ) (asked : List Asked) (ends : List LateEnd) → length w.words ≡ length v.words
+        → w.blocks ≡ v.blocks
         → All (AgreeAt w v) (objects (body w me tx asked).touched) → AgreeOn (IsNumbered tx) w v
         → RunAlike tx w v (run w me tx asked ends) (run v me tx asked ends) }
 {}
 
 /// The same answers fit the run in both.
 pub fn what_fits_a_run_is_local()
-    ensures { (w v : World) (me : Private) (tx : ℕ) (asked : List Asked) (ends : List LateEnd) → length w.words ≡ length v.words → w.blocks ≡ v.blocks
+    ensures { (w v : World) (me : Private) (tx : ℕ) (asked : List Asked) (ends : List LateEnd) → length w.words ≡ length v.words
+        → w.blocks ≡ v.blocks
         → All (AgreeAt w v) (objects (body w me tx asked).touched) → AgreeOn (IsNumbered tx) w v
         → run_fits w me tx asked ends ≡ run_fits v me tx asked ends }
 {}
@@ -100,12 +105,14 @@ pub fn a_late_call_changes_its_object_alone()
 
 /// Which answers fit a late call depends on its object alone.
 pub fn what_fits_a_late_call_is_local()
-    ensures { (w v : World) (call : LateCall) (answer : LateAnswer) → All (AgreeAt w v) (late_objects call) → late_fits w call answer ≡ late_fits v call answer }
+    ensures { (w v : World) (call : LateCall) (answer : LateAnswer) → All (AgreeAt w v) (late_objects call)
+        → late_fits w call answer ≡ late_fits v call answer }
 {}
 
 /// What stands of a record depends on its objects and changes no other.
 pub fn an_effect_is_local()
-    ensures { (w v : World) (u : Undo) (k : ℕ) → All (AgreeAt w v) (objects_of u) → GoAlike (objects_of u) w v (with_effect w u k) (with_effect v u k) }
+    ensures { (w v : World) (u : Undo) (k : ℕ) → All (AgreeAt w v) (objects_of u)
+        → GoAlike (objects_of u) w v (with_effect w u k) (with_effect v u k) }
 {}
 
 /// So does its undoing.
@@ -115,31 +122,36 @@ pub fn an_undoing_is_local()
 
 /// And what its compensation did, however that ended.
 pub fn a_compensation_is_local()
-    ensures { (w v : World) (u : Undo) (end : UndoEnd) → All (AgreeAt w v) (objects_of u) → GoAlike (objects_of u) w v (undone_to w u end) (undone_to v u end) }
+    ensures { (w v : World) (u : Undo) (end : UndoEnd) → All (AgreeAt w v) (objects_of u)
+        → GoAlike (objects_of u) w v (undone_to w u end) (undone_to v u end) }
 {}
 
 /// All that remains of records that speak of a transaction's own objects: two worlds that agree on
 /// these agree on them afterwards.
 pub fn what_remains_is_local()
-    ensures { (tx : ℕ) (claims : List Claim) (w v : World) (records : List (Undo × ℕ)) → All (λ u. All (Owns tx claims) (objects_of u.0)) records → AgreeOn (Owns tx claims) w v
+    ensures { (tx : ℕ) (claims : List Claim) (w v : World) (records : List (Undo × ℕ))
+        → All (λ u. All (Owns tx claims) (objects_of u.0)) records → AgreeOn (Owns tx claims) w v
         → AgreeOn (Owns tx claims) (with_remains w records) (with_remains v records) }
 {}
 
 /// And nothing else changes.
 pub fn what_remains_changes_its_objects_alone()
-    ensures { (tx : ℕ) (claims : List Claim) (w : World) (records : List (Undo × ℕ)) → All (λ u. All (Owns tx claims) (objects_of u.0)) records
+    ensures { (tx : ℕ) (claims : List Claim) (w : World) (records : List (Undo × ℕ))
+        → All (λ u. All (Owns tx claims) (objects_of u.0)) records
         → KeepsBut (Owns tx claims) w (with_remains w records) }
 {}
 
 /// One call more is one step more.
 pub fn a_call_more_is_a_step_more()
-    ensures { (w : World) (me : Private) (tx : ℕ) (asked : List Asked) (call : Asked) → body w me tx (asked ++ call ∷ []) ≡ step tx (body w me tx asked) call }
+    ensures { (w : World) (me : Private) (tx : ℕ) (asked : List Asked) (call : Asked)
+        → body w me tx (asked ++ call ∷ []) ≡ step tx (body w me tx asked) call }
 {}
 
 /// What fits a body of a call more: what fits the body, and an answer that fits behind it.
 pub fn what_fits_a_call_more()
     ensures { (w : World) (me : Private) (tx : ℕ) (asked : List Asked) (call : Asked)
-        → body_fits w me tx (asked ++ call ∷ []) ≡ (body_fits w me tx asked && fits (body w me tx asked).world (body w me tx asked).me tx call.call call.answer) }
+        → body_fits w me tx (asked ++ call ∷ [])
+        ≡ (body_fits w me tx asked && fits (body w me tx asked).world (body w me tx asked).me tx call.call call.answer) }
 {}
 
 /// A body in two parts is the first with the second behind it, which begins where the first ended.
@@ -165,7 +177,8 @@ pub fn what_is_held_exclusively_was_claimed_so()
 
 /// A body from its transaction's begin, in two sound worlds that agree on what it touches.
 pub fn a_body_from_its_begin_is_local()
-    ensures { (w v : World) (me : Private) (tx : ℕ) (asked : List Asked) → IsSound w me tx → IsSound v me tx → me.made ≡ 0 → length w.words ≡ length v.words
+    ensures { (w v : World) (me : Private) (tx : ℕ) (asked : List Asked) → IsSound w me tx → IsSound v me tx → me.made ≡ 0
+        → length w.words ≡ length v.words
         → All (AgreeAt w v) (objects (body w me tx asked).touched) → RanAlike tx w v (body w me tx asked) (body v me tx asked) }
 {}
 
@@ -173,5 +186,6 @@ pub fn a_body_from_its_begin_is_local()
 pub fn a_run_leaves_the_bodies_of_others()
     ensures { (w : World) (me you : Private) (tx ty : ℕ) (asked others : List Asked) (ends : List LateEnd)
         → ((o : Object) → Sees tx (body w me tx asked).touched o → Owns ty (body w you ty others).touched o → ⊥)
-        → RanAlike tx w (run w you ty others ends).late.world (body w me tx asked) (body (run w you ty others ends).late.world me tx asked) }
+        → RanAlike tx w (run w you ty others ends).late.world (body w me tx asked)
+        (body (run w you ty others ends).late.world me tx asked) }
 {}

@@ -67,7 +67,8 @@ impl World {
         bytes: &Chunk,
     ) -> Result<Reply, NoMemory>
         requires files { (num : Num) → length (file_of self.old num) ≤ 65536 }
-        ensures ok { IfOk result (λ reply. overwrite_at self.old me.old h bytes.now (place_of me.old.places h) ≡ stays self.new me.new reply) }
+        ensures ok { IfOk result (λ reply.
+            overwrite_at self.old me.old h bytes.now (place_of me.old.places h) ≡ stays self.new me.new reply) }
         ensures world { OnErr result (self.new ≡ self.old) }
         ensures me { OnErr result (me.new ≡ me.old) }
     {
@@ -93,8 +94,10 @@ impl World {
         n: u32,
     ) -> Result<Reply, NoMemory>
         requires files { (num : Num) → length (file_of self.old num) ≤ 65536 }
-        requires inside { (num : Num) (at : ℕ) → place_of me.old.places h ≡ File num at → 0 < n → (n ≤ length bytes.now) × (at + n ≤ length (file_of self.old num)) }
-        ensures ok { IfOk result (λ reply. overwrite_short self.old me.old h bytes.now n (place_of me.old.places h) ≡ stays self.new me.new reply) }
+        requires inside { (num : Num) (at : ℕ) → place_of me.old.places h ≡ File num at → 0 < n
+            → (n ≤ length bytes.now) × (at + n ≤ length (file_of self.old num)) }
+        ensures ok { IfOk result (λ reply.
+            overwrite_short self.old me.old h bytes.now n (place_of me.old.places h) ≡ stays self.new me.new reply) }
         ensures world { OnErr result (self.new ≡ self.old) }
         ensures me { OnErr result (me.new ≡ me.old) }
     {
@@ -157,8 +160,10 @@ impl World {
         bytes: &Chunk,
         n: u32,
     ) -> Result<Reply, NoMemory>
-        requires inside { (num : Num) (at : ℕ) → place_of me.old.places h ≡ File num at → 0 < n → (n ≤ length bytes.now) × (length (file_of self.old num) + n ≤ 65536) }
-        ensures ok { IfOk result (λ reply. append_short self.old me.old h bytes.now n (place_of me.old.places h) ≡ stays self.new me.new reply) }
+        requires inside { (num : Num) (at : ℕ) → place_of me.old.places h ≡ File num at → 0 < n
+            → (n ≤ length bytes.now) × (length (file_of self.old num) + n ≤ 65536) }
+        ensures ok { IfOk result (λ reply.
+            append_short self.old me.old h bytes.now n (place_of me.old.places h) ≡ stays self.new me.new reply) }
         ensures world { OnErr result (self.new ≡ self.old) }
         ensures me { OnErr result (me.new ≡ me.old) }
     {

@@ -148,7 +148,9 @@ impl PairBody {
 
     // A pair with these messages for a side and others for the other one.
     fn of(side: u8, messages: Items<Chunk>, other: Items<Chunk>, shut: bool) -> PairBody
-        ensures { result ≡ (if side == 0 then record { first = messages; second = other; shut = shut } else record { first = other; second = messages; shut = shut }) }
+        ensures { result ≡ (if side == 0
+            then record { first = messages; second = other; shut = shut }
+            else record { first = other; second = messages; shut = shut }) }
     {
         if side == 0 {
             return PairBody {

@@ -28,8 +28,10 @@ overwritten at bytes file = take at file ++ bytes ++ drop (at + length bytes) fi
 
 -- these bytes are written over, and the position moves on
 abbrev pub put : World → Private → ℕ → Num → ℕ → List ℕ → Reply → Stepped
-put w me h num at bytes r = stays (with_file w num (overwritten at bytes (file_of w num))) (with_place me h (File num (at + length bytes))) r
+put w me h num at bytes r =
+    stays (with_file w num (overwritten at bytes (file_of w num))) (with_place me h (File num (at + length bytes))) r
 
+-- the bytes are written over those at the handle's position, and none where they would pass the end
 abbrev pub overwrite_at : World → Private → ℕ → List ℕ → Place → Stepped
 overwrite_at w me h bytes (File num at) =
     if length bytes == 0 then stays w me Done
@@ -42,6 +44,7 @@ abbrev pub appended : World → Private → ℕ → Num → List ℕ → Reply �
 appended w me h num bytes r =
     stays (with_file w num (file_of w num ++ bytes)) (with_place me h (File num (length (file_of w num) + length bytes))) r
 
+-- the bytes are appended, and none where the file would pass 65536 bytes
 abbrev pub append_at : World → Private → ℕ → List ℕ → Place → Stepped
 append_at w me h bytes (File num at) =
     if length bytes == 0 then stays w me Done
@@ -49,10 +52,12 @@ append_at w me h bytes (File num at) =
     else appended w me h num bytes Done
 append_at w me h bytes _ = stays w me BadHandle
 
+-- the handle's position is set
 abbrev pub seek_at : World → Private → ℕ → ℕ → Place → Stepped
 seek_at w me h to (File num at) = stays w (with_place me h (File num to)) Done
 seek_at w me h to _ = stays w me BadHandle
 
+-- the file's length is told
 abbrev pub len_at : World → Private → Place → Stepped
 len_at w me (File num at) = stays w me (Number (length (file_of w num)))
 len_at w me _ = stays w me BadHandle
@@ -62,6 +67,7 @@ abbrev pub overwrite_short : World → Private → ℕ → List ℕ → ℕ → 
 overwrite_short w me h bytes n (File num at) = if n == 0 then stays w me (Fault n) else put w me h num at (take n bytes) (Fault n)
 overwrite_short w me h bytes n _ = stays w me (Fault n)
 
+-- an append that stops after n bytes
 abbrev pub append_short : World → Private → ℕ → List ℕ → ℕ → Place → Stepped
 append_short w me h bytes n (File num at) = if n == 0 then stays w me (Fault n) else appended w me h num (take n bytes) (Fault n)
 append_short w me h bytes n _ = stays w me (Fault n)

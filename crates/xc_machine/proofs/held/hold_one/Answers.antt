@@ -5,9 +5,11 @@ use Rattle.xc_machine.proofs.held.hold_one.Goals as goal
 pub returns-then-holds : goal.returns-then-holds
 returns-then-holds c =
     c.merge.ensures
-    ∙ sym (held_tested c.args.held.now.items c.as_slice.result.now c.args.claim.now true c.holds.result c.as_slice.ensures.value c.holds.ensures c.if-holds.true)
+    ∙ sym (held_tested c.args.held.now.items c.as_slice.result.now c.args.claim.now true c.holds.result
+    c.as_slice.ensures.value c.holds.ensures c.if-holds.true)
 
 pub returns : goal.returns
 returns c =
     c.in_ok-push.ensures.items
-    ∙ sym (held_tested c.args.held.now.items c.as_slice.result.now c.args.claim.now false c.holds.result c.as_slice.ensures.value c.holds.ensures c.if-holds.false)
+    ∙ sym (held_tested c.args.held.now.items c.as_slice.result.now c.args.claim.now false c.holds.result
+    c.as_slice.ensures.value c.holds.ensures c.if-holds.false)

@@ -30,7 +30,8 @@ loop-call-preserved c =
       sound = gave.sound;
       fits =
           subst (λ w. IsTrue (body_fits w c.take_call.new.me c.args.tx rest)) (sym gave.world)
-          (subst (λ m. IsTrue (body_fits s.world m c.args.tx rest)) (sym gave.me) (behind_test (fits c.loop-call.world c.loop-call.me c.args.tx item.call item.answer) _ fit));
+          (subst (λ m. IsTrue (body_fits s.world m c.args.tx rest)) (sym gave.me)
+          (behind_test (fits c.loop-call.world c.loop-call.me c.args.tx item.call item.answer) _ fit));
       world = gave.world ∙ ap (λ (s : Stepped). s.world) same ∙ ap (λ (r : Ran). r.world) more;
       me = gave.me ∙ ap (λ (s : Stepped). s.me) same ∙ ap (λ (r : Ran). r.me) more;
       replies = gave.replies ∙ ap₂ (λ rs (s : Stepped). rs ++ s.reply ∷ []) before.replies same ∙ ap (λ (r : Ran). r.replies) more;

@@ -13,4 +13,5 @@ loop-call-preserved c =
     (subst P c.call-item.is (c.is_fine.ensures c.if-not-is_fine.false))
 
 pub returns : goal.returns
-returns c = λ _. subst (All (λ (c : Asked). c.answer ≡ answer.Fine)) (take_all c.loop-call.call-index c.args.asked.now c.loop-call-test.false) c.loop-call.invariant
+returns c =
+    λ _. subst (All (λ (c : Asked). c.answer ≡ answer.Fine)) (take_all c.loop-call.call-index c.args.asked.now c.loop-call-test.false) c.loop-call.invariant

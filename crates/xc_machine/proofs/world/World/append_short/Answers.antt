@@ -3,5 +3,6 @@ use Rattle.xc_machine.proofs.world.World.append_short.Goals as goal
 
 pub slice_bounds-extend-end : goal.slice_bounds-extend-end
 slice_bounds-extend-end c =
-    let inside : c.args.n ≤ length c.args.bytes.now = (c.requires.inside c.in-File.num c.in-File.at (sym c.place.ensures.value ∙ c.in-File.is) (omega arith)).0 in
+    let inside : c.args.n ≤ length c.args.bytes.now =
+    (c.requires.inside c.in-File.num c.in-File.at (sym c.place.ensures.value ∙ c.in-File.is) (omega arith)).0 in
     grind (arith, inside, length-take {A = ℕ})

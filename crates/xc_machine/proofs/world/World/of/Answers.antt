@@ -7,7 +7,8 @@ use Rattle.xc_machine.proofs.world.World.of.Goals as goal
 
 pub returns-clause-sound : goal.returns-clause-sound
 returns-clause-sound c = λ tx lt.
-    subst (λ (w : World). IsSound w (beginning (opening_handles c.args.script.now)) tx) (sym c.in_ok-world.ensures) (opening_sound c.args.script.now c.requires tx lt)
+    subst (λ (w : World). IsSound w (beginning (opening_handles c.args.script.now)) tx) (sym c.in_ok-world.ensures)
+    (opening_sound c.args.script.now c.requires tx lt)
 
 pub returns-clause-words : goal.returns-clause-words
 returns-clause-words c =
