@@ -1,24 +1,21 @@
 -- Each call of a transaction is the plain machine's.
-use Rattle.std.specs.Prelude.{Result, Ok, Err, IfOk, OnErr, IsOk, IsErr}
+use Rattle.std.specs.Prelude.{Result, Ok, Err, IfOk, IsOk, IsErr}
 use Rattle.xc_data.specs.Counts.{CountsFault}
 use Rattle.std.specs.declared.option.Option.TheVariants.{None}
 use Rattle.xc_data.specs.Faults.{is_fault_reply}
 use Rattle.xc_data.specs.declared.call.Reply.TheVariants as reply
 use Rattle.xc_script.specs.Ask.{value_in}
-use Rattle.std.proofs.Common.{◌≡◌, ℕ, ◌+◌, ◌≤◌, true, false, List, [], ◌++◌, length, length-append, refl, ap, sym, ◌∙◌, subst, arith, IsTrue}
+use Rattle.std.proofs.Common.{◌≡◌, ℕ, true, false, List, ◌++◌, refl, ap, sym, ◌∙◌, subst, IsTrue}
 use Rattle.xc_data.specs.declared.call.Call.{Call}
-use Rattle.xc_data.specs.declared.call.Call.TheVariants as call
 use Rattle.xc_data.specs.declared.call.Answer.{Answer}
 use Rattle.xc_data.specs.declared.call.Answer.TheVariants as answer
 use Rattle.xc_data.specs.declared.call.Reply.{Reply}
 use Rattle.xc_data.specs.declared.private.Private.{Private}
 use Rattle.xc_compensate.specs.Records.{Records}
-use Rattle.xc_file.specs.Calls.{CallState, Acts, AreRecorded, IsFileCall, IsStarved, takes_memory_first, replies_fault}
+use Rattle.xc_file.specs.Calls.{CallState, Acts, AreRecorded, IsFileCall, replies_fault}
 use Rattle.xc_host.specs.Model.{HostModel}
-use Rattle.xc_world.specs.Effects.{whole}
-use Rattle.xc_world.specs.Ends.{with_remains}
 use Rattle.xc_data.specs.declared.memory.NoMemory.{NoMemory}
-use Rattle.xc_host.specs.Contents.{Contents, contents_of, world_of}
+use Rattle.xc_host.specs.Contents.{Contents}
 use Rattle.xc_txmem.specs.Overlay.{overlaid}
 use Rattle.xc_world.specs.World.{World}
 use Rattle.xc_world.specs.Act.{act}

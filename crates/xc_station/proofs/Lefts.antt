@@ -1,5 +1,5 @@
 -- Each turn is one of those that were left.
-use Rattle.std.proofs.Common.{◌≡◌, Bool, ℕ, ◌+◌, ◌*◌, ◌<◌, ◌≤◌, List, [], ◌∷◌, ◌++◌, length, drop, zero, suc, refl, ap, sym, ◌∙◌, subst, arith, length-append}
+use Rattle.std.proofs.Common.{◌≡◌, ℕ, ◌+◌, ◌*◌, ◌<◌, ◌≤◌, List, [], ◌∷◌, ◌++◌, length, drop, zero, suc, refl, ap, sym, ◌∙◌, subst, arith, length-append}
 use Rattle.std.specs.Prelude.{IsSome, unwrap_or, slice_get, Option}
 use Rattle.std.specs.declared.option.Option.TheVariants.{None, Some}
 use Rattle.xc_data.specs.declared.entry.Cause.{Cause}
@@ -28,7 +28,7 @@ use Rattle.xc_station.specs.Doing.{doing_of, doing_in}
 use Rattle.xc_station.specs.Flight.{IsActive, InFlight}
 use Rattle.xc_station.specs.Turns.{turns_of, phase_left, tx_left, activity_left, turns_left, IsNearer, BeginsAs, RunsOn}
 use Rattle.xc_data.specs.declared.private.Private.{Private}
-use Rattle.xc_station.proofs.Keeping.{idle_is, starved_is, undoing_is, undone_is, active_is, busy_running, busy_committing, busy_undoing, busy_undone}
+use Rattle.xc_station.proofs.Keeping.{idle_is, starved_is, undone_is, active_is, busy_running, busy_committing, busy_undone}
 use Rattle.xc_station.proofs.Turning.{Tries, tried_by, Aborts, Commits}
 
 -- the bodies from one that is there on
