@@ -19,6 +19,7 @@ one_more m ds big h (suc k) le = omega (arith, h k (omega arith), length-append 
 more_digits : (n : ℕ) → n < 2 ^ 64 → (k : ℕ) → 10 ^ k ≤ n → k < length (decimal n)
 more_digits = decimal_by_steps (λ m ds. (k : ℕ) → 10 ^ k ≤ m → k < length ds) (λ m small k le. least_one m k small le) one_more
 
+-- a number below ten has one digit
 pub digit_count : (n : ℕ) → n < 10 → 1 ≡ length (decimal n)
 digit_count n small = sym (ap length (decimal_digit n small))
 

@@ -1,5 +1,6 @@
 -- What a script asks next of a transaction, from the replies so far.
-use Rattle.std.specs.Prelude.{ℕ, ◌==◌, ◌+◌, ◌-◌, ◌%◌, ◌^◌, ◌||◌, Bool, true, false, List, [], ◌∷◌, Option, length, unwrap_or, slice_get, position, nat_eq, nat_lt, if◌then◌else◌}
+use Rattle.std.specs.Prelude.{ℕ, ◌==◌, ◌+◌, ◌-◌, ◌%◌, ◌^◌, ◌||◌, Bool, true, false, nat_eq, nat_lt, if◌then◌else◌}
+use Rattle.std.specs.Prelude.{List, [], ◌∷◌, Option, length, unwrap_or, slice_get, position}
 use Rattle.std.specs.List.{flat_map}
 use Rattle.std.specs.Fmt.{decimal}
 use Rattle.std.specs.declared.option.Option.TheVariants.{None, Some}
@@ -45,12 +46,15 @@ abbrev pub held_handle : Option Value → ℕ
 held_handle (Some (value.Handle h)) = h
 held_handle _ = 65535
 
+-- what a variable counts as where bytes are wanted
 abbrev pub bytes_value : Variables → List ℕ → List ℕ
 bytes_value variables v = held_bytes (map.get variables v)
 
+-- what a variable counts as where a handle is wanted
 abbrev pub handle_value : Variables → List ℕ → ℕ
 handle_value variables v = held_handle (map.get variables v)
 
+-- a number is itself, and a variable what it counts as
 abbrev pub term_value : Variables → Term → ℕ
 term_value variables (term.Number n) = n
 term_value variables (term.Variable v) = held_number (map.get variables v)
@@ -123,6 +127,7 @@ abbrev pub asks_of : Variables → ℕ → List Statement → Ask
 asks_of variables stored [] = ask.Commit
 asks_of variables stored (s ∷ rest) = ask_of variables stored s
 
+-- what a transaction on its way is asked next
 abbrev pub asks : Walk → Ask
 asks walk = asks_of walk.variables walk.stored walk.left
 
@@ -133,6 +138,7 @@ value_in (reply.Got bytes) = Some (value.Bytes bytes)
 value_in (reply.Made h) = Some (value.Handle h)
 value_in _ = None
 
+-- the variables with one of them set to a value, or without it where there is none
 abbrev pub set_to : Variables → List ℕ → Option Value → Variables
 set_to variables v (Some value) = map.insert variables v value
 set_to variables v None = map.remove variables v
@@ -141,6 +147,7 @@ set_to variables v None = map.remove variables v
 abbrev pub bound_to : Variables → List ℕ → Reply → Variables
 bound_to variables v reply = set_to variables v (value_in reply)
 
+-- the variables behind a reply, where a variable may take what it brings
 abbrev pub bound : Variables → Option (List ℕ) → Reply → Variables
 bound variables None reply = variables
 bound variables (Some v) reply = bound_to variables v reply
@@ -159,13 +166,16 @@ behind_ask variables stored s rest (ask.Call call) reply =
     record { variables = bound variables (target_of s) reply; stored = stored_after stored (length (bytes_of call)) reply; left = rest }
 behind_ask variables stored s rest _ reply = record { variables = variables; stored = stored; left = s ∷ rest }
 
+-- A transaction goes on behind a reply with its next statement. Where none is left it stays.
 abbrev pub behind_reply : Variables → ℕ → List Statement → Reply → Walk
 behind_reply variables stored [] reply = record { variables = variables; stored = stored; left = [] }
 behind_reply variables stored (s ∷ rest) reply = behind_ask variables stored s rest (ask_of variables stored s) reply
 
+-- a transaction on its way behind a reply
 abbrev pub answered : Walk → Reply → Walk
 answered walk reply = behind_reply walk.variables walk.stored walk.left reply
 
+-- a transaction on its way behind these replies, one after another
 abbrev pub all_answered : Walk → List Reply → Walk
 all_answered walk [] = walk
 all_answered walk (reply ∷ replies) = all_answered (answered walk reply) replies
@@ -176,10 +186,12 @@ pub record Job : Type 0 where
   pub next : ℕ
   pub variables : Variables
 
+-- the transactions of a block: each has its statements
 abbrev pub transactions_of : Option Block → List (List Statement)
 transactions_of None = []
 transactions_of (Some block) = block.transactions
 
+-- the transactions of the block at this place in the script
 abbrev pub transactions_at : Script → ℕ → List (List Statement)
 transactions_at script block = transactions_of (slice_get script.blocks block)
 
@@ -191,6 +203,7 @@ next_body script job = slice_get (transactions_at script job.block) job.next
 abbrev pub walk_from : Script → Job → Walk
 walk_from script job = record { variables = job.variables; stored = 0; left = unwrap_or (next_body script job) [] }
 
+-- a job with no transaction left is at its end; otherwise its transaction asks
 abbrev pub asks_from : Option (List Statement) → Walk → Ask
 asks_from None walk = ask.End
 asks_from (Some body) walk = asks walk
@@ -201,7 +214,8 @@ next_ask script job replies = asks_from (next_body script job) (all_answered (wa
 
 -- the job at the next transaction, with the variables that these replies leave
 abbrev pub passed : Script → Job → List Reply → Job
-passed script job replies = record { block = job.block; next = job.next + 1; variables = (all_answered (walk_from script job) replies).variables }
+passed script job replies =
+    record { block = job.block; next = job.next + 1; variables = (all_answered (walk_from script job) replies).variables }
 
 -- a job that begins its block, with no variable set
 abbrev pub fresh_job : ℕ → Job

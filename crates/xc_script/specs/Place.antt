@@ -29,22 +29,27 @@ parts_of (value.Number n) = inl n
 parts_of (value.Bytes bytes) = inr (inl bytes)
 parts_of (value.Handle h) = inr (inr h)
 
+-- the value of these parts
 abbrev pub of_parts : ℕ ⊎ (List ℕ ⊎ ℕ) → Value
 of_parts (inl n) = value.Number n
 of_parts (inr (inl bytes)) = value.Bytes bytes
 of_parts (inr (inr h)) = value.Handle h
 
+-- a value is that of its parts
 abbrev pub same_parts : (v : Value) → of_parts (parts_of v) ≡ v
 same_parts (value.Number n) = refl
 same_parts (value.Bytes bytes) = refl
 same_parts (value.Handle h) = refl
 
+-- a value's code, that of its parts
 abbrev pub coded_value : Coded Value
 coded_value = code_by (ℕ ⊎ (List ℕ ⊎ ℕ)) (coded⊎ coded_ℕ (coded⊎ coded_name coded_ℕ)) parts_of of_parts same_parts
 
+-- the variables' code, that of their map
 abbrev pub coded_variables : Coded Variables
 coded_variables = map.code coded_name coded_value
 
+-- a place's code, that of its fields as a tuple
 abbrev pub coded_place : Coded Place
 coded_place =
     code_by (ℕ × (ℕ × (ℕ × (ℕ × (Variables × Variables)))))
@@ -60,7 +65,8 @@ job_of place = record { block = place.block; next = place.next; variables = plac
 
 -- what is left of the transaction
 abbrev pub walk_of : Script → Place → Walk
-walk_of script place = record { variables = place.variables; stored = place.stored; left = drop place.at (unwrap_or (next_body script (job_of place)) []) }
+walk_of script place =
+    record { variables = place.variables; stored = place.stored; left = drop place.at (unwrap_or (next_body script (job_of place)) []) }
 
 -- a job before its next transaction: none has begun, so no variables are kept for an abort
 abbrev pub at_begin : Job → Place
@@ -71,6 +77,7 @@ abbrev pub is_call : Ask → Bool
 is_call (ask.Call call) = true
 is_call _ = false
 
+-- a call is asked at this place
 abbrev pub IsAskedCall : Script → Place → Type 0
 IsAskedCall script place = IsTrue (is_call (asks (walk_of script place)))
 
@@ -79,5 +86,6 @@ abbrev pub first_target : List Statement → Option (List ℕ)
 first_target [] = None
 first_target (s ∷ rest) = target_of s
 
+-- the variable that takes the reply at this place, where one does
 abbrev pub target_at : Script → Place → Option (List ℕ)
 target_at script place = first_target (walk_of script place).left

@@ -41,7 +41,8 @@ use Rattle.xc_station.proofs.Bodies.{built-overwrites}
 use Rattle.xc_station.proofs.Stories.{all-built}
 
 -- ---- a transaction's records were made one after another
-pub made_in : (script : Script) (f : Following) (entered : ℕ) (w : World) (me : Private) (tx : Tx) → IsNoted script f entered tx → IsSound w me (entered + 1) → HasPlayed w me tx → AreMadeIn w (ran_of w me tx).trail
+pub made_in : (script : Script) (f : Following) (entered : ℕ) (w : World) (me : Private) (tx : Tx)
+    → IsNoted script f entered tx → IsSound w me (entered + 1) → HasPlayed w me tx → AreMadeIn w (ran_of w me tx).trail
 made_in script f entered w me tx n sound p =
     let asked = asked_of tx.calls.items tx.replies.items in
     let overwrites : All (λ (a : Asked). only_overwrites a.call ≡ true) asked =
@@ -55,7 +56,9 @@ open_known w (place.File num at) known files = (known, files num)
 open_known w (place.Pipe num) known files = tt
 open_known w (place.Pair num side) known files = tt
 
-pub open_files : (script : Script) (f : Following) (entered : ℕ) (words : List ℕ) (w : World) (me : Private) (contents : Contents) (tx : Tx) → tx.phase ≡ Running → IsNoted script f entered tx → IsSound w me (entered + 1)
+-- the files that a running transaction has open are there
+pub open_files : (script : Script) (f : Following) (entered : ℕ) (words : List ℕ) (w : World) (me : Private) (contents : Contents) (tx : Tx)
+    → tx.phase ≡ Running → IsNoted script f entered tx → IsSound w me (entered + 1)
     → IsPlayedBy w me words contents (Active tx) → AreOpenIn contents tx.me
 open_files script f entered words w me contents tx runs n sound played h =
     let forward : (words ≡ w.words) × GoesForward w me contents tx = subst (IsPlayedIn w me words contents tx) runs played.1 in
@@ -67,10 +70,12 @@ open_files script f entered words w me contents tx runs n sound played h =
     subst (λ (v : World). IsOpenIn (contents_of v) (place_of tx.me.places h)) go.world there
 
 -- ---- one record is tried
-pub flight_tried : (s : Setting) (f : Following) (words : List ℕ) (entered : ℕ) (standing : Standing) (tx : Tx) (c : Cause) (older : List Undo) (u : Undo) (end : UndoEnd)
+pub flight_tried : (s : Setting) (f : Following) (words : List ℕ) (entered : ℕ) (standing : Standing) (tx : Tx) (c : Cause) (older : List Undo) (u : Undo)
+    (end : UndoEnd)
     → tx.phase ≡ Undoing c → tx.undo.pending ≡ older ++ u ∷ []
     → IsLegalEnd s.rules.undo_tries u end (blocker (length older + 1 + 1) u tx.undo.ended)
-    → Flight s f words entered standing tx → Flight s f words entered standing (record tx { undo = record { pending = older; ended = (u, end) ∷ tx.undo.ended } })
+    → Flight s f words entered standing tx
+    → Flight s f words entered standing (record tx { undo = record { pending = older; ended = (u, end) ∷ tx.undo.ended } })
 flight_tried s f words entered standing tx c older u end undoes pending legal flight =
     let back : IsUndoing s f tx c = subst (IsPhase s f words standing tx) undoes flight.phase in
     let next : Tx = record tx { undo = record { pending = older; ended = (u, end) ∷ tx.undo.ended } } in
@@ -95,7 +100,8 @@ restored_alike : (b : Bool) (w v : World) → contents_of (if b then world_of (c
 restored_alike true w v = refl
 restored_alike false w v = refl
 
-moved_alike : (w : World) (from to : List ℕ) (o : Option Num) → contents_of (move_name (world_of (contents_of w)) to from o) ≡ contents_of (move_name w to from o)
+moved_alike : (w : World) (from to : List ℕ) (o : Option Num)
+    → contents_of (move_name (world_of (contents_of w)) to from o) ≡ contents_of (move_name w to from o)
 moved_alike w from to None = refl
 moved_alike w from to (Some num) = refl
 
@@ -106,7 +112,8 @@ undone_alike w (Made name num) (Undone faults) = refl
 undone_alike w (Moved from to) (Undone faults) = moved_alike w from to (finite.get w.names to)
 undone_alike w (NewPipe num) (Undone faults) = refl
 undone_alike w (NewPair num) (Undone faults) = refl
-undone_alike w (Bytes file at before after n) (Failed done faults) = restored_alike (done == 0) w (undone_to w (Bytes file at before after done) (Undone faults))
+undone_alike w (Bytes file at before after n) (Failed done faults) =
+    restored_alike (done == 0) w (undone_to w (Bytes file at before after done) (Undone faults))
 undone_alike w (Tail file from after n) (Failed done faults) = refl
 undone_alike w (Made name num) (Failed done faults) = refl
 undone_alike w (Moved from to) (Failed done faults) = refl
@@ -114,12 +121,15 @@ undone_alike w (NewPipe num) (Failed done faults) = refl
 undone_alike w (NewPair num) (Failed done faults) = refl
 undone_alike w u (Blocked by) = refl
 
-pub played_tried : (s : Setting) (f : Following) (words : List ℕ) (entered : ℕ) (standing : Standing) (w : World) (me : Private) (was is : Contents) (tx : Tx) (c : Cause) (older : List Undo) (u : Undo) (end : UndoEnd)
+-- a transaction is played on behind a tried record
+pub played_tried : (s : Setting) (f : Following) (words : List ℕ) (entered : ℕ) (standing : Standing) (w : World) (me : Private) (was is : Contents) (tx : Tx)
+    (c : Cause) (older : List Undo) (u : Undo) (end : UndoEnd)
     → tx.phase ≡ Undoing c → tx.undo.pending ≡ older ++ u ∷ []
     → IsLegalEnd s.rules.undo_tries u end (blocker (length older + 1 + 1) u tx.undo.ended)
     → is ≡ contents_of (undone_to (world_of was) u end)
     → IsNoted s.script f entered tx → IsSound w me (entered + 1)
-    → IsPlayedBy w me words was (Active tx) → IsPlayedBy w me words is (Active (record tx { undo = record { pending = older; ended = (u, end) ∷ tx.undo.ended } }))
+    → IsPlayedBy w me words was (Active tx)
+    → IsPlayedBy w me words is (Active (record tx { undo = record { pending = older; ended = (u, end) ∷ tx.undo.ended } }))
 played_tried s f words entered standing w me was is tx c older u end undoes pending legal effect n sound played =
     let way : (words ≡ w.words) × GoesBack w me was tx = subst (IsPlayedIn w me words was tx) undoes played.1 in
     let back = way.1 in
@@ -132,9 +142,12 @@ played_tried s f words entered standing w me was is tx c older u end undoes pend
     let before = with_remains w (whole (older ++ u ∷ []) ++ remains newer) in
     let stood : was ≡ contents_of before = back.host ∙ ap (λ us. contents_of (with_remains w (whole us ++ remains newer))) pending in
     let done : is ≡ contents_of (with_remains w (whole older ++ remains ((u, end) ∷ newer))) =
-    effect ∙ ap (λ k. contents_of (undone_to (world_of k) u end)) stood ∙ undone_alike before u end ∙ ap contents_of (record-undone w older u newer s.rules.undo_tries end made legal) in
-    let now : GoesBack w me is next = record { trail = trail; host = done } in
-    (record { fits = p.fits; replies = p.replies; late = p.late; taken = p.taken; held = p.held }, subst (IsPlayedIn w me words is next) (sym undoes) (way.0, now))
+    effect ∙ ap (λ k. contents_of (undone_to (world_of k) u end)) stood ∙ undone_alike before u end
+    ∙ ap contents_of (record-undone w older u newer s.rules.undo_tries end made legal) in
+    let now : GoesBack w me is next = record { trail = trail; host = done } in (
+      record { fits = p.fits; replies = p.replies; late = p.late; taken = p.taken; held = p.held },
+      subst (IsPlayedIn w me words is next) (sym undoes) (way.0, now),
+    )
 
 covered_alike : (w : World) (u : Undo) → IsCovered w u → IsCovered (world_of (contents_of w)) u
 covered_alike w (Bytes file at before after n) h = h
@@ -145,7 +158,8 @@ covered_alike w (NewPipe num) h = h
 covered_alike w (NewPair num) h = h
 
 -- the bytes that it covers are there
-pub covered_now : (script : Script) (f : Following) (words : List ℕ) (entered : ℕ) (w : World) (me : Private) (was : Contents) (tx : Tx) (c : Cause) (older : List Undo) (u : Undo)
+pub covered_now : (script : Script) (f : Following) (words : List ℕ) (entered : ℕ) (w : World) (me : Private) (was : Contents) (tx : Tx) (c : Cause)
+    (older : List Undo) (u : Undo)
     → tx.phase ≡ Undoing c → tx.undo.pending ≡ older ++ u ∷ [] → IsNoted script f entered tx → IsSound w me (entered + 1)
     → IsPlayedBy w me words was (Active tx) → IsCovered (world_of was) u
 covered_now script f words entered w me was tx c older u undoes pending n sound played =

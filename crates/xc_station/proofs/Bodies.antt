@@ -1,16 +1,15 @@
 -- A body of the plain machine with one call more.
-use Rattle.std.proofs.Common.{◌≡◌, ℕ, Bool, true, false, List, [], ◌∷◌, ◌++◌, length, refl, ap, sym, ◌∙◌, append_assoc, IsTrue, arith}
+use Rattle.std.proofs.Common.{◌≡◌, ℕ, Bool, true, false, List, [], ◌∷◌, ◌++◌, length, refl, ap, sym, IsTrue, arith}
 use Rattle.std.specs.Prelude.{◌&&◌, slice_index, slice_set, nat_le, if◌then◌else◌}
 use Rattle.xc_data.specs.declared.call.Call.{Call}
 use Rattle.xc_data.specs.declared.call.Call.TheVariants as call
-use Rattle.xc_data.specs.declared.call.Answer.{Answer}
 use Rattle.xc_data.specs.declared.call.Answer.TheVariants as answer
 use Rattle.xc_data.specs.declared.call.Reply.{Reply}
 use Rattle.xc_data.specs.declared.call.Reply.TheVariants as reply
 use Rattle.xc_data.specs.declared.private.Private.{Private}
 use Rattle.xc_world.specs.World.{World}
 use Rattle.xc_world.specs.Act.{act}
-use Rattle.xc_world.specs.Act.Step.{Stepped, stays}
+use Rattle.xc_world.specs.Act.Step.{stays}
 use Rattle.xc_world.specs.Late.{late_call, kept_call}
 use Rattle.xc_world.specs.Fits.{fits, answer_of}
 use Rattle.xc_data.specs.Claims.{holding, holding_one}
@@ -23,6 +22,7 @@ use Rattle.std.proofs.lemmas.List.Sums.{fold-append, fold_push}
 use Rattle.xc_station.specs.Notes.{is_built}
 use Rattle.xc_station.specs.WordCalls.{is_word_call, word_reply, words_after}
 
+-- an empty list behind a list changes nothing
 pub append_nil : {A : Type 0} (xs : List A) → xs ++ [] ≡ xs
 append_nil [] = refl
 append_nil (x ∷ xs) = ap (λ ys. x ∷ ys) (append_nil xs)
@@ -39,7 +39,8 @@ both_and : (a b : Bool) → IsTrue a → IsTrue b → IsTrue (a && b)
 both_and true b p q = q
 both_and false b p q = p
 
-fits-on : (tx : ℕ) (r : Ran) (asked : List Asked) (c : Asked) → IsTrue (body_fits r.world r.me tx asked) → IsTrue (fits (goes_on tx r asked).world (goes_on tx r asked).me tx c.call c.answer)
+fits-on : (tx : ℕ) (r : Ran) (asked : List Asked) (c : Asked)
+    → IsTrue (body_fits r.world r.me tx asked) → IsTrue (fits (goes_on tx r asked).world (goes_on tx r asked).me tx c.call c.answer)
     → IsTrue (body_fits r.world r.me tx (asked ++ c ∷ []))
 fits-on tx r [] c h fit = both_and (fits r.world r.me tx c.call c.answer) true fit refl
 fits-on tx r (d ∷ asked) c h fit =
@@ -56,6 +57,7 @@ fits-more w me tx asked c h fit = fits-on tx (begins w me) asked c h fit
 abbrev pub asked_with : Call → Reply → Asked
 asked_with c r = record { call = c; answer = answer_of r }
 
+-- what was asked grows by the call with its reply
 pub asked-more : (calls : List Call) (replies : List Reply) (c : Call) (r : Reply) → length calls ≡ length replies →
     asked_of (calls ++ c ∷ []) (replies ++ r ∷ []) ≡ asked_of calls replies ++ asked_with c r ∷ []
 asked-more [] [] c r e = refl
@@ -69,7 +71,8 @@ holding-more held a b = sym (fold-append holding_one held a b)
 
 -- ---- calls on words
 word_load : (w : World) (me : Private) (at : ℕ) (b : Bool) →
-    (if b then stays w me reply.BadWord else stays w me (reply.Number (slice_index w.words at))) ≡ stays w me (if b then reply.BadWord else reply.Number (slice_index w.words at))
+    (if b then stays w me reply.BadWord else stays w me (reply.Number (slice_index w.words at)))
+    ≡ stays w me (if b then reply.BadWord else reply.Number (slice_index w.words at))
 word_load w me at true = refl
 word_load w me at false = refl
 
@@ -79,7 +82,9 @@ word_store : (w : World) (me : Private) (at value : ℕ) (b : Bool) →
 word_store w me at value true = refl
 word_store w me at value false = refl
 
-pub word-act : (w : World) (me : Private) (tx : ℕ) (c : Call) → is_word_call c ≡ true → act w me tx c answer.Fine ≡ stays (record w { words = words_after w.words c }) me (word_reply w.words c)
+-- the plain machine does a call on words by the words alone
+pub word-act : (w : World) (me : Private) (tx : ℕ) (c : Call)
+    → is_word_call c ≡ true → act w me tx c answer.Fine ≡ stays (record w { words = words_after w.words c }) me (word_reply w.words c)
 word-act w me tx (call.Load at) is = word_load w me at (nat_le (length w.words) at)
 word-act w me tx (call.Store at value) is = word_store w me at value (nat_le (length w.words) at)
 word-act w me tx _ is = cc
@@ -92,11 +97,13 @@ fine_store : (b : Bool) → answer_of (if b then reply.BadWord else reply.Done) 
 fine_store true = refl
 fine_store false = refl
 
+-- no call on words brings a fault
 pub word-fine : (words : List ℕ) (c : Call) → is_word_call c ≡ true → answer_of (word_reply words c) ≡ answer.Fine
 word-fine words (call.Load at) is = fine_load (nat_le (length words) at) (slice_index words at)
 word-fine words (call.Store at value) is = fine_store (nat_le (length words) at)
 word-fine words _ is = cc
 
+-- no call on words leaves a record
 pub word-trail : (w : World) (me : Private) (tx : ℕ) (c : Call) (r : Reply) → is_word_call c ≡ true → recorded w me tx c r ≡ []
 word-trail w me tx (call.Load at) r is = refl
 word-trail w me tx (call.Store at value) r is = refl

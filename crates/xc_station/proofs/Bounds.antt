@@ -63,7 +63,8 @@ opened_alike w num (opened_line.File name bytes) = refl
 opened_alike w num (opened_line.Pipe bytes) = refl
 opened_alike w num opened_line.Pair = refl
 
-all_alike : (w v : World) (k : ℕ) (objects : List Opened) → contents_of w ≡ contents_of v → contents_of (with_all_opened w k objects) ≡ contents_of (with_all_opened v k objects)
+all_alike : (w v : World) (k : ℕ) (objects : List Opened)
+    → contents_of w ≡ contents_of v → contents_of (with_all_opened w k objects) ≡ contents_of (with_all_opened v k objects)
 all_alike w v k [] same = same
 all_alike w v k (o ∷ objects) same =
     all_alike (with_opened w (line_num k) o) (with_opened v (line_num k) o) (k + 1) objects
@@ -99,37 +100,52 @@ no_handles_of k (opened_line.Pipe bytes ∷ objects) all = absurd (All-head IsFi
 no_handles_of k (opened_line.Pair ∷ objects) all = absurd (All-head IsFileLine opened_line.Pair objects all)
 
 no_opening_handles : (script : Script) → IsScript script → opening_handles script.plain ≡ no_handles
-no_opening_handles script is = ap (λ (handles : List Place). handles ++ replicate (256 - length handles) Vacant) (no_handles_of 0 script.plain.prologue.objects is.files)
+no_opening_handles script is =
+    ap (λ (handles : List Place). handles ++ replicate (256 - length handles) Vacant) (no_handles_of 0 script.plain.prologue.objects is.files)
 
-start_alone : (script : Script) (block : List ℕ) → script.plain.jobs ≡ block ∷ [] → IsAlone 0 (opening_progress script) (untried block (fresh_job (block_place script block)) 0)
+start_alone : (script : Script) (block : List ℕ)
+    → script.plain.jobs ≡ block ∷ [] → IsAlone 0 (opening_progress script) (untried block (fresh_job (block_place script block)) 0)
 start_alone script block jobs =
-    record { jobs = ap (map (λ name. untried name (fresh_job (block_place script name)) 0)) jobs; counted = refl; since = omega arith; first = refl; failed = refl }
+    record {
+      jobs = ap (map (λ name. untried name (fresh_job (block_place script name)) 0)) jobs;
+      counted = refl;
+      since = omega arith;
+      first = refl;
+      failed = refl;
+    }
 
-start_begins : (script : Script) (block : List ℕ) → IsScript script → KeepsLimits script.plain → script.plain.jobs ≡ block ∷ [] → MayBegin script 0 (opening_progress script).state (beginning no_handles)
+start_begins : (script : Script) (block : List ℕ)
+    → IsScript script → KeepsLimits script.plain → script.plain.jobs ≡ block ∷ [] → MayBegin script 0 (opening_progress script).state (beginning no_handles)
 start_begins script block is limits jobs =
     let base = opening_base script.plain in
     record {
       handles = ap (λ (js : List (List ℕ)). replicate (length js) (opening_handles script.plain)) jobs ∙ ap (λ hs. hs ∷ []) (no_opening_handles script is);
       started = base.1;
       count = ap length base.0;
-      sound = λ number lt. subst (λ hs. IsSound (opening script.plain) (beginning hs) number) (no_opening_handles script is) (opening_sound script.plain limits number lt);
+      sound = λ number lt. subst (λ hs. IsSound (opening script.plain) (beginning hs) number) (no_opening_handles script is)
+          (opening_sound script.plain limits number lt);
     }
 
-start_as : (script : Script) (words : List ℕ) (contents : Contents) → words ≡ script.plain.words → contents ≡ opened script.plain.prologue.objects → IsAsIn (opening script.plain) words contents
+start_as : (script : Script) (words : List ℕ) (contents : Contents)
+    → words ≡ script.plain.words → contents ≡ opened script.plain.prologue.objects → IsAsIn (opening script.plain) words contents
 start_as script words contents same held = record { words = same ∙ sym (opening_base script.plain).0; host = held ∙ sym (opening_contents script.plain) }
 
 first_is : (f g : Following) (fs gs : List Following) → f ∷ fs ≡ g ∷ gs → f ≡ g
 first_is f g fs gs e = cc
 
 -- a job that was just started has passed no transaction
-start_next : (script : Script) (names : List (List ℕ)) (f : Following) → map (λ name. untried name (fresh_job (block_place script name)) 0) names ≡ f ∷ [] → 0 ≡ f.job.next
+start_next : (script : Script) (names : List (List ℕ)) (f : Following)
+    → map (λ name. untried name (fresh_job (block_place script name)) 0) names ≡ f ∷ [] → 0 ≡ f.job.next
 start_next script [] f e = cc
-start_next script (name ∷ names) f e = let same : untried name (fresh_job (block_place script name)) 0 ≡ f = first_is _ f _ [] e in ap (λ (g : Following). g.job.next) same
+start_next script (name ∷ names) f e =
+    let same : untried name (fresh_job (block_place script name)) 0 ≡ f = first_is _ f _ [] e in ap (λ (g : Following). g.job.next) same
 
-start_job : (s : Setting) (spare : ℕ) (words : List ℕ) (contents : Contents) (o : Option (List ℕ)) → IsScript s.script → KeepsLimits s.script.plain → words ≡ s.script.plain.words
+start_job : (s : Setting) (spare : ℕ) (words : List ℕ) (contents : Contents) (o : Option (List ℕ))
+    → IsScript s.script → KeepsLimits s.script.plain → words ≡ s.script.plain.words
     → (IsTrue s.tells → contents ≡ opened s.script.plain.prologue.objects) → slice_get s.script.plain.jobs 0 ≡ o
     → IsJob s words contents 0 spare (progress_of s.script []) (opened_job s.script o)
-start_job s spare words contents None is limits same held e = record { jobs = none_there s.script.plain.jobs e; none = refl; opened = λ t. start_as s.script words contents same (held t) }
+start_job s spare words contents None is limits same held e =
+    record { jobs = none_there s.script.plain.jobs e; none = refl; opened = λ t. start_as s.script words contents same (held t) }
 start_job s spare words contents (Some block) is limits same held e =
     let few : length s.script.plain.jobs ≤ 1 = omega (arith, is.one_block, ap length is.jobs, length_names s.script.blocks) in
     let jobs = one_at_most s.script.plain.jobs block few e in
@@ -143,7 +159,9 @@ start_job s spare words contents (Some block) is limits same held e =
       played = λ t. record { begin = start_begins s.script block is limits jobs; now = start_as s.script words contents same (held t) };
     }
 
-pub started : (s : Setting) (spare : ℕ) (words : List ℕ) (contents : Contents) (journal : List Entry) (job : Option Job) → IsScript s.script → KeepsLimits s.script.plain → words ≡ s.script.plain.words
+-- a station before its first turn
+pub started : (s : Setting) (spare : ℕ) (words : List ℕ) (contents : Contents) (journal : List Entry) (job : Option Job)
+    → IsScript s.script → KeepsLimits s.script.plain → words ≡ s.script.plain.words
     → (IsTrue s.tells → contents ≡ opened s.script.plain.prologue.objects) → journal ≡ []
     → job ≡ opened_job s.script (slice_get s.script.plain.jobs 0) → InFlight s words contents journal spare job
 started s spare words contents journal job is limits same held none first =
@@ -154,7 +172,11 @@ started s spare words contents journal job is limits same held none first =
       of_one = All-nil (λ (e : Entry). e.job ≡ 1);
       few = omega arith;
       count = ap length same;
-      unbroken = λ (f : Following) (jobs : (progress_of s.script []).jobs ≡ f ∷ []) goes. record { settled = refl; passed = start_next s.script s.script.plain.jobs f jobs; within = omega (arith, start_next s.script s.script.plain.jobs f jobs) };
+      unbroken = λ (f : Following) (jobs : (progress_of s.script []).jobs ≡ f ∷ []) goes. record {
+        settled = refl;
+        passed = start_next s.script s.script.plain.jobs f jobs;
+        within = omega (arith, start_next s.script s.script.plain.jobs f jobs);
+      };
       job = start_job s spare words contents (slice_get s.script.plain.jobs 0) is limits same held refl;
     } in
     subst (λ js. InFlight s words contents js spare job) (sym none) (subst (InFlight s words contents [] spare) (sym first) there)
@@ -164,7 +186,8 @@ opened_faults script None = refl
 opened_faults script (Some block) = refl
 
 -- no fault is recorded yet
-pub started_counts : (script : Script) (journal : List Entry) (job : Option Job) (before now : ℕ) → journal ≡ [] → job ≡ opened_job script (slice_get script.plain.jobs 0) → now ≡ before → AreCounted journal job before now
+pub started_counts : (script : Script) (journal : List Entry) (job : Option Job) (before now : ℕ)
+    → journal ≡ [] → job ≡ opened_job script (slice_get script.plain.jobs 0) → now ≡ before → AreCounted journal job before now
 started_counts script journal job before now none first stays =
     let total : 0 ≡ sum_by entry_faults journal + faults_of_job job =
     (λ i. sum_by entry_faults (sym none i) + (sym (opened_faults script (slice_get script.plain.jobs 0)) ∙ ap faults_of_job (sym first)) i) in
@@ -209,14 +232,17 @@ none_over s words contents [] spare lines none h =
     }
 none_over s words contents (e ∷ journal) spare lines none h = absurd (let some : suc (length journal) ≡ 0 = h.none in omega arith)
 
-ends_as : (s : Setting) (entries : ℕ) (f : Following) (a : Activity) (end line : JobEnd) → a ≡ activity.Ended end → IsEndOf a line → IsEnd s entries f end → IsEnd s entries f line
+ends_as : (s : Setting) (entries : ℕ) (f : Following) (a : Activity) (end line : JobEnd)
+    → a ≡ activity.Ended end → IsEndOf a line → IsEnd s entries f end → IsEnd s entries f line
 ends_as s entries f activity.Idle end line is of fits = absurd of
 ends_as s entries f (activity.Active tx) end line is of fits = absurd of
 ends_as s entries f activity.Starved end line is of fits = absurd of
 ends_as s entries f (activity.Ended e) end line is of fits = let same : e ≡ end = cc in subst (IsEnd s entries f) (sym same ∙ sym of) fits
 
-some_over : (s : Setting) (words : List ℕ) (contents : Contents) (journal : List Entry) (spare : ℕ) (job : Job) (line : JobLine) (lines : List JobLine) → doing_in job.activity ≡ doing.Ended →
-    lines ≡ line ∷ [] → IsLineOf job line → IsOneJob s words contents (length journal) spare (progress_of s.script journal) job → IsOver s journal (final_of words contents lines)
+some_over : (s : Setting) (words : List ℕ) (contents : Contents) (journal : List Entry) (spare : ℕ) (job : Job) (line : JobLine) (lines : List JobLine)
+    → doing_in job.activity ≡ doing.Ended →
+    lines ≡ line ∷ [] → IsLineOf job line → IsOneJob s words contents (length journal) spare (progress_of s.script journal) job
+    → IsOver s journal (final_of words contents lines)
 some_over s words contents journal spare job line lines over are of one =
     let p = progress_of s.script journal in
     let f = one.following in
@@ -235,7 +261,8 @@ some_over s words contents journal spare job line lines over are of one =
           (record { block = of.block ∙ sym one.block; end = ends_as s (length journal) f job.activity ended.0 line.end ended.1 of.end active }, refl));
     }
 
-over : (s : Setting) (words : List ℕ) (contents : Contents) (journal : List Entry) (spare : ℕ) (o : Option Job) (lines : List JobLine) → doing_of o ≡ doing.Ended → AreLinesOf o lines →
+over : (s : Setting) (words : List ℕ) (contents : Contents) (journal : List Entry) (spare : ℕ) (o : Option Job) (lines : List JobLine)
+    → doing_of o ≡ doing.Ended → AreLinesOf o lines →
     IsJob s words contents (length journal) spare (progress_of s.script journal) o → IsOver s journal (final_of words contents lines)
 over s words contents journal spare None lines ended are h = none_over s words contents journal spare lines are h
 over s words contents journal spare (Some job) lines ended are h = some_over s words contents journal spare job are.0 lines ended are.1 are.2 h
@@ -259,7 +286,8 @@ past_all [] n e = omega arith
 past_all (x ∷ xs) zero e = cc
 past_all (x ∷ xs) (suc n) e = let le = past_all xs n e in omega arith
 
-done_is : (s : Setting) (entries : ℕ) (f : Following) (end : JobEnd) → is_done end ≡ true → IsEnd s entries f end → (f.starved ≡ false) × (next_body s.script f.job ≡ None)
+done_is : (s : Setting) (entries : ℕ) (f : Following) (end : JobEnd)
+    → is_done end ≡ true → IsEnd s entries f end → (f.starved ≡ false) × (next_body s.script f.job ≡ None)
 done_is s entries f job_end.Done e h = h
 done_is s entries f (job_end.GaveUp c) e h = absurd h
 done_is s entries f job_end.JournalFull e h = absurd h
@@ -269,7 +297,8 @@ first_true : (b : Bool) → b && true ≡ true → b ≡ true
 first_true true e = refl
 first_true false e = cc
 
-complete_one : (s : Setting) (entries : ℕ) (journal : List Entry) (f : Following) (line : JobLine) → (f.starved ≡ false → IsUnbroken s.script journal f) → is_done line.end ≡ true → IsEnd s entries f line.end →
+complete_one : (s : Setting) (entries : ℕ) (journal : List Entry) (f : Following) (line : JobLine)
+    → (f.starved ≡ false → IsUnbroken s.script journal f) → is_done line.end ≡ true → IsEnd s entries f line.end →
     (all_settled journal ≡ true) × (length journal ≡ length (transactions_at s.script f.job.block))
 complete_one s entries journal f line unbroken done end =
     let over = done_is s entries f line.end done end in
@@ -277,21 +306,34 @@ complete_one s entries journal f line unbroken done end =
     let past = past_all (transactions_at s.script f.job.block) f.job.next over.1 in
     (k.settled, omega (arith, k.passed, k.within, past))
 
-complete_over : (s : Setting) (words : List ℕ) (contents : Contents) (journal : List Entry) (spare : ℕ) (o : Option Job) (lines : List JobLine) → doing_of o ≡ doing.Ended → AreLinesOf o lines →
-    GoesOn s.script journal (progress_of s.script journal) → IsJob s words contents (length journal) spare (progress_of s.script journal) o → AreEnds s (length journal) (progress_of s.script journal).jobs lines →
+complete_over : (s : Setting) (words : List ℕ) (contents : Contents) (journal : List Entry) (spare : ℕ) (o : Option Job) (lines : List JobLine)
+    → doing_of o ≡ doing.Ended → AreLinesOf o lines →
+    GoesOn s.script journal (progress_of s.script journal) → IsJob s words contents (length journal) spare (progress_of s.script journal) o
+    → AreEnds s (length journal) (progress_of s.script journal).jobs lines →
     all_done lines ≡ true → IsComplete s.script journal
 complete_over s words contents [] spare None lines ended are goes h ends done =
-    record { settled = refl; count = sym (ap (transactions_of_jobs s.script) (ap (map (λ name. untried name (fresh_job (block_place s.script name)) 0)) h.jobs)) }
+    record {
+      settled = refl;
+      count = sym (ap (transactions_of_jobs s.script) (ap (map (λ name. untried name (fresh_job (block_place s.script name)) 0)) h.jobs));
+    }
 complete_over s words contents (e ∷ journal) spare None lines ended are goes h ends done = absurd (let some : suc (length journal) ≡ 0 = h.none in omega arith)
 complete_over s words contents journal spare (Some job) lines ended are goes h ends done =
     let f = h.following in
     let jobs = h.alone.jobs in
-    let fits = subst (λ js. AreEnds s (length journal) js (are.0 ∷ [])) jobs (subst (AreEnds s (length journal) (progress_of s.script journal).jobs) are.1 ends) in
+    let fits = subst (λ js. AreEnds s (length journal) js (are.0 ∷ [])) jobs
+    (subst (AreEnds s (length journal) (progress_of s.script journal).jobs) are.1 ends) in
     let is = ap all_done (sym are.1) ∙ done in
     let whole = complete_one s (length journal) journal f are.0 (goes f jobs) (first_true (is_done are.0.end) is) fits.0.end in
-    record { settled = whole.0; count = whole.1 ∙ (let h : length (transactions_at s.script f.job.block) ≡ length (transactions_at s.script f.job.block) + 0 = omega arith in h) ∙ ap (transactions_of_jobs s.script) (sym jobs) }
+    record {
+      settled = whole.0;
+      count = whole.1
+          ∙ (let h : length (transactions_at s.script f.job.block) ≡ length (transactions_at s.script f.job.block) + 0 = omega arith in h)
+          ∙ ap (transactions_of_jobs s.script) (sym jobs);
+    }
 
-pub finished : (s : Setting) (words : List ℕ) (contents : Contents) (journal : List Entry) (spare : ℕ) (o : Option Job) (lines : List JobLine) → is_live o 1 ≡ false → AreLinesOf o lines →
+-- a station whose job has ended, or that has none, stands at a true end
+pub finished : (s : Setting) (words : List ℕ) (contents : Contents) (journal : List Entry) (spare : ℕ) (o : Option Job) (lines : List JobLine)
+    → is_live o 1 ≡ false → AreLinesOf o lines →
     InFlight s words contents journal spare o → IsTrueEnd s journal (final_of words contents lines)
 finished s words contents journal spare o lines ended are k =
     let whole = over s words contents journal spare o lines (ended_is o ended) are k.job in
@@ -310,11 +352,14 @@ ended_faults : (o : Option Job) → doing_of o ≡ doing.Ended → faults_of_job
 ended_faults None e = refl
 ended_faults (Some job) e = ap faults_noted (over_is job.activity e).1
 
-pub finished_counts : (journal : List Entry) (o : Option Job) (before now : ℕ) → is_live o 1 ≡ false → AreCounted journal o before now → CountsFaults (sum_by entry_faults journal) before now
+-- no fault is left to be entered there
+pub finished_counts : (journal : List Entry) (o : Option Job) (before now : ℕ)
+    → is_live o 1 ≡ false → AreCounted journal o before now → CountsFaults (sum_by entry_faults journal) before now
 finished_counts journal o before now ended h =
     let total : sum_by entry_faults journal + faults_of_job o ≡ sum_by entry_faults journal = omega (arith, ended_faults o (ended_is o ended)) in
     subst (λ n. CountsFaults n before now) total h
 
 -- the journal of one job is one of transactions that ran one after another
-pub serial : (s : Setting) (words : List ℕ) (contents : Contents) (journal : List Entry) (spare : ℕ) (o : Option Job) → InFlight s words contents journal spare o → IsSerial journal
+pub serial : (s : Setting) (words : List ℕ) (contents : Contents) (journal : List Entry) (spare : ℕ) (o : Option Job)
+    → InFlight s words contents journal spare o → IsSerial journal
 serial s words contents journal spare o k = record { order = k.in_order; jobs = one_rises journal k.of_one }

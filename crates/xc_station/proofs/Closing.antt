@@ -1,5 +1,5 @@
 -- The entry of a transaction that ends, and what the journal leads to with it.
-use Rattle.std.proofs.Common.{◌≡◌, ◌≢◌, inl, ℕ, ◌+◌, ◌<◌, ◌≤◌, Bool, true, List, [], ◌∷◌, ◌++◌, length, refl, ap, sym, ◌∙◌, subst, IsTrue, arith}
+use Rattle.std.proofs.Common.{◌≡◌, ◌≢◌, inl, ℕ, ◌+◌, ◌<◌, ◌≤◌, true, List, [], ◌∷◌, ◌++◌, length, refl, ap, sym, ◌∙◌, subst, IsTrue, arith}
 use Rattle.std.specs.Prelude.{map, replicate, slice_get, slice_set, unwrap_or, Option}
 use Rattle.std.specs.declared.option.Option.TheVariants.{None, Some}
 use Rattle.std.specs.FinMap as finite
@@ -37,7 +37,8 @@ use Rattle.xc_station.specs.declared.tx.Tx.{Tx}
 use Rattle.xc_station.specs.declared.tx.Phase.TheVariants.{Committing, Undoing}
 use Rattle.xc_station.specs.declared.job.Activity.TheVariants.{Active}
 use Rattle.xc_station.specs.Notes.{entry_of}
-use Rattle.xc_station.specs.Progress.{Following, Progress, untried, private_of, body_of, kept_of, started_blocks, started_job, following_of, after_entry, after_following, after_commit, after_abort, following_abort}
+use Rattle.xc_station.specs.Progress.{Following, Progress, untried, private_of, body_of, kept_of, started_blocks, started_job}
+use Rattle.xc_station.specs.Progress.{following_of, after_entry, after_following, after_commit, after_abort, following_abort}
 use Rattle.xc_station.specs.Truth.{next_of, IsCauseOf, failures_with, is_alone, IsHeldAt, AreLeft, AreRecords, IsTrueEntry, IsPlayed}
 use Rattle.xc_station.specs.Flight.{IsNoted, IsCommitting, IsUndoing, IsPhase, Flight, IsAlone}
 use Rattle.xc_station.specs.Playing.{IsAsIn, ran_of, HasPlayed, GoesForward, GoesBack, IsPlayedIn, IsPlayedBy, MayBegin, seen}
@@ -73,16 +74,21 @@ module _ (entered : ℕ) (p : Progress) (f : Following) (alone : IsAlone entered
 private_alone : (script : Script) (entered : ℕ) (s : State) (me : Private) → me ≡ beginning me.places → MayBegin script entered s me → private_of s 1 ≡ me
 private_alone script entered s me begins b = ap (λ hs. beginning (unwrap_or (slice_get hs 0) no_handles)) b.handles ∙ sym begins
 
-body_alone : (script : Script) (entered : ℕ) (p : Progress) (me : Private) (tx : Tx) (outcome : Outcome) → me ≡ beginning me.places → MayBegin script entered p.state me → body_of p.state (entry_of tx 1 outcome) ≡ ran_of p.state.world me tx
-body_alone script entered p me tx outcome begins b = ap (λ m. body p.state.world m tx.number (asked_of tx.calls.items tx.replies.items)) (private_alone script entered p.state me begins b)
+body_alone : (script : Script) (entered : ℕ) (p : Progress) (me : Private) (tx : Tx) (outcome : Outcome)
+    → me ≡ beginning me.places → MayBegin script entered p.state me → body_of p.state (entry_of tx 1 outcome) ≡ ran_of p.state.world me tx
+body_alone script entered p me tx outcome begins b =
+    ap (λ m. body p.state.world m tx.number (asked_of tx.calls.items tx.replies.items)) (private_alone script entered p.state me begins b)
 
-fits_alone : (script : Script) (entered : ℕ) (p : Progress) (me : Private) (tx : Tx) → me ≡ beginning me.places → MayBegin script entered p.state me → HasPlayed p.state.world me tx
+fits_alone : (script : Script) (entered : ℕ) (p : Progress) (me : Private) (tx : Tx)
+    → me ≡ beginning me.places → MayBegin script entered p.state me → HasPlayed p.state.world me tx
     → IsTrue (body_fits p.state.world (private_of p.state 1) tx.number (asked_of tx.calls.items tx.replies.items))
 fits_alone script entered p me tx begins b played =
-    subst (λ m. IsTrue (body_fits p.state.world m tx.number (asked_of tx.calls.items tx.replies.items))) (sym (private_alone script entered p.state me begins b)) played.fits
+    subst (λ m. IsTrue (body_fits p.state.world m tx.number (asked_of tx.calls.items tx.replies.items)))
+    (sym (private_alone script entered p.state me begins b)) played.fits
 
 -- ---- a commit
-commit_played : (script : Script) (entered : ℕ) (p : Progress) (me : Private) (tx : Tx) (next : Ask) → me ≡ beginning me.places → MayBegin script entered p.state me → HasPlayed p.state.world me tx
+commit_played : (script : Script) (entered : ℕ) (p : Progress) (me : Private) (tx : Tx) (next : Ask)
+    → me ≡ beginning me.places → MayBegin script entered p.state me → HasPlayed p.state.world me tx
     → IsPlayed p next (entry_of tx 1 (Committed []))
 commit_played script entered p me tx next begins b played =
     let here = body_alone script entered p me tx (Committed []) begins b in
@@ -98,6 +104,7 @@ commit_played script entered p me tx next begins b played =
       };
     }
 
+-- the entry of a commit is true behind a true journal
 pub commit_true : (s : Setting) (entered : ℕ) (p : Progress) (f : Following) (place : Place) (words : List ℕ) (contents : Contents) (me : Private) (tx : Tx)
     → IsAlone entered p f → me ≡ beginning me.places → Flight s f words entered place tx → IsCommitting s.script f place tx
     → (IsTrue s.tells → MayBegin s.script entered p.state me × IsPlayedBy p.state.world me words contents (Active tx))
@@ -134,8 +141,10 @@ none_started (c ∷ calls) = refl
 commit_after : (script : Script) (entered : ℕ) (p : Progress) (f : Following) (tx : Tx) → IsAlone entered p f
     → after_entry script p (entry_of tx 1 (Committed [])) ≡ record (after_commit script p f (entry_of tx 1 (Committed [])) []) { entered = p.entered + 1 }
 commit_after script entered p f tx alone =
-    ap (λ o. record (after_following script p (entry_of tx 1 (Committed [])) o) { entered = p.entered + 1 }) (following_alone entered p f alone tx (Committed []))
+    ap (λ o. record (after_following script p (entry_of tx 1 (Committed [])) o) { entered = p.entered + 1 })
+    (following_alone entered p f alone tx (Committed []))
 
+-- one job goes on behind its commit
 pub commit_leads : (script : Script) (entered : ℕ) (p : Progress) (f : Following) (tx : Tx) → IsAlone entered p f
     → IsAlone (entered + 1) (after_entry script p (entry_of tx 1 (Committed []))) (gone_on script p.entered f tx)
 commit_leads script entered p f tx alone =
@@ -143,7 +152,8 @@ commit_leads script entered p f tx alone =
     let g = gone_on script p.entered f tx in
     let kept = kept_of tx.calls.items tx.replies.items in
     let there : IsAlone (entered + 1) (record (after_commit script p f e []) { entered = p.entered + 1 }) g = record {
-      jobs = ap (λ (js : List Following). slice_set js 0 g ++ map (started_job script (passed script f.job tx.replies.items) (p.entered + 1)) (started_blocks kept [])) alone.jobs
+      jobs = ap (λ (js : List Following). slice_set js 0 g ++ map (started_job script (passed script f.job tx.replies.items) (p.entered + 1))
+          (started_blocks kept [])) alone.jobs
           ∙ ap (λ bs. (g ∷ []) ++ map (started_job script (passed script f.job tx.replies.items) (p.entered + 1)) bs) (none_started kept);
       counted = ap (λ n. n + 1) alone.counted;
       since = omega (arith, alone.counted);
@@ -157,11 +167,13 @@ pub record KeepsWorld (script : Script) (w : World) : Type 0 where
   pub started : w.started ≡ script.plain.jobs
   pub count : length w.words ≡ length script.plain.words
 
-seen_keeps : (script : Script) (w : World) (contents : Contents) (stores : List (ℕ × ℕ)) → w.started ≡ script.plain.jobs → length w.words ≡ length script.plain.words → KeepsWorld script (seen w contents stores)
+seen_keeps : (script : Script) (w : World) (contents : Contents) (stores : List (ℕ × ℕ))
+    → w.started ≡ script.plain.jobs → length w.words ≡ length script.plain.words → KeepsWorld script (seen w contents stores)
 seen_keeps script w contents stores started count = record { started = started; count = overlay_count w.words stores ∙ count }
 
 -- a later transaction may begin behind a commit, with its handles
-sound_behind : (w : World) (me : Private) (tx : Tx) (entered : ℕ) → me ≡ beginning me.places → tx.number ≡ entered + 1 → IsTrue (body_fits w me tx.number (asked_of tx.calls.items tx.replies.items)) → ((number : ℕ) → entered < number → IsSound w me number)
+sound_behind : (w : World) (me : Private) (tx : Tx) (entered : ℕ) → me ≡ beginning me.places → tx.number ≡ entered + 1
+    → IsTrue (body_fits w me tx.number (asked_of tx.calls.items tx.replies.items)) → ((number : ℕ) → entered < number → IsSound w me number)
     → (ran_of w me tx).me ≡ tx.me → (number : ℕ) → entered + 1 < number → IsSound (ran_of w me tx).world (beginning tx.me.places) number
 sound_behind w me tx entered begins is fits sound private number lt =
     let none : me.made ≡ 0 = ap (λ (m : Private). m.made) begins in
@@ -178,7 +190,9 @@ sound_behind w me tx entered begins is fits sound private number lt =
       handles = λ h. subst (λ (m : Private). IsKnown (ran_of w me tx).world (place_of m.places h)) private (all.handles h);
     }
 
-pub commit_begins : (script : Script) (entered : ℕ) (p : Progress) (f : Following) (words : List ℕ) (contents : Contents) (me : Private) (tx : Tx) → IsAlone entered p f → me ≡ beginning me.places
+-- the next transaction may begin behind a commit, with the words and the host as its entry leads to them
+pub commit_begins : (script : Script) (entered : ℕ) (p : Progress) (f : Following) (words : List ℕ) (contents : Contents) (me : Private) (tx : Tx)
+    → IsAlone entered p f → me ≡ beginning me.places
     → tx.phase ≡ Committing → tx.number ≡ entered + 1 → MayBegin script entered p.state me → IsPlayedBy p.state.world me words contents (Active tx)
     → MayBegin script (entered + 1) (after_entry script p (entry_of tx 1 (Committed []))).state (beginning tx.me.places)
     × IsAsIn (after_entry script p (entry_of tx 1 (Committed []))).state.world words contents
@@ -193,7 +207,8 @@ commit_begins script entered p f words contents me tx alone begins commits numbe
     let world : (lates ran.world (late_asked_of ran.late [])).world ≡ (ran_of w me tx).world =
     ap (λ (calls : List LateCall). (lates ran.world (late_asked_of calls [])).world) late ∙ ap (λ (r : Ran). r.world) here in
     let places : ran.me.places ≡ tx.me.places = ap (λ (r : Ran). r.me.places) here ∙ ap (λ (m : Private). m.places) go.private in
-    let keeps : KeepsWorld script (ran_of w me tx).world = subst (KeepsWorld script) (sym go.world) (seen_keeps script w contents tx.writes b.started b.count) in
+    let keeps : KeepsWorld script (ran_of w me tx).world =
+    subst (KeepsWorld script) (sym go.world) (seen_keeps script w contents tx.writes b.started b.count) in
     let after = after_commit script p f e [] in
     let kept = kept_of tx.calls.items tx.replies.items in
     let sound = sound_behind w me tx entered begins number played.0.fits b.sound go.private in
@@ -208,7 +223,8 @@ commit_begins script entered p f words contents me tx alone begins commits numbe
       words = forward.0 ∙ ap (λ (v : World). v.words) (sym world);
       host = sym (ap contents_of go.world) ∙ ap contents_of (sym world);
     } in
-    subst (λ q. MayBegin script (entered + 1) q.state (beginning tx.me.places) × IsAsIn q.state.world words contents) (sym (commit_after script entered p f tx alone)) (there, now)
+    subst (λ q. MayBegin script (entered + 1) q.state (beginning tx.me.places) × IsAsIn q.state.world words contents)
+    (sym (commit_after script entered p f tx alone)) (there, now)
 
 -- ---- an abort
 -- an aborted transaction has the claims and the records of its calls alone, whatever its cause
@@ -230,14 +246,17 @@ records_are ran tx next (cause.Conflict object holder at) records e = e
 records_are ran tx next (cause.Revoked object by at) records e = e
 records_are ran tx next cause.NoMemory records e = ([], none_left_by ran tx next, e ∙ sym (append_nil ran.trail))
 
-abort_played : (script : Script) (entered : ℕ) (p : Progress) (words : List ℕ) (contents : Contents) (me : Private) (tx : Tx) (c : Cause) (next : Ask) → me ≡ beginning me.places → tx.phase ≡ Undoing c
-    → tx.undo.pending ≡ [] → MayBegin script entered p.state me → IsPlayedBy p.state.world me words contents (Active tx) → IsPlayed p next (entry_of tx 1 (aborted_by c tx))
+abort_played : (script : Script) (entered : ℕ) (p : Progress) (words : List ℕ) (contents : Contents) (me : Private) (tx : Tx) (c : Cause) (next : Ask)
+    → me ≡ beginning me.places → tx.phase ≡ Undoing c
+    → tx.undo.pending ≡ [] → MayBegin script entered p.state me → IsPlayedBy p.state.world me words contents (Active tx)
+    → IsPlayed p next (entry_of tx 1 (aborted_by c tx))
 abort_played script entered p words contents me tx c next begins undoes none b played =
     let w = p.state.world in
     let way : (words ≡ w.words) × GoesBack w me contents tx = subst (IsPlayedIn w me words contents tx) undoes played.1 in
     let here = body_alone script entered p me tx (aborted_by c tx) begins b in
     let ran = body_of p.state (entry_of tx 1 (aborted_by c tx)) in
-    let trail : (ran_of w me tx).trail ≡ map (λ (r : Ending). r.0) tx.undo.ended = way.1.trail ∙ ap (λ us. us ++ map (λ (r : Ending). r.0) tx.undo.ended) none in
+    let trail : (ran_of w me tx).trail ≡ map (λ (r : Ending). r.0) tx.undo.ended = way.1.trail
+    ∙ ap (λ us. us ++ map (λ (r : Ending). r.0) tx.undo.ended) none in
     record {
       fits = fits_alone script entered p me tx begins b played.0;
       replies = ap (λ (r : Ran). r.replies) here ∙ played.0.replies;
@@ -246,7 +265,8 @@ abort_played script entered p words contents me tx c next begins undoes none b p
     }
 
 -- such an attempt isn't tried again
-none_failed : (f : Following) (c : Cause) (next : Ask) (records : List Ending) → IsCauseOf c next → failures_with f (Aborted (record { cause = c; records = records })) ≡ length f.failed
+none_failed : (f : Following) (c : Cause) (next : Ask) (records : List Ending)
+    → IsCauseOf c next → failures_with f (Aborted (record { cause = c; records = records })) ≡ length f.failed
 none_failed f cause.Asked next records h = refl
 none_failed f (cause.Conflict object holder at) next records h = absurd h
 none_failed f (cause.Revoked object by at) next records h = absurd h
@@ -259,7 +279,9 @@ alone_by (cause.Conflict object holder at) next records h = absurd h
 alone_by (cause.Revoked object by at) next records h = absurd h
 alone_by cause.NoMemory next records h = refl
 
-pub abort_true : (s : Setting) (entered : ℕ) (p : Progress) (f : Following) (place : Place) (words : List ℕ) (contents : Contents) (me : Private) (tx : Tx) (c : Cause)
+-- the entry of an abort is true behind a true journal
+pub abort_true : (s : Setting) (entered : ℕ) (p : Progress) (f : Following) (place : Place) (words : List ℕ) (contents : Contents) (me : Private) (tx : Tx)
+    (c : Cause)
     → IsAlone entered p f → me ≡ beginning me.places → tx.phase ≡ Undoing c → tx.undo.pending ≡ []
     → Flight s f words entered place tx
     → (IsTrue s.tells → MayBegin s.script entered p.state me × IsPlayedBy p.state.world me words contents (Active tx))
@@ -278,7 +300,8 @@ abort_true s entered p f place words contents me tx c alone begins undoes none f
           since = since_alone entered p f alone tx (aborted_by c tx) n.began;
           began = began_alone entered p f alone tx (aborted_by c tx) n.began;
           rank = rank_alone entered p f alone tx (aborted_by c tx);
-          failures = failures_alone entered p f alone tx (aborted_by c tx) s.rules.attempts (none_failed f c (next_of s.script f tx.replies.items) tx.undo.ended back.caused);
+          failures = failures_alone entered p f alone tx (aborted_by c tx) s.rules.attempts
+              (none_failed f c (next_of s.script f tx.replies.items) tx.undo.ended back.caused);
           calls = n.asked;
           asked = (back.caused, subst (λ (us : List Undo). AreLegal s.rules.undo_tries (length us + 1) tx.undo.ended) none back.legal);
         };
@@ -287,9 +310,11 @@ abort_true s entered p f place words contents me tx c alone begins undoes none f
     }
 
 abort_after : (script : Script) (entered : ℕ) (p : Progress) (f : Following) (tx : Tx) (c : Cause) → IsAlone entered p f
-    → after_entry script p (entry_of tx 1 (aborted_by c tx)) ≡ record (after_abort p f (entry_of tx 1 (aborted_by c tx)) (record { cause = c; records = tx.undo.ended })) { entered = p.entered + 1 }
+    → after_entry script p (entry_of tx 1 (aborted_by c tx))
+    ≡ record (after_abort p f (entry_of tx 1 (aborted_by c tx)) (record { cause = c; records = tx.undo.ended })) { entered = p.entered + 1 }
 abort_after script entered p f tx c alone =
-    ap (λ o. record (after_following script p (entry_of tx 1 (aborted_by c tx)) o) { entered = p.entered + 1 }) (following_alone entered p f alone tx (aborted_by c tx))
+    ap (λ o. record (after_following script p (entry_of tx 1 (aborted_by c tx)) o) { entered = p.entered + 1 })
+    (following_alone entered p f alone tx (aborted_by c tx))
 
 -- the job behind its abort: for the causes that there are so far
 abbrev pub gone_back : ℕ → Following → Cause → Following
@@ -320,6 +345,7 @@ since_back entered f (cause.Conflict object holder at) = refl
 since_back entered f (cause.Revoked object by at) = refl
 since_back entered f cause.NoMemory = refl
 
+-- one job goes on behind its abort
 pub abort_leads : (s : Setting) (entered : ℕ) (p : Progress) (f : Following) (tx : Tx) (c : Cause) → IsAlone entered p f → IsUndoing s f tx c
     → IsAlone (entered + 1) (after_entry s.script p (entry_of tx 1 (aborted_by c tx))) (gone_back p.entered f c)
 abort_leads s entered p f tx c alone back =
@@ -358,8 +384,11 @@ remains_same w ((u, k) ∷ us) =
     let more = remains_same (with_effect w u k) us in
     (more.0 ∙ one.0, more.1 ∙ one.1)
 
-pub abort_begins : (script : Script) (entered : ℕ) (p : Progress) (f : Following) (words : List ℕ) (contents : Contents) (me : Private) (tx : Tx) (c : Cause) → IsAlone entered p f
-    → tx.phase ≡ Undoing c → tx.undo.pending ≡ [] → IsNoted script f entered tx → MayBegin script entered p.state me → IsPlayedBy p.state.world me words contents (Active tx)
+-- the next transaction may begin behind an abort, with the words and the host as its entry leads to them
+pub abort_begins : (script : Script) (entered : ℕ) (p : Progress) (f : Following) (words : List ℕ) (contents : Contents) (me : Private) (tx : Tx) (c : Cause)
+    → IsAlone entered p f
+    → tx.phase ≡ Undoing c → tx.undo.pending ≡ [] → IsNoted script f entered tx → MayBegin script entered p.state me
+    → IsPlayedBy p.state.world me words contents (Active tx)
     → MayBegin script (entered + 1) (after_entry script p (entry_of tx 1 (aborted_by c tx))).state me
     × IsAsIn (after_entry script p (entry_of tx 1 (aborted_by c tx))).state.world words contents
 abort_begins script entered p f words contents me tx c alone undoes none n b played =
@@ -367,7 +396,8 @@ abort_begins script entered p f words contents me tx c alone undoes none n b pla
     let w = p.state.world in
     let way : (words ≡ w.words) × GoesBack w me contents tx = subst (IsPlayedIn w me words contents tx) undoes played.1 in
     let same = remains_same w (remains tx.undo.ended) in
-    let trail : (ran_of w me tx).trail ≡ map (λ (r : Ending). r.0) tx.undo.ended = way.1.trail ∙ ap (λ us. us ++ map (λ (r : Ending). r.0) tx.undo.ended) none in
+    let trail : (ran_of w me tx).trail ≡ map (λ (r : Ending). r.0) tx.undo.ended = way.1.trail
+    ∙ ap (λ us. us ++ map (λ (r : Ending). r.0) tx.undo.ended) none in
     let mine = b.sound (entered + 1) (omega arith) in
     let made : AreMadeIn w (map (λ (r : Ending). r.0) tx.undo.ended) = subst (AreMadeIn w) trail (made_in script f entered w me tx n mine played.0) in
     let after = after_abort p f e (record { cause = c; records = tx.undo.ended }) in

@@ -1,24 +1,21 @@
 -- Each call of a transaction is the plain machine's.
-use Rattle.std.specs.Prelude.{Result, Ok, Err, IfOk, OnErr, IsOk, IsErr}
+use Rattle.std.specs.Prelude.{Result, Ok, Err, IfOk, IsOk, IsErr}
 use Rattle.xc_data.specs.Counts.{CountsFault}
 use Rattle.std.specs.declared.option.Option.TheVariants.{None}
 use Rattle.xc_data.specs.Faults.{is_fault_reply}
 use Rattle.xc_data.specs.declared.call.Reply.TheVariants as reply
 use Rattle.xc_script.specs.Ask.{value_in}
-use Rattle.std.proofs.Common.{◌≡◌, ℕ, ◌+◌, ◌≤◌, true, false, List, [], ◌++◌, length, length-append, refl, ap, sym, ◌∙◌, subst, arith, IsTrue}
+use Rattle.std.proofs.Common.{◌≡◌, ℕ, true, false, List, ◌++◌, refl, ap, sym, ◌∙◌, subst, IsTrue}
 use Rattle.xc_data.specs.declared.call.Call.{Call}
-use Rattle.xc_data.specs.declared.call.Call.TheVariants as call
 use Rattle.xc_data.specs.declared.call.Answer.{Answer}
 use Rattle.xc_data.specs.declared.call.Answer.TheVariants as answer
 use Rattle.xc_data.specs.declared.call.Reply.{Reply}
 use Rattle.xc_data.specs.declared.private.Private.{Private}
 use Rattle.xc_compensate.specs.Records.{Records}
-use Rattle.xc_file.specs.Calls.{CallState, Acts, AreRecorded, IsFileCall, IsStarved, takes_memory_first, replies_fault}
+use Rattle.xc_file.specs.Calls.{CallState, Acts, AreRecorded, IsFileCall, replies_fault}
 use Rattle.xc_host.specs.Model.{HostModel}
-use Rattle.xc_world.specs.Effects.{whole}
-use Rattle.xc_world.specs.Ends.{with_remains}
 use Rattle.xc_data.specs.declared.memory.NoMemory.{NoMemory}
-use Rattle.xc_host.specs.Contents.{Contents, contents_of, world_of}
+use Rattle.xc_host.specs.Contents.{Contents}
 use Rattle.xc_txmem.specs.Overlay.{overlaid}
 use Rattle.xc_world.specs.World.{World}
 use Rattle.xc_world.specs.Act.{act}
@@ -30,7 +27,9 @@ use Rattle.xc_station.specs.Playing.{seen}
 use Rattle.xc_station.specs.WordCalls.{is_word_call, word_reply, words_after}
 use Rattle.xc_station.proofs.Bodies.{append_nil, word-act, word-fine, word-trail}
 
-pub does_words : (w : World) (was : Contents) (number : ℕ) (me : Private) (stores stores' : List (ℕ × ℕ)) (undo : Records) (words : List ℕ) (c : Call) (reply : Reply) → is_word_call c ≡ true → w.words ≡ words
+-- a call on words does what the plain machine's does
+pub does_words : (w : World) (was : Contents) (number : ℕ) (me : Private) (stores stores' : List (ℕ × ℕ)) (undo : Records) (words : List ℕ) (c : Call)
+    (reply : Reply) → is_word_call c ≡ true → w.words ≡ words
     → reply ≡ word_reply (overlaid words stores) c → overlaid words stores' ≡ words_after (overlaid words stores) c
     → Does w was was number (record { me = me; stores = stores; undo = undo }) (record { me = me; stores = stores'; undo = undo }) c reply
 does_words w was number me stores stores' undo words c reply is at gives after =
@@ -67,7 +66,8 @@ abbrev pub parts_at : {H : Type 0} → List (ℕ × ℕ) → CallState H → Par
 parts_at stores state = record { me = state.me; stores = stores; undo = state.undo }
 
 -- what a call on files promises, as the call of a transaction needs it
-module _ {H : Type 0} (model : HostModel H) (c d : Call) (is : c ≡ d) (old new : CallState H) (r : Result Reply NoMemory) (k : IsFileCall model d old new r) where
+module _ {H : Type 0} (model : HostModel H) (c d : Call) (is : c ≡ d) (old new : CallState H) (r : Result Reply NoMemory)
+    (k : IsFileCall model d old new r) where
   -- the plain machine does it
   pub file_does : (words : List ℕ) (stores : List (ℕ × ℕ)) → IsTrue model.tells
       → IfOk r (λ reply. DoesIn words (model.contents old.host) (model.contents new.host) (parts_at stores old) (parts_at stores new) c reply)
@@ -95,7 +95,8 @@ failed_quiet (Ok r) before now failed stays = cc
 failed_quiet (Err e) before now failed stays = stays
 
 -- so without memory to go on behind a reply the count stayed
-pub quiet_behind : {A E : Type 0} (reply : Reply) (a : Result A E) (e : E) (given : Result Reply NoMemory) (before now : ℕ) → a ≡ Err e → (value_in reply ≡ None → IsOk a) → IsErr given
+pub quiet_behind : {A E : Type 0} (reply : Reply) (a : Result A E) (e : E) (given : Result Reply NoMemory) (before now : ℕ)
+    → a ≡ Err e → (value_in reply ≡ None → IsOk a) → IsErr given
     → CountsFault (is_fault_reply reply) before now → CountsFault (replies_fault given) before now
 quiet_behind reply a e given before now is lasting failed cause =
     failed_quiet given before now failed (subst (λ b. CountsFault b before now) (unfaulty reply (λ nothing. never_ok a e is (lasting nothing))) cause)

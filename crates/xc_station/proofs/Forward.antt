@@ -74,14 +74,18 @@ flight_call s f words entered place next old new c reply runs asked number began
         number = number ∙ noted.number;
         began = began ∙ noted.began;
         asked = subst (λ cs. AsksEach from cs new.replies.items) (sym calls)
-            (subst (λ rs. AsksEach from (old.calls.items ++ c ∷ []) rs) (sym replies) (asks-more from old.calls.items old.replies.items c reply noted.asked asked'));
-        none_kept = (λ i. kept_of (calls i) (replies i)) ∙ kept-more old.calls.items old.replies.items c reply (asks-count from old.calls.items old.replies.items noted.asked) now' ∙ noted.none_kept;
+            (subst (λ rs. AsksEach from (old.calls.items ++ c ∷ []) rs) (sym replies)
+            (asks-more from old.calls.items old.replies.items c reply noted.asked asked'));
+        none_kept = (λ i. kept_of (calls i) (replies i))
+            ∙ kept-more old.calls.items old.replies.items c reply (asks-count from old.calls.items old.replies.items noted.asked) now' ∙ noted.none_kept;
       };
       stored = stored;
       phase = subst (IsPhase s f words next new) (sym (phase ∙ runs)) now;
     }
 
-pub played_call : (s : Setting) (f : Following) (words : List ℕ) (entered : ℕ) (place : Place) (w : World) (me : Private) (was is : Contents) (old new : Tx) (c : Call) (reply : Reply)
+-- a running transaction is played on by a call
+pub played_call : (s : Setting) (f : Following) (words : List ℕ) (entered : ℕ) (place : Place) (w : World) (me : Private) (was is : Contents) (old new : Tx)
+    (c : Call) (reply : Reply)
     → old.phase ≡ Running → asks (walk_of s.script place) ≡ ask.Call c
     → Notes old new c reply (claims_of c old.me (length words))
     → ((v : World) (number : ℕ) → v.words ≡ words → Does v was is number (parts_of old) (parts_of new) c reply)
@@ -100,19 +104,23 @@ played_call s f words entered place w me was is old new c reply runs asked k doe
     (λ i. asked_of (k.calls i) (k.replies i)) ∙ asked-more old.calls.items old.replies.items c reply count in
     let acts : act ran.world ran.me old.number c (answer_of reply) ≡ here = (λ i. act (go.world i) (go.private i) old.number c (answer_of reply)) ∙ d.step in
     let step : ran_of w me new ≡ stepped old.number ran c here =
-    (λ i. body w me (k.number i) (grown i)) ∙ body-more w me old.number (asked_of old.calls.items old.replies.items) (asked_with c reply) ∙ ap (stepped old.number ran c) acts in
+    (λ i. body w me (k.number i) (grown i)) ∙ body-more w me old.number (asked_of old.calls.items old.replies.items) (asked_with c reply)
+    ∙ ap (stepped old.number ran c) acts in
     let touches : claims_of c ran.me (length ran.world.words) ≡ claims_of c old.me (length words) =
     (λ i. claims_of c (go.private i) (length (ap (λ (v : World). v.words) go.world i)))
     ∙ ap (claims_of c old.me) (overlay_count w.words old.writes ∙ sym (ap length forward.0)) in
-    let records : recorded ran.world ran.me old.number c reply ≡ recorded (seen w was old.writes) old.me old.number c reply = λ i. recorded (go.world i) (go.private i) old.number c reply in
-    let fit : IsTrue (fits ran.world ran.me old.number c (answer_of reply)) = subst IsTrue (λ i. fits (sym go.world i) (sym go.private i) old.number c (answer_of reply)) d.fits in
+    let records : recorded ran.world ran.me old.number c reply ≡ recorded (seen w was old.writes) old.me old.number c reply =
+    λ i. recorded (go.world i) (go.private i) old.number c reply in
+    let fit : IsTrue (fits ran.world ran.me old.number c (answer_of reply)) =
+    subst IsTrue (λ i. fits (sym go.world i) (sym go.private i) old.number c (answer_of reply)) d.fits in
     let next : GoesForward w me is new = record {
       world = ap (λ (r : Ran). r.world) step;
       private = ap (λ (r : Ran). r.me) step;
       trail = ap (λ (r : Ran). r.trail) step ∙ (λ i. go.trail i ++ records i) ∙ sym d.records;
     } in (
       record {
-        fits = subst IsTrue (λ i. body_fits w me (sym k.number i) (sym grown i)) (fits-more w me old.number (asked_of old.calls.items old.replies.items) (asked_with c reply) played.0.fits fit);
+        fits = subst IsTrue (λ i. body_fits w me (sym k.number i) (sym grown i))
+            (fits-more w me old.number (asked_of old.calls.items old.replies.items) (asked_with c reply) played.0.fits fit);
         replies = ap (λ (r : Ran). r.replies) step ∙ ap (λ rs. rs ++ reply ∷ []) played.0.replies ∙ sym k.replies;
         late = ap (λ (r : Ran). r.late) step ∙ ap (λ ls. ran.late ++ ls) (built-late c ran.me reply built) ∙ append_nil ran.late ∙ played.0.late;
         taken = ap (λ (r : Ran). r.taken) step ∙ ap (λ ts. ran.taken ++ ts) (built-taken c ran.me reply built) ∙ append_nil ran.taken ∙ played.0.taken;
@@ -139,14 +147,18 @@ flight_commit s f words entered place tx runs asked flight =
       phase = record { ahead = running.ahead; asked = asked; none = running.none };
     }
 
+-- the stores are written where the commit is asked
 pub played_commit : (w : World) (me : Private) (words : List ℕ) (contents : Contents) (tx : Tx) → tx.phase ≡ Running
     → IsPlayedBy w me words contents (Active tx) → IsPlayedBy w me (overlaid words tx.writes) contents (Active (record tx { phase = Committing }))
 played_commit w me words contents tx runs played =
     let forward : (words ≡ w.words) × GoesForward w me contents tx = subst (IsPlayedIn w me words contents tx) runs played.1 in
     let go = forward.1 in
     let p = played.0 in
-    let written : overlaid words tx.writes ≡ (ran_of w me tx).world.words = ap (λ ws. overlaid ws tx.writes) forward.0 ∙ sym (ap (λ (v : World). v.words) go.world) in
-    (record { fits = p.fits; replies = p.replies; late = p.late; taken = p.taken; held = p.held }, (written, record { world = go.world; private = go.private; trail = go.trail }))
+    let written : overlaid words tx.writes ≡ (ran_of w me tx).world.words = ap (λ ws. overlaid ws tx.writes) forward.0
+    ∙ sym (ap (λ (v : World). v.words) go.world) in (
+      record { fits = p.fits; replies = p.replies; late = p.late; taken = p.taken; held = p.held },
+      (written, record { world = go.world; private = go.private; trail = go.trail }),
+    )
 
 -- ---- the way back begins: nothing more was noted, and the host is as it was
 pub flight_back : (s : Setting) (f : Following) (words : List ℕ) (entered : ℕ) (place next : Place) (old new : Tx) (c : Cause)
@@ -175,7 +187,9 @@ flight_back s f words entered place next old new c runs k undo stored same cause
       };
     }
 
-pub played_back : (s : Setting) (f : Following) (words : List ℕ) (entered : ℕ) (place : Place) (w : World) (me : Private) (was is : Contents) (old new : Tx) (c : Cause)
+-- a running transaction turns back with nothing changed
+pub played_back : (s : Setting) (f : Following) (words : List ℕ) (entered : ℕ) (place : Place) (w : World) (me : Private) (was is : Contents) (old new : Tx)
+    (c : Cause)
     → old.phase ≡ Running → KeepsNotes old new → new.undo ≡ old.undo → is ≡ was
     → Flight s f words entered place old → IsSound w me (entered + 1)
     → IsPlayedBy w me words was (Active old) → IsPlayedBy w me words is (Active (record new { phase = Undoing c }))
@@ -210,7 +224,8 @@ played_back s f words entered place w me was is old new c runs k undo still flig
     )
 
 -- ---- as the turn of a call has it: the call was done by `mid`, and noted by `new`
-pub notes_from : (old mid new : Tx) (c : Call) (reply : Reply) (claims : List Claim) → KeepsNotes old mid → Notes mid new c reply claims → Notes old new c reply claims
+pub notes_from : (old mid new : Tx) (c : Call) (reply : Reply) (claims : List Claim)
+    → KeepsNotes old mid → Notes mid new c reply claims → Notes old new c reply claims
 notes_from old mid new c reply claims k n =
     record {
       number = n.number ∙ k.number;
@@ -221,12 +236,14 @@ notes_from old mid new c reply claims k n =
       held = n.held ∙ ap (λ h. holding h claims) k.held;
     }
 
+-- a transaction's story goes on with a call that is done and noted
 pub flight_noted : (script : Script) (words : List ℕ) (place next : Place) (old mid new : Tx) (c : Call) (reply : Reply) (claims : List Claim)
     → old.phase ≡ Running → asks (walk_of script place) ≡ ask.Call c
     → KeepsNotes old mid → Notes mid new c reply claims → parts_of new ≡ parts_of mid
     → AreWithin (length words) mid.writes → mid.me.stored ≤ 16384 → mid.undo.ended ≡ []
     → walk_of script next ≡ answered (walk_of script place) reply → IsSameBegin place next → is_late reply ≡ false
-    → (rules : Rules) (tells : Bool) (f : Following) (entered : ℕ) → Flight (setting script rules tells) f words entered place old → Flight (setting script rules tells) f words entered next new
+    → (rules : Rules) (tells : Bool) (f : Following) (entered : ℕ) → Flight (setting script rules tells) f words entered place old
+    → Flight (setting script rules tells) f words entered next new
 flight_noted script words place next old mid new c reply claims runs asked k n parts within stored none walk same now rules tells f entered flight =
     let all = notes_from old mid new c reply claims k n in
     flight_call (setting script rules tells) f words entered place next old new c reply runs asked all.number all.began all.phase all.calls all.replies
@@ -234,35 +251,49 @@ flight_noted script words place next old mid new c reply claims runs asked k n p
     (subst (λ (p : Parts). p.me.stored ≤ 16384) (sym parts) stored)
     (ap (λ (p : Parts). p.undo.ended) parts ∙ none) walk same now flight
 
-pub played_noted : (T : Type 0) (script : Script) (words : List ℕ) (place : Place) (was is : Contents) (old mid new : Tx) (c : Call) (given : Result Reply NoMemory) (reply : Reply) (claims : List Claim)
+-- a transaction is played on by a call that is done and noted
+pub played_noted : (T : Type 0) (script : Script) (words : List ℕ) (place : Place) (was is : Contents) (old mid new : Tx) (c : Call)
+    (given : Result Reply NoMemory) (reply : Reply) (claims : List Claim)
     → old.phase ≡ Running → asks (walk_of script place) ≡ ask.Call c
     → KeepsNotes old mid → Notes mid new c reply claims → parts_of new ≡ parts_of mid → claims ≡ claims_of c old.me (length words)
     → given ≡ Ok reply
     → (T → IfOk given (λ r. (v : World) (number : ℕ) → v.words ≡ words → Does v was is number (parts_of old) (parts_of mid) c r))
-    → T → (w : World) (me : Private) (rules : Rules) (tells : Bool) (f : Following) (entered : ℕ) → Flight (setting script rules tells) f words entered place old → IsSound w me (entered + 1)
+    → T → (w : World) (me : Private) (rules : Rules) (tells : Bool) (f : Following) (entered : ℕ)
+    → Flight (setting script rules tells) f words entered place old → IsSound w me (entered + 1)
     → IsPlayedBy w me words was (Active old) → IsPlayedBy w me words is (Active new)
-played_noted T script words place was is old mid new c given reply claims runs asked k n parts touched ok does t w me rules tells f entered flight sound played =
+played_noted T script words place was is old mid new c given reply claims runs asked k n parts touched ok does t w me rules tells f entered flight sound
+    played =
     let all = subst (λ cs. Notes old new c reply cs) touched (notes_from old mid new c reply claims k n) in
     let did : (v : World) (number : ℕ) → v.words ≡ words → Does v was is number (parts_of old) (parts_of mid) c reply =
-    subst (λ (g : Result Reply NoMemory). IfOk g (λ r. (v : World) (number : ℕ) → v.words ≡ words → Does v was is number (parts_of old) (parts_of mid) c r)) ok (does t) in
+    subst (λ (g : Result Reply NoMemory). IfOk g (λ r. (v : World) (number : ℕ) → v.words ≡ words → Does v was is number (parts_of old) (parts_of mid) c r)) ok
+    (does t) in
     played_call (setting script rules tells) f words entered place w me was is old new c reply runs asked all
     (λ v number at. subst (λ (p : Parts). Does v was is number (parts_of old) p c reply) (sym parts) (did v number at)) flight played
 
+-- a transaction keeps its own notes
 pub notes_same : (tx : Tx) → KeepsNotes tx tx
 notes_same tx = record { number = refl; began = refl; phase = refl; calls = refl; replies = refl; held = refl }
 
 -- ---- as the job's turn has it
 pub run_active : (script : Script) (words words' : List ℕ) (place next : Place) (a : Activity) (old new : Tx) → a ≡ Active old
-    → ((rules : Rules) (tells : Bool) (f : Following) (entered : ℕ) → Flight (setting script rules tells) f words entered place old → Flight (setting script rules tells) f words' entered next new)
+    → ((rules : Rules) (tells : Bool) (f : Following) (entered : ℕ) → Flight (setting script rules tells) f words entered place old
+    → Flight (setting script rules tells) f words' entered next new)
     → (rules : Rules) (tells : Bool) (f : Following) (entered spare : ℕ) → IsActive (setting script rules tells) f words entered spare place a
     → IsActive (setting script rules tells) f words' entered spare next (Active new)
 run_active script words words' place next a old new is goes rules tells f entered spare active =
-    let before : IsActive (setting script rules tells) f words entered spare place (Active old) = subst (IsActive (setting script rules tells) f words entered spare place) is active in
+    let before : IsActive (setting script rules tells) f words entered spare place (Active old) =
+    subst (IsActive (setting script rules tells) f words entered spare place) is active in
     (before.0, goes rules tells f entered before.1)
 
+-- a job's turn plays on what its transaction's turn does
 pub run_played : (T : Type 0) (script : Script) (words words' : List ℕ) (place : Place) (was is : Contents) (a : Activity) (old new : Tx) → a ≡ Active old
-    → (T → (w : World) (me : Private) (rules : Rules) (tells : Bool) (f : Following) (entered : ℕ) → Flight (setting script rules tells) f words entered place old → IsSound w me (entered + 1) → IsPlayedBy w me words was (Active old) → IsPlayedBy w me words' is (Active new))
-    → T → (w : World) (me : Private) (rules : Rules) (tells : Bool) (f : Following) (entered spare : ℕ) → IsActive (setting script rules tells) f words entered spare place a → IsSound w me (entered + 1) → IsPlayedBy w me words was a → IsPlayedBy w me words' is (Active new)
+    → (T → (w : World) (me : Private) (rules : Rules) (tells : Bool) (f : Following) (entered : ℕ)
+    → Flight (setting script rules tells) f words entered place old → IsSound w me (entered + 1) → IsPlayedBy w me words was (Active old)
+    → IsPlayedBy w me words' is (Active new))
+    → T → (w : World) (me : Private) (rules : Rules) (tells : Bool) (f : Following) (entered spare : ℕ)
+    → IsActive (setting script rules tells) f words entered spare place a → IsSound w me (entered + 1) → IsPlayedBy w me words was a
+    → IsPlayedBy w me words' is (Active new)
 run_played T script words words' place was is a old new e goes t w me rules tells f entered spare active sound played =
-    let before : IsActive (setting script rules tells) f words entered spare place (Active old) = subst (IsActive (setting script rules tells) f words entered spare place) e active in
+    let before : IsActive (setting script rules tells) f words entered spare place (Active old) =
+    subst (IsActive (setting script rules tells) f words entered spare place) e active in
     goes t w me rules tells f entered before.1 sound (subst (IsPlayedBy w me words was) e played)

@@ -52,12 +52,14 @@ starved_phase us phase.Running e = cc
 starved_phase us phase.Committing e = cc
 starved_phase us (phase.Undoing c) e = back_starved us e
 
+-- an idle job
 pub idle_is : (a : Activity) → doing_in a ≡ Idle → a ≡ activity.Idle
 idle_is activity.Idle e = refl
 idle_is (activity.Active tx) e = absurd (idle_phase tx.undo.pending tx.phase e)
 idle_is activity.Starved e = cc
 idle_is (activity.Ended end) e = cc
 
+-- a starved one
 pub starved_is : (a : Activity) → doing_in a ≡ Starved → a ≡ activity.Starved
 starved_is activity.Idle e = cc
 starved_is (activity.Active tx) e = absurd (starved_phase tx.undo.pending tx.phase e)
@@ -68,6 +70,7 @@ back_committing : (us : List Undo) → doing_back us ≡ Committing → ⊥
 back_committing [] e = cc
 back_committing (u ∷ us) e = cc
 
+-- a committing transaction
 pub committing_is : (us : List Undo) (p : Phase) → doing_phase us p ≡ Committing → p ≡ phase.Committing
 committing_is us phase.Running e = cc
 committing_is us phase.Committing e = refl
@@ -77,6 +80,7 @@ back_running : (us : List Undo) → doing_back us ≡ Running → ⊥
 back_running [] e = cc
 back_running (u ∷ us) e = cc
 
+-- a running one
 pub running_is : (us : List Undo) (p : Phase) → doing_phase us p ≡ Running → p ≡ phase.Running
 running_is us phase.Running e = refl
 running_is us phase.Committing e = cc
@@ -95,11 +99,14 @@ none_left : (us : List Undo) → doing_back us ≡ Undone → us ≡ []
 none_left [] e = refl
 none_left (u ∷ us) e = cc
 
-pub undoing_is : (us : List Undo) (p : Phase) → doing_phase us p ≡ Undoing → ((c : Cause) × (p ≡ phase.Undoing c)) × ((older : List Undo) × (u : Undo) × (us ≡ older ++ u ∷ []))
+-- an undoing one: a record has no end yet
+pub undoing_is : (us : List Undo) (p : Phase)
+    → doing_phase us p ≡ Undoing → ((c : Cause) × (p ≡ phase.Undoing c)) × ((older : List Undo) × (u : Undo) × (us ≡ older ++ u ∷ []))
 undoing_is us phase.Running e = cc
 undoing_is us phase.Committing e = cc
 undoing_is us (phase.Undoing c) e = ((c, refl), some_left us e)
 
+-- one whose records have their ends
 pub undone_is : (us : List Undo) (p : Phase) → doing_phase us p ≡ Undone → ((c : Cause) × (p ≡ phase.Undoing c)) × (us ≡ [])
 undone_is us phase.Running e = cc
 undone_is us phase.Committing e = cc
@@ -112,24 +119,28 @@ active_is (activity.Active tx) h = (tx, refl)
 active_is activity.Starved h = absurd h
 active_is (activity.Ended end) h = absurd h
 
+-- a running transaction is active
 pub busy_running : (a : Activity) → doing_in a ≡ Running → IsBusy a
 busy_running activity.Idle e = cc
 busy_running (activity.Active tx) e = tt
 busy_running activity.Starved e = cc
 busy_running (activity.Ended end) e = cc
 
+-- a committing one is
 pub busy_committing : (a : Activity) → doing_in a ≡ Committing → IsBusy a
 busy_committing activity.Idle e = cc
 busy_committing (activity.Active tx) e = tt
 busy_committing activity.Starved e = cc
 busy_committing (activity.Ended end) e = cc
 
+-- an undoing one is
 pub busy_undoing : (a : Activity) → doing_in a ≡ Undoing → IsBusy a
 busy_undoing activity.Idle e = cc
 busy_undoing (activity.Active tx) e = tt
 busy_undoing activity.Starved e = cc
 busy_undoing (activity.Ended end) e = cc
 
+-- one whose records have their ends is
 pub busy_undone : (a : Activity) → doing_in a ≡ Undone → IsBusy a
 busy_undone activity.Idle e = cc
 busy_undone (activity.Active tx) e = tt
@@ -147,8 +158,10 @@ module _ (s : Setting) (journal : List Entry) where
 
   pub keep_job : (words words' : List ℕ) (contents contents' : Contents) (spare spare' : ℕ) (job job' : Job)
       → job'.block ≡ job.block → job'.me ≡ job.me → length words' ≡ length words
-      → ((f : Following) → IsActive s f words (length journal) spare job.place job.activity → IsActive s f words' (length journal) spare' job'.place job'.activity)
-      → (IsTrue s.tells → (f : Following) → IsActive s f words (length journal) spare job.place job.activity → MayBegin s.script (length journal) reached.state job.me
+      → ((f : Following) → IsActive s f words (length journal) spare job.place job.activity
+      → IsActive s f words' (length journal) spare' job'.place job'.activity)
+      → (IsTrue s.tells → (f : Following) → IsActive s f words (length journal) spare job.place job.activity
+      → MayBegin s.script (length journal) reached.state job.me
       → IsPlayedBy reached.state.world job.me words contents job.activity → IsPlayedBy reached.state.world job.me words' contents' job'.activity)
       → In words contents spare (Some job) → In words' contents' spare' (Some job')
   keep_job words words' contents contents' spare spare' job job' block me count moves plays k =
@@ -190,8 +203,10 @@ one_more (d ∷ journal) e all is =
     let parts = and_true (is_settled d.outcome) (all_settled journal) all in
     ap (λ b. b && all_settled (journal ++ e ∷ [])) parts.0 ∙ one_more journal e parts.1 is
 
+-- what holds between turns holds behind an entry that is true behind the journal
 pub keep_entry : (s : Setting) (words : List ℕ) (contents : Contents) (journal : List Entry) (spare : ℕ) (job : Job) (e : Entry) (f : Following)
-    → IsScript s.script → AreTrue s (opening_progress s.script) journal → AreInOrder 0 journal → All (λ (d : Entry). d.job ≡ 1) journal → length journal < 1000 → length words ≡ length s.script.plain.words
+    → IsScript s.script → AreTrue s (opening_progress s.script) journal → AreInOrder 0 journal → All (λ (d : Entry). d.job ≡ 1) journal → length journal < 1000
+    → length words ≡ length s.script.plain.words
     → s.script.plain.jobs ≡ job.block ∷ [] → f.block ≡ job.block
     → IsTrueEntry s (progress_of s.script journal) e
     → e.tx ≡ length journal + 1 → e.began ≡ length journal → e.job ≡ 1 → is_alone e.outcome ≡ true
@@ -201,7 +216,8 @@ pub keep_entry : (s : Setting) (words : List ℕ) (contents : Contents) (journal
     → (IsTrue s.tells → IsPlaying s.script words contents (length journal + 1) (after_entry s.script (progress_of s.script journal) e).state job)
     → (f.starved ≡ false → IsUnbroken s.script (journal ++ e ∷ []) f)
     → InFlight s words contents (journal ++ e ∷ []) spare (Some job)
-keep_entry s words contents journal spare job e f read entries order of_one few words_count named block one number began job_one met alone active begins playing unbroken =
+keep_entry s words contents journal spare job e f read entries order of_one few words_count named block one number began job_one met alone active begins playing
+    unbroken =
     let zero_plus : 0 + length journal ≡ length journal = omega arith in
     let count : length (journal ++ e ∷ []) ≡ length journal + 1 = length-append journal (e ∷ []) in
     let led : progress_of s.script (journal ++ e ∷ []) ≡ after_entry s.script (progress_of s.script journal) e = progress-more s.script journal e in
@@ -231,17 +247,20 @@ keep_entry s words contents journal spare job e f read entries order of_one few 
     }
 
 -- a job goes on to its next transaction with an entry
-passes : (script : Script) (journal : List Entry) (e : Entry) (f g : Following) → IsUnbroken script journal f → IsSome (next_body script f.job) → is_settled e.outcome ≡ true
+passes : (script : Script) (journal : List Entry) (e : Entry) (f g : Following)
+    → IsUnbroken script journal f → IsSome (next_body script f.job) → is_settled e.outcome ≡ true
     → g.job.next ≡ f.job.next + 1 → g.job.block ≡ f.job.block → IsUnbroken script (journal ++ e ∷ []) g
 passes script journal e f g before left settled next block =
     record {
       settled = one_more journal e before.settled settled;
       passed = length-append journal (e ∷ []) ∙ ap (λ n. n + 1) before.passed ∙ sym next;
       within = let lt = within_got (transactions_at script f.job.block) f.job.next left in
-          let same : length (transactions_at script g.job.block) ≡ length (transactions_at script f.job.block) = ap (λ b. length (transactions_at script b)) block in
+          let same : length (transactions_at script g.job.block) ≡ length (transactions_at script f.job.block) =
+          ap (λ b. length (transactions_at script b)) block in
           omega (arith, lt, next, same);
     }
 
+-- what holds between turns holds behind a commit's entry
 pub keep_commit : (s : Setting) (words : List ℕ) (contents : Contents) (journal : List Entry) (spare spare' : ℕ) (job : Job) (tx : Tx)
     → job.activity ≡ activity.Active tx → tx.phase ≡ phase.Committing
     → InFlight s words contents journal spare (Some job)
@@ -256,7 +275,11 @@ keep_commit s words contents journal spare spare' job tx is commits k =
     let few = few_passed s.script f.job k.read flight.left in
     let g = gone_on s.script p.entered f tx in
     let stands : (behind_commit job tx).place ≡ at_begin g.job =
-    λ i. at_begin (record { block = flight.standing.block i; next = flight.standing.next i + 1; variables = ap (λ (v : Walk). v.variables) committing.ahead i }) in
+    λ i. at_begin (record {
+      block = flight.standing.block i;
+      next = flight.standing.next i + 1;
+      variables = ap (λ (v : Walk). v.variables) committing.ahead i;
+    }) in
     let told : IsTrue s.tells → MayBegin s.script (length journal) p.state job.me × IsPlayedBy p.state.world job.me words contents (activity.Active tx) =
     λ t. let q = one.played t in
     let now : IsPlayedBy p.state.world job.me words contents (activity.Active tx) = subst (IsPlayedBy p.state.world job.me words contents) is q.now in
@@ -268,11 +291,13 @@ keep_commit s words contents journal spare spare' job tx is commits k =
     (commit_leads s.script (length journal) p f tx one.alone)
     (refl, stands, ap (λ n. n + 1) flight.passed)
     refl
-    (λ t. let b = commit_begins s.script (length journal) p f words contents job.me tx one.alone one.begins commits flight.noted.number (told t).0 (told t).1 in record { begin = b.0; now = b.1 })
+    (λ t. let b = commit_begins s.script (length journal) p f words contents job.me tx one.alone one.begins commits flight.noted.number (told t).0 (told t).1 in
+    record { begin = b.0; now = b.1 })
     (λ _. passes s.script journal (entry_of tx 1 (Committed [])) f g (k.unbroken f one.alone.jobs flight.goes_on) flight.left refl refl refl)
 
 -- ---- where a job stands behind an abort, by the cause
-behind_active : (s : Setting) (f : Following) (words : List ℕ) (entered counted spare : ℕ) (job : Job) (c : Cause) → f.starved ≡ false → IsSome (next_body s.script f.job) → entered ≡ f.job.next
+behind_active : (s : Setting) (f : Following) (words : List ℕ) (entered counted spare : ℕ) (job : Job) (c : Cause)
+    → f.starved ≡ false → IsSome (next_body s.script f.job) → entered ≡ f.job.next
     → job.place.block ≡ f.job.block → job.place.next ≡ f.job.next → job.place.begun ≡ f.job.variables
     → IsActive s (gone_back counted f c) words (entered + 1) spare (behind_abort job c).place (behind_abort job c).activity
 behind_active s f words entered counted spare job cause.Asked goes left passed block next begun =
@@ -293,19 +318,23 @@ block_back entered f (cause.Conflict object holder at) = refl
 block_back entered f (cause.Revoked object by at) = refl
 block_back entered f cause.NoMemory = refl
 
-behind_played : (w : World) (me : Private) (words : List ℕ) (contents : Contents) (job : Job) (c : Cause) → IsAsIn w words contents → IsPlayedBy w me words contents (behind_abort job c).activity
+behind_played : (w : World) (me : Private) (words : List ℕ) (contents : Contents) (job : Job) (c : Cause)
+    → IsAsIn w words contents → IsPlayedBy w me words contents (behind_abort job c).activity
 behind_played w me words contents job cause.Asked h = h
 behind_played w me words contents job (cause.Conflict object holder at) h = h
 behind_played w me words contents job (cause.Revoked object by at) h = h
 behind_played w me words contents job cause.NoMemory h = h
 
-behind_unbroken : (script : Script) (journal : List Entry) (counted : ℕ) (tx : Tx) (f : Following) (c : Cause) → IsUnbroken script journal f → IsSome (next_body script f.job)
+behind_unbroken : (script : Script) (journal : List Entry) (counted : ℕ) (tx : Tx) (f : Following) (c : Cause)
+    → IsUnbroken script journal f → IsSome (next_body script f.job)
     → (gone_back counted f c).starved ≡ false → IsUnbroken script (journal ++ entry_of tx 1 (aborted_by c tx) ∷ []) (gone_back counted f c)
-behind_unbroken script journal counted tx f cause.Asked before left goes = passes script journal (entry_of tx 1 (aborted_by cause.Asked tx)) f (gone_back counted f cause.Asked) before left refl refl refl
+behind_unbroken script journal counted tx f cause.Asked before left goes =
+    passes script journal (entry_of tx 1 (aborted_by cause.Asked tx)) f (gone_back counted f cause.Asked) before left refl refl refl
 behind_unbroken script journal counted tx f (cause.Conflict object holder at) before left goes = let no : true ≡ false = goes in cc
 behind_unbroken script journal counted tx f (cause.Revoked object by at) before left goes = let no : true ≡ false = goes in cc
 behind_unbroken script journal counted tx f cause.NoMemory before left goes = let no : true ≡ false = goes in cc
 
+-- what holds between turns holds behind an abort's entry
 pub keep_abort : (s : Setting) (words : List ℕ) (contents : Contents) (journal : List Entry) (spare spare' : ℕ) (job : Job) (tx : Tx) (c : Cause)
     → job.activity ≡ activity.Active tx → tx.phase ≡ phase.Undoing c → tx.undo.pending ≡ []
     → InFlight s words contents journal spare (Some job)
@@ -325,7 +354,8 @@ keep_abort s words contents journal spare spare' job tx c is undoes none k =
     let now : IsPlayedBy p.state.world job.me words contents (activity.Active tx) = subst (IsPlayedBy p.state.world job.me words contents) is q.now in
     (q.begin, now) in
     keep_entry s words contents journal spare' (behind_abort job c) (entry_of tx 1 (aborted_by c tx)) (gone_back p.entered f c)
-    k.read k.entries k.in_order k.of_one (omega (arith, flight.passed)) k.count (one.named ∙ ap (λ b. b ∷ []) (sym same.1)) (block_back p.entered f c ∙ one.block ∙ sym same.1)
+    k.read k.entries k.in_order k.of_one (omega (arith, flight.passed)) k.count (one.named ∙ ap (λ b. b ∷ []) (sym same.1))
+    (block_back p.entered f c ∙ one.block ∙ sym same.1)
     (abort_true s (length journal) p f job.place words contents job.me tx c one.alone one.begins undoes none flight told)
     flight.noted.number flight.noted.began refl (alone_by c (next_of s.script f tx.replies.items) tx.undo.ended back.caused)
     (abort_leads s (length journal) p f tx c one.alone back)

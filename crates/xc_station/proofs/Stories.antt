@@ -29,10 +29,12 @@ abbrev IsBuiltAsk : Ask → Type 0
 IsBuiltAsk (ask.Call c) = is_built c ≡ true
 IsBuiltAsk _ = Unit {0}
 
+-- one more reply is answered last
 pub answered-more : (walk : Walk) (replies : List Reply) (r : Reply) → all_answered walk (replies ++ r ∷ []) ≡ answered (all_answered walk replies) r
 answered-more walk [] r = refl
 answered-more walk (q ∷ replies) r = answered-more (answered walk q) replies r
 
+-- the calls are the script's with one more, where the script asks it
 pub asks-more : (walk : Walk) (calls : List Call) (replies : List Reply) (c : Call) (r : Reply) → AsksEach walk calls replies →
     asks (all_answered walk replies) ≡ ask.Call c → AsksEach walk (calls ++ c ∷ []) (replies ++ r ∷ [])
 asks-more walk [] [] c r h e = (e, refl)
@@ -40,6 +42,7 @@ asks-more walk [] (q ∷ replies) c r h e = cc
 asks-more walk (d ∷ calls) [] c r h e = absurd h
 asks-more walk (d ∷ calls) (q ∷ replies) c r h e = (h.0, asks-more (answered walk q) calls replies c r h.1 e)
 
+-- each call has its reply
 pub asks-count : (walk : Walk) (calls : List Call) (replies : List Reply) → AsksEach walk calls replies → length calls ≡ length replies
 asks-count walk [] replies h = ap length (sym h)
 asks-count walk (d ∷ calls) [] h = absurd h
@@ -57,7 +60,8 @@ statement_is_built variables stored (Load at into) = refl
 statement_is_built variables stored (Store at value) = refl
 statement_is_built variables stored (Open name into) = refl
 statement_is_built variables stored (Read h n into) = refl
-statement_is_built variables stored (Overwrite h items) = over_is_built (is_over stored (length (data_of variables items))) (handle_value variables h) (data_of variables items)
+statement_is_built variables stored (Overwrite h items) =
+    over_is_built (is_over stored (length (data_of variables items))) (handle_value variables h) (data_of variables items)
 statement_is_built variables stored Abort = tt
 
 left_is_built : (variables : Variables) (stored : ℕ) (left : List Statement) → IsBuiltAsk (asks_of variables stored left)
@@ -69,32 +73,41 @@ pub asks-built : (walk : Walk) (c : Call) → asks walk ≡ ask.Call c → is_bu
 asks-built walk c e = asked_is_built (asks walk) c e (left_is_built walk.variables walk.stored walk.left)
 
 -- so does a transaction's list of calls
-pub all-built : (P : Call → Type 0) → ((c : Call) → is_built c ≡ true → P c) → (walk : Walk) (calls : List Call) (replies : List Reply) → AsksEach walk calls replies → All (λ (a : Asked). P a.call) (asked_of calls replies)
+pub all-built : (P : Call → Type 0) → ((c : Call) → is_built c ≡ true → P c) → (walk : Walk) (calls : List Call) (replies : List Reply)
+    → AsksEach walk calls replies → All (λ (a : Asked). P a.call) (asked_of calls replies)
 all-built P holds walk [] replies h = All-nil (λ (a : Asked). P a.call)
 all-built P holds walk (c ∷ calls) [] h = absurd h
 all-built P holds walk (c ∷ calls) (r ∷ replies) h =
-    All-cons (λ (a : Asked). P a.call) (record { call = c; answer = answer_of r }) (asked_of calls replies) (holds c (asks-built walk c h.0)) (all-built P holds (answered walk r) calls replies h.1)
+    All-cons (λ (a : Asked). P a.call) (record { call = c; answer = answer_of r }) (asked_of calls replies) (holds c (asks-built walk c h.0))
+    (all-built P holds (answered walk r) calls replies h.1)
 
 -- ---- one entry more
-pub progress-more : (script : Script) (journal : List Entry) (e : Entry) → progress_of script (journal ++ e ∷ []) ≡ after_entry script (progress_of script journal) e
+pub progress-more : (script : Script) (journal : List Entry) (e : Entry)
+    → progress_of script (journal ++ e ∷ []) ≡ after_entry script (progress_of script journal) e
 progress-more script journal e = fold_push (after_entry script) (opening_progress script) journal e
 
 entered-from : (script : Script) (p : Progress) (journal : List Entry) → (fold (after_entry script) p journal).entered ≡ p.entered + length journal
 entered-from script p [] = let h : p.entered ≡ p.entered + 0 = omega arith in h
-entered-from script p (e ∷ journal) = entered-from script (after_entry script p e) journal ∙ (let h : p.entered + 1 + length journal ≡ p.entered + suc (length journal) = omega arith in h)
+entered-from script p (e ∷ journal) =
+    entered-from script (after_entry script p e) journal ∙ (let h : p.entered + 1 + length journal ≡ p.entered + suc (length journal) = omega arith in h)
 
 -- as many entries led there as the journal has
 pub entered-all : (script : Script) (journal : List Entry) → (progress_of script journal).entered ≡ length journal
 entered-all script journal = entered-from script (opening_progress script) journal ∙ (let h : 0 + length journal ≡ length journal = omega arith in h)
 
-true-from : (s : Setting) (p : Progress) (journal : List Entry) (e : Entry) → AreTrue s p journal → IsTrueEntry s (fold (after_entry s.script) p journal) e → AreTrue s p (journal ++ e ∷ [])
+true-from : (s : Setting) (p : Progress) (journal : List Entry) (e : Entry)
+    → AreTrue s p journal → IsTrueEntry s (fold (after_entry s.script) p journal) e → AreTrue s p (journal ++ e ∷ [])
 true-from s p [] e h one = (one, tt)
 true-from s p (d ∷ journal) e h one = (h.0, true-from s (after_entry s.script p d) journal e h.1 one)
 
-pub true-more : (s : Setting) (journal : List Entry) (e : Entry) → AreTrue s (opening_progress s.script) journal → IsTrueEntry s (progress_of s.script journal) e → AreTrue s (opening_progress s.script) (journal ++ e ∷ [])
+-- a true journal with one more true entry
+pub true-more : (s : Setting) (journal : List Entry) (e : Entry) → AreTrue s (opening_progress s.script) journal
+    → IsTrueEntry s (progress_of s.script journal) e → AreTrue s (opening_progress s.script) (journal ++ e ∷ [])
 true-more s journal e h one = true-from s (opening_progress s.script) journal e h one
 
-pub order-more : (place : ℕ) (journal : List Entry) (e : Entry) → AreInOrder place journal → e.tx ≡ place + length journal + 1 → e.began ≡ place + length journal → is_alone e.outcome ≡ true
+-- a journal in order with one more entry at its place
+pub order-more : (place : ℕ) (journal : List Entry) (e : Entry)
+    → AreInOrder place journal → e.tx ≡ place + length journal + 1 → e.began ≡ place + length journal → is_alone e.outcome ≡ true
     → AreInOrder place (journal ++ e ∷ [])
 order-more place [] e h number began alone =
     (number ∙ (let h : place + 0 + 1 ≡ place + 1 = omega arith in h), began ∙ (let h : place + 0 ≡ place = omega arith in h), alone, tt)
@@ -114,18 +127,24 @@ numbers-in_order place [] h = refl
 numbers-in_order place (e ∷ journal) h =
     ap (λ n. n ∷ numbers_of journal) h.0 ∙ ap (λ ns. (place + 1) ∷ ns) (numbers-in_order (place + 1) journal h.3)
 
+-- the numbers of such a journal are those from 1 on
 pub numbers_count : (journal : List Entry) → AreInOrder 0 journal → numbers_of journal ≡ counting 1 (length journal)
 numbers_count journal h = numbers-in_order 0 journal h
 
-begin_at : (place : ℕ) (journal : List Entry) (i : ℕ) (e : Entry) → AreInOrder place journal → slice_get journal i ≡ Some e → (e.tx ≡ place + i + 1) × (e.began ≡ place + i)
+begin_at : (place : ℕ) (journal : List Entry) (i : ℕ) (e : Entry)
+    → AreInOrder place journal → slice_get journal i ≡ Some e → (e.tx ≡ place + i + 1) × (e.began ≡ place + i)
 begin_at place [] i e h at = cc
 begin_at place (d ∷ journal) zero e h at =
-    let same : d ≡ e = cc in subst (λ (x : Entry). (x.tx ≡ place + 0 + 1) × (x.began ≡ place + 0)) same (h.0 ∙ (let h : place + 1 ≡ place + 0 + 1 = omega arith in h), h.1 ∙ (let h : place ≡ place + 0 = omega arith in h))
+    let same : d ≡ e = cc in
+    subst (λ (x : Entry). (x.tx ≡ place + 0 + 1) × (x.began ≡ place + 0)) same
+    (h.0 ∙ (let h : place + 1 ≡ place + 0 + 1 = omega arith in h), h.1 ∙ (let h : place ≡ place + 0 = omega arith in h))
 begin_at place (d ∷ journal) (suc i) e h at =
     let later = begin_at (place + 1) journal i e h.3 at in
     (later.0 ∙ (let h : place + 1 + i + 1 ≡ place + suc i + 1 = omega arith in h), later.1 ∙ (let h : place + 1 + i ≡ place + suc i = omega arith in h))
 
-pub begins_in_order : (journal : List Entry) → AreInOrder 0 journal → (i j : ℕ) (a b : Entry) → slice_get journal i ≡ Some a → slice_get journal j ≡ Some b → a.tx < b.tx → a.began ≤ b.began
+-- a greater number began no earlier in it
+pub begins_in_order : (journal : List Entry)
+    → AreInOrder 0 journal → (i j : ℕ) (a b : Entry) → slice_get journal i ≡ Some a → slice_get journal j ≡ Some b → a.tx < b.tx → a.began ≤ b.began
 begins_in_order journal h i j a b p q lt = let x = begin_at 0 journal i a h p in let y = begin_at 0 journal j b h q in omega (arith, x.0, x.1, y.0, y.1)
 
 -- ---- entries of one job alone
@@ -142,7 +161,8 @@ one_rises journal all i j a b p q lt = omega (arith, of_one_at journal i a all p
 pub of_one-more : (journal : List Entry) (e : Entry) → All (λ (d : Entry). d.job ≡ 1) journal → e.job ≡ 1 → All (λ (d : Entry). d.job ≡ 1) (journal ++ e ∷ [])
 of_one-more [] e all is = All-cons (λ (d : Entry). d.job ≡ 1) e [] is (All-nil (λ (d : Entry). d.job ≡ 1))
 of_one-more (d ∷ journal) e all is =
-    All-cons (λ (x : Entry). x.job ≡ 1) d (journal ++ e ∷ []) (All-head (λ (x : Entry). x.job ≡ 1) d journal all) (of_one-more journal e (All-tail (λ (x : Entry). x.job ≡ 1) d journal all) is)
+    All-cons (λ (x : Entry). x.job ≡ 1) d (journal ++ e ∷ []) (All-head (λ (x : Entry). x.job ≡ 1) d journal all)
+    (of_one-more journal e (All-tail (λ (x : Entry). x.job ≡ 1) d journal all) is)
 
 -- ---- calls that are kept for the commit
 kept_at_end : (b : Bool) (kept : List Call) (c : Call) → b ≡ false → (if b then c ∷ kept else kept) ≡ kept
@@ -158,4 +178,5 @@ pub kept-more : (calls : List Call) (replies : List Reply) (c : Call) (r : Reply
 kept-more [] [] c r e now = kept_at_end (is_late r) [] c now
 kept-more [] (q ∷ replies) c r e now = absurd (omega arith)
 kept-more (d ∷ calls) [] c r e now = absurd (omega arith)
-kept-more (d ∷ calls) (q ∷ replies) c r e now = kept_front (is_late q) d (kept_of calls replies) (kept_of (calls ++ c ∷ []) (replies ++ r ∷ [])) (kept-more calls replies c r (omega arith) now)
+kept-more (d ∷ calls) (q ∷ replies) c r e now =
+    kept_front (is_late q) d (kept_of calls replies) (kept_of (calls ++ c ∷ []) (replies ++ r ∷ [])) (kept-more calls replies c r (omega arith) now)

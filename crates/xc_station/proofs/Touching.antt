@@ -38,7 +38,8 @@ few_touched (Load at) me words is = few_if (is_refused (Load at) me words) (obje
 few_touched (Store at value) me words is = few_if (is_refused (Store at value) me words) (objects_of_call (Store at value) me) (omega arith)
 few_touched (XOpen name) me words is = few_if (is_refused (XOpen name) me words) (objects_of_call (XOpen name) me) (omega arith)
 few_touched (XRead h n) me words is = few_if (is_refused (XRead h n) me words) (objects_of_call (XRead h n) me) (few_at (place_of me.places h))
-few_touched (XWriteOvr h bytes) me words is = few_if (is_refused (XWriteOvr h bytes) me words) (objects_of_call (XWriteOvr h bytes) me) (few_at (place_of me.places h))
+few_touched (XWriteOvr h bytes) me words is =
+    few_if (is_refused (XWriteOvr h bytes) me words) (objects_of_call (XWriteOvr h bytes) me) (few_at (place_of me.places h))
 few_touched _ me words is = cc
 
 -- and claims as many

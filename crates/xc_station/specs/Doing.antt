@@ -25,11 +25,13 @@ abbrev pub doing_back : List Undo → Doing
 doing_back [] = Undone
 doing_back (u ∷ us) = Undoing
 
+-- what a transaction does next, by its phase and its records that have no end yet
 abbrev pub doing_phase : List Undo → Phase → Doing
 doing_phase pending phase.Running = Running
 doing_phase pending phase.Committing = Committing
 doing_phase pending (phase.Undoing c) = doing_back pending
 
+-- what a job does next, by its activity
 abbrev pub doing_in : Activity → Doing
 doing_in activity.Idle = Idle
 doing_in (activity.Active tx) = doing_phase tx.undo.pending tx.phase
@@ -67,6 +69,7 @@ abbrev pub IsBusy : Activity → Type 0
 IsBusy (activity.Active tx) = Unit {0}
 IsBusy _ = ⊥
 
+-- the job has ended
 abbrev pub is_over : Doing → Bool
 is_over Ended = true
 is_over _ = false
@@ -82,6 +85,7 @@ EndsIn (turn.Ended end) _ = ⊥
 EndsIn _ (activity.Ended e) = ⊥
 EndsIn _ _ = Unit {0}
 
+-- the same of the job itself; where there is none no turn is answered
 abbrev pub EndsWith : Turn → Option Job → Type 0
 EndsWith answer None = ⊥
 EndsWith answer (Some job) = EndsIn answer job.activity
@@ -95,6 +99,7 @@ abbrev pub IsEndOf : Activity → JobEnd → Type 0
 IsEndOf (activity.Ended e) end = end ≡ e
 IsEndOf _ end = ⊥
 
+-- the line has the job's block and its end
 pub record IsLineOf (job : Job) (line : JobLine) : Type 0 where
   pub block : line.block ≡ job.block
   pub end : IsEndOf job.activity line.end
@@ -107,4 +112,10 @@ AreLinesOf (Some job) lines = (line : JobLine) × (lines ≡ line ∷ []) × IsL
 -- the job of a block at its begin
 abbrev pub opened_job : Script → Option (List ℕ) → Option Job
 opened_job script None = None
-opened_job script (Some block) = Some (record { block = block; me = beginning no_handles; place = at_begin (fresh_job (block_place script block)); activity = activity.Idle })
+opened_job script (Some block) =
+    Some (record {
+      block = block;
+      me = beginning no_handles;
+      place = at_begin (fresh_job (block_place script block));
+      activity = activity.Idle;
+    })

@@ -126,7 +126,8 @@ abbrev pub GoesOn : Script → List Entry → Progress → Type 0
 GoesOn script journal p = (f : Following) → p.jobs ≡ f ∷ [] → f.starved ≡ false → IsUnbroken script journal f
 
 -- a station between two turns; what the host tells is `contents`
-pub record InFlight (s : Setting) (words : List ℕ) (contents : Contents) (journal : List Entry) (spare : ℕ) (one : Option Job) : Type 0 where
+pub record InFlight (s : Setting) (words : List ℕ) (contents : Contents) (journal : List Entry) (spare : ℕ)
+    (one : Option Job) : Type 0 where
   pub read : IsScript s.script
   pub entries : AreTrue s (opening_progress s.script) journal
   pub in_order : AreInOrder 0 journal

@@ -39,6 +39,7 @@ pub record Does (w : World) (was is : Contents) (number : ℕ) (old new : Parts)
   pub fits : IsTrue (fits (seen w was old.stores) old.me number call (answer_of reply))
   pub records : new.undo.pending ≡ old.undo.pending ++ recorded (seen w was old.stores) old.me number call reply
 
+-- these parts of a transaction
 abbrev pub parts_of : Tx → Parts
 parts_of tx = record { me = tx.me; stores = tx.writes; undo = tx.undo }
 

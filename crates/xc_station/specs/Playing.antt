@@ -57,6 +57,7 @@ IsPlayedIn w me words contents tx Running = (words ≡ w.words) × GoesForward w
 IsPlayedIn w me words contents tx Committing = (words ≡ (ran_of w me tx).world.words) × GoesForward w me contents tx
 IsPlayedIn w me words contents tx (Undoing c) = (words ≡ w.words) × GoesBack w me contents tx
 
+-- an active transaction as far as it was played; beside one the words and the host are as in the world
 abbrev pub IsPlayedBy : World → Private → List ℕ → Contents → Activity → Type 0
 IsPlayedBy w me words contents (Active tx) = HasPlayed w me tx × IsPlayedIn w me words contents tx tx.phase
 IsPlayedBy w me words contents _ = IsAsIn w words contents
@@ -68,6 +69,7 @@ pub record MayBegin (script : Script) (entered : ℕ) (s : State) (me : Private)
   pub count : length s.world.words ≡ length script.plain.words
   pub sound : (number : ℕ) → entered < number → IsSound s.world me number
 
+-- the job's transaction may begin here, and the words and the host are as the job left them
 pub record IsPlaying (script : Script) (words : List ℕ) (contents : Contents) (entered : ℕ) (s : State) (job : Job) : Type 0 where
   pub begin : MayBegin script entered s job.me
   pub now : IsPlayedBy s.world job.me words contents job.activity

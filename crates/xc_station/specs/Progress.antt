@@ -1,5 +1,6 @@
 -- What a journal has led to: the plain machine's state, and where each started job stands.
-use Rattle.std.specs.Prelude.{ℕ, ◌+◌, ◌-◌, Bool, true, false, List, [], ◌∷◌, ◌++◌, length, map, slice_get, slice_set, replicate, Option, unwrap_or, if◌then◌else◌}
+use Rattle.std.specs.Prelude.{ℕ, ◌+◌, ◌-◌, Bool, true, false, List, [], ◌∷◌, ◌++◌, length, map}
+use Rattle.std.specs.Prelude.{slice_get, slice_set, replicate, Option, unwrap_or, if◌then◌else◌}
 use Rattle.std.specs.declared.option.Option.TheVariants.{None, Some}
 use Rattle.std.specs.List.{fold}
 use Rattle.xc_data.specs.declared.call.Call.{Call}
@@ -102,7 +103,8 @@ committed_state state job run blocks =
 
 -- the job of a block that was started
 abbrev pub started_job : Script → Job → ℕ → List ℕ → Following
-started_job script starter since block = untried block (record { block = block_place script block; next = 0; variables = starter.variables }) since
+started_job script starter since block =
+    untried block (record { block = block_place script block; next = 0; variables = starter.variables }) since
 
 -- what a committed entry of a job leads to
 abbrev pub after_commit : Script → Progress → Following → Entry → List LateEnd → Progress

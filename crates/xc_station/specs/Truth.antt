@@ -1,6 +1,7 @@
 -- A journal that is true of a script: running its transactions one after another on the plain
 -- machine gives what it says.
-use Rattle.std.specs.Prelude.{◌≡◌, ◌⊎◌, ℕ, zero, suc, ◌+◌, ◌<◌, ◌≤◌, Bool, true, false, not, List, [], ◌∷◌, ◌++◌, length, map, slice_get, unwrap_or, IsSome, IsTrue, IsPermutation, if◌then◌else◌}
+use Rattle.std.specs.Prelude.{◌≡◌, ◌⊎◌, ℕ, zero, suc, ◌+◌, ◌<◌, ◌≤◌, Bool, true, false, not, List, [], ◌∷◌}
+use Rattle.std.specs.Prelude.{◌++◌, length, map, slice_get, unwrap_or, IsSome, IsTrue, IsPermutation, if◌then◌else◌}
 use Rattle.std.specs.declared.option.Option.TheVariants.{Some}
 use Rattle.std.specs.List.{list_all}
 use Rattle.xc_data.specs.Claims.{held_of}
@@ -26,7 +27,8 @@ use Rattle.xc_world.specs.Run.{Ran, body_fits, lates_fit, asked_of, late_asked_o
 use Rattle.xc_world.specs.Ends.{AreLegal}
 use Rattle.xc_world.specs.Trail.{recorded}
 use Rattle.xc_station.specs.Setting.{Setting}
-use Rattle.xc_station.specs.Progress.{Following, Progress, opening_progress, private_of, body_of, run_of, kept_of, following_of, after_entry}
+use Rattle.xc_station.specs.Progress.{Following, Progress, opening_progress, private_of}
+use Rattle.xc_station.specs.Progress.{body_of, run_of, kept_of, following_of, after_entry}
 
 -- ---- an entry's part in its job's story
 -- each call is the one that is asked behind the replies before it
@@ -164,7 +166,8 @@ numbers_of journal = map (λ (e : Entry). e.tx) journal
 
 -- a greater number didn't begin earlier
 abbrev pub BeginInOrder : List Entry → Type 0
-BeginInOrder journal = (i j : ℕ) (a b : Entry) → slice_get journal i ≡ Some a → slice_get journal j ≡ Some b → a.tx < b.tx → a.began ≤ b.began
+BeginInOrder journal =
+    (i j : ℕ) (a b : Entry) → slice_get journal i ≡ Some a → slice_get journal j ≡ Some b → a.tx < b.tx → a.began ≤ b.began
 
 -- the whole journal
 pub record IsTrueJournal (s : Setting) (journal : List Entry) : Type 0 where

@@ -23,6 +23,7 @@ use Rattle.xc_station.specs.declared.job.Job.{Job}
 use Rattle.xc_station.specs.declared.job.Activity.{Activity}
 use Rattle.xc_station.specs.declared.job.Activity.TheVariants.{Idle, Active, Starved, Ended}
 
+-- what contracts see of a station
 pub record Seen (H : Type 0) : Type 0 where
   pub opening : Opening
   pub rules : Rules
@@ -45,11 +46,13 @@ abbrev pub turns_of : List (List Statement) → ℕ
 turns_of [] = 0
 turns_of (body ∷ bodies) = 2 * length body + 3 + turns_of bodies
 
+-- the turns left of a transaction of so many statements, behind so many of them, with so many records
 abbrev pub phase_left : ℕ → ℕ → ℕ → Phase → ℕ
 phase_left statements at records Running = 2 * (statements - at) + records + 3
 phase_left statements at records Committing = 2
 phase_left statements at records (Undoing c) = records + 2
 
+-- the same by the transaction's own phase and records
 abbrev pub tx_left : ℕ → ℕ → Tx → ℕ
 tx_left statements at tx = phase_left statements at (length tx.undo.pending) tx.phase
 
@@ -62,6 +65,7 @@ abbrev pub IsGoing : Turn → Type 0
 IsGoing (turn.Ended end) = ⊥
 IsGoing _ = Unit {0}
 
+-- the turns left of a job before these transactions, behind so many statements of the first
 abbrev pub activity_left : List (List Statement) → ℕ → Activity → ℕ
 activity_left [] at Idle = 1
 activity_left (body ∷ bodies) at Idle = 2 * length body + 4 + turns_of bodies
@@ -70,6 +74,7 @@ activity_left (body ∷ bodies) at (Active tx) = tx_left (length body) at tx + t
 activity_left bodies at Starved = 1
 activity_left bodies at (Ended end) = 0
 
+-- the turns left of the script's job
 abbrev pub turns_left : Script → Option Job → ℕ
 turns_left script None = 0
 turns_left script (Some job) = activity_left (drop job.place.next (transactions_at script job.place.block)) job.place.at job.activity
@@ -88,7 +93,8 @@ pub record IsNew (entered : ℕ) (me : Private) (tx : Tx) : Type 0 where
 
 -- what an idle job goes over to: its next transaction, with room for an entry, or its end
 abbrev pub BeginsAs : Script → ℕ → ℕ → Private → Place → Place → Activity → Type 0
-BeginsAs script entered spare me old new (Active tx) = (1 ≤ spare) × (new ≡ record old { begun = old.variables }) × IsSome (next_body script (job_of old)) × IsNew entered me tx
+BeginsAs script entered spare me old new (Active tx) =
+    (1 ≤ spare) × (new ≡ record old { begun = old.variables }) × IsSome (next_body script (job_of old)) × IsNew entered me tx
 BeginsAs script entered spare me old new (Ended job_end.Done) = (new ≡ old) × (next_body script (job_of old) ≡ None)
 BeginsAs script entered spare me old new (Ended job_end.NoMemory) = (new ≡ old) × IsSome (next_body script (job_of old))
 BeginsAs script entered spare me old new _ = ⊥
@@ -116,6 +122,7 @@ abbrev pub CanRun : Script → List ℕ → Place → Activity → Type 0
 CanRun script words place (Active tx) = MayGo script words place tx
 CanRun script words place _ = ⊥
 
+-- the files of an active transaction are open, where there is one
 abbrev pub HasOpenFiles : Contents → Activity → Type 0
 HasOpenFiles c (Active tx) = AreOpenIn c tx.me
 HasOpenFiles c _ = Unit {0}

@@ -5,6 +5,7 @@ use Rattle.xc_data.specs.declared.call.Call.TheVariants.{Load, Store, XWriteOvr}
 use Rattle.xc_data.specs.declared.call.Reply.{Reply}
 use Rattle.xc_data.specs.declared.call.Reply.TheVariants.{Number, Done, BadWord}
 
+-- a call on words
 abbrev pub is_word_call : Call → Bool
 is_word_call (Load at) = true
 is_word_call (Store at value) = true

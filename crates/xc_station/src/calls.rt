@@ -78,12 +78,15 @@ fn act<H: Host>(
     ensures none { undo.new.ended ≡ [] }
     ensures grows { length undo.new.pending ≤ length undo.old.pending + 1 }
     ensures now { IfOk result (λ reply. is_late reply ≡ false) }
-    ensures still { is_overwrite call.now ≡ false → (undo.new ≡ undo.old) × (IsTrue H.model.tells → H.model.contents host.new ≡ H.model.contents host.old) }
+    ensures still { is_overwrite call.now ≡ false
+        → (undo.new ≡ undo.old) × (IsTrue H.model.tells → H.model.contents host.new ≡ H.model.contents host.old) }
     ensures err_undo { OnErr result (undo.new ≡ undo.old) }
     ensures err_host { IsTrue H.model.tells → OnErr result (H.model.contents host.new ≡ H.model.contents host.old) }
     ensures cause { CountsFault (replies_fault result) (H.model.fault_count host.old) (H.model.fault_count host.new) }
     ensures does { IsTrue H.model.tells → IfOk result (λ reply. (w : World) (number : ℕ) → w.words ≡ words.now
-        → Does w (H.model.contents host.old) (H.model.contents host.new) number (record { me = me.old; stores = writes.old; undo = undo.old }) (record { me = me.new; stores = writes.new; undo = undo.new }) call.now reply) }
+        → Does w (H.model.contents host.old) (H.model.contents host.new) number
+        (record { me = me.old; stores = writes.old; undo = undo.old })
+        (record { me = me.new; stores = writes.new; undo = undo.new }) call.now reply) }
 {
     match call {
         Call::Load { .. } | Call::Store { .. } => act_on_words(words, writes, call),
@@ -158,10 +161,16 @@ fn try_call<H: Host>(
     requires may { MayGo script.now words.now place.old tx.old }
     requires count { length words.now ≤ 4096 }
     requires open { IsTrue H.model.tells → AreOpenIn (H.model.contents host.old) tx.old.me }
-    ensures flight { (rules : PlainRules) (tells : Bool) (f : Following) (entered : ℕ) → Flight (setting script.now rules tells) f words.now entered place.old tx.old → Flight (setting script.now rules tells) f words.now entered place.new tx.new }
-    ensures played { IsTrue H.model.tells → (w : World) (me : PlainPrivate) (rules : PlainRules) (tells : Bool) (f : Following) (entered : ℕ) → Flight (setting script.now rules tells) f words.now entered place.old tx.old → IsSound w me (entered + 1)
-        → IsPlayedBy w me words.now (H.model.contents host.old) (PlainActivity.Active tx.old) → IsPlayedBy w me words.now (H.model.contents host.new) (PlainActivity.Active tx.new) }
-    ensures faults { (n before : ℕ) → CountsFaults (n + faults_noted (PlainActivity.Active tx.old)) before (H.model.fault_count host.old) → CountsFaults (n + faults_noted (PlainActivity.Active tx.new)) before (H.model.fault_count host.new) }
+    ensures flight { (rules : PlainRules) (tells : Bool) (f : Following) (entered : ℕ)
+        → Flight (setting script.now rules tells) f words.now entered place.old tx.old
+        → Flight (setting script.now rules tells) f words.now entered place.new tx.new }
+    ensures played { IsTrue H.model.tells
+        → (w : World) (me : PlainPrivate) (rules : PlainRules) (tells : Bool) (f : Following) (entered : ℕ)
+        → Flight (setting script.now rules tells) f words.now entered place.old tx.old → IsSound w me (entered + 1)
+        → IsPlayedBy w me words.now (H.model.contents host.old) (PlainActivity.Active tx.old)
+        → IsPlayedBy w me words.now (H.model.contents host.new) (PlainActivity.Active tx.new) }
+    ensures faults { (n before : ℕ) → CountsFaults (n + faults_noted (PlainActivity.Active tx.old)) before (H.model.fault_count host.old)
+        → CountsFaults (n + faults_noted (PlainActivity.Active tx.new)) before (H.model.fault_count host.new) }
     ensures block { IsSameBegin place.old place.new }
     ensures falls { IsNearer (length (unwrap_or (next_body script.now (job_of place.old)) [])) place.old place.new tx.old tx.new }
     ensures answer { IsGoing result }
@@ -193,10 +202,16 @@ pub fn go<H: Host>(
     requires may { MayGo script.now words.old place.old tx.old }
     requires count { length words.old ≤ 4096 }
     requires open { IsTrue H.model.tells → AreOpenIn (H.model.contents host.old) tx.old.me }
-    ensures flight { (rules : PlainRules) (tells : Bool) (f : Following) (entered : ℕ) → Flight (setting script.now rules tells) f words.old entered place.old tx.old → Flight (setting script.now rules tells) f words.new entered place.new tx.new }
-    ensures played { IsTrue H.model.tells → (w : World) (me : PlainPrivate) (rules : PlainRules) (tells : Bool) (f : Following) (entered : ℕ) → Flight (setting script.now rules tells) f words.old entered place.old tx.old → IsSound w me (entered + 1)
-        → IsPlayedBy w me words.old (H.model.contents host.old) (PlainActivity.Active tx.old) → IsPlayedBy w me words.new (H.model.contents host.new) (PlainActivity.Active tx.new) }
-    ensures faults { (n before : ℕ) → CountsFaults (n + faults_noted (PlainActivity.Active tx.old)) before (H.model.fault_count host.old) → CountsFaults (n + faults_noted (PlainActivity.Active tx.new)) before (H.model.fault_count host.new) }
+    ensures flight { (rules : PlainRules) (tells : Bool) (f : Following) (entered : ℕ)
+        → Flight (setting script.now rules tells) f words.old entered place.old tx.old
+        → Flight (setting script.now rules tells) f words.new entered place.new tx.new }
+    ensures played { IsTrue H.model.tells
+        → (w : World) (me : PlainPrivate) (rules : PlainRules) (tells : Bool) (f : Following) (entered : ℕ)
+        → Flight (setting script.now rules tells) f words.old entered place.old tx.old → IsSound w me (entered + 1)
+        → IsPlayedBy w me words.old (H.model.contents host.old) (PlainActivity.Active tx.old)
+        → IsPlayedBy w me words.new (H.model.contents host.new) (PlainActivity.Active tx.new) }
+    ensures faults { (n before : ℕ) → CountsFaults (n + faults_noted (PlainActivity.Active tx.old)) before (H.model.fault_count host.old)
+        → CountsFaults (n + faults_noted (PlainActivity.Active tx.new)) before (H.model.fault_count host.new) }
     ensures words { length words.new ≡ length words.old }
     ensures block { IsSameBegin place.old place.new }
     ensures falls { IsNearer (length (unwrap_or (next_body script.now (job_of place.old)) [])) place.old place.new tx.old tx.new }
@@ -233,15 +248,21 @@ pub fn run<H: Host>(
     requires can { CanRun script.now words.old job.place job.activity }
     requires count { length words.old ≤ 4096 }
     requires open { IsTrue H.model.tells → HasOpenFiles (H.model.contents host.old) job.activity }
-    ensures active { (rules : PlainRules) (tells : Bool) (f : Following) (entered : ℕ) (spare : ℕ) → IsActive (setting script.now rules tells) f words.old entered spare job.place job.activity
+    ensures active { (rules : PlainRules) (tells : Bool) (f : Following) (entered : ℕ) (spare : ℕ)
+        → IsActive (setting script.now rules tells) f words.old entered spare job.place job.activity
         → IsActive (setting script.now rules tells) f words.new entered spare result.0.place result.0.activity }
-    ensures played { IsTrue H.model.tells → (w : World) (me : PlainPrivate) (rules : PlainRules) (tells : Bool) (f : Following) (entered : ℕ) (spare : ℕ) → IsActive (setting script.now rules tells) f words.old entered spare job.place job.activity → IsSound w me (entered + 1)
-        → IsPlayedBy w me words.old (H.model.contents host.old) job.activity → IsPlayedBy w me words.new (H.model.contents host.new) result.0.activity }
-    ensures faults { (n before : ℕ) → CountsFaults (n + faults_noted job.activity) before (H.model.fault_count host.old) → CountsFaults (n + faults_noted result.0.activity) before (H.model.fault_count host.new) }
+    ensures played { IsTrue H.model.tells
+        → (w : World) (me : PlainPrivate) (rules : PlainRules) (tells : Bool) (f : Following) (entered : ℕ) (spare : ℕ)
+        → IsActive (setting script.now rules tells) f words.old entered spare job.place job.activity → IsSound w me (entered + 1)
+        → IsPlayedBy w me words.old (H.model.contents host.old) job.activity
+        → IsPlayedBy w me words.new (H.model.contents host.new) result.0.activity }
+    ensures faults { (n before : ℕ) → CountsFaults (n + faults_noted job.activity) before (H.model.fault_count host.old)
+        → CountsFaults (n + faults_noted result.0.activity) before (H.model.fault_count host.new) }
     ensures words { length words.new ≡ length words.old }
     ensures same { (result.0.block ≡ job.block) × (result.0.me ≡ job.me) }
     ensures place { (result.0.place.block ≡ job.place.block) × (result.0.place.next ≡ job.place.next) }
-    ensures falls { RunsOn (length (unwrap_or (next_body script.now (job_of job.place)) [])) job.place result.0.place job.activity result.0.activity }
+    ensures falls { RunsOn (length (unwrap_or (next_body script.now (job_of job.place)) []))
+        job.place result.0.place job.activity result.0.activity }
     ensures answer { IsGoing result.1 }
     ensures memory { (result.1 ≡ Turn.NoMemory) ↔ IsStarving result.0.activity }
 {

@@ -60,7 +60,8 @@ pub fn commit(alloc: Global, job: Job) -> (Job, Entry)
 pub fn undo<H: Host>(host: &mut H, tries: u32, job: Job) -> Job
     requires busy { IsBusy job.activity }
     requires tries { 1 ≤ tries }
-    requires covered { IsTrue H.model.tells → (tx : PlainTx) → job.activity ≡ activity.Active tx → NextIsCovered (H.model.contents host.old) tx.undo }
+    requires covered { IsTrue H.model.tells → (tx : PlainTx) → job.activity ≡ activity.Active tx
+        → NextIsCovered (H.model.contents host.old) tx.undo }
     ensures undoes { (tx : PlainTx) → job.activity ≡ activity.Active tx → tx.undo.pending ≢ []
         → Undoes H.model tries (record { host = host.old; job = job }) (record { host = host.new; job = result }) tx }
     ensures going { EndsIn Turn.Went result.activity }
@@ -79,7 +80,8 @@ pub fn undo<H: Host>(host: &mut H, tries: u32, job: Job) -> Job
 // Goes to where a job stands behind an abort, and says what it does there.
 fn after_abort(place: &mut JobState, cause: &Cause) -> Activity
     requires { place.old.next < 2 ^ 32 }
-    ensures behind { (job : PlainJob) → job.place ≡ place.old → (place.new ≡ (behind_abort job cause.now).place) × (result ≡ (behind_abort job cause.now).activity) }
+    ensures behind { (job : PlainJob) → job.place ≡ place.old
+        → (place.new ≡ (behind_abort job cause.now).place) × (result ≡ (behind_abort job cause.now).activity) }
     ensures going { EndsIn Turn.Went result }
 {
     if !matches!(cause, Cause::Asked) {

@@ -1,4 +1,5 @@
-ghost use Rattle.std.specs.Prelude.{◌≡◌, ◌↔◌, ◌<◌, ◌≤◌, length, ℕ, [], ◌&&◌, ◌||◌, not, true, false, Some, None, IfOk, IfErr, slice_get, sum_by, IsTrue, if◌then◌else◌};
+ghost use Rattle.std.specs.Prelude.{◌≡◌, ◌↔◌, ◌<◌, ◌≤◌, length, ℕ, [], ◌&&◌, ◌||◌, not, true, false};
+ghost use Rattle.std.specs.Prelude.{Some, None, IfOk, IfErr, slice_get, sum_by, IsTrue, if◌then◌else◌};
 ghost use Rattle.xc_data.specs.Counts.{CountsFaults};
 ghost use Rattle.xc_data.specs.Faults.{entry_faults};
 ghost use Rattle.xc_data.specs.Limits.{KeepsLimits};
@@ -43,7 +44,7 @@ pub struct Station<H: Host> {
 impl<H: Host> Model for Station<H> {
     ghost use Rattle.std.specs.Prelude.{◌≤◌};
     ghost use Rattle.xc_station.specs.Setting.{setting};
-ghost use Rattle.xc_station.specs.Truth.{IsSerial};
+    ghost use Rattle.xc_station.specs.Truth.{IsSerial};
     ghost use Rattle.xc_station.specs.Turns.{Seen};
     ghost use Rattle.xc_station.specs.Flight.{InFlight, AreCounted, HasLine};
     ghost use Rattle.std.specs.Coded.{codes};
@@ -63,7 +64,8 @@ ghost use Rattle.xc_station.specs.Truth.{IsSerial};
       taken = s.taken;
     } };
 
-    ghost invariant = { λ s. InFlight (setting s.opening.script s.rules H.model.tells) s.words (H.model.contents s.host) s.journal.items s.journal.spare s.job
+    ghost invariant = { λ s. InFlight (setting s.opening.script s.rules H.model.tells) s.words (H.model.contents s.host)
+        s.journal.items s.journal.spare s.job
         × AreCounted s.journal.items s.job s.opening.faults (H.model.fault_count s.host) × (1 ≤ s.rules.undo_tries) × HasLine s.lines };
 }
 
@@ -274,11 +276,15 @@ impl<H: Host> Station<H> {
         requires script { IsScript script }
         requires limits { KeepsLimits script.plain }
         requires tries { 1 ≤ rules.undo_tries }
-        ensures ok { IfOk result (λ s. (s.opening ≡ record { script = script; faults = H.model.fault_count host }) × (s.rules ≡ rules) × (s.journal ≡ []) × (s.taken ≡ false)) }
-        ensures words { IfOk result (λ s. (s.words ≡ script.plain.words) × (s.job ≡ opened_job script (slice_get script.plain.jobs 0))) }
-        ensures told { IsTrue H.model.tells → IfOk result (λ s. H.model.contents s.host ≡ opened script.plain.prologue.objects) }
+        ensures ok { IfOk result (λ s. (s.opening ≡ record { script = script; faults = H.model.fault_count host }) × (s.rules ≡ rules)
+            × (s.journal ≡ []) × (s.taken ≡ false)) }
+        ensures words { IfOk result (λ s. (s.words ≡ script.plain.words)
+            × (s.job ≡ opened_job script (slice_get script.plain.jobs 0))) }
+        ensures told { IsTrue H.model.tells
+            → IfOk result (λ s. H.model.contents s.host ≡ opened script.plain.prologue.objects) }
         ensures scripted { IfOk result (λ s. not H.model.takes_scripts && needs_scripted script.plain.prologue ≡ false) }
-        ensures refused { IfErr result (λ n. n.why ≡ OpenErr.NotScripted → not H.model.takes_scripts && needs_scripted script.plain.prologue ≡ true) }
+        ensures refused { IfErr result
+            (λ n. n.why ≡ OpenErr.NotScripted → not H.model.takes_scripts && needs_scripted script.plain.prologue ≡ true) }
         ensures err { IfErr result (λ n. n.host ≡ host) }
     {
         let mut host = host;

@@ -6,9 +6,7 @@ ghost use Rattle.xc_station.specs.Notes.{KeepsNotes, Notes, HasRoom, parts_of, e
 
 use std::alloc::Global;
 use xc_compensate::Stack;
-use xc_data::{
-    Call, Cause, Claim, Entry, LateList, NoMemory, Outcome, Private, Reply, Report,
-};
+use xc_data::{Call, Cause, Claim, Entry, LateList, NoMemory, Outcome, Private, Reply, Report};
 use xc_journal::Roomy;
 use xc_txmem::WriteSet;
 
@@ -16,7 +14,7 @@ use xc_txmem::WriteSet;
 ///
 /// | Phase | Facts | Left by |
 /// |---|---|---|
-/// | Running | its stores wait in the write set; the job stands behind its replies | the commit or the abort that is asked, want of memory |
+/// | Running | its stores wait in the write set; the job stands behind its replies | the commit or abort that is asked, want of memory |
 /// | Committing | its stores are written | the Committed entry |
 /// | Undoing | its stores are dropped; its records are undone, the newest first | the Aborted entry |
 #[derive(Clone, Copy)]

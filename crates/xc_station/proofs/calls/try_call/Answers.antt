@@ -19,4 +19,5 @@ returns-in-Ok-clause-faults g c =
 
 pub returns-in-Err-clause-played : goal.returns-in-Err-clause-played
 returns-in-Err-clause-played g c t w me rules tells f entered flight sound played =
-    played_back _ _ _ _ _ _ _ _ _ _ _ _ c.requires.may.running c.do_call.ensures.same c.in-Err.ensures.err_undo (c.in-Err.ensures.err_host t) flight sound played
+    played_back _ _ _ _ _ _ _ _ _ _ _ _ c.requires.may.running c.do_call.ensures.same c.in-Err.ensures.err_undo
+    (c.in-Err.ensures.err_host t) flight sound played

@@ -1,4 +1,4 @@
-use Rattle.std.proofs.Common.{◌≡◌, ◌<◌, ℕ, zero, suc, List, [], ◌∷◌, length, length-set, get_or, sym, ap, ◌∙◌, subst, refl, arith}
+use Rattle.std.proofs.Common.{◌≡◌, ◌<◌, ℕ, zero, suc, List, [], ◌∷◌, length, length-set, get_or, ap, ◌∙◌, subst, refl, arith}
 use Rattle.std.proofs.lemmas.List.Edits.{map_over_more}
 use Rattle.xc_data.specs.Claims.{merged}
 use Rattle.xc_station.proofs.tx.merge.Goals as goal

@@ -13,9 +13,12 @@ returns-clause-whole g c =
     let ended = ap (λ v. is_live v.job 1) c.self.view_is ∙ c.requires in
     let station = c.self.inside in
     let contents = g.H.Host.model.contents station.host in
-    let whole = finished (setting station.opening.script station.rules g.H.Host.model.tells) station.words contents station.journal.items station.journal.spare station.job c.lines_of.result ended c.lines_of.ensures c.self.invariant.0 in
-    let there = subst (λ words. IsTrueEnd (setting station.opening.script station.rules g.H.Host.model.tells) station.journal.items (final_of words contents c.lines_of.result)) (sym c.list.ensures) whole in
-    subst (λ v. IsTrueEnd (setting v.opening.script v.rules g.H.Host.model.tells) station.journal.items (final_of c.list.result contents c.lines_of.result)) c.self.view_is there
+    let whole = finished (setting station.opening.script station.rules g.H.Host.model.tells) station.words contents station.journal.items station.journal.spare
+    station.job c.lines_of.result ended c.lines_of.ensures c.self.invariant.0 in
+    let there = subst (λ words. IsTrueEnd (setting station.opening.script station.rules g.H.Host.model.tells) station.journal.items
+    (final_of words contents c.lines_of.result)) (sym c.list.ensures) whole in
+    subst (λ v. IsTrueEnd (setting v.opening.script v.rules g.H.Host.model.tells) station.journal.items (final_of c.list.result contents c.lines_of.result))
+    c.self.view_is there
 
 pub returns-clause-faults : goal.returns-clause-faults
 returns-clause-faults g c =

@@ -8,8 +8,10 @@ use Rattle.xc_station.proofs.station.Station.idle.Goals as goal
 pub invariant_of-self : goal.invariant_of-self
 invariant_of-self g c =
     let doing = ap (λ v. doing_of v.job) c.self.view_is ∙ c.requires in (
-      turn_idle _ _ _ _ _ _ _ _ _ _ c.in-Some.ensures.value doing c.begin-job.ensures.items c.begin-job.ensures.same.0 c.begin-job.ensures.same.1 c.begin-job.ensures.begins c.self.invariant.0,
-      counts_idle c.self.inside.opening.script c.self.inside.journal.items _ _ c.self.inside.job c.in-Some.job c.begin-job.result _ _ c.in-Some.ensures.value doing c.begin-job.ensures.items c.begin-job.ensures.begins c.self.invariant.1,
+      turn_idle _ _ _ _ _ _ _ _ _ _ c.in-Some.ensures.value doing c.begin-job.ensures.items c.begin-job.ensures.same.0 c.begin-job.ensures.same.1
+          c.begin-job.ensures.begins c.self.invariant.0,
+      counts_idle c.self.inside.opening.script c.self.inside.journal.items _ _ c.self.inside.job c.in-Some.job c.begin-job.result _ _ c.in-Some.ensures.value
+          doing c.begin-job.ensures.items c.begin-job.ensures.begins c.self.invariant.1,
       c.self.invariant.2,
       c.self.invariant.3,
     )

@@ -9,8 +9,10 @@ use Rattle.xc_station.proofs.station.Station.running.Goals as goal
 pub invariant_of-self : goal.invariant_of-self
 invariant_of-self g c =
     let doing = ap (λ v. doing_of v.job) c.self.view_is ∙ c.requires in (
-      turn_running _ _ _ _ _ _ _ _ _ _ c.in-Some.ensures.value c.run-job.ensures.same.0 c.run-job.ensures.same.1 c.run-job.ensures.words c.run-job.ensures.active c.run-job.ensures.played c.self.invariant.0,
-      counts_running c.self.inside.journal.items c.self.inside.job c.in-Some.job c.run-job.result.0 c.self.inside.opening.faults _ _ c.in-Some.ensures.value c.run-job.ensures.faults c.self.invariant.1,
+      turn_running _ _ _ _ _ _ _ _ _ _ c.in-Some.ensures.value c.run-job.ensures.same.0 c.run-job.ensures.same.1 c.run-job.ensures.words
+          c.run-job.ensures.active c.run-job.ensures.played c.self.invariant.0,
+      counts_running c.self.inside.journal.items c.self.inside.job c.in-Some.job c.run-job.result.0 c.self.inside.opening.faults _ _ c.in-Some.ensures.value
+          c.run-job.ensures.faults c.self.invariant.1,
       c.self.invariant.2,
       c.self.invariant.3,
     )
@@ -20,7 +22,8 @@ returns-clause-falls g c =
     let doing = ap (λ v. doing_of v.job) c.self.view_is ∙ c.requires in
     let station = c.self.inside in
     subst (λ n. turns_left station.opening.script (Some c.run-job.result.0) < n) (ap (λ v. turns_left v.opening.script v.job) c.self.view_is)
-    (left_running (setting station.opening.script station.rules g.H.Host.model.tells) _ _ _ _ station.job c.in-Some.job c.run-job.result.0 c.self.invariant.0 c.in-Some.ensures.value doing c.run-job.ensures.place.0 c.run-job.ensures.place.1 c.run-job.ensures.falls)
+    (left_running (setting station.opening.script station.rules g.H.Host.model.tells) _ _ _ _ station.job c.in-Some.job c.run-job.result.0 c.self.invariant.0
+    c.in-Some.ensures.value doing c.run-job.ensures.place.0 c.run-job.ensures.place.1 c.run-job.ensures.falls)
 
 pub run-job-requires-clause-open : goal.run-job-requires-clause-open
 run-job-requires-clause-open g c = may_open _ _ _ _ _ _ _ c.in-Some.ensures.value (ap (λ v. doing_of v.job) c.self.view_is ∙ c.requires) c.self.invariant.0

@@ -9,7 +9,8 @@ pub invariant_of-self : goal.invariant_of-self
 invariant_of-self g c =
     let doing = ap (λ v. doing_of v.job) c.self.view_is ∙ c.requires in (
       turn_starved _ _ _ _ _ _ _ _ c.in-Some.ensures.value doing c.end.ensures c.self.invariant.0,
-      counts_starved c.self.inside.journal.items c.self.inside.job c.in-Some.job c.end.result c.self.inside.opening.faults (g.H.Host.model.fault_count c.self.inside.host) c.in-Some.ensures.value doing c.end.ensures c.self.invariant.1,
+      counts_starved c.self.inside.journal.items c.self.inside.job c.in-Some.job c.end.result c.self.inside.opening.faults
+          (g.H.Host.model.fault_count c.self.inside.host) c.in-Some.ensures.value doing c.end.ensures c.self.invariant.1,
       c.self.invariant.2,
       c.self.invariant.3,
     )

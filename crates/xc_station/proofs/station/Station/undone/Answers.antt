@@ -20,4 +20,5 @@ returns-clause-falls g c =
     let doing = ap (λ v. doing_of v.job) c.self.view_is ∙ c.requires in
     let station = c.self.inside in
     subst (λ n. turns_left station.opening.script (Some c.abort-job.result.0) < n) (ap (λ v. turns_left v.opening.script v.job) c.self.view_is)
-    (left_undone (setting station.opening.script station.rules g.H.Host.model.tells) _ _ _ _ station.job c.in-Some.job c.abort-job.result c.self.invariant.0 c.in-Some.ensures.value doing c.abort-job.ensures.behind)
+    (left_undone (setting station.opening.script station.rules g.H.Host.model.tells) _ _ _ _ station.job c.in-Some.job c.abort-job.result c.self.invariant.0
+    c.in-Some.ensures.value doing c.abort-job.ensures.behind)
