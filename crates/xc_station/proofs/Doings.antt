@@ -22,7 +22,7 @@ use Rattle.xc_world.specs.Act.{act}
 use Rattle.xc_world.specs.Act.Step.{stays}
 use Rattle.xc_world.specs.Fits.{fits, answer_of}
 use Rattle.xc_world.specs.Trail.{recorded}
-use Rattle.xc_station.specs.Notes.{Parts, Does}
+use Rattle.xc_station.specs.Notes.{Parts, Does, DoesIn}
 use Rattle.xc_station.specs.Playing.{seen}
 use Rattle.xc_station.specs.WordCalls.{is_word_call, word_reply, words_after}
 use Rattle.xc_station.proofs.Bodies.{append_nil, word-act, word-fine, word-trail}
@@ -31,7 +31,8 @@ use Rattle.xc_station.proofs.Bodies.{append_nil, word-act, word-fine, word-trail
 pub does_words : (w : World) (was : Contents) (number : ℕ) (me : Private) (stores stores' : List (ℕ × ℕ)) (undo : Records) (words : List ℕ) (c : Call)
     (reply : Reply) → is_word_call c ≡ true → w.words ≡ words
     → reply ≡ word_reply (overlaid words stores) c → overlaid words stores' ≡ words_after (overlaid words stores) c
-    → Does w was was number (record { me = me; stores = stores; undo = undo }) (record { me = me; stores = stores'; undo = undo }) c reply
+    → Does (seen w was stores) (seen w was stores') number (record { me = me; stores = stores; undo = undo })
+    (record { me = me; stores = stores'; undo = undo }) c reply
 does_words w was number me stores stores' undo words c reply is at gives after =
     let v = seen w was stores in
     let gives' : reply ≡ word_reply v.words c = gives ∙ ap (λ ws. word_reply (overlaid ws stores) c) (sym at) in
@@ -47,7 +48,8 @@ does_words w was number me stores stores' undo words c reply is at gives after =
 -- a call of the host
 pub does_host : (w : World) (was is : Contents) (number : ℕ) (me next : Private) (stores : List (ℕ × ℕ)) (undo undo' : Records) (c : Call) (reply : Reply)
     → Acts c was is me next reply → undo'.pending ≡ undo.pending ++ recorded (seen w was stores) me number c reply
-    → Does w was is number (record { me = me; stores = stores; undo = undo }) (record { me = next; stores = stores; undo = undo' }) c reply
+    → Does (seen w was stores) (seen w is stores) number (record { me = me; stores = stores; undo = undo })
+    (record { me = next; stores = stores; undo = undo' }) c reply
 does_host w was is number me next stores undo undo' c reply acts records =
     let v : World = record w { words = overlaid w.words stores } in
     record { step = acts.step v number; fits = acts.fits v number; records = records }
@@ -56,10 +58,6 @@ does_host w was is number me next stores undo undo' c reply acts records =
 if_both : {A E : Type 0} (r : Result A E) (P Q R : A → Type 0) → ((x : A) → P x → Q x → R x) → IfOk r P → IfOk r Q → IfOk r R
 if_both (Ok x) P Q R f h k = f x h k
 if_both (Err e) P Q R f h k = tt
-
--- the call is the plain machine's in every world with these words and these contents
-abbrev DoesIn : List ℕ → Contents → Contents → Parts → Parts → Call → Reply → Type 0
-DoesIn words was is old new c reply = (w : World) (number : ℕ) → w.words ≡ words → Does w was is number old new c reply
 
 -- a call's private state and records, with these stores
 abbrev pub parts_at : {H : Type 0} → List (ℕ × ℕ) → CallState H → Parts

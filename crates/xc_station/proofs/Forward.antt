@@ -34,7 +34,7 @@ use Rattle.xc_world.specs.Sound.{IsSound}
 use Rattle.xc_station.specs.declared.job.Activity.{Activity}
 use Rattle.xc_station.specs.declared.job.Activity.TheVariants.{Active}
 use Rattle.xc_station.specs.Flight.{IsStanding, IsRunning, IsPhase, Flight, IsActive}
-use Rattle.xc_station.specs.Notes.{Parts, parts_of, Does, KeepsNotes, Notes}
+use Rattle.xc_station.specs.Notes.{Parts, parts_of, DoesIn, KeepsNotes, Notes}
 use Rattle.xc_station.specs.Playing.{ran_of, seen, GoesForward, GoesBack, IsPlayedIn, IsPlayedBy}
 use Rattle.xc_station.specs.Progress.{Following, kept_of}
 use Rattle.xc_station.specs.declared.rules.Rules.{Rules}
@@ -88,7 +88,7 @@ pub played_call : (s : Setting) (f : Following) (words : List ℕ) (entered : �
     (c : Call) (reply : Reply)
     → old.phase ≡ Running → asks (walk_of s.script place) ≡ ask.Call c
     → Notes old new c reply (claims_of c old.me (length words))
-    → ((v : World) (number : ℕ) → v.words ≡ words → Does v was is number (parts_of old) (parts_of new) c reply)
+    → DoesIn words was is (parts_of old) (parts_of new) c reply
     → Flight s f words entered place old
     → IsPlayedBy w me words was (Active old) → IsPlayedBy w me words is (Active new)
 played_call s f words entered place w me was is old new c reply runs asked k does flight played =
@@ -257,18 +257,17 @@ pub played_noted : (T : Type 0) (script : Script) (words : List ℕ) (place : Pl
     → old.phase ≡ Running → asks (walk_of script place) ≡ ask.Call c
     → KeepsNotes old mid → Notes mid new c reply claims → parts_of new ≡ parts_of mid → claims ≡ claims_of c old.me (length words)
     → given ≡ Ok reply
-    → (T → IfOk given (λ r. (v : World) (number : ℕ) → v.words ≡ words → Does v was is number (parts_of old) (parts_of mid) c r))
+    → (T → IfOk given (DoesIn words was is (parts_of old) (parts_of mid) c))
     → T → (w : World) (me : Private) (rules : Rules) (tells : Bool) (f : Following) (entered : ℕ)
     → Flight (setting script rules tells) f words entered place old → IsSound w me (entered + 1)
     → IsPlayedBy w me words was (Active old) → IsPlayedBy w me words is (Active new)
 played_noted T script words place was is old mid new c given reply claims runs asked k n parts touched ok does t w me rules tells f entered flight sound
     played =
     let all = subst (λ cs. Notes old new c reply cs) touched (notes_from old mid new c reply claims k n) in
-    let did : (v : World) (number : ℕ) → v.words ≡ words → Does v was is number (parts_of old) (parts_of mid) c reply =
-    subst (λ (g : Result Reply NoMemory). IfOk g (λ r. (v : World) (number : ℕ) → v.words ≡ words → Does v was is number (parts_of old) (parts_of mid) c r)) ok
-    (does t) in
+    let did : DoesIn words was is (parts_of old) (parts_of mid) c reply =
+    subst (λ (g : Result Reply NoMemory). IfOk g (DoesIn words was is (parts_of old) (parts_of mid) c)) ok (does t) in
     played_call (setting script rules tells) f words entered place w me was is old new c reply runs asked all
-    (λ v number at. subst (λ (p : Parts). Does v was is number (parts_of old) p c reply) (sym parts) (did v number at)) flight played
+    (subst (λ (p : Parts). DoesIn words was is (parts_of old) p c reply) (sym parts) did) flight played
 
 -- a transaction keeps its own notes
 pub notes_same : (tx : Tx) → KeepsNotes tx tx

@@ -33,11 +33,16 @@ pub record Parts : Type 0 where
   pub stores : List (ℕ × ℕ)
   pub undo : Records
 
--- a call in a world of these contents is the plain machine's, with the answer that its reply records
-pub record Does (w : World) (was is : Contents) (number : ℕ) (old new : Parts) (call : Call) (reply : Reply) : Type 0 where
-  pub step : act (seen w was old.stores) old.me number call (answer_of reply) ≡ stays (seen w is new.stores) new.me reply
-  pub fits : IsTrue (fits (seen w was old.stores) old.me number call (answer_of reply))
-  pub records : new.undo.pending ≡ old.undo.pending ++ recorded (seen w was old.stores) old.me number call reply
+-- from one world to another a call is the plain machine's, with the answer that its reply records
+pub record Does (from to : World) (number : ℕ) (old new : Parts) (call : Call) (reply : Reply) : Type 0 where
+  pub step : act from old.me number call (answer_of reply) ≡ stays to new.me reply
+  pub fits : IsTrue (fits from old.me number call (answer_of reply))
+  pub records : new.undo.pending ≡ old.undo.pending ++ recorded from old.me number call reply
+
+-- the same in every world with these words, from these contents of the host to those
+abbrev pub DoesIn : List ℕ → Contents → Contents → Parts → Parts → Call → Reply → Type 0
+DoesIn words was is old new call reply =
+    (w : World) (number : ℕ) → w.words ≡ words → Does (seen w was old.stores) (seen w is new.stores) number old new call reply
 
 -- these parts of a transaction
 abbrev pub parts_of : Tx → Parts

@@ -13,7 +13,7 @@ ghost use Rattle.xc_world.specs.Modes.{claims_of};
 ghost use Rattle.xc_station.specs.Doing.{IsStarving};
 ghost use Rattle.xc_station.specs.Flight.{Flight, IsActive, faults_noted};
 ghost use Rattle.xc_station.specs.declared.job.Activity.TheVariants as PlainActivity;
-ghost use Rattle.xc_station.specs.Notes.{is_built, Does, KeepsNotes, HasRoom, parts_of};
+ghost use Rattle.xc_station.specs.Notes.{is_built, DoesIn, KeepsNotes, HasRoom, parts_of};
 ghost use Rattle.xc_station.specs.Playing.{IsPlayedBy};
 ghost use Rattle.xc_station.specs.Progress.{Following};
 ghost use Rattle.xc_station.specs.Setting.{setting};
@@ -83,10 +83,9 @@ fn act<H: Host>(
     ensures err_undo { OnErr result (undo.new ≡ undo.old) }
     ensures err_host { IsTrue H.model.tells → OnErr result (H.model.contents host.new ≡ H.model.contents host.old) }
     ensures cause { CountsFault (replies_fault result) (H.model.fault_count host.old) (H.model.fault_count host.new) }
-    ensures does { IsTrue H.model.tells → IfOk result (λ reply. (w : World) (number : ℕ) → w.words ≡ words.now
-        → Does w (H.model.contents host.old) (H.model.contents host.new) number
+    ensures does { IsTrue H.model.tells → IfOk result (DoesIn words.now (H.model.contents host.old) (H.model.contents host.new)
         (record { me = me.old; stores = writes.old; undo = undo.old })
-        (record { me = me.new; stores = writes.new; undo = undo.new }) call.now reply) }
+        (record { me = me.new; stores = writes.new; undo = undo.new }) call.now) }
 {
     match call {
         Call::Load { .. } | Call::Store { .. } => act_on_words(words, writes, call),
@@ -124,8 +123,8 @@ fn do_call<H: Host>(
     ensures err_undo { OnErr result (tx.new.undo ≡ tx.old.undo) }
     ensures err_host { IsTrue H.model.tells → OnErr result (H.model.contents host.new ≡ H.model.contents host.old) }
     ensures cause { CountsFault (replies_fault result) (H.model.fault_count host.old) (H.model.fault_count host.new) }
-    ensures does { IsTrue H.model.tells → IfOk result (λ reply. (w : World) (number : ℕ) → w.words ≡ words.now
-        → Does w (H.model.contents host.old) (H.model.contents host.new) number (parts_of tx.old) (parts_of tx.new) call.now reply) }
+    ensures does { IsTrue H.model.tells → IfOk result (DoesIn words.now (H.model.contents host.old) (H.model.contents host.new)
+        (parts_of tx.old) (parts_of tx.new) call.now) }
 {
     tx.room()?;
     let Tx {
