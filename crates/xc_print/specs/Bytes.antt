@@ -11,6 +11,7 @@ abbrev pub escaped_byte : ℕ → List ℕ
 escaped_byte b = if b == 34 then codes "\\\"" else if b == 92 then codes "\\\\" else if b == 10 then codes "\\n"
     else if nat_le 32 b && nat_le b 126 then b ∷ [] else hex_escape b
 
+-- bytes between quotes
 abbrev pub escaped : List ℕ → List ℕ
 escaped [] = []
 escaped (b ∷ bs) = escaped_byte b ++ escaped bs

@@ -8,6 +8,7 @@ use Rattle.xc_data.specs.declared.call.LateEnd.TheVariants as late_end
 use Rattle.xc_print.specs.Bytes.{bytes_text}
 use Rattle.xc_print.specs.Objects.{handle_text}
 
+-- what a call replied
 abbrev pub reply_text : Reply → List ℕ
 reply_text (reply.Number n) = decimal n
 reply_text (reply.Got bytes) = bytes_text bytes
@@ -26,6 +27,7 @@ reply_text reply.BadWord = codes "bad word"
 reply_text (reply.Fault n) = codes "fault " ++ decimal n
 reply_text reply.Late = codes "late"
 
+-- how a late call ended
 abbrev pub late_end_text : LateEnd → List ℕ
 late_end_text late_end.Done = codes "done"
 late_end_text (late_end.Full n) = codes "full " ++ decimal n
