@@ -8,7 +8,7 @@ use Rattle.xc_data.specs.declared.call.LateEnd.TheVariants as late_end
 use Rattle.xc_print.specs.Bytes.{bytes_text}
 use Rattle.xc_print.specs.Objects.{handle_text}
 
--- a reply
+-- what a call replied
 abbrev pub reply_text : Reply → List ℕ
 reply_text (reply.Number n) = decimal n
 reply_text (reply.Got bytes) = bytes_text bytes

@@ -1,5 +1,5 @@
 -- What the last line counts.
-use Rattle.std.specs.Prelude.{ℕ, ◌+◌, Bool, true, false, not, is_some, List, ◌++◌, codes, count_by, sum_by}
+use Rattle.std.specs.Prelude.{ℕ, Bool, not, is_some, List, ◌++◌, codes, count_by, sum_by}
 use Rattle.std.specs.Fmt.{decimal}
 use Rattle.xc_data.specs.Faults.{is_commit, entry_faults}
 use Rattle.xc_data.specs.Standing.{stands_from}

@@ -8,8 +8,8 @@ use crate::render;
 use std::alloc::Global;
 use std::process::Abort;
 use xc_data::{
-    Call, Cause, Chunk, Entry, Ident, Items, JobEnd, JobLine, LateEnd, Name, NoMemory, Num, Object,
-    Outcome, Reply, Report, Undo, UndoEnd,
+    Call, Cause, Chunk, Claim, Entry, Ident, Items, JobEnd, JobLine, LateEnd, Mode, Name, NoMemory,
+    Num, Object, Outcome, Reply, Report, Undo, UndoEnd,
 };
 
 const FIRST: Num = Num { tx: 0, k: 0 };
@@ -29,6 +29,16 @@ fn chunk(alloc: Global, text: &str) -> Result<Chunk, NoMemory> {
 fn job(block: &str, end: JobEnd) -> Result<JobLine, NoMemory> {
     let block = ident(block)?;
     Ok(JobLine { block, end })
+}
+
+fn shared(object: Object) -> Claim {
+    let mode = Mode::Shared;
+    Claim { object, mode }
+}
+
+fn exclusive(object: Object) -> Claim {
+    let mode = Mode::Exclusive;
+    Claim { object, mode }
 }
 
 // An entry without lines. The numbers are its transaction, job, rank and begin.
@@ -60,7 +70,7 @@ fn abort(
     entry(alloc, numbers, Outcome::Aborted(Report { cause, records }))
 }
 
-fn tell(entry: &mut Entry, lines: Vec<(Call, Reply)>, held: Vec<Object>) -> Result<(), NoMemory> {
+fn tell(entry: &mut Entry, lines: Vec<(Call, Reply)>, held: Vec<Claim>) -> Result<(), NoMemory> {
     for (call, reply) in lines {
         entry.calls.push(call)?;
         entry.replies.push(reply)?;

@@ -1,37 +1,6 @@
 use super::*;
 use std::test::Fail;
 
-fn stored(alloc: Global, mut entry: Entry, value: u64) -> Result<Entry, NoMemory> {
-    let lines = vec![in alloc; (Call::Store { at: 0, value }, Reply::Done)]?;
-    let held = vec![in alloc; Object::Word(0)]?;
-    tell(&mut entry, lines, held)?;
-    Ok(entry)
-}
-
-fn stores(alloc: Global, numbers: (u32, u32, u32, u32), value: u64) -> Result<Entry, NoMemory> {
-    stored(alloc, commit(alloc, numbers, Vec::new(alloc)), value)
-}
-
-fn aborts(alloc: Global, cause: Cause) -> Entry {
-    abort(alloc, (2, 2, 2, 0), cause, Vec::new(alloc))
-}
-
-fn sends(alloc: Global, mut entry: Entry, text: &str) -> Result<Entry, NoMemory> {
-    let (bytes, slot) = (chunk(alloc, text)?, Some(ident("s")?));
-    let lines = vec![in alloc; (Call::XSendmsg { h: 0, bytes, slot }, Reply::Late)]?;
-    let held = vec![in alloc; Object::Pair(FIRST)]?;
-    tell(&mut entry, lines, held)?;
-    Ok(entry)
-}
-
-fn receives(alloc: Global) -> Result<Entry, NoMemory> {
-    let lines = vec![in alloc; (Call::XRecvmsg { h: 1 }, Reply::Empty)]?;
-    let held = vec![in alloc; Object::Pair(FIRST)]?;
-    let mut entry = commit(alloc, (3, 1, 3, 2), Vec::new(alloc));
-    tell(&mut entry, lines, held)?;
-    Ok(entry)
-}
-
 const CONFLICT: Cause = Cause::Conflict {
     object: Object::Word(0),
     holder: 1,
@@ -39,130 +8,67 @@ const CONFLICT: Cause = Cause::Conflict {
 };
 
 const REVOKED: Cause = Cause::Revoked {
-    object: Object::Word(0),
+    object: Object::Word(1),
     by: 1,
-    at: 0,
+    at: 1,
 };
 
-fn assert_asked(rt: &impl Abort, alloc: Global) -> Result<(), NoMemory> {
-    let first = abort(alloc, (1, 1, 1, 0), Cause::Asked, Vec::new(alloc));
-    let second = commit(alloc, (2, 1, 2, 1), vec![in alloc; LateEnd::Fault(0)]?);
-    let journal = [
-        sends(alloc, first, "one")?,
-        sends(alloc, second, "two")?,
-        receives(alloc)?,
-    ];
-    let jobs = [job("main", JobEnd::Done)?];
-    assert_text(
-        rt,
-        alloc,
-        &journal,
-        &jobs,
-        &[],
-        "abort t1 job 1 rank 1 began 0 asked
-  x_sendmsg h0 \"one\" slot s = late
-  held pair 0.0
-commit t2 job 1 rank 2 began 1
-  x_sendmsg h0 \"two\" slot s = late
-  late 1 = fault 0
-  held pair 0.0
-commit t3 job 1 rank 3 began 2
-  x_recvmsg h1 = empty
-  held pair 0.0
-job 1 main done
-total 2 committed, 1 aborted, 1 faults, 0 remains
-",
-    )
+fn is_revoked(alloc: Global) -> Result<Entry, NoMemory> {
+    let lines = vec![in alloc; (Call::Load { at: 1 }, Reply::Number(0))]?;
+    let held = vec![in alloc; shared(Object::Word(1))]?;
+    let mut entry = abort(alloc, (3, 2, 2, 1), REVOKED, Vec::new(alloc));
+    tell(&mut entry, lines, held)?;
+    Ok(entry)
 }
 
-fn assert_conflict(rt: &impl Abort, alloc: Global) -> Result<(), NoMemory> {
-    let (first, third) = (
-        stores(alloc, (1, 1, 1, 0), 1)?,
-        stores(alloc, (3, 2, 2, 2), 2)?,
-    );
-    let journal = [aborts(alloc, CONFLICT), first, third];
-    let jobs = [job("one", JobEnd::Done)?, job("two", JobEnd::Done)?];
-    assert_text(
-        rt,
-        alloc,
-        &journal,
-        &jobs,
-        &[2],
-        "abort t2 job 2 rank 2 began 0 conflict word 0 holder t1 at 0
-commit t1 job 1 rank 1 began 0
-  store 0 1 = done
-  held word 0
-commit t3 job 2 rank 2 began 2
-  store 0 2 = done
-  held word 0
-job 1 one done
-job 2 two done
-word 0 2
-total 2 committed, 1 aborted, 0 faults, 0 remains
-",
-    )
-}
-
-fn assert_given_up(rt: &impl Abort, alloc: Global) -> Result<(), NoMemory> {
-    let journal = [aborts(alloc, CONFLICT), stores(alloc, (1, 1, 1, 0), 1)?];
-    let jobs = [
-        job("one", JobEnd::Done)?,
-        job("two", JobEnd::GaveUp(CONFLICT))?,
-    ];
-    assert_text(
-        rt,
-        alloc,
-        &journal,
-        &jobs,
-        &[1],
-        "abort t2 job 2 rank 2 began 0 conflict word 0 holder t1 at 0
-commit t1 job 1 rank 1 began 0
-  store 0 1 = done
-  held word 0
-job 1 one done
-job 2 two gave up
-word 0 1
-total 1 committed, 1 aborted, 0 faults, 0 remains
-",
-    )
-}
-
-fn assert_revoked(rt: &impl Abort, alloc: Global) -> Result<(), NoMemory> {
-    let (first, third) = (
-        stores(alloc, (1, 1, 1, 0), 1)?,
-        stores(alloc, (3, 2, 2, 2), 2)?,
-    );
-    let journal = [stored(alloc, aborts(alloc, REVOKED), 2)?, first, third];
-    let jobs = [job("one", JobEnd::Done)?, job("two", JobEnd::Done)?];
-    assert_text(
-        rt,
-        alloc,
-        &journal,
-        &jobs,
-        &[2],
-        "abort t2 job 2 rank 2 began 0 revoked word 0 by t1 at 0
-  store 0 2 = done
-  held word 0
-commit t1 job 1 rank 1 began 0
-  store 0 1 = done
-  held word 0
-commit t3 job 2 rank 2 began 2
-  store 0 2 = done
-  held word 0
-job 1 one done
-job 2 two done
-word 0 2
-total 2 committed, 1 aborted, 0 faults, 0 remains
-",
-    )
+fn sends(alloc: Global) -> Result<Entry, NoMemory> {
+    let (bytes, slot) = (chunk(alloc, "one")?, Some(ident("s")?));
+    let lines = vec![in alloc;
+        (Call::Store { at: 0, value: 1 }, Reply::Done),
+        (Call::Store { at: 1, value: 2 }, Reply::Done),
+        (Call::XSendmsg { h: 0, bytes, slot }, Reply::Late),
+    ]?;
+    let held = vec![in alloc;
+        exclusive(Object::Word(0)),
+        exclusive(Object::Word(1)),
+        exclusive(Object::Pair(FIRST)),
+    ]?;
+    let ends = vec![in alloc; LateEnd::Fault(0)]?;
+    let mut entry = commit(alloc, (1, 1, 1, 0), ends);
+    tell(&mut entry, lines, held)?;
+    Ok(entry)
 }
 
 #[test]
 fn prints_causes(rt: HostRuntime) -> Result<(), Fail> {
     let alloc = rt.alloc();
-    assert_asked(&rt, alloc)?;
-    assert_conflict(&rt, alloc)?;
-    assert_given_up(&rt, alloc)?;
-    assert_revoked(&rt, alloc)?;
+    let conflict = abort(alloc, (2, 2, 2, 0), CONFLICT, Vec::new(alloc));
+    let jobs = [
+        job("one", JobEnd::Done)?,
+        job("two", JobEnd::GaveUp(REVOKED))?,
+    ];
+    assert_text(
+        &rt,
+        alloc,
+        &[conflict, is_revoked(alloc)?, sends(alloc)?],
+        &jobs,
+        &[1, 2],
+        "abort t2 job 2 rank 2 began 0 conflict word 0 holder t1 at 0
+abort t3 job 2 rank 2 began 1 revoked word 1 by t1 at 1
+  load 1 = 0
+  held word 1 shared
+commit t1 job 1 rank 1 began 0
+  store 0 1 = done
+  store 1 2 = done
+  x_sendmsg h0 \"one\" slot s = late
+  late 1 = fault 0
+  held word 0, word 1, pair 0.0
+job 1 one done
+job 2 two gave up
+word 0 1
+word 1 2
+total 1 committed, 2 aborted, 1 faults, 0 remains
+",
+    )?;
     Ok(())
 }

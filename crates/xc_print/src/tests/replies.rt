@@ -17,7 +17,11 @@ fn is_refused(alloc: Global) -> Result<Entry, NoMemory> {
         (Call::XLen { h: 1 }, Reply::Number(5)),
     ]?;
     let pipe = Object::Pipe(Num { tx: 0, k: 1 });
-    let held = vec![in alloc; Object::Name(a), Object::File(FIRST), pipe]?;
+    let held = vec![in alloc;
+        exclusive(Object::Name(a)),
+        exclusive(Object::File(FIRST)),
+        exclusive(pipe),
+    ]?;
     let mut entry = commit(alloc, (1, 1, 1, 0), Vec::new(alloc));
     tell(&mut entry, lines, held)?;
     Ok(entry)
@@ -44,21 +48,30 @@ fn tells_the_rest(alloc: Global) -> Result<Entry, NoMemory> {
         ),
     ]?;
     let ends = vec![in alloc; LateEnd::NoMemory(0), LateEnd::NoName]?;
-    let mut entry = commit(alloc, (1, 1, 1, 0), ends);
-    tell(&mut entry, lines, Vec::new(alloc))?;
+    let pair = Object::Pair(Num { tx: 2, k: 1 });
+    let held = vec![in alloc;
+        exclusive(pair),
+        exclusive(Object::Name(a)),
+        shared(Object::File(FIRST)),
+    ]?;
+    let mut entry = commit(alloc, (2, 1, 2, 1), ends);
+    tell(&mut entry, lines, held)?;
     Ok(entry)
 }
 
 #[test]
 fn prints_replies(rt: HostRuntime) -> Result<(), Fail> {
     let alloc = rt.alloc();
-    let main = job("main", JobEnd::Done)?;
+    let jobs = [
+        job("one", JobEnd::JournalFull)?,
+        job("two", JobEnd::NoMemory)?,
+    ];
     assert_text(
         &rt,
         alloc,
-        &[is_refused(alloc)?],
-        &[main],
-        &[],
+        &[is_refused(alloc)?, tells_the_rest(alloc)?],
+        &jobs,
+        &[0, 7, 0],
         "commit t1 job 1 rank 1 began 0
   load 16 = bad word
   x_read h- 5 = bad handle
@@ -72,21 +85,7 @@ fn prints_replies(rt: HostRuntime) -> Result<(), Fail> {
   x_create a = exists
   x_len h1 = 5
   held name a, file 0.0, pipe 0.1
-job 1 main done
-total 1 committed, 0 aborted, 0 faults, 0 remains
-",
-    )?;
-    let jobs = [
-        job("one", JobEnd::JournalFull)?,
-        job("two", JobEnd::NoMemory)?,
-    ];
-    assert_text(
-        &rt,
-        alloc,
-        &[tells_the_rest(alloc)?],
-        &jobs,
-        &[0, 7, 0],
-        "commit t1 job 1 rank 1 began 0
+commit t2 job 1 rank 2 began 1
   x_pipe = h0
   x_pair = h1 h2
   x_recvmsg h1 = \"\\x00\\x09\\x1f \\\"\\\\~\\x7f\\xab\\xff\"
@@ -97,10 +96,11 @@ total 1 committed, 0 aborted, 0 faults, 0 remains
   x_unlink a = late
   late 1 = no memory 0
   late 2 = no name
+  held pair 2.1, name a, file 0.0 shared
 job 1 one journal full
 job 2 two no memory
 word 1 7
-total 1 committed, 0 aborted, 1 faults, 0 remains
+total 2 committed, 0 aborted, 1 faults, 0 remains
 ",
     )?;
     Ok(())

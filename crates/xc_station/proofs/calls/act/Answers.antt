@@ -2,13 +2,13 @@ use Rattle.xc_station.proofs.Doings.{file_does}
 use Rattle.xc_station.proofs.calls.act.Goals as goal
 
 pub returns-in-XOpen-clause-does : goal.returns-in-XOpen-clause-does
-returns-in-XOpen-clause-does g c = file_does g.H.Host.model _ _ c.in-XOpen.is _ _ _ (c.x_open.ensures.call c.args.undo.now) _ _
+returns-in-XOpen-clause-does g c = file_does g.H.Host.model _ _ c.in-XOpen.is _ _ _ (c.x_open.ensures.call c.args.undo.now) c.args.words.now c.args.writes.now
 
 pub returns-in-XRead-clause-does : goal.returns-in-XRead-clause-does
-returns-in-XRead-clause-does g c = file_does g.H.Host.model _ _ c.in-XRead.is _ _ _ (c.x_read.ensures.call c.args.undo.now) _ _
+returns-in-XRead-clause-does g c = file_does g.H.Host.model _ _ c.in-XRead.is _ _ _ (c.x_read.ensures.call c.args.undo.now) c.args.words.now c.args.writes.now
 
 pub returns-in-XWriteOvr-clause-does : goal.returns-in-XWriteOvr-clause-does
-returns-in-XWriteOvr-clause-does g c = file_does g.H.Host.model _ _ c.in-XWriteOvr.is _ _ _ c.x_write_ovr.ensures.call _ _
+returns-in-XWriteOvr-clause-does g c = file_does g.H.Host.model _ _ c.in-XWriteOvr.is _ _ _ c.x_write_ovr.ensures.call c.args.words.now c.args.writes.now
 
 pub returns-in-XOpen-clause-cause : goal.returns-in-XOpen-clause-cause
 returns-in-XOpen-clause-cause g c = (c.x_open.ensures.call c.args.undo.now).cause
