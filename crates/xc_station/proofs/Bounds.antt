@@ -38,6 +38,7 @@ use Rattle.xc_station.specs.declared.job.Doing.TheVariants as doing
 use Rattle.xc_station.specs.Doing.{doing_back, doing_phase, doing_in, doing_of, is_live, is_over, opened_job, IsEndOf, IsLineOf, AreLinesOf}
 use Rattle.xc_station.specs.Ending.{IsEnd, AreEnds, Final, IsFinalState, IsTrueEnd, IsComplete, is_done, all_done, transactions_of_jobs}
 use Rattle.xc_station.specs.Flight.{IsAlone, IsActive, IsOneJob, IsJob, IsUnbroken, GoesOn, InFlight, AreCounted, faults_noted, faults_of_job}
+use Rattle.xc_station.specs.Flight.{AreSpoken, AreStationWords}
 use Rattle.xc_station.specs.Playing.{IsAsIn, IsPlayedBy, MayBegin}
 use Rattle.xc_station.specs.Progress.{Following, untried, opening_progress, progress_of}
 use Rattle.xc_station.specs.Truth.{numbers_of, all_settled, IsSerial}
@@ -159,6 +160,12 @@ start_job s spare words contents (Some block) is limits same held e =
       played = λ t. record { begin = start_begins s.script block is limits jobs; now = start_as s.script words contents same (held t) };
     }
 
+-- the station has the script's words
+start_words : (script : Script) (words : List ℕ) (o : Option (List ℕ)) → words ≡ script.plain.words
+    → AreStationWords script.plain.words words (opened_job script o)
+start_words script words None same = same
+start_words script words (Some block) same = same
+
 -- a station before its first turn
 pub started : (s : Setting) (spare : ℕ) (words : List ℕ) (contents : Contents) (journal : List Entry) (job : Option Job)
     → IsScript s.script → KeepsLimits s.script.plain → words ≡ s.script.plain.words
@@ -177,6 +184,7 @@ started s spare words contents journal job is limits same held none first =
         passed = start_next s.script s.script.plain.jobs f jobs;
         within = omega (arith, start_next s.script s.script.plain.jobs f jobs);
       };
+      words = start_words s.script words (slice_get s.script.plain.jobs 0) same;
       job = start_job s spare words contents (slice_get s.script.plain.jobs 0) is limits same held refl;
     } in
     subst (λ js. InFlight s words contents js spare job) (sym none) (subst (InFlight s words contents [] spare) (sym first) there)
@@ -331,6 +339,11 @@ complete_over s words contents journal spare (Some job) lines ended are goes h e
           ∙ ap (transactions_of_jobs s.script) (sym jobs);
     }
 
+-- at the end the words are the journal's
+over_words : (before words : List ℕ) (o : Option Job) → doing_of o ≡ doing.Ended → AreStationWords before words o → words ≡ before
+over_words before words None e h = h
+over_words before words (Some job) e h = let ended = over_is job.activity e in subst (AreSpoken before words) ended.1 h
+
 -- a station whose job has ended, or that has none, stands at a true end
 pub finished : (s : Setting) (words : List ℕ) (contents : Contents) (journal : List Entry) (spare : ℕ) (o : Option Job) (lines : List JobLine)
     → is_live o 1 ≡ false → AreLinesOf o lines →
@@ -343,6 +356,7 @@ finished s words contents journal spare o lines ended are k =
         numbers = subst (IsPermutation (numbers_of journal)) (numbers_count journal k.in_order) (IsPermutation-refl (numbers_of journal));
         begins = begins_in_order journal k.in_order;
       };
+      words = over_words (progress_of s.script journal).words words o (ended_is o ended) k.words;
       state = whole.state;
       ends = whole.ends;
       complete = complete_over s words contents journal spare o lines (ended_is o ended) are k.unbroken k.job whole.ends;

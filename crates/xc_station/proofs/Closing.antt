@@ -33,6 +33,7 @@ use Rattle.xc_data.specs.declared.claim.Claim.{Claim}
 use Rattle.xc_world.proofs.EffectsBody.{body-sound, body-others_sound}
 use Rattle.xc_world.proofs.EffectsRemains.{remains-sound}
 use Rattle.xc_station.specs.Setting.{Setting}
+use Rattle.xc_station.specs.WordCalls.{words_behind, AreWordReplies}
 use Rattle.xc_station.specs.declared.tx.Tx.{Tx}
 use Rattle.xc_station.specs.declared.tx.Phase.TheVariants.{Committing, Undoing}
 use Rattle.xc_station.specs.declared.job.Activity.TheVariants.{Active}
@@ -107,9 +108,10 @@ commit_played script entered p me tx next begins b played =
 -- the entry of a commit is true behind a true journal
 pub commit_true : (s : Setting) (entered : ℕ) (p : Progress) (f : Following) (place : Place) (words : List ℕ) (contents : Contents) (me : Private) (tx : Tx)
     → IsAlone entered p f → me ≡ beginning me.places → Flight s f words entered place tx → IsCommitting s.script f place tx
+    → AreWordReplies p.words tx.calls.items tx.replies.items
     → (IsTrue s.tells → MayBegin s.script entered p.state me × IsPlayedBy p.state.world me words contents (Active tx))
     → IsTrueEntry s p (entry_of tx 1 (Committed []))
-commit_true s entered p f place words contents me tx alone begins flight c told =
+commit_true s entered p f place words contents me tx alone begins flight c said told =
     let n = flight.noted in
     record {
       following = f;
@@ -126,6 +128,7 @@ commit_true s entered p f place words contents me tx alone begins flight c told 
           calls = n.asked;
           asked = (ap asks (sym c.ahead) ∙ c.asked, ap length (sym n.none_kept));
         };
+        words = said;
         played = λ t. commit_played s.script entered p me tx (next_of s.script f tx.replies.items) begins (told t).0 (told t).1.0;
       };
     }
@@ -139,9 +142,10 @@ none_started [] = refl
 none_started (c ∷ calls) = refl
 
 commit_after : (script : Script) (entered : ℕ) (p : Progress) (f : Following) (tx : Tx) → IsAlone entered p f
-    → after_entry script p (entry_of tx 1 (Committed [])) ≡ record (after_commit script p f (entry_of tx 1 (Committed [])) []) { entered = p.entered + 1 }
+    → after_entry script p (entry_of tx 1 (Committed [])) ≡ record (after_commit script p f (entry_of tx 1 (Committed [])) [])
+    { entered = p.entered + 1; words = words_behind p.words tx.calls.items }
 commit_after script entered p f tx alone =
-    ap (λ o. record (after_following script p (entry_of tx 1 (Committed [])) o) { entered = p.entered + 1 })
+    ap (λ o. record (after_following script p (entry_of tx 1 (Committed [])) o) { entered = p.entered + 1; words = words_behind p.words tx.calls.items })
     (following_alone entered p f alone tx (Committed []))
 
 -- one job goes on behind its commit
@@ -151,7 +155,8 @@ commit_leads script entered p f tx alone =
     let e = entry_of tx 1 (Committed []) in
     let g = gone_on script p.entered f tx in
     let kept = kept_of tx.calls.items tx.replies.items in
-    let there : IsAlone (entered + 1) (record (after_commit script p f e []) { entered = p.entered + 1 }) g = record {
+    let next : Progress = record (after_commit script p f e []) { entered = p.entered + 1; words = words_behind p.words tx.calls.items } in
+    let there : IsAlone (entered + 1) next g = record {
       jobs = ap (λ (js : List Following). slice_set js 0 g ++ map (started_job script (passed script f.job tx.replies.items) (p.entered + 1))
           (started_blocks kept [])) alone.jobs
           ∙ ap (λ bs. (g ∷ []) ++ map (started_job script (passed script f.job tx.replies.items) (p.entered + 1)) bs) (none_started kept);
@@ -283,10 +288,10 @@ alone_by cause.NoMemory next records h = refl
 pub abort_true : (s : Setting) (entered : ℕ) (p : Progress) (f : Following) (place : Place) (words : List ℕ) (contents : Contents) (me : Private) (tx : Tx)
     (c : Cause)
     → IsAlone entered p f → me ≡ beginning me.places → tx.phase ≡ Undoing c → tx.undo.pending ≡ []
-    → Flight s f words entered place tx
+    → Flight s f words entered place tx → AreWordReplies p.words tx.calls.items tx.replies.items
     → (IsTrue s.tells → MayBegin s.script entered p.state me × IsPlayedBy p.state.world me words contents (Active tx))
     → IsTrueEntry s p (entry_of tx 1 (aborted_by c tx))
-abort_true s entered p f place words contents me tx c alone begins undoes none flight told =
+abort_true s entered p f place words contents me tx c alone begins undoes none flight said told =
     let n = flight.noted in
     let back : IsUndoing s f tx c = subst (IsPhase s f words place tx) undoes flight.phase in
     record {
@@ -305,15 +310,16 @@ abort_true s entered p f place words contents me tx c alone begins undoes none f
           calls = n.asked;
           asked = (back.caused, subst (λ (us : List Undo). AreLegal s.rules.undo_tries (length us + 1) tx.undo.ended) none back.legal);
         };
+        words = said;
         played = λ t. abort_played s.script entered p words contents me tx c (next_of s.script f tx.replies.items) begins undoes none (told t).0 (told t).1;
       };
     }
 
 abort_after : (script : Script) (entered : ℕ) (p : Progress) (f : Following) (tx : Tx) (c : Cause) → IsAlone entered p f
     → after_entry script p (entry_of tx 1 (aborted_by c tx))
-    ≡ record (after_abort p f (entry_of tx 1 (aborted_by c tx)) (record { cause = c; records = tx.undo.ended })) { entered = p.entered + 1 }
+    ≡ record (after_abort p f (entry_of tx 1 (aborted_by c tx)) (record { cause = c; records = tx.undo.ended })) { entered = p.entered + 1; words = p.words }
 abort_after script entered p f tx c alone =
-    ap (λ o. record (after_following script p (entry_of tx 1 (aborted_by c tx)) o) { entered = p.entered + 1 })
+    ap (λ o. record (after_following script p (entry_of tx 1 (aborted_by c tx)) o) { entered = p.entered + 1; words = p.words })
     (following_alone entered p f alone tx (aborted_by c tx))
 
 -- the job behind its abort: for the causes that there are so far
@@ -352,7 +358,8 @@ abort_leads s entered p f tx c alone back =
     let e = entry_of tx 1 (aborted_by c tx) in
     let g = gone_back p.entered f c in
     let is = gone_back_is p.entered f e c (asks (all_answered (walk_from s.script f.job) tx.replies.items)) back.caused in
-    let there : IsAlone (entered + 1) (record (after_abort p f e (record { cause = c; records = tx.undo.ended })) { entered = p.entered + 1 }) g = record {
+    let next : Progress = record (after_abort p f e (record { cause = c; records = tx.undo.ended })) { entered = p.entered + 1; words = p.words } in
+    let there : IsAlone (entered + 1) next g = record {
       jobs = ap (λ (js : List Following). slice_set js 0 (following_abort p.entered f e c)) alone.jobs ∙ ap (λ h. h ∷ []) is;
       counted = ap (λ n. n + 1) alone.counted;
       since = omega (arith, since_back p.entered f c, alone.counted);

@@ -27,7 +27,7 @@ use Rattle.xc_station.specs.Doing.{doing_back, doing_phase, doing_in, IsBusy}
 use Rattle.xc_station.specs.Notes.{entry_of}
 use Rattle.xc_station.specs.Progress.{Following, Progress, progress_of, after_entry, opening_progress}
 use Rattle.xc_station.specs.Truth.{next_of, AreTrue, is_alone, AreInOrder, IsTrueEntry, is_settled, all_settled}
-use Rattle.xc_station.specs.Flight.{IsActive, IsAlone, IsUnbroken, InFlight, IsPhase, IsCommitting, IsUndoing}
+use Rattle.xc_station.specs.Flight.{AreWordsIn, HasSpoken, AreSpoken, IsActive, IsAlone, IsUnbroken, InFlight, IsPhase, IsCommitting, IsUndoing}
 use Rattle.xc_station.specs.Playing.{IsAsIn, IsPlayedBy, IsPlaying, MayBegin}
 use Rattle.xc_station.proofs.Asking.{few_passed, within_got}
 use Rattle.xc_station.proofs.Stories.{progress-more, true-more, order-more, of_one-more}
@@ -163,8 +163,9 @@ module _ (s : Setting) (journal : List Entry) where
       → (IsTrue s.tells → (f : Following) → IsActive s f words (length journal) spare job.place job.activity
       → MayBegin s.script (length journal) reached.state job.me
       → IsPlayedBy reached.state.world job.me words contents job.activity → IsPlayedBy reached.state.world job.me words' contents' job'.activity)
+      → (AreSpoken reached.words words job.activity → AreSpoken reached.words words' job'.activity)
       → In words contents spare (Some job) → In words' contents' spare' (Some job')
-  keep_job words words' contents contents' spare spare' job job' block me count moves plays k =
+  keep_job words words' contents contents' spare spare' job job' block me count moves plays speaks k =
       let one = k.job in
       record {
         read = k.read;
@@ -174,6 +175,7 @@ module _ (s : Setting) (journal : List Entry) where
         few = k.few;
         count = count ∙ k.count;
         unbroken = k.unbroken;
+        words = speaks k.words;
         job = record {
           following = one.following;
           alone = one.alone;
@@ -215,9 +217,10 @@ pub keep_entry : (s : Setting) (words : List ℕ) (contents : Contents) (journal
     → job.me ≡ beginning job.me.places
     → (IsTrue s.tells → IsPlaying s.script words contents (length journal + 1) (after_entry s.script (progress_of s.script journal) e).state job)
     → (f.starved ≡ false → IsUnbroken s.script (journal ++ e ∷ []) f)
+    → AreSpoken (after_entry s.script (progress_of s.script journal) e).words words job.activity
     → InFlight s words contents (journal ++ e ∷ []) spare (Some job)
 keep_entry s words contents journal spare job e f read entries order of_one few words_count named block one number began job_one met alone active begins playing
-    unbroken =
+    unbroken said =
     let zero_plus : 0 + length journal ≡ length journal = omega arith in
     let count : length (journal ++ e ∷ []) ≡ length journal + 1 = length-append journal (e ∷ []) in
     let led : progress_of s.script (journal ++ e ∷ []) ≡ after_entry s.script (progress_of s.script journal) e = progress-more s.script journal e in
@@ -234,6 +237,7 @@ keep_entry s words contents journal spare job e f read entries order of_one few 
           let both : f ∷ [] ≡ g ∷ [] = sym there.jobs ∙ jobs in
           let same : f ≡ g = first_of_one f g both in
           subst (IsUnbroken s.script (journal ++ e ∷ [])) same (unbroken (ap (λ (h : Following). h.starved) same ∙ goes));
+      words = subst (λ (p : Progress). AreSpoken p.words words job.activity) (sym led) said;
       job = record {
         following = f;
         alone = there;
@@ -271,6 +275,7 @@ keep_commit s words contents journal spare spare' job tx is commits k =
     let f = one.following in
     let active = subst (IsActive s f words (length journal) spare job.place) is one.active in
     let flight = active.1 in
+    let spoken : HasSpoken p.words words tx = subst (AreSpoken p.words words) is k.words in
     let committing : IsCommitting s.script f job.place tx = subst (IsPhase s f words job.place tx) commits flight.phase in
     let few = few_passed s.script f.job k.read flight.left in
     let g = gone_on s.script p.entered f tx in
@@ -286,7 +291,7 @@ keep_commit s words contents journal spare spare' job tx is commits k =
     (q.begin, now) in
     keep_entry s words contents journal spare' (behind_commit job tx) (entry_of tx 1 (Committed [])) g
     k.read k.entries k.in_order k.of_one (omega (arith, flight.passed)) k.count one.named one.block
-    (commit_true s (length journal) p f job.place words contents job.me tx one.alone one.begins flight committing told)
+    (commit_true s (length journal) p f job.place words contents job.me tx one.alone one.begins flight committing spoken.replies told)
     flight.noted.number flight.noted.began refl refl
     (commit_leads s.script (length journal) p f tx one.alone)
     (refl, stands, ap (λ n. n + 1) flight.passed)
@@ -294,6 +299,7 @@ keep_commit s words contents journal spare spare' job tx is commits k =
     (λ t. let b = commit_begins s.script (length journal) p f words contents job.me tx one.alone one.begins commits flight.noted.number (told t).0 (told t).1 in
     record { begin = b.0; now = b.1 })
     (λ _. passes s.script journal (entry_of tx 1 (Committed [])) f g (k.unbroken f one.alone.jobs flight.goes_on) flight.left refl refl refl)
+    (subst (AreWordsIn p.words words tx) commits spoken.stores)
 
 -- ---- where a job stands behind an abort, by the cause
 behind_active : (s : Setting) (f : Following) (words : List ℕ) (entered counted spare : ℕ) (job : Job) (c : Cause)
@@ -311,6 +317,12 @@ behind_me job cause.Asked = (refl, refl)
 behind_me job (cause.Conflict object holder at) = (refl, refl)
 behind_me job (cause.Revoked object by at) = (refl, refl)
 behind_me job cause.NoMemory = (refl, refl)
+
+behind_spoken : (before words : List ℕ) (job : Job) (c : Cause) → words ≡ before → AreSpoken before words (behind_abort job c).activity
+behind_spoken before words job cause.Asked h = h
+behind_spoken before words job (cause.Conflict object holder at) h = h
+behind_spoken before words job (cause.Revoked object by at) h = h
+behind_spoken before words job cause.NoMemory h = h
 
 block_back : (entered : ℕ) (f : Following) (c : Cause) → (gone_back entered f c).block ≡ f.block
 block_back entered f cause.Asked = refl
@@ -346,6 +358,7 @@ keep_abort s words contents journal spare spare' job tx c is undoes none k =
     let active = subst (IsActive s f words (length journal) spare job.place) is one.active in
     let flight = active.1 in
     let back : IsUndoing s f tx c = subst (IsPhase s f words job.place tx) undoes flight.phase in
+    let spoken : HasSpoken p.words words tx = subst (AreSpoken p.words words) is k.words in
     let few = few_passed s.script f.job k.read flight.left in
     let here = flight.standing in
     let same = behind_me job c in
@@ -356,7 +369,7 @@ keep_abort s words contents journal spare spare' job tx c is undoes none k =
     keep_entry s words contents journal spare' (behind_abort job c) (entry_of tx 1 (aborted_by c tx)) (gone_back p.entered f c)
     k.read k.entries k.in_order k.of_one (omega (arith, flight.passed)) k.count (one.named ∙ ap (λ b. b ∷ []) (sym same.1))
     (block_back p.entered f c ∙ one.block ∙ sym same.1)
-    (abort_true s (length journal) p f job.place words contents job.me tx c one.alone one.begins undoes none flight told)
+    (abort_true s (length journal) p f job.place words contents job.me tx c one.alone one.begins undoes none flight spoken.replies told)
     flight.noted.number flight.noted.began refl (alone_by c (next_of s.script f tx.replies.items) tx.undo.ended back.caused)
     (abort_leads s (length journal) p f tx c one.alone back)
     (behind_active s f words (length journal) p.entered spare' job c flight.goes_on flight.left flight.passed here.block here.next here.begun)
@@ -367,3 +380,4 @@ keep_abort s words contents journal spare spare' job tx c is undoes none k =
       now = behind_played (after_entry s.script p (entry_of tx 1 (aborted_by c tx))).state.world (behind_abort job c).me words contents job c b.1;
     })
     (behind_unbroken s.script journal p.entered tx f c (k.unbroken f one.alone.jobs flight.goes_on) flight.left)
+    (behind_spoken p.words words job c (subst (AreWordsIn p.words words tx) undoes spoken.stores))

@@ -4,6 +4,7 @@ pub mod Asking
 pub mod Touching
 pub mod Doings
 pub mod Forward
+pub mod Speaking
 pub mod Backward
 pub mod Counting
 pub mod Closing

@@ -36,12 +36,13 @@ use Rattle.xc_station.specs.Doing.{doing_in, doing_of, IsGoingBack}
 use Rattle.xc_station.specs.Notes.{entry_of}
 use Rattle.xc_station.specs.Progress.{Following, kept_of, progress_of}
 use Rattle.xc_station.specs.declared.rules.Rules.{Rules}
-use Rattle.xc_station.specs.Flight.{IsActive, IsPhase, IsRunning, Flight, InFlight, AreCounted, faults_noted, IsCommitting}
+use Rattle.xc_station.specs.Flight.{IsActive, IsPhase, IsRunning, Flight, InFlight, AreCounted, faults_noted, IsCommitting, AreWordsIn, HasSpoken, AreSpoken}
 use Rattle.xc_station.specs.Playing.{IsAsIn, IsPlayedBy, IsPlayedIn, GoesForward, ran_of, seen}
 use Rattle.xc_station.specs.Turns.{BeginsAs, CanRun, HasOpenFiles}
 use Rattle.xc_station.proofs.Counting.{noted_tried, entered_abort, entered_commit}
 use Rattle.xc_station.proofs.Backward.{flight_tried, played_tried, covered_now, open_files}
 use Rattle.xc_station.proofs.Closing.{aborted_by}
+use Rattle.xc_station.proofs.Speaking.{begun_spoken}
 use Rattle.xc_station.proofs.Keeping.{idle_is, starved_is, running_is, committing_is, undoing_is, undone_is, active_is}
 use Rattle.xc_station.proofs.Keeping.{busy_running, busy_committing, busy_undoing, busy_undone, keep_job, keep_commit, keep_abort}
 
@@ -147,6 +148,8 @@ turn_idle s words contents journal journal' spare spare' o job job' was idle sam
     (λ t f before b now. begun_played s.script words contents (progress_of s.script journal).state.world
     (length journal) spare' job.me job.place job'.place job'.activity begins
     (subst (IsPlayedBy (progress_of s.script journal).state.world job.me words contents) is now))
+    (λ said. begun_spoken s.script (progress_of s.script journal).words words (length journal) spare' job.me job.place job'.place job'.activity begins
+    (subst (AreSpoken (progress_of s.script journal).words words) is said))
     inside)
 
 -- and the count of faults
@@ -170,12 +173,14 @@ pub turn_running : (s : Setting) (words words' : List ℕ) (contents contents' :
     → IsActive (setting s.script rules tells) f words entered room job.place job.activity → IsSound w me (entered + 1)
     → IsPlayedBy w me words contents job.activity
     → IsPlayedBy w me words' contents' job'.activity)
+    → ((before : List ℕ) → AreSpoken before words job.activity → AreSpoken before words' job'.activity)
     → InFlight s words contents journal spare o → InFlight s words' contents' journal spare (Some job')
-turn_running s words words' contents contents' journal spare o job job' was block me count active played k =
+turn_running s words words' contents contents' journal spare o job job' was block me count active played spoken k =
     keep_job s journal words words' contents contents' spare spare job job' block me count
     (λ f before. active s.rules s.tells f (length journal) spare before)
     (λ t f before b now. played t (progress_of s.script journal).state.world job.me s.rules s.tells f (length journal) spare before
     (b.sound (length journal + 1) (omega arith)) now)
+    (spoken (progress_of s.script journal).words)
     (taken_in s words contents journal spare o job was k)
 
 -- the turn of a running transaction keeps the count of faults
@@ -330,6 +335,12 @@ turn_undoing model script rules words journal spare o old new was undoes tries_i
     subst (λ (x : Tx). IsPlayedBy w job.me words contents' (activity.Active x)) same
     (played_tried s f words (length journal) job.place w job.me contents contents' tx undoing.0 t.older t.tried t.end undoing.1 t.was t.legal
     (t.effect told) active.1.noted (b.sound (length journal + 1) (omega arith)) played))
+    (λ said.
+    let before = (progress_of s.script journal).words in
+    let spoken : HasSpoken before words tx = subst (AreSpoken before words) is said in
+    let back : words ≡ before = subst (AreWordsIn before words tx) undoing.1 spoken.stores in
+    let now : HasSpoken before words next = record { replies = spoken.replies; stores = subst (AreWordsIn before words next) (sym undoing.1) back } in
+    now)
     inside)
 
 -- and the count of faults
@@ -405,6 +416,7 @@ turn_starved s words contents journal spare o job job' was starved made k =
     (keep_job s journal words words contents contents spare spare job ended refl refl refl
     (λ f before. (subst (IsActive s f words (length journal) spare job.place) is before).1)
     (λ t f before b now. subst (IsPlayedBy (progress_of s.script journal).state.world job.me words contents) is now)
+    (λ said. subst (AreSpoken (progress_of s.script journal).words words) is said)
     (taken_in s words contents journal spare o job was k))
 
 -- and the count of faults

@@ -66,6 +66,8 @@ pub record IsFinalState (state : State) (final : Final) : Type 0 where
 -- what a run ends in: a true journal, what it leads to, and each started job's end
 pub record IsTrueEnd (s : Setting) (entries : List Entry) (final : Final) : Type 0 where
   pub journal : IsTrueJournal s entries
+  -- the words are those that the stores of committed transactions left, over every host
+  pub words : final.words ≡ (progress_of s.script entries).words
   pub state : IsTrue s.tells → IsFinalState (progress_of s.script entries).state final
   pub ends : AreEnds s (length entries) (progress_of s.script entries).jobs final.lines
   pub complete : all_done final.lines ≡ true → IsComplete s.script entries

@@ -13,7 +13,7 @@ use Rattle.xc_text.specs.Scripts.{IsScript}
 use Rattle.xc_script.specs.declared.ask.Ask.TheVariants as ask
 use Rattle.xc_script.specs.Ask.{asks, all_answered, walk_from, next_body, transactions_at}
 use Rattle.xc_script.specs.Place.{Place, at_begin, walk_of}
-use Rattle.xc_txmem.specs.Overlay.{AreWithin}
+use Rattle.xc_txmem.specs.Overlay.{overlaid, AreWithin}
 use Rattle.xc_world.specs.World.{beginning}
 use Rattle.xc_world.specs.Ends.{AreLegal}
 use Rattle.xc_world.specs.Opening.{opening}
@@ -27,6 +27,7 @@ use Rattle.xc_station.specs.Setting.{Setting}
 use Rattle.xc_station.specs.Progress.{Following, Progress, kept_of, opening_progress, progress_of}
 use Rattle.xc_station.specs.Truth.{AsksEach, next_of, IsCauseOf, AreTrue, AreInOrder, all_settled}
 use Rattle.xc_station.specs.Ending.{IsEnd}
+use Rattle.xc_station.specs.WordCalls.{words_behind, AreWordReplies}
 use Rattle.xc_station.specs.Playing.{IsAsIn, IsPlaying}
 
 -- what an active transaction has noted: the script's calls, none of them kept for the commit
@@ -125,17 +126,40 @@ pub record IsUnbroken (script : Script) (journal : List Entry) (f : Following) :
 abbrev pub GoesOn : Script → List Entry → Progress → Type 0
 GoesOn script journal p = (f : Following) → p.jobs ≡ f ∷ [] → f.starved ≡ false → IsUnbroken script journal f
 
+-- ---- words, over every host; `before` are those of the journal
+-- the stores of a transaction wait until its commit writes them
+abbrev pub AreWordsIn : List ℕ → List ℕ → Tx → Phase → Type 0
+AreWordsIn before words tx Running = (words ≡ before) × (overlaid words tx.writes ≡ words_behind before tx.calls.items)
+AreWordsIn before words tx Committing = words ≡ words_behind before tx.calls.items
+AreWordsIn before words tx (Undoing c) = words ≡ before
+
+-- what an active transaction's calls on words replied, and where its stores are
+pub record HasSpoken (before words : List ℕ) (tx : Tx) : Type 0 where
+  pub replies : AreWordReplies before tx.calls.items tx.replies.items
+  pub stores : AreWordsIn before words tx tx.phase
+
+-- the same of a job
+abbrev pub AreSpoken : List ℕ → List ℕ → Activity → Type 0
+AreSpoken before words (Active tx) = HasSpoken before words tx
+AreSpoken before words _ = words ≡ before
+
+-- the same of the station's one job, or none
+abbrev pub AreStationWords : List ℕ → List ℕ → Option Job → Type 0
+AreStationWords before words None = words ≡ before
+AreStationWords before words (Some job) = AreSpoken before words job.activity
+
 -- a station between two turns; what the host tells is `contents`
-pub record InFlight (s : Setting) (words : List ℕ) (contents : Contents) (journal : List Entry) (spare : ℕ)
+pub record InFlight (s : Setting) (values : List ℕ) (contents : Contents) (journal : List Entry) (spare : ℕ)
     (one : Option Job) : Type 0 where
   pub read : IsScript s.script
   pub entries : AreTrue s (opening_progress s.script) journal
   pub in_order : AreInOrder 0 journal
   pub of_one : All (λ (e : Entry). e.job ≡ 1) journal
   pub few : length journal ≤ 1000
-  pub count : length words ≡ length s.script.plain.words
+  pub count : length values ≡ length s.script.plain.words
   pub unbroken : GoesOn s.script journal (progress_of s.script journal)
-  pub job : IsJob s words contents (length journal) spare (progress_of s.script journal) one
+  pub words : AreStationWords (progress_of s.script journal).words values one
+  pub job : IsJob s values contents (length journal) spare (progress_of s.script journal) one
 
 -- ---- the faults that are recorded
 -- those of an active transaction

@@ -22,6 +22,7 @@ use Rattle.xc_world.specs.Late.{is_late}
 use Rattle.xc_world.specs.Run.{Ran, Run, body, run, asked_of}
 use Rattle.xc_world.specs.Ends.{remains, with_remains}
 use Rattle.xc_world.specs.Opening.{opening_state}
+use Rattle.xc_station.specs.WordCalls.{words_behind}
 
 -- a started job, as the journal tells it
 pub record Following : Type 0 where
@@ -38,11 +39,13 @@ pub record Following : Type 0 where
   -- how long the journal was behind its last entry, or behind that of its starter
   pub since : ℕ
 
--- the state, the started jobs in the order of their numbers, and how many entries led here
+-- the state, the started jobs in the order of their numbers, how many entries led here, and the words, which the
+-- stores of committed transactions made, over every host
 pub record Progress : Type 0 where
   pub state : State
   pub jobs : List Following
   pub entered : ℕ
+  pub words : List ℕ
 
 -- a job of a block before its next transaction is tried
 abbrev pub untried : List ℕ → Job → ℕ → Following
@@ -55,6 +58,7 @@ opening_progress script =
       state = opening_state script.plain;
       jobs = map (λ name. untried name (fresh_job (block_place script name)) 0) script.plain.jobs;
       entered = 0;
+      words = script.plain.words;
     }
 
 -- ---- an entry run on a state; jobs are numbered from 1
@@ -115,6 +119,7 @@ after_commit script p f e late =
       state = committed_state p.state e.job (run_of p.state e late) blocks;
       jobs = with_job p.jobs e.job (untried f.block job (p.entered + 1)) ++ map (started_job script job (p.entered + 1)) blocks;
       entered = p.entered;
+      words = p.words;
     }
 
 -- ---- after an abort: the world with what remains, and the variables of the begin
@@ -130,6 +135,7 @@ after_abort p f e report =
       state = record p.state { world = with_remains p.state.world (remains report.records) };
       jobs = with_job p.jobs e.job (following_abort p.entered f e report.cause);
       entered = p.entered;
+      words = p.words;
     }
 
 -- what an entry with this outcome leads to
@@ -146,9 +152,15 @@ abbrev pub after_following : Script → Progress → Entry → Option Following 
 after_following script p e None = p
 after_following script p e (Some f) = after_outcome script p f e e.outcome
 
+-- the words behind calls that ended so
+abbrev pub words_left : List ℕ → List Call → Outcome → List ℕ
+words_left words calls (Committed late) = words_behind words calls
+words_left words calls (Aborted report) = words
+
 -- behind one entry more
 abbrev pub after_entry : Script → Progress → Entry → Progress
-after_entry script p e = record (after_following script p e (following_of p e)) { entered = p.entered + 1 }
+after_entry script p e =
+    record (after_following script p e (following_of p e)) { entered = p.entered + 1; words = words_left p.words e.calls e.outcome }
 
 -- what a whole journal has led to
 abbrev pub progress_of : Script → List Entry → Progress

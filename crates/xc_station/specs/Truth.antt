@@ -27,6 +27,7 @@ use Rattle.xc_world.specs.Run.{Ran, body_fits, lates_fit, asked_of, late_asked_o
 use Rattle.xc_world.specs.Ends.{AreLegal}
 use Rattle.xc_world.specs.Trail.{recorded}
 use Rattle.xc_station.specs.Setting.{Setting}
+use Rattle.xc_station.specs.WordCalls.{AreWordReplies}
 use Rattle.xc_station.specs.Progress.{Following, Progress, opening_progress, private_of}
 use Rattle.xc_station.specs.Progress.{body_of, run_of, kept_of, following_of, after_entry}
 
@@ -141,6 +142,8 @@ pub record IsPlayed (p : Progress) (next : Ask) (e : Entry) : Type 0 where
 -- one entry over a host that tells its contents or doesn't; f is its job
 pub record IsEntry (s : Setting) (p : Progress) (f : Following) (e : Entry) : Type 0 where
   pub story : IsStory s p f e
+  -- its calls on words reply what the stores before them left, over every host
+  pub words : AreWordReplies p.words e.calls e.replies
   pub played : IsTrue s.tells → IsPlayed p (next_of s.script f e.replies) e
 
 -- its job is started

@@ -1,5 +1,6 @@
 -- Calls on words, by the words alone.
-use Rattle.std.specs.Prelude.{ℕ, Bool, true, false, List, length, nat_le, slice_index, slice_set, if◌then◌else◌}
+use Rattle.std.specs.Prelude.{◌≡◌, ℕ, Bool, true, false, List, [], ◌∷◌, length, nat_le, slice_index, slice_set, if◌then◌else◌}
+use Rattle.std.specs.List.{fold}
 use Rattle.xc_data.specs.declared.call.Call.{Call}
 use Rattle.xc_data.specs.declared.call.Call.TheVariants.{Load, Store, XWriteOvr}
 use Rattle.xc_data.specs.declared.call.Reply.{Reply}
@@ -21,6 +22,22 @@ word_reply words _ = BadWord
 abbrev pub words_after : List ℕ → Call → List ℕ
 words_after words (Store at value) = if nat_le (length words) at then words else slice_set words at value
 words_after words _ = words
+
+-- the words behind several calls
+abbrev pub words_behind : List ℕ → List Call → List ℕ
+words_behind words calls = fold words_after words calls
+
+-- each call on words has its reply, on the words behind the calls before it
+abbrev pub AreWordReplies : List ℕ → List Call → List Reply → Type 0
+AreWordReplies words [] replies = replies ≡ []
+AreWordReplies words (call ∷ calls) [] = ⊥
+AreWordReplies words (call ∷ calls) (reply ∷ replies) =
+    (is_word_call call ≡ true → reply ≡ word_reply words call) × AreWordReplies (words_after words call) calls replies
+
+-- a call with this reply leads from one list of words to another
+pub record IsWordStep (from to : List ℕ) (call : Call) (reply : Reply) : Type 0 where
+  pub words : to ≡ words_after from call
+  pub gives : is_word_call call ≡ true → reply ≡ word_reply from call
 
 -- the call that changes the host
 abbrev pub is_overwrite : Call → Bool

@@ -1,4 +1,5 @@
-ghost use Rattle.std.specs.Prelude.{◌≡◌, ◌↔◌, ℕ, Bool, ◌≤◌, ◌+◌, [], true, false, length, unwrap_or, IfOk, OnOk, OnErr, IsSome, IsTrue};
+ghost use Rattle.std.specs.Prelude.{◌≡◌, ◌↔◌, ℕ, Bool, List, ◌≤◌, ◌+◌, [], true, false, length, unwrap_or};
+ghost use Rattle.std.specs.Prelude.{IfOk, OnOk, OnErr, IsSome, IsTrue};
 ghost use Rattle.xc_data.specs.Counts.{CountsFault, CountsFaults};
 ghost use Rattle.xc_data.specs.declared.private.Private.{Private as PlainPrivate};
 ghost use Rattle.xc_file.specs.Calls.{replies_fault};
@@ -11,7 +12,7 @@ ghost use Rattle.xc_world.specs.Late.{is_late};
 ghost use Rattle.xc_world.specs.Sound.{IsSound};
 ghost use Rattle.xc_world.specs.Modes.{claims_of};
 ghost use Rattle.xc_station.specs.Doing.{IsStarving};
-ghost use Rattle.xc_station.specs.Flight.{Flight, IsActive, faults_noted};
+ghost use Rattle.xc_station.specs.Flight.{Flight, IsActive, faults_noted, HasSpoken, AreSpoken};
 ghost use Rattle.xc_station.specs.declared.job.Activity.TheVariants as PlainActivity;
 ghost use Rattle.xc_station.specs.Notes.{is_built, DoesIn, KeepsNotes, HasRoom, parts_of};
 ghost use Rattle.xc_station.specs.Playing.{IsPlayedBy};
@@ -19,7 +20,7 @@ ghost use Rattle.xc_station.specs.Progress.{Following};
 ghost use Rattle.xc_station.specs.Setting.{setting};
 ghost use Rattle.xc_station.specs.declared.rules.Rules.{Rules as PlainRules};
 ghost use Rattle.xc_station.specs.Turns.{IsSameBegin, IsNearer, IsGoing, MayGo, CanRun, AreOpenIn, HasOpenFiles, RunsOn};
-ghost use Rattle.xc_station.specs.WordCalls.{is_word_call, word_reply, words_after, is_overwrite};
+ghost use Rattle.xc_station.specs.WordCalls.{is_word_call, word_reply, words_after, is_overwrite, IsWordStep};
 
 use crate::job::{Activity, Job};
 use crate::tx::{Phase, Tx};
@@ -83,6 +84,7 @@ fn act<H: Host>(
     ensures err_undo { OnErr result (undo.new ≡ undo.old) }
     ensures err_host { IsTrue H.model.tells → OnErr result (H.model.contents host.new ≡ H.model.contents host.old) }
     ensures cause { CountsFault (replies_fault result) (H.model.fault_count host.old) (H.model.fault_count host.new) }
+    ensures spoken { IfOk result (IsWordStep (overlaid words.now writes.old) (overlaid words.now writes.new) call.now) }
     ensures does { IsTrue H.model.tells → IfOk result (DoesIn words.now (H.model.contents host.old) (H.model.contents host.new)
         (record { me = me.old; stores = writes.old; undo = undo.old })
         (record { me = me.new; stores = writes.new; undo = undo.new }) call.now) }
@@ -123,6 +125,7 @@ fn do_call<H: Host>(
     ensures err_undo { OnErr result (tx.new.undo ≡ tx.old.undo) }
     ensures err_host { IsTrue H.model.tells → OnErr result (H.model.contents host.new ≡ H.model.contents host.old) }
     ensures cause { CountsFault (replies_fault result) (H.model.fault_count host.old) (H.model.fault_count host.new) }
+    ensures spoken { IfOk result (IsWordStep (overlaid words.now tx.old.writes) (overlaid words.now tx.new.writes) call.now) }
     ensures does { IsTrue H.model.tells → IfOk result (DoesIn words.now (H.model.contents host.old) (H.model.contents host.new)
         (parts_of tx.old) (parts_of tx.new) call.now) }
 {
@@ -168,6 +171,7 @@ fn try_call<H: Host>(
         → Flight (setting script.now rules tells) f words.now entered place.old tx.old → IsSound w me (entered + 1)
         → IsPlayedBy w me words.now (H.model.contents host.old) (PlainActivity.Active tx.old)
         → IsPlayedBy w me words.now (H.model.contents host.new) (PlainActivity.Active tx.new) }
+    ensures spoken { (before : List ℕ) → HasSpoken before words.now tx.old → HasSpoken before words.now tx.new }
     ensures faults { (n before : ℕ) → CountsFaults (n + faults_noted (PlainActivity.Active tx.old)) before (H.model.fault_count host.old)
         → CountsFaults (n + faults_noted (PlainActivity.Active tx.new)) before (H.model.fault_count host.new) }
     ensures block { IsSameBegin place.old place.new }
@@ -209,6 +213,7 @@ pub fn go<H: Host>(
         → Flight (setting script.now rules tells) f words.old entered place.old tx.old → IsSound w me (entered + 1)
         → IsPlayedBy w me words.old (H.model.contents host.old) (PlainActivity.Active tx.old)
         → IsPlayedBy w me words.new (H.model.contents host.new) (PlainActivity.Active tx.new) }
+    ensures spoken { (before : List ℕ) → HasSpoken before words.old tx.old → HasSpoken before words.new tx.new }
     ensures faults { (n before : ℕ) → CountsFaults (n + faults_noted (PlainActivity.Active tx.old)) before (H.model.fault_count host.old)
         → CountsFaults (n + faults_noted (PlainActivity.Active tx.new)) before (H.model.fault_count host.new) }
     ensures words { length words.new ≡ length words.old }
@@ -255,6 +260,7 @@ pub fn run<H: Host>(
         → IsActive (setting script.now rules tells) f words.old entered spare job.place job.activity → IsSound w me (entered + 1)
         → IsPlayedBy w me words.old (H.model.contents host.old) job.activity
         → IsPlayedBy w me words.new (H.model.contents host.new) result.0.activity }
+    ensures spoken { (before : List ℕ) → AreSpoken before words.old job.activity → AreSpoken before words.new result.0.activity }
     ensures faults { (n before : ℕ) → CountsFaults (n + faults_noted job.activity) before (H.model.fault_count host.old)
         → CountsFaults (n + faults_noted result.0.activity) before (H.model.fault_count host.new) }
     ensures words { length words.new ≡ length words.old }

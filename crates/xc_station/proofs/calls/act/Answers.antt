@@ -1,4 +1,6 @@
+use Rattle.std.proofs.Common.{refl}
 use Rattle.xc_station.proofs.Doings.{file_does}
+use Rattle.xc_station.proofs.Speaking.{still_answer}
 use Rattle.xc_station.proofs.calls.act.Goals as goal
 
 pub returns-in-XOpen-clause-does : goal.returns-in-XOpen-clause-does
@@ -15,3 +17,12 @@ returns-in-XOpen-clause-cause g c = (c.x_open.ensures.call c.args.undo.now).caus
 
 pub returns-in-XRead-clause-cause : goal.returns-in-XRead-clause-cause
 returns-in-XRead-clause-cause g c = (c.x_read.ensures.call c.args.undo.now).cause
+
+pub returns-in-XOpen-clause-spoken : goal.returns-in-XOpen-clause-spoken
+returns-in-XOpen-clause-spoken g c = still_answer _ _ _ _ c.in-XOpen.is refl refl
+
+pub returns-in-XRead-clause-spoken : goal.returns-in-XRead-clause-spoken
+returns-in-XRead-clause-spoken g c = still_answer _ _ _ _ c.in-XRead.is refl refl
+
+pub returns-in-XWriteOvr-clause-spoken : goal.returns-in-XWriteOvr-clause-spoken
+returns-in-XWriteOvr-clause-spoken g c = still_answer _ _ _ _ c.in-XWriteOvr.is refl refl

@@ -1,6 +1,7 @@
 use Rattle.std.proofs.Common.{◌∙◌}
 use Rattle.xc_station.proofs.Counting.{noted_call}
 use Rattle.xc_station.proofs.Forward.{flight_noted, played_noted, played_back}
+use Rattle.xc_station.proofs.Speaking.{spoken_noted, spoken_back}
 use Rattle.xc_station.proofs.calls.try_call.Goals as goal
 
 pub returns-in-Ok-clause-flight : goal.returns-in-Ok-clause-flight
@@ -21,3 +22,11 @@ pub returns-in-Err-clause-played : goal.returns-in-Err-clause-played
 returns-in-Err-clause-played g c t w me rules tells f entered flight sound played =
     played_back _ _ _ _ _ _ _ _ _ _ _ _ c.requires.may.running c.do_call.ensures.same c.in-Err.ensures.err_undo
     (c.in-Err.ensures.err_host t) flight sound played
+
+pub returns-in-Ok-clause-spoken : goal.returns-in-Ok-clause-spoken
+returns-in-Ok-clause-spoken g c before spoken =
+    spoken_noted before _ _ _ _ _ _ _ _ c.requires.may.running c.do_call.ensures.same c.note.ensures.notes c.note.ensures.parts c.in-Ok.is
+    c.do_call.ensures.spoken spoken
+
+pub returns-in-Err-clause-spoken : goal.returns-in-Err-clause-spoken
+returns-in-Err-clause-spoken g c before spoken = spoken_back before _ _ _ _ c.requires.may.running c.do_call.ensures.same spoken

@@ -10,7 +10,7 @@ pub invariant_of-self : goal.invariant_of-self
 invariant_of-self g c =
     let doing = ap (λ v. doing_of v.job) c.self.view_is ∙ c.requires in (
       turn_running _ _ _ _ _ _ _ _ _ _ c.in-Some.ensures.value c.run-job.ensures.same.0 c.run-job.ensures.same.1 c.run-job.ensures.words
-          c.run-job.ensures.active c.run-job.ensures.played c.self.invariant.0,
+          c.run-job.ensures.active c.run-job.ensures.played c.run-job.ensures.spoken c.self.invariant.0,
       counts_running c.self.inside.journal.items c.self.inside.job c.in-Some.job c.run-job.result.0 c.self.inside.opening.faults _ _ c.in-Some.ensures.value
           c.run-job.ensures.faults c.self.invariant.1,
       c.self.invariant.2,
