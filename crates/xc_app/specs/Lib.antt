@@ -2,4 +2,5 @@ pub mod Due
 pub mod Headline
 pub mod Lines
 pub mod Outcomes
+pub mod Plain
 pub mod Status
