@@ -43,6 +43,18 @@ use Rattle.xc_station.specs.Truth.{AsksEach, IsEntry, IsStory, IsPlayed, IsAsked
 use Rattle.xc_station.specs.Truth.{AreTrue, AreInOrder, all_settled}
 use Rattle.xc_station.proofs.Bodies.{built-late}
 use Rattle.xc_station.proofs.Stories.{asks-built}
+use Rattle.std.specs.List.{position_from, fold}
+use Rattle.std.specs.Prelude.{is_some}
+use Rattle.std.proofs.lemmas.Iterator.Adapters.{position_from-zero}
+use Rattle.xc_data.specs.declared.entry.JobEnd.{JobEnd}
+use Rattle.xc_data.specs.declared.entry.JobEnd.TheVariants as job_end
+use Rattle.xc_data.specs.declared.entry.JobLine.{JobLine}
+use Rattle.xc_print.specs.Text.{text}
+use Rattle.xc_script.specs.Ask.{fresh_job, block_place}
+use Rattle.xc_station.specs.Ending.{IsEnd, AreEnds, is_done, all_done, Final, IsTrueEnd}
+use Rattle.xc_station.specs.Progress.{untried, opening_progress, progress_of}
+use Rattle.xc_station.specs.Truth.{JobsRise, IsSerial}
+use Rattle.xc_app.specs.Plain.{plain_journal, plain_text, done_lines}
 use Rattle.xc_app.specs.Plain.{Replied, replied, calls_from, outcome_of, entry_at, journal_at, journal_with, next_place, plain_from}
 
 -- ---- no faults
@@ -339,3 +351,139 @@ same_journal s p place (suc n) (e ∷ entries) told tells tries order faults set
     (untried_after s.script p f e one.started ended.0 all) (omega arith) next.1 in
     ap (λ l. e ∷ l) later ∙ ap (λ x. x ∷ more (after_entry s.script p x)) same'
     ∙ sym (ap (journal_at s.script place p more (e.job - 1)) one.started) ∙ sym (ap (journal_with s.script place p more) next.0)
+
+-- ---- which job is next
+first_from : (P : Following → Bool) (xs : List Following) (k i : ℕ) (f : Following) → slice_get xs k ≡ Some f → P f ≡ true
+    → ((j : ℕ) (g : Following) → j < k → slice_get xs j ≡ Some g → P g ≡ false) → position_from P i xs ≡ Some (i + k)
+first_from P [] k i f e is none = cc
+first_from P (x ∷ xs) zero i f e is none =
+    let here : P x ≡ true = ap (λ (o : Option Following). P (unwrap_or o f)) e ∙ is in
+    let at : i ≡ i + 0 = omega arith in
+    ap (λ b. cond b (Some i) (position_from P (i + 1) xs)) here ∙ ap Some at
+first_from P (x ∷ xs) (suc k) i f e is none =
+    let at : i + 1 + k ≡ i + suc k = omega arith in
+    ap (λ b. cond b (Some i) (position_from P (i + 1) xs)) (none 0 x (omega arith) refl)
+    ∙ first_from P xs k (i + 1) f e is (λ j g lt has. none (suc j) g (omega arith) has) ∙ ap Some at
+
+none_from : (P : Following → Bool) (xs : List Following) (i : ℕ) → ((j : ℕ) (g : Following) → slice_get xs j ≡ Some g → P g ≡ false)
+    → position_from P i xs ≡ None
+none_from P [] i none = refl
+none_from P (x ∷ xs) i none =
+    ap (λ b. cond b (Some i) (position_from P (i + 1) xs)) (none 0 x refl) ∙ none_from P xs (i + 1) (λ j g has. none (suc j) g has)
+
+-- ---- an entry leaves the other jobs
+get_set : (xs : List Following) (k i : ℕ) (g f : Following) → i < k → slice_get xs i ≡ Some f → slice_get (slice_set xs k g) i ≡ Some f
+get_set [] k i g f lt e = cc
+get_set (x ∷ xs) zero i g f lt e = absurd (omega arith)
+get_set (x ∷ xs) (suc k) zero g f lt e = e
+get_set (x ∷ xs) (suc k) (suc i) g f lt e = get_set xs k i g f (omega arith) e
+
+get_append : (a b : List Following) (i : ℕ) (f : Following) → slice_get a i ≡ Some f → slice_get (a ++ b) i ≡ Some f
+get_append [] b i f e = cc
+get_append (x ∷ a) b zero f e = e
+get_append (x ∷ a) b (suc i) f e = get_append a b i f e
+
+outcome_leaves : (script : Script) (p : Progress) (f : Following) (e : Entry) (o : Outcome) (i : ℕ) (g : Following) → i < e.job - 1
+    → slice_get p.jobs i ≡ Some g → slice_get (after_outcome script p f e o).jobs i ≡ Some g
+outcome_leaves script p f e (Committed late) i g lt has =
+    get_append _ _ i g (get_set p.jobs (e.job - 1) i (untried f.block (passed script f.job e.replies) (p.entered + 1)) g lt has)
+outcome_leaves script p f e (Aborted report) i g lt has = get_set p.jobs (e.job - 1) i (following_abort p.entered f e report.cause) g lt has
+
+following_leaves : (script : Script) (p : Progress) (e : Entry) (o : Option Following) (i : ℕ) (g : Following) → i < e.job - 1
+    → slice_get p.jobs i ≡ Some g → slice_get (after_following script p e o).jobs i ≡ Some g
+following_leaves script p e None i g lt has = has
+following_leaves script p e (Some f) i g lt has = outcome_leaves script p f e e.outcome i g lt has
+
+-- the jobs of these entries have at least this number
+abbrev pub AreFrom : ℕ → List Entry → Type 0
+AreFrom k [] = Unit {0}
+AreFrom k (e ∷ entries) = (k ≤ e.job) × AreFrom k entries
+
+-- the numbers of the jobs never fall
+abbrev pub Rise : List Entry → Type 0
+Rise [] = Unit {0}
+Rise (e ∷ entries) = AreFrom e.job entries × Rise entries
+
+are_from : (k : ℕ) (entries : List Entry) → ((j : ℕ) (b : Entry) → slice_get entries j ≡ Some b → k ≤ b.job) → AreFrom k entries
+are_from k [] all = tt
+are_from k (e ∷ entries) all = (all 0 e refl, are_from k entries (λ j b has. all (suc j) b has))
+
+rise : (entries : List Entry) → JobsRise entries → Rise entries
+rise [] all = tt
+rise (e ∷ entries) all =
+    (are_from e.job entries (λ j b has. all 0 (suc j) e b refl has (omega arith)),
+    rise entries (λ i j a b at to lt. all (suc i) (suc j) a b at to (omega arith)))
+
+others_stay : (script : Script) (p : Progress) (entries : List Entry) (k i : ℕ) (g : Following) → AreFrom k entries → i < k - 1
+    → slice_get p.jobs i ≡ Some g → slice_get (fold (after_entry script) p entries).jobs i ≡ Some g
+others_stay script p [] k i g from lt has = has
+others_stay script p (e ∷ entries) k i g from lt has =
+    let here = from.0 in
+    others_stay script (after_entry script p e) entries k i g from.1 lt (following_leaves script p e (following_of p e) i g (omega arith) has)
+
+-- these jobs have no transaction left
+abbrev pub AreOver : Script → List Following → Type 0
+AreOver script jobs = (i : ℕ) (g : Following) → slice_get jobs i ≡ Some g → is_some (next_body script g.job) ≡ false
+
+-- where at the end no job has a transaction left, each entry is of the first job that has
+pub are_next : (s : Setting) (p : Progress) (entries : List Entry) → AreTrue s p entries → Rise entries
+    → AreOver s.script (fold (after_entry s.script) p entries).jobs → AreNext s.script p entries
+are_next s p [] told up over =
+    let P = λ (f : Following). is_some (next_body s.script f.job) in position_from-zero P p.jobs ∙ none_from P p.jobs 0 over
+are_next s p (e ∷ entries) told up over =
+    let P = λ (f : Following). is_some (next_body s.script f.job) in
+    let one = told.0 in
+    let less : AreFrom e.job (e ∷ entries) = (omega arith, up.0) in
+    let at : 0 + (e.job - 1) ≡ e.job - 1 = omega arith in
+    (position_from-zero P p.jobs
+    ∙ first_from P p.jobs (e.job - 1) 0 one.following one.started one.entry.story.left
+    (λ j g lt has. over j g (others_stay s.script p (e ∷ entries) e.job j g less lt has))
+    ∙ ap Some at,
+    are_next s (after_entry s.script p e) entries told.1 up.1 over)
+
+-- ---- the end
+end_is : (d : JobEnd) → is_done d ≡ true → d ≡ job_end.Done
+end_is job_end.Done e = refl
+end_is _ e = cc
+
+ends_over : (s : Setting) (n : ℕ) (jobs : List Following) (lines : List JobLine) → AreEnds s n jobs lines → all_done lines ≡ true → AreOver s.script jobs
+ends_over s n [] lines ends done i g has = cc
+ends_over s n (f ∷ jobs) [] ends done i g has = absurd ends
+ends_over s n (f ∷ jobs) (line ∷ lines) ends done zero g has =
+    let parts = both_true (is_done line.end) (all_done lines) done in
+    let over = subst (λ d. IsEnd s n f d) (end_is line.end parts.0) ends.0.end in
+    let same : f ≡ g = ap (λ (o : Option Following). unwrap_or o f) has in
+    subst (λ (x : Following). is_some (next_body s.script x.job) ≡ false) same (ap is_some over.1)
+ends_over s n (f ∷ jobs) (line ∷ lines) ends done (suc i) g has =
+    ends_over s n jobs lines ends.1 (both_true (is_done line.end) (all_done lines) done).1 i g has
+
+lines_of : (lines : List JobLine) → all_done lines ≡ true
+    → lines ≡ map (λ (block : List ℕ). record { block = block; end = job_end.Done }) (map (λ (line : JobLine). line.block) lines)
+lines_of [] done = refl
+lines_of (line ∷ lines) done =
+    let parts = both_true (is_done line.end) (all_done lines) done in
+    let end = end_is line.end parts.0 in
+    let here : line ≡ record { block = line.block; end = job_end.Done } = λ i. record { block = line.block; end = end i } in
+    ap₂ (λ (l : JobLine) (ls : List JobLine). l ∷ ls) here (lines_of lines parts.1)
+
+untried_opening : (script : Script) (names : List (List ℕ)) → AreUntried (map (λ name. untried name (fresh_job (block_place script name)) 0) names)
+untried_opening script [] = tt
+untried_opening script (name ∷ names) = (refl, untried_opening script names)
+
+-- the text of a run whose jobs ran one after another, each to its end, where no call met a fault, is the plain one
+pub plain_end : (s : Setting) (entries : List Entry) (final : Final) → IsTrueEnd s entries final → IsSerial entries → IsTrue s.tells
+    → 1 ≤ s.rules.undo_tries → length entries ≤ 1000 → sum_by entry_faults entries ≡ 0 → all_done final.lines ≡ true
+    → text entries final.lines final.words ≡ plain_text s.script
+plain_end s entries final whole serial tells tries few faults done =
+    let opening = opening_progress s.script in
+    let over = ends_over s (length entries) (progress_of s.script entries).jobs final.lines whole.ends done in
+    let next = are_next s opening entries whole.journal.entries (rise entries serial.jobs) over in
+    let same : entries ≡ plain_journal s.script =
+    same_journal s opening 0 1000 entries whole.journal.entries tells tries serial.order faults (whole.complete done).settled
+    (untried_opening s.script s.script.plain.jobs) few next in
+    let state = (progress_of s.script entries).state in
+    let ended = whole.state tells in
+    let lines : final.lines ≡ done_lines state =
+    lines_of final.lines done ∙ ap (map (λ (block : List ℕ). record { block = block; end = job_end.Done })) ended.blocks in
+    ap₂ (text entries) lines ended.words
+    ∙ ap (λ (journal : List Entry). text journal (done_lines (progress_of s.script journal).state) (progress_of s.script journal).state.world.words) same
