@@ -39,7 +39,8 @@ use Rattle.xc_station.specs.Setting.{Setting}
 use Rattle.xc_station.specs.Progress.{Following, Progress, private_of, body_of, run_of, kept_of, started_blocks, started_job}
 use Rattle.xc_station.specs.Progress.{following_abort, after_following, after_outcome, following_of, after_entry}
 use Rattle.xc_script.specs.Ask.{Job, passed, next_body}
-use Rattle.xc_station.specs.Truth.{AsksEach, IsEntry, IsStory, IsPlayed, IsAskedFor, IsHeld, IsHeldAt, IsPlayedOutcome, IsCauseOf, AreRecords, is_asked, is_settled, next_of}
+use Rattle.xc_station.specs.Truth.{AsksEach, IsEntry, IsStory, IsPlayed, IsAskedFor, IsHeld}
+use Rattle.xc_station.specs.Truth.{IsHeldAt, IsPlayedOutcome, IsCauseOf, AreRecords, is_asked, is_settled, next_of}
 use Rattle.xc_station.specs.Truth.{AreTrue, AreInOrder, all_settled}
 use Rattle.xc_station.proofs.Bodies.{built-late}
 use Rattle.xc_station.proofs.Stories.{asks-built}
@@ -116,7 +117,7 @@ same_calls zero w me tx walk (c ∷ calls) (r ∷ replies) le asked same none en
     absurd (none_asked walk.variables walk.stored walk.left c asked.0 le)
 same_calls (suc n) w me tx walk [] replies le asked same none end =
     none_replied w me tx (λ (world : World) (now : Private) (reply : Reply). calls_from n world now tx (answered walk reply)) (asks walk)
-     (sym (ap (λ rs. asks_call (asks (all_answered walk rs))) asked) ∙ end)
+    (sym (ap (λ rs. asks_call (asks (all_answered walk rs))) asked) ∙ end)
 same_calls (suc n) w me tx walk (c ∷ calls) [] le asked same none end = absurd asked
 same_calls (suc n) w me tx walk (c ∷ calls) (r ∷ replies) le asked same none end =
     let faults = no_count is_fault_reply r replies none in
@@ -144,13 +145,14 @@ none_late w me tx walk (c ∷ calls) (r ∷ replies) asked =
     ∙ ap₂ (λ (a b : List LateCall). a ++ b) (built-late c me s.reply (asks-built walk c asked.0))
     (none_late s.world s.me tx (answered walk r) calls replies asked.1)
 
--- what the calls and the replies of these pairs are
+-- the calls of these pairs are the calls
 pub calls_of_pairs : (walk : Walk) (calls : List Call) (replies : List Reply) → AsksEach walk calls replies
     → map (λ (c : Replied). c.0) (pairs calls replies) ≡ calls
 calls_of_pairs walk [] replies asked = refl
 calls_of_pairs walk (c ∷ calls) [] asked = absurd asked
 calls_of_pairs walk (c ∷ calls) (r ∷ replies) asked = ap (λ l. c ∷ l) (calls_of_pairs (answered walk r) calls replies asked.1)
 
+-- and the replies are these
 pub replies_of_pairs : (walk : Walk) (calls : List Call) (replies : List Reply) → AsksEach walk calls replies
     → map (λ (c : Replied). c.1) (pairs calls replies) ≡ replies
 replies_of_pairs walk [] replies asked = sym asked
@@ -410,9 +412,10 @@ are_from k (e ∷ entries) all = (all 0 e refl, are_from k entries (λ j b has. 
 
 rise : (entries : List Entry) → JobsRise entries → Rise entries
 rise [] all = tt
-rise (e ∷ entries) all =
-    (are_from e.job entries (λ j b has. all 0 (suc j) e b refl has (omega arith)),
-    rise entries (λ i j a b at to lt. all (suc i) (suc j) a b at to (omega arith)))
+rise (e ∷ entries) all = (
+  are_from e.job entries (λ j b has. all 0 (suc j) e b refl has (omega arith)),
+  rise entries (λ i j a b at to lt. all (suc i) (suc j) a b at to (omega arith)),
+)
 
 others_stay : (script : Script) (p : Progress) (entries : List Entry) (k i : ℕ) (g : Following) → AreFrom k entries → i < k - 1
     → slice_get p.jobs i ≡ Some g → slice_get (fold (after_entry script) p entries).jobs i ≡ Some g
@@ -434,12 +437,13 @@ are_next s p (e ∷ entries) told up over =
     let P = λ (f : Following). is_some (next_body s.script f.job) in
     let one = told.0 in
     let less : AreFrom e.job (e ∷ entries) = (omega arith, up.0) in
-    let at : 0 + (e.job - 1) ≡ e.job - 1 = omega arith in
-    (position_from-zero P p.jobs
-    ∙ first_from P p.jobs (e.job - 1) 0 one.following one.started one.entry.story.left
-    (λ j g lt has. over j g (others_stay s.script p (e ∷ entries) e.job j g less lt has))
-    ∙ ap Some at,
-    are_next s (after_entry s.script p e) entries told.1 up.1 over)
+    let at : 0 + (e.job - 1) ≡ e.job - 1 = omega arith in (
+      position_from-zero P p.jobs
+          ∙ first_from P p.jobs (e.job - 1) 0 one.following one.started one.entry.story.left
+          (λ j g lt has. over j g (others_stay s.script p (e ∷ entries) e.job j g less lt has))
+          ∙ ap Some at,
+      are_next s (after_entry s.script p e) entries told.1 up.1 over,
+    )
 
 -- ---- the end
 end_is : (d : JobEnd) → is_done d ≡ true → d ≡ job_end.Done

@@ -1,5 +1,5 @@
 -- What a run promises, in the words of the plain machine alone.
-use Rattle.std.specs.Prelude.{◌≡◌, ℕ, ◌<◌, ◌↔◌, ◌⊎◌, ◌&&◌, Bool, true, false, not, List, take, sum_by, Option, Ok, Err}
+use Rattle.std.specs.Prelude.{◌≡◌, ℕ, ◌<◌, ◌↔◌, ◌⊎◌, ◌&&◌, Bool, true, false, not, List, take, sum_by, IsTrue, Option, Ok, Err}
 use Rattle.std.specs.declared.option.Option.TheVariants.{None, Some}
 use Rattle.std.specs.List.{list_any}
 use Rattle.xc_data.specs.declared.entry.JobEnd.{JobEnd}
@@ -14,11 +14,12 @@ use Rattle.xc_edge.specs.Told.{Told, HasFailed}
 use Rattle.xc_print.specs.Text.{text}
 use Rattle.xc_station.specs.declared.rules.End.{End}
 use Rattle.xc_station.specs.declared.rules.Rules.{Rules}
-use Rattle.xc_station.specs.Ending.{Final, IsTrueEnd, IsComplete}
+use Rattle.xc_station.specs.Ending.{Final, IsTrueEnd, IsComplete, all_done}
 use Rattle.xc_station.specs.Setting.{setting}
 use Rattle.xc_station.specs.Truth.{IsSerial}
 use Rattle.xc_text.specs.declared.why.Why.{Why}
 use Rattle.xc_text.specs.Scripts.{parse_of}
+use Rattle.xc_app.specs.Plain.{plain_text}
 use Rattle.xc_app.specs.declared.finish.Finish.{Finish}
 use Rattle.xc_app.specs.declared.finish.Status.{Status}
 use Rattle.xc_app.specs.declared.finish.Status.TheVariants as status
@@ -58,6 +59,10 @@ default_rules = record { attempts = 100; patience = 10000; undo_tries = 3 }
 abbrev pub final_of : {H : Type 0} → HostModel H → End H → Final
 final_of model end = record { words = end.words; contents = model.contents end.host; lines = end.jobs }
 
+-- the text of a run's end
+abbrev pub end_text : {H : Type 0} → End H → List ℕ
+end_text end = text end.journal.items end.jobs end.words
+
 -- the end of a run by these rules over the host that was handed in
 pub record IsRunOver {H : Type 0} (model : HostModel H) (rules : Rules) (host : H) (end : End H) : Type 0 where
   pub scripted : is_refused_by model.takes_scripts end.opening.script ≡ false
@@ -68,6 +73,9 @@ pub record IsRunOver {H : Type 0} (model : HostModel H) (rules : Rules) (host : 
   pub serial : IsSerial end.journal.items
   -- the host's count rose by the recorded faults, and stayed where none is recorded
   pub counted : CountsFaults (sum_by entry_faults end.journal.items) (model.fault_count host) (model.fault_count end.host)
+  -- where the host tells, no fault is recorded and each job was done, the text is that of the script alone
+  pub plain : IsTrue model.tells → sum_by entry_faults end.journal.items ≡ 0 → all_done end.jobs ≡ true
+      → end_text end ≡ plain_text end.opening.script
 
 -- the bytes are a script, and this is the end of its run
 abbrev pub IsRunOf : {H : Type 0} → HostModel H → List ℕ → Rules → H → End H → Type 0
@@ -120,10 +128,6 @@ is_starved line = is_memory line.end
 -- some job ended for want of memory
 abbrev pub starves : {H : Type 0} → End H → Bool
 starves end = list_any is_starved end.jobs
-
--- the text of a run's end
-abbrev pub end_text : {H : Type 0} → End H → List ℕ
-end_text end = text end.journal.items end.jobs end.words
 
 -- what is due with a status and an end
 abbrev pub IsDueWithEnd : {H : Type 0} → Status → End H → List ℕ → Type 0
