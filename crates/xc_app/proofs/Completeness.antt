@@ -1,26 +1,29 @@
 -- A told script that is read without a fault is run.
-use Rattle.std.proofs.Common.{◌≡◌, rules, ℕ, ◌<◌, ◌≤◌, List, [], ◌∷◌, ◌++◌, length, take, zero, suc, refl, ap, sym, ◌∙◌, arith, ◌⊎◌, inl, inr}
+use Rattle.std.proofs.Common.{◌≡◌, rules, ℕ, ◌<◌, ◌≤◌, List, [], ◌∷◌, ◌++◌, length, take, zero, suc, refl, ap, sym, ◌∙◌, subst, arith, ◌⊎◌, inl, inr}
 use Rattle.std.specs.Prelude.{Option, Result, Ok, Err}
 use Rattle.std.specs.declared.option.Option.TheVariants.{None, Some}
-use Rattle.std.specs.Prelude.{Bool, true, false, ◌||◌, ◌&&◌, IfSome}
+use Rattle.std.specs.Prelude.{Bool, true, false, ◌||◌, ◌&&◌, IfSome, IsTrue}
 use Rattle.std.specs.List.{list_any}
 use Rattle.xc_data.specs.declared.entry.JobEnd.{JobEnd}
 use Rattle.xc_data.specs.declared.entry.JobEnd.TheVariants as job_end
 use Rattle.xc_data.specs.declared.entry.JobLine.{JobLine}
-use Rattle.xc_station.specs.declared.rules.Rules.{Rules}
-use Rattle.xc_station.specs.Setting.{Setting, setting}
-use Rattle.xc_station.specs.Ending.{IsEnd, AreEnds, is_done, all_done}
-use Rattle.xc_station.specs.Progress.{Following, progress_of}
+use Rattle.xc_settings.specs.declared.chosen.Chosen.{Chosen}
+use Rattle.xc_settings.specs.Options.{settings_of}
+use Rattle.xc_story.specs.Setting.{Setting, setting}
+use Rattle.xc_story.specs.Ending.{IsEnd, AreEnds, is_done, all_done}
+use Rattle.xc_story.specs.Progress.{Following, progress_of}
 use Rattle.std.specs.Io.KnownBytes.{Consumes, IsAtEnd}
-use Rattle.xc_station.specs.declared.rules.End.{End}
+use Rattle.xc_station.specs.declared.start.End.{End}
 use Rattle.xc_text.specs.declared.why.Why.{Why}
 use Rattle.xc_text.specs.declared.script.Script.{Script}
 use Rattle.xc_text.specs.Scripts.{parse_of}
 use Rattle.xc_app.specs.declared.finish.Status.{Status}
 use Rattle.xc_app.specs.declared.finish.Status.TheVariants as status
+use Rattle.xc_edge.specs.Streams.{AppendsWhole}
 use Rattle.xc_edge.specs.Told.{Told}
 use Rattle.xc_host.specs.Model.{HostModel}
-use Rattle.xc_app.specs.Headline.{IsRead, IsRefusal, is_refused_by, IsUnscripted, AreScript, IsCaused, IsDue, IsRun, IsDoneWith, is_memory, is_starved}
+use Rattle.xc_app.specs.Headline.{IsRead, IsRefusal, is_refused_by, IsUnscripted, AreScript, IsCaused, IsDone, IsDue, IsRun, IsDoneWith, IsSaidPlainly}
+use Rattle.xc_app.specs.Headline.{is_memory, is_starved, is_given_up, gives_up}
 use Rattle.xc_app.specs.Outcomes.{IsOfBytes}
 
 take_all : (n : ℕ) (bytes : List ℕ) → length bytes ≤ n → take n bytes ≡ bytes
@@ -90,60 +93,97 @@ never_unscripted takes old new script (bytes, other, came, e, refused) =
     cc
 
 -- the status of bytes that were read has its cause
-pub caused_by_bytes : (words : ℕ) (takes : Bool) (old new : Told) (s : Status) → words ≡ 0 → IsOfBytes s
-    → ((line : ℕ) (why : Why) → s ≡ status.Refused line why → IsRefusal old new line why)
+pub caused_by_bytes : (words : List (List ℕ)) (chosen : Chosen) (takes : Bool) (old new : Told) (s : Status) → settings_of words ≡ Some chosen
+    → IsOfBytes s → ((line : ℕ) (why : Why) → s ≡ status.Refused line why → IsRefusal old new line why)
     → (s ≡ status.NotScripted → IsUnscripted takes old new) → IsCaused words takes old new s
-caused_by_bytes words takes old new status.Done none answer refused unscripted = search (rules, none)
-caused_by_bytes words takes old new (status.Refused line why) none answer refused unscripted = record {
-  usage = (λ e. let no : status.Refused line why ≡ status.Usage = e in cc, λ some. absurd (omega arith));
+caused_by_bytes words chosen takes old new s chose answer refused unscripted = record {
+  usage = λ e. absurd (no_usage s answer e);
+  refused_words = λ none. absurd (chooses chosen (sym chose ∙ none));
   refused = refused;
   unscripted = unscripted;
-  read_fault = λ e. let no : status.Refused line why ≡ status.ReadFault = e in cc;
-  complete = λ _ _ script. absurd (never_refused takes old new line why script (refused line why refl));
-}
-caused_by_bytes words takes old new status.NotScripted none answer refused unscripted = record {
-  usage = (λ e. let no : status.NotScripted ≡ status.Usage = e in cc, λ some. absurd (omega arith));
-  refused = refused;
-  unscripted = unscripted;
-  read_fault = λ e. let no : status.NotScripted ≡ status.ReadFault = e in cc;
-  complete = λ _ _ script. absurd (never_unscripted takes old new script (unscripted refl));
-}
-caused_by_bytes words takes old new status.NoMemory none answer refused unscripted = search (rules, none)
-caused_by_bytes words takes old new status.Usage none answer refused unscripted = absurd answer
-caused_by_bytes words takes old new status.ReadFault none answer refused unscripted = absurd answer
-caused_by_bytes words takes old new status.WriteFault none answer refused unscripted = absurd answer
+  read_fault = λ e. absurd (no_fault s answer e);
+  complete = λ _ _ script. done_of takes old new s answer refused unscripted script;
+} where
+  chooses : (c : Chosen) → Some c ≡ None → ⊥
+  chooses c e = cc
+
+  no_usage : (s : Status) → IsOfBytes s → s ≡ status.Usage → ⊥
+  no_usage s answer e = subst IsOfBytes e answer
+
+  no_fault : (s : Status) → IsOfBytes s → s ≡ status.ReadFault → ⊥
+  no_fault s answer e = subst IsOfBytes e answer
+
+  done_of : (takes : Bool) (old new : Told) (s : Status) → IsOfBytes s → ((line : ℕ) (why : Why) → s ≡ status.Refused line why → IsRefusal old new line why)
+      → (s ≡ status.NotScripted → IsUnscripted takes old new) → AreScript takes old.bytes → IsDone s
+  done_of takes old new status.Done answer refused unscripted script = tt
+  done_of takes old new status.GaveUp answer refused unscripted script = tt
+  done_of takes old new status.NoMemory answer refused unscripted script = tt
+  done_of takes old new (status.Refused line why) answer refused unscripted script = absurd (never_refused takes old new line why script
+      (refused line why refl))
+  done_of takes old new status.NotScripted answer refused unscripted script = absurd (never_unscripted takes old new script (unscripted refl))
+  done_of takes old new status.Usage answer refused unscripted script = absurd answer
+  done_of takes old new status.ReadFault answer refused unscripted script = absurd answer
+  done_of takes old new status.WriteFault answer refused unscripted script = absurd answer
 
 -- ---- a run that is done
 or_false : (a b : Bool) → a || b ≡ false → (a ≡ false) × (b ≡ false)
 or_false true b h = let no : true ≡ false = h in cc
 or_false false b h = (refl, h)
 
-done_end : (s : Setting) (entries : ℕ) (f : Following) (end : JobEnd) → IsEnd s entries f end → is_memory end ≡ false → is_done end ≡ true
-done_end s entries f job_end.Done h e = refl
-done_end s entries f (job_end.GaveUp c) h e = absurd h
-done_end s entries f job_end.JournalFull h e = absurd h
-done_end s entries f job_end.NoMemory h e = cc
+done_end : (s : Setting) (entries : ℕ) (f : Following) (end : JobEnd) → IsEnd s entries f end → is_memory end ≡ false → is_given_up end ≡ false
+    → is_done end ≡ true
+done_end s entries f job_end.Done h e d = refl
+done_end s entries f (job_end.GaveUp c) h e d = cc
+done_end s entries f job_end.JournalFull h e d = cc
+done_end s entries f job_end.NoMemory h e d = cc
 
--- where no job starved, each ended by its last transaction
+-- where no job starved and none gave up, each ended by its last transaction
 all_done_of : (s : Setting) (entries : ℕ) (jobs : List Following) (lines : List JobLine) → AreEnds s entries jobs lines
-    → list_any is_starved lines ≡ false → all_done lines ≡ true
-all_done_of s entries [] lines h e = ap all_done h
-all_done_of s entries (f ∷ jobs) [] h e = absurd h
-all_done_of s entries (f ∷ jobs) (line ∷ lines) h e =
+    → list_any is_starved lines ≡ false → list_any gives_up lines ≡ false → all_done lines ≡ true
+all_done_of s entries [] lines h e d = ap all_done h
+all_done_of s entries (f ∷ jobs) [] h e d = absurd h
+all_done_of s entries (f ∷ jobs) (line ∷ lines) h e d =
     let parts = or_false (is_starved line) (list_any is_starved lines) e in
-    ap (λ b. b && all_done lines) (done_end s entries f line.end h.0.end parts.0) ∙ all_done_of s entries jobs lines h.1 parts.1
+    let left = or_false (gives_up line) (list_any gives_up lines) d in
+    ap (λ b. b && all_done lines) (done_end s entries f line.end h.0.end parts.0 left.0) ∙ all_done_of s entries jobs lines h.1 parts.1 left.1
 
--- a run whose whole text is due without a starved job is done
-pub done_with : {H : Type 0} (model : HostModel H) (old new : Told) (by_rules : Rules) (host : H) (s : Status) (o : Option (End H)) (due : List ℕ)
-    → IsDue s o due → IfSome o (IsRun model old new by_rules host) → IsDoneWith s o
-done_with model old new by_rules host status.Done None due h run = h
-done_with model old new by_rules host status.Done (Some end) due h (bytes, came, (read, run)) =
+-- a run whose whole text is due, without a job that starved or gave up, is done
+pub done_with : {H : Type 0} (model : HostModel H) (words : List (List ℕ)) (old new : Told) (host : H) (s : Status) (o : Option (End H)) (due : List ℕ)
+    → IsDue s o due → IfSome o (IsRun model words old new host) → IsDoneWith s o
+done_with model words old new host status.Done None due h run = h
+done_with model words old new host status.Done (Some end) due h (chosen, chose, bytes, came, (read, run)) =
     let whole = run.whole in
-    let s = setting end.opening.script by_rules model.tells in
-    whole.complete (all_done_of s (length end.journal.items) (progress_of end.opening.script end.journal.items).jobs end.jobs whole.ends h.1)
-done_with model old new by_rules host (status.Refused line why) o due h run = tt
-done_with model old new by_rules host status.Usage o due h run = tt
-done_with model old new by_rules host status.ReadFault o due h run = tt
-done_with model old new by_rules host status.WriteFault o due h run = tt
-done_with model old new by_rules host status.NotScripted o due h run = tt
-done_with model old new by_rules host status.NoMemory o due h run = tt
+    let s = setting end.opening.script chosen.rules model.tells in
+    whole.complete
+    (all_done_of s (length end.journal.items) (progress_of end.opening.script end.journal.items).jobs end.jobs whole.ends h.1 h.2)
+done_with model words old new host status.GaveUp o due h run = tt
+done_with model words old new host (status.Refused line why) o due h run = tt
+done_with model words old new host status.Usage o due h run = tt
+done_with model words old new host status.ReadFault o due h run = tt
+done_with model words old new host status.WriteFault o due h run = tt
+done_with model words old new host status.NotScripted o due h run = tt
+done_with model words old new host status.NoMemory o due h run = tt
+
+same_choice : (a b : Chosen) (o : Option Chosen) → o ≡ Some a → o ≡ Some b → a ≡ b
+same_choice a b o one two = let both : Some a ≡ Some b = sym one ∙ two in cc both
+
+-- what a run that is done has written is the text of its script alone
+pub plainly : {H : Type 0} (model : HostModel H) (words : List (List ℕ)) (old new : Told) (host : H) (s : Status) (o : Option (End H)) (due : List ℕ)
+    (before after : Told) → IsDue s o due → IfSome o (IsRun model words old new host) → AppendsWhole before after due → IsTrue model.tells
+    → s ≡ status.Done → IfSome o (IsSaidPlainly words before after)
+plainly model words old new host status.Done None due before after h run wrote tells is = tt
+plainly model words old new host status.Done (Some end) due before after h (by, chose, bytes, came, (read, run)) wrote tells is =
+    λ chosen again none faults.
+    let one : by ≡ chosen = same_choice by chosen (settings_of words) chose again in
+    let whole = run.whole in
+    let s = setting end.opening.script by.rules model.tells in
+    let done = all_done_of s (length end.journal.items) (progress_of end.opening.script end.journal.items).jobs end.jobs whole.ends h.1 h.2 in
+    let plain = run.plain (ap (λ (c : Chosen). c.schedule) one ∙ none) tells faults done in
+    subst (AppendsWhole before after) (h.0 ∙ plain) wrote
+plainly model words old new host (status.Refused line why) o due before after h run wrote tells is = cc is
+plainly model words old new host status.Usage o due before after h run wrote tells is = cc is
+plainly model words old new host status.ReadFault o due before after h run wrote tells is = cc is
+plainly model words old new host status.WriteFault o due before after h run wrote tells is = cc is
+plainly model words old new host status.NotScripted o due before after h run wrote tells is = cc is
+plainly model words old new host status.GaveUp o due before after h run wrote tells is = cc is
+plainly model words old new host status.NoMemory o due before after h run wrote tells is = cc is

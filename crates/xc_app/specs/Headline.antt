@@ -1,5 +1,5 @@
 -- What a run promises, in the words of the plain machine alone.
-use Rattle.std.specs.Prelude.{◌≡◌, ℕ, ◌<◌, ◌↔◌, ◌⊎◌, ◌&&◌, Bool, true, false, not, List, take, sum_by, IsTrue, Option, Ok, Err}
+use Rattle.std.specs.Prelude.{◌≡◌, ℕ, ◌⊎◌, ◌&&◌, Bool, true, false, not, List, take, sum_by, IsSome, IsTrue, Option, Ok, Err}
 use Rattle.std.specs.declared.option.Option.TheVariants.{None, Some}
 use Rattle.std.specs.List.{list_any}
 use Rattle.xc_data.specs.declared.entry.JobEnd.{JobEnd}
@@ -12,14 +12,15 @@ use Rattle.xc_text.specs.declared.script.Script.{Script}
 use Rattle.xc_edge.specs.Streams.{Came, AppendsPart, AppendsWhole}
 use Rattle.xc_edge.specs.Told.{Told, HasFailed}
 use Rattle.xc_print.specs.Text.{text}
-use Rattle.xc_station.specs.declared.rules.End.{End}
-use Rattle.xc_station.specs.declared.rules.Rules.{Rules}
-use Rattle.xc_station.specs.Ending.{Final, IsTrueEnd, IsComplete, all_done}
-use Rattle.xc_station.specs.Setting.{setting}
-use Rattle.xc_station.specs.Truth.{IsSerial}
+use Rattle.xc_station.specs.declared.start.End.{End}
+use Rattle.xc_settings.specs.declared.chosen.Chosen.{Chosen}
+use Rattle.xc_settings.specs.Options.{settings_of}
+use Rattle.xc_story.specs.Ending.{Final, IsTrueEnd, IsComplete, all_done}
+use Rattle.xc_story.specs.Setting.{setting}
+use Rattle.xc_story.specs.Truth.{IsSerial}
 use Rattle.xc_text.specs.declared.why.Why.{Why}
 use Rattle.xc_text.specs.Scripts.{parse_of}
-use Rattle.xc_app.specs.Plain.{plain_text}
+use Rattle.xc_plain.specs.Plain.{plain_text}
 use Rattle.xc_app.specs.declared.finish.Finish.{Finish}
 use Rattle.xc_app.specs.declared.finish.Status.{Status}
 use Rattle.xc_app.specs.declared.finish.Status.TheVariants as status
@@ -51,10 +52,6 @@ AreScript takes_scripts (Some bytes) =
     (script : Script) × (parse_of (take 1048577 bytes) ≡ Ok script) × (is_refused_by takes_scripts script ≡ false)
 
 -- ---- the run
--- the rules where no word sets another
-abbrev pub default_rules : Rules
-default_rules = record { attempts = 100; patience = 10000; undo_tries = 3 }
-
 -- what a run leaves beside its journal
 abbrev pub final_of : {H : Type 0} → HostModel H → End H → Final
 final_of model end = record { words = end.words; contents = model.contents end.host; lines = end.jobs }
@@ -63,27 +60,28 @@ final_of model end = record { words = end.words; contents = model.contents end.h
 abbrev pub end_text : {H : Type 0} → End H → List ℕ
 end_text end = text end.journal.items end.jobs end.words
 
--- the end of a run by these rules over the host that was handed in
-pub record IsRunOver {H : Type 0} (model : HostModel H) (rules : Rules) (host : H) (end : End H) : Type 0 where
+-- the end of a run that chose this, over the host that was handed in
+pub record IsRunOver {H : Type 0} (model : HostModel H) (chosen : Chosen) (host : H) (end : End H) : Type 0 where
   pub scripted : is_refused_by model.takes_scripts end.opening.script ≡ false
   pub faults : end.opening.faults ≡ model.fault_count host
   -- the journal is true of the script, and leads to the words, to the host's contents and to the jobs' ends
-  pub whole : IsTrueEnd (setting end.opening.script rules model.tells) end.journal.items (final_of model end)
-  -- its transactions ran one after another
-  pub serial : IsSerial end.journal.items
+  pub whole : IsTrueEnd (setting end.opening.script chosen.rules model.tells) end.journal.items (final_of model end)
+  -- with no schedule its transactions ran one after another
+  pub serial : chosen.schedule ≡ None → IsSerial end.journal.items
   -- the host's count rose by the recorded faults, and stayed where none is recorded
   pub counted : CountsFaults (sum_by entry_faults end.journal.items) (model.fault_count host) (model.fault_count end.host)
-  -- where the host tells, no fault is recorded and each job was done, the text is that of the script alone
-  pub plain : IsTrue model.tells → sum_by entry_faults end.journal.items ≡ 0 → all_done end.jobs ≡ true
+  -- with no schedule, where the host tells, no fault is recorded and each job was done, the text is that of the script alone
+  pub plain : chosen.schedule ≡ None → IsTrue model.tells → sum_by entry_faults end.journal.items ≡ 0 → all_done end.jobs ≡ true
       → end_text end ≡ plain_text end.opening.script
 
 -- the bytes are a script, and this is the end of its run
-abbrev pub IsRunOf : {H : Type 0} → HostModel H → List ℕ → Rules → H → End H → Type 0
-IsRunOf model bytes rules host end = (parse_of bytes ≡ Ok end.opening.script) × IsRunOver model rules host end
+abbrev pub IsRunOf : {H : Type 0} → HostModel H → List ℕ → Chosen → H → End H → Type 0
+IsRunOf model bytes chosen host end = (parse_of bytes ≡ Ok end.opening.script) × IsRunOver model chosen host end
 
--- bytes were read, and this is the end of their run
-abbrev pub IsRun : {H : Type 0} → HostModel H → Told → Told → Rules → H → End H → Type 0
-IsRun model old new rules host end = (bytes : List ℕ) × IsRead old new bytes × IsRunOf model bytes rules host end
+-- the words chose something, bytes were read, and this is the end of their run
+abbrev pub IsRun : {H : Type 0} → HostModel H → List (List ℕ) → Told → Told → H → End H → Type 0
+IsRun model words old new host end =
+    (chosen : Chosen) × (settings_of words ≡ Some chosen) × (bytes : List ℕ) × IsRead old new bytes × IsRunOf model bytes chosen host end
 
 -- the end of a run is there, or the host, and not both
 abbrev pub IsOneOf : {A B : Type 0} → Option A → Option B → Type 0
@@ -92,28 +90,35 @@ IsOneOf None (Some host) = Unit {0}
 IsOneOf (Some end) None = Unit {0}
 IsOneOf (Some end) (Some host) = ⊥
 
--- a run that is done has its end, and each transaction of each started job has its one entry, which is a
--- commit but where the transaction aborted itself
+-- a run that is done has its end, and each transaction of each started job has the one entry by which it was done with
 abbrev pub IsDoneWith : {H : Type 0} → Status → Option (End H) → Type 0
 IsDoneWith status.Done None = ⊥
 IsDoneWith status.Done (Some end) = IsComplete end.opening.script end.journal.items
 IsDoneWith _ end = Unit {0}
 
 -- ---- the status that is meant
--- done, or without memory
+-- done, with a job that gave up, or without memory
 abbrev pub IsDone : Status → Type 0
 IsDone status.Done = Unit {0}
+IsDone status.GaveUp = Unit {0}
 IsDone status.NoMemory = Unit {0}
 IsDone _ = ⊥
 
--- a status has its cause: in the number of words, in the host, and in the source before and after it was read
-pub record IsCaused (words : ℕ) (takes_scripts : Bool) (old new : Told) (meant : Status) : Type 0 where
-  pub usage : (meant ≡ status.Usage) ↔ (0 < words)
+-- the words are refused, but for want of memory
+abbrev pub IsUsage : Status → Type 0
+IsUsage status.Usage = Unit {0}
+IsUsage status.NoMemory = Unit {0}
+IsUsage _ = ⊥
+
+-- a status has its cause: in the words, in the host, and in the source before and after it was read
+pub record IsCaused (words : List (List ℕ)) (takes_scripts : Bool) (old new : Told) (meant : Status) : Type 0 where
+  pub usage : meant ≡ status.Usage → settings_of words ≡ None
+  pub refused_words : settings_of words ≡ None → IsUsage meant
   pub refused : (line : ℕ) (why : Why) → meant ≡ status.Refused line why → IsRefusal old new line why
   pub unscripted : meant ≡ status.NotScripted → IsUnscripted takes_scripts old new
   pub read_fault : meant ≡ status.ReadFault → HasFailed old new
-  -- with no word, no failed read and a script that the host follows the run is done, but for want of memory
-  pub complete : words ≡ 0 → (HasFailed old new → ⊥) → AreScript takes_scripts old.bytes → IsDone meant
+  -- with words that choose, no failed read and a script that the host follows the run is done, but for want of memory
+  pub complete : IsSome (settings_of words) → (HasFailed old new → ⊥) → AreScript takes_scripts old.bytes → IsDone meant
 
 -- ---- what is written
 -- a job ended for want of memory
@@ -129,9 +134,24 @@ is_starved line = is_memory line.end
 abbrev pub starves : {H : Type 0} → End H → Bool
 starves end = list_any is_starved end.jobs
 
+-- a job gave up, or found the journal full
+abbrev pub is_given_up : JobEnd → Bool
+is_given_up (job_end.GaveUp c) = true
+is_given_up job_end.JournalFull = true
+is_given_up _ = false
+
+-- the line of such a job
+abbrev pub gives_up : JobLine → Bool
+gives_up line = is_given_up line.end
+
+-- some job did
+abbrev pub gave_up : {H : Type 0} → End H → Bool
+gave_up end = list_any gives_up end.jobs
+
 -- what is due with a status and an end
 abbrev pub IsDueWithEnd : {H : Type 0} → Status → End H → List ℕ → Type 0
-IsDueWithEnd status.Done end due = (due ≡ end_text end) × (starves end ≡ false)
+IsDueWithEnd status.Done end due = (due ≡ end_text end) × (starves end ≡ false) × (gave_up end ≡ false)
+IsDueWithEnd status.GaveUp end due = (due ≡ end_text end) × (starves end ≡ false) × (gave_up end ≡ true)
 IsDueWithEnd status.NoMemory end due = (due ≡ no_memory_line) ⊎ ((due ≡ end_text end) × (starves end ≡ true))
 IsDueWithEnd _ end due = ⊥
 
@@ -157,3 +177,9 @@ IsWritten meant ends due old new =
 -- what is due with this status was written, or a front of it
 abbrev pub IsSaid : {H : Type 0} → Status → Finish H → Told → Told → Type 0
 IsSaid meant finish old new = (due : List ℕ) × IsDue meant finish.end due × IsWritten meant finish.status due old new
+
+-- with no schedule, where no fault is recorded, the text of the script alone was written
+abbrev pub IsSaidPlainly : {H : Type 0} → List (List ℕ) → Told → Told → End H → Type 0
+IsSaidPlainly words old new end =
+    (chosen : Chosen) → settings_of words ≡ Some chosen → chosen.schedule ≡ None → sum_by entry_faults end.journal.items ≡ 0
+    → AppendsWhole old new (plain_text end.opening.script)

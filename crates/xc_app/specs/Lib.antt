@@ -2,5 +2,4 @@ pub mod Due
 pub mod Headline
 pub mod Lines
 pub mod Outcomes
-pub mod Plain
 pub mod Status

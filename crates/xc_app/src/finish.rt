@@ -21,6 +21,8 @@ pub enum Status {
     WriteFault,
     /// Memory was wanting, in the run or in one of its jobs.
     NoMemory,
+    /// A job gave up after as many attempts at one transaction as are allowed, or found the journal full.
+    GaveUp,
     /// The host takes no scripts, and the script has a line for one that does.
     NotScripted,
 }
@@ -37,6 +39,7 @@ impl Status {
             Status::ReadFault => 3,
             Status::WriteFault => 4,
             Status::NoMemory => 5,
+            Status::GaveUp => 7,
             Status::NotScripted => 8,
         }
     }

@@ -3,11 +3,10 @@
 
 mod finish;
 mod lines;
-mod options;
 mod run;
 #[cfg(test)]
 mod tests;
 
 pub use finish::{Finish, LIMIT, Status};
-pub use options::{Chosen, SettingsErr, settings};
 pub use run::xcalls_run;
+pub use xc_settings::{Chosen, SettingsErr, settings};

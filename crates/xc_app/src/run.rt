@@ -1,21 +1,26 @@
-ghost use Rattle.std.specs.Prelude.{◌≡◌, ◌<◌, ◌≤◌, ℕ, Some, None, Ok, Err, IfSome, length, true, false};
+ghost use Rattle.std.specs.Prelude.{◌≡◌, ◌≤◌, ℕ, Some, None, Ok, Err, IfSome, IsTrue, length, map, string_bytes, true, if◌then◌else◌};
 ghost use Rattle.xc_data.specs.Limits.{KeepsLimits};
 ghost use Rattle.xc_text.specs.declared.script.Script.{Script};
 ghost use Rattle.xc_text.specs.declared.why.Why.{Why};
 ghost use Rattle.xc_text.specs.Scripts.{parse_of, IsScript};
+ghost use Rattle.xc_settings.specs.Options.{settings_of};
+ghost use Rattle.xc_story.specs.Alone.{AreAlone};
+ghost use Rattle.xc_story.specs.Truth.{IsSerial};
+ghost use Rattle.xc_station.specs.Stations.{KeepsOrigin, NobodyLives, now_of};
 ghost use Rattle.xc_app.specs.Due.{due_bytes};
-ghost use Rattle.xc_app.specs.Headline.{is_refused_by, default_rules, IsRun, IsRunOf, IsRunOver, IsOneOf, IsCaused, IsDoneWith};
-ghost use Rattle.xc_app.specs.Headline.{IsDue, IsDueAlone, IsSaid, starves, is_starved};
+ghost use Rattle.xc_app.specs.Headline.{is_refused_by, IsRun, IsRunOf, IsRunOver, IsOneOf, IsCaused, IsDoneWith};
+ghost use Rattle.xc_app.specs.Headline.{IsDue, IsDueAlone, IsSaid, IsSaidPlainly, starves, is_starved, gave_up, gives_up};
 ghost use Rattle.xc_app.specs.Outcomes.{IsOfBytes, IsRefusedBy, IsUnrefused};
 
 use crate::lines::refused;
-use crate::{Finish, LIMIT, Status, settings};
+use crate::{Finish, LIMIT, Status};
 use std::alloc::Global;
-use xc_data::{JobEnd, JobLine, Text};
+use xc_data::{JobEnd, JobLine, JobNumbers, Text};
 use xc_edge::{ReadErr, Sink, Source, read_up_to, write_whole};
 use xc_host::{Host, OpenErr};
 use xc_print::render;
-use xc_station::{End, NotStarted, Rules, Station, work_alone};
+use xc_settings::{Chosen, SettingsErr, settings};
+use xc_station::{End, NotStarted, Station, drain, run_schedule, work_alone};
 use xc_text::{ParseErr, Script, Why, parse};
 
 const USAGE: &str =
@@ -100,10 +105,35 @@ fn is_starved(job: &JobLine) -> bool
     matches!(job.end, JobEnd::NoMemory)
 }
 
+fn is_given_up(job: &JobLine) -> bool
+    ensures { result ≡ gives_up job.now }
+{
+    matches!(job.end, JobEnd::GaveUp(_) | JobEnd::JournalFull)
+}
+
 fn starves<H>(end: &End<H>) -> bool
     ensures { result ≡ starves end.now }
 {
     end.jobs.as_slice().iter().any(|job| is_starved(job))
+}
+
+fn gave_up<H>(end: &End<H>) -> bool
+    ensures { result ≡ gave_up end.now }
+{
+    end.jobs.as_slice().iter().any(|job| is_given_up(job))
+}
+
+// Memory first: a run in which it was wanting has that status, whatever else became of its jobs.
+fn status_of<H>(end: &End<H>) -> Status
+    ensures { result ≡ (if starves end.now then Status.NoMemory else if gave_up end.now then Status.GaveUp else Status.Done) }
+{
+    if starves(end) {
+        return Status::NoMemory;
+    }
+    if gave_up(end) {
+        return Status::GaveUp;
+    }
+    Status::Done
 }
 
 // The outcome of a run that left this.
@@ -114,7 +144,7 @@ fn of_end<H: Drop>(alloc: Global, end: End<H>) -> Outcome<H>
     ensures bytes { IsOfBytes result.status }
     ensures unrefused { IsUnrefused result.status }
 {
-    let starved = starves(&end);
+    let status = status_of(&end);
     match render(
         alloc,
         end.journal.as_slice(),
@@ -122,11 +152,7 @@ fn of_end<H: Drop>(alloc: Global, end: End<H>) -> Outcome<H>
         end.words.as_slice(),
     ) {
         Ok(text) => Outcome {
-            status: if starved {
-                Status::NoMemory
-            } else {
-                Status::Done
-            },
+            status,
             due: Due::Whole(text),
             end: Some(end),
             host: None,
@@ -155,24 +181,41 @@ fn of_refused_start<H: Drop>(not_started: NotStarted<H>) -> Outcome<H>
     }
 }
 
+// Takes the turns of all jobs: the listed ones first, and then rounds; with no list job after job. Until threads come every
+// number of workers is one.
+fn take_turns<H: Host>(station: &mut Station<H>, schedule: &Option<JobNumbers>)
+    requires { station.old.taken ≡ 0 }
+    ensures origin { KeepsOrigin station.old station.new }
+    ensures ended { NobodyLives station.new.jobs }
+    ensures serial { schedule.now ≡ None → AreAlone (now_of H.model station.old) 0 → IsSerial station.new.journal }
+{
+    match schedule {
+        Some(jobs) => {
+            run_schedule(station, jobs.as_slice());
+            drain(station);
+        }
+        None => work_alone(station),
+    }
+}
+
 // The outcome of a script's run.
-fn of_script<H: Host>(alloc: Global, host: H, script: Script, rules: Rules) -> Outcome<H>
+fn of_script<H: Host>(alloc: Global, host: H, script: Script, chosen: &Chosen) -> Outcome<H>
     requires script { IsScript script }
     requires limits { KeepsLimits script.plain }
-    requires tries { 1 ≤ rules.undo_tries }
+    requires rules { (1 ≤ chosen.now.rules.attempts) × (1 ≤ chosen.now.rules.undo_tries) }
     ensures due { IsDue result.status result.end (due_bytes result.due) }
     ensures run { IfSome result.end (λ end. (end.opening.script ≡ script)
-        × IsRunOver H.model rules host end) }
+        × IsRunOver H.model chosen.now host end) }
     ensures host { IfSome result.host (λ back. back ≡ host) }
     ensures one { IsOneOf result.end result.host }
     ensures unscripted { result.status ≡ Status.NotScripted → is_refused_by H.model.takes_scripts script ≡ true }
     ensures bytes { IsOfBytes result.status }
     ensures unrefused { IsUnrefused result.status }
 {
-    match Station::start(alloc, host, script, rules) {
+    match Station::start(alloc, host, script, chosen.rules) {
         Ok(station) => {
             let mut station = station;
-            work_alone(&mut station);
+            take_turns(&mut station, &chosen.schedule);
             of_end(alloc, station.finish())
         }
         Err(not_started) => of_refused_start(not_started),
@@ -180,10 +223,10 @@ fn of_script<H: Host>(alloc: Global, host: H, script: Script, rules: Rules) -> O
 }
 
 // The outcome of the bytes that were read.
-fn of_bytes<H: Host>(alloc: Global, host: H, bytes: &[u8], rules: Rules) -> Outcome<H>
-    requires tries { 1 ≤ rules.undo_tries }
+fn of_bytes<H: Host>(alloc: Global, host: H, bytes: &[u8], chosen: &Chosen) -> Outcome<H>
+    requires rules { (1 ≤ chosen.now.rules.attempts) × (1 ≤ chosen.now.rules.undo_tries) }
     ensures due { IsDue result.status result.end (due_bytes result.due) }
-    ensures run { IfSome result.end (IsRunOf H.model bytes.now rules host) }
+    ensures run { IfSome result.end (IsRunOf H.model bytes.now chosen.now host) }
     ensures host { IfSome result.host (λ back. back ≡ host) }
     ensures one { IsOneOf result.end result.host }
     ensures refused { (line : ℕ) (why : Why) → result.status ≡ Status.Refused line why → parse_of bytes.now ≡ Err (line, why) }
@@ -192,7 +235,7 @@ fn of_bytes<H: Host>(alloc: Global, host: H, bytes: &[u8], rules: Rules) -> Outc
     ensures bytes { IsOfBytes result.status }
 {
     match parse(alloc, bytes) {
-        Ok(script) => of_script(alloc, host, script, rules),
+        Ok(script) => of_script(alloc, host, script, chosen),
         Err(ParseErr::Refused { line, why }) => of_refusal(alloc, host, line, why),
         Err(ParseErr::NoMemory) => no_memory(host),
     }
@@ -206,18 +249,20 @@ fn decide<S: Source, H: Host>(
     host: H,
 ) -> Outcome<H>
     ensures due { IsDue result.status result.end (due_bytes result.due) }
-    ensures caused { IsCaused (length words.now) H.model.takes_scripts (S.told source.old) (S.told source.new) result.status }
-    ensures unread { 0 < length words.now → source.new ≡ source.old }
+    ensures caused { IsCaused (map string_bytes words.now) H.model.takes_scripts (S.told source.old) (S.told source.new) result.status }
+    ensures unread { settings_of (map string_bytes words.now) ≡ None → source.new ≡ source.old }
     ensures run { IfSome result.end (
-        IsRun H.model (S.told source.old) (S.told source.new) default_rules host) }
+        IsRun H.model (map string_bytes words.now) (S.told source.old) (S.told source.new) host) }
     ensures host { IfSome result.host (λ back. back ≡ host) }
     ensures one { IsOneOf result.end result.host }
 {
-    let Ok(chosen) = settings(words) else {
-        return alone(host, Status::Usage, Due::Usage);
+    let chosen = match settings(alloc, words) {
+        Ok(chosen) => chosen,
+        Err(SettingsErr::Usage) => return alone(host, Status::Usage, Due::Usage),
+        Err(SettingsErr::NoMemory) => return no_memory(host),
     };
     match read_up_to(alloc, source, LIMIT) {
-        Ok(bytes) => of_bytes(alloc, host, bytes.as_slice(), chosen.rules),
+        Ok(bytes) => of_bytes(alloc, host, bytes.as_slice(), &chosen),
         Err(ReadErr::Failed) => alone(host, Status::ReadFault, Due::ReadFault),
         Err(ReadErr::NoMemory) => no_memory(host),
     }
@@ -238,15 +283,21 @@ pub fn xcalls_run<R: AllocGlobal, S: Source, K: Sink, H: Host>(
     // A status was meant, and it has its cause. What is due with it was written, and it is the run's
     // status; or the sink failed behind a front of that. A run that is meant to be done has an entry
     // for each transaction, which committed or aborted itself.
-    ensures answered { (meant : Status) × IsCaused (length words.now) H.model.takes_scripts (S.told source.old) (S.told source.new) meant
+    ensures answered { (meant : Status) × IsCaused (map string_bytes words.now) H.model.takes_scripts (S.told source.old)
+        (S.told source.new) meant
         × IsDoneWith meant result.end × IsSaid meant result (K.told sink.old) (K.told sink.new) }
-    ensures unread { 0 < length words.now → source.new ≡ source.old }
+    ensures unread { settings_of (map string_bytes words.now) ≡ None → source.new ≡ source.old }
 
     // The headline: running the journal's committed transactions one after another on the plain
     // machine, with the recorded faults, gives the replies, the final words, the final host and the
-    // jobs' ends; aborted ones change only what their reports say remains.
+    // jobs' ends; aborted ones change only what their reports say remains, and each conflict names a holder.
     ensures run { IfSome result.end (
-        IsRun H.model (S.told source.old) (S.told source.new) default_rules host) }
+        IsRun H.model (map string_bytes words.now) (S.told source.old) (S.told source.new) host) }
+
+    // The text is a function of the script: jobs one after another, over a host that tells and met no fault, write the text
+    // of the script alone.
+    ensures plain { IsTrue H.model.tells → result.status ≡ Status.Done
+        → IfSome result.end (IsSaidPlainly (map string_bytes words.now) (K.told sink.old) (K.told sink.new)) }
 
     // Without a run the host is given back as it was handed in.
     ensures host { IfSome result.host (λ back. back ≡ host) }

@@ -1,5 +1,5 @@
 -- What a script asks next of a transaction, from the replies so far.
-use Rattle.std.specs.Prelude.{ℕ, ◌==◌, ◌+◌, ◌-◌, ◌%◌, ◌^◌, ◌||◌, Bool, true, false, nat_eq, nat_lt, if◌then◌else◌}
+use Rattle.std.specs.Prelude.{ℕ, ◌==◌, ◌+◌, ◌-◌, ◌%◌, ◌^◌, ◌||◌, Bool, true, false, not, nat_eq, nat_le, nat_lt, if◌then◌else◌}
 use Rattle.std.specs.Prelude.{List, [], ◌∷◌, Option, length, unwrap_or, slice_get, position}
 use Rattle.std.specs.List.{flat_map}
 use Rattle.std.specs.Fmt.{decimal}
@@ -19,6 +19,8 @@ use Rattle.xc_text.specs.declared.script.Item.{Item}
 use Rattle.xc_text.specs.declared.script.Item.TheVariants as item
 use Rattle.xc_text.specs.declared.script.Term.{Term}
 use Rattle.xc_text.specs.declared.script.Term.TheVariants as term
+use Rattle.xc_text.specs.declared.script.Test.{Test}
+use Rattle.xc_text.specs.declared.script.Test.TheVariants as test
 use Rattle.xc_text.specs.declared.script.Expression.{Expression}
 use Rattle.xc_text.specs.declared.script.Expression.TheVariants as expression
 use Rattle.xc_script.specs.declared.ask.Ask.{Ask}
@@ -103,24 +105,61 @@ fails_check carried _ = false
 abbrev pub stored_after : ℕ → ℕ → Reply → ℕ
 stored_after stored carried reply = if fails_check carried reply then stored else stored + carried + length (bytes_got reply)
 
--- ---- a transaction on its way: its variables, what it has stored, and the statements that are left
+-- ---- a transaction on its way: its variables, what it has stored, whether its last call was refused, and the
+-- statements that are left, of which the first one asks something
 pub record Walk : Type 0 where
   pub variables : Variables
   pub stored : ℕ
+  pub refused : Bool
   pub left : List Statement
 
+-- ---- silent statements, which ask nothing
+-- the test holds of two numbers
+abbrev pub holds : Test → ℕ → ℕ → Bool
+holds test.Equal a b = a == b
+holds test.NotEqual a b = not (a == b)
+holds test.Less a b = nat_lt a b
+holds test.AtMost a b = nat_le a b
+holds test.Greater a b = nat_lt b a
+holds test.AtLeast a b = nat_le b a
+
+-- silent are a `let`, an `abort if` whose test fails, and a `require` unless the last call was refused
+abbrev pub is_silent : Variables → Bool → Statement → Bool
+is_silent variables refused (statement.Let into e) = true
+is_silent variables refused (statement.AbortIf left test right) = not (holds test (term_value variables left) (term_value variables right))
+is_silent variables refused statement.Require = not refused
+is_silent variables refused _ = false
+
+-- the variables behind a silent statement: a `let` sets one
+abbrev pub set_by : Variables → Statement → Variables
+set_by variables (statement.Let into e) = map.insert variables into (value.Number (expression_value variables e))
+set_by variables _ = variables
+
+-- a transaction before these statements: the silent ones in front are passed, one after another
+abbrev pub settled : Variables → ℕ → Bool → List Statement → Walk
+settled variables stored refused [] = record { variables = variables; stored = stored; refused = refused; left = [] }
+settled variables stored refused (s ∷ rest) =
+    if is_silent variables refused s then settled (set_by variables s) stored refused rest
+    else record { variables = variables; stored = stored; refused = refused; left = s ∷ rest }
+
+-- no silent statement comes first
+abbrev pub stands : Variables → Bool → List Statement → Bool
+stands variables refused [] = true
+stands variables refused (s ∷ rest) = not (is_silent variables refused s)
+
+-- ---- what is asked
 -- bytes that are too long for an overwrite make the transaction abort itself
 abbrev pub overwrite_of : ℕ → ℕ → List ℕ → Ask
 overwrite_of stored h bytes = if is_over stored (length bytes) then ask.Abort else ask.Call (call.XWriteOvr h bytes)
 
--- what a statement asks
+-- what a statement asks that isn't silent: a call, or the transaction's own abort
 abbrev pub ask_of : Variables → ℕ → Statement → Ask
 ask_of variables stored (statement.Load at into) = ask.Call (call.Load (term_value variables at))
 ask_of variables stored (statement.Store at value) = ask.Call (call.Store (term_value variables at) (expression_value variables value))
 ask_of variables stored (statement.Open name into) = ask.Call (call.XOpen name)
 ask_of variables stored (statement.Read h n into) = ask.Call (call.XRead (handle_value variables h) (term_value variables n))
 ask_of variables stored (statement.Overwrite h items) = overwrite_of stored (handle_value variables h) (data_of variables items)
-ask_of variables stored statement.Abort = ask.Abort
+ask_of variables stored _ = ask.Abort
 
 -- the transaction asks what its next statement does, and behind the last one the commit
 abbrev pub asks_of : Variables → ℕ → List Statement → Ask
@@ -159,21 +198,26 @@ target_of (statement.Open name into) = into
 target_of (statement.Read h n into) = into
 target_of _ = None
 
--- It goes on behind the reply to the call that it asked. Where it asked none, no reply comes, and it
--- stays.
-abbrev pub behind_ask : Variables → ℕ → Statement → List Statement → Ask → Reply → Walk
-behind_ask variables stored s rest (ask.Call call) reply =
-    record { variables = bound variables (target_of s) reply; stored = stored_after stored (length (bytes_of call)) reply; left = rest }
-behind_ask variables stored s rest _ reply = record { variables = variables; stored = stored; left = s ∷ rest }
+-- a call was refused whose reply is none of these: a number, bytes, handles, done, or kept for the commit
+abbrev pub refuses : Reply → Bool
+refuses (reply.Number n) = false
+refuses (reply.Got bytes) = false
+refuses (reply.Made h) = false
+refuses (reply.MadePair h g) = false
+refuses reply.Done = false
+refuses reply.Late = false
+refuses _ = true
 
--- A transaction goes on behind a reply with its next statement. Where none is left it stays.
-abbrev pub behind_reply : Variables → ℕ → List Statement → Reply → Walk
-behind_reply variables stored [] reply = record { variables = variables; stored = stored; left = [] }
-behind_reply variables stored (s ∷ rest) reply = behind_ask variables stored s rest (ask_of variables stored s) reply
+-- A transaction goes on behind the reply to the call that its first statement asked. Where it asked none, no
+-- reply comes, and it stays.
+abbrev pub behind_ask : Walk → List Statement → Ask → Reply → Walk
+behind_ask walk (s ∷ rest) (ask.Call call) reply =
+    settled (bound walk.variables (target_of s) reply) (stored_after walk.stored (length (bytes_of call)) reply) (refuses reply) rest
+behind_ask walk _ _ reply = walk
 
 -- a transaction on its way behind a reply
 abbrev pub answered : Walk → Reply → Walk
-answered walk reply = behind_reply walk.variables walk.stored walk.left reply
+answered walk reply = behind_ask walk walk.left (asks walk) reply
 
 -- a transaction on its way behind these replies, one after another
 abbrev pub all_answered : Walk → List Reply → Walk
@@ -201,7 +245,7 @@ next_body script job = slice_get (transactions_at script job.block) job.next
 
 -- the next transaction at its begin
 abbrev pub walk_from : Script → Job → Walk
-walk_from script job = record { variables = job.variables; stored = 0; left = unwrap_or (next_body script job) [] }
+walk_from script job = settled job.variables 0 false (unwrap_or (next_body script job) [])
 
 -- a job with no transaction left is at its end; otherwise its transaction asks
 abbrev pub asks_from : Option (List Statement) → Walk → Ask

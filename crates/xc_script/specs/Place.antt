@@ -2,7 +2,7 @@
 use mathlib.Core.Logic.{inl, inr}
 use Rattle.std.specs.Prelude.{◌≡◌, ℕ, ◌⊎◌, IsTrue, Bool, true, false, List, [], ◌∷◌, drop, unwrap_or, refl, Option}
 use Rattle.std.specs.declared.option.Option.TheVariants.{None}
-use Rattle.std.specs.Coded.{Coded, code_by, coded×, coded⊎, coded_ℕ}
+use Rattle.std.specs.Coded.{Coded, code_by, coded×, coded⊎, coded_ℕ, coded_bool}
 use Rattle.std.specs.FinMap as map
 use Rattle.xc_maps.specs.Keys.{coded_name}
 use Rattle.xc_text.specs.declared.script.Script.{Script}
@@ -11,15 +11,16 @@ use Rattle.xc_script.specs.declared.ask.Ask.{Ask}
 use Rattle.xc_script.specs.declared.ask.Ask.TheVariants as ask
 use Rattle.xc_script.specs.declared.value.Value.{Value}
 use Rattle.xc_script.specs.declared.value.Value.TheVariants as value
-use Rattle.xc_script.specs.Ask.{Variables, Walk, Job, asks, next_body, target_of}
+use Rattle.xc_script.specs.Ask.{Variables, Walk, Job, settled, asks, next_body, target_of}
 
--- the block, the transaction and the statement in it; what the transaction has stored; the variables
--- there, and those at the transaction's begin
+-- the block, the transaction and the statement in it; what the transaction has stored, and whether its last
+-- call was refused; the variables there, and those at the transaction's begin
 pub record Place : Type 0 where
   pub block : ℕ
   pub next : ℕ
   pub at : ℕ
   pub stored : ℕ
+  pub refused : Bool
   pub variables : Variables
   pub begun : Variables
 
@@ -52,10 +53,18 @@ coded_variables = map.code coded_name coded_value
 -- a place's code, that of its fields as a tuple
 abbrev pub coded_place : Coded Place
 coded_place =
-    code_by (ℕ × (ℕ × (ℕ × (ℕ × (Variables × Variables)))))
-    (coded× coded_ℕ (coded× coded_ℕ (coded× coded_ℕ (coded× coded_ℕ (coded× coded_variables coded_variables)))))
-    (λ p. (p.block, (p.next, (p.at, (p.stored, (p.variables, p.begun))))))
-    (λ p. record { block = p.0; next = p.1.0; at = p.1.1.0; stored = p.1.1.1.0; variables = p.1.1.1.1.0; begun = p.1.1.1.1.1 })
+    code_by (ℕ × (ℕ × (ℕ × (ℕ × (Bool × (Variables × Variables))))))
+    (coded× coded_ℕ (coded× coded_ℕ (coded× coded_ℕ (coded× coded_ℕ (coded× coded_bool (coded× coded_variables coded_variables))))))
+    (λ p. (p.block, (p.next, (p.at, (p.stored, (p.refused, (p.variables, p.begun)))))))
+    (λ p. record {
+      block = p.0;
+      next = p.1.0;
+      at = p.1.1.0;
+      stored = p.1.1.1.0;
+      refused = p.1.1.1.1.0;
+      variables = p.1.1.1.1.1.0;
+      begun = p.1.1.1.1.1.1;
+    })
     (λ _. refl)
 
 -- ---- what stands at a place
@@ -63,14 +72,23 @@ coded_place =
 abbrev pub job_of : Place → Job
 job_of place = record { block = place.block; next = place.next; variables = place.variables }
 
--- what is left of the transaction
+-- the statements of its transaction from the place on
+abbrev pub left_at : Script → Place → List Statement
+left_at script place = drop place.at (unwrap_or (next_body script (job_of place)) [])
+
+-- the transaction on its way there
 abbrev pub walk_of : Script → Place → Walk
-walk_of script place =
-    record { variables = place.variables; stored = place.stored; left = drop place.at (unwrap_or (next_body script (job_of place)) []) }
+walk_of script place = settled place.variables place.stored place.refused (left_at script place)
+
+-- the place is where its walk is: no silent statement comes first
+pub record IsSettled (script : Script) (place : Place) : Type 0 where
+  pub variables : place.variables ≡ (walk_of script place).variables
+  pub left : left_at script place ≡ (walk_of script place).left
 
 -- a job before its next transaction: none has begun, so no variables are kept for an abort
 abbrev pub at_begin : Job → Place
-at_begin job = record { block = job.block; next = job.next; at = 0; stored = 0; variables = job.variables; begun = map.empty }
+at_begin job =
+    record { block = job.block; next = job.next; at = 0; stored = 0; refused = false; variables = job.variables; begun = map.empty }
 
 -- the transaction asks a call
 abbrev pub is_call : Ask → Bool

@@ -1,5 +1,5 @@
 ghost use Rattle.std.specs.Prelude.{◌≡◌, ◌≤◌, ◌+◌, ◌<◌, ◌^◌, length, IfOk, OnOk, OnErr, IsOk, None};
-ghost use Rattle.xc_script.specs.Ask.{bytes_got, fails_check, stored_after, value_in, target_of, bound};
+ghost use Rattle.xc_script.specs.Ask.{bytes_got, fails_check, stored_after, value_in, target_of, bound, refuses};
 
 use crate::value::{Value, Variables};
 use xc_data::{Ident, NoMemory, Reply};
@@ -46,6 +46,17 @@ pub fn bind(variables: &mut Variables, target: Option<Ident>, reply: &Reply) -> 
             variables.remove(name);
             Ok(())
         }
+    }
+}
+
+/// A call that replies so counts as refused.
+pub fn refuses(reply: &Reply) -> bool
+    ensures { result ≡ refuses reply.now }
+{
+    match reply {
+        Reply::Number(_) | Reply::Got(_) | Reply::Made(_) | Reply::MadePair(_, _) => false,
+        Reply::Done | Reply::Late => false,
+        _ => true,
     }
 }
 

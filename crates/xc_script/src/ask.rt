@@ -50,7 +50,7 @@ fn overwrite(
     Ok(Ask::Call(Call::XWriteOvr { h, bytes }))
 }
 
-/// What a statement asks, behind so many stored bytes.
+/// What a statement asks that isn't silent, behind so many stored bytes.
 pub fn ask_of(
     alloc: Global,
     variables: &Variables,
@@ -73,7 +73,7 @@ pub fn ask_of(
             n: value_of(variables, *n),
         })),
         Statement::Overwrite { handle, data } => overwrite(alloc, variables, stored, *handle, data),
-        Statement::Abort => Ok(Ask::Abort),
+        _ => Ok(Ask::Abort),
     }
 }
 

@@ -1,12 +1,13 @@
-ghost use Rattle.std.specs.Prelude.{◌≡◌, ◌<◌, is_some, ◌+◌, ◌^◌, nat_eq, position, slice_get, None, IfOk, IsOk, OnOk, OnErr};
+ghost use Rattle.std.specs.Prelude.{◌≡◌, ◌≤◌, ◌<◌, is_some, ◌+◌, ◌^◌, nat_eq, position, slice_get, None, IfOk, IsOk, OnOk, OnErr};
 ghost use Rattle.std.specs.Option.{option_copied};
 ghost use Rattle.std.specs.Cmp.Lexicographic.{pointwise};
 ghost use Rattle.xc_script.specs.Ask.{asks_from, answered, next_body, transactions_at, fresh_job, block_place, value_in};
-ghost use Rattle.xc_script.specs.Place.{Place, job_of, walk_of, at_begin, IsAskedCall, target_at};
+ghost use Rattle.xc_script.specs.Place.{Place, job_of, walk_of, at_begin, IsSettled, IsAskedCall, target_at};
 
 use crate::Ask;
-use crate::answer::{bind, stored_after, target_of};
+use crate::answer::{bind, refuses, stored_after, target_of};
 use crate::ask::{ask_of, carried};
+use crate::silent::settle;
 use crate::value::Variables;
 use std::alloc::Global;
 use std::marker::Model;
@@ -24,6 +25,8 @@ pub struct JobState {
     at: usize,
     // So wide that no sum of lengths wraps.
     stored: u128,
+    // The last call of the transaction was.
+    refused: bool,
     variables: Variables,
     // Those at the begin of the transaction.
     begun: Variables,
@@ -37,7 +40,15 @@ impl Model for JobState {
 
     ghost coded = { coded_place };
 
-    ghost view = { λ j. record { block = j.block; next = j.next; at = j.at; stored = j.stored; variables = j.variables; begun = j.begun } };
+    ghost view = { λ j. record {
+      block = j.block;
+      next = j.next;
+      at = j.at;
+      stored = j.stored;
+      refused = j.refused;
+      variables = j.variables;
+      begun = j.begun;
+    } };
 
     ghost invariant = { λ j. j.stored ≤ j.at * 2 ^ 64 };
 }
@@ -88,6 +99,7 @@ impl JobState {
             next: 0,
             at: 0,
             stored: 0,
+            refused: false,
             variables: IdentMap::new(alloc),
             begun: IdentMap::new(alloc),
         }
@@ -102,13 +114,24 @@ impl JobState {
         Ok(())
     }
 
-    /// What the job is asked next. Asked again before an answer it is the same.
-    pub fn ask(&self, script: &Script) -> Result<Ask, NoMemory>
-        ensures { IfOk result (λ ask. ask ≡ asks_from (next_body script.now (job_of self.now)) (walk_of script.now self.now)) }
+    /// What the job is asked next. The silent statements before it are passed, and not again by the
+    /// next ask. Asked again before an answer it is the same.
+    pub fn ask(&mut self, script: &Script) -> Result<Ask, NoMemory>
+        ensures value { IfOk result (λ ask. ask ≡ asks_from (next_body script.now (job_of self.old)) (walk_of script.now self.old)) }
+        ensures walk { walk_of script.now self.new ≡ walk_of script.now self.old }
+        ensures settled { OnOk result (IsSettled script.now self.new) }
+        ensures same { (self.new.block ≡ self.old.block) × (self.new.next ≡ self.old.next) }
+        ensures begun { self.new.begun ≡ self.old.begun }
+        ensures noted { (self.new.stored ≡ self.old.stored) × (self.new.refused ≡ self.old.refused) }
+        ensures at { self.old.at ≤ self.new.at }
+
+        // Where it has passed the silent ones already it changes nothing.
+        ensures stays { IsSettled script.now self.old → self.new ≡ self.old }
     {
         let Some(body) = body_at(script, self.block, self.next) else {
             return Ok(Ask::End);
         };
+        settle(&mut self.variables, &mut self.at, self.refused, body)?;
         match body.get(self.at) {
             Some(statement) => ask_of(self.alloc, &self.variables, self.stored, statement),
             None => Ok(Ask::Commit),
@@ -117,7 +140,8 @@ impl JobState {
 
     /// Goes on behind the reply to the call that was asked.
     pub fn answer(&mut self, script: &Script, reply: &Reply) -> Result<(), NoMemory>
-        requires { IsAskedCall script.now self.old }
+        requires asked { IsAskedCall script.now self.old }
+        requires settled { IsSettled script.now self.old }
         ensures ok { OnOk result (walk_of script.now self.new ≡ answered (walk_of script.now self.old) reply.now) }
         ensures same { (self.new.block ≡ self.old.block) × (self.new.next ≡ self.old.next) }
         ensures begun { self.new.begun ≡ self.old.begun }
@@ -137,6 +161,7 @@ impl JobState {
         let carried = carried(&self.variables, self.stored, statement);
         bind(&mut self.variables, target_of(statement), reply)?;
         self.stored = stored_after(self.stored, carried, reply);
+        self.refused = refuses(reply);
         self.at += 1;
         Ok(())
     }
@@ -164,6 +189,7 @@ impl JobState {
     {
         self.at = 0;
         self.stored = 0;
+        self.refused = false;
         self.begun = IdentMap::new(self.alloc);
     }
 }

@@ -6,6 +6,7 @@ mod ask;
 mod data;
 mod job;
 mod reading;
+mod silent;
 mod value;
 
 pub use ask::Ask;

@@ -7,19 +7,12 @@ use crate::value::Variables;
 use crate::{Ask, JobState};
 use std::alloc::Global;
 use std::test::Fail;
-use xc_data::{Call, Chunk, Ident, Items, Name, NoMemory, Prologue, Reply, Script0};
-use xc_text::{Block, Body, Data, Item, Script, Statement, Term};
+use xc_data::{Call, Chunk, Ident, Items, NoMemory, Reply};
+use xc_text::{Data, Item, Script, Statement, Term, parse};
 
 fn ident(name: &[u8]) -> Result<Ident, NoMemory> {
     match Ident::new(name) {
         Some(ident) => Ok(ident),
-        None => Err(NoMemory),
-    }
-}
-
-fn log() -> Result<Name, NoMemory> {
-    match Name::new(b"log") {
-        Some(name) => Ok(name),
         None => Err(NoMemory),
     }
 }
@@ -114,56 +107,6 @@ fn an_overwrite_that_is_too_long_aborts(rt: HostRuntime) -> Result<(), Fail> {
     Ok(())
 }
 
-// `write h x`, `open log -> h`.
-fn body(alloc: Global) -> Result<Body, NoMemory> {
-    let mut body = Items::new(alloc);
-    let handle = ident(b"h")?;
-    let data = data(alloc, &[b"x"])?;
-    body.push(Statement::Overwrite { handle, data })?;
-    let (name, into) = (log()?, Some(handle));
-    body.push(Statement::Open { name, into })?;
-    Ok(body)
-}
-
-fn abort(alloc: Global) -> Result<Body, NoMemory> {
-    let mut body = Items::new(alloc);
-    body.push(Statement::Abort)?;
-    Ok(body)
-}
-
-// The body three times, and then an own abort.
-fn transactions(alloc: Global) -> Result<Items<Body>, NoMemory> {
-    let mut transactions = Items::new(alloc);
-    for _ in 0..3 {
-        transactions.push(body(alloc)?)?;
-    }
-    transactions.push(abort(alloc)?)?;
-    Ok(transactions)
-}
-
-fn plain(alloc: Global) -> Script0 {
-    let prologue = Prologue {
-        objects: Items::new(alloc),
-        faults: Items::new(alloc),
-        grain: None,
-    };
-    Script0 {
-        words: Items::new(alloc),
-        prologue,
-        bodies: Items::new(alloc),
-        jobs: Items::new(alloc),
-    }
-}
-
-fn script(alloc: Global) -> Result<Script, NoMemory> {
-    let name = ident(b"main")?;
-    let transactions = transactions(alloc)?;
-    let mut blocks = Items::new(alloc);
-    blocks.push(Block { name, transactions })?;
-    let plain = plain(alloc);
-    Ok(Script { plain, blocks })
-}
-
 // Gives the reply where a call is asked.
 fn answer(job: &mut JobState, script: &Script, reply: &Reply) -> Result<(), NoMemory>
     ensures { job.new.next ≡ job.old.next }
@@ -175,7 +118,9 @@ fn answer(job: &mut JobState, script: &Script, reply: &Reply) -> Result<(), NoMe
 }
 
 // The handle of the overwrite that is asked.
-fn handle(job: &JobState, script: &Script) -> Result<Option<u16>, NoMemory> {
+fn handle(job: &mut JobState, script: &Script) -> Result<Option<u16>, NoMemory>
+    ensures { job.new.next ≡ job.old.next }
+{
     match job.ask(script)? {
         Ask::Call(Call::XWriteOvr { h, .. }) => Ok(Some(h)),
         _ => Ok(None),
@@ -203,9 +148,15 @@ fn play(
     handle(job, script)
 }
 
+const OPENS: &str = "job main
+tx\nx_write_ovr h \"x\"\nx_open log -> h\ncommit
+tx\nx_write_ovr h \"x\"\nx_open log -> h\ncommit
+tx\nx_write_ovr h \"x\"\nx_open log -> h\ncommit
+tx\nabort\ncommit\nend\n";
+
 // The handle of each overwrite that is asked, and whether a transaction is left then.
-fn handles(alloc: Global) -> Result<([Option<u16>; 3], bool), NoMemory> {
-    let script = script(alloc)?;
+fn handles(alloc: Global) -> Result<([Option<u16>; 3], bool), Fail> {
+    let script = parse(alloc, OPENS.as_bytes())?;
     let mut job = JobState::new(alloc, &script, ident(b"main")?);
     let back = play(&mut job, &script, &Reply::Made(3), true)?;
     let on = play(&mut job, &script, &Reply::Made(4), false)?;
@@ -218,5 +169,145 @@ fn variables_go_back_and_on(rt: HostRuntime) -> Result<(), Fail> {
     let (handles, has_next) = handles(rt.alloc())?;
     assert_eq!(rt; handles, [Some(65535), Some(4), Some(65535)]);
     assert!(rt; has_next);
+    Ok(())
+}
+
+// A transaction of these lines, and another one that stores x into word 1.
+fn script_of(alloc: Global, lines: &str) -> Result<Script, Fail> {
+    let mut text = String::new(alloc);
+    write!(
+        text,
+        "job main\ntx\n{lines}commit\ntx\nrequire\nstore 1 x\ncommit\nend\n"
+    )?;
+    Ok(parse(alloc, text.as_bytes())?)
+}
+
+// What is asked behind these replies.
+fn asked(alloc: Global, lines: &str, replies: &[Reply]) -> Result<Ask, Fail> {
+    let script = script_of(alloc, lines)?;
+    let mut job = JobState::new(alloc, &script, ident(b"main")?);
+    for reply in replies {
+        answer(&mut job, &script, reply)?;
+    }
+    Ok(job.ask(&script)?)
+}
+
+fn load(at: u64) -> Ask {
+    Ask::Call(Call::Load { at })
+}
+
+fn store(at: u64, value: u64) -> Ask {
+    Ask::Call(Call::Store { at, value })
+}
+
+#[test]
+fn variables_that_are_let(rt: HostRuntime) -> Result<(), Fail> {
+    let alloc = rt.alloc();
+    let chain = "let x 5\nlet y x + 2\nlet x y - 10\nstore x y\n";
+    assert_eq!(rt; asked(alloc, chain, &[])?, store(18446744073709551613, 7));
+    assert_eq!(rt; asked(alloc, "let x y\nload x\n", &[])?, load(0));
+    let handle = "x_open log -> h\nlet n 1 - h\nlet h 9\nx_read h n\n";
+    let read = Ask::Call(Call::XRead { h: 65535, n: 1 });
+    assert_eq!(rt; asked(alloc, handle, &[Reply::Made(3)])?, read);
+    let silent = "abort if x != 0\nlet x 1\nrequire\nlet x x + x\nload x\nlet x 3\n";
+    assert_eq!(rt; asked(alloc, silent, &[])?, load(2));
+    assert_eq!(rt; asked(alloc, silent, &[Reply::BadWord])?, Ask::Commit);
+    Ok(())
+}
+
+// Whether a transaction aborts itself where 1, 2 and 3 are each compared with 2.
+fn aborts_if(alloc: Global, sign: &str) -> Result<[bool; 3], Fail> {
+    let mut aborts = [false; 3];
+    for (at, left) in ["1", "2", "3"].iter().enumerate() {
+        let mut line = String::new(alloc);
+        write!(line, "let v {left}\nabort if v {sign} 2\n")?;
+        aborts[at] = asked(alloc, line.as_str(), &[])? == Ask::Abort;
+    }
+    Ok(aborts)
+}
+
+#[test]
+fn tests_of_two_numbers(rt: HostRuntime) -> Result<(), Fail> {
+    for (sign, aborts) in [
+        ("=", [false, true, false]),
+        ("!=", [true, false, true]),
+        ("<", [true, false, false]),
+        ("<=", [true, true, false]),
+        (">", [false, false, true]),
+        (">=", [false, true, true]),
+    ] {
+        assert_eq!(rt; aborts_if(rt.alloc(), sign)?, aborts, "{sign}");
+    }
+    for (line, ask) in [
+        ("abort if 9 > 10\n", Ask::Commit),
+        ("abort if 18446744073709551615 < 1\n", Ask::Commit),
+        ("abort if 18446744073709551615 > v\n", Ask::Abort),
+        ("abort if v = w\n", Ask::Abort),
+    ] {
+        assert_eq!(rt; asked(rt.alloc(), line, &[])?, ask, "{line}");
+    }
+    Ok(())
+}
+
+#[test]
+fn replies_that_are_required(rt: HostRuntime) -> Result<(), Fail> {
+    let none = Chunk::new(rt.alloc(), b"")?;
+    for (reply, ask) in [
+        (Reply::Number(0), Ask::Commit),
+        (Reply::Got(none), Ask::Commit),
+        (Reply::Made(0), Ask::Commit),
+        (Reply::MadePair(0, 1), Ask::Commit),
+        (Reply::Done, Ask::Commit),
+        (Reply::Late, Ask::Commit),
+        (Reply::End, Ask::Abort),
+        (Reply::Empty, Ask::Abort),
+        (Reply::NoName, Ask::Abort),
+        (Reply::Exists, Ask::Abort),
+        (Reply::BadHandle, Ask::Abort),
+        (Reply::PastEnd, Ask::Abort),
+        (Reply::TooBig, Ask::Abort),
+        (Reply::TooMuch, Ask::Abort),
+        (Reply::BadWord, Ask::Abort),
+        (Reply::Fault(0), Ask::Abort),
+        (Reply::Fault(1), Ask::Abort),
+    ] {
+        assert_eq!(rt; asked(rt.alloc(), "load 0\nrequire\n", &[reply])?, ask);
+    }
+    Ok(())
+}
+
+#[test]
+fn the_last_call_is_required(rt: HostRuntime) -> Result<(), Fail> {
+    let lines = "require\nload 0\nload 1\nlet x 1\nrequire\n";
+    for (first, second, ask) in [
+        (Reply::BadWord, Reply::Done, Ask::Commit),
+        (Reply::Done, Reply::BadWord, Ask::Abort),
+    ] {
+        assert_eq!(rt; asked(rt.alloc(), lines, &[first, second])?, ask);
+    }
+    Ok(())
+}
+
+// What is asked first behind a transaction of these lines whose only call was refused.
+fn asked_next(alloc: Global, lines: &str, abort: bool) -> Result<Ask, Fail> {
+    let script = script_of(alloc, lines)?;
+    let mut job = JobState::new(alloc, &script, ident(b"main")?);
+    job.begin()?;
+    answer(&mut job, &script, &Reply::BadWord)?;
+    let _end = job.ask(&script)?;
+    if abort {
+        job.back();
+    }
+    job.pass();
+    Ok(job.ask(&script)?)
+}
+
+#[test]
+fn the_next_transaction(rt: HostRuntime) -> Result<(), Fail> {
+    let last = "load 9 -> y\nlet x y + 3\nlet x x + x\n";
+    assert_eq!(rt; asked_next(rt.alloc(), last, false)?, store(1, 6));
+    assert_eq!(rt; asked_next(rt.alloc(), last, true)?, store(1, 0));
+    let first = "let x 5\nload x -> x\nlet x x + 1\nabort if x = 1\nlet x 9\n";
+    assert_eq!(rt; asked_next(rt.alloc(), first, true)?, store(1, 0));
     Ok(())
 }

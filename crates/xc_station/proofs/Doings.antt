@@ -1,18 +1,18 @@
 -- Each call of a transaction is the plain machine's.
-use Rattle.std.specs.Prelude.{Result, Ok, Err, IfOk, IsOk, IsErr}
+use Rattle.std.specs.Prelude.{Result, Ok, Err, IfOk, OnErr, IsOk, IsErr}
 use Rattle.xc_data.specs.Counts.{CountsFault}
 use Rattle.std.specs.declared.option.Option.TheVariants.{None}
 use Rattle.xc_data.specs.Faults.{is_fault_reply}
 use Rattle.xc_data.specs.declared.call.Reply.TheVariants as reply
 use Rattle.xc_script.specs.Ask.{value_in}
-use Rattle.std.proofs.Common.{◌≡◌, ℕ, true, false, List, ◌++◌, refl, ap, sym, ◌∙◌, subst, IsTrue}
+use Rattle.std.proofs.Common.{◌≡◌, ℕ, true, false, List, [], ◌++◌, refl, ap, sym, ◌∙◌, subst, IsTrue}
 use Rattle.xc_data.specs.declared.call.Call.{Call}
 use Rattle.xc_data.specs.declared.call.Answer.{Answer}
 use Rattle.xc_data.specs.declared.call.Answer.TheVariants as answer
 use Rattle.xc_data.specs.declared.call.Reply.{Reply}
 use Rattle.xc_data.specs.declared.private.Private.{Private}
 use Rattle.xc_compensate.specs.Records.{Records}
-use Rattle.xc_file.specs.Calls.{CallState, Acts, AreRecorded, IsFileCall, replies_fault}
+use Rattle.xc_file.specs.Calls.{CallState, Acts, AreRecorded, IsFileCall, replies_fault, takes_memory_first}
 use Rattle.xc_host.specs.Model.{HostModel}
 use Rattle.xc_data.specs.declared.memory.NoMemory.{NoMemory}
 use Rattle.xc_host.specs.Contents.{Contents}
@@ -22,10 +22,9 @@ use Rattle.xc_world.specs.Act.{act}
 use Rattle.xc_world.specs.Act.Step.{stays}
 use Rattle.xc_world.specs.Fits.{fits, answer_of}
 use Rattle.xc_world.specs.Trail.{recorded}
-use Rattle.xc_station.specs.Notes.{Parts, Does, DoesIn}
-use Rattle.xc_station.specs.Playing.{seen}
-use Rattle.xc_station.specs.WordCalls.{is_word_call, word_reply, words_after}
-use Rattle.xc_station.proofs.Bodies.{append_nil, word-act, word-fine, word-trail}
+use Rattle.xc_story.specs.Rows.{Parts, Does, DoesIn, seen}
+use Rattle.xc_story.specs.WordCalls.{is_word_call, word_reply, words_after}
+use Rattle.xc_station.proofs.WordActs.{append_nil, word-act, word-fine, word-trail}
 
 -- a call on words does what the plain machine's does
 pub does_words : (w : World) (was : Contents) (number : ℕ) (me : Private) (stores stores' : List (ℕ × ℕ)) (undo : Records) (words : List ℕ) (c : Call)
@@ -98,3 +97,15 @@ pub quiet_behind : {A E : Type 0} (reply : Reply) (a : Result A E) (e : E) (give
     → CountsFault (is_fault_reply reply) before now → CountsFault (replies_fault given) before now
 quiet_behind reply a e given before now is lasting failed cause =
     failed_quiet given before now failed (subst (λ b. CountsFault b before now) (unfaulty reply (λ nothing. never_ok a e is (lasting nothing))) cause)
+
+-- without memory a call on files leaves the private state and the records
+pub starved_parts : {H : Type 0} (model : HostModel H) (c : Call) (old new : CallState H) (r : Result Reply NoMemory) → IsFileCall model c old new r
+    → takes_memory_first c ≡ true → (stores : List (ℕ × ℕ)) → OnErr r ((new.me ≡ old.me) × (stores ≡ stores) × (new.undo ≡ old.undo))
+starved_parts model c old new (Ok x) k first stores = tt
+starved_parts model c old new (Err e) k first stores =
+    let none : k.made ≡ [] = k.memory.none first in (
+      k.memory.me,
+      refl,
+      k.undo ∙ ap (λ us. record old.undo { pending = old.undo.pending ++ us }) none ∙ ap (λ us. record old.undo { pending = us })
+          (append_nil old.undo.pending),
+    )

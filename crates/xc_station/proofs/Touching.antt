@@ -16,7 +16,7 @@ use Rattle.xc_data.specs.Claims.{claim, is_object, objects}
 use Rattle.xc_world.specs.Checks.{is_refused}
 use Rattle.xc_world.specs.Modes.{mode_of, claims_of}
 use Rattle.xc_world.specs.Touch.{touch, object_at, objects_of_call}
-use Rattle.xc_station.specs.Notes.{is_built}
+use Rattle.xc_story.specs.Rows.{is_built}
 
 few_if : (b : Bool) (objects : List Object) → length objects ≤ 2 → length (if b then [] else objects) ≤ 2
 few_if true objects le = omega arith

@@ -1,11 +1,4 @@
-pub mod Setting
-pub mod Progress
-pub mod Truth
-pub mod Ending
-pub mod Playing
-pub mod Flight
-pub mod Turns
-pub mod WordCalls
-pub mod Notes
-pub mod Doing
-pub mod Closing
+pub mod Acting
+pub mod Jobs
+pub mod Moments
+pub mod Stations

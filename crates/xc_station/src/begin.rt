@@ -1,58 +1,78 @@
-ghost use Rattle.std.specs.Prelude.{◌≡◌, ℕ, ◌≤◌, ◌+◌, List, false, length, [], IsSome, None};
-ghost use Rattle.xc_script.specs.Ask.{next_body};
-ghost use Rattle.xc_script.specs.Place.{at_begin, job_of};
-ghost use Rattle.xc_station.specs.declared.job.Activity.TheVariants as activity;
-ghost use Rattle.xc_station.specs.Turns.{BeginsAs};
+ghost use Rattle.std.specs.Prelude.{◌≡◌, ℕ, Bool, ◌≤◌, ◌+◌, length, MatchOption};
+ghost use Rattle.xc_story.specs.Seen.{Now, Idle, begun_count, rank_of, with_job};
+ghost use Rattle.xc_story.specs.Rows.{IdleTurn, IsEnding, IsReady};
+ghost use Rattle.xc_story.specs.Setting.{setting};
+ghost use Rattle.xc_station.specs.Jobs.{seen_job};
+ghost use Rattle.xc_station.specs.Moments.{HasBegun};
 
 use crate::job::{Activity, Job};
 use crate::tx::Tx;
 use std::alloc::Global;
-use xc_data::{JobEnd, Private};
+use xc_data::{JobEnd, Turn};
 use xc_journal::Journal;
-use xc_script::JobState;
+use xc_story::{Attempts, Rules};
 use xc_text::Script;
 
-// What an idle job goes over to: its next transaction, with room for its entry and with its variables
-// kept for an abort, or its end.
-fn next_activity(
-    alloc: Global,
-    script: &Script,
-    journal: &mut Journal,
-    me: &Private,
-    place: &mut JobState,
-) -> Activity
-    requires { length journal.old.items ≤ 1000 }
-    ensures items { journal.new.items ≡ journal.old.items }
-    ensures begins { BeginsAs script.now (length journal.old.items) journal.new.spare me.now place.old place.new result }
+/// The most entries that a journal has; each active transaction has its place among them.
+const MOST_ENTRIES: usize = 10_000;
+
+// Why an idle job doesn't begin its next transaction, memory aside.
+fn end_now(script: &Script, rules: &Rules, begun: usize, job: &Job) -> Option<JobEnd>
+    requires attempts { 1 ≤ rules.now.attempts }
+    ensures { (tells : Bool) (now : Now) → begun_count now ≡ begun → MatchOption result
+        (IsReady (setting script.now rules.now tells) now (seen_job job.now))
+        (λ end. IsEnding (setting script.now rules.now tells) now (seen_job job.now) end) }
 {
-    if !place.has_next(script) {
-        return Activity::Ended(JobEnd::Done);
+    if !job.place.has_next(script) {
+        return Some(JobEnd::Done);
     }
-    if journal.reserve(1).is_err() || place.begin().is_err() {
-        return Activity::Ended(JobEnd::NoMemory);
+    if let Some(Attempts { failed, last, .. }) = job.attempts {
+        if failed >= rules.attempts {
+            return Some(JobEnd::GaveUp(last));
+        }
     }
-    let entered = journal.len() as u32;
-    Activity::Active(Tx::begin(alloc, entered + 1, entered, me))
+    if begun >= MOST_ENTRIES {
+        return Some(JobEnd::JournalFull);
+    }
+    None
 }
 
-/// An idle job behind its turn: its next transaction has begun, or it has ended.
-pub fn begin(alloc: Global, script: &Script, journal: &mut Journal, job: Job) -> Job
-    requires { length journal.old.items ≤ 1000 }
-    ensures items { journal.new.items ≡ journal.old.items }
-    ensures same { (result.block ≡ job.block) × (result.me ≡ job.me) }
-    ensures begins { BeginsAs script.now (length journal.old.items) journal.new.spare job.me job.place result.place result.activity }
+fn rank_of(attempts: &Option<Attempts>, number: u32) -> u32
+    ensures { result ≡ rank_of attempts.now number }
 {
-    let Job {
-        block,
-        me,
-        mut place,
-        ..
-    } = job;
-    let activity = next_activity(alloc, script, journal, &me, &mut place);
-    Job {
-        block,
-        me,
-        place,
-        activity,
+    match attempts {
+        Some(attempts) => attempts.first,
+        None => number,
     }
+}
+
+/// The turn of an idle job: its next transaction begins, with room for its entry and its variables kept for an abort, or
+/// the job ends. So many transactions are active, and each has its room in the journal.
+pub fn begin(
+    alloc: Global,
+    script: &Script,
+    rules: &Rules,
+    journal: &mut Journal,
+    active: u32,
+    job: &mut Job,
+) -> Turn
+    requires idle { (seen_job job.old).doing ≡ Idle }
+    requires few { length journal.old.items + active ≤ 10000 }
+    requires attempts { 1 ≤ rules.now.attempts }
+    ensures items { journal.new.items ≡ journal.old.items }
+    ensures room { (result ≡ Turn.Went → active + 1 ≤ journal.new.spare) × (journal.old.spare ≤ journal.new.spare) }
+    ensures row { (tells : Bool) (now : Now) (at : ℕ) → HasBegun now (length journal.old.items) active
+        → IdleTurn (setting script.now rules.now tells) at now (seen_job job.old) result (with_job now at (seen_job job.new)) }
+{
+    let entered = journal.len();
+    if let Some(end) = end_now(script, rules, entered + active as usize, job) {
+        return job.end(&end);
+    }
+    if journal.reserve(active + 1).is_err() || job.place.begin().is_err() {
+        return job.end(&JobEnd::NoMemory);
+    }
+    let number = entered as u32 + active + 1;
+    let rank = rank_of(&job.attempts, number);
+    job.activity = Activity::Active(Tx::begin(alloc, number, rank, entered as u32, &job.me));
+    Turn::Went
 }

@@ -1,65 +1,85 @@
-ghost use Rattle.std.specs.Prelude.{◌≡◌, ◌↔◌, ℕ, Bool, List, ◌≤◌, ◌+◌, [], true, false, length, unwrap_or};
-ghost use Rattle.std.specs.Prelude.{IfOk, OnOk, OnErr, IsSome, IsTrue};
-ghost use Rattle.xc_data.specs.Counts.{CountsFault, CountsFaults};
-ghost use Rattle.xc_data.specs.declared.private.Private.{Private as PlainPrivate};
+ghost use Rattle.std.specs.Prelude.{◌≡◌, ◌≤◌, ◌<◌, ◌+◌, ◌++◌, ◌∷◌, ℕ, List, true, false, length, IfOk, OnOk, OnErr, IsTrue, [], None};
+ghost use Rattle.xc_data.specs.Counts.{CountsFault};
+ghost use Rattle.xc_data.specs.declared.call.Call.TheVariants as PlainCall;
+ghost use Rattle.xc_data.specs.declared.undo.Undo.{Undo};
 ghost use Rattle.xc_file.specs.Calls.{replies_fault};
 ghost use Rattle.xc_script.specs.declared.ask.Ask.TheVariants.{Call as AskedCall};
-ghost use Rattle.xc_script.specs.Ask.{asks, answered, next_body};
-ghost use Rattle.xc_script.specs.Place.{walk_of, job_of};
+ghost use Rattle.xc_script.specs.Ask.{asks, answered};
+ghost use Rattle.xc_script.specs.Place.{walk_of, IsSettled};
 ghost use Rattle.xc_txmem.specs.Overlay.{overlaid, AreWithin};
-ghost use Rattle.xc_world.specs.World.{World};
 ghost use Rattle.xc_world.specs.Late.{is_late};
-ghost use Rattle.xc_world.specs.Sound.{IsSound};
-ghost use Rattle.xc_world.specs.Modes.{claims_of};
-ghost use Rattle.xc_station.specs.Doing.{IsStarving};
-ghost use Rattle.xc_station.specs.Flight.{Flight, IsActive, faults_noted, HasSpoken, AreSpoken};
-ghost use Rattle.xc_station.specs.declared.job.Activity.TheVariants as PlainActivity;
-ghost use Rattle.xc_station.specs.Notes.{is_built, DoesIn, KeepsNotes, HasRoom, parts_of};
-ghost use Rattle.xc_station.specs.Playing.{IsPlayedBy};
-ghost use Rattle.xc_station.specs.Progress.{Following};
-ghost use Rattle.xc_station.specs.Setting.{setting};
-ghost use Rattle.xc_station.specs.declared.rules.Rules.{Rules as PlainRules};
-ghost use Rattle.xc_station.specs.Turns.{IsSameBegin, IsNearer, IsGoing, MayGo, CanRun, AreOpenIn, HasOpenFiles, RunsOn};
-ghost use Rattle.xc_station.specs.WordCalls.{is_word_call, word_reply, words_after, is_overwrite, IsWordStep};
+ghost use Rattle.xc_story.specs.WordCalls.{is_word_call, is_overwrite, word_reply, words_after, IsWordStep};
+ghost use Rattle.xc_story.specs.Rows.{DoesIn, IsSameBegin, is_built, parts_of, stored_by};
+ghost use Rattle.xc_story.specs.Seen.{SeenTx};
+ghost use Rattle.xc_station.specs.Acting.{AreOpenIn, MayGo};
+ghost use Rattle.xc_station.specs.Jobs.{seen_tx};
 
-use crate::job::{Activity, Job};
-use crate::tx::{Phase, Tx};
-use smallvec::SmallVec;
+use crate::tx::Tx;
 use std::alloc::Global;
 use xc_compensate::Stack;
-use xc_data::{Call, Cause, Claim, NoMemory, Private, Reply, Turn};
+use xc_data::{Call, NoMemory, Private, Reply};
 use xc_file::{x_open, x_read, x_write_ovr};
 use xc_host::Host;
-use xc_script::{Ask, JobState};
+use xc_script::JobState;
 use xc_text::Script;
 use xc_txmem::{Words, WriteSet};
-use xc_world::touched;
+use xc_wordlocks::Claims;
 
-// Does a call on words, the transaction's own stores seen. A store waits for the commit.
+/// What all jobs of a station share.
+#[derive(Drop)]
+pub struct Shared<H: Host> {
+    pub host: H,
+    pub words: Words,
+    pub claims: Claims,
+}
+
+// The transaction's own stores are seen.
+#[tactic(auto, using(xc_txmem::proofs::Overlays::overlay_count))]
+fn load(words: &Words, writes: &WriteSet, at: u64) -> Reply
+    requires { AreWithin (length words.now) writes.now }
+    ensures { result ≡ word_reply (overlaid words.now writes.now) (PlainCall.Load at) }
+{
+    if words.count() as u64 <= at {
+        return Reply::BadWord;
+    }
+    Reply::Number(writes.load(words, at as usize))
+}
+
+// A store waits for the commit.
 #[tactic(auto, using(xc_txmem::proofs::Overlays::overlay_count, xc_txmem::proofs::Overlays::overlay_adds))]
+fn store(words: &Words, writes: &mut WriteSet, at: u64, value: u64) -> Result<Reply, NoMemory>
+    requires { AreWithin (length words.now) writes.old }
+    ensures reply { IfOk result (λ reply. reply ≡ word_reply (overlaid words.now writes.old) (PlainCall.Store at value)) }
+    ensures stores { OnOk result (writes.new ≡ writes.old ++ stored_by (length words.now) (PlainCall.Store at value)) }
+    ensures words { OnOk result (overlaid words.now writes.new ≡ words_after (overlaid words.now writes.old) (PlainCall.Store at value)) }
+    ensures err { OnErr result (writes.new ≡ writes.old) }
+    ensures now { IfOk result (λ reply. is_late reply ≡ false) }
+{
+    if words.count() as u64 <= at {
+        return Ok(Reply::BadWord);
+    }
+    writes.store(at as usize, value)?;
+    Ok(Reply::Done)
+}
+
+// Does a call on words.
 fn act_on_words(words: &Words, writes: &mut WriteSet, call: &Call) -> Result<Reply, NoMemory>
     requires word { is_word_call call.now ≡ true }
     requires within { AreWithin (length words.now) writes.old }
     ensures reply { IfOk result (λ reply. reply ≡ word_reply (overlaid words.now writes.old) call.now) }
-    ensures stores { OnOk result (overlaid words.now writes.new ≡ words_after (overlaid words.now writes.old) call.now) }
-    ensures within { AreWithin (length words.now) writes.new }
+    ensures stores { OnOk result (writes.new ≡ writes.old ++ stored_by (length words.now) call.now) }
+    ensures words { OnOk result (overlaid words.now writes.new ≡ words_after (overlaid words.now writes.old) call.now) }
+    ensures err { OnErr result (writes.new ≡ writes.old) }
     ensures now { IfOk result (λ reply. is_late reply ≡ false) }
 {
-    let (Call::Load { at } | Call::Store { at, .. }) = call else {
-        unreachable!()
-    };
-    if words.count() as u64 <= *at {
-        return Ok(Reply::BadWord);
+    match call {
+        Call::Load { at } => Ok(load(words, writes, *at)),
+        Call::Store { at, value } => store(words, writes, *at, *value),
+        _ => unreachable!(),
     }
-    let at = *at as usize;
-    if let Call::Store { value, .. } = call {
-        writes.store(at, *value)?;
-        return Ok(Reply::Done);
-    }
-    Ok(Reply::Number(writes.load(words, at)))
 }
 
-// Does a call. Without memory the host is as it was.
+// Does a call. Without memory nothing is changed.
 fn act<H: Host>(
     alloc: Global,
     host: &mut H,
@@ -74,14 +94,14 @@ fn act<H: Host>(
     requires stored { me.old.stored ≤ 16384 }
     requires none { undo.old.ended ≡ [] }
     requires open { IsTrue H.model.tells → AreOpenIn (H.model.contents host.old) me.old }
-    ensures within { AreWithin (length words.now) writes.new }
+    ensures stores { OnOk result (writes.new ≡ writes.old ++ stored_by (length words.now) call.now) }
     ensures stored { me.new.stored ≤ 16384 }
-    ensures none { undo.new.ended ≡ [] }
-    ensures grows { length undo.new.pending ≤ length undo.old.pending + 1 }
+    ensures made { (made : List Undo) × (length made ≤ 1) × (undo.new ≡ record undo.old { pending = undo.old.pending ++ made }) }
     ensures now { IfOk result (λ reply. is_late reply ≡ false) }
-    ensures still { is_overwrite call.now ≡ false
-        → (undo.new ≡ undo.old) × (IsTrue H.model.tells → H.model.contents host.new ≡ H.model.contents host.old) }
-    ensures err_undo { OnErr result (undo.new ≡ undo.old) }
+    ensures still { is_overwrite call.now ≡ false → undo.new ≡ undo.old }
+    ensures looks { is_overwrite call.now ≡ false → IsTrue H.model.tells → H.model.contents host.new ≡ H.model.contents host.old }
+    ensures words { is_word_call call.now ≡ true → me.new ≡ me.old }
+    ensures err { OnErr result ((me.new ≡ me.old) × (writes.new ≡ writes.old) × (undo.new ≡ undo.old)) }
     ensures err_host { IsTrue H.model.tells → OnErr result (H.model.contents host.new ≡ H.model.contents host.old) }
     ensures cause { CountsFault (replies_fault result) (H.model.fault_count host.old) (H.model.fault_count host.new) }
     ensures spoken { IfOk result (IsWordStep (overlaid words.now writes.old) (overlaid words.now writes.new) call.now) }
@@ -98,9 +118,15 @@ fn act<H: Host>(
     }
 }
 
-// Does the call that is asked, and goes on behind its reply, with room to note it. Without memory the
-// host is as it was, and nothing is noted.
-fn do_call<H: Host>(
+fn is_on_words(call: &Call) -> bool
+    ensures { result ≡ is_word_call call.now }
+{
+    matches!(call, Call::Load { .. } | Call::Store { .. })
+}
+
+/// Does the call that is asked, and goes on behind its reply. Without memory the transaction and the place are as they
+/// were: the handles too, if it is wanting behind the call, for the variable that takes the reply.
+pub fn do_call<H: Host>(
     alloc: Global,
     host: &mut H,
     words: &Words,
@@ -110,183 +136,43 @@ fn do_call<H: Host>(
     call: &Call,
 ) -> Result<Reply, NoMemory>
     requires asked { asks (walk_of script.now place.old) ≡ AskedCall call.now }
-    requires may { MayGo script.now words.now place.old tx.old }
+    requires settled { IsSettled script.now place.old }
+    requires may { MayGo (length words.now) (seen_tx tx.old) }
     requires open { IsTrue H.model.tells → AreOpenIn (H.model.contents host.old) tx.old.me }
-    ensures same { KeepsNotes tx.old tx.new }
-    ensures room { OnOk result (HasRoom tx.new) }
-    ensures within { AreWithin (length words.now) tx.new.writes }
+    ensures same { (tx.new.number ≡ tx.old.number) × (tx.new.rank ≡ tx.old.rank) × (tx.new.began ≡ tx.old.began) ×
+        (tx.new.phase ≡ tx.old.phase) }
+    ensures notes { (tx.new.calls ≡ tx.old.calls) × (tx.new.replies ≡ tx.old.replies) × (tx.new.held ≡ tx.old.held) }
+    ensures stores { OnOk result (tx.new.writes ≡ tx.old.writes ++ stored_by (length words.now) call.now) }
     ensures stored { tx.new.me.stored ≤ 16384 }
-    ensures none { tx.new.undo.ended ≡ [] }
-    ensures grows { length tx.new.undo.pending ≤ length tx.old.undo.pending + 1 }
+    ensures made { (made : List Undo) × (length made ≤ 1) × (tx.new.undo ≡ record tx.old.undo { pending = tx.old.undo.pending ++ made }) }
     ensures walk { IfOk result (λ reply. walk_of script.now place.new ≡ answered (walk_of script.now place.old) reply) }
     ensures now { IfOk result (λ reply. is_late reply ≡ false) }
-    ensures at { OnOk result (place.new.at ≡ place.old.at + 1) }
-    ensures standing { IsSameBegin place.old place.new }
-    ensures err_undo { OnErr result (tx.new.undo ≡ tx.old.undo) }
+    ensures nearer { OnOk result (place.old.at < place.new.at) }
+    ensures begin { IsSameBegin place.old place.new }
+    ensures err_place { OnErr result (place.new ≡ place.old) }
+    ensures err_tx { OnErr result (seen_tx tx.new ≡ seen_tx tx.old) }
     ensures err_host { IsTrue H.model.tells → OnErr result (H.model.contents host.new ≡ H.model.contents host.old) }
     ensures cause { CountsFault (replies_fault result) (H.model.fault_count host.old) (H.model.fault_count host.new) }
     ensures spoken { IfOk result (IsWordStep (overlaid words.now tx.old.writes) (overlaid words.now tx.new.writes) call.now) }
     ensures does { IsTrue H.model.tells → IfOk result (DoesIn words.now (H.model.contents host.old) (H.model.contents host.new)
-        (parts_of tx.old) (parts_of tx.new) call.now) }
+        (parts_of (seen_tx tx.old)) (parts_of (seen_tx tx.new)) call.now) }
 {
-    tx.room()?;
     let Tx {
         me,
         writes,
         undo,
         ..
     } = tx;
+    if is_on_words(call) {
+        let reply = act(alloc, host, words, me, writes, undo, call)?;
+        place.answer(script, &reply)?;
+        return Ok(reply);
+    }
+    let before = *me;
     let reply = act(alloc, host, words, me, writes, undo, call)?;
-    place.answer(script, &reply)?;
+    if place.answer(script, &reply).is_err() {
+        *me = before;
+        return Err(NoMemory);
+    }
     Ok(reply)
-}
-
-// What a transaction's call claims.
-fn touched_by(alloc: Global, words: &Words, tx: &Tx, call: &Call) -> SmallVec<Claim, 2>
-    requires { length words.now ≤ 4096 }
-    ensures { result.items ≡ claims_of call.now tx.now.me (length words.now) }
-{
-    touched(alloc, call, &tx.me, words.count() as u32)
-}
-
-// The turn of a running transaction whose next call is asked.
-fn try_call<H: Host>(
-    alloc: Global,
-    host: &mut H,
-    words: &Words,
-    script: &Script,
-    place: &mut JobState,
-    tx: &mut Tx,
-    call: Call,
-) -> Turn
-    requires asked { asks (walk_of script.now place.old) ≡ AskedCall call }
-    requires may { MayGo script.now words.now place.old tx.old }
-    requires count { length words.now ≤ 4096 }
-    requires open { IsTrue H.model.tells → AreOpenIn (H.model.contents host.old) tx.old.me }
-    ensures flight { (rules : PlainRules) (tells : Bool) (f : Following) (entered : ℕ)
-        → Flight (setting script.now rules tells) f words.now entered place.old tx.old
-        → Flight (setting script.now rules tells) f words.now entered place.new tx.new }
-    ensures played { IsTrue H.model.tells
-        → (w : World) (me : PlainPrivate) (rules : PlainRules) (tells : Bool) (f : Following) (entered : ℕ)
-        → Flight (setting script.now rules tells) f words.now entered place.old tx.old → IsSound w me (entered + 1)
-        → IsPlayedBy w me words.now (H.model.contents host.old) (PlainActivity.Active tx.old)
-        → IsPlayedBy w me words.now (H.model.contents host.new) (PlainActivity.Active tx.new) }
-    ensures spoken { (before : List ℕ) → HasSpoken before words.now tx.old → HasSpoken before words.now tx.new }
-    ensures faults { (n before : ℕ) → CountsFaults (n + faults_noted (PlainActivity.Active tx.old)) before (H.model.fault_count host.old)
-        → CountsFaults (n + faults_noted (PlainActivity.Active tx.new)) before (H.model.fault_count host.new) }
-    ensures block { IsSameBegin place.old place.new }
-    ensures falls { IsNearer (length (unwrap_or (next_body script.now (job_of place.old)) [])) place.old place.new tx.old tx.new }
-    ensures answer { IsGoing result }
-    ensures memory { (result ≡ Turn.NoMemory) ↔ (tx.new.phase ≡ Phase.Undoing Cause.NoMemory) }
-{
-    let claims = touched_by(alloc, words, tx, &call);
-    match do_call(alloc, host, words, script, place, tx, &call) {
-        Ok(reply) => {
-            tx.note(call, reply, claims.as_slice());
-            Turn::Went
-        }
-        Err(NoMemory) => {
-            tx.phase = Phase::Undoing(Cause::NoMemory);
-            Turn::NoMemory
-        }
-    }
-}
-
-/// The turn of a running transaction: its next call, the entering of its commit, which writes its
-/// stores, or that of its abort. Without memory it undoes.
-pub fn go<H: Host>(
-    alloc: Global,
-    host: &mut H,
-    words: &mut Words,
-    script: &Script,
-    place: &mut JobState,
-    tx: &mut Tx,
-) -> Turn
-    requires may { MayGo script.now words.old place.old tx.old }
-    requires count { length words.old ≤ 4096 }
-    requires open { IsTrue H.model.tells → AreOpenIn (H.model.contents host.old) tx.old.me }
-    ensures flight { (rules : PlainRules) (tells : Bool) (f : Following) (entered : ℕ)
-        → Flight (setting script.now rules tells) f words.old entered place.old tx.old
-        → Flight (setting script.now rules tells) f words.new entered place.new tx.new }
-    ensures played { IsTrue H.model.tells
-        → (w : World) (me : PlainPrivate) (rules : PlainRules) (tells : Bool) (f : Following) (entered : ℕ)
-        → Flight (setting script.now rules tells) f words.old entered place.old tx.old → IsSound w me (entered + 1)
-        → IsPlayedBy w me words.old (H.model.contents host.old) (PlainActivity.Active tx.old)
-        → IsPlayedBy w me words.new (H.model.contents host.new) (PlainActivity.Active tx.new) }
-    ensures spoken { (before : List ℕ) → HasSpoken before words.old tx.old → HasSpoken before words.new tx.new }
-    ensures faults { (n before : ℕ) → CountsFaults (n + faults_noted (PlainActivity.Active tx.old)) before (H.model.fault_count host.old)
-        → CountsFaults (n + faults_noted (PlainActivity.Active tx.new)) before (H.model.fault_count host.new) }
-    ensures words { length words.new ≡ length words.old }
-    ensures block { IsSameBegin place.old place.new }
-    ensures falls { IsNearer (length (unwrap_or (next_body script.now (job_of place.old)) [])) place.old place.new tx.old tx.new }
-    ensures answer { IsGoing result }
-    ensures memory { (result ≡ Turn.NoMemory) ↔ (tx.new.phase ≡ Phase.Undoing Cause.NoMemory) }
-{
-    match place.ask(script) {
-        Ok(Ask::Call(call)) => try_call(alloc, host, words, script, place, tx, call),
-        Ok(Ask::Commit) => {
-            tx.writes.apply(words);
-            tx.phase = Phase::Committing;
-            Turn::Went
-        }
-        Ok(Ask::Abort) => {
-            tx.phase = Phase::Undoing(Cause::Asked);
-            Turn::Went
-        }
-        Ok(Ask::End) => unreachable!(),
-        Err(NoMemory) => {
-            tx.phase = Phase::Undoing(Cause::NoMemory);
-            Turn::NoMemory
-        }
-    }
-}
-
-/// The turn of a job whose transaction runs: the job behind it, and what the turn answers.
-pub fn run<H: Host>(
-    alloc: Global,
-    host: &mut H,
-    words: &mut Words,
-    script: &Script,
-    job: Job,
-) -> (Job, Turn)
-    requires can { CanRun script.now words.old job.place job.activity }
-    requires count { length words.old ≤ 4096 }
-    requires open { IsTrue H.model.tells → HasOpenFiles (H.model.contents host.old) job.activity }
-    ensures active { (rules : PlainRules) (tells : Bool) (f : Following) (entered : ℕ) (spare : ℕ)
-        → IsActive (setting script.now rules tells) f words.old entered spare job.place job.activity
-        → IsActive (setting script.now rules tells) f words.new entered spare result.0.place result.0.activity }
-    ensures played { IsTrue H.model.tells
-        → (w : World) (me : PlainPrivate) (rules : PlainRules) (tells : Bool) (f : Following) (entered : ℕ) (spare : ℕ)
-        → IsActive (setting script.now rules tells) f words.old entered spare job.place job.activity → IsSound w me (entered + 1)
-        → IsPlayedBy w me words.old (H.model.contents host.old) job.activity
-        → IsPlayedBy w me words.new (H.model.contents host.new) result.0.activity }
-    ensures spoken { (before : List ℕ) → AreSpoken before words.old job.activity → AreSpoken before words.new result.0.activity }
-    ensures faults { (n before : ℕ) → CountsFaults (n + faults_noted job.activity) before (H.model.fault_count host.old)
-        → CountsFaults (n + faults_noted result.0.activity) before (H.model.fault_count host.new) }
-    ensures words { length words.new ≡ length words.old }
-    ensures same { (result.0.block ≡ job.block) × (result.0.me ≡ job.me) }
-    ensures place { (result.0.place.block ≡ job.place.block) × (result.0.place.next ≡ job.place.next) }
-    ensures falls { RunsOn (length (unwrap_or (next_body script.now (job_of job.place)) []))
-        job.place result.0.place job.activity result.0.activity }
-    ensures answer { IsGoing result.1 }
-    ensures memory { (result.1 ≡ Turn.NoMemory) ↔ IsStarving result.0.activity }
-{
-    let Job {
-        block,
-        me,
-        mut place,
-        activity,
-    } = job;
-    let Activity::Active(mut tx) = activity else {
-        unreachable!()
-    };
-    let turn = go(alloc, host, words, script, &mut place, &mut tx);
-    let activity = Activity::Active(tx);
-    let job = Job {
-        block,
-        me,
-        place,
-        activity,
-    };
-    (job, turn)
 }

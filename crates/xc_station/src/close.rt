@@ -1,100 +1,63 @@
-ghost use Rattle.std.specs.Prelude.{◌≡◌, ◌≢◌, ◌<◌, ◌≤◌, ◌+◌, ◌^◌, [], IsTrue};
+ghost use Rattle.std.specs.Prelude.{◌≡◌, ◌≢◌, ℕ, ◌<◌, ◌≤◌, ◌+◌, ◌^◌, [], IsTrue};
 ghost use Rattle.xc_data.specs.declared.entry.Cause.{Cause as PlainCause};
 ghost use Rattle.xc_data.specs.declared.entry.Outcome.TheVariants.{Committed, Aborted};
-ghost use Rattle.xc_compensate.specs.Records.{NextIsCovered};
-ghost use Rattle.xc_script.specs.Place.{at_begin};
-ghost use Rattle.xc_station.specs.declared.tx.Tx.{Tx as PlainTx};
-ghost use Rattle.xc_station.specs.declared.tx.Phase.TheVariants as PlainPhase;
-ghost use Rattle.xc_station.specs.declared.job.Job.{Job as PlainJob};
-ghost use Rattle.xc_station.specs.declared.job.Activity.TheVariants as activity;
-ghost use Rattle.xc_station.specs.Doing.{IsBusy, IsGoingBack, EndsIn};
-ghost use Rattle.xc_station.specs.Notes.{entry_of};
-ghost use Rattle.xc_station.specs.Closing.{behind_commit, behind_abort, Undoes};
+ghost use Rattle.xc_compensate.specs.Records.{IsTried, NextIsCovered, Records};
+ghost use Rattle.xc_story.specs.declared.phase.Phase.TheVariants as PlainPhase;
+ghost use Rattle.xc_story.specs.Seen.{SeenTx, Active, Idle, failures};
+ghost use Rattle.xc_story.specs.Rows.{attempts_with, behind_abort, behind_commit, entry_of, with_tx};
+ghost use Rattle.xc_station.specs.Jobs.{seen_job, seen_tx};
 
 use crate::job::{Activity, Job};
-use crate::tx::{Phase, Tx};
+use crate::tx::Tx;
 use std::alloc::Global;
-use xc_data::{Cause, Entry, Ident, JobEnd, Private, Turn};
+use std::mem;
+use xc_data::{Cause, Entry};
 use xc_host::Host;
-use xc_script::JobState;
+use xc_story::{Attempts, Phase};
 
-// Takes an active job apart.
-fn taken(job: Job) -> (Ident, Private, JobState, Tx)
-    requires { IsBusy job.activity }
-    ensures parts { (result.0 ≡ job.block) × (result.1 ≡ job.me) × (result.2 ≡ job.place) }
-    ensures tx { job.activity ≡ activity.Active result.3 }
+// Takes the active transaction out of its job.
+fn taken(job: &mut Job) -> Tx
+    requires { (tx : SeenTx) × ((seen_job job.old).doing ≡ Active tx) }
+    ensures tx { (seen_job job.old).doing ≡ Active (seen_tx result) }
+    ensures job { seen_job job.new ≡ record (seen_job job.old) { doing = Idle } }
 {
-    let Job {
-        block,
-        me,
-        place,
-        activity,
-    } = job;
-    let Activity::Active(tx) = activity else {
-        unreachable!()
-    };
-    (block, me, place, tx)
+    match mem::replace(&mut job.activity, Activity::Idle) {
+        Activity::Active(tx) => tx,
+        _ => unreachable!(),
+    }
 }
 
-/// A committing job behind its last turn, and its entry.
-pub fn commit(alloc: Global, job: Job) -> (Job, Entry)
-    requires busy { IsBusy job.activity }
-    requires next { job.place.next < 2 ^ 32 }
-    ensures { (tx : PlainTx) → job.activity ≡ activity.Active tx → result ≡ (behind_commit job tx, entry_of tx 1 (Committed [])) }
+/// A committing job behind its last turn, and its entry. The job's number counts from 1.
+pub fn commit(alloc: Global, number: u32, job: &mut Job) -> Entry
+    requires committing { (tx : SeenTx) × ((seen_job job.old).doing ≡ Active tx) × (tx.phase ≡ PlainPhase.Committing) }
+    requires next { job.old.place.next < 2 ^ 32 }
+    ensures { (tx : SeenTx) (at : ℕ) → (seen_job job.old).doing ≡ Active tx → number ≡ at + 1
+        → (seen_job job.new ≡ behind_commit (seen_job job.old) tx) × (result ≡ entry_of tx at (Committed [])) }
 {
-    let (block, _, mut place, tx) = taken(job);
-    let me = tx.me.renewed();
-    let entry = tx.commit(alloc, 1);
-    place.pass();
-    let activity = Activity::Idle;
-    let job = Job {
-        block,
-        me,
-        place,
-        activity,
-    };
-    (job, entry)
+    let tx = taken(job);
+    job.me = tx.me.renewed();
+    job.place.pass();
+    job.attempts = None;
+    tx.close(alloc, number)
 }
 
 /// An undoing job behind a turn in which its newest record without an end was tried.
-pub fn undo<H: Host>(host: &mut H, tries: u32, job: Job) -> Job
-    requires busy { IsBusy job.activity }
+pub fn undo<H: Host>(host: &mut H, tries: u32, job: &mut Job)
+    requires undoing { (tx : SeenTx) × ((seen_job job.old).doing ≡ Active tx) × (tx.undo.pending ≢ [])
+        × (IsTrue H.model.tells → NextIsCovered (H.model.contents host.old) tx.undo) }
     requires tries { 1 ≤ tries }
-    requires covered { IsTrue H.model.tells → (tx : PlainTx) → job.activity ≡ activity.Active tx
-        → NextIsCovered (H.model.contents host.old) tx.undo }
-    ensures undoes { (tx : PlainTx) → job.activity ≡ activity.Active tx → tx.undo.pending ≢ []
-        → Undoes H.model tries (record { host = host.old; job = job }) (record { host = host.new; job = result }) tx }
-    ensures going { EndsIn Turn.Went result.activity }
+    ensures { (tx : SeenTx) → (seen_job job.old).doing ≡ Active tx → (undo : Records)
+        × (seen_job job.new ≡ with_tx (seen_job job.old) job.old.place (record tx { undo = undo }))
+        × IsTried H.model tries (record { host = host.old; undo = tx.undo }) (record { host = host.new; undo = undo }) }
 {
-    let (block, me, place, mut tx) = taken(job);
+    let mut tx = taken(job);
     tx.undo.undo_next(host, tries);
-    let activity = Activity::Active(tx);
-    Job {
-        block,
-        me,
-        place,
-        activity,
-    }
-}
-
-// Goes to where a job stands behind an abort, and says what it does there.
-fn after_abort(place: &mut JobState, cause: &Cause) -> Activity
-    requires { place.old.next < 2 ^ 32 }
-    ensures behind { (job : PlainJob) → job.place ≡ place.old
-        → (place.new ≡ (behind_abort job cause.now).place) × (result ≡ (behind_abort job cause.now).activity) }
-    ensures going { EndsIn Turn.Went result }
-{
-    if !matches!(cause, Cause::Asked) {
-        return Activity::Starved;
-    }
-    place.back();
-    place.pass();
-    Activity::Idle
+    job.activity = Activity::Active(tx);
 }
 
 // Why a transaction undoes.
 fn cause_of(tx: &Tx) -> Cause
-    requires { IsGoingBack tx.now.phase }
+    requires { (c : PlainCause) × (tx.now.phase ≡ PlainPhase.Undoing c) }
     ensures { tx.now.phase ≡ PlainPhase.Undoing result }
 {
     match tx.phase {
@@ -103,43 +66,55 @@ fn cause_of(tx: &Tx) -> Cause
     }
 }
 
-/// An undoing job behind its last turn, and its entry.
-pub fn abort(job: Job) -> (Job, Entry)
-    requires busy { IsBusy job.activity }
-    requires undone { (tx : PlainTx) → job.activity ≡ activity.Active tx → (tx.undo.pending ≡ []) × IsGoingBack tx.phase }
-    requires next { job.place.next < 2 ^ 32 }
-    ensures going { EndsIn Turn.Went result.0.activity }
-    ensures behind { (tx : PlainTx) (cause : PlainCause) → job.activity ≡ activity.Active tx → tx.phase ≡ PlainPhase.Undoing cause
-        → result ≡ (behind_abort job cause, entry_of tx 1 (Aborted (record { cause = cause; records = tx.undo.ended }))) }
+// The attempts with one more that ended in a conflict.
+fn one_more(attempts: &Option<Attempts>, tx: &Tx, last: Cause) -> Attempts
+    requires { failures attempts.now + 1 < 2 ^ 32 }
+    ensures { result ≡ attempts_with attempts.now (seen_tx tx.now) last }
 {
-    let (block, me, mut place, tx) = taken(job);
-    let cause = cause_of(&tx);
-    let activity = after_abort(&mut place, &cause);
-    let entry = tx.abort(1, cause);
-    let job = Job {
-        block,
-        me,
-        place,
-        activity,
+    let failed = match attempts {
+        Some(attempts) => attempts.failed,
+        None => 0,
     };
-    (job, entry)
+    Attempts {
+        first: tx.rank,
+        failed: failed + 1,
+        last,
+    }
 }
 
-/// The job at its end.
-pub fn end(job: Job, end: JobEnd) -> Job
-    ensures { result ≡ record job { activity = activity.Ended end } }
+// Goes to where a job stands behind an abort.
+fn go_back(job: &mut Job, tx: &Tx, cause: Cause)
+    requires idle { (seen_job job.old).doing ≡ Idle }
+    requires next { job.old.place.next < 2 ^ 32 }
+    requires attempts { failures job.old.attempts + 1 < 2 ^ 32 }
+    ensures { seen_job job.new ≡ behind_abort (seen_job job.old) (seen_tx tx.now) cause }
 {
-    let Job {
-        block,
-        me,
-        place,
-        ..
-    } = job;
-    let activity = Activity::Ended(end);
-    Job {
-        block,
-        me,
-        place,
-        activity,
+    match cause {
+        Cause::NoMemory => job.activity = Activity::Starved,
+        Cause::Asked => {
+            job.place.back();
+            job.place.pass();
+            job.attempts = None;
+        }
+        _ => {
+            job.place.back();
+            job.attempts = Some(one_more(&job.attempts, tx, cause));
+        }
     }
+}
+
+/// An undoing job behind its last turn, and its entry. The job's number counts from 1.
+pub fn abort(alloc: Global, number: u32, job: &mut Job) -> Entry
+    requires undone { (tx : SeenTx) × (c : PlainCause) × ((seen_job job.old).doing ≡ Active tx) × (tx.phase ≡ PlainPhase.Undoing c)
+        × (tx.undo.pending ≡ []) }
+    requires next { job.old.place.next < 2 ^ 32 }
+    requires attempts { failures job.old.attempts + 1 < 2 ^ 32 }
+    ensures { (tx : SeenTx) (c : PlainCause) (at : ℕ) → (seen_job job.old).doing ≡ Active tx → tx.phase ≡ PlainPhase.Undoing c
+        → number ≡ at + 1 → (seen_job job.new ≡ behind_abort (seen_job job.old) tx c)
+        × (result ≡ entry_of tx at (Aborted (record { cause = c; records = tx.undo.ended }))) }
+{
+    let tx = taken(job);
+    let cause = cause_of(&tx);
+    go_back(job, &tx, cause);
+    tx.close(alloc, number)
 }

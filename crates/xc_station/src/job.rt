@@ -1,9 +1,11 @@
 ghost use Rattle.std.specs.Prelude.{◌≡◌};
-ghost use Rattle.xc_station.specs.Doing.{doing_of, doing_phase};
+ghost use Rattle.xc_story.specs.Seen.{Ended};
+ghost use Rattle.xc_station.specs.Jobs.{is_live, phase_stage, seen_doing, seen_job, stage_of};
 
-use crate::tx::{Phase, Tx};
-use xc_data::{Ident, JobEnd, Private};
+use crate::tx::Tx;
+use xc_data::{Ident, JobEnd, Private, Turn};
 use xc_script::JobState;
+use xc_story::{Attempts, Phase};
 
 /// What a job does between two turns.
 #[derive(Drop)]
@@ -23,12 +25,14 @@ pub struct Job {
     /// Its handles, as its next transaction begins with them, or the active one began.
     pub me: Private,
     pub place: JobState,
+    /// Attempts at its next transaction that met a holder.
+    pub attempts: Option<Attempts>,
     pub activity: Activity,
 }
 
 /// The rows of the table of turns: what a job's next turn goes by.
 #[derive(Clone, Copy)]
-pub enum Doing {
+pub enum Stage {
     Idle,
     Running,
     Committing,
@@ -40,32 +44,46 @@ pub enum Doing {
     Ended,
 }
 
-fn phase_now(tx: &Tx) -> Doing
-    ensures { result ≡ doing_phase tx.now.undo.pending tx.now.phase }
+fn phase_now(tx: &Tx) -> Stage
+    ensures { result ≡ phase_stage tx.now.undo.pending tx.now.phase }
 {
     match tx.phase {
-        Phase::Running => Doing::Running,
-        Phase::Committing => Doing::Committing,
+        Phase::Running => Stage::Running,
+        Phase::Committing => Stage::Committing,
         Phase::Undoing(_) => {
             if tx.undo.is_undone() {
-                return Doing::Undone;
+                return Stage::Undone;
             }
-            Doing::Undoing
+            Stage::Undoing
         }
     }
 }
 
-/// What the job does; Ended where there is none.
-pub fn doing_now(job: &Option<Job>) -> Doing
-    ensures { result ≡ doing_of job.now }
-{
-    let Some(job) = job else {
-        return Doing::Ended;
-    };
-    match &job.activity {
-        Activity::Idle => Doing::Idle,
-        Activity::Active(tx) => phase_now(tx),
-        Activity::Starved => Doing::Starved,
-        Activity::Ended(_) => Doing::Ended,
+impl Job {
+    /// What its next turn goes by.
+    pub fn stage(&self) -> Stage
+        ensures { result ≡ stage_of (seen_doing self.now.activity) }
+    {
+        match &self.activity {
+            Activity::Idle => Stage::Idle,
+            Activity::Active(tx) => phase_now(tx),
+            Activity::Starved => Stage::Starved,
+            Activity::Ended(_) => Stage::Ended,
+        }
+    }
+
+    /// Whether it goes on.
+    pub fn is_live(&self) -> bool
+        ensures { result ≡ is_live (seen_job self.now) }
+    {
+        !matches!(self.activity, Activity::Ended(_))
+    }
+
+    /// It ends.
+    pub fn end(&mut self, end: &JobEnd) -> Turn
+        ensures { (seen_job self.new ≡ record (seen_job self.old) { doing = Ended end.now }) × (result ≡ Turn.Ended end.now) }
+    {
+        self.activity = Activity::Ended(*end);
+        Turn::Ended(*end)
     }
 }

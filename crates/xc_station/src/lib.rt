@@ -1,15 +1,16 @@
-//! The core: jobs take turns, each turn one event, and the journal tells what they did.
+//! The core: jobs take turns, each turn one row of the table of turns, and the journal tells what they did.
 #![tactic(auto)]
 
 mod begin;
 mod calls;
 mod close;
 mod job;
-mod rules;
+mod running;
+mod schedule;
+mod start;
 mod station;
-mod turns;
 mod tx;
 
-pub use rules::{End, NotStarted, Opening, Rules};
+pub use schedule::{drain, run_schedule, work_alone};
+pub use start::{End, NotStarted, Opening};
 pub use station::Station;
-pub use turns::work_alone;

@@ -1,54 +1,60 @@
-ghost use Rattle.std.specs.Prelude.{◌≡◌, ◌↔◌, ◌<◌, ◌≤◌, length, ℕ, [], ◌&&◌, ◌||◌, not, true, false};
-ghost use Rattle.std.specs.Prelude.{Some, None, IfOk, IfErr, slice_get, sum_by, IsTrue, if◌then◌else◌};
+ghost use Rattle.std.specs.Prelude.{◌≡◌, ◌<◌, ◌≤◌, ◌-◌, ℕ, length, [], ◌&&◌, not, true, false};
+ghost use Rattle.std.specs.Prelude.{All, IfOk, IfErr, map, sum_by, IsTrue, MatchOption};
 ghost use Rattle.xc_data.specs.Counts.{CountsFaults};
 ghost use Rattle.xc_data.specs.Faults.{entry_faults};
 ghost use Rattle.xc_data.specs.Limits.{KeepsLimits};
 ghost use Rattle.xc_host.specs.Contents.{needs_scripted, opened};
 ghost use Rattle.xc_text.specs.Scripts.{IsScript};
-ghost use Rattle.xc_station.specs.declared.job.Doing.TheVariants as doing;
-ghost use Rattle.xc_station.specs.Doing.{doing_of, doing_in, is_live, Starves, EndsIn, EndsWith, Grows, IsLineOf, AreLinesOf, opened_job};
-ghost use Rattle.xc_station.specs.Ending.{IsTrueEnd};
-ghost use Rattle.xc_station.specs.Setting.{setting};
-ghost use Rattle.xc_station.specs.Truth.{IsSerial};
-ghost use Rattle.xc_station.specs.Flight.{HasLine};
-ghost use Rattle.xc_station.specs.Turns.{KeepsOpening, turns_left};
+ghost use Rattle.xc_story.specs.Ending.{IsTrueEnd};
+ghost use Rattle.xc_story.specs.Kept.{AreLinesOf, IsLineOf};
+ghost use Rattle.xc_story.specs.Measure.{turns_left};
+ghost use Rattle.xc_story.specs.Opened.{IsOpening, opened_job};
+ghost use Rattle.xc_story.specs.Rows.{IsTurn};
+ghost use Rattle.xc_story.specs.Setting.{setting};
+ghost use Rattle.xc_station.specs.declared.job.Stage.TheVariants as PlainStage;
+ghost use Rattle.xc_station.specs.declared.job.Job.{Job as PlainJob};
+ghost use Rattle.xc_station.specs.Jobs.{IsStage, is_live, seen_job, seen_jobs};
+ghost use Rattle.xc_station.specs.Stations.{IsNextOf, KeepsOpening, NobodyLives, live_at, now_of, setting_of};
 
 use crate::begin::begin;
-use crate::calls::run;
-use crate::close::{abort, commit, end, undo};
-use crate::job::{Activity, Doing, Job, doing_now};
-use crate::rules::{End, NotStarted, Opening, Rules};
+use crate::calls::Shared;
+use crate::close::{abort, commit, undo};
+use crate::job::{Activity, Job, Stage};
+use crate::running::run;
+use crate::start::{End, NotStarted, Opening};
 use std::alloc::Global;
 use std::marker::Model;
 use xc_data::{JobEnd, JobLine, JobList, NoMemory, Private, Turn};
 use xc_host::{Host, OpenErr};
 use xc_journal::{Journal, Roomy};
 use xc_script::JobState;
+use xc_story::Rules;
 use xc_text::Script;
 use xc_txmem::Words;
+use xc_wordlocks::Claims;
 
-/// The core, over a host. Jobs are numbered from 1; a script has one job at most so far.
+/// The core, over a host. Jobs are numbered from 1, in the order of their starts.
 #[derive(Drop)]
 pub struct Station<H: Host> {
     alloc: Global,
     opening: Opening,
     rules: Rules,
-    host: H,
-    words: Words,
+    shared: Shared<H>,
     journal: Journal,
-    job: Option<Job>,
+    // How many transactions are active; each has room for its entry in the journal.
+    active: u32,
+    jobs: Vec<Job>,
+    // Room for a line of each job.
     lines: Roomy<JobLine>,
-    taken: bool,
+    // Jobs in the places below this one were taken, or have ended.
+    taken: usize,
 }
 
 impl<H: Host> Model for Station<H> {
-    ghost use Rattle.std.specs.Prelude.{◌≤◌};
-    ghost use Rattle.xc_station.specs.Setting.{setting};
-    ghost use Rattle.xc_station.specs.Truth.{IsSerial};
-    ghost use Rattle.xc_station.specs.Turns.{Seen};
-    ghost use Rattle.xc_station.specs.Flight.{InFlight, AreCounted, HasLine};
     ghost use Rattle.std.specs.Coded.{codes};
     ghost use Rattle.xc_script.specs.Place.{coded_place};
+    ghost use Rattle.xc_story.specs.Setting.{setting};
+    ghost use Rattle.xc_station.specs.Stations.{Seen, IsSteady, HasRooms, moment};
 
     ghost Value = { Seen H };
 
@@ -57,216 +63,226 @@ impl<H: Host> Model for Station<H> {
     ghost view = { λ s. record {
       opening = s.opening;
       rules = s.rules;
-      host = s.host;
-      words = s.words;
+      host = s.shared.host;
+      words = s.shared.words;
       journal = s.journal.items;
-      job = s.job;
+      jobs = s.jobs.items;
       taken = s.taken;
     } };
 
-    ghost invariant = { λ s. InFlight (setting s.opening.script s.rules H.model.tells) s.words (H.model.contents s.host)
-        s.journal.items s.journal.spare s.job
-        × AreCounted s.journal.items s.job s.opening.faults (H.model.fault_count s.host) × (1 ≤ s.rules.undo_tries) × HasLine s.lines };
+    ghost invariant = { λ s. IsSteady (setting s.opening.script s.rules H.model.tells) s.opening.faults
+        (moment H.model s.shared s.journal.items s.jobs.items)
+        × HasRooms s.shared.claims s.active s.journal.spare (moment H.model s.shared s.journal.items s.jobs.items) s.lines };
 }
 
 impl<H: Host> Station<H> {
-    /// Whether the job exists and hasn't ended.
+    /// Whether the job of this number exists and hasn't ended.
     pub fn live(&self, job: u32) -> bool
-        ensures value { result ≡ is_live self.now.job job }
-
-        // The transactions of one job run one after another.
-        ensures serial { IsSerial self.now.journal }
+        ensures { result ≡ live_at self.now.jobs job }
     {
-        job == 1 && !matches!(doing_now(&self.job), Doing::Ended)
-    }
-
-    /// The smallest live job that isn't taken. It is taken from then on.
-    pub fn next_job(&mut self) -> Option<u32>
-        ensures first { result ≡ (if is_live self.old.job 1 && not self.old.taken then Some 1 else None) }
-        ensures taken { self.new ≡ record self.old { taken = self.old.taken || is_live self.old.job 1 } }
-        ensures serial { self.old.taken ≡ false → IsSerial self.old.journal }
-    {
-        if self.taken || !self.live(1) {
-            return None;
+        if job == 0 {
+            return false;
         }
-        self.taken = true;
-        Some(1)
+        match self.jobs.get(job as usize - 1) {
+            Some(job) => job.is_live(),
+            None => false,
+        }
     }
 
-    // The job's next transaction begins, or the job ends.
-    fn idle(&mut self) -> Turn
-        requires { doing_of self.old.job ≡ doing.Idle }
-        ensures same { KeepsOpening self.old self.new }
-        ensures journal { Grows self.old.journal self.new.journal }
-        ensures falls { turns_left self.new.opening.script self.new.job < turns_left self.old.opening.script self.old.job }
-        ensures answer { EndsWith result self.new.job }
-        ensures memory { result ≡ Turn.NoMemory → ⊥ }
+    /// How many jobs were started.
+    pub fn count(&self) -> u32
+        ensures all { result ≡ length self.now.jobs }
+        ensures few { result ≤ 1000 }
     {
-        let Some(job) = self.job.take() else {
-            unreachable!()
-        };
-        let script = &self.opening.script;
-        let job = begin(self.alloc, script, &mut self.journal, job);
-        let turn = turn_of(&job.activity);
-        self.job = Some(job);
+        self.jobs.len() as u32
+    }
+
+    /// The live job with the smallest number that isn't taken. It is taken from then on.
+    pub fn next_job(&mut self) -> Option<u32>
+        ensures jobs { self.new.jobs ≡ self.old.jobs }
+        ensures same { (self.new.opening ≡ self.old.opening) × (self.new.rules ≡ self.old.rules)
+            × (now_of H.model self.new ≡ now_of H.model self.old) }
+        ensures first { MatchOption result
+            ((number : ℕ) → self.old.taken < number → live_at self.old.jobs number ≡ false)
+            (λ job. IsNextOf self.old.jobs self.old.taken job × (self.new.taken ≡ job)) }
+    {
+        while self.taken < self.jobs.len() {
+            self.taken += 1;
+            let job = self.taken as u32;
+            if self.live(job) {
+                return Some(job);
+            }
+        }
+        None
+    }
+
+    // An idle job's next transaction begins, or the job ends.
+    fn idle(&mut self, at: usize) -> Turn
+        requires { IsStage self.old.jobs at PlainStage.Idle }
+        ensures same { KeepsOpening self.old self.new }
+        ensures row { IsTurn (setting_of H.model self.old) at (now_of H.model self.old) result (now_of H.model self.new) }
+    {
+        let turn = begin(
+            self.alloc,
+            &self.opening.script,
+            &self.rules,
+            &mut self.journal,
+            self.active,
+            &mut self.jobs[at],
+        );
+        if matches!(turn, Turn::Went) {
+            self.active += 1;
+        }
         turn
     }
 
-    // A running transaction does its next call, or enters its commit.
-    fn running(&mut self) -> Turn
-        requires { doing_of self.old.job ≡ doing.Running }
+    // A running transaction does its next call, or enters its commit or its way back.
+    fn running(&mut self, at: usize) -> Turn
+        requires { IsStage self.old.jobs at PlainStage.Running }
         ensures same { KeepsOpening self.old self.new }
-        ensures journal { Grows self.old.journal self.new.journal }
-        ensures falls { turns_left self.new.opening.script self.new.job < turns_left self.old.opening.script self.old.job }
-        ensures answer { EndsWith result self.new.job }
-        ensures memory { (result ≡ Turn.NoMemory) ↔ Starves self.new.job }
+        ensures row { IsTurn (setting_of H.model self.old) at (now_of H.model self.old) result (now_of H.model self.new) }
     {
-        let Some(job) = self.job.take() else {
-            unreachable!()
-        };
-        let script = &self.opening.script;
-        let (job, turn) = run(self.alloc, &mut self.host, &mut self.words, script, job);
-        self.job = Some(job);
-        turn
+        let entered = self.journal.len() as u32;
+        run(
+            self.alloc,
+            &mut self.shared,
+            &self.opening.script,
+            entered,
+            &mut self.jobs[at],
+        )
     }
 
-    // Enters the entry of a committing transaction, into the room that was made at its begin. The job
-    // goes on to its next transaction.
-    fn committing(&mut self) -> Turn
-        requires { doing_of self.old.job ≡ doing.Committing }
+    // The entry of a committing transaction, into the room that was made at its begin. Its claims end.
+    fn committing(&mut self, at: usize) -> Turn
+        requires { IsStage self.old.jobs at PlainStage.Committing }
         ensures same { KeepsOpening self.old self.new }
-        ensures journal { Grows self.old.journal self.new.journal }
-        ensures falls { turns_left self.new.opening.script self.new.job < turns_left self.old.opening.script self.old.job }
-        ensures answer { EndsWith result self.new.job }
-        ensures memory { result ≡ Turn.NoMemory → ⊥ }
+        ensures row { IsTurn (setting_of H.model self.old) at (now_of H.model self.old) result (now_of H.model self.new) }
     {
-        let Some(job) = self.job.take() else {
-            unreachable!()
-        };
-        let (job, entry) = commit(self.alloc, job);
+        let entry = commit(self.alloc, at as u32 + 1, &mut self.jobs[at]);
+        self.shared.claims.release_all(entry.tx);
         self.journal.enter(entry);
-        self.job = Some(job);
+        self.active -= 1;
         Turn::Went
     }
 
     // Tries the newest record of an undoing transaction that has no end yet.
-    fn undoing(&mut self) -> Turn
-        requires { doing_of self.old.job ≡ doing.Undoing }
+    fn undoing(&mut self, at: usize) -> Turn
+        requires { IsStage self.old.jobs at PlainStage.Undoing }
         ensures same { KeepsOpening self.old self.new }
-        ensures journal { Grows self.old.journal self.new.journal }
-        ensures falls { turns_left self.new.opening.script self.new.job < turns_left self.old.opening.script self.old.job }
-        ensures answer { EndsWith result self.new.job }
-        ensures memory { result ≡ Turn.NoMemory → ⊥ }
+        ensures row { IsTurn (setting_of H.model self.old) at (now_of H.model self.old) result (now_of H.model self.new) }
     {
-        let Some(job) = self.job.take() else {
-            unreachable!()
-        };
-        let job = undo(&mut self.host, self.rules.undo_tries, job);
-        self.job = Some(job);
+        undo(
+            &mut self.shared.host,
+            self.rules.undo_tries,
+            &mut self.jobs[at],
+        );
         Turn::Went
     }
 
-    // Enters the entry of a transaction whose records have their ends, into the room that was made at
-    // its begin. Its stores were never written.
-    fn undone(&mut self) -> Turn
-        requires { doing_of self.old.job ≡ doing.Undone }
+    // The entry of a transaction whose records have their ends, into the room that was made at its begin. Its
+    // stores were never written, and its claims end.
+    fn undone(&mut self, at: usize) -> Turn
+        requires { IsStage self.old.jobs at PlainStage.Undone }
         ensures same { KeepsOpening self.old self.new }
-        ensures journal { Grows self.old.journal self.new.journal }
-        ensures falls { turns_left self.new.opening.script self.new.job < turns_left self.old.opening.script self.old.job }
-        ensures answer { EndsWith result self.new.job }
-        ensures memory { result ≡ Turn.NoMemory → ⊥ }
+        ensures row { IsTurn (setting_of H.model self.old) at (now_of H.model self.old) result (now_of H.model self.new) }
     {
-        let Some(job) = self.job.take() else {
-            unreachable!()
-        };
-        let (job, entry) = abort(job);
+        let entry = abort(self.alloc, at as u32 + 1, &mut self.jobs[at]);
+        self.shared.claims.release_all(entry.tx);
         self.journal.enter(entry);
-        self.job = Some(job);
+        self.active -= 1;
         Turn::Went
     }
 
     // A job whose transaction was aborted for want of memory ends.
-    fn starved(&mut self) -> Turn
-        requires { doing_of self.old.job ≡ doing.Starved }
+    fn starved(&mut self, at: usize) -> Turn
+        requires { IsStage self.old.jobs at PlainStage.Starved }
         ensures same { KeepsOpening self.old self.new }
-        ensures journal { Grows self.old.journal self.new.journal }
-        ensures falls { turns_left self.new.opening.script self.new.job < turns_left self.old.opening.script self.old.job }
-        ensures answer { EndsWith result self.new.job }
-        ensures memory { result ≡ Turn.NoMemory → ⊥ }
+        ensures row { IsTurn (setting_of H.model self.old) at (now_of H.model self.old) result (now_of H.model self.new) }
     {
-        let Some(job) = self.job.take() else {
-            unreachable!()
-        };
-        self.job = Some(end(job, JobEnd::NoMemory));
-        Turn::Ended(JobEnd::NoMemory)
+        self.jobs[at].end(&JobEnd::NoMemory)
     }
 
-    /// One event of the job.
+    /// One event of the job of this number.
     ///
     /// | The job | What the turn does | Answer |
     /// |---|---|---|
     /// | idle, no transaction left | it ends | Ended(Done) |
+    /// | idle, as many attempts met a holder as the rules allow | it ends | Ended(GaveUp(the last cause)) |
+    /// | idle, 10,000 transactions have begun | it ends | Ended(JournalFull) |
     /// | idle, no memory for a begin | it ends | Ended(NoMemory) |
     /// | idle otherwise | its next transaction begins | Went |
-    /// | running, a call is asked | the call is done and noted | Went |
-    /// | running, no memory for it | it undoes | NoMemory |
+    /// | running, a call is asked, and nobody holds anything against it | the call is done and noted | Went |
+    /// | running, a call is asked, and another holds something against it | it undoes, with Conflict | Went |
     /// | running, the commit is asked | its stores are written | Went |
     /// | running, an abort is asked | it undoes | Went |
-    /// | committing | the Committed entry | Went |
+    /// | running, no memory | it undoes | NoMemory |
+    /// | committing | the Committed entry; its claims end | Went |
     /// | undoing, a record has no end | the newest such record is tried | Went |
-    /// | undoing, all have one | the Aborted entry | Went |
+    /// | undoing, all have one | the Aborted entry; its claims end | Went |
     /// | starved by want of memory | it ends | Ended(NoMemory) |
     pub fn turn(&mut self, job: u32) -> Turn
-        requires { is_live self.old.job job ≡ true }
+        requires { live_at self.old.jobs job ≡ true }
         ensures same { KeepsOpening self.old self.new }
-        ensures journal { Grows self.old.journal self.new.journal }
-        ensures falls { turns_left self.new.opening.script self.new.job < turns_left self.old.opening.script self.old.job }
-        ensures answer { EndsWith result self.new.job }
-
-        // Memory is wanting exactly where a running transaction goes over to its way back for want of it.
-        ensures memory { (result ≡ Turn.NoMemory) ↔ ((doing_of self.old.job ≡ doing.Running) × Starves self.new.job) }
+        ensures row { IsTurn (setting_of H.model self.old) (job - 1) (now_of H.model self.old) result (now_of H.model self.new) }
+        ensures falls { turns_left (setting_of H.model self.new) (now_of H.model self.new)
+            < turns_left (setting_of H.model self.old) (now_of H.model self.old) }
     {
-        match doing_now(&self.job) {
-            Doing::Idle => self.idle(),
-            Doing::Running => self.running(),
-            Doing::Committing => self.committing(),
-            Doing::Undoing => self.undoing(),
-            Doing::Undone => self.undone(),
-            Doing::Starved => self.starved(),
-            Doing::Ended => unreachable!(),
+        let at = job as usize - 1;
+        match self.jobs[at].stage() {
+            Stage::Idle => self.idle(at),
+            Stage::Running => self.running(at),
+            Stage::Committing => self.committing(at),
+            Stage::Undoing => self.undoing(at),
+            Stage::Undone => self.undone(at),
+            Stage::Starved => self.starved(at),
+            Stage::Ended => unreachable!(),
         }
     }
 }
 
-// The answer of an idle job's turn.
-fn turn_of(activity: &Activity) -> Turn
-    ensures ends { EndsIn result activity.now }
-    ensures memory { result ≡ Turn.NoMemory → ⊥ }
+// The jobs of the script's job blocks, each at the begin of its block.
+fn opened_jobs(alloc: Global, script: &Script) -> Result<Vec<Job>, NoMemory>
+    ensures { IfOk result (λ jobs. seen_jobs jobs.items ≡ map (opened_job script.now) script.now.plain.jobs) }
 {
-    match activity {
-        Activity::Ended(end) => Turn::Ended(*end),
-        _ => Turn::Went,
-    }
-}
-
-// The script's job at its begin, where it has one.
-fn first_job(alloc: Global, script: &Script) -> Option<Job>
-    ensures { result ≡ opened_job script.now (slice_get script.now.plain.jobs 0) }
-{
-    match script.plain().jobs.get(0) {
-        Some(block) => Some(Job {
+    let mut jobs = Vec::new(alloc);
+    for block in script.plain().jobs.as_slice() {
+        jobs.push(Job {
             block: *block,
             me: Private::new(),
             place: JobState::new(alloc, script, *block),
+            attempts: None,
             activity: Activity::Idle,
-        }),
-        None => None,
+        })?;
     }
+    Ok(jobs)
+}
+
+// Room for a line of each job.
+fn room_for(alloc: Global, jobs: &Vec<Job>) -> Result<Roomy<JobLine>, NoMemory>
+    requires { length jobs.now.items ≤ 1000 }
+    ensures { IfOk result (λ lines. (length jobs.now.items ≤ lines.spare) × (lines.items ≡ [])) }
+{
+    let mut lines = Roomy::new(alloc);
+    lines.reserve(jobs.len() as u32)?;
+    Ok(lines)
+}
+
+// The memory of a start.
+fn rooms(alloc: Global, script: &Script) -> Result<(Words, Vec<Job>, Roomy<JobLine>), NoMemory>
+    requires { IsScript script.now }
+    ensures words { IfOk result (λ made. made.0 ≡ script.now.plain.words) }
+    ensures jobs { IfOk result (λ made. seen_jobs made.1.items ≡ map (opened_job script.now) script.now.plain.jobs) }
+    ensures lines { IfOk result (λ made. (length made.1.items ≤ made.2.spare) × (made.2.items ≡ [])) }
+{
+    let words = Words::new(alloc, script.plain().words.as_slice())?;
+    let jobs = opened_jobs(alloc, script)?;
+    let lines = room_for(alloc, &jobs)?;
+    Ok((words, jobs, lines))
 }
 
 impl<H: Host> Station<H> {
-    /// A station before its first turn: the script's words, its objects at the host, and its jobs
-    /// started. Its memory is taken before the host is opened.
+    /// A station before its first turn: the script's words, its objects at the host, and its jobs started. Its
+    /// memory is taken before the host is opened.
     pub fn start(
         alloc: Global,
         host: H,
@@ -275,11 +291,10 @@ impl<H: Host> Station<H> {
     ) -> Result<Station<H>, NotStarted<H>>
         requires script { IsScript script }
         requires limits { KeepsLimits script.plain }
-        requires tries { 1 ≤ rules.undo_tries }
+        requires rules { (1 ≤ rules.attempts) × (1 ≤ rules.undo_tries) }
         ensures ok { IfOk result (λ s. (s.opening ≡ record { script = script; faults = H.model.fault_count host }) × (s.rules ≡ rules)
-            × (s.journal ≡ []) × (s.taken ≡ false)) }
-        ensures words { IfOk result (λ s. (s.words ≡ script.plain.words)
-            × (s.job ≡ opened_job script (slice_get script.plain.jobs 0))) }
+            × (s.taken ≡ 0)) }
+        ensures opening { IfOk result (λ s. IsOpening script (now_of H.model s)) }
         ensures told { IsTrue H.model.tells
             → IfOk result (λ s. H.model.contents s.host ≡ opened script.plain.prologue.objects) }
         ensures scripted { IfOk result (λ s. not H.model.takes_scripts && needs_scripted script.plain.prologue ≡ false) }
@@ -289,7 +304,7 @@ impl<H: Host> Station<H> {
     {
         let mut host = host;
         let faults = host.faults();
-        let Ok((words, lines)) = rooms(alloc, &script) else {
+        let Ok((words, jobs, lines)) = rooms(alloc, &script) else {
             return Err(NotStarted {
                 host,
                 why: OpenErr::NoMemory,
@@ -298,29 +313,32 @@ impl<H: Host> Station<H> {
         if let Err(why) = host.open_with(&script.plain().prologue) {
             return Err(NotStarted { host, why });
         }
-        let job = first_job(alloc, &script);
+        let claims = Claims::new(alloc);
         let journal = Journal::new(alloc);
-        let opening = Opening { script, faults };
         Ok(Station {
             alloc,
-            opening,
+            opening: Opening { script, faults },
             rules,
-            host,
-            words,
+            shared: Shared {
+                host,
+                words,
+                claims,
+            },
             journal,
-            job,
+            active: 0,
+            jobs,
             lines,
-            taken: false,
+            taken: 0,
         })
     }
 
     /// What the run leaves. It takes no memory.
     pub fn finish(self) -> End<H>
-        requires { is_live self.job 1 ≡ false }
+        requires { NobodyLives self.jobs }
         ensures opening { result.opening ≡ self.opening }
-        ensures journal { result.journal.items ≡ self.journal }
-        ensures handed { (result.host ≡ self.host) × (result.words ≡ self.words) × AreLinesOf self.job result.jobs }
-        ensures few { length result.journal.items ≤ 1000 }
+        ensures handed { (result.host ≡ self.host) × (result.words ≡ self.words) × (result.journal.items ≡ self.journal)
+            × AreLinesOf (seen_jobs self.jobs) result.jobs }
+        ensures few { length result.journal.items ≤ 10000 }
         ensures whole { IsTrueEnd (setting self.opening.script self.rules H.model.tells) result.journal.items
             (record { words = result.words; contents = H.model.contents result.host; lines = result.jobs }) }
 
@@ -328,52 +346,28 @@ impl<H: Host> Station<H> {
         ensures faults { CountsFaults (sum_by entry_faults result.journal.items) self.opening.faults (H.model.fault_count result.host) }
     {
         let Station {
-            host,
             opening,
-            words,
+            shared,
             journal,
-            job,
+            jobs,
             lines,
             ..
         } = self;
+        let Shared { host, words, .. } = shared;
         End {
             host,
             opening,
             words: words.list(),
             journal,
-            jobs: lines_of(job, lines),
+            jobs: lines_of(jobs.as_slice(), lines),
         }
     }
 }
 
-// The script's words, and room for its job's line.
-fn rooms(alloc: Global, script: &Script) -> Result<(Words, Roomy<JobLine>), NoMemory>
-    ensures { IfOk result (λ made. (made.0 ≡ script.now.plain.words) × HasLine made.1) }
-{
-    let words = Words::new(alloc, script.plain().words.as_slice())?;
-    let mut lines = Roomy::new(alloc);
-    lines.reserve(1)?;
-    Ok((words, lines))
-}
-
-// The job's line, into the room for it.
-fn lines_of(job: Option<Job>, lines: Roomy<JobLine>) -> JobList
-    requires over { doing_of job ≡ doing.Ended }
-    requires line { HasLine lines }
-    ensures { AreLinesOf job result }
-{
-    let Some(job) = job else {
-        return lines.into_items();
-    };
-    let mut lines = lines;
-    lines.enter(line_of(&job));
-    lines.into_items()
-}
-
 // An ended job's line.
 fn line_of(job: &Job) -> JobLine
-    requires { doing_in job.now.activity ≡ doing.Ended }
-    ensures { IsLineOf job.now result }
+    requires { is_live (seen_job job.now) ≡ false }
+    ensures { IsLineOf result (seen_job job.now) (seen_job job.now).doing }
 {
     match &job.activity {
         Activity::Ended(end) => JobLine {
@@ -382,4 +376,17 @@ fn line_of(job: &Job) -> JobLine
         },
         _ => unreachable!(),
     }
+}
+
+// The jobs' lines, into the room for them.
+fn lines_of(jobs: &[Job], lines: Roomy<JobLine>) -> JobList
+    requires ended { All (λ (job : PlainJob). is_live (seen_job job) ≡ false) jobs.now }
+    requires room { (length jobs.now ≤ lines.spare) × (lines.items ≡ []) }
+    ensures { AreLinesOf (seen_jobs jobs.now) result }
+{
+    let mut lines = lines;
+    for job in jobs {
+        lines.enter(line_of(job));
+    }
+    lines.into_items()
 }

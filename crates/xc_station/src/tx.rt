@@ -1,33 +1,25 @@
-ghost use Rattle.std.specs.Prelude.{◌≡◌, ◌<◌, ◌≤◌, ◌+◌, ◌-◌, [], length, map, get_or, slice_set, OnOk, IsTrue};
+ghost use Rattle.std.specs.Prelude.{◌≡◌, ◌<◌, ◌≤◌, ◌+◌, ◌∷◌, ◌++◌, [], ℕ, length, map, get_or, slice_set, OnOk};
 ghost use Rattle.std.specs.List.{list_any};
-ghost use Rattle.xc_data.specs.Claims.{holding_one, holding, is_object, merged, objects};
-ghost use Rattle.xc_data.specs.declared.entry.Outcome.TheVariants.{Committed, Aborted};
-ghost use Rattle.xc_station.specs.Notes.{KeepsNotes, Notes, HasRoom, parts_of, entry_of};
+ghost use Rattle.xc_data.specs.Claims.{holding_one, holding, is_object, merged};
+ghost use Rattle.xc_data.specs.declared.entry.Cause.{Cause as PlainCause};
+ghost use Rattle.xc_story.specs.declared.phase.Phase.TheVariants as PlainPhase;
+ghost use Rattle.xc_story.specs.Rows.{entry_of, new_tx};
+ghost use Rattle.xc_station.specs.Jobs.{outcome_in, seen_tx};
+ghost use Rattle.xc_station.specs.Acting.{HasRoom, HasNoteRoom};
 
 use std::alloc::Global;
 use xc_compensate::Stack;
-use xc_data::{Call, Cause, Claim, Entry, LateList, NoMemory, Outcome, Private, Reply, Report};
+use xc_data::{Call, Claim, Entry, LateList, NoMemory, Outcome, Private, Reply, Report};
 use xc_journal::Roomy;
+use xc_story::Phase;
 use xc_txmem::WriteSet;
-
-/// What an active transaction does.
-///
-/// | Phase | Facts | Left by |
-/// |---|---|---|
-/// | Running | its stores wait in the write set; the job stands behind its replies | the commit or abort that is asked, want of memory |
-/// | Committing | its stores are written | the Committed entry |
-/// | Undoing | its stores are dropped; its records are undone, the newest first | the Aborted entry |
-#[derive(Clone, Copy)]
-pub enum Phase {
-    Running,
-    Committing,
-    Undoing(Cause),
-}
 
 /// An active transaction, with what its entry will say.
 #[derive(Drop)]
 pub struct Tx {
     pub number: u32,
+    /// The number of the first attempt at it.
+    pub rank: u32,
     /// The length that the journal had at its begin.
     pub began: u32,
     pub phase: Phase,
@@ -42,14 +34,12 @@ pub struct Tx {
 
 impl Tx {
     /// A transaction of this private state, which has done nothing yet. It takes no memory.
-    pub fn begin(alloc: Global, number: u32, began: u32, me: &Private) -> Tx
-        ensures number { (result.number ≡ number) × (result.began ≡ began) × (result.me ≡ me.now) }
-        ensures running { result.phase ≡ Phase.Running }
-        ensures nothing { (result.calls.items ≡ []) × (result.replies.items ≡ []) × (result.held.items ≡ []) × (result.writes ≡ []) }
-        ensures undo { result.undo ≡ record { pending = []; ended = [] } }
+    pub fn begin(alloc: Global, number: u32, rank: u32, began: u32, me: &Private) -> Tx
+        ensures { seen_tx result ≡ new_tx number rank began me.now }
     {
         Tx {
             number,
+            rank,
             began,
             phase: Phase::Running,
             me: *me,
@@ -64,8 +54,7 @@ impl Tx {
     /// Makes room for one call, its reply and its claims.
     pub fn room(&mut self) -> Result<(), NoMemory>
         ensures ok { OnOk result (HasRoom self.new) }
-        ensures same { KeepsNotes self.old self.new }
-        ensures parts { parts_of self.new ≡ parts_of self.old }
+        ensures same { seen_tx self.new ≡ seen_tx self.old }
     {
         self.calls.reserve(1)?;
         self.replies.reserve(1)?;
@@ -73,51 +62,63 @@ impl Tx {
         Ok(())
     }
 
-    /// Notes a call with its reply, and holds what it claimed. It takes no memory.
-    pub fn note(&mut self, call: Call, reply: Reply, claims: &[Claim])
+    /// Holds what is claimed, into the room for it. It takes no memory.
+    pub fn hold(&mut self, claims: &[Claim])
         requires room { HasRoom self.old }
         requires few { length claims.now ≤ 2 }
-        ensures notes { Notes self.old self.new call reply claims.now }
-        ensures parts { parts_of self.new ≡ parts_of self.old }
+        ensures held { seen_tx self.new ≡ record (seen_tx self.old) { held = holding self.old.held.items claims.now } }
+        ensures room { HasNoteRoom self.new }
     {
-        self.calls.enter(call);
-        self.replies.enter(reply);
         hold(&mut self.held, claims);
     }
 
-    /// The entry of a transaction that committed. It takes no memory.
-    pub fn commit(self, alloc: Global, job: u32) -> Entry
-        ensures { result ≡ entry_of self job (Committed []) }
+    /// Notes a call with its reply, into the room for them. It takes no memory.
+    pub fn note(&mut self, call: Call, reply: Reply)
+        requires room { HasNoteRoom self.old }
+        ensures { seen_tx self.new ≡ record (seen_tx self.old) {
+          calls = self.old.calls.items ++ call ∷ [];
+          replies = self.old.replies.items ++ reply ∷ [];
+        } }
     {
-        let late = LateList::new(alloc);
-        Entry {
-            tx: self.number,
-            job,
-            rank: self.number,
-            began: self.began,
-            calls: self.calls.into_items(),
-            replies: self.replies.into_items(),
-            held: self.held.into_items(),
-            outcome: Outcome::Committed { late },
-        }
+        self.calls.enter(call);
+        self.replies.enter(reply);
     }
 
-    /// The entry of a transaction that was aborted, with its records and their ends. It takes no
+    /// The entry of the job of this number: a commit's, or that of an abort whose records have their ends. It takes no
     /// memory.
-    pub fn abort(self, job: u32, cause: Cause) -> Entry
-        requires { self.undo.pending ≡ [] }
-        ensures { result ≡ entry_of self job (Aborted (record { cause = cause; records = self.undo.ended })) }
+    pub fn close(self, alloc: Global, job: u32) -> Entry
+        requires { (c : PlainCause) → self.phase ≡ PlainPhase.Undoing c → self.undo.pending ≡ [] }
+        ensures { (at : ℕ) → job ≡ at + 1 → result ≡ entry_of (seen_tx self) at (outcome_in self.phase self.undo.ended) }
     {
-        let records = self.undo.records();
+        let Tx {
+            number,
+            rank,
+            began,
+            phase,
+            undo,
+            calls,
+            replies,
+            held,
+            ..
+        } = self;
+        let outcome = match phase {
+            Phase::Undoing(cause) => Outcome::Aborted(Report {
+                cause,
+                records: undo.records(),
+            }),
+            _ => Outcome::Committed {
+                late: LateList::new(alloc),
+            },
+        };
         Entry {
-            tx: self.number,
+            tx: number,
             job,
-            rank: self.number,
-            began: self.began,
-            calls: self.calls.into_items(),
-            replies: self.replies.into_items(),
-            held: self.held.into_items(),
-            outcome: Outcome::Aborted(Report { cause, records }),
+            rank,
+            began,
+            calls: calls.into_items(),
+            replies: replies.into_items(),
+            held: held.into_items(),
+            outcome,
         }
     }
 }

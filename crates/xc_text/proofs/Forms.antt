@@ -2,7 +2,7 @@
 use Rattle.std.proofs.Common.{◌≡◌, List, [], ◌∷◌, length, map, Err, refl}
 use Rattle.xc_text.specs.declared.token.Token.{Token}
 use Rattle.xc_text.specs.declared.why.Why.TheVariants.{BadForm}
-use Rattle.xc_text.specs.Grammar.{read_line}
+use Rattle.xc_text.specs.Grammar.{read_line, abort_line}
 use Rattle.xc_text.specs.Terms.{expression_of}
 use Rattle.xc_text.specs.Views.{lexeme}
 
@@ -22,3 +22,12 @@ no_read (a ∷ b ∷ []) two four = absurd (two refl)
 no_read (a ∷ b ∷ c ∷ []) two four = refl
 no_read (a ∷ b ∷ c ∷ d ∷ []) two four = absurd (four refl)
 no_read (a ∷ b ∷ c ∷ d ∷ e ∷ ts) two four = refl
+
+-- no token, and not four
+pub no_abort : (ts : List Token) → (length ts ≡ 0 → ⊥) → (length ts ≡ 4 → ⊥) → Err BadForm ≡ abort_line (map lexeme ts)
+no_abort [] none four = absurd (none refl)
+no_abort (a ∷ []) none four = refl
+no_abort (a ∷ b ∷ []) none four = refl
+no_abort (a ∷ b ∷ c ∷ []) none four = refl
+no_abort (a ∷ b ∷ c ∷ d ∷ []) none four = absurd (four refl)
+no_abort (a ∷ b ∷ c ∷ d ∷ e ∷ ts) none four = refl

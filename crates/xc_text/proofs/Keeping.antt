@@ -1,6 +1,6 @@
 -- What a script that was read keeps to.
 use Rattle.std.proofs.Common.{◌≡◌, ℕ, ◌+◌, ◌<◌, ◌≤◌, Bool, true, false, List, [], ◌∷◌, ◌++◌, length, Option, None, Some, Result, Ok, Err, IfOk, IfSome, cond}
-use Rattle.std.proofs.Common.{refl, subst, arith, lit≤, nat_lt, nat_le, ◌||◌, ◌&&◌}
+use Rattle.std.proofs.Common.{refl, ap, ◌∙◌, subst, arith, lit≤, nat_lt, nat_le, ◌||◌, ◌&&◌}
 use Rattle.std.specs.Prelude.{All, codes, count_by, nat_eq, if◌then◌else◌}
 use Rattle.std.specs.Cmp.Lexicographic.{pointwise}
 use Rattle.std.specs.List.{list_all, list_any, IsDistinct}
@@ -11,7 +11,6 @@ use Rattle.std.proofs.lemmas.List.Sums.{sum_by-le}
 use Rattle.xc_data.specs.declared.script.Opened.{Opened}
 use Rattle.xc_data.specs.declared.script.Opened.TheVariants.{File, Pipe, Pair}
 use Rattle.xc_data.specs.Limits.{KeepsLimits, IsPrologue, IsOpenedFit, is_pipe_line, is_pair_line}
-use Rattle.xc_text.specs.declared.script.Block.{Block as OneBlock}
 use Rattle.xc_text.specs.declared.script.Statement.{Statement}
 use Rattle.xc_text.specs.declared.script.Script.{Script}
 use Rattle.xc_text.specs.declared.line.Line.{Line}
@@ -27,17 +26,19 @@ use Rattle.xc_text.specs.Literals.{is_within, contents, only_literals}
 use Rattle.xc_text.specs.Said.{Said, opening}
 use Rattle.xc_text.specs.Sections.{block_in, transaction_in, is_outside}
 use Rattle.xc_text.specs.Scripts.{names_of, IsBlock, IsFileLine, IsScript, at_line, script_of, closed, read_from, parse_of}
-use Rattle.xc_text.specs.Steps.{is_call, is_file_of, has_few_calls, sized_by, valued_by, added, filed, begun, stated, committed, ended_block, after, after_any}
+use Rattle.xc_text.specs.Steps.{is_call, is_file_of, has_few_calls, is_among, sized_by, valued_by, added}
+use Rattle.xc_text.specs.Steps.{filed, started, begun, stated, committed, ended_block, after, after_any}
 use Rattle.xc_text.specs.Steps.{after_tokens, after_bytes, with_statement}
 use Rattle.xc_text.specs.Terms.{spells, number, ident, name}
 use Rattle.xc_text.specs.Tokens.{Lexeme, Word, Literal, tokens_of}
+use Rattle.xc_text.proofs.Indexing.{distinct_more}
 
--- how many blocks have ended, and how many transactions of the block under way
-abbrev pub CountsFit : Section → ℕ → ℕ → Type 0
-CountsFit Prologue blocks transactions = (blocks ≡ 0) × (transactions ≡ 0)
-CountsFit Between blocks transactions = (blocks ≤ 1) × (transactions ≡ 0)
-CountsFit (Block name) blocks transactions = (blocks ≡ 0) × (transactions ≤ 1000)
-CountsFit (Transaction name) blocks transactions = (blocks ≡ 0) × (transactions < 1000)
+-- how many transactions of the block under way have ended
+abbrev pub CountFits : Section → ℕ → Type 0
+CountFits Prologue transactions = transactions ≡ 0
+CountFits Between transactions = transactions ≡ 0
+CountFits (Block name) transactions = transactions ≤ 1000
+CountFits (Transaction name) transactions = transactions < 1000
 
 abbrev IsBody : List Statement → Type 0
 IsBody body = count_by is_call body ≤ 256
@@ -63,8 +64,10 @@ AreDistinct names = IsDistinct (pointwise nat_eq) names
 pub record IsSound (s : Said) : Type 0 where
   pub some_words : 1 ≤ length s.words
   pub few_words : length s.words ≤ 4096
-  pub counts : CountsFit s.section (length s.blocks) (length s.transactions)
-  pub distinct : AreDistinct (all_names s.section (names_of s.blocks))
+  pub count : CountFits s.section (length s.transactions)
+  pub named : s.jobs ≡ all_names s.section (names_of s.blocks)
+  pub few_blocks : length s.jobs ≤ 1000
+  pub distinct : AreDistinct s.jobs
   pub calls : All IsBody s.transactions
   pub body : IsBody s.body
   pub files : AreFiles s.objects
@@ -73,29 +76,26 @@ pub record IsSound (s : Said) : Type 0 where
 abbrev Keeps : Result Said Why → Type 0
 Keeps answer = IfOk answer IsSound
 
--- the counts where the section is known
-counts_at : (r : Said) (p : Section) → r.section ≡ p → IsSound r → CountsFit p (length r.blocks) (length r.transactions)
-counts_at r p e k = subst (λ q. CountsFit q (length r.blocks) (length r.transactions)) e k.counts
+-- the count where the section is known
+count_at : (r : Said) (p : Section) → r.section ≡ p → IsSound r → CountFits p (length r.transactions)
+count_at r p e k = subst (λ q. CountFits q (length r.transactions)) e k.count
 
 -- the names where the section is known
-names_at : (r : Said) (p : Section) → r.section ≡ p → IsSound r → AreDistinct (all_names p (names_of r.blocks))
-names_at r p e k = subst (λ q. AreDistinct (all_names q (names_of r.blocks))) e k.distinct
+names_at : (r : Said) (p : Section) → r.section ≡ p → IsSound r → r.jobs ≡ all_names p (names_of r.blocks)
+names_at r p e k = subst (λ q. r.jobs ≡ all_names q (names_of r.blocks)) e k.named
 
 none_alike : AreDistinct []
 unfolding IsDistinct
 none_alike = tt
-
-one_name : (blocks : List OneBlock) (name : List ℕ) → length blocks ≡ 0 → AreDistinct (names_of blocks ++ name ∷ [])
-unfolding IsDistinct
-one_name [] name none = (tt, tt)
-one_name (b ∷ bs) name none = absurd (omega arith)
 
 opening-keeps : IsSound opening
 opening-keeps =
     record {
       some_words = lit≤ tt;
       few_words = lit≤ tt;
-      counts = (refl, refl);
+      count = refl;
+      named = refl;
+      few_blocks = omega arith;
       distinct = none_alike;
       calls = All-nil IsBody;
       body = omega arith;
@@ -111,7 +111,9 @@ sized-keeps r n k =
     record {
       some_words = rw length-replicate (ltb-false _ _ parts.0);
       few_words = rw length-replicate (ltb-false _ _ parts.1);
-      counts = k.counts;
+      count = k.count;
+      named = k.named;
+      few_blocks = k.few_blocks;
       distinct = k.distinct;
       calls = k.calls;
       body = k.body;
@@ -125,7 +127,9 @@ valued-keeps r at value k =
     record {
       some_words = rw length-set k.some_words;
       few_words = rw length-set k.few_words;
-      counts = k.counts;
+      count = k.count;
+      named = k.named;
+      few_blocks = k.few_blocks;
       distinct = k.distinct;
       calls = k.calls;
       body = k.body;
@@ -150,7 +154,9 @@ added-keeps r file (Some bytes) few k =
     record {
       some_words = k.some_words;
       few_words = k.few_words;
-      counts = k.counts;
+      count = k.count;
+      named = k.named;
+      few_blocks = k.few_blocks;
       distinct = k.distinct;
       calls = k.calls;
       body = k.body;
@@ -172,7 +178,9 @@ stated-keeps s statement k =
     record {
       some_words = k.some_words;
       few_words = k.few_words;
-      counts = k.counts;
+      count = k.count;
+      named = k.named;
+      few_blocks = k.few_blocks;
       distinct = k.distinct;
       calls = k.calls;
       body = leb-true _ _ (and_parts _ _ few).0;
@@ -189,8 +197,10 @@ begun-keeps r (Block name) e k =
     record {
       some_words = k.some_words;
       few_words = k.few_words;
-      counts = ((counts_at r (Block name) e k).0, leb-false _ _ room);
-      distinct = names_at r (Block name) e k;
+      count = leb-false _ _ room;
+      named = names_at r (Block name) e k;
+      few_blocks = k.few_blocks;
+      distinct = k.distinct;
       calls = k.calls;
       body = k.body;
       files = k.files;
@@ -202,12 +212,13 @@ committed-keeps r Prologue e k = tt
 committed-keeps r Between e k = tt
 committed-keeps r (Block name) e k = tt
 committed-keeps r (Transaction name) e k =
-    let c = counts_at r (Transaction name) e k in
     record {
       some_words = k.some_words;
       few_words = k.few_words;
-      counts = (c.0, rw length-append (omega (arith, c.1)));
-      distinct = names_at r (Transaction name) e k;
+      count = rw length-append (omega (arith, count_at r (Transaction name) e k));
+      named = names_at r (Transaction name) e k;
+      few_blocks = k.few_blocks;
+      distinct = k.distinct;
       calls = All-push IsBody r.transactions r.body k.calls k.body;
       body = omega arith;
       files = k.files;
@@ -219,37 +230,54 @@ ended-keeps r Prologue e k = tt
 ended-keeps r Between e k = tt
 ended-keeps r (Transaction name) e k = tt
 ended-keeps r (Block name) e k =
-    let c = counts_at r (Block name) e k in
     record {
       some_words = k.some_words;
       few_words = k.few_words;
-      counts = (rw length-append (omega (arith, c.0)), refl);
-      distinct = rw map-append (names_at r (Block name) e k);
+      count = refl;
+      named = rw map-append (names_at r (Block name) e k);
+      few_blocks = k.few_blocks;
+      distinct = k.distinct;
       calls = All-nil IsBody;
       body = k.body;
       files = k.files;
-      each_block = All-push IsBlock r.blocks _ k.each_block (record { transactions = c.1; calls = k.calls });
+      each_block = All-push IsBlock r.blocks _ k.each_block (record { transactions = count_at r (Block name) e k; calls = k.calls });
     }
 
--- a line that may stand in a section: a block begins behind the prologue alone, and a file isn't too long
+-- a line that may stand in a section: a block begins outside of the others, and a file isn't too long
 abbrev IsFitLine : Section → Line → Type 0
-IsFitLine p (line.Job block) = p ≡ Prologue
+IsFitLine p (line.Job block) = is_outside p ≡ true
 IsFitLine p (line.File file bytes) = IfSome bytes (λ bs. length bs ≤ 65536)
 IsFitLine p _ = Unit {0}
 
-started-keeps : (r : Said) (name : List ℕ) → r.section ≡ Prologue → IsSound r → Keeps (after r (line.Job name))
-started-keeps r name e k =
-    let c = counts_at r Prologue e k in
+none_under_way : (p : Section) (n : ℕ) → is_outside p ≡ true → CountFits p n → n ≡ 0
+none_under_way Prologue n outside c = c
+none_under_way Between n outside c = c
+none_under_way (Block name) n outside c = cc
+none_under_way (Transaction name) n outside c = cc
+
+-- outside of blocks all names are those of the blocks that have ended
+ended_names : (p : Section) (names : List (List ℕ)) → is_outside p ≡ true → all_names p names ≡ names
+ended_names Prologue names outside = refl
+ended_names Between names outside = refl
+ended_names (Block name) names outside = cc
+ended_names (Transaction name) names outside = cc
+
+started-keeps : (r : Said) (name : List ℕ) → is_outside r.section ≡ true → IsSound r → Keeps (started r name)
+started-keeps r name outside k =
+    cond_both (is_among name r.jobs) _ _ Keeps (λ _. tt) (λ new.
+    cond_both (nat_le 1000 (length r.jobs)) _ _ Keeps (λ _. tt) (λ room.
     record {
       some_words = k.some_words;
       few_words = k.few_words;
-      counts = (c.0, omega (arith, c.1));
-      distinct = one_name r.blocks name c.0;
+      count = omega (arith, none_under_way r.section (length r.transactions) outside k.count);
+      named = ap (λ names. names ++ name ∷ []) (k.named ∙ ended_names r.section (names_of r.blocks) outside);
+      few_blocks = rw length-append (omega (arith, leb-false _ _ room));
+      distinct = distinct_more r.jobs name new k.distinct;
       calls = k.calls;
       body = k.body;
       files = k.files;
       each_block = k.each_block;
-    }
+    }))
 
 after-keeps : (r : Said) (says : Line) → IsFitLine r.section says → IsSound r → Keeps (after r says)
 after-keeps r (line.Words n) first k = sized-keeps r n k
@@ -288,10 +316,10 @@ file_fits [] = tt
 file_fits (n ∷ literals) =
     fits_seen Prologue (λ (p : List ℕ × Unit {0}). line.File p.0 (contents literals)) (both (name n) (only_literals literals)) (λ _. few_bytes literals)
 
-job_fits : (rest : List Lexeme) → IfOk (job_line rest) (IsFitLine Prologue)
-job_fits [] = tt
-job_fits (n ∷ []) = fits_seen Prologue line.Job (ident n) (λ _. refl)
-job_fits (n ∷ m ∷ ts) = tt
+job_fits : (p : Section) (rest : List Lexeme) → is_outside p ≡ true → IfOk (job_line rest) (IsFitLine p)
+job_fits p [] outside = tt
+job_fits p (n ∷ []) outside = fits_seen p line.Job (ident n) (λ _. outside)
+job_fits p (n ∷ m ∷ ts) outside = tt
 
 prologue_fits : (rest : List Lexeme) (words word file job : Bool) →
     IfOk (
@@ -304,8 +332,12 @@ prologue_fits : (rest : List Lexeme) (words word file job : Bool) →
 prologue_fits rest true word file job = words_fits rest
 prologue_fits rest false true file job = word_fits rest
 prologue_fits rest false false true job = file_fits rest
-prologue_fits rest false false false true = job_fits rest
+prologue_fits rest false false false true = job_fits Prologue rest refl
 prologue_fits rest false false false false = tt
+
+between_fits : (rest : List Lexeme) (job : Bool) → IfOk (if job then job_line rest else Err UnknownLine) (IsFitLine Between)
+between_fits rest true = job_fits Between rest refl
+between_fits rest false = tt
 
 block_fits : (p : Section) (rest : List Lexeme) (tx end : Bool) →
     IfOk (if tx then seen (λ _. line.Begin) (bare rest) else if end then seen (λ _. line.End) (bare rest) else Err UnknownLine) (IsFitLine p)
@@ -321,7 +353,7 @@ transaction_fits p word rest false = fits_seen p line.Statement (statement_line 
 worded_fits : (p : Section) (word : List ℕ) (rest : List Lexeme) → IfOk (worded_line p word rest) (IsFitLine p)
 worded_fits Prologue word rest =
     prologue_fits rest (spells word (codes "words")) (spells word (codes "word")) (spells word (codes "file")) (spells word (codes "job"))
-worded_fits Between word rest = tt
+worded_fits Between word rest = between_fits rest (spells word (codes "job"))
 worded_fits (Block name) word rest = block_fits (Block name) rest (spells word (codes "tx")) (spells word (codes "end"))
 worded_fits (Transaction name) word rest = transaction_fits (Transaction name) word rest (spells word (codes "commit"))
 
@@ -355,19 +387,6 @@ after_bytes-keeps r bytes k =
     then_keeps Any IsSound (tokens_of bytes) (λ (tokens : List Lexeme). after_tokens r tokens)
     (for_any Any (tokens_of bytes) (λ _. tt)) (λ tokens _. after_tokens-keeps r tokens k)) (λ _. tt)
 
-few_blocks : (p : Section) (blocks transactions : ℕ) → CountsFit p blocks transactions → blocks ≤ 1
-few_blocks Prologue b t c = omega (arith, c.0)
-few_blocks Between b t c = c.0
-few_blocks (Block name) b t c = omega (arith, c.0)
-few_blocks (Transaction name) b t c = omega (arith, c.0)
-
--- the names of the blocks that have ended, behind the last of them
-ended_names : (p : Section) (names : List (List ℕ)) → is_outside p ≡ true → AreDistinct (all_names p names) → AreDistinct names
-ended_names Prologue names outside d = d
-ended_names Between names outside d = d
-ended_names (Block name) names outside d = cc
-ended_names (Transaction name) names outside d = cc
-
 no_pipe : (o : Opened) → IsFileLine o → cond (is_pipe_line o) 1 0 ≤ 0
 no_pipe (File file bytes) is = omega arith
 no_pipe (Pipe bytes) is = absurd is
@@ -390,12 +409,13 @@ of_files objects files =
 
 script_of-keeps : (r : Said) → is_outside r.section ≡ true → IsSound r → IsScript (script_of r)
 script_of-keeps r outside k =
+    let jobs : r.jobs ≡ names_of r.blocks = k.named ∙ ended_names r.section (names_of r.blocks) outside in
     record {
       some_words = k.some_words;
       few_words = k.few_words;
-      one_block = few_blocks r.section _ _ k.counts;
-      distinct = ended_names r.section _ outside k.distinct;
-      jobs = refl;
+      few_blocks = rw length-map at (subst (λ names. length names ≤ 1000) jobs k.few_blocks);
+      distinct = subst AreDistinct jobs k.distinct;
+      jobs = jobs;
       bodies = refl;
       prologue = of_files r.objects k.files;
       files = k.files.each;
@@ -431,5 +451,5 @@ in_limits s k =
     record {
       words = k.few_words;
       prologue = k.prologue;
-      blocks = rw (k.jobs, k.bodies) (rw length-map (omega (arith, k.one_block)));
+      blocks = rw (k.jobs, k.bodies) (rw length-map (omega (arith, k.few_blocks)));
     }

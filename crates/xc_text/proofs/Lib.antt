@@ -4,5 +4,6 @@ pub mod LiteralLemmas
 pub mod Checked
 pub mod Keeping
 pub mod FilesByName
+pub mod Indexing
 pub mod Quotes
 pub mod TokenLists

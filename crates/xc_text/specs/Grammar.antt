@@ -4,7 +4,8 @@ use Rattle.xc_text.specs.declared.script.Term.{Term}
 use Rattle.xc_text.specs.declared.script.Expression.{Expression}
 use Rattle.xc_text.specs.declared.script.Item.{Item}
 use Rattle.xc_text.specs.declared.script.Statement.{Statement}
-use Rattle.xc_text.specs.declared.script.Statement.TheVariants.{Load, Store, Open, Read, Overwrite, Abort}
+use Rattle.xc_text.specs.declared.script.Statement.TheVariants.{Load, Store, Open, Read, Overwrite, Let, Abort, AbortIf, Require}
+use Rattle.xc_text.specs.declared.script.Test.{Test}
 use Rattle.xc_text.specs.declared.line.Line.{Line}
 use Rattle.xc_text.specs.declared.line.Line.TheVariants as line
 use Rattle.xc_text.specs.declared.line.Section.{Section}
@@ -14,7 +15,7 @@ use Rattle.xc_text.specs.declared.why.Why.TheVariants.{UnknownLine, BadForm}
 use Rattle.xc_text.specs.Answers.{both, seen}
 use Rattle.xc_text.specs.Literals.{only_literals, contents}
 use Rattle.xc_text.specs.Pieces.{data_of}
-use Rattle.xc_text.specs.Terms.{spells, is_sign, number, ident, name, term, expression_of}
+use Rattle.xc_text.specs.Terms.{spells, is_sign, number, ident, name, term, test, expression_of}
 use Rattle.xc_text.specs.Tokens.{Lexeme, Word, Literal}
 
 -- `words N`
@@ -37,7 +38,7 @@ abbrev pub job_line : List Lexeme → Result Line Why
 job_line (n ∷ []) = seen line.Job (ident n)
 job_line _ = Err BadForm
 
--- nothing behind the first word: `tx`, `abort`, `commit`, `end`
+-- nothing behind the first word: `tx`, `require`, `commit`, `end`
 abbrev pub bare : List Lexeme → Result (Unit {0}) Why
 bare [] = Ok tt
 bare _ = Err BadForm
@@ -77,6 +78,20 @@ abbrev pub overwrite_line : List Lexeme → Result Statement Why
 overwrite_line [] = Err BadForm
 overwrite_line (h ∷ items) = seen (λ (p : List ℕ × List Item). Overwrite p.0 p.1) (both (ident h) (data_of items))
 
+-- `let V E`
+abbrev pub let_line : List Lexeme → Result Statement Why
+let_line [] = Err BadForm
+let_line (v ∷ e) = seen (λ (p : List ℕ × Expression). Let p.0 p.1) (both (ident v) (expression_of e))
+
+-- `abort`, `abort if T OP T`
+abbrev pub abort_line : List Lexeme → Result Statement Why
+abort_line [] = Ok Abort
+abort_line (word ∷ left ∷ sign ∷ right ∷ []) =
+    if is_sign word (codes "if") then
+    seen (λ (p : Term × (Test × Term)). AbortIf p.0 p.1.0 p.1.1) (both (term left) (both (test sign) (term right)))
+    else Err BadForm
+abort_line _ = Err BadForm
+
 -- a line before the first block
 abbrev pub prologue_line : List ℕ → List Lexeme → Result Line Why
 prologue_line word rest =
@@ -85,6 +100,10 @@ prologue_line word rest =
     else if spells word (codes "file") then file_line rest
     else if spells word (codes "job") then job_line rest
     else Err UnknownLine
+
+-- a line behind a block
+abbrev pub between_line : List ℕ → List Lexeme → Result Line Why
+between_line word rest = if spells word (codes "job") then job_line rest else Err UnknownLine
 
 -- a line in a block
 abbrev pub block_line : List ℕ → List Lexeme → Result Line Why
@@ -101,7 +120,9 @@ statement_line word rest =
     else if spells word (codes "x_open") then open_line rest
     else if spells word (codes "x_read") then read_line rest
     else if spells word (codes "x_write_ovr") then overwrite_line rest
-    else if spells word (codes "abort") then seen (λ _. Abort) (bare rest)
+    else if spells word (codes "let") then let_line rest
+    else if spells word (codes "abort") then abort_line rest
+    else if spells word (codes "require") then seen (λ _. Require) (bare rest)
     else Err UnknownLine
 
 -- a line in a transaction
@@ -110,10 +131,10 @@ transaction_line word rest =
     if spells word (codes "commit") then seen (λ _. line.Commit) (bare rest)
     else seen line.Statement (statement_line word rest)
 
--- a line that begins with a word; behind a block no line stands
+-- a line that begins with a word
 abbrev pub worded_line : Section → List ℕ → List Lexeme → Result Line Why
 worded_line Prologue word rest = prologue_line word rest
-worded_line Between word rest = Err UnknownLine
+worded_line Between word rest = between_line word rest
 worded_line (Block name) word rest = block_line word rest
 worded_line (Transaction name) word rest = transaction_line word rest
 

@@ -7,8 +7,8 @@ use Rattle.xc_text.specs.declared.line.Section.{Section}
 use Rattle.xc_text.specs.declared.line.Section.TheVariants.{Prologue}
 
 -- the section that the next line stands in; the words, and whether a `words` and a `word` line came; the objects of
--- the prologue; the variables' names, each once; the blocks that have ended, of the one under way the transactions
--- that have ended, and of the transaction under way the statements
+-- the prologue; the variables' names, each once; the names of the blocks that have begun; the blocks that have ended,
+-- of the one under way the transactions that have ended, and of the transaction under way the statements
 pub record Said : Type 0 where
   pub section : Section
   pub words : List ℕ
@@ -16,6 +16,7 @@ pub record Said : Type 0 where
   pub valued : Bool
   pub objects : List Opened
   pub names : List (List ℕ)
+  pub jobs : List (List ℕ)
   pub blocks : List Block
   pub transactions : List (List Statement)
   pub body : List Statement
@@ -29,6 +30,7 @@ opening = record {
   valued = false;
   objects = [];
   names = [];
+  jobs = [];
   blocks = [];
   transactions = [];
   body = [];

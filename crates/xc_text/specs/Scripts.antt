@@ -32,7 +32,7 @@ script_of s = record {
     words = s.words;
     prologue = record { objects = s.objects; faults = []; grain = None };
     bodies = [];
-    jobs = names_of s.blocks;
+    jobs = s.jobs;
   };
   blocks = s.blocks;
 }
@@ -65,7 +65,7 @@ IsFileLine Pair = ⊥
 pub record IsScript (s : Script) : Type 0 where
   pub some_words : 1 ≤ length s.plain.words
   pub few_words : length s.plain.words ≤ 4096
-  pub one_block : length s.blocks ≤ 1
+  pub few_blocks : length s.blocks ≤ 1000
   pub distinct : IsDistinct (pointwise nat_eq) (names_of s.blocks)
   pub jobs : s.plain.jobs ≡ names_of s.blocks
   pub bodies : s.plain.bodies ≡ []

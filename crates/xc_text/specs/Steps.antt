@@ -12,7 +12,7 @@ use Rattle.xc_text.specs.declared.script.Expression.TheVariants.{Term as OneTerm
 use Rattle.xc_text.specs.declared.script.Item.{Item}
 use Rattle.xc_text.specs.declared.script.Item.TheVariants as item
 use Rattle.xc_text.specs.declared.script.Statement.{Statement}
-use Rattle.xc_text.specs.declared.script.Statement.TheVariants.{Load, Store, Open, Read, Overwrite, Abort}
+use Rattle.xc_text.specs.declared.script.Statement.TheVariants.{Load, Store, Open, Read, Overwrite, Let, Abort, AbortIf, Require}
 use Rattle.xc_text.specs.declared.line.Line.{Line}
 use Rattle.xc_text.specs.declared.line.Line.TheVariants as line
 use Rattle.xc_text.specs.declared.line.Section.TheVariants.{Between, Block, Transaction}
@@ -27,12 +27,19 @@ use Rattle.xc_text.specs.Tokens.{Lexeme, tokens_of}
 
 -- a statement that is a call
 abbrev pub is_call : Statement → Bool
+is_call (Let into value) = false
 is_call Abort = false
+is_call (AbortIf left test right) = false
+is_call Require = false
 is_call _ = true
+
+-- one of the names is this one
+abbrev pub is_among : List ℕ → List (List ℕ) → Bool
+is_among name names = list_any (λ other. pointwise nat_eq other name) names
 
 -- the names with one more, which stands in them once
 abbrev pub with_name : List (List ℕ) → List ℕ → List (List ℕ)
-with_name names name = if list_any (λ other. pointwise nat_eq other name) names then names else names ++ name ∷ []
+with_name names name = if is_among name names then names else names ++ name ∷ []
 
 -- the names with a term's variable
 abbrev pub with_term : List (List ℕ) → Term → List (List ℕ)
@@ -68,7 +75,10 @@ with_statement names (Store at value) = with_expression (with_term names at) val
 with_statement names (Open file into) = with_target names into
 with_statement names (Read handle n into) = with_target (with_term (with_name names handle) n) into
 with_statement names (Overwrite handle items) = with_data (with_name names handle) items
+with_statement names (Let into value) = with_expression (with_name names into) value
 with_statement names Abort = names
+with_statement names (AbortIf left test right) = with_term (with_term names left) right
+with_statement names Require = names
 
 -- 1 to 4,096 words, by one line that stands before any word's value
 abbrev pub sized_by : Said → ℕ → Result Said Why
@@ -98,6 +108,13 @@ added s name None = Err TooMany
 -- one file of a name
 abbrev pub filed : Said → List ℕ → Option (List ℕ) → Result Said Why
 filed s name bytes = if list_any (is_file_of name) s.objects then Err Twice else added s name bytes
+
+-- a block begins, one of a name, and at most 1,000
+abbrev pub started : Said → List ℕ → Result Said Why
+started s name =
+    if is_among name s.jobs then Err Twice
+    else if nat_le 1000 (length s.jobs) then Err TooMany
+    else Ok (record s { section = Block name; jobs = s.jobs ++ name ∷ [] })
 
 -- at most 1,000 transactions in a block
 abbrev pub begun : Said → Option (List ℕ) → Result Said Why
@@ -133,7 +150,7 @@ abbrev pub after : Said → Line → Result Said Why
 after s (line.Words n) = sized_by s n
 after s (line.Word at value) = valued_by s at value
 after s (line.File name bytes) = filed s name bytes
-after s (line.Job name) = Ok (record s { section = Block name })
+after s (line.Job name) = started s name
 after s line.Begin = begun s (block_in s.section)
 after s (line.Statement statement) = stated s statement
 after s line.Commit = committed s (transaction_in s.section)

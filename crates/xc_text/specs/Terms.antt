@@ -6,6 +6,8 @@ use Rattle.xc_text.specs.declared.script.Term.{Term}
 use Rattle.xc_text.specs.declared.script.Term.TheVariants.{Number, Variable}
 use Rattle.xc_text.specs.declared.script.Expression.{Expression}
 use Rattle.xc_text.specs.declared.script.Expression.TheVariants.{Term as OneTerm, Sum, Difference}
+use Rattle.xc_text.specs.declared.script.Test.{Test}
+use Rattle.xc_text.specs.declared.script.Test.TheVariants.{Equal, NotEqual, Less, AtMost, Greater, AtLeast}
 use Rattle.xc_text.specs.declared.why.Why.{Why}
 use Rattle.xc_text.specs.declared.why.Why.TheVariants.{BadForm, BadNumber, BadName}
 use Rattle.xc_text.specs.Answers.{both, seen}
@@ -61,6 +63,22 @@ term_in word = if begins_with_digit word then seen Number (number_in word) else 
 abbrev pub term : Lexeme → Result Term Why
 term (Word word) = term_in word
 term (Literal meant times) = Err BadForm
+
+-- the test that a word spells
+abbrev pub test_in : List ℕ → Result Test Why
+test_in word =
+    if spells word (codes "=") then Ok Equal
+    else if spells word (codes "!=") then Ok NotEqual
+    else if spells word (codes "<") then Ok Less
+    else if spells word (codes "<=") then Ok AtMost
+    else if spells word (codes ">") then Ok Greater
+    else if spells word (codes ">=") then Ok AtLeast
+    else Err BadForm
+
+-- what stands in the place of a test
+abbrev pub test : Lexeme → Result Test Why
+test (Word word) = test_in word
+test (Literal meant times) = Err BadForm
 
 -- a term, or two with `+` or `-` between them
 abbrev pub expression_of : List Lexeme → Result Expression Why

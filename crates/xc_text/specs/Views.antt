@@ -7,7 +7,7 @@ use Rattle.xc_maps.specs.Keys.{name_cmp}
 use Rattle.xc_text.specs.declared.token.Token.{Token}
 use Rattle.xc_text.specs.declared.token.Token.TheVariants as token
 use Rattle.xc_text.specs.Quoted.{then_rest, literal_of}
-use Rattle.xc_text.specs.Steps.{is_file_of}
+use Rattle.xc_text.specs.Steps.{is_among, is_file_of}
 use Rattle.xc_text.specs.Tokens.{Lexeme, Word, Literal}
 
 -- a token
@@ -23,3 +23,7 @@ behind_piece None = None
 -- an index of files: a name is there where some object is the file of that name
 abbrev pub NamesFiles : map.FinMap name_cmp (Unit {0}) → List Opened → Type 0
 NamesFiles names objects = (name : List ℕ) → is_some (map.get names name) ≡ list_any (is_file_of name) objects
+
+-- an index of names
+abbrev pub Indexes : map.FinMap name_cmp (Unit {0}) → List (List ℕ) → Type 0
+Indexes index names = (name : List ℕ) → is_some (map.get index name) ≡ is_among name names

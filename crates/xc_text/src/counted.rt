@@ -29,7 +29,11 @@ impl Model for Counted {
 fn is_call_line(statement: &Statement) -> bool
     ensures { result ≡ is_call statement.now }
 {
-    !matches!(statement, Statement::Abort)
+    match statement {
+        Statement::Let { .. } | Statement::Abort => false,
+        Statement::AbortIf { .. } | Statement::Require => false,
+        _ => true,
+    }
 }
 
 // By cases, since the check knows the types within a statement only where they are named.
@@ -43,7 +47,14 @@ fn push_statement(body: &mut Body, statement: Statement) -> Result<(), NoMemory>
         Statement::Open { name, into } => body.push(Statement::Open { name, into }),
         Statement::Read { handle, n, into } => body.push(Statement::Read { handle, n, into }),
         Statement::Overwrite { handle, data } => body.push(Statement::Overwrite { handle, data }),
+        Statement::Let { into, value } => body.push(Statement::Let { into, value }),
         Statement::Abort => body.push(Statement::Abort),
+        Statement::AbortIf { left, test, right } => body.push(Statement::AbortIf {
+            left,
+            test,
+            right,
+        }),
+        Statement::Require => body.push(Statement::Require),
     }
 }
 

@@ -2,15 +2,18 @@ ghost use Rattle.std.specs.Prelude.{◌≡◌, ◌≤◌, replicate, false, IfOk
 ghost use Rattle.std.specs.List.{list_any};
 ghost use Rattle.xc_text.specs.Answers.{Gives};
 ghost use Rattle.xc_text.specs.Said.{opening};
-ghost use Rattle.xc_text.specs.Scripts.{names_of, script_of};
+ghost use Rattle.xc_text.specs.Scripts.{script_of};
 ghost use Rattle.xc_text.specs.Sections.{block_in, is_outside, transaction_in};
-ghost use Rattle.xc_text.specs.Steps.{is_file_of, sized_by, valued_by, filed, added, begun, stated, committed, ended_block, after};
+ghost use Rattle.xc_text.specs.Steps.{is_file_of, sized_by, valued_by, filed, added, started, begun, stated, committed, ended_block, after};
 ghost use Rattle.xc_text.specs.Steps.{after_bytes};
 
+use crate::block_names::BlockNames;
 use crate::counted::Counted;
 use crate::files::Files;
 use crate::grammar::line_of;
-use crate::limits::{FIRST_WORDS, MOST_FILES, MOST_NAMES, MOST_TRANSACTIONS, MOST_WORDS};
+use crate::limits::{
+    FIRST_WORDS, MOST_BLOCKS, MOST_FILES, MOST_NAMES, MOST_TRANSACTIONS, MOST_WORDS,
+};
 use crate::line::{Line, Section};
 use crate::lines::are_line_bytes;
 use crate::names::add_statement;
@@ -20,7 +23,7 @@ use crate::why::{Stop, Why};
 use std::alloc::Global;
 use std::marker::Model;
 use std::mem;
-use xc_data::{Chunk, IdentList, Items, Name, NoMemory, Prologue, Script0, WordList};
+use xc_data::{Chunk, Ident, IdentList, Items, Name, NoMemory, Prologue, Script0, WordList};
 
 /// A script as far as its lines were read.
 #[derive(Drop)]
@@ -34,6 +37,8 @@ pub struct Draft {
     files: Files,
     /// The variables' names, each once.
     names: IdentList,
+    /// The names of all blocks, also of the one under way.
+    jobs: BlockNames,
     /// The blocks that have ended.
     blocks: Items<Block>,
     /// The transactions of the block under way that have ended.
@@ -54,6 +59,7 @@ impl Model for Draft {
       valued = a.valued;
       objects = a.files;
       names = a.names;
+      jobs = a.jobs;
       blocks = a.blocks;
       transactions = a.transactions;
       body = a.body;
@@ -65,16 +71,6 @@ fn zeros(alloc: Global, n: u64) -> Result<WordList, NoMemory>
     ensures { IfOk result (λ words. words ≡ replicate n 0) }
 {
     Ok(Items::from_vec(vec![in alloc; 0u64; n as usize]?))
-}
-
-fn job_names(alloc: Global, blocks: &[Block]) -> Result<IdentList, NoMemory>
-    ensures { IfOk result (λ names. names ≡ names_of blocks.now) }
-{
-    let mut names = Items::new(alloc);
-    for block in blocks {
-        names.push(block.name)?;
-    }
-    Ok(names)
 }
 
 impl Draft {
@@ -89,6 +85,7 @@ impl Draft {
             valued: false,
             files: Files::new(alloc),
             names: Items::new(alloc),
+            jobs: BlockNames::new(alloc),
             blocks: Items::new(alloc),
             transactions: Items::new(alloc),
             body: Counted::new(alloc),
@@ -103,24 +100,23 @@ impl Draft {
     }
 
     /// The whole script.
-    pub fn into_script(self, alloc: Global) -> Result<Script, NoMemory>
-        ensures { IfOk result (λ script. script ≡ script_of self) }
+    pub fn into_script(self, alloc: Global) -> Script
+        ensures { result ≡ script_of self }
     {
-        let jobs = job_names(alloc, self.blocks.as_slice())?;
         let prologue = Prologue {
             objects: self.files.into_objects(),
             faults: Items::new(alloc),
             grain: None,
         };
-        Ok(Script {
+        Script {
             plain: Script0 {
                 words: self.words,
                 prologue,
                 bodies: Items::new(alloc),
-                jobs,
+                jobs: self.jobs.into_names(),
             },
             blocks: self.blocks,
-        })
+        }
     }
 
     fn size(&mut self, alloc: Global, n: u64) -> Result<(), Stop>
@@ -169,6 +165,20 @@ impl Draft {
             Some(bytes) => self.add_file(name, bytes),
             None => Err(Stop::Refused(Why::TooMany)),
         }
+    }
+
+    fn start(&mut self, name: Ident) -> Result<(), Stop>
+        ensures { Gives (λ _. self.new) result (started self.old name) }
+    {
+        if self.jobs.has(name) {
+            return Err(Stop::Refused(Why::Twice));
+        }
+        if self.jobs.len() >= MOST_BLOCKS {
+            return Err(Stop::Refused(Why::TooMany));
+        }
+        self.jobs.push(name)?;
+        self.section = Section::Block(name);
+        Ok(())
     }
 
     fn begin(&mut self) -> Result<(), Stop>
@@ -229,10 +239,7 @@ impl Draft {
             Line::Words(n) => self.size(alloc, n),
             Line::Word { at, value } => self.value(at, value),
             Line::File { name, bytes } => self.file(name, bytes),
-            Line::Job(name) => {
-                self.section = Section::Block(name);
-                Ok(())
-            }
+            Line::Job(name) => self.start(name),
             Line::Begin => self.begin(),
             Line::Statement(statement) => self.state(statement),
             Line::Commit => self.commit(alloc),

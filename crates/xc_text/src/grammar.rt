@@ -2,19 +2,20 @@ ghost use Rattle.std.specs.Prelude.{◌≡◌, ◌∷◌, [], map, Ok, Err};
 ghost use Rattle.xc_text.specs.Answers.{Gives, both as together};
 ghost use Rattle.xc_text.specs.Grammar.{words_line as words_said, word_line as word_said, file_line as file_said, job_line as job_said};
 ghost use Rattle.xc_text.specs.Grammar.{bare as bare_said, load_line as load_said, store_line as store_said, open_line as open_said};
-ghost use Rattle.xc_text.specs.Grammar.{read_line as read_said, overwrite_line as overwrite_said, prologue_line as prologue_said};
+ghost use Rattle.xc_text.specs.Grammar.{read_line as read_said, overwrite_line as overwrite_said, let_line as let_said};
+ghost use Rattle.xc_text.specs.Grammar.{abort_line as abort_said, prologue_line as prologue_said, between_line as between_said};
 ghost use Rattle.xc_text.specs.Grammar.{block_line as block_said, statement_line as statement_said, transaction_line as transaction_said};
 ghost use Rattle.xc_text.specs.Grammar.{worded_line as worded_said, first_line as first_word_said, line_of as line_said};
 ghost use Rattle.xc_text.specs.Literals.{only_literals as literals_alone};
-ghost use Rattle.xc_text.specs.Terms.{term as term_of_token, ident as ident_of_token};
+ghost use Rattle.xc_text.specs.Terms.{term as term_of_token, test as test_of_token, ident as ident_of_token};
 ghost use Rattle.xc_text.specs.Views.{lexeme};
 
 use crate::line::{Line, Section};
 use crate::literals::{are_literals, contents};
 use crate::pieces::{check_data, data};
 use crate::reason::{beside, both};
-use crate::script::{Statement, Term};
-use crate::term::{expression, ident, is_sign, name, number, spells, term};
+use crate::script::{Statement, Term, Test};
+use crate::term::{expression, ident, is_sign, name, number, spells, term, test};
 use crate::token::Token;
 use crate::why::{Stop, Why};
 use std::alloc::Global;
@@ -200,6 +201,44 @@ fn overwrite_line(alloc: Global, tokens: &[Token]) -> Result<Statement, Stop>
     }
 }
 
+fn let_line(tokens: &[Token]) -> Result<Statement, Why>
+    ensures { result ≡ let_said (map lexeme tokens.now) }
+{
+    match tokens {
+        [] => Err(Why::BadForm),
+        [into, value @ ..] => {
+            let (into, value) = both(ident(into), expression(value))?;
+            Ok(Statement::Let { into, value })
+        }
+    }
+}
+
+fn test_with(sign: &Token, right: &Token) -> Result<(Test, Term), Why>
+    ensures { result ≡ together (test_of_token (lexeme sign.now)) (term_of_token (lexeme right.now)) }
+{
+    both(test(sign), term(right))
+}
+
+fn abort_if(word: &Token, left: &Token, sign: &Token, right: &Token) -> Result<Statement, Why>
+    ensures { result ≡ abort_said (lexeme word.now ∷ lexeme left.now ∷ lexeme sign.now ∷ lexeme right.now ∷ []) }
+{
+    if !is_sign(word, b"if") {
+        return Err(Why::BadForm);
+    }
+    let (left, (test, right)) = both(term(left), test_with(sign, right))?;
+    Ok(Statement::AbortIf { left, test, right })
+}
+
+fn abort_line(tokens: &[Token]) -> Result<Statement, Why>
+    ensures { result ≡ abort_said (map lexeme tokens.now) }
+{
+    match tokens {
+        [] => Ok(Statement::Abort),
+        [word, left, sign, right] => abort_if(word, left, sign, right),
+        _ => Err(Why::BadForm),
+    }
+}
+
 fn prologue_line(alloc: Global, word: &[u8], rest: &[Token]) -> Result<Line, Stop>
     ensures { Gives (λ line. line) result (prologue_said word.now (map lexeme rest.now)) }
 {
@@ -216,6 +255,15 @@ fn prologue_line(alloc: Global, word: &[u8], rest: &[Token]) -> Result<Line, Sto
         return Ok(job_line(rest)?);
     }
     Err(Stop::Refused(Why::UnknownLine))
+}
+
+fn between_line(word: &[u8], rest: &[Token]) -> Result<Line, Why>
+    ensures { result ≡ between_said word.now (map lexeme rest.now) }
+{
+    if spells(word, b"job") {
+        return job_line(rest);
+    }
+    Err(Why::UnknownLine)
 }
 
 fn block_line(word: &[u8], rest: &[Token]) -> Result<Line, Why>
@@ -250,9 +298,15 @@ fn statement_line(alloc: Global, word: &[u8], rest: &[Token]) -> Result<Statemen
     if spells(word, b"x_write_ovr") {
         return overwrite_line(alloc, rest);
     }
+    if spells(word, b"let") {
+        return Ok(let_line(rest)?);
+    }
     if spells(word, b"abort") {
+        return Ok(abort_line(rest)?);
+    }
+    if spells(word, b"require") {
         check_bare(rest)?;
-        return Ok(Statement::Abort);
+        return Ok(Statement::Require);
     }
     Err(Stop::Refused(Why::UnknownLine))
 }
@@ -272,7 +326,7 @@ fn worded_line(alloc: Global, section: &Section, word: &[u8], rest: &[Token]) ->
 {
     match section {
         Section::Prologue => prologue_line(alloc, word, rest),
-        Section::Between => Err(Stop::Refused(Why::UnknownLine)),
+        Section::Between => Ok(between_line(word, rest)?),
         Section::Block(_) => Ok(block_line(word, rest)?),
         Section::Transaction(_) => transaction_line(alloc, word, rest),
     }

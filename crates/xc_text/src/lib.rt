@@ -4,6 +4,7 @@
 //! bad line with its first reason.
 #![tactic(auto)]
 
+mod block_names;
 mod counted;
 mod draft;
 mod files;
@@ -23,7 +24,7 @@ mod token;
 mod why;
 
 pub use parser::parse;
-pub use script::{Block, Body, Data, Expression, Item, Script, Statement, Term};
+pub use script::{Block, Body, Data, Expression, Item, Script, Statement, Term, Test};
 pub use why::{ParseErr, Why};
 
 #[cfg(test)]

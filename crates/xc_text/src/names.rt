@@ -1,13 +1,13 @@
 ghost use Rattle.std.specs.Prelude.{◌≡◌, nat_eq, OnOk};
 ghost use Rattle.std.specs.List.{list_any};
 ghost use Rattle.std.specs.Cmp.Lexicographic.{pointwise};
-ghost use Rattle.xc_text.specs.Steps.{with_name, with_term, with_expression, with_target, with_item, with_data, with_statement};
+ghost use Rattle.xc_text.specs.Steps.{is_among, with_name, with_term, with_expression, with_target, with_item, with_data, with_statement};
 
 use crate::script::{Expression, Item, Statement, Term};
 use xc_data::{Ident, IdentList, NoMemory};
 
 fn is_named(names: &[Ident], name: &Ident) -> bool
-    ensures { result ≡ list_any (λ other. pointwise nat_eq other name.now) names.now }
+    ensures { result ≡ is_among name.now names.now }
 {
     names.iter().any(|other| other == name)
 }
@@ -98,6 +98,15 @@ pub fn add_statement(names: &mut IdentList, statement: &Statement) -> Result<(),
             add_name(names, *handle)?;
             add_data(names, data.as_slice())
         }
-        Statement::Abort => Ok(()),
+        Statement::Let { into, value } => {
+            add_name(names, *into)?;
+            add_expression(names, value)
+        }
+        Statement::AbortIf {
+            left,
+            test: _,
+            right,
+        } => add_terms(names, left, right),
+        Statement::Abort | Statement::Require => Ok(()),
     }
 }

@@ -22,7 +22,7 @@ fn close(alloc: Global, draft: Draft, lines: u32) -> Result<Script, ParseErr>
             why: Why::Unclosed,
         });
     }
-    Ok(draft.into_script(alloc)?)
+    Ok(draft.into_script(alloc))
 }
 
 fn read_lines(alloc: Global, bytes: &[u8]) -> Result<Script, ParseErr>

@@ -17,6 +17,17 @@ pub enum Expression {
     Difference(Term, Term),
 }
 
+/// How two numbers are compared, the first one with the second.
+#[derive(Clone, Copy, Debug, PartialEq)]
+pub enum Test {
+    Equal,
+    NotEqual,
+    Less,
+    AtMost,
+    Greater,
+    AtLeast,
+}
+
 /// A part of the bytes that a call writes.
 #[derive(Debug, Drop, PartialEq)]
 pub enum Item {
@@ -58,8 +69,21 @@ pub enum Statement {
         handle: Ident,
         data: Data,
     },
+    /// A variable takes a number.
+    Let {
+        into: Ident,
+        value: Expression,
+    },
     /// The transaction aborts itself.
     Abort,
+    /// It aborts itself where the test holds.
+    AbortIf {
+        left: Term,
+        test: Test,
+        right: Term,
+    },
+    /// It aborts itself where its last call was refused.
+    Require,
 }
 
 /// The statements of one transaction, in order.

@@ -1,12 +1,12 @@
 ghost use Rattle.std.specs.Prelude.{◌≡◌, ◌∷◌, [], map};
 ghost use Rattle.xc_text.specs.Terms.{spells as is_spelled, is_sign as is_sign_of, number as number_of_token, number_in};
 ghost use Rattle.xc_text.specs.Terms.{ident as ident_of_token, ident_in, name as name_of_token, name_in, term as term_of_token, term_in};
-ghost use Rattle.xc_text.specs.Terms.{begins_with_digit as has_digit_first, expression_of};
+ghost use Rattle.xc_text.specs.Terms.{begins_with_digit as has_digit_first, test as test_of_token, test_in, expression_of};
 ghost use Rattle.xc_text.specs.Views.{lexeme};
 
 use crate::number::{is_digit_byte, number as spelled_number};
 use crate::reason::both;
-use crate::script::{Expression, Term};
+use crate::script::{Expression, Term, Test};
 use crate::token::Token;
 use crate::why::Why;
 use xc_data::{Ident, Name};
@@ -111,6 +111,40 @@ pub fn term(token: &Token) -> Result<Term, Why>
 {
     match token {
         Token::Word(word) => term_word(word),
+        Token::Literal { .. } => Err(Why::BadForm),
+    }
+}
+
+fn test_word(word: &[u8]) -> Result<Test, Why>
+    ensures { result ≡ test_in word.now }
+{
+    if spells(word, b"=") {
+        return Ok(Test::Equal);
+    }
+    if spells(word, b"!=") {
+        return Ok(Test::NotEqual);
+    }
+    if spells(word, b"<") {
+        return Ok(Test::Less);
+    }
+    if spells(word, b"<=") {
+        return Ok(Test::AtMost);
+    }
+    if spells(word, b">") {
+        return Ok(Test::Greater);
+    }
+    if spells(word, b">=") {
+        return Ok(Test::AtLeast);
+    }
+    Err(Why::BadForm)
+}
+
+/// What stands in the place of a test.
+pub fn test(token: &Token) -> Result<Test, Why>
+    ensures { result ≡ test_of_token (lexeme token.now) }
+{
+    match token {
+        Token::Word(word) => test_word(word),
         Token::Literal { .. } => Err(Why::BadForm),
     }
 }

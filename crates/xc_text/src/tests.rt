@@ -1,4 +1,4 @@
-use crate::{Body, Data, Expression, Item, ParseErr, Script, Statement, Term, Why, parse};
+use crate::{Body, Data, Expression, Item, ParseErr, Script, Statement, Term, Test, Why, parse};
 use std::alloc::{AllocError, Global};
 use std::test::Fail;
 use xc_data::{Chunk, Ident, Name, Opened};
@@ -12,7 +12,7 @@ fn refusal(alloc: Global, bytes: &[u8]) -> Option<(u32, Why)> {
 }
 
 // What stands here has no row in tests/rows.
-const BAD: [(&str, u32, Why); 30] = [
+const BAD: [(&str, u32, Why); 40] = [
     ("nonsense \u{e9}\n", 1, Why::BadByte),
     ("job a\n# \u{7f}\n", 2, Why::BadByte),
     ("words \"a\\\"\n", 1, Why::BadLiteral),
@@ -23,12 +23,18 @@ const BAD: [(&str, u32, Why); 30] = [
     ("\"\\n\\\"\\\\\\x4F\\x4f\"*00065536\n", 1, Why::UnknownLine),
     ("words#2\n", 1, Why::UnknownLine),
     ("job a\nend\nfile b\n", 3, Why::UnknownLine),
+    ("job a\nend\nbody b\n", 3, Why::UnknownLine),
+    ("job a\nend\n\"job\" b\n", 3, Why::UnknownLine),
     ("job a\nload 0\n", 2, Why::UnknownLine),
+    ("job a\nlet v 1\n", 2, Why::UnknownLine),
+    ("abort if 1 = 1\n", 1, Why::UnknownLine),
+    ("job a\nend\nrequire\n", 3, Why::UnknownLine),
     ("job a\ntx\nend\n", 3, Why::UnknownLine),
     ("job a\ntx\ntx\n", 3, Why::UnknownLine),
     ("words x \"2\"\n", 1, Why::BadForm),
     ("word 0 1 2\n", 1, Why::BadForm),
     ("job X Y\n", 1, Why::BadForm),
+    ("job a\nend\njob a \"b\"\n", 3, Why::BadForm),
     ("job a\nend a\n", 2, Why::BadForm),
     ("file . \"b\" c\n", 1, Why::BadForm),
     ("words 4097\n", 1, Why::BadNumber),
@@ -36,7 +42,10 @@ const BAD: [(&str, u32, Why); 30] = [
     ("words 17\nword 17 0\n", 2, Why::BadNumber),
     ("words 2\nwords 4097\n", 2, Why::BadNumber),
     ("file . \"b\"*65536 \"c\"\n", 1, Why::BadName),
+    ("job a\nend\njob A\n", 3, Why::BadName),
     ("word 0 1\n\nwords 2\n", 3, Why::Twice),
+    ("job a\nend\njob a\n", 3, Why::Twice),
+    ("job a\nend\njob b\ntx\ncommit\nend\njob a\n", 7, Why::Twice),
     ("file a\nwords 2\nfile c\nfile a\n", 4, Why::Twice),
     (
         "file b \"bc\"*32768 \"\"*65536 \"\\x00\"\n",
@@ -44,6 +53,7 @@ const BAD: [(&str, u32, Why); 30] = [
         Why::TooMany,
     ),
     ("job a", 1, Why::Unclosed),
+    ("file a\njob a\nend\njob b", 4, Why::Unclosed),
     ("job a\n\n", 2, Why::Unclosed),
     ("job a\n # b", 2, Why::Unclosed),
     ("job a\ntx\ncommit\n", 3, Why::Unclosed),
@@ -58,7 +68,7 @@ fn first_reasons(rt: HostRuntime) {
 }
 
 // What a line in a transaction is refused for; `Unclosed` where it isn't refused.
-const LINES: [(&str, Why); 32] = [
+const LINES: [(&str, Why); 66] = [
     ("load 0 v", Why::BadForm),
     ("load 0 \"->\" v", Why::BadForm),
     ("load -1", Why::BadName),
@@ -93,8 +103,42 @@ const LINES: [(&str, Why); 32] = [
     ),
     ("x_write_ovr h \"ab\"*500 $v @1 \"abcde\"*5", Why::TooMany),
     ("x_write_ovr h \"\"*65536 @v $v @0", Why::Unclosed),
+    ("let \"v\"*65537 1", Why::BadLiteral),
+    ("Let v 1", Why::UnknownLine),
+    ("let", Why::BadForm),
+    ("let V", Why::BadForm),
+    ("let \"v\" 9x", Why::BadForm),
+    ("let V \"1\"", Why::BadForm),
+    ("let v = 1", Why::BadForm),
+    ("let v 1 * 2", Why::BadForm),
+    ("let v 1 + 2 + 3", Why::BadForm),
+    ("let V 9x", Why::BadNumber),
+    ("let v w - 18446744073709551616", Why::BadNumber),
+    ("let 1 v", Why::BadName),
+    ("let v ?s", Why::BadName),
+    ("let v 18446744073709551615 + v", Why::Unclosed),
+    ("abort if v = \"", Why::BadLiteral),
+    ("abortif v = 1", Why::UnknownLine),
     ("abort \"a\"", Why::BadForm),
+    ("abort v = 1", Why::BadForm),
+    ("abort unless V = 9x", Why::BadForm),
+    ("abort \"if\" v = 1", Why::BadForm),
+    ("abort if v =", Why::BadForm),
+    ("abort if v = w + 1", Why::BadForm),
+    ("abort if V == 9x", Why::BadForm),
+    ("abort if v => w", Why::BadForm),
+    ("abort if V \"<\" 9x", Why::BadForm),
+    ("abort if v < \"1\"", Why::BadForm),
+    ("abort if V <= 9x", Why::BadNumber),
+    ("abort if ?s > 1", Why::BadName),
+    ("abort if 1 >= -1", Why::BadName),
+    ("abort if v != 18446744073709551615", Why::Unclosed),
     ("abort # if v", Why::Unclosed),
+    ("require \"a\"b", Why::BadLiteral),
+    ("requires", Why::UnknownLine),
+    ("require \"a\"", Why::BadForm),
+    ("require if V = 9x", Why::BadForm),
+    ("require", Why::Unclosed),
     ("commit 1", Why::BadForm),
     ("file b", Why::UnknownLine),
 ];
@@ -141,7 +185,17 @@ fn all_statements(alloc: Global, name: Name, h: Ident, v: Ident) -> Result<Body,
     })?;
     let data = all_items(alloc, v)?;
     body.push(Statement::Overwrite { handle: h, data })?;
+    body.push(Statement::Let {
+        into: v,
+        value: Expression::Sum(Term::Variable(v), Term::Number(1)),
+    })?;
     body.push(Statement::Abort)?;
+    body.push(Statement::AbortIf {
+        left: Term::Variable(v),
+        test: Test::AtMost,
+        right: Term::Number(3),
+    })?;
+    body.push(Statement::Require)?;
     Ok(body)
 }
 
@@ -163,7 +217,8 @@ fn file_at(script: &Script, at: usize) -> Option<(&[u8], &[u8])> {
 
 const WHOLE: &str =
     "words 2\nfile f.1 \"q\\n\\\"\"*2 \"x\"*0 \"\\\\\\x00\\x4f\\xFe\"\nword 1 7\nfile A-_.0\njob a\ntx
-load 1 -> v\nstore 1 3 - v\nx_open f.1 -> h\nx_read h v\nx_write_ovr h \"ab\\n\"*2 $v @7 @v \"c\"*0\nabort\ncommit\nend\n";
+load 1 -> v\nstore 1 3 - v\nx_open f.1 -> h\nx_read h v\nx_write_ovr h \"ab\\n\"*2 $v @7 @v \"c\"*0
+let v v + 1\nabort\nabort if v <= 3\nrequire\ncommit\nend\n";
 
 #[test]
 fn a_whole_script(rt: HostRuntime) -> Result<(), Fail> {
@@ -204,10 +259,10 @@ const LIMITS: [(&str, &str, u32, &str, u32, Why); 9] = [
     ("job a\ntx\nx_write_ovr h", " $v", 16, "", 3, Why::Unclosed),
     (
         "job a\ntx\n",
-        "abort\nx_read h 1\n",
+        "abort\nlet v 1\nabort if v = 2\nrequire\nx_read h 1\n",
         256,
-        "abort\n",
-        515,
+        "let w 1\n",
+        1283,
         Why::Unclosed,
     ),
     (
@@ -254,10 +309,52 @@ fn variables(rt: HostRuntime) -> Result<(), Fail> {
         ("x_read v0 1 -> x\n", Why::TooMany),
         ("x_write_ovr v0 $w0 \"x\" @w127 @1\n", Why::Unclosed),
         ("x_write_ovr v0 $v1 @x\n", Why::TooMany),
+        ("let v0 w0 - v1\n", Why::Unclosed),
+        ("let x 1\n", Why::TooMany),
+        ("let v0 1 + x\n", Why::TooMany),
+        ("abort if v0 < w127\n", Why::Unclosed),
+        ("abort if x < 1\n", Why::TooMany),
+        ("abort if 1 < x\n", Why::TooMany),
     ] {
         let text = many_names(rt.alloc(), 128, last)?;
         let found = refusal(rt.alloc(), text.as_bytes());
         assert_eq!(rt; found, Some((131, why)), "{last}");
     }
+    Ok(())
+}
+
+// So many blocks, and one more line.
+fn many_jobs(alloc: Global, blocks: u32, last: &str) -> Result<String, AllocError> {
+    let mut text = String::new(alloc);
+    for n in 0..blocks {
+        write!(text, "job j{n}\nend\n")?;
+    }
+    text.push_str(last)?;
+    Ok(text)
+}
+
+#[test]
+fn blocks(rt: HostRuntime) -> Result<(), Fail> {
+    for (blocks, last, line, why) in [
+        (999, "job j", 1999, Why::Unclosed),
+        (999, "job j998", 1999, Why::Twice),
+        (1000, "job j", 2001, Why::TooMany),
+        (1000, "job j0", 2001, Why::Twice),
+        (1000, "job J", 2001, Why::BadName),
+    ] {
+        let text = many_jobs(rt.alloc(), blocks, last)?;
+        let found = refusal(rt.alloc(), text.as_bytes());
+        assert_eq!(rt; found, Some((line, why)), "{last}");
+    }
+    Ok(())
+}
+
+#[test]
+fn jobs_in_order(rt: HostRuntime) -> Result<(), Fail> {
+    let text = many_jobs(rt.alloc(), 1000, "\n# ended")?;
+    let script = parse(rt.alloc(), text.as_bytes())?;
+    assert_eq!(rt; script.blocks.len(), 1000);
+    assert!(rt; script.plain().jobs.get(0).copied() == Ident::new(b"j0"));
+    assert!(rt; script.plain().jobs.get(999).copied() == Ident::new(b"j999"));
     Ok(())
 }

@@ -8,5 +8,5 @@ returns-in-Ok-read_up_to-clause-caused g c =
     let told = g.S.Source.told in
     let d = c.of_bytes.ensures in
     let came = subst (IsRead (told c.args.source.now) (told c.read_up_to.new.source)) (sym c.as_slice.ensures.value) c.in-Ok-read_up_to.ensures.came in
-    caused_by_bytes _ _ _ _ _ c.in-Ok.ensures.none d.bytes (λ line why e. (c.as_slice.result.now, came, d.refused line why e))
+    caused_by_bytes _ _ _ _ _ _ c.in-Ok.ensures.ok d.bytes (λ line why e. (c.as_slice.result.now, came, d.refused line why e))
     (λ e. let unscripted = d.unscripted e in (c.as_slice.result.now, unscripted.0, came, unscripted.1, unscripted.2))

@@ -1,6 +1,6 @@
 use Rattle.std.proofs.Common.{refl}
-use Rattle.xc_station.proofs.Doings.{file_does}
-use Rattle.xc_station.proofs.Speaking.{still_answer}
+use Rattle.xc_station.proofs.Doings.{file_does, starved_parts}
+use Rattle.xc_station.proofs.Answered.{still_answer}
 use Rattle.xc_station.proofs.calls.act.Goals as goal
 
 pub returns-in-XOpen-clause-does : goal.returns-in-XOpen-clause-does
@@ -26,3 +26,9 @@ returns-in-XRead-clause-spoken g c = still_answer _ _ _ _ c.in-XRead.is refl ref
 
 pub returns-in-XWriteOvr-clause-spoken : goal.returns-in-XWriteOvr-clause-spoken
 returns-in-XWriteOvr-clause-spoken g c = still_answer _ _ _ _ c.in-XWriteOvr.is refl refl
+
+pub returns-in-XOpen-clause-err : goal.returns-in-XOpen-clause-err
+returns-in-XOpen-clause-err g c = starved_parts g.H.Host.model _ _ _ _ (c.x_open.ensures.call c.args.undo.now) refl c.args.writes.now
+
+pub returns-in-XRead-clause-err : goal.returns-in-XRead-clause-err
+returns-in-XRead-clause-err g c = starved_parts g.H.Host.model _ _ _ _ (c.x_read.ensures.call c.args.undo.now) refl c.args.writes.now

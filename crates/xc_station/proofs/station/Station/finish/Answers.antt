@@ -1,29 +1,43 @@
-use Rattle.std.proofs.Common.{ap, sym, ◌∙◌, subst}
-use Rattle.std.specs.Prelude.{sum_by}
+use Rattle.std.proofs.Common.{◌≡◌, ◌<◌, ap, sym, ◌∙◌, subst, length}
+use Rattle.std.specs.Prelude.{List, sum_by, slice_index_or, false}
 use Rattle.xc_data.specs.Counts.{CountsFaults}
 use Rattle.xc_data.specs.Faults.{entry_faults}
-use Rattle.xc_station.specs.Doing.{is_live}
-use Rattle.xc_station.specs.Ending.{IsTrueEnd}
-use Rattle.xc_station.specs.Setting.{setting}
-use Rattle.xc_station.proofs.Bounds.{final_of, finished, finished_counts}
+use Rattle.xc_story.specs.Ending.{IsTrueEnd}
+use Rattle.xc_story.specs.Kept.{AreLinesOf}
+use Rattle.xc_story.specs.Setting.{setting}
+use Rattle.xc_station.specs.declared.job.Job.{Job}
+use Rattle.xc_station.specs.Jobs.{is_live, seen_job, seen_jobs}
+use Rattle.xc_station.specs.Stations.{NobodyLives, moment}
+use Rattle.xc_station.proofs.Ended.{counted_end, each_ended, true_end}
 use Rattle.xc_station.proofs.station.Station.finish.Goals as goal
+
+pub lines_of-requires-clause-ended : goal.lines_of-requires-clause-ended
+lines_of-requires-clause-ended g c k d low =
+    let jobs : List Job = c.self.inside.jobs.items in
+    let nobody : NobodyLives jobs = subst (λ v. NobodyLives v.jobs) (sym c.self.view_is) c.requires in
+    let value : c.as_slice.result.now ≡ jobs = c.as_slice.ensures.value in
+    ap (λ (all : List Job). is_live (seen_job (slice_index_or all k d))) value
+    ∙ each_ended jobs nobody k d (subst (λ (all : List Job). k < length all) value low)
 
 pub returns-clause-whole : goal.returns-clause-whole
 returns-clause-whole g c =
-    let ended = ap (λ v. is_live v.job 1) c.self.view_is ∙ c.requires in
+    let model = g.H.Host.model in
     let station = c.self.inside in
-    let contents = g.H.Host.model.contents station.host in
-    let whole = finished (setting station.opening.script station.rules g.H.Host.model.tells) station.words contents station.journal.items station.journal.spare
-    station.job c.lines_of.result ended c.lines_of.ensures c.self.invariant.0 in
-    let there = subst (λ words. IsTrueEnd (setting station.opening.script station.rules g.H.Host.model.tells) station.journal.items
-    (final_of words contents c.lines_of.result)) (sym c.list.ensures) whole in
-    subst (λ v. IsTrueEnd (setting v.opening.script v.rules g.H.Host.model.tells) station.journal.items (final_of c.list.result contents c.lines_of.result))
-    c.self.view_is there
+    let now = moment model station.shared station.journal.items station.jobs.items in
+    let over : AreLinesOf (seen_jobs station.jobs.items) c.lines_of.result =
+    subst (λ (all : List Job). AreLinesOf (seen_jobs all) c.lines_of.result) c.as_slice.ensures.value c.lines_of.ensures in
+    let whole = true_end (setting station.opening.script station.rules model.tells) station.opening.faults now c.lines_of.result c.self.invariant.0 over in
+    let listed = subst (λ words. IsTrueEnd (setting station.opening.script station.rules model.tells) station.journal.items
+    (record { words = words; contents = model.contents station.shared.host; lines = c.lines_of.result })) (sym c.list.ensures) whole in
+    subst (λ v. IsTrueEnd (setting v.opening.script v.rules model.tells) station.journal.items
+    (record { words = c.list.result; contents = model.contents station.shared.host; lines = c.lines_of.result })) c.self.view_is listed
 
 pub returns-clause-faults : goal.returns-clause-faults
 returns-clause-faults g c =
-    let ended = ap (λ v. is_live v.job 1) c.self.view_is ∙ c.requires in
+    let model = g.H.Host.model in
     let station = c.self.inside in
-    let count = g.H.Host.model.fault_count station.host in
-    let whole = finished_counts station.journal.items station.job station.opening.faults count ended c.self.invariant.1 in
-    subst (λ v. CountsFaults (sum_by entry_faults station.journal.items) v.opening.faults count) c.self.view_is whole
+    let now = moment model station.shared station.journal.items station.jobs.items in
+    let over : AreLinesOf (seen_jobs station.jobs.items) c.lines_of.result =
+    subst (λ (all : List Job). AreLinesOf (seen_jobs all) c.lines_of.result) c.as_slice.ensures.value c.lines_of.ensures in
+    let whole = counted_end (setting station.opening.script station.rules model.tells) station.opening.faults now c.lines_of.result c.self.invariant.0 over in
+    subst (λ v. CountsFaults (sum_by entry_faults station.journal.items) v.opening.faults (model.fault_count station.shared.host)) c.self.view_is whole

@@ -1,24 +1,104 @@
-use Rattle.std.proofs.Common.{ap, ◌∙◌, subst, ◌<◌, Some}
-use Rattle.xc_station.specs.Turns.{turns_left}
-use Rattle.xc_station.specs.Doing.{doing_of}
-use Rattle.xc_station.proofs.Lefts.{left_idle}
-use Rattle.xc_station.proofs.Turning.{turn_idle, counts_idle}
+use Rattle.std.proofs.Common.{rules, ◌≡◌, ◌≢◌, refl, sym, subst, ap, ◌∙◌, ◌+◌, ◌<◌, ◌≤◌, ◌^◌, arith, true, false}
+use Rattle.std.specs.Prelude.{slice_set}
+use Rattle.xc_story.specs.Seen.{active_in, active_of}
+use Rattle.xc_story.specs.Setting.{setting}
+use Rattle.xc_story.specs.Rows.{IsTurn}
+use Rattle.xc_station.specs.declared.calls.Shared.{Shared}
+use Rattle.xc_data.specs.declared.entry.Turn.TheVariants as turn
+use Rattle.xc_station.specs.declared.job.Stage.TheVariants as PlainStage
+use Rattle.xc_station.specs.Jobs.{IsStage, seen_doing, seen_job}
+use Rattle.xc_station.specs.Stations.{moment, now_of, setting_of}
+use Rattle.xc_station.proofs.Ready.{may_run, stands_now, few_words}
+use Rattle.xc_station.proofs.RoomsKept.{rooms_idle_went, rooms_idle_ended}
+use Rattle.xc_station.proofs.Stages.{IsThere, lent, idle_stage, running_stage}
+use Rattle.xc_station.proofs.Steady.{steady_kept}
+use Rattle.xc_station.proofs.TurnRows.{idle_turned, running_turned}
+use Rattle.xc_station.proofs.station.Station.idle.Goals.{in-Went, in_default}
 use Rattle.xc_station.proofs.station.Station.idle.Goals as goal
 
 pub invariant_of-self : goal.invariant_of-self
 invariant_of-self g c =
-    let doing = ap (λ v. doing_of v.job) c.self.view_is ∙ c.requires in (
-      turn_idle _ _ _ _ _ _ _ _ _ _ c.in-Some.ensures.value doing c.begin-job.ensures.items c.begin-job.ensures.same.0 c.begin-job.ensures.same.1
-          c.begin-job.ensures.begins c.self.invariant.0,
-      counts_idle c.self.inside.opening.script c.self.inside.journal.items _ _ c.self.inside.job c.in-Some.job c.begin-job.result _ _ c.in-Some.ensures.value
-          doing c.begin-job.ensures.items c.begin-job.ensures.begins c.self.invariant.1,
-      c.self.invariant.2,
-      c.self.invariant.3,
+    let was = c.index_mut.result.now in
+    let station = c.self.inside in
+    let model = g.H.Host.model in
+    let at = c.args.at in
+    let s = setting station.opening.script station.rules model.tells in
+    let is = lent station.jobs.items at PlainStage.Idle was (subst (λ v. IsStage v.jobs at PlainStage.Idle) (sym c.self.view_is) c.requires)
+    c.index_mut.ensures.value in
+    let journal = c.begin-turn.new.journal in
+    let job = c.begin-turn.new.job in
+    let row = c.begin-turn.ensures.row model.tells (moment model station.shared station.journal.items station.jobs.items) at
+    (record { entered = refl; active = c.self.invariant.1.count }) in
+    let turned = idle_turned model station.shared station.journal.items station.jobs.items at was s journal.items job c.begin-turn.result is
+    c.begin-turn.ensures.items row in
+    let went : c.begin-turn.result ≡ turn.Went = elim c.match-matches.branch [
+      | in-Went w ↦ w.in-Went.is
+      | in_default w ↦ let lacks : false ≡ true = sym w.matches-is ∙ c.if-matches.true in cc lacks
+    ] in (
+      steady_kept s station.opening.faults at _ _ c.begin-turn.result c.self.invariant.0 turned,
+      rooms_idle_went model station.shared station.journal.items station.jobs.items at was job station.active station.journal.spare station.lines is.stands
+          c.self.invariant.1 s journal.items journal.spare c.begin-turn.result c.self.invariant.0.kept.told (ap active_in (idle_stage
+          (seen_doing was.activity) is.stage)) row
+          went (c.begin-turn.ensures.room.0 went),
     )
 
-pub returns-clause-falls : goal.returns-clause-falls
-returns-clause-falls g c =
-    let doing = ap (λ v. doing_of v.job) c.self.view_is ∙ c.requires in
+pub invariant_of-self-else-matches : goal.invariant_of-self-else-matches
+invariant_of-self-else-matches g c =
+    let was = c.index_mut.result.now in
     let station = c.self.inside in
-    subst (λ n. turns_left station.opening.script (Some c.begin-job.result) < n) (ap (λ v. turns_left v.opening.script v.job) c.self.view_is)
-    (left_idle station.opening.script station.job _ _ c.in-Some.job c.begin-job.result c.in-Some.ensures.value doing c.begin-job.ensures.begins)
+    let model = g.H.Host.model in
+    let at = c.args.at in
+    let s = setting station.opening.script station.rules model.tells in
+    let is = lent station.jobs.items at PlainStage.Idle was (subst (λ v. IsStage v.jobs at PlainStage.Idle) (sym c.self.view_is) c.requires)
+    c.index_mut.ensures.value in
+    let journal = c.begin-turn.new.journal in
+    let job = c.begin-turn.new.job in
+    let row = c.begin-turn.ensures.row model.tells (moment model station.shared station.journal.items station.jobs.items) at
+    (record { entered = refl; active = c.self.invariant.1.count }) in
+    let turned = idle_turned model station.shared station.journal.items station.jobs.items at was s journal.items job c.begin-turn.result is
+    c.begin-turn.ensures.items row in
+    let ended : c.begin-turn.result ≢ turn.Went = elim c.match-matches.branch [
+      | in-Went w ↦ let lacks : true ≡ false = sym w.matches-is ∙ c.if-matches.false in cc lacks
+      | in_default w ↦ λ e. w.in_default.not-Went e
+    ] in (
+      steady_kept s station.opening.faults at _ _ c.begin-turn.result c.self.invariant.0 turned,
+      rooms_idle_ended model station.shared station.journal.items station.jobs.items at was job station.active station.journal.spare station.lines is.stands
+          c.self.invariant.1 s journal.items journal.spare c.begin-turn.result (ap active_in (idle_stage (seen_doing was.activity) is.stage)) row
+          ended c.begin-turn.ensures.room.1,
+    )
+
+pub returns-then-matches-clause-row : goal.returns-then-matches-clause-row
+returns-then-matches-clause-row g c =
+    let was = c.index_mut.result.now in
+    let station = c.self.inside in
+    let model = g.H.Host.model in
+    let at = c.args.at in
+    let s = setting station.opening.script station.rules model.tells in
+    let is = lent station.jobs.items at PlainStage.Idle was (subst (λ v. IsStage v.jobs at PlainStage.Idle) (sym c.self.view_is) c.requires)
+    c.index_mut.ensures.value in
+    let journal = c.begin-turn.new.journal in
+    let job = c.begin-turn.new.job in
+    let row = c.begin-turn.ensures.row model.tells (moment model station.shared station.journal.items station.jobs.items) at
+    (record { entered = refl; active = c.self.invariant.1.count }) in
+    let turned = idle_turned model station.shared station.journal.items station.jobs.items at was s journal.items job c.begin-turn.result is
+    c.begin-turn.ensures.items row in
+    subst (λ v. IsTurn (setting_of model v) at (now_of model v) c.begin-turn.result (moment model station.shared journal.items
+    (slice_set station.jobs.items at job))) c.self.view_is turned
+
+pub returns-else-matches-clause-row : goal.returns-else-matches-clause-row
+returns-else-matches-clause-row g c =
+    let was = c.index_mut.result.now in
+    let station = c.self.inside in
+    let model = g.H.Host.model in
+    let at = c.args.at in
+    let s = setting station.opening.script station.rules model.tells in
+    let is = lent station.jobs.items at PlainStage.Idle was (subst (λ v. IsStage v.jobs at PlainStage.Idle) (sym c.self.view_is) c.requires)
+    c.index_mut.ensures.value in
+    let journal = c.begin-turn.new.journal in
+    let job = c.begin-turn.new.job in
+    let row = c.begin-turn.ensures.row model.tells (moment model station.shared station.journal.items station.jobs.items) at
+    (record { entered = refl; active = c.self.invariant.1.count }) in
+    let turned = idle_turned model station.shared station.journal.items station.jobs.items at was s journal.items job c.begin-turn.result is
+    c.begin-turn.ensures.items row in
+    subst (λ v. IsTurn (setting_of model v) at (now_of model v) c.begin-turn.result (moment model station.shared journal.items
+    (slice_set station.jobs.items at job))) c.self.view_is turned

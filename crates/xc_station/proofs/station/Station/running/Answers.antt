@@ -1,29 +1,79 @@
-use Rattle.std.proofs.Common.{ap, ◌∙◌, subst, ◌<◌, Some}
-use Rattle.xc_station.specs.Setting.{setting}
-use Rattle.xc_station.specs.Turns.{turns_left}
-use Rattle.xc_station.specs.Doing.{doing_of}
-use Rattle.xc_station.proofs.Lefts.{left_running}
-use Rattle.xc_station.proofs.Turning.{turn_running, counts_running, may_open}
+use Rattle.std.proofs.Common.{rules, ◌≡◌, refl, sym, subst, ap, ◌∙◌, ◌+◌, ◌<◌, ◌≤◌, ◌^◌, arith, inl, inr}
+use Rattle.std.specs.Prelude.{slice_set}
+use Rattle.xc_story.specs.Seen.{active_in, active_of}
+use Rattle.xc_story.specs.Setting.{setting}
+use Rattle.xc_story.specs.Rows.{IsTurn}
+use Rattle.xc_station.specs.declared.calls.Shared.{Shared}
+use Rattle.xc_data.specs.declared.entry.Turn.TheVariants as turn
+use Rattle.xc_station.specs.declared.job.Stage.TheVariants as PlainStage
+use Rattle.xc_station.specs.Jobs.{IsStage, seen_doing, seen_job}
+use Rattle.xc_station.specs.Stations.{moment, now_of, setting_of}
+use Rattle.xc_station.proofs.Ready.{may_run, stands_now, few_words}
+use Rattle.xc_station.proofs.RoomsKept.{rooms_begun, rooms_running, rooms_still}
+use Rattle.xc_station.proofs.Stages.{IsThere, lent, idle_stage, running_stage}
+use Rattle.xc_station.proofs.Steady.{steady_kept}
+use Rattle.xc_station.proofs.TurnRows.{idle_turned, running_turned}
 use Rattle.xc_station.proofs.station.Station.running.Goals as goal
+
+pub run-requires-clause-running : goal.run-requires-clause-running
+run-requires-clause-running g c =
+    let was = c.index_mut.result.now in
+    let station = c.self.inside in
+    let model = g.H.Host.model in
+    let at = c.args.at in
+    let s = setting station.opening.script station.rules model.tells in
+    let is = lent station.jobs.items at PlainStage.Running was (subst (λ v. IsStage v.jobs at PlainStage.Running) (sym c.self.view_is) c.requires)
+    c.index_mut.ensures.value in
+    may_run model station.shared station.journal.items station.jobs.items at was station.opening.script station.rules station.opening.faults station.active
+    station.journal.spare station.lines c.self.invariant.0 c.self.invariant.1 is
+
+pub run-requires-clause-count : goal.run-requires-clause-count
+run-requires-clause-count g c =
+    let was = c.index_mut.result.now in
+    let station = c.self.inside in
+    let model = g.H.Host.model in
+    let at = c.args.at in
+    let s = setting station.opening.script station.rules model.tells in
+    let is = lent station.jobs.items at PlainStage.Running was (subst (λ v. IsStage v.jobs at PlainStage.Running) (sym c.self.view_is) c.requires)
+    c.index_mut.ensures.value in
+    few_words s station.opening.faults (moment model station.shared station.journal.items station.jobs.items) c.self.invariant.0
 
 pub invariant_of-self : goal.invariant_of-self
 invariant_of-self g c =
-    let doing = ap (λ v. doing_of v.job) c.self.view_is ∙ c.requires in (
-      turn_running _ _ _ _ _ _ _ _ _ _ c.in-Some.ensures.value c.run-job.ensures.same.0 c.run-job.ensures.same.1 c.run-job.ensures.words
-          c.run-job.ensures.active c.run-job.ensures.played c.run-job.ensures.spoken c.self.invariant.0,
-      counts_running c.self.inside.journal.items c.self.inside.job c.in-Some.job c.run-job.result.0 c.self.inside.opening.faults _ _ c.in-Some.ensures.value
-          c.run-job.ensures.faults c.self.invariant.1,
-      c.self.invariant.2,
-      c.self.invariant.3,
+    let was = c.index_mut.result.now in
+    let station = c.self.inside in
+    let model = g.H.Host.model in
+    let at = c.args.at in
+    let s = setting station.opening.script station.rules model.tells in
+    let is = lent station.jobs.items at PlainStage.Running was (subst (λ v. IsStage v.jobs at PlainStage.Running) (sym c.self.view_is) c.requires)
+    c.index_mut.ensures.value in
+    let shared' = c.run.new.shared in
+    let job = c.run.new.job in
+    let row = c.run.ensures.row station.rules (moment model station.shared station.journal.items station.jobs.items) at
+    (stands_now model station.shared station.journal.items station.jobs.items at was station.opening.script station.rules station.opening.faults
+    station.active
+    station.journal.spare station.lines c.self.invariant.0 c.self.invariant.1 PlainStage.Running is) (sym c.len-entered.ensures) in
+    let turned = running_turned model station.shared station.journal.items station.jobs.items at was s shared' job c.run.result is row in (
+      steady_kept s station.opening.faults at _ _ c.run.result c.self.invariant.0 turned,
+      rooms_running model station.shared station.journal.items station.jobs.items at was job station.active station.journal.spare station.lines is.stands
+          c.self.invariant.1 s shared' c.run.result row,
     )
 
-pub returns-clause-falls : goal.returns-clause-falls
-returns-clause-falls g c =
-    let doing = ap (λ v. doing_of v.job) c.self.view_is ∙ c.requires in
+pub returns-clause-row : goal.returns-clause-row
+returns-clause-row g c =
+    let was = c.index_mut.result.now in
     let station = c.self.inside in
-    subst (λ n. turns_left station.opening.script (Some c.run-job.result.0) < n) (ap (λ v. turns_left v.opening.script v.job) c.self.view_is)
-    (left_running (setting station.opening.script station.rules g.H.Host.model.tells) _ _ _ _ station.job c.in-Some.job c.run-job.result.0 c.self.invariant.0
-    c.in-Some.ensures.value doing c.run-job.ensures.place.0 c.run-job.ensures.place.1 c.run-job.ensures.falls)
-
-pub run-job-requires-clause-open : goal.run-job-requires-clause-open
-run-job-requires-clause-open g c = may_open _ _ _ _ _ _ _ c.in-Some.ensures.value (ap (λ v. doing_of v.job) c.self.view_is ∙ c.requires) c.self.invariant.0
+    let model = g.H.Host.model in
+    let at = c.args.at in
+    let s = setting station.opening.script station.rules model.tells in
+    let is = lent station.jobs.items at PlainStage.Running was (subst (λ v. IsStage v.jobs at PlainStage.Running) (sym c.self.view_is) c.requires)
+    c.index_mut.ensures.value in
+    let shared' = c.run.new.shared in
+    let job = c.run.new.job in
+    let row = c.run.ensures.row station.rules (moment model station.shared station.journal.items station.jobs.items) at
+    (stands_now model station.shared station.journal.items station.jobs.items at was station.opening.script station.rules station.opening.faults
+    station.active
+    station.journal.spare station.lines c.self.invariant.0 c.self.invariant.1 PlainStage.Running is) (sym c.len-entered.ensures) in
+    let turned = running_turned model station.shared station.journal.items station.jobs.items at was s shared' job c.run.result is row in
+    subst (λ v. IsTurn (setting_of model v) at (now_of model v) c.run.result (moment model shared' station.journal.items (slice_set station.jobs.items at job)))
+    c.self.view_is turned

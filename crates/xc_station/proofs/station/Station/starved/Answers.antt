@@ -1,23 +1,46 @@
-use Rattle.std.proofs.Common.{ap, ◌∙◌, subst, ◌<◌, Some}
-use Rattle.xc_station.specs.Turns.{turns_left}
-use Rattle.xc_station.specs.Doing.{doing_of}
-use Rattle.xc_station.proofs.Lefts.{left_starved}
-use Rattle.xc_station.proofs.Turning.{turn_starved, counts_starved}
+use Rattle.std.proofs.Common.{◌≡◌, refl, sym, subst, ap, ◌≤◌, arith}
+use Rattle.std.specs.Prelude.{slice_set}
+use Rattle.xc_story.specs.Seen.{active_in, active_of}
+use Rattle.xc_story.specs.Setting.{setting}
+use Rattle.xc_story.specs.Rows.{IsTurn}
+use Rattle.xc_station.specs.declared.job.Stage.TheVariants as PlainStage
+use Rattle.xc_station.specs.Jobs.{IsStage, seen_doing}
+use Rattle.xc_station.specs.Stations.{moment, now_of, setting_of}
+use Rattle.xc_station.proofs.Ready.{may_run}
+use Rattle.xc_station.proofs.RoomsKept.{rooms_still}
+use Rattle.xc_station.proofs.Stages.{IsThere, lent, starved_stage}
+use Rattle.xc_station.proofs.Steady.{steady_kept}
+use Rattle.xc_station.proofs.TurnRows.{starved_turned}
 use Rattle.xc_station.proofs.station.Station.starved.Goals as goal
 
 pub invariant_of-self : goal.invariant_of-self
 invariant_of-self g c =
-    let doing = ap (λ v. doing_of v.job) c.self.view_is ∙ c.requires in (
-      turn_starved _ _ _ _ _ _ _ _ c.in-Some.ensures.value doing c.end.ensures c.self.invariant.0,
-      counts_starved c.self.inside.journal.items c.self.inside.job c.in-Some.job c.end.result c.self.inside.opening.faults
-          (g.H.Host.model.fault_count c.self.inside.host) c.in-Some.ensures.value doing c.end.ensures c.self.invariant.1,
-      c.self.invariant.2,
-      c.self.invariant.3,
+    let was = c.index_mut.result.now in
+    let job = c.end.new.self in
+    let station = c.self.inside in
+    let model = g.H.Host.model in
+    let at = c.args.at in
+    let s = setting station.opening.script station.rules model.tells in
+    let is = lent station.jobs.items at PlainStage.Starved was (subst (λ v. IsStage v.jobs at PlainStage.Starved)
+    (sym c.self.view_is) c.requires) c.index_mut.ensures.value in
+    let turned = starved_turned model station.shared station.journal.items station.jobs.items at was s job c.end.result is c.end.ensures in (
+      steady_kept s station.opening.faults at _ _ c.end.result c.self.invariant.0 turned,
+      rooms_still model station.shared station.journal.items station.jobs.items at was job station.active station.journal.spare station.lines is.stands
+          c.self.invariant.1 station.journal.items station.journal.spare (ap active_in (starved_stage (seen_doing was.activity) is.stage))
+          (ap active_of c.end.ensures.0)
+          (omega arith),
     )
 
-pub returns-clause-falls : goal.returns-clause-falls
-returns-clause-falls g c =
-    let doing = ap (λ v. doing_of v.job) c.self.view_is ∙ c.requires in
+pub returns-clause-row : goal.returns-clause-row
+returns-clause-row g c =
+    let was = c.index_mut.result.now in
+    let job = c.end.new.self in
     let station = c.self.inside in
-    subst (λ n. turns_left station.opening.script (Some c.end.result) < n) (ap (λ v. turns_left v.opening.script v.job) c.self.view_is)
-    (left_starved station.opening.script station.job c.in-Some.job c.end.result c.in-Some.ensures.value doing c.end.ensures)
+    let model = g.H.Host.model in
+    let at = c.args.at in
+    let is = lent station.jobs.items at PlainStage.Starved was (subst (λ v. IsStage v.jobs at PlainStage.Starved)
+    (sym c.self.view_is) c.requires) c.index_mut.ensures.value in
+    let turned = starved_turned model station.shared station.journal.items station.jobs.items at was
+    (setting station.opening.script station.rules model.tells) job c.end.result is c.end.ensures in
+    subst (λ v. IsTurn (setting_of model v) at (now_of model v) c.end.result (moment model station.shared station.journal.items
+    (slice_set station.jobs.items at job))) c.self.view_is turned

@@ -1,33 +1,64 @@
-use Rattle.std.proofs.Common.{ap, ◌∙◌, subst, ◌<◌, Some}
-use Rattle.xc_station.specs.Closing.{JobAt}
-use Rattle.xc_station.specs.Turns.{turns_left}
-use Rattle.xc_station.specs.Doing.{doing_of}
-use Rattle.xc_station.proofs.Lefts.{left_undoing}
-use Rattle.xc_station.proofs.Turning.{turn_undoing, counts_undoing, may_undo}
+use Rattle.std.proofs.Common.{rules, ◌≡◌, refl, sym, subst, ap, ap₂, ◌∙◌, ◌+◌, ◌<◌, ◌≤◌, ◌^◌, arith, Fits, w32}
+use Rattle.std.specs.Prelude.{slice_set}
+use Rattle.xc_story.specs.Seen.{active_in, active_of}
+use Rattle.xc_story.specs.Setting.{setting}
+use Rattle.xc_story.specs.Rows.{IsTurn, behind_commit}
+use Rattle.xc_station.specs.declared.calls.Shared.{Shared}
+use Rattle.xc_data.specs.declared.entry.Turn.TheVariants as turn
+use Rattle.xc_station.specs.declared.job.Stage.TheVariants as PlainStage
+use Rattle.xc_station.specs.Jobs.{IsStage, seen_doing, seen_job}
+use Rattle.xc_station.specs.Stations.{moment, now_of, setting_of}
+use Rattle.xc_station.proofs.Ready.{may_run, may_undo, stands_now, fits_next, fits_failures, has_room, few_words}
+use Rattle.xc_station.proofs.RoomsKept.{rooms_begun, rooms_entered, rooms_running, rooms_still, rooms_undoing, back_none}
+use Rattle.xc_station.proofs.Stages.{IsThere, lent, idle_stage, running_stage, committing_stage, undoing_stage, undone_stage}
+use Rattle.xc_station.proofs.Steady.{steady_kept}
+use Rattle.xc_station.proofs.TurnRows.{idle_turned, running_turned, committing_turned, undoing_turned, undone_turned}
 use Rattle.xc_station.proofs.station.Station.undoing.Goals as goal
+
+pub undo-requires-clause-undoing : goal.undo-requires-clause-undoing
+undo-requires-clause-undoing g c =
+    let was = c.index_mut.result.now in
+    let station = c.self.inside in
+    let model = g.H.Host.model in
+    let at = c.args.at in
+    let s = setting station.opening.script station.rules model.tells in
+    let is = lent station.jobs.items at PlainStage.Undoing was (subst (λ v. IsStage v.jobs at PlainStage.Undoing) (sym c.self.view_is) c.requires)
+    c.index_mut.ensures.value in
+    may_undo model station.shared station.journal.items station.jobs.items at was station.opening.script station.rules station.opening.faults station.active
+    station.journal.spare station.lines c.self.invariant.0 c.self.invariant.1 is
 
 pub invariant_of-self : goal.invariant_of-self
 invariant_of-self g c =
-    let doing = ap (λ v. doing_of v.job) c.self.view_is ∙ c.requires in
+    let was = c.index_mut.result.now in
     let station = c.self.inside in
     let model = g.H.Host.model in
-    let old : JobAt g.row.H.Denot = record { host = station.host; job = c.in-Some.job } in
-    let new : JobAt g.row.H.Denot = record { host = c.undo-job.new.host; job = c.undo-job.result } in (
-      turn_undoing model station.opening.script station.rules _ _ _ _ old new c.in-Some.ensures.value doing c.undo-job.ensures.undoes c.self.invariant.0,
-      counts_undoing model _ station.journal.items _ old new station.opening.faults c.in-Some.ensures.value doing c.undo-job.ensures.undoes c.self.invariant.1,
-      c.self.invariant.2,
-      c.self.invariant.3,
+    let at = c.args.at in
+    let s = setting station.opening.script station.rules model.tells in
+    let is = lent station.jobs.items at PlainStage.Undoing was (subst (λ v. IsStage v.jobs at PlainStage.Undoing) (sym c.self.view_is) c.requires)
+    c.index_mut.ensures.value in
+    let shared' : Shared g.row.H.Denot = record { host = c.undo.new.host; words = station.shared.words; claims = station.shared.claims } in
+    let job = c.undo.new.job in
+    let turned = undoing_turned model station.shared station.journal.items station.jobs.items at was station.opening.script station.rules shared' job is
+    c.undo.ensures refl in
+    let back = undoing_stage (seen_doing was.activity) is.stage in
+    let gave = c.undo.ensures back.tx back.doing in (
+      steady_kept s station.opening.faults at _ _ turn.Went c.self.invariant.0 turned,
+      rooms_undoing model station.shared station.journal.items station.jobs.items at was job station.active station.journal.spare station.lines is.stands
+          c.self.invariant.1 shared' back.tx (record back.tx { undo = gave.0 }) refl back.doing (ap (λ j. j.doing) gave.1) refl refl,
     )
 
-pub returns-clause-falls : goal.returns-clause-falls
-returns-clause-falls g c =
-    let doing = ap (λ v. doing_of v.job) c.self.view_is ∙ c.requires in
+pub returns-clause-row : goal.returns-clause-row
+returns-clause-row g c =
+    let was = c.index_mut.result.now in
     let station = c.self.inside in
     let model = g.H.Host.model in
-    let old : JobAt g.row.H.Denot = record { host = station.host; job = c.in-Some.job } in
-    let new : JobAt g.row.H.Denot = record { host = c.undo-job.new.host; job = c.undo-job.result } in
-    subst (λ n. turns_left station.opening.script (Some c.undo-job.result) < n) (ap (λ v. turns_left v.opening.script v.job) c.self.view_is)
-    (left_undoing model _ station.opening.script station.job old new c.in-Some.ensures.value doing c.undo-job.ensures.undoes)
-
-pub undo-job-requires-clause-covered : goal.undo-job-requires-clause-covered
-undo-job-requires-clause-covered g c = may_undo _ _ _ _ _ _ _ c.in-Some.ensures.value (ap (λ v. doing_of v.job) c.self.view_is ∙ c.requires) c.self.invariant.0
+    let at = c.args.at in
+    let s = setting station.opening.script station.rules model.tells in
+    let is = lent station.jobs.items at PlainStage.Undoing was (subst (λ v. IsStage v.jobs at PlainStage.Undoing) (sym c.self.view_is) c.requires)
+    c.index_mut.ensures.value in
+    let shared' : Shared g.row.H.Denot = record { host = c.undo.new.host; words = station.shared.words; claims = station.shared.claims } in
+    let job = c.undo.new.job in
+    let turned = undoing_turned model station.shared station.journal.items station.jobs.items at was station.opening.script station.rules shared' job is
+    c.undo.ensures refl in
+    subst (λ v. IsTurn (setting_of model v) at (now_of model v) turn.Went (moment model shared' station.journal.items (slice_set station.jobs.items at job)))
+    c.self.view_is turned

@@ -1,0 +1,5 @@
+pub mod Calls
+pub mod Entries
+pub mod Examples
+pub mod Finals
+pub mod Journals

@@ -1,0 +1,103 @@
+-- The text that a script gives where its jobs run one after another on the plain machine, and no call meets a fault.
+use Rattle.std.specs.Prelude.{ℕ, zero, suc, ◌+◌, List, [], ◌∷◌, length, map, position, slice_get, is_some, Option}
+use Rattle.std.specs.declared.option.Option.TheVariants.{None, Some}
+use Rattle.xc_data.specs.Claims.{held_of}
+use Rattle.xc_data.specs.declared.call.Answer.TheVariants as answer
+use Rattle.xc_data.specs.declared.call.Call.{Call}
+use Rattle.xc_data.specs.declared.call.Reply.{Reply}
+use Rattle.xc_data.specs.declared.entry.Cause.TheVariants as cause
+use Rattle.xc_data.specs.declared.entry.Entry.{Entry}
+use Rattle.xc_data.specs.declared.entry.JobEnd.TheVariants as job_end
+use Rattle.xc_data.specs.declared.entry.JobLine.{JobLine}
+use Rattle.xc_data.specs.declared.entry.Outcome.{Outcome}
+use Rattle.xc_data.specs.declared.entry.Outcome.TheVariants.{Committed, Aborted}
+use Rattle.xc_data.specs.declared.private.Private.{Private}
+use Rattle.xc_data.specs.declared.undo.Undo.{Undo}
+use Rattle.xc_data.specs.declared.undo.UndoEnd.TheVariants.{Undone}
+use Rattle.xc_print.specs.Text.{text}
+use Rattle.xc_script.specs.Ask.{Walk, asks, answered, all_answered, walk_from, next_body}
+use Rattle.xc_script.specs.declared.ask.Ask.{Ask}
+use Rattle.xc_script.specs.declared.ask.Ask.TheVariants as ask
+use Rattle.xc_story.specs.Ending.{transactions_of_jobs}
+use Rattle.xc_story.specs.Progress.{Following, Progress, opening_progress, private_of, after_entry, progress_of}
+use Rattle.xc_text.specs.declared.script.Script.{Script}
+use Rattle.xc_world.specs.Act.{act}
+use Rattle.xc_world.specs.Run.{Run, run, asked_of}
+use Rattle.xc_world.specs.World.{World, State}
+
+-- a call and its reply
+abbrev pub Replied : Type 0
+Replied = Call × Reply
+
+-- a call that is asked is done, and then what comes behind it; a commit and an abort end the body
+abbrev pub replied : World → Private → ℕ → (World → Private → Reply → List Replied) → Ask → List Replied
+replied w me tx more (ask.Call call) = let s = act w me tx call answer.Fine in (call, s.reply) ∷ more s.world s.me s.reply
+replied w me tx more _ = []
+
+-- the calls of a body of at most so many statements
+abbrev pub calls_from : ℕ → World → Private → ℕ → Walk → List Replied
+calls_from zero w me tx walk = []
+calls_from (suc n) w me tx walk =
+    replied w me tx (λ (world : World) (now : Private) (reply : Reply). calls_from n world now tx (answered walk reply)) (asks walk)
+
+-- how a transaction ends that asks this behind its calls; no late call and no compensation meets a fault
+abbrev pub outcome_of : Run → Ask → Outcome
+outcome_of run ask.Commit = Committed run.late.ends
+outcome_of run _ = Aborted (record { cause = cause.Asked; records = map (λ (undo : Undo). (undo, Undone 0)) run.body.trail })
+
+-- the entry of a job's next transaction, begun at this place of the journal
+abbrev pub entry_at : Script → ℕ → Progress → ℕ → Following → Entry
+entry_at script place p job f =
+    let walk = walk_from script f.job in
+    let me = private_of p.state job in
+    let done = calls_from (length walk.left) p.state.world me (place + 1) walk in
+    let calls = map (λ (c : Replied). c.0) done in
+    let replies = map (λ (c : Replied). c.1) done in
+    let whole = run p.state.world me (place + 1) (asked_of calls replies) [] in
+    record {
+      tx = place + 1;
+      job = job;
+      rank = place + 1;
+      began = place;
+      calls = calls;
+      replies = replies;
+      held = held_of whole.body.touched;
+      outcome = outcome_of whole (asks (all_answered walk replies));
+    }
+
+-- the place of the first job that has a transaction left
+abbrev pub next_place : Script → List Following → Option ℕ
+next_place script jobs = position (λ (f : Following). is_some (next_body script f.job)) jobs
+
+-- one more entry by this job, whose place is told, and then what comes behind it
+abbrev pub journal_at : Script → ℕ → Progress → (Progress → List Entry) → ℕ → Option Following → List Entry
+journal_at script place p more at None = []
+journal_at script place p more at (Some f) = let e = entry_at script place p (at + 1) f in e ∷ more (after_entry script p e)
+
+-- one more entry by the job at this place, and then what comes behind it
+abbrev pub journal_with : Script → ℕ → Progress → (Progress → List Entry) → Option ℕ → List Entry
+journal_with script place p more None = []
+journal_with script place p more (Some at) = journal_at script place p more at (slice_get p.jobs at)
+
+-- the entries from a place of the journal on, at most so many
+abbrev pub plain_from : ℕ → Script → ℕ → Progress → List Entry
+plain_from zero script place p = []
+plain_from (suc n) script place p =
+    journal_with script place p (λ (after : Progress). plain_from n script (place + 1) after) (next_place script p.jobs)
+
+-- the journal of the jobs one after another: an entry for each transaction of each job, since no call of a script starts a job
+abbrev pub plain_journal : Script → List Entry
+plain_journal script =
+    let opening = opening_progress script in
+    plain_from (transactions_of_jobs script opening.jobs) script 0 opening
+
+-- each started job with its end
+abbrev pub done_lines : State → List JobLine
+done_lines state = map (λ (block : List ℕ). record { block = block; end = job_end.Done }) state.world.started
+
+-- the text of that journal, of its jobs and of the words that it leads to
+abbrev pub plain_text : Script → List ℕ
+plain_text script =
+    let journal = plain_journal script in
+    let state = (progress_of script journal).state in
+    text journal (done_lines state) state.world.words

@@ -1,0 +1,16 @@
+pub mod AtRest
+pub mod FlownJobs
+pub mod NextRecord
+pub mod Noted
+pub mod OpenFiles
+pub mod TurnAborts
+pub mod TurnBack
+pub mod TurnCalls
+pub mod TurnEnters
+pub mod TurnLed
+pub mod TurnLists
+pub mod TurnParts
+pub mod TurnRivals
+pub mod TurnRows
+pub mod TurnStart
+pub mod TurnTable

@@ -1,0 +1,208 @@
+-- The entry of an active transaction keeps all flights.
+use Rattle.std.proofs.Common.{⊎_elim, ◌≡◌, ◌≢◌, true, ℕ, inl, inr, List, [], ◌++◌, length, refl, ap, sym, ◌∙◌, subst, Some, None}
+use Rattle.std.specs.Prelude.{All, Contains, map, slice_get, slice_set}
+use Rattle.xc_data.specs.declared.call.LateCall.{LateCall}
+use Rattle.xc_data.specs.declared.claim.Claim.{Claim}
+use Rattle.xc_data.specs.declared.entry.Cause.TheVariants as cause
+use Rattle.xc_data.specs.declared.object.Object.{Object}
+use Rattle.xc_data.specs.declared.object.Object.TheVariants as object
+use Rattle.xc_data.specs.declared.private.Place.{Place as Handle}
+use Rattle.xc_data.specs.Claims.{held_of, owned}
+use Rattle.xc_host.specs.Contents.{Contents}
+use Rattle.xc_script.specs.declared.ask.Ask.{Ask}
+use Rattle.xc_script.specs.declared.ask.Ask.TheVariants as ask
+use Rattle.xc_world.specs.World.{World}
+use Rattle.xc_world.specs.Modes.{claims_of}
+use Rattle.xc_world.specs.Own.{AgreeOn, Sees, Owns}
+use Rattle.xc_world.specs.Run.{Ran, asked_of, lates, late_asked_of}
+use Rattle.xc_world.proofs.Bodies.{body_keeps}
+use Rattle.xc_world.proofs.Objects.{decide}
+use Rattle.xc_world.proofs.Runs.{other_run_apart}
+use Rattle.xc_story.specs.declared.phase.Phase.{Phase}
+use Rattle.xc_story.specs.declared.phase.Phase.TheVariants.{Running, Committing, Undoing}
+use Rattle.xc_story.specs.Setting.{Setting}
+use Rattle.xc_story.specs.Progress.{Progress}
+use Rattle.xc_story.specs.Played.{HoldsFor}
+use Rattle.xc_story.specs.Told.{asked_of_tx}
+use Rattle.xc_story.specs.Truth.{IsPartOf, next_claims}
+use Rattle.xc_story.specs.Seen.{SeenTx, SeenJob, Active, active_of}
+use Rattle.xc_story.specs.Rows.{is_built}
+use Rattle.xc_flight.specs.Active.{Tx, Has, Own, Covers}
+use Rattle.xc_flight.specs.Active as flight
+use Rattle.xc_flight.specs.Flight.{ran, left, returned}
+use Rattle.xc_flight.specs.Standing.{Standing, InFlight, IsActive, AreSound, HasSome, OwnSome, IsIdleSound, entered}
+use Rattle.xc_flight.specs.Turns.{after_commit}
+use Rattle.xc_flight.proofs.Ending.{committed}
+use Rattle.xc_flight.proofs.Sounding.{sound_after, idle_after, own_after}
+use Rattle.xc_played.specs.Flying.{flown, flown_job, flown_phase, ran_at}
+use Rattle.xc_played.proofs.TurnLists.{map-put, map-put_same}
+use Rattle.xc_played.proofs.TurnParts.{Flying, world_in, standing_in, flown_at, is_active, none_flown, put_cases}
+
+-- ---- what others hold, in another world
+wanted_alike : (ran ran' : Ran) (next : Ask) → ran.me ≡ ran'.me → length ran.world.words ≡ length ran'.world.words
+    → next_claims ran next ≡ next_claims ran' next
+wanted_alike ran ran' (ask.Call c) me count = λ i. claims_of c (me i) (count i)
+wanted_alike ran ran' ask.Commit me count = refl
+wanted_alike ran ran' ask.Abort me count = refl
+wanted_alike ran ran' ask.End me count = refl
+
+-- a body that gave the same in another world
+pub record GivesSame (r q : Ran) : Type 0 where
+  pub me : r.me ≡ q.me
+  pub touched : r.touched ≡ q.touched
+  pub count : length r.world.words ≡ length q.world.words
+
+holds_alike : (r q : Ran) (next : Ask) (p : Phase) (held : List Claim) → GivesSame r q → HoldsFor r next p held → HoldsFor q next p held
+holds_alike r q next Running held g e = e ∙ ap held_of g.touched
+holds_alike r q next Committing held g e = e ∙ ap held_of g.touched
+holds_alike r q next (Undoing cause.Asked) held g e = e ∙ ap held_of g.touched
+holds_alike r q next (Undoing (cause.Conflict object holder at)) held g e = e ∙ ap held_of g.touched
+holds_alike r q next (Undoing (cause.Revoked object by at)) held g e = e ∙ ap held_of g.touched
+holds_alike r q next (Undoing cause.NoMemory) held g e =
+    (e.0, subst (IsPartOf e.0) (wanted_alike r q next g.me g.count) e.1, e.2 ∙ ap (λ t. held_of (t ++ e.0)) g.touched)
+
+-- ---- an entry, by what it leads to
+pub record Leads (p p' : Progress) (st : Standing) (jobs : List SeenJob) (at : ℕ) (job' : SeenJob) : Type 0 where
+  pub flies : InFlight (entered st at p'.state.world st.now)
+  pub sound : AreSound (entered st at p'.state.world st.now)
+  pub others : (places : List Handle) → IsIdleSound p.state.world st.next places → IsIdleSound p'.state.world st.next places
+  pub own : IsIdleSound p'.state.world st.next job'.me.places
+  pub started : p.state.world.started ≡ p'.state.world.started
+  pub handles : p'.state.handles ≡ map (λ (job : SeenJob). job.me.places) (slice_set jobs at job')
+  pub followings : (j : ℕ) → j ≢ at → slice_get p'.jobs j ≡ slice_get p.jobs j
+  pub bodies : (j : ℕ) (other : SeenJob) (u : SeenTx) → j ≢ at → slice_get jobs j ≡ Some other → active_of other ≡ Some u
+      → GivesSame (ran_at p.state.world other.me u) (ran_at p'.state.world other.me u)
+
+-- it keeps all
+pub enters : (s : Setting) (p p' : Progress) (words : List ℕ) (contents : Contents) (jobs : List SeenJob) (next at : ℕ) (job job' : SeenJob)
+    → slice_get jobs at ≡ Some job → active_of job' ≡ None → job'.block ≡ job.block → Flying s p words contents jobs next
+    → Leads p p' (standing_in p.state.world words contents jobs next) jobs at job' → Flying s p' words contents (slice_set jobs at job') next
+enters s p p' words contents jobs next at job job' there none block f l =
+    let w = p.state.world in
+    let w' = p'.state.world in
+    let now : world_in w words contents ≡ world_in w' words contents = λ i. record {
+      words = words;
+      names = contents.names;
+      files = contents.files;
+      pipes = contents.pipes;
+      pairs = contents.pairs;
+      started = l.started i;
+      blocks = l.flies.blocks i;
+    } in
+    let active : slice_set (map flown_job jobs) at None ≡ map flown_job (slice_set jobs at job') =
+    ap (slice_set (map flown_job jobs) at) (sym (none_flown job'.me job'.doing none)) ∙ sym (map-put flown_job jobs at job') in
+    let same : entered (standing_in w words contents jobs next) at w' (world_in w words contents)
+    ≡ standing_in w' words contents (slice_set jobs at job') next =
+    λ i. record { state = w'; now = now i; active = active i; next = next } in
+    let Idle_so : ℕ → SeenJob → Type 0 = λ j other. active_of other ≡ None → IsIdleSound w' next other.me.places in
+    let Holds_so : ℕ → SeenJob → Type 0 = λ j other. (u : SeenTx) → active_of other ≡ Some u
+    → HoldsFor (ran_at w' other.me u) (asked_of_tx s (slice_get p'.jobs j) u) u.phase u.held in
+    let Built_so : ℕ → SeenJob → Type 0 = λ j other. (u : SeenTx) → active_of other ≡ Some u → All (λ call. is_built call ≡ true) u.calls in
+    record {
+      flies = subst InFlight same l.flies;
+      sound = subst AreSound same l.sound;
+      idle = put_cases jobs at job job' Idle_so there (λ e. l.own) (λ j other ne e lacks. l.others other.me.places (f.idle j other e lacks));
+      handles = l.handles;
+      started = sym l.started ∙ f.started ∙ sym (map-put_same (λ (job : SeenJob). job.block) jobs at job' job there block);
+      holds = λ j other u e a. put_cases jobs at job job' Holds_so there (λ u e. absurd (cc (none, e)))
+          (λ j other ne e u a. subst (λ o. HoldsFor (ran_at w' other.me u) (asked_of_tx s o u) u.phase u.held) (sym (l.followings j ne))
+          (holds_alike (ran_at w other.me u) (ran_at w' other.me u) (asked_of_tx s (slice_get p.jobs j) u) u.phase u.held (l.bodies j other u ne e a)
+          (f.holds j other u e a)))
+          j other e u a;
+      built = λ j other u e a. put_cases jobs at job job' Built_so there (λ u e. absurd (cc (none, e)))
+          (λ j other ne e u a. f.built j other u e a) j other e u a;
+    }
+
+-- ---- what one has and another owns
+pub apart_of : (s : Setting) (p : Progress) (words : List ℕ) (contents : Contents) (jobs : List SeenJob) (next at j : ℕ) (job other : SeenJob) (tx u : SeenTx)
+    → slice_get jobs at ≡ Some job → job.doing ≡ Active tx → slice_get jobs j ≡ Some other → other.doing ≡ Active u → j ≢ at
+    → Flying s p words contents jobs next → (o : Object)
+    → Sees u.number (ran_at p.state.world other.me u).touched o → Owns tx.number (ran_at p.state.world job.me tx).touched o → ⊥
+apart_of s p words contents jobs next at j job other tx u there doing here does ne f o sees owns =
+    let w = p.state.world in
+    let t = flown job.me tx in
+    let v = flown other.me u in
+    let mine = flown_at jobs at job tx there doing in
+    let its = flown_at jobs j other u here does in
+    f.flies.apart at j o (λ e. ne (sym e))
+    (subst (λ x. OwnSome x o) (sym mine) (own_so (f.flies.flights at t mine).inside.covers owns))
+    (subst (λ x. HasSome x o) (sym its) (has_so (f.flies.flights j v its).inside.covers sees))
+  where
+    own_so : Covers tx.held (ran_at p.state.world job.me tx).touched → Owns tx.number (ran_at p.state.world job.me tx).touched o → Own (flown job.me tx) o
+    own_so covers (inl at) = inl (covers.owned o at)
+    own_so covers (inr numbered) = inr numbered
+
+    has_so : Covers u.held (ran_at p.state.world other.me u).touched → Sees u.number (ran_at p.state.world other.me u).touched o → Has (flown other.me u) o
+    has_so covers (inl at) = inl (covers.objects o at)
+    has_so covers (inr numbered) = inr numbered
+
+-- ---- a commit enters
+module _ (s : Setting) (p : Progress) (words : List ℕ) (contents : Contents) (jobs : List SeenJob) (next at : ℕ) (job : SeenJob) (tx : SeenTx)
+    (there : slice_get jobs at ≡ Some job) (doing : job.doing ≡ Active tx) (f : Flying s p words contents jobs next) where
+  abbrev standing : Standing
+  standing = standing_in p.state.world words contents jobs next
+
+  abbrev tx_flown : Tx
+  tx_flown = flown job.me tx
+
+  active : IsActive standing at tx_flown
+  active = flown_at jobs at job tx there doing
+
+  abbrev behind : World
+  behind = after_commit p.state.world tx_flown
+
+  abbrev run_body : Ran
+  run_body = ran_at p.state.world job.me tx
+
+  -- its body leads there
+  pub body_leads : run_body.world ≡ behind
+  body_leads =
+      let late : run_body.late ≡ [] = (f.flies.flights at tx_flown active).inside.late in
+      ap (λ (calls : List LateCall). (lates run_body.world (late_asked_of calls [])).world) (sym late)
+
+  -- it starts nothing
+  commit_started : tx.phase ≡ Committing → p.state.world.started ≡ behind.started
+  commit_started commits =
+      let flies = f.flies.flights at tx_flown active in
+      let there_so : AgreeOn (Own tx_flown) standing.now (left p.state.world tx_flown flight.Committing) =
+      subst (λ q. AgreeOn (Own tx_flown) (returned standing.now tx_flown q) (left p.state.world tx_flown q)) (ap flown_phase commits) flies.owns in
+      ⊎_elim (λ (at : Contains (owned run_body.touched) object.Jobs). there_so object.Jobs (inl (flies.inside.covers.owned object.Jobs at)))
+      (λ (lacks : Contains (owned run_body.touched) object.Jobs → ⊥).
+      (body_keeps p.state.world job.me tx.number (asked_of tx.calls tx.replies)).others object.Jobs (λ own. none_of lacks own))
+      (decide (owned run_body.touched) object.Jobs)
+      ∙ ap (λ (v : World). v.started) body_leads
+    where
+      none_of : (Contains (owned run_body.touched) object.Jobs → ⊥) → Owns tx.number run_body.touched object.Jobs → ⊥
+      none_of lacks (inl at) = lacks at
+      none_of lacks (inr numbered) = numbered
+
+  commit_bodies : (j : ℕ) (other : SeenJob) (u : SeenTx) → tx.phase ≡ Committing → j ≢ at → slice_get jobs j ≡ Some other → active_of other ≡ Some u
+      → GivesSame (ran_at p.state.world other.me u) (ran_at behind other.me u)
+  commit_bodies j other u commits ne here does =
+      let w = p.state.world in
+      let alike = other_run_apart w other.me job.me u.number tx.number (asked_of u.calls u.replies) (asked_of tx.calls tx.replies) []
+      (apart_of s p words contents jobs next at j job other tx u there doing here (is_active other.doing u does) ne f) in
+      let after = committed standing at tx_flown f.flies active (ap flown_phase commits) refl in
+      record { me = alike.gave.me; touched = alike.gave.touched; count = alike.left.count ∙ sym f.flies.count ∙ after.count ∙ sym alike.right.count }
+
+  -- what it leads to
+  pub commit_leads : (p' : Progress) (job' : SeenJob) → tx.phase ≡ Committing → p'.state.world ≡ behind
+      → p'.state.handles ≡ map (λ (job : SeenJob). job.me.places) (slice_set jobs at job') → ((j : ℕ) → j ≢ at → slice_get p'.jobs j ≡ slice_get p.jobs j)
+      → job'.me.places ≡ tx.me.places → Leads p p' standing jobs at job'
+  commit_leads p' job' commits is handles followings places =
+      let w = p.state.world in
+      let phase = ap flown_phase commits in
+      let after = committed standing at tx_flown f.flies active phase refl in
+      record {
+        flies = subst (λ v. InFlight (entered standing at v standing.now)) (sym is) after;
+        sound = subst (λ v. AreSound (entered standing at v standing.now)) (sym is)
+            (sound_after standing at tx_flown f.flies f.sound active phase standing.now);
+        others = λ places sound. subst (λ v. IsIdleSound v next places) (sym is) (idle_after standing at tx_flown f.flies f.sound active phase places sound);
+        own = subst (λ v. IsIdleSound v next job'.me.places) (sym is) (subst (IsIdleSound behind next) (sym places)
+            (own_after standing at tx_flown f.flies f.sound active phase standing.now after));
+        started = commit_started commits ∙ ap (λ (v : World). v.started) (sym is);
+        handles = handles;
+        followings = followings;
+        bodies = λ j other u ne here does. subst (λ v. GivesSame (ran_at w other.me u) (ran_at v other.me u)) (sym is)
+            (commit_bodies j other u commits ne here does);
+      }

@@ -1,0 +1,109 @@
+-- What one entry more leads to.
+use Rattle.std.proofs.Common.{◌≡◌, ◌≢◌, ℕ, ◌+◌, ◌-◌, List, [], ◌∷◌, ◌++◌, length, refl, ap, sym, ◌∙◌, arith, Some}
+use Rattle.std.specs.Prelude.{map, replicate, slice_get, slice_set, unwrap_or}
+use Rattle.std.proofs.lemmas.List.Sums.{fold_push}
+use Rattle.xc_data.specs.declared.call.Call.{Call}
+use Rattle.xc_data.specs.declared.entry.Cause.{Cause}
+use Rattle.xc_data.specs.declared.entry.Entry.{Entry}
+use Rattle.xc_data.specs.declared.entry.Outcome.{Outcome}
+use Rattle.xc_data.specs.declared.entry.Outcome.TheVariants.{Committed, Aborted}
+use Rattle.xc_data.specs.declared.private.Private.{Private}
+use Rattle.xc_data.specs.declared.private.Place.{Place as Handle}
+use Rattle.xc_text.specs.declared.script.Script.{Script}
+use Rattle.xc_script.specs.Ask.{passed}
+use Rattle.xc_world.specs.World.{beginning, no_handles}
+use Rattle.xc_world.specs.Run.{asked_of, body, run}
+use Rattle.xc_story.specs.Progress.{Following, Progress, untried, private_of, kept_of, started_blocks, started_job}
+use Rattle.xc_story.specs.Progress.{following_abort, after_outcome, after_following, words_left, after_entry, opening_progress, progress_of}
+use Rattle.xc_story.specs.Seen.{SeenTx, SeenJob}
+use Rattle.xc_story.specs.Rows.{entry_of}
+use Rattle.xc_flight.specs.Turns.{after_commit as world_after_commit, after_abort as world_after_abort}
+use Rattle.xc_played.specs.Flying.{flown, ran_at}
+use Rattle.xc_played.proofs.TurnBack.{append_nil}
+use Rattle.xc_played.proofs.TurnLists.{get_put_other, get_map, map-put, map-put_same}
+
+-- one entry more
+pub progress-more : (script : Script) (journal : List Entry) (e : Entry)
+    → progress_of script (journal ++ e ∷ []) ≡ after_entry script (progress_of script journal) e
+progress-more script journal e = fold_push (after_entry script) (opening_progress script) journal e
+
+-- places count from 0, jobs from 1
+back_one : (at : ℕ) → at + 1 - 1 ≡ at
+back_one at = omega arith
+
+abbrev places_of : SeenJob → List Handle
+places_of job = job.me.places
+
+-- ---- an entry of the job in this place
+module _ (script : Script) (p : Progress) (f : Following) (jobs : List SeenJob) (at : ℕ) (job : SeenJob) (tx : SeenTx)
+    (there : slice_get jobs at ≡ Some job) (following : slice_get p.jobs at ≡ Some f) (fresh : job.me ≡ beginning job.me.places)
+    (handles : p.state.handles ≡ map (λ (job : SeenJob). job.me.places) jobs) where
+  -- the journal of its job so far is found
+  led_by : (outcome : Outcome) → after_entry script p (entry_of tx at outcome)
+      ≡ record (after_outcome script p f (entry_of tx at outcome) outcome) { entered = p.entered + 1; words = words_left p.words tx.calls outcome }
+  led_by outcome =
+      let e = entry_of tx at outcome in
+      ap (λ o. record (after_following script p e o) { entered = p.entered + 1; words = words_left p.words tx.calls outcome })
+      (ap (slice_get p.jobs) (back_one at) ∙ following)
+
+  -- its private state at its begin
+  private_is : private_of p.state (at + 1) ≡ job.me
+  private_is = (λ i. beginning (unwrap_or (slice_get (handles i) (back_one at i)) no_handles))
+      ∙ ap (λ o. beginning (unwrap_or o no_handles)) (get_map places_of jobs at job there) ∙ sym fresh
+
+  others_follow : (g : Following) (j : ℕ) → j ≢ at → slice_get (slice_set p.jobs (at + 1 - 1) g) j ≡ slice_get p.jobs j
+  others_follow g j ne = ap (λ k. slice_get (slice_set p.jobs k g) j) (back_one at) ∙ get_put_other p.jobs at j g ne
+
+  -- ---- of a commit
+  abbrev committed : Entry
+  committed = entry_of tx at (Committed [])
+
+  none_started : (calls : List Call) → started_blocks calls [] ≡ []
+  none_started [] = refl
+  none_started (c ∷ calls) = refl
+
+  abbrev behind : Following
+  behind = untried f.block (passed script f.job tx.replies) (p.entered + 1)
+
+  -- the world is its run's
+  pub commit_world : (after_entry script p committed).state.world ≡ world_after_commit p.state.world (flown job.me tx)
+  commit_world = ap (λ (q : Progress). q.state.world) (led_by (Committed []))
+      ∙ ap (λ m. (run p.state.world m tx.number (asked_of tx.calls tx.replies) []).late.world) private_is
+
+  -- the handles are those of its end
+  pub commit_handles : (job' : SeenJob) → (ran_at p.state.world job.me tx).me ≡ tx.me → job'.me.places ≡ tx.me.places
+      → (after_entry script p committed).state.handles ≡ map (λ (job : SeenJob). job.me.places) (slice_set jobs at job')
+  commit_handles job' me places =
+      let blocks = started_blocks (kept_of tx.calls tx.replies) [] in
+      let end : Private → List Handle = λ m. (body p.state.world m tx.number (asked_of tx.calls tx.replies)).me.places in
+      let mine : end (private_of p.state (at + 1)) ≡ job'.me.places = ap end private_is ∙ ap (λ (m : Private). m.places) me ∙ sym places in
+      ap (λ (q : Progress). q.state.handles) (led_by (Committed []))
+      ∙ (λ i. slice_set (handles i) (back_one at i) (mine i) ++ replicate (length (none_started (kept_of tx.calls tx.replies) i)) (mine i))
+      ∙ append_nil (slice_set (map places_of jobs) at job'.me.places) ∙ sym (map-put places_of jobs at job')
+
+  -- the other jobs stay
+  pub commit_followings : (j : ℕ) → j ≢ at → slice_get (after_entry script p committed).jobs j ≡ slice_get p.jobs j
+  commit_followings j ne =
+      let to = started_job script (passed script f.job tx.replies) (p.entered + 1) in
+      ap (λ (q : Progress). slice_get q.jobs j) (led_by (Committed []))
+      ∙ (λ i. slice_get (slice_set p.jobs (at + 1 - 1) behind ++ map to (none_started (kept_of tx.calls tx.replies) i)) j)
+      ∙ ap (λ l. slice_get l j) (append_nil (slice_set p.jobs (at + 1 - 1) behind)) ∙ others_follow behind j ne
+
+  -- ---- of an abort
+  abbrev aborted : Cause → Entry
+  aborted c = entry_of tx at (Aborted (record { cause = c; records = tx.undo.ended }))
+
+  -- the world has what remains
+  pub abort_world : (c : Cause) → (after_entry script p (aborted c)).state.world ≡ world_after_abort p.state.world (flown job.me tx)
+  abort_world c = ap (λ (q : Progress). q.state.world) (led_by (Aborted (record { cause = c; records = tx.undo.ended })))
+
+  -- the handles are those of its begin
+  pub abort_handles : (c : Cause) (job' : SeenJob) → job'.me ≡ job.me
+      → (after_entry script p (aborted c)).state.handles ≡ map (λ (job : SeenJob). job.me.places) (slice_set jobs at job')
+  abort_handles c job' me = ap (λ (q : Progress). q.state.handles) (led_by (Aborted (record { cause = c; records = tx.undo.ended }))) ∙ handles
+      ∙ sym (map-put_same places_of jobs at job' job there (ap (λ (m : Private). m.places) me))
+
+  -- the other jobs stay
+  pub abort_followings : (c : Cause) (j : ℕ) → j ≢ at → slice_get (after_entry script p (aborted c)).jobs j ≡ slice_get p.jobs j
+  abort_followings c j ne = ap (λ (q : Progress). slice_get q.jobs j) (led_by (Aborted (record { cause = c; records = tx.undo.ended })))
+      ∙ others_follow (following_abort p.entered f (aborted c) c) j ne

@@ -1,0 +1,243 @@
+-- A station's jobs in flight, behind a journal that has led somewhere.
+use Rattle.std.proofs.Common.{◌≡◌, ◌≢◌, ℕ, ◌+◌, ◌<◌, ◌≤◌, true, List, length, get_or, refl, ap, sym, ◌∙◌, subst, arith, Option, Some, None}
+use Rattle.std.specs.Prelude.{All, map, slice_get, slice_set}
+use Rattle.std.proofs.lemmas.List.Elements.{All-nil}
+use mathlib.Core.Logic.{dite}
+use native.Mathlib.Decide.{ℕ_discrete}
+use Rattle.xc_data.specs.declared.private.Private.{Private}
+use Rattle.xc_host.specs.Contents.{Contents, with_contents}
+use Rattle.xc_script.specs.Place.{Place}
+use Rattle.xc_world.specs.World.{World, beginning}
+use Rattle.xc_story.specs.Setting.{Setting}
+use Rattle.xc_story.specs.Progress.{Following, Progress, progress_of}
+use Rattle.xc_story.specs.Played.{HoldsFor}
+use Rattle.xc_story.specs.Told.{asked_of_tx, AreTold, IsJobTold}
+use Rattle.xc_story.specs.Truth.{next_of}
+use Rattle.xc_story.specs.Seen.{SeenTx, SeenJob, Doing, Idle, Active, Starved, Ended, Now, active_in, active_of, begun_count}
+use Rattle.xc_story.specs.Rows.{is_built, new_tx, with_tx}
+use Rattle.xc_flight.specs.Active.{Tx}
+use Rattle.xc_flight.specs.Standing.{Standing, InFlight, AreSound, IsIdleSound, begun, turned}
+use Rattle.xc_flight.specs.Turns.{starting}
+use Rattle.xc_flight.proofs.Rows.{begins}
+use Rattle.xc_flight.proofs.Together.{begin_sound, step_sound}
+use Rattle.xc_played.specs.Flying.{AreFlying, flown, flown_in, flown_job, ran_at}
+use Rattle.xc_played.proofs.TurnLists.{get_put_same, get_put_other, map-put, map-put_same, map_at, found_at, inside, length-map_all}
+
+-- a world with these words and contents
+abbrev pub world_in : World → List ℕ → Contents → World
+world_in w words contents = record (with_contents w contents) { words = words }
+
+-- the jobs in flight over it
+abbrev pub standing_in : World → List ℕ → Contents → List SeenJob → ℕ → Standing
+standing_in w words contents jobs next =
+    record { state = w; now = world_in w words contents; active = map flown_job jobs; next = next }
+
+-- what is true of them, behind a journal that has led here
+pub record Flying (s : Setting) (p : Progress) (words : List ℕ) (contents : Contents) (jobs : List SeenJob) (next : ℕ) : Type 0 where
+  pub flies : InFlight (standing_in p.state.world words contents jobs next)
+  pub sound : AreSound (standing_in p.state.world words contents jobs next)
+  pub idle : (at : ℕ) (job : SeenJob) → slice_get jobs at ≡ Some job → active_of job ≡ None → IsIdleSound p.state.world next job.me.places
+  pub handles : p.state.handles ≡ map (λ (job : SeenJob). job.me.places) jobs
+  pub started : p.state.world.started ≡ map (λ (job : SeenJob). job.block) jobs
+  pub holds : (at : ℕ) (job : SeenJob) (tx : SeenTx) → slice_get jobs at ≡ Some job → active_of job ≡ Some tx
+      → HoldsFor (ran_at p.state.world job.me tx) (asked_of_tx s (slice_get p.jobs at) tx) tx.phase tx.held
+  pub built : (at : ℕ) (job : SeenJob) (tx : SeenTx) → slice_get jobs at ≡ Some job → active_of job ≡ Some tx
+      → All (λ call. is_built call ≡ true) tx.calls
+
+-- of a station
+pub flying_of : (s : Setting) (now : Now) → AreFlying s now
+    → Flying s (progress_of s.script now.journal) now.words now.contents now.jobs (begun_count now + 1)
+flying_of s now f =
+    record {
+      flies = f.flies;
+      sound = f.sound;
+      idle = f.idle;
+      handles = f.handles;
+      started = f.started;
+      holds = f.holds;
+      built = λ at job tx there is. f.built at tx (job, there, is);
+    }
+
+-- and back
+pub flying_from : (s : Setting) (now : Now) → Flying s (progress_of s.script now.journal) now.words now.contents now.jobs (begun_count now + 1)
+    → AreFlying s now
+flying_from s now f =
+    record {
+      flies = f.flies;
+      sound = f.sound;
+      idle = f.idle;
+      handles = f.handles;
+      started = f.started;
+      holds = f.holds;
+      built = λ at tx there. f.built at there.0 tx there.1 there.2;
+    }
+
+-- ---- what a job does
+pub is_active : (d : Doing) (tx : SeenTx) → active_in d ≡ Some tx → d ≡ Active tx
+is_active Idle tx e = cc e
+is_active (Active u) tx e = let is : u ≡ tx = cc e in ap Active is
+is_active Starved tx e = cc e
+is_active (Ended end) tx e = cc e
+
+-- a job whose transaction is active, in flight
+pub flown_at : (jobs : List SeenJob) (at : ℕ) (job : SeenJob) (tx : SeenTx) → slice_get jobs at ≡ Some job → job.doing ≡ Active tx
+    → get_or (map flown_job jobs) at None ≡ Some (flown job.me tx)
+flown_at jobs at job tx there is = map_at flown_job jobs at job there ∙ ap (flown_in job.me) is
+
+-- a job with no transaction has none in flight
+pub none_flown : (me : Private) (d : Doing) → active_in d ≡ None → flown_in me d ≡ None
+none_flown me Idle e = refl
+none_flown me (Active tx) e = cc e
+none_flown me Starved e = refl
+none_flown me (Ended end) e = refl
+
+-- nor at its place
+pub none_at : (jobs : List SeenJob) (at : ℕ) (job : SeenJob) → slice_get jobs at ≡ Some job → active_of job ≡ None → get_or (map flown_job jobs) at None ≡ None
+none_at jobs at job there none = map_at flown_job jobs at job there ∙ none_flown job.me job.doing none
+
+-- ---- what the journal tells of a job
+pub record Follows (s : Setting) (begun entered : ℕ) (p : Progress) (at : ℕ) (job : SeenJob) : Type 0 where
+  pub following : Following
+  pub at_place : slice_get p.jobs at ≡ Some following
+  pub told : IsJobTold s begun entered following job
+
+-- each job is told
+pub told_at : (s : Setting) (words : ℕ) (now : Now) (at : ℕ) (job : SeenJob) → AreTold s words now.journal now.jobs → slice_get now.jobs at ≡ Some job
+    → Follows s (begun_count now) (length now.journal) (progress_of s.script now.journal) at job
+told_at s words now at job told there =
+    let lt = inside now.jobs at job there in
+    let f = found_at (progress_of s.script now.journal).jobs at (omega (arith, lt, told.count)) in
+    record { following = f.0; at_place = f.1; told = told.jobs_told at f.0 job f.1 there }
+
+-- what it is asked depends on its replies alone
+pub asked_same : (s : Setting) (o : Option Following) (a b : SeenTx) → a.replies ≡ b.replies → asked_of_tx s o a ≡ asked_of_tx s o b
+asked_same s None a b e = refl
+asked_same s (Some f) a b e = ap (next_of s.script f) e
+
+-- ---- a job changes, behind the same journal
+-- what is true of the job with its transaction
+pub record Right (s : Setting) (p : Progress) (next at : ℕ) (job : SeenJob) : Type 0 where
+  pub idle : active_of job ≡ None → IsIdleSound p.state.world next job.me.places
+  pub holds : (tx : SeenTx) → active_of job ≡ Some tx
+      → HoldsFor (ran_at p.state.world job.me tx) (asked_of_tx s (slice_get p.jobs at) tx) tx.phase tx.held
+  pub built : (tx : SeenTx) → active_of job ≡ Some tx → All (λ call. is_built call ≡ true) tx.calls
+
+-- the others, by place
+pub put_cases : (jobs : List SeenJob) (at : ℕ) (job job' : SeenJob) (P : ℕ → SeenJob → Type 0) → slice_get jobs at ≡ Some job → P at job'
+    → ((j : ℕ) (other : SeenJob) → j ≢ at → slice_get jobs j ≡ Some other → P j other)
+    → (j : ℕ) (other : SeenJob) → slice_get (slice_set jobs at job') j ≡ Some other → P j other
+put_cases jobs at job job' P there mine others j other e = dite (ℕ_discrete j at)
+    (λ (q : j ≡ at). let here : slice_get (slice_set jobs at job') at ≡ Some other = subst (λ k. slice_get (slice_set jobs at job') k ≡ Some other) q e in
+    let put : slice_get (slice_set jobs at job') at ≡ Some job' = get_put_same jobs at job' job there in
+    let one : job' ≡ other = cc (here, put) in
+    subst (λ k. P k other) (sym q) (subst (P at) one mine))
+    (λ (ne : j ≢ at). others j other ne (sym (get_put_other jobs at j job' ne) ∙ e))
+
+-- it keeps all, where it keeps the flights
+pub changed : (s : Setting) (p : Progress) (words words' : List ℕ) (contents contents' : Contents) (jobs : List SeenJob) (next next' at : ℕ)
+    (job job' : SeenJob) → slice_get jobs at ≡ Some job → next ≤ next' → job'.me ≡ job.me → job'.block ≡ job.block
+    → Flying s p words contents jobs next
+    → InFlight (standing_in p.state.world words' contents' (slice_set jobs at job') next')
+    → AreSound (standing_in p.state.world words' contents' (slice_set jobs at job') next')
+    → Right s p next' at job' → Flying s p words' contents' (slice_set jobs at job') next'
+changed s p words words' contents contents' jobs next next' at job job' there le me block f flies sound right =
+    let w = p.state.world in
+    let Idle_so : ℕ → SeenJob → Type 0 = λ j other. active_of other ≡ None → IsIdleSound w next' other.me.places in
+    let Holds_so : ℕ → SeenJob → Type 0 = λ j other. (u : SeenTx) → active_of other ≡ Some u
+    → HoldsFor (ran_at w other.me u) (asked_of_tx s (slice_get p.jobs j) u) u.phase u.held in
+    let Built_so : ℕ → SeenJob → Type 0 = λ j other. (u : SeenTx) → active_of other ≡ Some u → All (λ call. is_built call ≡ true) u.calls in
+    record {
+      flies = flies;
+      sound = sound;
+      idle = put_cases jobs at job job' Idle_so there right.idle (λ j other ne e none m low. f.idle j other e none m (omega (arith, low, le)));
+      handles = f.handles ∙ sym (map-put_same (λ (job : SeenJob). job.me.places) jobs at job' job there (ap (λ (m : Private). m.places) me));
+      started = f.started ∙ sym (map-put_same (λ (job : SeenJob). job.block) jobs at job' job there block);
+      holds = λ j other u e a. put_cases jobs at job job' Holds_so there right.holds (λ j other ne e u a. f.holds j other u e a) j other e u a;
+      built = λ j other u e a. put_cases jobs at job job' Built_so there right.built (λ j other ne e u a. f.built j other u e a) j other e u a;
+    }
+
+-- ---- the job's transaction goes on
+active_one : (job : SeenJob) (place : Place) (tx u : SeenTx) → active_of (with_tx job place tx) ≡ Some u → tx ≡ u
+active_one job place tx u e = cc e
+
+-- what is true of an active transaction
+pub right_active : (s : Setting) (p : Progress) (next at : ℕ) (job : SeenJob) (place : Place) (tx : SeenTx)
+    → HoldsFor (ran_at p.state.world job.me tx) (asked_of_tx s (slice_get p.jobs at) tx) tx.phase tx.held
+    → All (λ call. is_built call ≡ true) tx.calls → Right s p next at (with_tx job place tx)
+right_active s p next at job place tx holds built =
+    let w = p.state.world in
+    record {
+      idle = λ none. cc none;
+      holds = λ u e. subst (λ (v : SeenTx). HoldsFor (ran_at w job.me v) (asked_of_tx s (slice_get p.jobs at) v) v.phase v.held)
+          (active_one job place tx u e) holds;
+      built = λ u e. subst (λ (v : SeenTx). All (λ call. is_built call ≡ true) v.calls) (active_one job place tx u e) built;
+    }
+
+-- it keeps all, where it keeps the flights
+pub goes_on : (s : Setting) (p : Progress) (words words' : List ℕ) (contents contents' : Contents) (jobs : List SeenJob) (next at : ℕ) (job : SeenJob)
+    (place : Place) (tx tx' : SeenTx) → slice_get jobs at ≡ Some job → job.doing ≡ Active tx → tx'.number ≡ tx.number
+    → Flying s p words contents jobs next
+    → InFlight (turned (standing_in p.state.world words contents jobs next) at (Some (flown job.me tx')) (world_in p.state.world words' contents'))
+    → HoldsFor (ran_at p.state.world job.me tx') (asked_of_tx s (slice_get p.jobs at) tx') tx'.phase tx'.held
+    → All (λ call. is_built call ≡ true) tx'.calls
+    → Flying s p words' contents' (slice_set jobs at (with_tx job place tx')) next
+goes_on s p words words' contents contents' jobs next at job place tx tx' there is number f flies holds built =
+    let w = p.state.world in
+    let job' : SeenJob = with_tx job place tx' in
+    let put : map flown_job (slice_set jobs at job') ≡ slice_set (map flown_job jobs) at (Some (flown job.me tx')) = map-put flown_job jobs at job' in
+    let behind : (active : List (Option Tx)) → Standing =
+    λ (active : List (Option Tx)). record { state = w; now = world_in w words' contents'; active = active; next = next } in
+    let sound = step_sound (standing_in w words contents jobs next) at (flown job.me tx) (flown job.me tx') (world_in w words' contents') f.sound
+    (flown_at jobs at job tx there is) number refl in
+    changed s p words words' contents contents' jobs next next at job job' there (omega arith) refl refl f
+    (subst (λ active. InFlight (behind active)) (sym put) flies)
+    (subst (λ active. AreSound (behind active)) (sym put) sound)
+    (right_active s p next at job place tx' holds built)
+
+-- ---- an idle job
+-- what is true of a job without a transaction
+pub right_idle : (s : Setting) (p : Progress) (next at : ℕ) (job : SeenJob) → active_of job ≡ None → IsIdleSound p.state.world next job.me.places
+    → Right s p next at job
+right_idle s p next at job none sound =
+    record {
+      idle = λ same. sound;
+      holds = λ u e. absurd (cc (none, e));
+      built = λ u e. absurd (cc (none, e));
+    }
+
+-- it goes on without one
+pub rests : (s : Setting) (p : Progress) (words : List ℕ) (contents : Contents) (jobs : List SeenJob) (next at : ℕ) (job job' : SeenJob)
+    → slice_get jobs at ≡ Some job → active_of job ≡ None → active_of job' ≡ None → job'.me ≡ job.me → job'.block ≡ job.block
+    → Flying s p words contents jobs next → Flying s p words contents (slice_set jobs at job') next
+rests s p words contents jobs next at job job' there none none' me block f =
+    let w = p.state.world in
+    let same : map flown_job (slice_set jobs at job') ≡ map flown_job jobs =
+    map-put_same flown_job jobs at job' job there (none_flown job'.me job'.doing none' ∙ sym (none_flown job.me job.doing none)) in
+    let behind : (active : List (Option Tx)) → Standing =
+    λ (active : List (Option Tx)). record { state = w; now = world_in w words contents; active = active; next = next } in
+    changed s p words words contents contents jobs next next at job job' there (omega arith) me block f
+    (subst (λ active. InFlight (behind active)) (sym same) f.flies)
+    (subst (λ active. AreSound (behind active)) (sym same) f.sound)
+    (right_idle s p next at job' none' (subst (λ (m : Private). IsIdleSound w next m.places) (sym me) (f.idle at job there none)))
+
+-- its next transaction begins
+pub begins_next : (s : Setting) (p : Progress) (words : List ℕ) (contents : Contents) (jobs : List SeenJob) (next at : ℕ) (job : SeenJob) (place : Place)
+    (rank began : ℕ) → slice_get jobs at ≡ Some job → active_of job ≡ None → job.me ≡ beginning job.me.places
+    → Flying s p words contents jobs next
+    → Flying s p words contents (slice_set jobs at (with_tx job place (new_tx next rank began job.me))) (next + 1)
+begins_next s p words contents jobs next at job place rank began there none fresh f =
+    let w = p.state.world in
+    let tx : SeenTx = new_tx next rank began job.me in
+    let job' : SeenJob = with_tx job place tx in
+    let st = standing_in w words contents jobs next in
+    let lt : at < length st.active = (let a = inside jobs at job there in omega (arith, a, length-map_all flown_job jobs)) in
+    let put : map flown_job (slice_set jobs at job') ≡ slice_set (map flown_job jobs) at (Some (flown job.me tx)) = map-put flown_job jobs at job' in
+    let behind : (active : List (Option Tx)) → Standing =
+    λ (active : List (Option Tx)). record { state = w; now = world_in w words contents; active = active; next = next + 1 } in
+    let flies = begins st at job.me f.flies lt (none_at jobs at job there none) in
+    let sound : AreSound (begun st at (starting next job.me)) = subst (λ m. AreSound (begun st at (starting next m))) (sym fresh)
+    (begin_sound st at job.me.places f.sound lt (f.idle at job there none)) in
+    changed s p words words contents contents jobs next (next + 1) at job job' there (omega arith) refl refl f
+    (subst (λ active. InFlight (behind active)) (sym put) flies)
+    (subst (λ active. AreSound (behind active)) (sym put) sound)
+    (right_active s p (next + 1) at job place tx refl (All-nil (λ call. is_built call ≡ true)))

@@ -1,0 +1,143 @@
+-- At a start nobody is active, and all is the plain machine's.
+use Rattle.std.proofs.Common.{◌≡◌, ℕ, ◌+◌, ◌-◌, List, [], ◌∷◌, ◌++◌, length, get_or, zero, suc, refl, ap, sym, ◌∙◌, subst, arith, Some, None}
+use Rattle.std.specs.Prelude.{All, map, replicate, slice_get}
+use Rattle.std.proofs.lemmas.List.Elements.{All-head, All-tail}
+use Rattle.xc_data.specs.Limits.{KeepsLimits}
+use Rattle.xc_data.specs.declared.object.Num.{Num}
+use Rattle.xc_data.specs.declared.private.Place.{Place as Handle}
+use Rattle.xc_data.specs.declared.private.Place.TheVariants.{Vacant}
+use Rattle.xc_data.specs.declared.script.Opened.{Opened}
+use Rattle.xc_data.specs.declared.script.Opened.TheVariants as line
+use Rattle.xc_data.specs.declared.script.Script0.{Script0}
+use Rattle.xc_host.specs.Contents.{Contents, contents_of, world_of, nothing, opened}
+use Rattle.xc_text.specs.declared.script.Script.{Script}
+use Rattle.xc_text.specs.Scripts.{IsScript, IsFileLine}
+use Rattle.xc_world.specs.World.{World, beginning, no_handles}
+use Rattle.xc_world.specs.Opening.{bare, opening, with_opened, with_all_opened, handles_of, opening_handles, line_num}
+use Rattle.xc_world.specs.Sound.{IsSound}
+use Rattle.xc_world.proofs.SoundOpening.{opening_sound}
+use Rattle.xc_story.specs.Setting.{Setting}
+use Rattle.xc_story.specs.Progress.{opening_progress, progress_of}
+use Rattle.xc_story.specs.Kept.{IsSet}
+use Rattle.xc_story.specs.Opened.{IsOpening, opened_job}
+use Rattle.xc_story.specs.Seen.{SeenJob, Now, active_of, actives}
+use Rattle.xc_flight.specs.Standing.{IsIdleSound}
+use Rattle.xc_flight.proofs.Rows.{starts}
+use Rattle.xc_played.specs.Flying.{AreFlying, flown_job}
+use Rattle.xc_played.proofs.TurnParts.{Flying, standing_in, world_in}
+use Rattle.xc_played.proofs.TurnRows.{flies_so}
+
+-- ---- what is opened
+-- it depends on the contents alone
+opened_alike : (w : World) (num : Num) (o : Opened) → contents_of (with_opened w num o) ≡ contents_of (with_opened (world_of (contents_of w)) num o)
+opened_alike w num (line.File name bytes) = refl
+opened_alike w num (line.Pipe bytes) = refl
+opened_alike w num line.Pair = refl
+
+all_alike : (w v : World) (k : ℕ) (objects : List Opened)
+    → contents_of w ≡ contents_of v → contents_of (with_all_opened w k objects) ≡ contents_of (with_all_opened v k objects)
+all_alike w v k [] same = same
+all_alike w v k (o ∷ objects) same =
+    all_alike (with_opened w (line_num k) o) (with_opened v (line_num k) o) (k + 1) objects
+    (opened_alike w (line_num k) o ∙ ap (λ (c : Contents). contents_of (with_opened (world_of c) (line_num k) o)) same ∙ sym (opened_alike v (line_num k) o))
+
+opening_contents : (script : Script0) → contents_of (opening script) ≡ opened script.prologue.objects
+opening_contents script = all_alike (bare script) (world_of nothing) 0 script.prologue.objects refl
+
+-- no line changes a word or a job
+abbrev SameBase : World → World → Type 0
+SameBase w v = (v.words ≡ w.words) × (v.started ≡ w.started)
+
+one_base : (w : World) (num : Num) (o : Opened) → SameBase w (with_opened w num o)
+one_base w num (line.File name bytes) = (refl, refl)
+one_base w num (line.Pipe bytes) = (refl, refl)
+one_base w num line.Pair = (refl, refl)
+
+all_base : (w : World) (k : ℕ) (objects : List Opened) → SameBase w (with_all_opened w k objects)
+all_base w k [] = (refl, refl)
+all_base w k (o ∷ objects) =
+    let one = one_base w (line_num k) o in
+    let more = all_base (with_opened w (line_num k) o) (k + 1) objects in
+    (more.0 ∙ one.0, more.1 ∙ one.1)
+
+opening_base : (script : Script0) → SameBase (bare script) (opening script)
+opening_base script = all_base (bare script) 0 script.prologue.objects
+
+-- a file has no handle at the opening
+no_handles_of : (k : ℕ) (objects : List Opened) → All IsFileLine objects → handles_of k objects ≡ []
+no_handles_of k [] all = refl
+no_handles_of k (line.File name bytes ∷ objects) all = no_handles_of (k + 1) objects (All-tail IsFileLine (line.File name bytes) objects all)
+no_handles_of k (line.Pipe bytes ∷ objects) all = absurd (All-head IsFileLine (line.Pipe bytes) objects all)
+no_handles_of k (line.Pair ∷ objects) all = absurd (All-head IsFileLine line.Pair objects all)
+
+no_opening_handles : (script : Script) → IsScript script → opening_handles script.plain ≡ no_handles
+no_opening_handles script is =
+    ap (λ (handles : List Handle). handles ++ replicate (256 - length handles) Vacant) (no_handles_of 0 script.plain.prologue.objects is.files)
+
+-- the world that a script opens with, from its words and its contents
+opening_now : (script : Script0) → world_in (opening script) script.words (opened script.prologue.objects) ≡ opening script
+opening_now script =
+    let w = opening script in
+    ap (world_in w script.words) (sym (opening_contents script)) ∙ ap (λ ws. world_in w ws (contents_of w)) (sym (opening_base script).0)
+
+-- ---- the jobs
+module _ (script : Script) where
+  -- they are idle, and have no handle
+  pub record IsFresh (job : SeenJob) : Type 0 where
+    pub none : active_of job ≡ None
+    pub handles : job.me.places ≡ no_handles
+
+  each_fresh : (names : List (List ℕ)) (at : ℕ) (job : SeenJob) → slice_get (map (opened_job script) names) at ≡ Some job → IsFresh job
+  each_fresh [] at job e = cc e
+  each_fresh (name ∷ names) zero job e =
+      let is : opened_job script name ≡ job = cc e in
+      subst IsFresh is (record { none = refl; handles = refl })
+  each_fresh (name ∷ names) (suc at) job e = each_fresh names at job e
+
+  none_active : (names : List (List ℕ)) → actives (map (opened_job script) names) ≡ []
+  none_active [] = refl
+  none_active (name ∷ names) = none_active names
+
+  none_flies : (names : List (List ℕ)) (at : ℕ) → get_or (map flown_job (map (opened_job script) names)) at None ≡ None
+  none_flies [] at = refl
+  none_flies (name ∷ names) zero = refl
+  none_flies (name ∷ names) (suc at) = none_flies names at
+
+  their_handles : (names : List (List ℕ)) → replicate (length names) no_handles ≡ map (λ (job : SeenJob). job.me.places) (map (opened_job script) names)
+  their_handles [] = refl
+  their_handles (name ∷ names) = ap (λ hs. no_handles ∷ hs) (their_handles names)
+
+  their_blocks : (names : List (List ℕ)) → names ≡ map (λ (job : SeenJob). job.block) (map (opened_job script) names)
+  their_blocks [] = refl
+  their_blocks (name ∷ names) = ap (λ ns. name ∷ ns) (their_blocks names)
+
+-- ---- the start
+opening_flies : (s : Setting) → IsScript s.script → KeepsLimits s.script.plain
+    → Flying s (opening_progress s.script) s.script.plain.words (opened s.script.plain.prologue.objects) (map (opened_job s.script) s.script.plain.jobs) 1
+opening_flies s read limits =
+    let script = s.script in
+    let names = script.plain.jobs in
+    let w = opening script.plain in
+    let idle = none_flies script names in
+    let handles = no_opening_handles script read in
+    let sound : IsIdleSound w 1 no_handles =
+    λ m le. subst (λ hs. IsSound w (beginning hs) m) handles (opening_sound script.plain limits m (omega (arith, le))) in
+    record {
+      flies = starts (standing_in w script.plain.words (opened script.plain.prologue.objects) (map (opened_job script) names) 1) idle
+          (opening_now script.plain) (λ m k le. (sound m le).new k (omega arith));
+      sound = λ j t e. absurd (cc (idle j, e));
+      idle = λ at job there none. subst (IsIdleSound w 1) (sym (each_fresh script names at job there).handles) sound;
+      handles = ap (replicate (length names)) handles ∙ their_handles script names;
+      started = (opening_base script.plain).1 ∙ their_blocks script names;
+      holds = λ at job tx there active. (let none = (each_fresh script names at job there).none in absurd (cc (none, active)));
+      built = λ at job tx there active. (let none = (each_fresh script names at job there).none in absurd (cc (none, active)));
+    }
+
+-- a start flies
+pub start_flies : (s : Setting) (now : Now) → IsSet s → KeepsLimits s.script.plain → IsOpening s.script now
+    → now.contents ≡ opened s.script.plain.prologue.objects → AreFlying s now
+start_flies s now set limits o held =
+    let many : length (actives now.jobs) ≡ 0 = ap (λ js. length (actives js)) o.jobs ∙ ap length (none_active s.script s.script.plain.jobs) in
+    let entries : length now.journal ≡ 0 = ap length o.journal in
+    flies_so s now (opening_progress s.script) s.script.plain.words (opened s.script.plain.prologue.objects) (map (opened_job s.script) s.script.plain.jobs) 1
+    (ap (progress_of s.script) o.journal) o.words held o.jobs (omega (arith, many, entries)) (opening_flies s set.read limits)

@@ -1,0 +1,83 @@
+-- A turn keeps the flights of all, whatever its row.
+use Rattle.std.proofs.Common.{◌≡◌, ℕ, inl, inr, List, [], ◌∷◌, length, refl, ap, sym, subst, IsTrue, Some}
+use Rattle.std.specs.Prelude.{slice_get}
+use Rattle.xc_data.specs.declared.entry.Cause.{Cause}
+use Rattle.xc_data.specs.declared.entry.JobEnd.TheVariants as job_end
+use Rattle.xc_data.specs.declared.entry.Turn.{Turn}
+use Rattle.xc_data.specs.declared.entry.Turn.TheVariants as turn
+use Rattle.xc_data.specs.declared.undo.Undo.{Undo}
+use Rattle.xc_script.specs.declared.ask.Ask.{Ask}
+use Rattle.xc_script.specs.declared.ask.Ask.TheVariants as ask
+use Rattle.xc_story.specs.declared.phase.Phase.{Phase}
+use Rattle.xc_story.specs.declared.phase.Phase.TheVariants.{Running, Committing, Undoing}
+use Rattle.xc_story.specs.Setting.{Setting}
+use Rattle.xc_story.specs.Told.{AreTold}
+use Rattle.xc_story.specs.Seen.{SeenTx, SeenJob, Doing, Idle, Active, Starved, Ended, Now, active_in}
+use Rattle.xc_story.specs.Rows.{IsTurn, TurnOf, IdleTurn, ActiveTurn, RunningTurn, AskedTurn, CommittingTurn, UndoingTurn, BackTurn, StarvedTurn}
+use Rattle.xc_played.specs.Flying.{AreFlying}
+use Rattle.xc_played.proofs.TurnRows.{row_begins, row_ends, row_calls, row_conflicts, row_turns_back, row_commits, row_wants}
+use Rattle.xc_played.proofs.TurnRows.{row_compensates, row_commit_enters, row_abort_enters}
+
+module _ (s : Setting) (old : Now) (at : ℕ) (job : SeenJob) (there : slice_get old.jobs at ≡ Some job)
+    (told : AreTold s (length old.words) old.journal old.jobs) (flying : AreFlying s old) (tells : IsTrue s.tells) (new : Now) where
+  idle_flies : (answer : Turn) → job.doing ≡ Idle → IdleTurn s at old job answer new → AreFlying s new
+  idle_flies (turn.Ended end) doing row = subst (AreFlying s) (sym row.1) (row_ends s old at job there told flying (Ended end) (ap active_in doing) refl)
+  idle_flies turn.Went doing row = subst (AreFlying s) (sym row.1) (row_begins s old at job there told flying (ap active_in doing))
+  idle_flies (turn.Busy object holder) doing row = absurd row
+  idle_flies turn.NoMemory doing row = absurd row
+
+  starved_flies : (answer : Turn) → job.doing ≡ Starved → StarvedTurn at old job answer new → AreFlying s new
+  starved_flies (turn.Ended job_end.NoMemory) doing row =
+      subst (AreFlying s) (sym row) (row_ends s old at job there told flying (Ended job_end.NoMemory) (ap active_in doing) refl)
+  starved_flies (turn.Ended job_end.Done) doing row = absurd row
+  starved_flies (turn.Ended (job_end.GaveUp c)) doing row = absurd row
+  starved_flies (turn.Ended job_end.JournalFull) doing row = absurd row
+  starved_flies turn.Went doing row = absurd row
+  starved_flies (turn.Busy object holder) doing row = absurd row
+  starved_flies turn.NoMemory doing row = absurd row
+
+  module _ (tx : SeenTx) (doing : job.doing ≡ Active tx) where
+    asked_flies : (a : Ask) → tx.phase ≡ Running → AskedTurn s at old job tx a new → AreFlying s new
+    asked_flies (ask.Call c) runs (inl row) = row_calls s old at job there told flying tx doing new c tells runs row
+    asked_flies (ask.Call c) runs (inr row) = row_conflicts s old at job there told flying tx doing new c runs row
+    asked_flies ask.Commit runs row = row_commits s old at job there told flying tx doing new runs row
+    asked_flies ask.Abort runs row = row_turns_back s old at job there told flying tx doing new runs row
+    asked_flies ask.End runs row = absurd row
+
+    running_flies : (answer : Turn) → tx.phase ≡ Running → RunningTurn s at old job tx answer new → AreFlying s new
+    running_flies turn.Went runs row = asked_flies _ runs row
+    running_flies turn.NoMemory runs row = row_wants s old at job there told flying tx doing new tells runs row
+    running_flies (turn.Busy object holder) runs row = absurd row
+    running_flies (turn.Ended end) runs row = absurd row
+
+    committing_flies : (answer : Turn) → tx.phase ≡ Committing → CommittingTurn at old job tx answer new → AreFlying s new
+    committing_flies turn.Went commits row = subst (AreFlying s) (sym row) (row_commit_enters s old at job there told flying tx doing commits)
+    committing_flies turn.NoMemory commits row = absurd row
+    committing_flies (turn.Busy object holder) commits row = absurd row
+    committing_flies (turn.Ended end) commits row = absurd row
+
+    back_flies : (c : Cause) (pending : List Undo) → tx.phase ≡ Undoing c → tx.undo.pending ≡ pending → BackTurn s at old job tx c pending new → AreFlying s new
+    back_flies c [] undoes none row = subst (AreFlying s) (sym row) (row_abort_enters s old at job there told flying tx doing c undoes none)
+    back_flies c (u ∷ pending) undoes some row = row_compensates s old at job there told flying tx doing new c tells undoes row
+
+    undoing_flies : (c : Cause) (answer : Turn) → tx.phase ≡ Undoing c → UndoingTurn s at old job tx c answer new → AreFlying s new
+    undoing_flies c turn.Went undoes row = back_flies c tx.undo.pending undoes refl row
+    undoing_flies c turn.NoMemory undoes row = absurd row
+    undoing_flies c (turn.Busy object holder) undoes row = absurd row
+    undoing_flies c (turn.Ended end) undoes row = absurd row
+
+    active_flies : (p : Phase) (answer : Turn) → tx.phase ≡ p → ActiveTurn s at old job tx p answer new → AreFlying s new
+    active_flies Running answer is row = running_flies answer is row
+    active_flies Committing answer is row = committing_flies answer is row
+    active_flies (Undoing c) answer is row = undoing_flies c answer is row
+
+  doing_flies : (d : Doing) (answer : Turn) → job.doing ≡ d → TurnOf s at old job d answer new → AreFlying s new
+  doing_flies Idle answer doing row = idle_flies answer doing row
+  doing_flies (Active tx) answer doing row = active_flies tx doing tx.phase answer refl row
+  doing_flies Starved answer doing row = starved_flies answer doing row
+  doing_flies (Ended end) answer doing row = absurd row
+
+-- a turn of one job keeps the flights of all
+pub turn_flies : (s : Setting) (at : ℕ) (old new : Now) (answer : Turn) → IsTrue s.tells → IsTurn s at old answer new
+    → AreTold s (length old.words) old.journal old.jobs → AreFlying s old → AreFlying s new
+turn_flies s at old new answer tells t told flying = doing_flies s old at t.job t.stands told flying tells new t.job.doing answer refl t.row

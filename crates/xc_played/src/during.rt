@@ -1,0 +1,40 @@
+ghost use Rattle.std.specs.Prelude.{◌≡◌, ℕ, List, length, map, IsTrue};
+ghost use Rattle.xc_data.specs.Private.{place_of};
+ghost use Rattle.xc_data.specs.declared.entry.Cause.{Cause};
+ghost use Rattle.xc_data.specs.declared.entry.JobLine.{JobLine};
+ghost use Rattle.xc_compensate.specs.Records.{NextIsCovered};
+ghost use Rattle.xc_file.specs.Calls.{IsOpenIn};
+ghost use Rattle.xc_story.specs.declared.phase.Phase.TheVariants.{Running, Undoing};
+ghost use Rattle.xc_story.specs.Setting.{Setting};
+ghost use Rattle.xc_story.specs.Progress.{progress_of};
+ghost use Rattle.xc_story.specs.Seen.{SeenTx, SeenJob, Now};
+ghost use Rattle.xc_story.specs.Rows.{IsActiveAt};
+ghost use Rattle.xc_story.specs.Told.{AreTold};
+ghost use Rattle.xc_story.specs.Kept.{AreLinesOf};
+ghost use Rattle.xc_story.specs.Ending.{IsFinalState};
+ghost use Rattle.xc_story.specs.Played.{IsPlayedSoFar};
+ghost use Rattle.xc_played.specs.Flying.{AreFlying, state_of};
+
+/// What an active transaction noted is what the plain machine's body gives in the world that the journal left.
+pub fn what_is_noted_was_played()
+    ensures { (s : Setting) (now : Now) (at : ℕ) (tx : SeenTx) → AreTold s (length now.words) now.journal now.jobs → AreFlying s now
+        → IsActiveAt now.jobs at tx → IsPlayedSoFar s (length now.words) (progress_of s.script now.journal) at tx }
+{}
+
+/// The files that a running transaction has open are there, within their limit, whoever holds them.
+pub fn open_files_are_there()
+    ensures { (s : Setting) (now : Now) (at : ℕ) (tx : SeenTx) (h : ℕ) → AreTold s (length now.words) now.journal now.jobs → AreFlying s now
+        → IsActiveAt now.jobs at tx → tx.phase ≡ Running → IsOpenIn now.contents (place_of tx.me.places h) }
+{}
+
+/// The newest record without an end of an undoing transaction is covered by its file, if nothing stands in its way.
+pub fn the_next_record_is_covered()
+    ensures { (s : Setting) (now : Now) (at : ℕ) (tx : SeenTx) (c : Cause) → AreTold s (length now.words) now.journal now.jobs
+        → AreFlying s now → IsActiveAt now.jobs at tx → tx.phase ≡ Undoing c → NextIsCovered now.contents tx.undo }
+{}
+
+/// Where each job has ended, the words, the host's contents and the started jobs are those that the journal leads to.
+pub fn where_all_have_ended_all_is_as_the_journal_says()
+    ensures { (s : Setting) (now : Now) (lines : List JobLine) → AreFlying s now → AreLinesOf now.jobs lines
+        → IsFinalState (state_of s now) (record { words = now.words; contents = now.contents; lines = lines }) }
+{}

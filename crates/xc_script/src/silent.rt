@@ -1,0 +1,73 @@
+ghost use Rattle.std.specs.Prelude.{◌≡◌, ◌≤◌, ℕ, true, drop, OnOk, OnErr};
+ghost use Rattle.xc_script.specs.Ask.{holds, is_silent, set_by, settled, stands};
+
+use crate::reading::{expression_of, value_of};
+use crate::value::{Value, Variables};
+use xc_data::NoMemory;
+use xc_text::{Statement, Test};
+
+fn holds(test: Test, left: u64, right: u64) -> bool
+    ensures { result ≡ holds test left right }
+{
+    match test {
+        Test::Equal => left == right,
+        Test::NotEqual => left != right,
+        Test::Less => left < right,
+        Test::AtMost => left <= right,
+        Test::Greater => left > right,
+        Test::AtLeast => left >= right,
+    }
+}
+
+// The statement asks nothing, where the last call was refused or not.
+fn is_silent(variables: &Variables, refused: bool, statement: &Statement) -> bool
+    ensures { result ≡ is_silent variables.now refused statement.now }
+{
+    match statement {
+        Statement::Let { .. } => true,
+        Statement::AbortIf { left, test, right } => {
+            !holds(
+                *test,
+                value_of(variables, *left),
+                value_of(variables, *right),
+            )
+        }
+        Statement::Require => !refused,
+        _ => false,
+    }
+}
+
+// Sets the variable of a `let`.
+fn set(variables: &mut Variables, statement: &Statement) -> Result<(), NoMemory>
+    ensures ok { OnOk result (variables.new ≡ set_by variables.old statement.now) }
+    ensures err { OnErr result (variables.new ≡ variables.old) }
+{
+    let Statement::Let { into, value } = statement else {
+        return Ok(());
+    };
+    let number = expression_of(variables, *value);
+    variables.insert(*into, Value::Number(number))
+}
+
+/// Passes the silent statements that come next. Without memory it has passed some of them.
+pub fn settle(
+    variables: &mut Variables,
+    at: &mut usize,
+    refused: bool,
+    body: &[Statement],
+) -> Result<(), NoMemory>
+    ensures walk { (stored : ℕ) → settled variables.new stored refused (drop at.new body.now)
+        ≡ settled variables.old stored refused (drop at.old body.now) }
+    ensures settled { OnOk result (stands variables.new refused (drop at.new body.now) ≡ true) }
+    ensures at { at.old ≤ at.new }
+    ensures stays { stands variables.old refused (drop at.old body.now) ≡ true → (variables.new ≡ variables.old) × (at.new ≡ at.old) }
+{
+    while let Some(statement) = body.get(*at) {
+        if !is_silent(variables, refused, statement) {
+            return Ok(());
+        }
+        set(variables, statement)?;
+        *at += 1;
+    }
+    Ok(())
+}

@@ -1,0 +1,4 @@
+pub mod Bounds
+pub mod JobLists
+pub mod Numerals
+pub mod Words

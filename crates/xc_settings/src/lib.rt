@@ -1,0 +1,15 @@
+//! The words of a command line: the options that a run is given, and what they choose.
+//!
+//! `settings` takes the words exactly where `settings_of` of `specs/` has a choice for them, and
+//! answers that choice.
+#![tactic(auto)]
+
+mod chosen;
+mod options;
+mod values;
+
+pub use chosen::{Chosen, SettingsErr};
+pub use options::settings;
+
+#[cfg(test)]
+mod tests;

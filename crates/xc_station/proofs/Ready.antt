@@ -1,0 +1,214 @@
+-- What a turn's function may rely on, between two turns.
+use Rattle.std.proofs.Common.{◌≡◌, ◌≢◌, ℕ, zero, suc, ◌+◌, ◌<◌, ◌≤◌, ◌^◌, List, [], ◌∷◌, length, refl, ap, sym, ◌∙◌, subst, arith, Bool, true, false}
+use Rattle.std.proofs.lemmas.List.Elements.{All-head, All-tail}
+use Rattle.std.proofs.lemmas.Option.{slice_get_within}
+use Rattle.std.specs.Prelude.{All, IsSome, IsTrue, Option, slice_get, slice_set, if◌then◌else◌, nat_le}
+use Rattle.std.specs.List.{fold}
+use Rattle.std.specs.declared.option.Option.TheVariants.{None, Some}
+use Rattle.xc_data.specs.declared.call.Call.{Call}
+use Rattle.xc_data.specs.declared.call.Call.TheVariants.{Store}
+use Rattle.xc_data.specs.declared.entry.Entry.{Entry}
+use Rattle.xc_data.specs.declared.entry.Outcome.{Outcome}
+use Rattle.xc_data.specs.declared.entry.Outcome.TheVariants.{Committed, Aborted}
+use Rattle.xc_data.specs.declared.entry.JobLine.{JobLine}
+use Rattle.xc_compensate.specs.Records.{NextIsCovered}
+use Rattle.xc_host.specs.Model.{HostModel}
+use Rattle.xc_journal.specs.Room.{Roomy}
+use Rattle.xc_txmem.specs.Overlay.{AreWithin}
+use Rattle.xc_text.specs.declared.script.Block.{Block}
+use Rattle.xc_text.specs.declared.script.Script.{Script}
+use Rattle.xc_text.specs.Scripts.{IsBlock, IsScript}
+use Rattle.xc_script.specs.Ask.{next_body, transactions_of, transactions_at}
+use Rattle.xc_story.specs.declared.phase.Attempts.{Attempts}
+use Rattle.xc_story.specs.declared.rules.Rules.{Rules}
+use Rattle.xc_story.specs.Setting.{Setting, setting}
+use Rattle.xc_story.specs.WordCalls.{words_after, words_behind}
+use Rattle.xc_story.specs.Progress.{Following, Progress, after_entry, opening_progress, progress_of, words_left}
+use Rattle.xc_story.specs.Seen.{SeenTx, SeenJob, Active, Now, active_in, actives, failures}
+use Rattle.xc_story.specs.Told.{AreAttempts, IsDoing, IsInPhase, IsUnderway}
+use Rattle.xc_story.specs.Rows.{IsActiveAt}
+use Rattle.xc_turns.proofs.GivenNumbers.{given_once}
+use Rattle.xc_played.proofs.NextRecord.{covered_now}
+use Rattle.xc_played.proofs.OpenFiles.{open_files}
+use Rattle.xc_station.specs.declared.calls.Shared.{Shared}
+use Rattle.xc_station.specs.declared.job.Job.{Job}
+use Rattle.xc_station.specs.declared.job.Stage.{Stage}
+use Rattle.xc_station.specs.declared.job.Stage.TheVariants as stage
+use Rattle.xc_station.specs.Jobs.{seen_doing, seen_job, seen_jobs}
+use Rattle.xc_station.specs.Moments.{AreSingle, CanRun, IsAt}
+use Rattle.xc_station.specs.Stations.{HasRooms, IsSteady, moment}
+use Rattle.xc_station.proofs.Placed.{get_map, length_set}
+use Rattle.xc_station.proofs.Rooms.{one_active}
+use Rattle.xc_station.proofs.Stages.{IsThere, running_stage, undoing_stage}
+
+-- ---- the job's story
+get_beside : {A B : Type 0} (xs : List A) (ys : List B) (i : ℕ) (y : B) → length xs ≡ length ys → slice_get ys i ≡ Some y
+    → (x : A) × (slice_get xs i ≡ Some x)
+get_beside xs [] i y e h = cc h
+get_beside [] (b ∷ ys) i y e h = absurd (omega (arith, e))
+get_beside (a ∷ xs) (b ∷ ys) zero y e h = (a, refl)
+get_beside (a ∷ xs) (b ∷ ys) (suc i) y e h = get_beside xs ys i y (omega (arith, e)) h
+
+-- an active transaction with what the journal tells of its job
+pub record IsTelling (s : Setting) (job : SeenJob) (tx : SeenTx) : Type 0 where
+  pub following : Following
+  pub attempts : AreAttempts following job.attempts
+  pub underway : IsUnderway s following job.place tx
+
+module _ (s : Setting) (faults : ℕ) (now : Now) (steady : IsSteady s faults now) (at : ℕ) (job : SeenJob) (tx : SeenTx)
+    (stands : slice_get now.jobs at ≡ Some job) (does : job.doing ≡ Active tx) where
+  -- it has one
+  pub telling : IsTelling s job tx
+  telling =
+      let told = steady.kept.told in
+      let beside = get_beside (progress_of s.script now.journal).jobs now.jobs at job told.count stands in
+      let tells = told.jobs_told at beside.0 job beside.1 stands in
+      record {
+        following = beside.0;
+        attempts = tells.attempts;
+        underway = subst (IsDoing s (length now.journal + length (actives now.jobs)) beside.0 job) does tells.doing;
+      }
+
+-- ---- its transaction is one of a few
+few_there : (blocks : List Block) (i : ℕ) → All IsBlock blocks → length (transactions_of (slice_get blocks i)) ≤ 1000
+few_there [] i all = omega arith
+few_there (b ∷ blocks) zero all = (All-head IsBlock b blocks all).transactions
+few_there (b ∷ blocks) (suc i) all = few_there blocks i (All-tail IsBlock b blocks all)
+
+some_within : {A : Type 0} (xs : List A) (i : ℕ) → IsSome (slice_get xs i) → i < length xs
+some_within [] i is = cc is
+some_within (x ∷ xs) zero is = omega arith
+some_within (x ∷ xs) (suc i) is = let less = some_within xs i is in omega (arith, less)
+
+-- ---- words are as many as the script's
+count_set : (xs : List ℕ) (i x : ℕ) (b : Bool) → length (if b then xs else slice_set xs i x) ≡ length xs
+count_set xs i x true = refl
+count_set xs i x false = length_set xs i x
+
+count_after : (xs : List ℕ) (c : Call) → length (words_after xs c) ≡ length xs
+count_after xs (Store i x) = count_set xs i x (nat_le (length xs) i)
+count_after xs _ = refl
+
+count_behind : (xs : List ℕ) (calls : List Call) → length (words_behind xs calls) ≡ length xs
+count_behind xs [] = refl
+count_behind xs (c ∷ calls) = count_behind (words_after xs c) calls ∙ count_after xs c
+
+count_left : (xs : List ℕ) (calls : List Call) (o : Outcome) → length (words_left xs calls o) ≡ length xs
+count_left xs calls (Committed late) = count_behind xs calls
+count_left xs calls (Aborted report) = refl
+
+count_told : (script : Script) (p : Progress) (journal : List Entry) → length (fold (after_entry script) p journal).words ≡ length p.words
+count_told script p [] = refl
+count_told script p (e ∷ journal) = count_told script (after_entry script p e) journal ∙ count_left p.words e.calls e.outcome
+
+-- so they are few
+pub few_words : (s : Setting) (faults : ℕ) (now : Now) → IsSteady s faults now → length now.words ≤ 4096
+few_words s faults now steady =
+    let same = steady.kept.spoken.count in
+    let told = count_told s.script (opening_progress s.script) now.journal in
+    let few = steady.set.read.few_words in
+    omega (arith, same, told, few)
+
+-- ---- numbers that fit
+failed_so : (f : Following) (attempts : Option Attempts) → AreAttempts f attempts → failures attempts ≡ length f.failed
+failed_so f None are = ap length (sym are.1)
+failed_so f (Some a) are = sym are.1
+
+module _ (s : Setting) (faults : ℕ) (now : Now) (steady : IsSteady s faults now) (at : ℕ) (job : SeenJob) (tx : SeenTx)
+    (stands : slice_get now.jobs at ≡ Some job) (does : job.doing ≡ Active tx) where
+  -- the place of its transaction among its block's
+  pub few_next : job.place.next < 2 ^ 32
+  few_next =
+      let t = telling s faults now steady at job tx stands does in
+      let f = t.following in
+      let less = some_within (transactions_at s.script f.job.block) f.job.next t.underway.left in
+      let few = few_there s.script.blocks f.job.block steady.set.read.each_block in
+      let same = t.underway.standing.next in
+      omega (arith, less, few, same)
+
+  -- the attempts that ended in a conflict
+  pub few_failures : failures job.attempts < s.rules.attempts
+  few_failures =
+      let t = telling s faults now steady at job tx stands does in
+      let less = t.underway.attempts in
+      let same = failed_so t.following job.attempts t.attempts in
+      omega (arith, less, same)
+
+-- ---- what functions ask
+module _ {H : Type 0} (model : HostModel H) (shared : Shared H) (journal : List Entry) (jobs : List Job) (at : ℕ) (was : Job)
+    (script : Script) (rules : Rules) (faults active spare : ℕ) (lines : Roomy JobLine)
+    (steady : IsSteady (setting script rules model.tells) faults (moment model shared journal jobs))
+    (rooms : HasRooms shared.claims active spare (moment model shared journal jobs) lines) where
+  single : AreSingle (seen_jobs jobs)
+  single = given_once (setting script rules model.tells) (length shared.words) journal (seen_jobs jobs) steady.kept.told
+
+  -- a running job may go on
+  pub may_run : IsThere jobs at stage.Running was → CanRun script model shared (seen_job was)
+  may_run is =
+      let s = setting script rules model.tells in
+      let now = moment model shared journal jobs in
+      let there = get_map seen_job jobs at was is.stands in
+      let runs = running_stage (seen_doing was.activity) is.stage in
+      let t = telling s faults now steady at (seen_job was) runs.tx there runs.doing in
+      let active : IsActiveAt now.jobs at runs.tx = (seen_job was, there, ap active_in runs.doing) in
+      let spoken = steady.kept.spoken.each at runs.tx active in
+      let block : t.following.job.block ≡ was.place.block = sym t.underway.standing.block in
+      let next : t.following.job.next ≡ was.place.next = sym t.underway.standing.next in
+      let phase = subst (IsInPhase s t.following was.place runs.tx) runs.phase t.underway.phase in
+      record {
+        tx = runs.tx;
+        doing = runs.doing;
+        left = subst IsSome (λ i. slice_get (transactions_at script (block i)) (next i)) t.underway.left;
+        may = record {
+          running = runs.phase;
+          within = subst (λ n. AreWithin n runs.tx.writes) (sym steady.kept.spoken.count) spoken.within;
+          stored = t.underway.stored;
+          none = phase.none;
+        };
+        files = λ tells h. open_files s now (steady.flying tells) at (seen_job was) runs.tx there (ap active_in runs.doing) runs.phase h;
+      }
+
+  -- so it stands at this moment
+  pub stands_now : (s : Stage) → IsThere jobs at s was → IsAt model shared (moment model shared journal jobs) at (seen_job was)
+  stands_now s is =
+      record {
+        words = refl;
+        contents = refl;
+        faults = refl;
+        stands = get_map seen_job jobs at was is.stands;
+        table = rooms.claims;
+        apart = steady.kept.apart;
+        single = single;
+      }
+
+  -- a record without an end may be tried
+  pub may_undo : IsThere jobs at stage.Undoing was → (tx : SeenTx) × ((seen_job was).doing ≡ Active tx) × (tx.undo.pending ≢ [])
+      × (IsTrue model.tells → NextIsCovered (model.contents shared.host) tx.undo)
+  may_undo is =
+      let s = setting script rules model.tells in
+      let now = moment model shared journal jobs in
+      let there = get_map seen_job jobs at was is.stands in
+      let back = undoing_stage (seen_doing was.activity) is.stage in (
+        back.tx,
+        back.doing,
+        λ none. let lacks : back.newest ∷ back.older ≡ [] = sym back.pending ∙ none in cc lacks,
+        λ tells older u pending way.
+            covered_now s now (steady.flying tells) at (seen_job was) back.tx back.cause older u there (ap active_in back.doing) back.phase pending,
+      )
+
+  -- numbers that fit, of a job with an active transaction
+  pub fits_next : (s : Stage) (tx : SeenTx) → IsThere jobs at s was → seen_doing was.activity ≡ Active tx → was.place.next < 2 ^ 32
+  fits_next s tx is does = few_next (setting script rules model.tells) faults (moment model shared journal jobs) steady at (seen_job was) tx
+      (get_map seen_job jobs at was is.stands) does
+
+  -- and attempts
+  pub fits_failures : (s : Stage) (tx : SeenTx) → IsThere jobs at s was → seen_doing was.activity ≡ Active tx → rules.attempts < 2 ^ 32
+      → failures was.attempts + 1 < 2 ^ 32
+  fits_failures s tx is does fits =
+      let few = few_failures (setting script rules model.tells) faults (moment model shared journal jobs) steady at (seen_job was) tx
+      (get_map seen_job jobs at was is.stands) does in omega (arith, few, fits)
+
+  -- each active one has its room
+  pub has_room : (s : Stage) (tx : SeenTx) → IsThere jobs at s was → seen_doing was.activity ≡ Active tx → (1 ≤ active) × (1 ≤ spare)
+  has_room s tx is does = one_active shared.claims active spare (moment model shared journal jobs) lines at (seen_job was) tx
+      (get_map seen_job jobs at was is.stands) (ap active_in does) rooms

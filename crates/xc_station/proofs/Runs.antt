@@ -1,0 +1,175 @@
+-- Runs of turns.
+use Rattle.std.proofs.Common.{◌≡◌, ◌≢◌, ◌+◌, ◌-◌, ◌<◌, ◌≤◌, ℕ, zero, suc, Bool, true, false, List, [], ◌∷◌, ◌++◌, length, length-set}
+use Rattle.std.proofs.Common.{ap, sym, refl, ◌∙◌, subst, arith}
+use Rattle.std.proofs.Math.Decide.{dec_le}
+use Rattle.std.proofs.lemmas.Bool.{ne_eqb}
+use Rattle.std.proofs.lemmas.List.{append-nil, append_assoc, length-map}
+use Rattle.std.proofs.lemmas.Option.{slice_get-map}
+use Rattle.std.specs.Prelude.{Option, ◌==◌, drop, slice_get, slice_index, slice_set, if◌then◌else◌}
+use Rattle.std.specs.Option.{option_map}
+use Rattle.std.specs.declared.option.Option.TheVariants.{None, Some}
+use mathlib.Core.Logic.{dite}
+use native.Mathlib.Decide.{ℕ_discrete}
+use Rattle.xc_data.specs.declared.entry.Turn.{Turn}
+use Rattle.xc_data.specs.declared.undo.Undo.{Undo}
+use Rattle.xc_host.specs.Model.{HostModel}
+use Rattle.xc_story.specs.declared.phase.Phase.{Phase}
+use Rattle.xc_story.specs.declared.phase.Phase.TheVariants.{Running, Committing, Undoing}
+use Rattle.xc_story.specs.Alone.{AreAlone}
+use Rattle.xc_story.specs.Seen.{SeenTx, SeenJob, Doing, Active, Now, active_in}
+use Rattle.xc_story.specs.Rows.{IsTurn, IsActiveAt}
+use Rattle.xc_turns.proofs.Orders.{alone_turned, alone_later}
+use Rattle.xc_station.specs.declared.job.Job.{Job}
+use Rattle.xc_station.specs.Jobs.{goes_on, is_live, phase_stage, seen_job, seen_jobs, stage_of}
+use Rattle.xc_station.specs.Stations.{GoesOn, IsNextOf, IsStepOf, KeepsOpening, Seen, TakeTurns, WorksOn, live_at, lives, now_of, setting_of}
+use Rattle.xc_station.proofs.Leaving.{Leaves, turn_leaves}
+
+-- one run behind another
+pub goes_further : {H : Type 0} (a b c : Seen H) → GoesOn a b → GoesOn b c → GoesOn a c
+goes_further a b c h k =
+    record {
+      origin = record { opening = k.origin.opening ∙ h.origin.opening; rules = k.origin.rules ∙ h.origin.rules };
+      front = (
+        h.front.0 ++ k.front.0,
+        k.front.1 ∙ ap (λ es. es ++ k.front.0) h.front.1 ∙ append_assoc a.journal h.front.0 k.front.0,
+      );
+      count = k.count ∙ h.count;
+    }
+
+-- ---- a turn
+seen_live : Option SeenJob → Bool
+seen_live None = false
+seen_live (Some job) = is_live job
+
+live_seen : (o : Option Job) → lives o ≡ seen_live (option_map seen_job o)
+unfolding seen_live
+live_seen None = refl
+live_seen (Some job) = refl
+
+-- whether a job lives is seen
+lives_as : (jobs : List Job) (at : ℕ) → lives (slice_get jobs at) ≡ seen_live (slice_get (seen_jobs jobs) at)
+lives_as jobs at = live_seen (slice_get jobs at) ∙ ap seen_live (sym (slice_get-map seen_job jobs at))
+
+other_place : {A : Type 0} (xs : List A) (i j : ℕ) (x : A) → j ≢ i → slice_get (slice_set xs i x) j ≡ slice_get xs j
+other_place [] i j x ne = refl
+other_place (y ∷ ys) zero zero x ne = absurd (ne refl)
+other_place (y ∷ ys) zero (suc j) x ne = refl
+other_place (y ∷ ys) (suc i) zero x ne = refl
+other_place (y ∷ ys) (suc i) (suc j) x ne = other_place ys i j x (λ e. ne (ap suc e))
+
+-- a live job has a number
+pub numbered : (jobs : List Job) (job : ℕ) → live_at jobs job ≡ true → 1 ≤ job
+numbered jobs zero live = cc
+numbered jobs (suc n) live = omega arith
+
+others_live : (old new : List Job) (at : ℕ) (behind : SeenJob) → seen_jobs new ≡ slice_set (seen_jobs old) at behind → (other : ℕ) → other ≢ at
+    → lives (slice_get new other) ≡ lives (slice_get old other)
+others_live old new at behind jobs other away =
+    lives_as new other ∙ ap (λ js. seen_live (slice_get js other)) jobs ∙ ap seen_live (other_place (seen_jobs old) at other behind away)
+    ∙ sym (lives_as old other)
+
+other_lives : (old new : List Job) (job : ℕ) (behind : SeenJob) → 1 ≤ job → seen_jobs new ≡ slice_set (seen_jobs old) (job - 1) behind → (other : ℕ)
+    → other ≢ job → live_at new other ≡ live_at old other
+other_lives old new job behind positive jobs other away =
+    dite (ℕ_discrete other 0)
+    (λ none. ap (live_at new) none ∙ sym (ap (live_at old) none))
+    (λ some. ap (λ (b : Bool). if other == 0 then false else b)
+    (others_live old new (job - 1) behind jobs (other - 1) (λ same. away (omega arith))))
+
+module _ {H : Type 0} (model : HostModel H) (job : ℕ) (old new : Seen H) (answer : Turn) (kept : KeepsOpening old new)
+    (row : IsTurn (setting_of model old) (job - 1) (now_of model old) answer (now_of model new)) where
+  left : Leaves (job - 1) (now_of model old) (now_of model new)
+  left = turn_leaves _ _ _ _ _ row
+
+  pub turn_goes : GoesOn old new
+  turn_goes =
+      record {
+        origin = record { opening = kept.opening; rules = kept.rules };
+        front = left.front;
+        count = sym (length-map new.jobs seen_job) ∙ ap length left.jobs ∙ length-set (seen_jobs old.jobs) (job - 1) left.behind
+            ∙ length-map old.jobs seen_job;
+      }
+
+  pub turn_works : 1 ≤ job → WorksOn model job old new
+  turn_works positive =
+      record {
+        taken = kept.taken;
+        others = other_lives old.jobs new.jobs job left.behind positive left.jobs;
+        alone = alone_turned _ _ _ _ _ row;
+      }
+
+-- ---- one job behind another
+phase_goes : (pending : List Undo) (phase : Phase) → goes_on (phase_stage pending phase) ≡ true
+phase_goes pending Running = refl
+phase_goes pending Committing = refl
+phase_goes [] (Undoing c) = refl
+phase_goes (u ∷ pending) (Undoing c) = refl
+
+active_goes : (d : Doing) (tx : SeenTx) → active_in d ≡ Some tx → goes_on (stage_of d) ≡ true
+active_goes (Active t) tx active = phase_goes t.undo.pending t.phase
+active_goes _ tx active = cc
+
+by_place : (jobs : List Job) (at : ℕ) → live_at jobs (at + 1) ≡ lives (slice_get jobs at)
+by_place jobs at =
+    let some : (at + 1 == 0) ≡ false = ne_eqb (at + 1) 0 (λ none. omega arith) in
+    let same : at + 1 - 1 ≡ at = omega arith in
+    λ i. if some i then false else lives (slice_get jobs (same i))
+
+-- a job that has ended has no active transaction
+ended_rests : (jobs : List Job) (at : ℕ) → live_at jobs (at + 1) ≡ false → (tx : SeenTx) → IsActiveAt (seen_jobs jobs) at tx → ⊥
+unfolding seen_live
+ended_rests jobs at ended tx (job, stands, active) =
+    let live : seen_live (slice_get (seen_jobs jobs) at) ≡ true = ap seen_live stands ∙ active_goes job.doing tx active in
+    let not : seen_live (slice_get (seen_jobs jobs) at) ≡ false = sym (lives_as jobs at) ∙ sym (by_place jobs at) ∙ ended in
+    let no : true ≡ false = sym live ∙ not in cc
+
+-- a worker takes the next job, and takes it to its end
+module _ {H : Type 0} (model : HostModel H) (job : ℕ) (old taking new : Seen H) (is : taking.jobs ≡ old.jobs) (at : taking.taken ≡ job)
+    (now : now_of model taking ≡ now_of model old) (next : IsNextOf old.jobs old.taken job)
+    (works : WorksOn model job taking new) where
+  pub next_goes : taking.opening ≡ old.opening → taking.rules ≡ old.rules → GoesOn taking new → GoesOn old new
+  next_goes opening rules goes =
+      goes_further old taking new
+      (record {
+        origin = record { opening = opening; rules = rules };
+        front = ([], ap (λ (n : Now). n.journal) now ∙ sym (append-nil old.journal));
+        count = ap length is;
+      }) goes
+
+  before : ((other : ℕ) → other ≤ old.taken → live_at old.jobs other ≡ false) → (other : ℕ) → other < job → live_at old.jobs other ≡ false
+  before ended other less = dite (dec_le other old.taken) (ended other) (λ above. next.first other (omega arith) less)
+
+  pub next_ended : live_at new.jobs job ≡ false → ((other : ℕ) → other ≤ old.taken → live_at old.jobs other ≡ false)
+      → (other : ℕ) → other ≤ new.taken → live_at new.jobs other ≡ false
+  next_ended mine ended other most =
+      let last : new.taken ≡ job = works.taken ∙ at in
+      dite (ℕ_discrete other job)
+      (λ same. ap (live_at new.jobs) same ∙ mine)
+      (λ away. works.others other away ∙ ap (λ js. live_at js other) is ∙ before ended other (omega (arith, last, most, away)))
+
+  pub next_alone : ((other : ℕ) → other ≤ old.taken → live_at old.jobs other ≡ false) → AreAlone (now_of model old) (old.taken - 1)
+      → AreAlone (now_of model new) (new.taken - 1)
+  next_alone ended alone =
+      let last : new.taken ≡ job = works.taken ∙ at in
+      let above = next.above in
+      let later : AreAlone (now_of model old) (job - 1) =
+      dite (ℕ_discrete (old.taken - 1) (job - 1))
+      (λ same. subst (AreAlone (now_of model old)) same alone)
+      (λ away. alone_later (now_of model old) (old.taken - 1) (job - 1) alone
+      (ended_rests old.jobs (old.taken - 1) (before ended (old.taken - 1 + 1) (omega (arith, above, away)))) (omega (arith, above))) in
+      subst (λ n. AreAlone (now_of model new) (n - 1)) (sym last) (works.alone (subst (λ (n : Now). AreAlone n (job - 1)) (sym now) later))
+
+-- ---- a list of turns
+taken_at : {H : Type 0} (model : HostModel H) (jobs : List ℕ) (k : ℕ) (now next end : Seen H) → k < length jobs
+    → IsStepOf model (slice_index jobs k) now next (live_at now.jobs (slice_index jobs k)) → TakeTurns model (drop (suc k) jobs) next end
+    → TakeTurns model (drop k jobs) now end
+taken_at model [] k now next end low step rest = absurd (omega arith)
+taken_at model (job ∷ jobs) zero now next end low step rest = (next, step, rest)
+taken_at model (job ∷ jobs) (suc k) now next end low step rest = taken_at model jobs k now next end (omega arith) step rest
+
+-- one turn more of those that are left is taken
+pub taken_next : {H : Type 0} (model : HostModel H) (jobs : List ℕ) (k after : ℕ) (now next end : Seen H) → after ≡ suc k → k < length jobs
+    → IsStepOf model (slice_index jobs k) now next (live_at now.jobs (slice_index jobs k)) → TakeTurns model (drop after jobs) next end
+    → TakeTurns model (drop k jobs) now end
+taken_next model jobs k after now next end one low step rest =
+    taken_at model jobs k now next end low step (subst (λ n. TakeTurns model (drop n jobs) next end) one rest)

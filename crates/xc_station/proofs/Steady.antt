@@ -1,0 +1,50 @@
+-- What is true of a station between two turns is kept by each.
+use Rattle.std.proofs.Common.{◌≡◌, ◌<◌, ℕ, length, subst, sym}
+use Rattle.std.specs.Prelude.{IsTrue}
+use Rattle.xc_data.specs.declared.entry.Turn.{Turn}
+use Rattle.xc_host.specs.Model.{HostModel}
+use Rattle.xc_story.specs.Measure.{turns_left}
+use Rattle.xc_story.specs.Setting.{Setting, setting}
+use Rattle.xc_story.specs.Progress.{progress_of}
+use Rattle.xc_story.specs.Played.{IsPlayedSoFar}
+use Rattle.xc_story.specs.Seen.{SeenTx, Now}
+use Rattle.xc_story.specs.Rows.{IsActiveAt, IsTurn}
+use Rattle.xc_turns.proofs.Apart.{apart_kept}
+use Rattle.xc_turns.proofs.CountedTurns.{turn_keeps_count}
+use Rattle.xc_turns.proofs.Grounding.{grounds_kept}
+use Rattle.xc_turns.proofs.Lefts.{measured}
+use Rattle.xc_turns.proofs.SpokenTurns.{turn_keeps_words}
+use Rattle.xc_turns.proofs.StoryTurns.{a_turn_keeps_the_stories_but}
+use Rattle.xc_played.proofs.Noted.{played_there}
+use Rattle.xc_played.proofs.TurnTable.{turn_flies}
+use Rattle.xc_station.specs.Stations.{IsSteady, KeepsOpening, Seen, now_of, setting_of}
+
+-- a turn keeps it
+pub steady_kept : (s : Setting) (faults at : ℕ) (old new : Now) (answer : Turn) → IsSteady s faults old → IsTurn s at old answer new
+    → IsSteady s faults new
+steady_kept s faults at old new answer steady turned =
+    let told = steady.kept.told in
+    let played : IsTrue s.tells → (tx : SeenTx) → IsActiveAt old.jobs at tx → IsPlayedSoFar s (length old.words) (progress_of s.script old.journal) at tx =
+    λ tells tx active. played_there s old told (steady.flying tells) at active.0 tx active.1 active.2 in
+    record {
+      set = steady.set;
+      kept = record {
+        told = a_turn_keeps_the_stories_but s at old new answer turned steady.kept.spoken played told
+            (grounds_kept s at old new answer turned played told);
+        spoken = turn_keeps_words s at old new answer turned steady.kept.apart steady.kept.spoken;
+        apart = apart_kept s at old new answer turned steady.kept.apart;
+        counted = turn_keeps_count s at faults old new answer turned told steady.kept.counted;
+      };
+      flying = λ tells. turn_flies s at old new answer tells turned told (steady.flying tells);
+    }
+
+-- ---- turns that are left
+-- of a station that keeps what it was started with, fewer are left behind a turn
+pub fewer_left : {H : Type 0} (model : HostModel H) (old new : Seen H) (at : ℕ) (answer : Turn) → KeepsOpening old new
+    → IsTurn (setting_of model old) at (now_of model old) answer (now_of model new)
+    → turns_left (setting_of model new) (now_of model new) < turns_left (setting_of model old) (now_of model old)
+fewer_left model old new at answer same row =
+    let opening : old.opening ≡ new.opening = sym same.opening in
+    let rules : old.rules ≡ new.rules = sym same.rules in
+    subst (λ (s : Setting). turns_left s (now_of model new) < turns_left (setting_of model old) (now_of model old))
+    (λ i. setting ((opening i).script) (rules i) model.tells) (measured (setting_of model old) at (now_of model old) (now_of model new) answer row)

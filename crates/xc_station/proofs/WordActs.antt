@@ -1,0 +1,60 @@
+-- Calls on words on the plain machine.
+use Rattle.std.proofs.Common.{◌≡◌, ℕ, Bool, true, false, List, [], ◌∷◌, ◌++◌, length, refl, ap, IsTrue}
+use Rattle.std.specs.Prelude.{slice_index, slice_set, nat_le, if◌then◌else◌}
+use Rattle.xc_data.specs.declared.call.Call.{Call}
+use Rattle.xc_data.specs.declared.call.Call.TheVariants as call
+use Rattle.xc_data.specs.declared.call.Answer.TheVariants as answer
+use Rattle.xc_data.specs.declared.call.Reply.{Reply}
+use Rattle.xc_data.specs.declared.call.Reply.TheVariants as reply
+use Rattle.xc_data.specs.declared.private.Private.{Private}
+use Rattle.xc_world.specs.World.{World}
+use Rattle.xc_world.specs.Act.{act}
+use Rattle.xc_world.specs.Act.Step.{stays}
+use Rattle.xc_world.specs.Fits.{answer_of}
+use Rattle.xc_world.specs.Trail.{recorded}
+use Rattle.xc_story.specs.WordCalls.{is_word_call, word_reply, words_after}
+
+-- an empty list behind a list changes nothing
+pub append_nil : {A : Type 0} (xs : List A) → xs ++ [] ≡ xs
+append_nil [] = refl
+append_nil (x ∷ xs) = ap (λ ys. x ∷ ys) (append_nil xs)
+
+-- ---- calls on words
+word_load : (w : World) (me : Private) (at : ℕ) (b : Bool) →
+    (if b then stays w me reply.BadWord else stays w me (reply.Number (slice_index w.words at)))
+    ≡ stays w me (if b then reply.BadWord else reply.Number (slice_index w.words at))
+word_load w me at true = refl
+word_load w me at false = refl
+
+word_store : (w : World) (me : Private) (at value : ℕ) (b : Bool) →
+    (if b then stays w me reply.BadWord else stays (record w { words = slice_set w.words at value }) me reply.Done)
+    ≡ stays (record w { words = if b then w.words else slice_set w.words at value }) me (if b then reply.BadWord else reply.Done)
+word_store w me at value true = refl
+word_store w me at value false = refl
+
+-- the plain machine does a call on words by the words alone
+pub word-act : (w : World) (me : Private) (tx : ℕ) (c : Call)
+    → is_word_call c ≡ true → act w me tx c answer.Fine ≡ stays (record w { words = words_after w.words c }) me (word_reply w.words c)
+word-act w me tx (call.Load at) is = word_load w me at (nat_le (length w.words) at)
+word-act w me tx (call.Store at value) is = word_store w me at value (nat_le (length w.words) at)
+word-act w me tx _ is = cc
+
+fine_load : (b : Bool) (n : ℕ) → answer_of (if b then reply.BadWord else reply.Number n) ≡ answer.Fine
+fine_load true n = refl
+fine_load false n = refl
+
+fine_store : (b : Bool) → answer_of (if b then reply.BadWord else reply.Done) ≡ answer.Fine
+fine_store true = refl
+fine_store false = refl
+
+-- no call on words brings a fault
+pub word-fine : (words : List ℕ) (c : Call) → is_word_call c ≡ true → answer_of (word_reply words c) ≡ answer.Fine
+word-fine words (call.Load at) is = fine_load (nat_le (length words) at) (slice_index words at)
+word-fine words (call.Store at value) is = fine_store (nat_le (length words) at)
+word-fine words _ is = cc
+
+-- no call on words leaves a record
+pub word-trail : (w : World) (me : Private) (tx : ℕ) (c : Call) (r : Reply) → is_word_call c ≡ true → recorded w me tx c r ≡ []
+word-trail w me tx (call.Load at) r is = refl
+word-trail w me tx (call.Store at value) r is = refl
+word-trail w me tx _ r is = cc

@@ -1,0 +1,77 @@
+use Rattle.std.proofs.Common.{◌≡◌, ◌-◌, sym, subst, ap, ◌∙◌, true, false}
+use Rattle.xc_station.specs.declared.job.Stage.TheVariants as PlainStage
+use Rattle.xc_station.specs.Jobs.{IsStage, goes_on}
+use Rattle.xc_station.specs.Stations.{live_at}
+use Rattle.xc_station.proofs.Stages.{live_shown}
+use Rattle.xc_station.proofs.Steady.{fewer_left}
+use Rattle.xc_station.proofs.station.Station.turn.Goals as goal
+
+pub idle-requires : goal.idle-requires
+idle-requires g c =
+    let jobs = c.self.inside.jobs.items in
+    let live = live_shown jobs c.args.job c.index.result.now (subst (λ v. live_at v.jobs c.args.job ≡ true) (sym c.self.view_is) c.requires) c.index.ensures in
+    subst (λ v. IsStage v.jobs (c.args.job - 1) PlainStage.Idle) c.self.view_is (c.index.result.now, live.stands, sym c.stage.ensures ∙ c.in-Idle.is)
+
+pub running-requires : goal.running-requires
+running-requires g c =
+    let jobs = c.self.inside.jobs.items in
+    let live = live_shown jobs c.args.job c.index.result.now (subst (λ v. live_at v.jobs c.args.job ≡ true) (sym c.self.view_is) c.requires) c.index.ensures in
+    subst (λ v. IsStage v.jobs (c.args.job - 1) PlainStage.Running) c.self.view_is (c.index.result.now, live.stands, sym c.stage.ensures ∙ c.in-Running.is)
+
+pub committing-requires : goal.committing-requires
+committing-requires g c =
+    let jobs = c.self.inside.jobs.items in
+    let live = live_shown jobs c.args.job c.index.result.now (subst (λ v. live_at v.jobs c.args.job ≡ true) (sym c.self.view_is) c.requires) c.index.ensures in
+    subst (λ v. IsStage v.jobs (c.args.job - 1) PlainStage.Committing) c.self.view_is (
+      c.index.result.now,
+      live.stands,
+      sym c.stage.ensures
+          ∙ c.in-Committing.is,
+    )
+
+pub undoing-requires : goal.undoing-requires
+undoing-requires g c =
+    let jobs = c.self.inside.jobs.items in
+    let live = live_shown jobs c.args.job c.index.result.now (subst (λ v. live_at v.jobs c.args.job ≡ true) (sym c.self.view_is) c.requires) c.index.ensures in
+    subst (λ v. IsStage v.jobs (c.args.job - 1) PlainStage.Undoing) c.self.view_is (c.index.result.now, live.stands, sym c.stage.ensures ∙ c.in-Undoing.is)
+
+pub undone-requires : goal.undone-requires
+undone-requires g c =
+    let jobs = c.self.inside.jobs.items in
+    let live = live_shown jobs c.args.job c.index.result.now (subst (λ v. live_at v.jobs c.args.job ≡ true) (sym c.self.view_is) c.requires) c.index.ensures in
+    subst (λ v. IsStage v.jobs (c.args.job - 1) PlainStage.Undone) c.self.view_is (c.index.result.now, live.stands, sym c.stage.ensures ∙ c.in-Undone.is)
+
+pub starved-requires : goal.starved-requires
+starved-requires g c =
+    let jobs = c.self.inside.jobs.items in
+    let live = live_shown jobs c.args.job c.index.result.now (subst (λ v. live_at v.jobs c.args.job ≡ true) (sym c.self.view_is) c.requires) c.index.ensures in
+    subst (λ v. IsStage v.jobs (c.args.job - 1) PlainStage.Starved) c.self.view_is (c.index.result.now, live.stands, sym c.stage.ensures ∙ c.in-Starved.is)
+
+pub unreachable-requires : goal.unreachable-requires
+unreachable-requires g c =
+    let jobs = c.self.inside.jobs.items in
+    let live = live_shown jobs c.args.job c.index.result.now (subst (λ v. live_at v.jobs c.args.job ≡ true) (sym c.self.view_is) c.requires) c.index.ensures in
+    let lacks : true ≡ false = sym live.lives ∙ ap goes_on (sym c.stage.ensures ∙ c.in-Ended.is) in
+    cc lacks
+
+pub returns-in-Idle-clause-falls : goal.returns-in-Idle-clause-falls
+returns-in-Idle-clause-falls g c = fewer_left g.H.Host.model c.args.self.now c.idle.new.self (c.args.job - 1) _ c.idle.ensures.same c.idle.ensures.row
+
+pub returns-in-Running-clause-falls : goal.returns-in-Running-clause-falls
+returns-in-Running-clause-falls g c = fewer_left g.H.Host.model c.args.self.now c.running.new.self
+    (c.args.job - 1) _ c.running.ensures.same c.running.ensures.row
+
+pub returns-in-Committing-clause-falls : goal.returns-in-Committing-clause-falls
+returns-in-Committing-clause-falls g c = fewer_left g.H.Host.model c.args.self.now c.committing.new.self
+    (c.args.job - 1) _ c.committing.ensures.same c.committing.ensures.row
+
+pub returns-in-Undoing-clause-falls : goal.returns-in-Undoing-clause-falls
+returns-in-Undoing-clause-falls g c = fewer_left g.H.Host.model c.args.self.now c.undoing.new.self
+    (c.args.job - 1) _ c.undoing.ensures.same c.undoing.ensures.row
+
+pub returns-in-Undone-clause-falls : goal.returns-in-Undone-clause-falls
+returns-in-Undone-clause-falls g c = fewer_left g.H.Host.model c.args.self.now c.undone.new.self (c.args.job - 1) _ c.undone.ensures.same c.undone.ensures.row
+
+pub returns-in-Starved-clause-falls : goal.returns-in-Starved-clause-falls
+returns-in-Starved-clause-falls g c = fewer_left g.H.Host.model c.args.self.now c.starved.new.self
+    (c.args.job - 1) _ c.starved.ensures.same c.starved.ensures.row

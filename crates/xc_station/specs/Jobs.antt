@@ -1,0 +1,85 @@
+-- A job and its active transaction as plain data, and what a turn of the job goes by.
+use Rattle.std.specs.Prelude.{◌≡◌, ℕ, Bool, true, false, List, [], ◌∷◌, map, slice_get}
+use Rattle.std.specs.declared.option.Option.TheVariants.{Some}
+use Rattle.xc_data.specs.declared.entry.Outcome.{Outcome}
+use Rattle.xc_data.specs.declared.entry.Outcome.TheVariants.{Committed, Aborted}
+use Rattle.xc_data.specs.declared.undo.Undo.{Undo}
+use Rattle.xc_world.specs.Ends.{Ending}
+use Rattle.xc_story.specs.declared.phase.Phase.{Phase}
+use Rattle.xc_story.specs.declared.phase.Phase.TheVariants as phase
+use Rattle.xc_story.specs.Seen.{SeenTx, SeenJob, Doing, Idle, Active, Starved, Ended}
+use Rattle.xc_station.specs.declared.tx.Tx.{Tx}
+use Rattle.xc_station.specs.declared.job.Job.{Job}
+use Rattle.xc_station.specs.declared.job.Activity.{Activity}
+use Rattle.xc_station.specs.declared.job.Activity.TheVariants as activity
+use Rattle.xc_station.specs.declared.job.Stage.{Stage}
+use Rattle.xc_station.specs.declared.job.Stage.TheVariants as stage
+
+-- a transaction, without the room behind its lists
+abbrev pub seen_tx : Tx → SeenTx
+seen_tx tx =
+    record {
+      number = tx.number;
+      rank = tx.rank;
+      began = tx.began;
+      phase = tx.phase;
+      me = tx.me;
+      writes = tx.writes;
+      undo = tx.undo;
+      calls = tx.calls.items;
+      replies = tx.replies.items;
+      held = tx.held.items;
+    }
+
+-- what a job does
+abbrev pub seen_doing : Activity → Doing
+seen_doing activity.Idle = Idle
+seen_doing (activity.Active tx) = Active (seen_tx tx)
+seen_doing activity.Starved = Starved
+seen_doing (activity.Ended end) = Ended end
+
+-- a job
+abbrev pub seen_job : Job → SeenJob
+seen_job job =
+    record { block = job.block; me = job.me; place = job.place; attempts = job.attempts; doing = seen_doing job.activity }
+
+-- all jobs
+abbrev pub seen_jobs : List Job → List SeenJob
+seen_jobs jobs = map seen_job jobs
+
+-- the outcome of a transaction that ends in this phase, with the ends of its records
+abbrev pub outcome_in : Phase → List Ending → Outcome
+outcome_in (phase.Undoing c) records = Aborted (record { cause = c; records = records })
+outcome_in _ records = Committed []
+
+-- ---- the rows of the table of turns
+-- an undoing transaction, by its records that have no end yet
+abbrev pub back_stage : List Undo → Stage
+back_stage [] = stage.Undone
+back_stage (u ∷ us) = stage.Undoing
+
+-- a transaction, by its phase
+abbrev pub phase_stage : List Undo → Phase → Stage
+phase_stage pending phase.Running = stage.Running
+phase_stage pending phase.Committing = stage.Committing
+phase_stage pending (phase.Undoing c) = back_stage pending
+
+-- a job, by what it does
+abbrev pub stage_of : Doing → Stage
+stage_of Idle = stage.Idle
+stage_of (Active tx) = phase_stage tx.undo.pending tx.phase
+stage_of Starved = stage.Starved
+stage_of (Ended end) = stage.Ended
+
+-- it hasn't ended
+abbrev pub goes_on : Stage → Bool
+goes_on stage.Ended = false
+goes_on _ = true
+
+-- the job hasn't ended
+abbrev pub is_live : SeenJob → Bool
+is_live job = goes_on (stage_of job.doing)
+
+-- the job in this place is there, and its next turn goes by this
+abbrev pub IsStage : List Job → ℕ → Stage → Type 0
+IsStage jobs at s = (job : Job) × (slice_get jobs at ≡ Some job) × (stage_of (seen_doing job.activity) ≡ s)

@@ -1,0 +1,143 @@
+-- What contracts see of a station, and what is true of it between two turns.
+use Rattle.std.specs.Prelude.{◌≡◌, ◌≢◌, ℕ, ◌==◌, ◌-◌, ◌<◌, ◌≤◌, Bool, true, false, List, [], ◌∷◌, ◌++◌, length, slice_get}
+use Rattle.std.specs.Prelude.{if◌then◌else◌, IsTrue, Option}
+use Rattle.std.specs.declared.option.Option.TheVariants.{None, Some}
+use Rattle.xc_data.specs.declared.entry.Entry.{Entry}
+use Rattle.xc_data.specs.declared.entry.Turn.{Turn}
+use Rattle.xc_host.specs.Model.{HostModel}
+use Rattle.xc_journal.specs.Room.{Roomy}
+use Rattle.xc_data.specs.declared.entry.JobLine.{JobLine}
+use Rattle.xc_wordlocks.specs.Table.{Table}
+use Rattle.xc_story.specs.declared.rules.Rules.{Rules}
+use Rattle.xc_story.specs.Setting.{Setting, setting}
+use Rattle.xc_story.specs.Seen.{SeenJob, Now, actives}
+use Rattle.xc_story.specs.Alone.{AreAlone}
+use Rattle.xc_story.specs.Kept.{IsSet, IsKept}
+use Rattle.xc_story.specs.Rows.{IsTurn}
+use Rattle.xc_story.specs.Measure.{turns_left}
+use Rattle.xc_played.specs.Flying.{AreFlying}
+use Rattle.xc_station.specs.declared.calls.Shared.{Shared}
+use Rattle.xc_station.specs.declared.job.Job.{Job}
+use Rattle.xc_station.specs.declared.start.Opening.{Opening}
+use Rattle.xc_station.specs.Jobs.{is_live, seen_job, seen_jobs}
+use Rattle.xc_station.specs.Moments.{IsTable}
+
+-- what contracts see of a station
+pub record Seen (H : Type 0) : Type 0 where
+  pub opening : Opening
+  pub rules : Rules
+  pub host : H
+  pub words : List ℕ
+  pub journal : List Entry
+  pub jobs : List Job
+  -- the jobs in the places below this one were taken by a worker, or have ended
+  pub taken : ℕ
+
+-- a moment of it
+abbrev pub now_of : {H : Type 0} → HostModel H → Seen H → Now
+now_of model station =
+    record {
+      words = station.words;
+      contents = model.contents station.host;
+      faults = model.fault_count station.host;
+      journal = station.journal;
+      jobs = seen_jobs station.jobs;
+    }
+
+-- what its journal is judged by
+abbrev pub setting_of : {H : Type 0} → HostModel H → Seen H → Setting
+setting_of model station = setting station.opening.script station.rules model.tells
+
+-- ---- between two turns
+-- what is true of its moment: of stories, words, claims and counts over every host; and over one that tells, each
+-- transaction flies over the plain machine's world
+pub record IsSteady (s : Setting) (faults : ℕ) (now : Now) : Type 0 where
+  pub set : IsSet s
+  pub kept : IsKept s faults now
+  pub flying : IsTrue s.tells → AreFlying s now
+
+-- what it keeps beside: the table of claims, the number of active transactions with room for their entries, and room
+-- for a line of each job
+pub record HasRooms (table : Table) (active spare : ℕ) (now : Now) (lines : Roomy JobLine) : Type 0 where
+  pub claims : IsTable table now.jobs
+  pub few : length now.jobs ≤ 1000
+  pub count : length (actives now.jobs) ≡ active
+  pub room : active ≤ spare
+  pub lines_room : length now.jobs ≤ lines.spare
+  pub none : lines.items ≡ []
+
+-- ---- what a turn never changes
+pub record KeepsOpening {H : Type 0} (old new : Seen H) : Type 0 where
+  pub opening : new.opening ≡ old.opening
+  pub rules : new.rules ≡ old.rules
+  pub taken : new.taken ≡ old.taken
+
+-- ---- jobs, by their numbers from 1
+-- the job of this number exists and hasn't ended
+abbrev pub lives : Option Job → Bool
+lives None = false
+lives (Some job) = is_live (seen_job job)
+
+-- a job number is one of a job that exists and hasn't ended
+abbrev pub live_at : List Job → ℕ → Bool
+live_at jobs number = if number == 0 then false else lives (slice_get jobs (number - 1))
+
+-- no job goes on
+abbrev pub NobodyLives : List Job → Type 0
+NobodyLives jobs = (number : ℕ) → live_at jobs number ≡ false
+
+-- ---- runs of turns
+-- what a run of turns never changes
+pub record KeepsOrigin {H : Type 0} (old new : Seen H) : Type 0 where
+  pub opening : new.opening ≡ old.opening
+  pub rules : new.rules ≡ old.rules
+
+-- a journal goes on with another
+abbrev pub IsFrontOf : List Entry → List Entry → Type 0
+IsFrontOf front whole = (more : List Entry) × (whole ≡ front ++ more)
+
+-- all that a run of turns keeps: also the number of jobs
+pub record GoesOn {H : Type 0} (old new : Seen H) : Type 0 where
+  pub origin : KeepsOrigin old new
+  pub front : IsFrontOf old.journal new.journal
+  pub count : length new.jobs ≡ length old.jobs
+
+-- and what one of turns of this job keeps: whether others live, and that it works alone
+pub record WorksOn {H : Type 0} (model : HostModel H) (job : ℕ) (old new : Seen H) : Type 0 where
+  pub taken : new.taken ≡ old.taken
+  pub others : (other : ℕ) → other ≢ job → live_at new.jobs other ≡ live_at old.jobs other
+  pub alone : AreAlone (now_of model old) (job - 1) → AreAlone (now_of model new) (job - 1)
+
+-- ---- a list of turns
+-- a job that goes on takes its turn, a row of the table; one that doesn't is passed over
+abbrev pub IsStepOf : {H : Type 0} → HostModel H → ℕ → Seen H → Seen H → Bool → Type 0
+IsStepOf model job old new true = (answer : Turn) × IsTurn (setting_of model old) (job - 1) (now_of model old) answer (now_of model new)
+IsStepOf model job old new false = new ≡ old
+
+-- the jobs of these numbers do so one after another
+abbrev pub TakeTurns : {H : Type 0} → HostModel H → List ℕ → Seen H → Seen H → Type 0
+TakeTurns model [] old new = new ≡ old
+TakeTurns {H = H} model (job ∷ jobs) old new =
+    (next : Seen H) × IsStepOf model job old next (live_at old.jobs job) × TakeTurns model jobs next new
+
+-- how many turns are left
+abbrev pub turns_of : {H : Type 0} → HostModel H → Seen H → ℕ
+turns_of model station = turns_left (setting_of model station) (now_of model station)
+
+-- ---- as the code has it
+-- the moment of a station with this host, these words, this journal and these jobs
+abbrev pub moment : {H : Type 0} → HostModel H → Shared H → List Entry → List Job → Now
+moment model shared journal jobs =
+    record {
+      words = shared.words;
+      contents = model.contents shared.host;
+      faults = model.fault_count shared.host;
+      journal = journal;
+      jobs = seen_jobs jobs;
+    }
+
+-- the live job with the smallest number above this one
+pub record IsNextOf (jobs : List Job) (taken number : ℕ) : Type 0 where
+  pub above : taken < number
+  pub live : live_at jobs number ≡ true
+  pub first : (other : ℕ) → taken < other → other < number → live_at jobs other ≡ false

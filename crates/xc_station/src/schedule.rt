@@ -1,0 +1,83 @@
+ghost use Rattle.std.specs.Prelude.{◌≡◌, ◌<◌, ℕ, true, false};
+ghost use Rattle.xc_story.specs.Alone.{AreAlone};
+ghost use Rattle.xc_story.specs.Truth.{IsSerial};
+ghost use Rattle.xc_station.specs.Stations.{GoesOn, IsStepOf, KeepsOrigin, IsFrontOf, NobodyLives, TakeTurns, WorksOn};
+ghost use Rattle.xc_station.specs.Stations.{live_at, now_of, turns_of};
+
+use crate::Station;
+use xc_host::Host;
+
+// One turn of a job, if it is live; whether it was.
+fn step<H: Host>(station: &mut Station<H>, job: u32) -> bool
+    ensures goes { GoesOn station.old station.new }
+    ensures works { WorksOn H.model job station.old station.new }
+    ensures step { IsStepOf H.model job station.old station.new (live_at station.old.jobs job) }
+    ensures falls { result ≡ true → turns_of H.model station.new < turns_of H.model station.old }
+    ensures still { result ≡ false → (station.new ≡ station.old) × (live_at station.old.jobs job ≡ false) }
+{
+    if !station.live(job) {
+        return false;
+    }
+    station.turn(job);
+    true
+}
+
+// Takes a job's turns to its end.
+fn work_job<H: Host>(station: &mut Station<H>, job: u32)
+    ensures goes { GoesOn station.old station.new }
+    ensures works { WorksOn H.model job station.old station.new }
+    ensures ended { live_at station.new.jobs job ≡ false }
+{
+    while step(station, job) {}
+}
+
+/// Takes jobs and their turns, each job to its end, on this thread alone.
+pub fn work_alone<H: Host>(station: &mut Station<H>)
+    ensures origin { KeepsOrigin station.old station.new }
+    ensures front { IsFrontOf station.old.journal station.new.journal }
+
+    // From a start on, all jobs end, and their transactions run one after another.
+    ensures ended { station.old.taken ≡ 0 → NobodyLives station.new.jobs }
+    ensures serial { station.old.taken ≡ 0 → AreAlone (now_of H.model station.old) 0 → IsSerial station.new.journal }
+{
+    while let Some(job) = station.next_job() {
+        work_job(station, job);
+    }
+}
+
+/// One turn of each listed job; a job that isn't live is passed over.
+pub fn run_schedule<H: Host>(station: &mut Station<H>, jobs: &[u32])
+    ensures origin { KeepsOrigin station.old station.new }
+    ensures front { IsFrontOf station.old.journal station.new.journal }
+
+    // The listed turns were taken, in their order, and no others.
+    ensures turns { TakeTurns H.model jobs.now station.old station.new }
+{
+    for job in jobs {
+        step(station, *job);
+    }
+}
+
+// One turn of each live job, in the order of their numbers; whether there was one.
+fn round<H: Host>(station: &mut Station<H>) -> bool
+    ensures goes { GoesOn station.old station.new }
+    ensures falls { result ≡ true → turns_of H.model station.new < turns_of H.model station.old }
+    ensures none { result ≡ false → NobodyLives station.new.jobs }
+{
+    let mut more = false;
+    for job in 1..station.count() + 1 {
+        if step(station, job) {
+            more = true;
+        }
+    }
+    more
+}
+
+/// Rounds of turns, one of each live job, until none is left.
+pub fn drain<H: Host>(station: &mut Station<H>)
+    ensures origin { KeepsOrigin station.old station.new }
+    ensures front { IsFrontOf station.old.journal station.new.journal }
+    ensures ended { NobodyLives station.new.jobs }
+{
+    while round(station) {}
+}

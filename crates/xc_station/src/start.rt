@@ -1,0 +1,29 @@
+use xc_data::{JobList, WordList};
+use xc_host::OpenErr;
+use xc_journal::Journal;
+use xc_text::Script;
+
+/// What a station was started with.
+#[derive(Debug, Drop)]
+pub struct Opening {
+    pub script: Script,
+    /// The host's count of faults then.
+    pub faults: u64,
+}
+
+/// A host that a station was not started over, as it was, and why.
+#[derive(Debug, Drop)]
+pub struct NotStarted<H> {
+    pub host: H,
+    pub why: OpenErr,
+}
+
+/// What a whole run leaves.
+#[derive(Debug, Drop)]
+pub struct End<H> {
+    pub host: H,
+    pub opening: Opening,
+    pub words: WordList,
+    pub journal: Journal,
+    pub jobs: JobList,
+}

@@ -1,0 +1,17 @@
+-- The faults that are recorded, in the journal and in active transactions.
+use Rattle.std.specs.Prelude.{ℕ, ◌+◌, count_by, sum_by}
+use Rattle.xc_data.specs.Counts.{CountsFaults}
+use Rattle.xc_data.specs.Faults.{entry_faults, is_fault_reply, undo_faults}
+use Rattle.xc_story.specs.Seen.{SeenTx, Now, actives}
+
+-- those of an active transaction
+abbrev pub tx_faults : SeenTx → ℕ
+tx_faults tx = count_by is_fault_reply tx.replies + sum_by undo_faults tx.undo.ended
+
+-- all that are recorded
+abbrev pub recorded_faults : Now → ℕ
+recorded_faults now = sum_by entry_faults now.journal + sum_by tx_faults (actives now.jobs)
+
+-- the host's count rose by them, and where none is recorded it stayed
+abbrev pub AreCounted : ℕ → Now → Type 0
+AreCounted before now = CountsFaults (recorded_faults now) before now.faults

@@ -1,0 +1,57 @@
+-- Conflicts that name a holder.
+use Rattle.std.specs.Prelude.{◌≡◌, ◌≢◌, ◌⊎◌, ℕ, ◌≤◌, Bool, false, List, length, get_or, slice_get, Option, Contains, IsTrue}
+use Rattle.std.specs.declared.option.Option.TheVariants.{None, Some}
+use Rattle.xc_data.specs.Claims.{compatible}
+use Rattle.xc_data.specs.declared.object.Object.{Object}
+use Rattle.xc_data.specs.declared.claim.Claim.{Claim}
+use Rattle.xc_data.specs.declared.entry.Cause.{Cause}
+use Rattle.xc_data.specs.declared.entry.Cause.TheVariants.{Conflict}
+
+-- what a conflict is judged by: an entry, or an active transaction
+pub record Part : Type 0 where
+  pub number : ℕ
+  pub job : ℕ
+  pub began : ℕ
+  pub held : List Claim
+  -- what the call claims that it is asked next
+  pub wanted : List Claim
+  -- why it is aborted, where it is
+  pub cause : Option Cause
+
+-- it stands in the journal at this place or later, or is active
+abbrev pub Stands : List Part → List (Option Part) → ℕ → Part → Type 0
+Stands log active at who = ((p : ℕ) × (slice_get log p ≡ Some who) × (at ≤ p)) ⊎ ((j : ℕ) × (get_or active j None ≡ Some who))
+
+-- a transaction of another job that had begun by then, hadn't ended, and holds the object
+pub record Holder (log : List Part) (active : List (Option Part)) (object : Object) (holder at job : ℕ) : Type 0 where
+  pub who : Part
+  pub stands : Stands log active at who
+  pub numbered : who.number ≡ holder
+  pub other : who.job ≢ job
+  pub began : who.began ≤ at
+  pub claim : Claim
+  pub names : claim.object ≡ object
+  pub holds : Contains who.held claim
+
+-- among these claims one is of the same object, and the two don't go together
+abbrev pub Clashes : List Claim → Claim → Type 0
+Clashes wanted held = (c : Claim) × Contains wanted c × (c.object ≡ held.object) × (compatible c.mode held.mode ≡ false)
+
+module _ (tells : Bool) (log : List Part) (active : List (Option Part)) where
+  -- a conflict of the one at this place: it had begun by then, and names a holder; over a host that tells, the call that
+  -- it was asked next touches what that one holds
+  pub record Ground (place : ℕ) (e : Part) (object : Object) (holder at : ℕ) : Type 0 where
+    pub before : e.began ≤ at
+    pub within : at ≤ place
+    pub named : Holder log active object holder at e.job
+    pub clash : IsTrue tells → Clashes e.wanted named.claim
+
+  -- why one is aborted is grounded
+  abbrev pub IsGrounded : ℕ → Part → Option Cause → Type 0
+  IsGrounded place e (Some (Conflict object holder at)) = Ground place e object holder at
+  IsGrounded place e _ = Unit {0}
+
+-- of all, those in the journal and the active ones, by job
+pub record AreGrounded (tells : Bool) (log : List Part) (active : List (Option Part)) : Type 0 where
+  pub entries : (i : ℕ) (e : Part) → slice_get log i ≡ Some e → IsGrounded tells log active i e e.cause
+  pub actives : (j : ℕ) (e : Part) → get_or active j None ≡ Some e → IsGrounded tells log active (length log) e e.cause

@@ -1,0 +1,17 @@
+pub mod Alone
+pub mod Counted
+pub mod Ending
+pub mod Grounds
+pub mod Holding
+pub mod Kept
+pub mod Measure
+pub mod Opened
+pub mod Played
+pub mod Progress
+pub mod Rows
+pub mod Seen
+pub mod Setting
+pub mod Spoken
+pub mod Told
+pub mod Truth
+pub mod WordCalls

@@ -1,0 +1,43 @@
+-- How many turns a station may still take.
+use Rattle.std.specs.Prelude.{ℕ, ◌+◌, ◌*◌, ◌-◌, List, [], ◌∷◌, length, drop, sum_by}
+use Rattle.xc_text.specs.declared.script.Statement.{Statement}
+use Rattle.xc_script.specs.Ask.{transactions_at}
+use Rattle.xc_story.specs.declared.phase.Phase.{Phase}
+use Rattle.xc_story.specs.declared.phase.Phase.TheVariants.{Running, Committing, Undoing}
+use Rattle.xc_story.specs.Setting.{Setting}
+use Rattle.xc_story.specs.Seen.{SeenJob, Doing, Idle, Active, Starved, Ended, Now, failures}
+
+-- an attempt at a transaction: two turns for each statement, which may leave a record, its begin, the entering of its
+-- commit or abort, and its entry
+abbrev pub attempt_turns : List Statement → ℕ
+attempt_turns body = 2 * length body + 4
+
+-- what is left of an attempt of so many statements, behind so many of them, with so many records
+abbrev pub phase_turns : ℕ → ℕ → ℕ → Phase → ℕ
+phase_turns statements at records Running = 2 * (statements - at) + records + 3
+phase_turns statements at records Committing = 2
+phase_turns statements at records (Undoing c) = records + 2
+
+-- transactions, each tried as often as the rules allow
+abbrev pub bodies_turns : Setting → List (List Statement) → ℕ
+bodies_turns s bodies = sum_by (λ body. s.rules.attempts * attempt_turns body) bodies
+
+-- a job before these transactions; of the first one so many attempts failed
+abbrev pub doing_turns : Setting → ℕ → ℕ → List (List Statement) → Doing → ℕ
+doing_turns s failed at [] Idle = 1
+doing_turns s failed at (body ∷ bodies) Idle = (s.rules.attempts - failed) * attempt_turns body + bodies_turns s bodies + 1
+doing_turns s failed at [] (Active tx) = phase_turns 0 at (length tx.undo.pending) tx.phase + 1
+doing_turns s failed at (body ∷ bodies) (Active tx) =
+    phase_turns (length body) at (length tx.undo.pending) tx.phase + (s.rules.attempts - (failed + 1)) * attempt_turns body
+    + bodies_turns s bodies + 1
+doing_turns s failed at bodies Starved = 1
+doing_turns s failed at bodies (Ended end) = 0
+
+-- the turns left of a job
+abbrev pub job_turns : Setting → SeenJob → ℕ
+job_turns s job =
+    doing_turns s (failures job.attempts) job.place.at (drop job.place.next (transactions_at s.script job.place.block)) job.doing
+
+-- and of all
+abbrev pub turns_left : Setting → Now → ℕ
+turns_left s now = sum_by (job_turns s) now.jobs

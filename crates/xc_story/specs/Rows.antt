@@ -1,0 +1,410 @@
+-- The table of turns: from one moment to the next, a row for each thing that a job may do.
+use Rattle.std.specs.Prelude.{◌≡◌, ◌≢◌, ◌⊎◌, ℕ, ◌+◌, ◌<◌, ◌≤◌, Bool, true, false, List, [], ◌∷◌, ◌++◌, length, slice_get, slice_set}
+use Rattle.std.specs.Prelude.{All, Contains, IsSome, IsTrue}
+use Rattle.std.specs.Prelude.{Option, nat_lt, if◌then◌else◌}
+use Rattle.std.specs.declared.option.Option.TheVariants.{None, Some}
+use Rattle.xc_data.specs.Claims.{compatible, holding}
+use Rattle.xc_data.specs.Counts.{CountsFault, CountsFaults}
+use Rattle.xc_data.specs.Faults.{is_fault_reply, end_faults}
+use Rattle.xc_data.specs.declared.call.Call.{Call}
+use Rattle.xc_data.specs.declared.call.Call.TheVariants as call
+use Rattle.xc_data.specs.declared.call.Reply.{Reply}
+use Rattle.xc_data.specs.declared.claim.Claim.{Claim}
+use Rattle.xc_data.specs.declared.object.Object.{Object}
+use Rattle.xc_data.specs.declared.entry.Cause.{Cause}
+use Rattle.xc_data.specs.declared.entry.Cause.TheVariants as cause
+use Rattle.xc_data.specs.declared.entry.Entry.{Entry}
+use Rattle.xc_data.specs.declared.entry.Outcome.{Outcome}
+use Rattle.xc_data.specs.declared.entry.Outcome.TheVariants.{Committed, Aborted}
+use Rattle.xc_data.specs.declared.entry.JobEnd.{JobEnd}
+use Rattle.xc_data.specs.declared.entry.JobEnd.TheVariants as job_end
+use Rattle.xc_data.specs.declared.entry.Turn.{Turn}
+use Rattle.xc_data.specs.declared.entry.Turn.TheVariants as turn
+use Rattle.xc_data.specs.declared.private.Private.{Private}
+use Rattle.xc_data.specs.declared.undo.Undo.{Undo}
+use Rattle.xc_data.specs.declared.undo.UndoEnd.{UndoEnd}
+use Rattle.xc_compensate.specs.Records.{Records, way_of}
+use Rattle.xc_host.specs.Contents.{Contents, contents_of, with_contents, world_of}
+use Rattle.xc_text.specs.declared.script.Statement.{Statement}
+use Rattle.xc_script.specs.declared.ask.Ask.{Ask}
+use Rattle.xc_script.specs.declared.ask.Ask.TheVariants as ask
+use Rattle.xc_script.specs.Ask.{asks, answered, next_body}
+use Rattle.xc_script.specs.Place.{Place, at_begin, job_of, walk_of, IsSettled}
+use Rattle.xc_txmem.specs.Overlay.{overlaid}
+use Rattle.xc_world.specs.World.{World, beginning}
+use Rattle.xc_world.specs.Act.{act}
+use Rattle.xc_world.specs.Act.Step.{stays}
+use Rattle.xc_world.specs.Ends.{IsLegalEnd}
+use Rattle.xc_world.specs.Effects.{undone_to}
+use Rattle.xc_world.specs.Fits.{fits, answer_of}
+use Rattle.xc_world.specs.Late.{is_late}
+use Rattle.xc_world.specs.Modes.{claims_of}
+use Rattle.xc_world.specs.Trail.{recorded}
+use Rattle.xc_story.specs.declared.phase.Attempts.{Attempts}
+use Rattle.xc_story.specs.declared.phase.Phase.{Phase}
+use Rattle.xc_story.specs.declared.phase.Phase.TheVariants.{Running, Committing, Undoing}
+use Rattle.xc_story.specs.Setting.{Setting}
+use Rattle.xc_story.specs.WordCalls.{IsWordStep}
+use Rattle.xc_story.specs.Seen.{SeenTx, SeenJob, Doing, Idle, Active, Starved, Ended, Now}
+use Rattle.xc_story.specs.Seen.{active_of, begun_count, failures, rank_of, with_job, entering}
+
+-- ---- where a job stands
+-- its next transaction, where one is left
+abbrev pub body_at : Setting → Place → Option (List Statement)
+body_at s place = next_body s.script (job_of place)
+
+-- what its transaction is asked next
+abbrev pub asked_at : Setting → Place → Ask
+asked_at s place = asks (walk_of s.script place)
+
+-- the job stands in the same transaction, with the same variables for its abort
+pub record IsSameBegin (old new : Place) : Type 0 where
+  pub block : new.block ≡ old.block
+  pub next : new.next ≡ old.next
+  pub begun : new.begun ≡ old.begun
+
+-- it passed silent statements at most: it stands before the same as before
+pub record IsSamePlace (s : Setting) (old new : Place) : Type 0 where
+  pub begin : IsSameBegin old new
+  pub walk : walk_of s.script new ≡ walk_of s.script old
+  pub at : old.at ≤ new.at
+
+-- the job with its transaction like this, at this place
+abbrev pub with_tx : SeenJob → Place → SeenTx → SeenJob
+with_tx job place tx = record job { place = place; doing = Active tx }
+
+-- ---- an idle job
+-- its next transaction may begin
+pub record IsReady (s : Setting) (now : Now) (job : SeenJob) : Type 0 where
+  pub left : IsSome (body_at s job.place)
+  pub attempts : failures job.attempts < s.rules.attempts
+  pub room : begun_count now < 10000
+
+-- a transaction that has just begun
+abbrev pub new_tx : ℕ → ℕ → ℕ → Private → SeenTx
+new_tx number rank began me =
+    record {
+      number = number;
+      rank = rank;
+      began = began;
+      phase = Running;
+      me = me;
+      writes = [];
+      undo = record { pending = []; ended = [] };
+      calls = [];
+      replies = [];
+      held = [];
+    }
+
+-- the job at the begin of its next transaction, whose number is the next
+abbrev pub beginning_job : Now → SeenJob → SeenJob
+beginning_job now job =
+    let number = begun_count now + 1 in
+    with_tx job (record job.place { begun = job.place.variables }) (new_tx number (rank_of job.attempts number) (length now.journal) job.me)
+
+-- it was tried as often as the rules allow, the last time with this cause
+abbrev pub IsSpent : Setting → Option Attempts → Cause → Type 0
+IsSpent s None c = ⊥
+IsSpent s (Some a) c = (s.rules.attempts ≤ a.failed) × (a.last ≡ c)
+
+-- it ends like this; for want of memory it may wherever a transaction is left
+abbrev pub IsEnding : Setting → Now → SeenJob → JobEnd → Type 0
+IsEnding s now job job_end.Done = body_at s job.place ≡ None
+IsEnding s now job (job_end.GaveUp c) = IsSome (body_at s job.place) × IsSpent s job.attempts c
+IsEnding s now job job_end.JournalFull =
+    IsSome (body_at s job.place) × (failures job.attempts < s.rules.attempts) × (10000 ≤ begun_count now)
+IsEnding s now job job_end.NoMemory = IsSome (body_at s job.place)
+
+-- an idle job ends, or its next transaction begins
+abbrev pub IdleTurn : Setting → ℕ → Now → SeenJob → Turn → Now → Type 0
+IdleTurn s at old job (turn.Ended end) new = IsEnding s old job end × (new ≡ with_job old at (record job { doing = Ended end }))
+IdleTurn s at old job turn.Went new = IsReady s old job × (new ≡ with_job old at (beginning_job old job))
+IdleTurn s at old job _ new = ⊥
+
+-- ---- claims of a running transaction against what others hold
+-- this transaction is the active one of the job in this place
+abbrev pub IsActiveAt : List SeenJob → ℕ → SeenTx → Type 0
+IsActiveAt jobs j tx = (job : SeenJob) × (slice_get jobs j ≡ Some job) × (active_of job ≡ Some tx)
+
+-- it holds the claimed object in a mode that doesn't go together with the claimed one
+abbrev pub HoldsAgainst : SeenTx → Claim → Type 0
+HoldsAgainst tx c = (d : Claim) × Contains tx.held d × (d.object ≡ c.object) × (compatible c.mode d.mode ≡ false)
+
+-- no other active transaction does
+abbrev pub HasNoRival : List SeenJob → ℕ → Claim → Type 0
+HasNoRival jobs at c = (j : ℕ) (tx : SeenTx) → j ≢ at → IsActiveAt jobs j tx → HoldsAgainst tx c → ⊥
+
+-- another one does, and it is the one with the smallest number that does
+pub record IsRival (jobs : List SeenJob) (at : ℕ) (c : Claim) (holder : ℕ) : Type 0 where
+  pub place : ℕ
+  pub other : place ≢ at
+  pub rival : SeenTx
+  pub active : IsActiveAt jobs place rival
+  pub holds : HoldsAgainst rival c
+  pub numbered : rival.number ≡ holder
+  pub smallest : (j : ℕ) (tx : SeenTx) → j ≢ at → IsActiveAt jobs j tx → HoldsAgainst tx c → holder ≤ tx.number
+
+-- the first claim that has a rival is of this object, and this is its rival
+pub record IsFirstMet (jobs : List SeenJob) (at : ℕ) (claims : List Claim) (object : Object) (holder : ℕ) : Type 0 where
+  pub front : List Claim
+  pub met : Claim
+  pub rest : List Claim
+  pub split : claims ≡ front ++ met ∷ rest
+  pub free : All (HasNoRival jobs at) front
+  pub names : met.object ≡ object
+  pub rival : IsRival jobs at met holder
+
+-- ---- a running transaction makes the call that is asked
+-- the calls that scripts have so far
+abbrev pub is_built : Call → Bool
+is_built (call.Load at) = true
+is_built (call.Store at value) = true
+is_built (call.XOpen name) = true
+is_built (call.XRead h n) = true
+is_built (call.XWriteOvr h bytes) = true
+is_built _ = false
+
+-- what a call works on beside the host: the private state, the stores that wait, the records
+pub record Parts : Type 0 where
+  pub me : Private
+  pub stores : List (ℕ × ℕ)
+  pub undo : Records
+
+-- what a transaction sees: the world with the host's contents, its stores laid over the words
+abbrev pub seen : World → Contents → List (ℕ × ℕ) → World
+seen w contents stores = record (with_contents w contents) { words = overlaid w.words stores }
+
+-- from one world to another a call is the plain machine's, with the answer that its reply records
+pub record Does (from to : World) (number : ℕ) (old new : Parts) (call : Call) (reply : Reply) : Type 0 where
+  pub step : act from old.me number call (answer_of reply) ≡ stays to new.me reply
+  pub fits : IsTrue (fits from old.me number call (answer_of reply))
+  pub records : new.undo.pending ≡ old.undo.pending ++ recorded from old.me number call reply
+
+-- the same in every world with these words, from these contents of the host to those
+abbrev pub DoesIn : List ℕ → Contents → Contents → Parts → Parts → Call → Reply → Type 0
+DoesIn words was is old new call reply =
+    (w : World) (number : ℕ) → w.words ≡ words → Does (seen w was old.stores) (seen w is new.stores) number old new call reply
+
+-- these parts of a transaction
+abbrev pub parts_of : SeenTx → Parts
+parts_of tx = record { me = tx.me; stores = tx.writes; undo = tx.undo }
+
+-- the transaction behind a call: noted with its reply, and what it claimed held
+abbrev pub noting : SeenTx → Call → Reply → List Claim → Parts → SeenTx
+noting tx call reply claims parts =
+    record tx {
+      me = parts.me;
+      writes = parts.stores;
+      undo = parts.undo;
+      calls = tx.calls ++ call ∷ [];
+      replies = tx.replies ++ reply ∷ [];
+      held = holding tx.held claims;
+    }
+
+-- the stores that a call adds, over so many words
+abbrev pub stored_by : ℕ → Call → List (ℕ × ℕ)
+stored_by count (call.Store at value) = if nat_lt at count then (at, value) ∷ [] else []
+stored_by count _ = []
+
+-- what a transaction's call claims
+abbrev pub claims_at : Now → SeenTx → Call → List Claim
+claims_at now tx call = claims_of call tx.me (length now.words)
+
+-- the call is done and noted
+pub record Calls (s : Setting) (at : ℕ) (old : Now) (job : SeenJob) (tx : SeenTx) (call : Call) (new : Now) : Type 0 where
+  -- what it claims nobody else holds against it
+  pub free : All (HasNoRival old.jobs at) (claims_at old tx call)
+  pub reply : Reply
+  pub place : Place
+  pub parts : Parts
+  pub jobs : new.jobs ≡ slice_set old.jobs at (with_tx job place (noting tx call reply (claims_at old tx call) parts))
+  pub words : new.words ≡ old.words
+  pub journal : new.journal ≡ old.journal
+  -- the job stands behind the reply
+  pub begin : IsSameBegin job.place place
+  pub walk : walk_of s.script place ≡ answered (walk_of s.script job.place) reply
+  pub nearer : job.place.at < place.at
+  -- it is no call that is kept for the commit, and one of those that scripts have so far
+  pub now : is_late reply ≡ false
+  pub built : is_built call ≡ true
+  -- the older records stay, and at most one comes behind them
+  pub made : List Undo
+  pub one : length made ≤ 1
+  pub undo : parts.undo ≡ record tx.undo { pending = tx.undo.pending ++ made }
+  pub stored : parts.me.stored ≤ 16384
+  -- its stores wait behind the older ones
+  pub stores : parts.stores ≡ tx.writes ++ stored_by (length old.words) call
+  -- on words its reply and its effect are those of the words with the transaction's stores, over every host
+  pub spoken : IsWordStep (overlaid old.words tx.writes) (overlaid old.words parts.stores) call reply
+  -- a fault exactly where the host's count rose
+  pub cause : CountsFault (is_fault_reply reply) old.faults new.faults
+  -- over a host that tells, all is the plain machine's
+  pub does : IsTrue s.tells → DoesIn old.words old.contents new.contents (parts_of tx) parts call reply
+
+-- a claim of the call meets a holder: the transaction undoes
+pub record Conflicts (s : Setting) (at : ℕ) (old : Now) (job : SeenJob) (tx : SeenTx) (call : Call) (new : Now) : Type 0 where
+  pub object : Object
+  pub holder : ℕ
+  pub met : IsFirstMet old.jobs at (claims_at old tx call) object holder
+  pub place : Place
+  pub same : IsSamePlace s job.place place
+  pub behind : new
+      ≡ with_job old at (with_tx job place (record tx { phase = Undoing (cause.Conflict object holder (length old.journal)) }))
+
+-- ---- a running transaction goes over to its commit, or to its way back
+-- its stores are written
+pub record Commits (s : Setting) (at : ℕ) (old : Now) (job : SeenJob) (tx : SeenTx) (new : Now) : Type 0 where
+  pub place : Place
+  pub same : IsSamePlace s job.place place
+  pub settled : IsSettled s.script place
+  pub behind : new
+      ≡ record (with_job old at (with_tx job place (record tx { phase = Committing }))) { words = overlaid old.words tx.writes }
+
+-- the script asks its abort
+pub record TurnsBack (s : Setting) (at : ℕ) (old : Now) (job : SeenJob) (tx : SeenTx) (new : Now) : Type 0 where
+  pub place : Place
+  pub same : IsSamePlace s job.place place
+  pub behind : new ≡ with_job old at (with_tx job place (record tx { phase = Undoing cause.Asked }))
+
+-- what it holds where memory was wanting: no more than before, or also what the asked call claims, which nobody else
+-- holds against it
+abbrev pub HoldsWanting : Now → ℕ → SeenTx → Ask → List Claim → Type 0
+HoldsWanting old at tx (ask.Call call) held =
+    (held ≡ tx.held) ⊎ (All (HasNoRival old.jobs at) (claims_at old tx call) × (held ≡ holding tx.held (claims_at old tx call)))
+HoldsWanting old at tx _ held = held ≡ tx.held
+
+-- memory is wanting: nothing is noted, and the host is as before
+pub record Wants (s : Setting) (at : ℕ) (old : Now) (job : SeenJob) (tx : SeenTx) (new : Now) : Type 0 where
+  pub place : Place
+  pub same : IsSamePlace s job.place place
+  pub held : List Claim
+  pub holds : HoldsWanting old at tx (asked_at s job.place) held
+  pub jobs : new.jobs ≡ slice_set old.jobs at (with_tx job place (record tx { phase = Undoing cause.NoMemory; held = held }))
+  pub words : new.words ≡ old.words
+  pub journal : new.journal ≡ old.journal
+  pub faults : new.faults ≡ old.faults
+  pub contents : IsTrue s.tells → new.contents ≡ old.contents
+
+-- by what is asked
+abbrev pub AskedTurn : Setting → ℕ → Now → SeenJob → SeenTx → Ask → Now → Type 0
+AskedTurn s at old job tx (ask.Call call) new = Calls s at old job tx call new ⊎ Conflicts s at old job tx call new
+AskedTurn s at old job tx ask.Commit new = Commits s at old job tx new
+AskedTurn s at old job tx ask.Abort new = TurnsBack s at old job tx new
+AskedTurn s at old job tx ask.End new = ⊥
+
+-- a running transaction does what is asked, or memory is wanting
+abbrev pub RunningTurn : Setting → ℕ → Now → SeenJob → SeenTx → Turn → Now → Type 0
+RunningTurn s at old job tx turn.Went new = AskedTurn s at old job tx (asked_at s job.place) new
+RunningTurn s at old job tx turn.NoMemory new = Wants s at old job tx new
+RunningTurn s at old job tx _ new = ⊥
+
+-- ---- entries
+-- the entry of a transaction that ended so, of the job in this place
+abbrev pub entry_of : SeenTx → ℕ → Outcome → Entry
+entry_of tx at outcome =
+    record {
+      tx = tx.number;
+      job = at + 1;
+      rank = tx.rank;
+      began = tx.began;
+      calls = tx.calls;
+      replies = tx.replies;
+      held = tx.held;
+      outcome = outcome;
+    }
+
+-- behind a commit a job is at its next transaction, with the variables and the handles of this one's end
+abbrev pub behind_commit : SeenJob → SeenTx → SeenJob
+behind_commit job tx =
+    record {
+      block = job.block;
+      me = beginning tx.me.places;
+      place = at_begin (record { block = job.place.block; next = job.place.next + 1; variables = job.place.variables });
+      attempts = None;
+      doing = Idle;
+    }
+
+-- the attempts with one more
+abbrev pub attempts_with : Option Attempts → SeenTx → Cause → Attempts
+attempts_with attempts tx c = record { first = tx.rank; failed = failures attempts + 1; last = c }
+
+-- behind an abort the handles and the variables are those of the begin. A transaction that aborted itself is passed;
+-- one that met a holder is tried again; for want of memory nothing more is asked
+abbrev pub behind_abort : SeenJob → SeenTx → Cause → SeenJob
+behind_abort job tx cause.Asked =
+    record job {
+      place = at_begin (record { block = job.place.block; next = job.place.next + 1; variables = job.place.begun });
+      attempts = None;
+      doing = Idle;
+    }
+behind_abort job tx cause.NoMemory = record job { doing = Starved }
+behind_abort job tx c =
+    record job {
+      place = at_begin (record { block = job.place.block; next = job.place.next; variables = job.place.begun });
+      attempts = Some (attempts_with job.attempts tx c);
+      doing = Idle;
+    }
+
+-- a committing transaction enters
+abbrev pub CommittingTurn : ℕ → Now → SeenJob → SeenTx → Turn → Now → Type 0
+CommittingTurn at old job tx turn.Went new = new ≡ entering old at (behind_commit job tx) (entry_of tx at (Committed []))
+CommittingTurn at old job tx _ new = ⊥
+
+-- ---- the way back
+-- the newest record without an end is tried
+pub record Compensates (s : Setting) (at : ℕ) (old : Now) (job : SeenJob) (tx : SeenTx) (new : Now) : Type 0 where
+  pub older : List Undo
+  pub tried : Undo
+  pub end : UndoEnd
+  pub newest : tx.undo.pending ≡ older ++ tried ∷ []
+  -- blocked exactly where a newer record stands in the way; failed exactly after so many tries
+  pub legal : IsLegalEnd s.rules.undo_tries tried end (way_of older tried tx.undo)
+  pub faults : CountsFaults (end_faults end) old.faults new.faults
+  -- the host did what the end says
+  pub effect : IsTrue s.tells → new.contents ≡ contents_of (undone_to (world_of old.contents) tried end)
+  pub jobs : new.jobs ≡ slice_set old.jobs at
+      (with_tx job job.place (record tx { undo = record { pending = older; ended = (tried, end) ∷ tx.undo.ended } }))
+  pub words : new.words ≡ old.words
+  pub journal : new.journal ≡ old.journal
+
+-- an aborted transaction, each of whose records has its end, enters
+abbrev pub EntersAborted : ℕ → Now → SeenJob → SeenTx → Cause → Now → Type 0
+EntersAborted at old job tx c new =
+    new ≡ entering old at (behind_abort job tx c) (entry_of tx at (Aborted (record { cause = c; records = tx.undo.ended })))
+
+module _ (s : Setting) (at : ℕ) where
+  -- by the records that have no end yet
+  abbrev pub BackTurn : Now → SeenJob → SeenTx → Cause → List Undo → Now → Type 0
+  BackTurn old job tx c [] new = EntersAborted at old job tx c new
+  BackTurn old job tx c (u ∷ pending) new = Compensates s at old job tx new
+
+  -- an undoing transaction
+  abbrev pub UndoingTurn : Now → SeenJob → SeenTx → Cause → Turn → Now → Type 0
+  UndoingTurn old job tx c turn.Went new = BackTurn old job tx c tx.undo.pending new
+  UndoingTurn old job tx c _ new = ⊥
+
+-- ---- all rows
+-- a job whose last transaction was aborted for want of memory ends
+abbrev pub StarvedTurn : ℕ → Now → SeenJob → Turn → Now → Type 0
+StarvedTurn at old job (turn.Ended job_end.NoMemory) new = new ≡ with_job old at (record job { doing = Ended job_end.NoMemory })
+StarvedTurn at old job _ new = ⊥
+
+module _ (s : Setting) (at : ℕ) where
+  -- a job with an active transaction, by the transaction's phase
+  abbrev pub ActiveTurn : Now → SeenJob → SeenTx → Phase → Turn → Now → Type 0
+  ActiveTurn old job tx Running answer new = RunningTurn s at old job tx answer new
+  ActiveTurn old job tx Committing answer new = CommittingTurn at old job tx answer new
+  ActiveTurn old job tx (Undoing c) answer new = UndoingTurn s at old job tx c answer new
+
+  -- by what the job does; one that has ended has no turn
+  abbrev pub TurnOf : Now → SeenJob → Doing → Turn → Now → Type 0
+  TurnOf old job Idle answer new = IdleTurn s at old job answer new
+  TurnOf old job (Active tx) answer new = ActiveTurn old job tx tx.phase answer new
+  TurnOf old job Starved answer new = StarvedTurn at old job answer new
+  TurnOf old job (Ended end) answer new = ⊥
+
+-- one turn of the job in this place, which counts from 0
+pub record IsTurn (s : Setting) (at : ℕ) (old : Now) (answer : Turn) (new : Now) : Type 0 where
+  pub job : SeenJob
+  pub stands : slice_get old.jobs at ≡ Some job
+  pub row : TurnOf s at old job job.doing answer new

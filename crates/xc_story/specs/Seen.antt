@@ -1,0 +1,95 @@
+-- A station between two turns, as plain data.
+use Rattle.std.specs.Prelude.{ℕ, ◌+◌, List, [], ◌∷◌, ◌++◌, length, slice_set, Option}
+use Rattle.std.specs.List.{filter_map}
+use Rattle.std.specs.declared.option.Option.TheVariants.{None, Some}
+use Rattle.xc_data.specs.declared.call.Call.{Call}
+use Rattle.xc_data.specs.declared.call.Reply.{Reply}
+use Rattle.xc_data.specs.declared.claim.Claim.{Claim}
+use Rattle.xc_data.specs.declared.entry.Entry.{Entry}
+use Rattle.xc_data.specs.declared.entry.JobEnd.{JobEnd}
+use Rattle.xc_data.specs.declared.private.Private.{Private}
+use Rattle.xc_compensate.specs.Records.{Records}
+use Rattle.xc_host.specs.Contents.{Contents}
+use Rattle.xc_script.specs.Place.{Place}
+use Rattle.xc_story.specs.declared.phase.Attempts.{Attempts}
+use Rattle.xc_story.specs.declared.phase.Phase.{Phase}
+
+-- an active transaction, with what its entry will say
+pub record SeenTx : Type 0 where
+  pub number : ℕ
+  -- the number of its first attempt
+  pub rank : ℕ
+  -- the length that the journal had at its begin
+  pub began : ℕ
+  pub phase : Phase
+  pub me : Private
+  -- its stores, the oldest first
+  pub writes : List (ℕ × ℕ)
+  -- what its calls did at the host
+  pub undo : Records
+  pub calls : List Call
+  pub replies : List Reply
+  pub held : List Claim
+
+-- what a job does: it has no active transaction; it has one; its last one was aborted for want of memory; it has ended
+pub data Doing : Type 0 where
+  Idle : Doing
+  Active : SeenTx → Doing
+  Starved : Doing
+  Ended : JobEnd → Doing
+
+-- a started job
+pub record SeenJob : Type 0 where
+  -- the name of its block
+  pub block : List ℕ
+  -- its handles, as its next transaction begins with them, or the active one began
+  pub me : Private
+  pub place : Place
+  -- the attempts at its next transaction that ended in a conflict, where there were some
+  pub attempts : Option Attempts
+  pub doing : Doing
+
+-- a station: its words, what the host tells, how often the host has failed, the journal, and the jobs from number 1 on
+pub record Now : Type 0 where
+  pub words : List ℕ
+  pub contents : Contents
+  pub faults : ℕ
+  pub journal : List Entry
+  pub jobs : List SeenJob
+
+-- ---- active transactions
+-- the active one, where there is one
+abbrev pub active_in : Doing → Option SeenTx
+active_in (Active tx) = Some tx
+active_in _ = None
+
+-- a job's
+abbrev pub active_of : SeenJob → Option SeenTx
+active_of job = active_in job.doing
+
+-- all, in the order of the jobs
+abbrev pub actives : List SeenJob → List SeenTx
+actives jobs = filter_map active_of jobs
+
+-- how many transactions have begun: those that entered, and those that are active
+abbrev pub begun_count : Now → ℕ
+begun_count now = length now.journal + length (actives now.jobs)
+
+-- ---- attempts
+-- how many ended in a conflict
+abbrev pub failures : Option Attempts → ℕ
+failures None = 0
+failures (Some a) = a.failed
+
+-- the rank of an attempt of this number
+abbrev pub rank_of : Option Attempts → ℕ → ℕ
+rank_of None number = number
+rank_of (Some a) number = a.first
+
+-- ---- a station with another job in one place, which counts from 0
+abbrev pub with_job : Now → ℕ → SeenJob → Now
+with_job now at job = record now { jobs = slice_set now.jobs at job }
+
+-- and with one entry more
+abbrev pub entering : Now → ℕ → SeenJob → Entry → Now
+entering now at job entry = record (with_job now at job) { journal = now.journal ++ entry ∷ [] }

@@ -1,0 +1,168 @@
+-- What is true between two turns of the stories of all jobs.
+use Rattle.std.specs.Prelude.{◌≡◌, ℕ, ◌+◌, ◌<◌, ◌≤◌, true, false, List, [], ◌∷◌, ◌++◌, length, map, slice_get, unwrap_or}
+use Rattle.std.specs.Prelude.{IsSome, IsPermutation, Contains}
+use Rattle.std.specs.Prelude.{Option}
+use Rattle.std.specs.declared.option.Option.TheVariants.{None, Some}
+use Rattle.xc_data.specs.declared.claim.Claim.{Claim}
+use Rattle.xc_data.specs.declared.entry.Cause.{Cause}
+use Rattle.xc_data.specs.declared.entry.Entry.{Entry}
+use Rattle.xc_script.specs.declared.ask.Ask.{Ask}
+use Rattle.xc_script.specs.declared.ask.Ask.TheVariants as ask
+use Rattle.xc_script.specs.Ask.{asks, all_answered, walk_from, next_body}
+use Rattle.xc_script.specs.Place.{Place, at_begin, walk_of, IsSettled}
+use Rattle.xc_world.specs.World.{beginning}
+use Rattle.xc_world.specs.Ends.{AreLegal}
+use Rattle.xc_world.specs.Modes.{claims_of}
+use Rattle.xc_story.specs.declared.phase.Attempts.{Attempts}
+use Rattle.xc_story.specs.declared.phase.Phase.{Phase}
+use Rattle.xc_story.specs.declared.phase.Phase.TheVariants.{Running, Committing, Undoing}
+use Rattle.xc_story.specs.Setting.{Setting}
+use Rattle.xc_story.specs.Grounds.{Part, AreGrounded}
+use Rattle.xc_story.specs.Progress.{Following, kept_of, opening_progress, progress_of}
+use Rattle.xc_story.specs.Truth.{AsksEach, AreTrue, IsCauseOf, counting, next_of, parts_of}
+use Rattle.xc_story.specs.Ending.{IsEnd}
+use Rattle.xc_story.specs.Seen.{SeenTx, SeenJob, Doing, Idle, Active, Starved, Ended, actives, active_of}
+
+-- ---- an active transaction, as a part of its job's story
+-- the job stands in its next transaction, and keeps the variables of its begin
+pub record IsStanding (f : Following) (place : Place) : Type 0 where
+  pub block : place.block ≡ f.job.block
+  pub next : place.next ≡ f.job.next
+  pub begun : place.begun ≡ f.job.variables
+
+-- the job stands behind its transaction's replies
+abbrev pub IsAhead : Setting → Following → Place → SeenTx → Type 0
+IsAhead s f place tx = walk_of s.script place ≡ all_answered (walk_from s.script f.job) tx.replies
+
+-- a running one: no compensation was tried
+pub record IsRunning (s : Setting) (f : Following) (place : Place) (tx : SeenTx) : Type 0 where
+  pub ahead : IsAhead s f place tx
+  pub none : tx.undo.ended ≡ []
+
+-- a committing one: its commit was asked, and the job stands where its walk does
+pub record IsCommitting (s : Setting) (f : Following) (place : Place) (tx : SeenTx) : Type 0 where
+  pub ahead : IsAhead s f place tx
+  pub asked : asks (walk_of s.script place) ≡ ask.Commit
+  pub settled : IsSettled s.script place
+  pub none : tx.undo.ended ≡ []
+
+-- an undoing one: the compensations so far have legal ends
+pub record IsUndoing (s : Setting) (f : Following) (tx : SeenTx) (c : Cause) : Type 0 where
+  pub caused : IsCauseOf c (next_of s.script f tx.replies)
+  pub legal : AreLegal s.rules.undo_tries (length tx.undo.pending + 1) tx.undo.ended
+
+-- by its phase
+abbrev pub IsInPhase : Setting → Following → Place → SeenTx → Phase → Type 0
+IsInPhase s f place tx Running = IsRunning s f place tx
+IsInPhase s f place tx Committing = IsCommitting s f place tx
+IsInPhase s f place tx (Undoing c) = IsUndoing s f tx c
+
+-- the active transaction of a job that the journal tells so far as f
+pub record IsUnderway (s : Setting) (f : Following) (place : Place) (tx : SeenTx) : Type 0 where
+  pub goes_on : f.starved ≡ false
+  pub left : IsSome (next_body s.script f.job)
+  pub attempts : length f.failed < s.rules.attempts
+  pub rank : tx.rank ≡ unwrap_or f.first tx.number
+  -- it began behind its job's entry before
+  pub since : f.since ≤ tx.began
+  pub standing : IsStanding f place
+  -- its calls are the script's, and none was kept for the commit
+  pub asked : AsksEach (walk_from s.script f.job) tx.calls tx.replies
+  pub none_kept : kept_of tx.calls tx.replies ≡ []
+  pub stored : tx.me.stored ≤ 16384
+  pub phase : IsInPhase s f place tx tx.phase
+
+-- ---- a job
+-- the attempts are those that the journal tells
+abbrev pub AreAttempts : Following → Option Attempts → Type 0
+AreAttempts f None = (f.first ≡ None) × (f.failed ≡ [])
+AreAttempts f (Some a) =
+    (f.first ≡ Some a.first) × (length f.failed ≡ a.failed) × (1 ≤ a.failed) × (before : List Cause) × (f.failed ≡ before ++ a.last ∷ [])
+
+-- what it does; `begun` transactions have begun in all
+abbrev pub IsDoing : Setting → ℕ → Following → SeenJob → Doing → Type 0
+IsDoing s begun f job Idle = (f.starved ≡ false) × (job.place ≡ at_begin f.job)
+IsDoing s begun f job (Active tx) = IsUnderway s f job.place tx
+IsDoing s begun f job Starved = (f.starved ≡ true) × IsSome (next_body s.script f.job)
+IsDoing s begun f job (Ended end) = IsEnd s begun f end
+
+-- a job goes on with its story
+pub record IsJobTold (s : Setting) (begun entered : ℕ) (f : Following) (job : SeenJob) : Type 0 where
+  pub block : f.block ≡ job.block
+  pub fresh : job.me ≡ beginning job.me.places
+  pub since : f.since ≤ entered
+  pub attempts : AreAttempts f job.attempts
+  pub few : length f.failed ≤ s.rules.attempts
+  pub doing : IsDoing s begun f job job.doing
+
+-- ---- numbers and begins, over entries and active transactions
+-- a number, and the length that the journal had at that begin
+abbrev pub entry_begin : Entry → ℕ × ℕ
+entry_begin e = (e.tx, e.began)
+
+-- the same of an active transaction
+abbrev pub active_begin : SeenTx → ℕ × ℕ
+active_begin tx = (tx.number, tx.began)
+
+-- of all
+abbrev pub begins_of : List Entry → List SeenJob → List (ℕ × ℕ)
+begins_of journal jobs = map entry_begin journal ++ map active_begin (actives jobs)
+
+-- a greater number didn't begin earlier, and none later than now
+pub record AreBegins (journal : List Entry) (begins : List (ℕ × ℕ)) : Type 0 where
+  pub numbers : IsPermutation (map (λ b. b.0) begins) (counting 1 (length begins))
+  pub order : (a b : ℕ × ℕ) → Contains begins a → Contains begins b → a.0 < b.0 → a.1 ≤ b.1
+  pub by_now : (a : ℕ × ℕ) → Contains begins a → a.1 ≤ length journal
+
+-- ---- what conflicts are judged by, of active transactions
+-- what the call claims that it is asked next
+abbrev pub wanted_by : ℕ → SeenTx → Ask → List Claim
+wanted_by words tx (ask.Call call) = claims_of call tx.me words
+wanted_by words tx _ = []
+
+-- why it undoes, where it does
+abbrev pub cause_of_phase : Phase → Option Cause
+cause_of_phase (Undoing c) = Some c
+cause_of_phase _ = None
+
+-- what it is asked behind its replies
+abbrev pub asked_of_tx : Setting → Option Following → SeenTx → Ask
+asked_of_tx s None tx = ask.End
+asked_of_tx s (Some f) tx = next_of s.script f tx.replies
+
+-- an active transaction of the job of this number
+abbrev pub part_under_way : Setting → ℕ → Option Following → ℕ → SeenTx → Part
+part_under_way s words f number tx =
+    record {
+      number = tx.number;
+      job = number;
+      began = tx.began;
+      held = tx.held;
+      wanted = wanted_by words tx (asked_of_tx s f tx);
+      cause = cause_of_phase tx.phase;
+    }
+
+-- a job's active transaction, where it has one
+abbrev pub active_part : Setting → ℕ → Option Following → ℕ → Option SeenTx → Option Part
+active_part s words f number None = None
+active_part s words f number (Some tx) = Some (part_under_way s words f number tx)
+
+-- of each job, from this number on; the first list is what the journal tells of them
+abbrev pub active_parts : Setting → ℕ → ℕ → List Following → List SeenJob → List (Option Part)
+active_parts s words number followings [] = []
+active_parts s words number [] (job ∷ jobs) = active_part s words None number (active_of job) ∷ active_parts s words (number + 1) [] jobs
+active_parts s words number (f ∷ followings) (job ∷ jobs) =
+    active_part s words (Some f) number (active_of job) ∷ active_parts s words (number + 1) followings jobs
+
+-- ---- all together
+-- `words` is the number of words
+pub record AreTold (s : Setting) (words : ℕ) (journal : List Entry) (jobs : List SeenJob) : Type 0 where
+  pub entries : AreTrue s (opening_progress s.script) journal
+  -- the jobs are those that the journal tells
+  pub count : length (progress_of s.script journal).jobs ≡ length jobs
+  pub jobs_told : (at : ℕ) (f : Following) (job : SeenJob)
+      → slice_get (progress_of s.script journal).jobs at ≡ Some f → slice_get jobs at ≡ Some job
+      → IsJobTold s (length journal + length (actives jobs)) (length journal) f job
+  pub begins : AreBegins journal (begins_of journal jobs)
+  pub few : length journal + length (actives jobs) ≤ 10000
+  pub grounded : AreGrounded s.tells (parts_of s journal) (active_parts s words 1 (progress_of s.script journal).jobs jobs)

@@ -1,0 +1,166 @@
+-- Where each job has ended.
+use Rattle.std.proofs.Common.{◌≡◌, ℕ, ◌+◌, inl, inr, Bool, List, [], ◌∷◌, ◌++◌, length, map, zero, suc}
+use Rattle.std.proofs.Common.{refl, ap, sym, ◌∙◌, subst, arith, get_or}
+use Rattle.std.proofs.lemmas.List.{append-nil, ext_get_or, length-map}
+use Rattle.std.proofs.lemmas.Option.{get_or_from_slice_get, slice_get_within, slice_get-map}
+use Rattle.std.specs.Prelude.{slice_get, Option, Contains, IsPermutation, option_map}
+use Rattle.std.specs.declared.option.Option.TheVariants.{None, Some}
+use Rattle.xc_data.specs.declared.entry.Cause.{Cause}
+use Rattle.xc_data.specs.declared.entry.Cause.TheVariants as cause
+use Rattle.xc_data.specs.declared.entry.Entry.{Entry}
+use Rattle.xc_data.specs.declared.entry.JobLine.{JobLine}
+use Rattle.xc_data.specs.declared.object.Object.{Object}
+use Rattle.xc_story.specs.Setting.{Setting}
+use Rattle.xc_story.specs.Grounds.{Part, Stands, Ground, IsGrounded, AreGrounded}
+use Rattle.xc_story.specs.Progress.{Following, progress_of}
+use Rattle.xc_story.specs.Truth.{IsTrueJournal, counting, numbers_of, parts_of}
+use Rattle.xc_story.specs.Ending.{AreEnds, IsEnd}
+use Rattle.xc_story.specs.Seen.{SeenTx, SeenJob, Doing, Idle, Active, Starved, Ended, active_in, active_of, actives}
+use Rattle.xc_story.specs.Rows.{IsActiveAt}
+use Rattle.xc_story.specs.Told.{AreTold, AreBegins, IsJobTold, IsDoing, active_begin, active_part, active_parts, begins_of, entry_begin}
+use Rattle.xc_story.specs.Spoken.{AreSpoken}
+use Rattle.xc_story.specs.Kept.{AreLinesOf, IsLineOf}
+use Rattle.xc_turns.proofs.Jobs.{none_active}
+
+-- ---- no transaction is active
+line_none : (line : JobLine) (job : SeenJob) (d : Doing) → IsLineOf line job d → active_in d ≡ None
+line_none line job Idle of = absurd of
+line_none line job (Active tx) of = absurd of
+line_none line job Starved of = absurd of
+line_none line job (Ended end) of = refl
+
+none_there : (jobs : List SeenJob) (lines : List JobLine) → AreLinesOf jobs lines → (j : ℕ) (tx : SeenTx) → IsActiveAt jobs j tx → ⊥
+none_there [] lines are j tx (job, there, has) = let h : ◌≡◌ {A = Option SeenJob} None (Some job) = there in cc
+none_there (job ∷ jobs) [] are j tx active = absurd are
+none_there (job ∷ jobs) (line ∷ lines) are zero tx (at, there, has) =
+    let same : job ≡ at = cc in
+    let h : ◌≡◌ {A = Option SeenTx} None (Some tx) = sym (line_none line job job.doing are.0) ∙ ap active_of same ∙ has in cc
+none_there (job ∷ jobs) (line ∷ lines) are (suc j) tx (at, there, has) = none_there jobs lines are.1 j tx (at, there, has)
+
+-- ---- numbers and begins
+begins_there : (journal : List Entry) (jobs : List SeenJob) → actives jobs ≡ [] → begins_of journal jobs ≡ map entry_begin journal
+begins_there journal jobs none = ap (λ txs. map entry_begin journal ++ map active_begin txs) none ∙ append-nil (map entry_begin journal)
+
+numbers_there : (journal : List Entry) → map (λ (b : ℕ × ℕ). b.0) (map entry_begin journal) ≡ numbers_of journal
+numbers_there [] = refl
+numbers_there (e ∷ journal) = ap (λ ns. e.tx ∷ ns) (numbers_there journal)
+
+entry_there : (journal : List Entry) (i : ℕ) (e : Entry) → slice_get journal i ≡ Some e → Contains (map entry_begin journal) (entry_begin e)
+entry_there journal i e at =
+    let there : slice_get (map entry_begin journal) i ≡ Some (entry_begin e) = slice_get-map entry_begin journal i ∙ ap (option_map entry_begin) at in (
+      i,
+      slice_get_within (map entry_begin journal) i (entry_begin e) there,
+      get_or_from_slice_get (map entry_begin journal) i (entry_begin e) (entry_begin e) there,
+    )
+
+-- ---- conflicts
+parts_none : (s : Setting) (words number : ℕ) (followings : List Following) (jobs : List SeenJob) (lines : List JobLine) → AreLinesOf jobs lines
+    → (j : ℕ) → get_or (active_parts s words number followings jobs) j None ≡ None
+parts_none s words number [] [] lines are zero = refl
+parts_none s words number [] [] lines are (suc j) = refl
+parts_none s words number (f ∷ fs) [] lines are zero = refl
+parts_none s words number (f ∷ fs) [] lines are (suc j) = refl
+parts_none s words number fs (job ∷ jobs) [] are j = absurd are
+parts_none s words number [] (job ∷ jobs) (line ∷ lines) are zero = ap (active_part s words None number) (line_none line job job.doing are.0)
+parts_none s words number [] (job ∷ jobs) (line ∷ lines) are (suc j) = parts_none s words (number + 1) [] jobs lines are.1 j
+parts_none s words number (f ∷ fs) (job ∷ jobs) (line ∷ lines) are zero = ap (active_part s words (Some f) number) (line_none line job job.doing are.0)
+parts_none s words number (f ∷ fs) (job ∷ jobs) (line ∷ lines) are (suc j) = parts_none s words (number + 1) fs jobs lines are.1 j
+
+-- none of these parts is there
+abbrev AreNone : List (Option Part) → Type 0
+AreNone active = (j : ℕ) → get_or active j None ≡ None
+
+stands_logged : (log : List Part) (active : List (Option Part)) (at : ℕ) (who : Part) → AreNone active → Stands log active at who → Stands log [] at who
+stands_logged log active at who none (inl there) = inl there
+stands_logged log active at who none (inr (j, there)) = absurd (let h : ◌≡◌ {A = Option Part} None (Some who) = sym (none j) ∙ there in cc)
+
+ground_logged : (tells : Bool) (log : List Part) (active : List (Option Part)) (place : ℕ) (e : Part) (object : Object) (holder at : ℕ) → AreNone active
+    → Ground tells log active place e object holder at → Ground tells log [] place e object holder at
+ground_logged tells log active place e object holder at none g =
+    let n = g.named in
+    record {
+      before = g.before;
+      within = g.within;
+      named = record {
+        who = n.who;
+        stands = stands_logged log active at n.who none n.stands;
+        numbered = n.numbered;
+        other = n.other;
+        began = n.began;
+        claim = n.claim;
+        names = n.names;
+        holds = n.holds;
+      };
+      clash = g.clash;
+    }
+
+grounded_logged : (tells : Bool) (log : List Part) (active : List (Option Part)) (place : ℕ) (e : Part) (c : Option Cause) → AreNone active
+    → IsGrounded tells log active place e c → IsGrounded tells log [] place e c
+grounded_logged tells log active place e None none h = h
+grounded_logged tells log active place e (Some cause.Asked) none h = h
+grounded_logged tells log active place e (Some (cause.Conflict object holder at)) none h = ground_logged tells log active place e object holder at none h
+grounded_logged tells log active place e (Some (cause.Revoked object by at)) none h = h
+grounded_logged tells log active place e (Some cause.NoMemory) none h = h
+
+all_logged : (tells : Bool) (log : List Part) (active : List (Option Part)) → AreNone active → AreGrounded tells log active → AreGrounded tells log []
+all_logged tells log active none g =
+    record {
+      entries = λ i e at. grounded_logged tells log active i e e.cause none (g.entries i e at);
+      actives = λ j e at. absurd (let h : ◌≡◌ {A = Option Part} None (Some e) = at in cc);
+    }
+
+-- ---- the journal
+-- where each job has ended the journal is true
+pub journal_true : (s : Setting) (words : ℕ) (journal : List Entry) (jobs : List SeenJob) (lines : List JobLine) → AreTold s words journal jobs
+    → AreLinesOf jobs lines → IsTrueJournal s journal
+journal_true s words journal jobs lines told are =
+    let begins : AreBegins journal (map entry_begin journal) =
+    subst (AreBegins journal) (begins_there journal jobs (none_active jobs (none_there jobs lines are))) told.begins in
+    let many : length (map entry_begin journal) ≡ length journal = length-map journal entry_begin in
+    record {
+      entries = told.entries;
+      numbers = subst (λ n. IsPermutation (numbers_of journal) (counting 1 n)) many
+          (subst (λ ns. IsPermutation ns (counting 1 (length (map entry_begin journal)))) (numbers_there journal) begins.numbers);
+      begins = λ i j a b ea eb less. begins.order (entry_begin a) (entry_begin b) (entry_there journal i a ea) (entry_there journal j b eb) less;
+      grounded = all_logged s.tells (parts_of s journal) (active_parts s words 1 (progress_of s.script journal).jobs jobs)
+          (parts_none s words 1 (progress_of s.script journal).jobs jobs lines are) told.grounded;
+    }
+
+-- ---- the ends
+line_ends : (s : Setting) (begun : ℕ) (f : Following) (job : SeenJob) (line : JobLine) (d : Doing) → IsLineOf line job d → IsDoing s begun f job d
+    → (line.block ≡ job.block) × IsEnd s begun f line.end
+line_ends s begun f job line Idle of h = absurd of
+line_ends s begun f job line (Active tx) of h = absurd of
+line_ends s begun f job line Starved of h = absurd of
+line_ends s begun f job line (Ended end) of h = (of.0, subst (IsEnd s begun f) (sym of.1) h)
+
+ends_are : (s : Setting) (begun entered : ℕ) (fs : List Following) (jobs : List SeenJob) (lines : List JobLine) → length fs ≡ length jobs
+    → ((at : ℕ) (f : Following) (job : SeenJob) → slice_get fs at ≡ Some f → slice_get jobs at ≡ Some job → IsJobTold s begun entered f job)
+    → AreLinesOf jobs lines → AreEnds s begun fs lines
+ends_are s begun entered [] [] lines count told are = are
+ends_are s begun entered [] (job ∷ jobs) lines count told are = absurd (omega arith)
+ends_are s begun entered (f ∷ fs) [] lines count told are = absurd (omega arith)
+ends_are s begun entered (f ∷ fs) (job ∷ jobs) [] count told are = absurd are
+ends_are s begun entered (f ∷ fs) (job ∷ jobs) (line ∷ lines) count told are =
+    let here = told 0 f job refl refl in
+    let end = line_ends s begun f job line job.doing are.0 here.doing in (
+      record { block = end.0 ∙ sym here.block; end = end.1 },
+      ends_are s begun entered fs jobs lines (omega arith) (λ at g k eg ek. told (suc at) g k eg ek) are.1,
+    )
+
+-- where each job has ended it has the end of its story
+pub ends_told : (s : Setting) (words : ℕ) (journal : List Entry) (jobs : List SeenJob) (lines : List JobLine) → AreTold s words journal jobs
+    → AreLinesOf jobs lines → AreEnds s (length journal) (progress_of s.script journal).jobs lines
+ends_told s words journal jobs lines told are =
+    let fs = (progress_of s.script journal).jobs in
+    let begun : length journal + length (actives jobs) ≡ length journal = omega (arith, ap length (none_active jobs (none_there jobs lines are))) in
+    subst (λ n. AreEnds s n fs lines) begun
+    (ends_are s (length journal + length (actives jobs)) (length journal) fs jobs lines told.count told.jobs_told are)
+
+-- ---- the words
+-- where each job has ended the words are those that the journal left
+pub words_left : (before words : List ℕ) (jobs : List SeenJob) (lines : List JobLine) → AreSpoken before words jobs → AreLinesOf jobs lines
+    → words ≡ before
+words_left before words jobs lines spoken are =
+    ext_get_or 0 words before spoken.count
+    (λ k less. spoken.others k (omega (arith, spoken.count)) (λ j tx w. none_there jobs lines are j tx w.active))

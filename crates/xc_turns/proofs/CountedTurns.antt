@@ -1,0 +1,180 @@
+-- Each row of the table of turns keeps the count of the host's faults that of the recorded ones.
+use Rattle.std.proofs.Common.{◌≡◌, ℕ, ◌+◌, length, inl, inr, Some, List, [], ◌∷◌, ◌++◌, refl, ap, sym, ◌∙◌, subst, arith, cond}
+use Rattle.std.specs.Prelude.{slice_get, slice_set, count_by, sum_by}
+use Rattle.std.proofs.lemmas.List.Sums.{sum_by-cons, sum_by_push}
+use Rattle.xc_compensate.specs.Records.{Records}
+use Rattle.xc_data.specs.Counts.{CountsFaults}
+use Rattle.xc_data.specs.Faults.{entry_faults, is_fault_reply, undo_faults, end_faults}
+use Rattle.xc_data.specs.declared.call.Call.{Call}
+use Rattle.xc_data.specs.declared.entry.Cause.{Cause}
+use Rattle.xc_data.specs.declared.entry.Cause.TheVariants as cause
+use Rattle.xc_data.specs.declared.entry.Entry.{Entry}
+use Rattle.xc_data.specs.declared.entry.Outcome.TheVariants.{Committed, Aborted}
+use Rattle.xc_data.specs.declared.entry.JobEnd.TheVariants as job_end
+use Rattle.xc_data.specs.declared.entry.Turn.{Turn}
+use Rattle.xc_data.specs.declared.entry.Turn.TheVariants as turn
+use Rattle.xc_data.specs.declared.undo.Undo.{Undo}
+use Rattle.xc_script.specs.declared.ask.Ask.{Ask}
+use Rattle.xc_script.specs.declared.ask.Ask.TheVariants as ask
+use Rattle.xc_story.specs.declared.phase.Phase.{Phase}
+use Rattle.xc_story.specs.declared.phase.Phase.TheVariants.{Running, Committing, Undoing}
+use Rattle.xc_story.specs.Setting.{Setting}
+use Rattle.xc_story.specs.Progress.{progress_of}
+use Rattle.xc_story.specs.Seen.{SeenTx, SeenJob, Doing, Idle, Active, Starved, Ended, Now, active_in, active_of, actives, with_job, entering}
+use Rattle.xc_story.specs.Rows.{asked_at, beginning_job, claims_at, noting, with_tx, entry_of, behind_commit, behind_abort}
+use Rattle.xc_story.specs.Rows.{Calls, Compensates}
+use Rattle.xc_story.specs.Rows.{IdleTurn, AskedTurn, RunningTurn, CommittingTurn, BackTurn, UndoingTurn, StarvedTurn, ActiveTurn, TurnOf, IsTurn}
+use Rattle.xc_story.specs.Told.{IsInPhase, IsDoing, AreTold}
+use Rattle.xc_story.specs.Counted.{tx_faults, recorded_faults, AreCounted}
+use Rattle.xc_turns.proofs.Lists.{get_beside}
+use Rattle.xc_turns.proofs.Jobs.{behind_abort_none}
+use Rattle.xc_turns.proofs.CountedSums.{adds, sum_set, counts_sum, fault_as_count}
+
+-- ---- a committing transaction has no ended record
+none_ended : (s : Setting) (at : ℕ) (now : Now) (job : SeenJob) (tx : SeenTx) → slice_get now.jobs at ≡ Some job → job.doing ≡ Active tx
+    → tx.phase ≡ Committing → AreTold s (length now.words) now.journal now.jobs → tx.undo.ended ≡ []
+none_ended s at now job tx stands is commits told =
+    let f = get_beside (progress_of s.script now.journal).jobs now.jobs at job told.count stands in
+    let j = told.jobs_told at f.0 job f.1 stands in
+    let doing = subst (IsDoing s (length now.journal + length (actives now.jobs)) f.0 job) is j.doing in
+    let phase = subst (IsInPhase s f.0 job.place tx) commits doing.phase in
+    phase.none
+
+-- ---- what moves
+moved : (a b x y n m k : ℕ) → b + x ≡ a + y → m + y ≡ n + x + k → n + a + k ≡ m + b
+moved a b x y n m k sums parts = omega arith
+
+module _ (s : Setting) (at from : ℕ) (old : Now) (job : SeenJob) (new : Now) (stands : slice_get old.jobs at ≡ Some job)
+    (told : AreTold s (length old.words) old.journal old.jobs) (h : AreCounted from old) where
+  -- what a job's transaction has recorded
+  abbrev part : SeenJob → ℕ
+  part x = adds tx_faults (active_of x)
+
+  -- so many faults more, in the journal and in this job
+  more_counted : (job' : SeenJob) (k : ℕ) → new.jobs ≡ slice_set old.jobs at job'
+      → sum_by entry_faults new.journal + part job' ≡ sum_by entry_faults old.journal + part job + k → CountsFaults k old.faults new.faults
+      → AreCounted from new
+  more_counted job' k jobs parts cause =
+      let total : recorded_faults old + k ≡ recorded_faults new =
+      moved (sum_by tx_faults (actives old.jobs)) (sum_by tx_faults (actives (slice_set old.jobs at job'))) (part job) (part job')
+      (sum_by entry_faults old.journal) (sum_by entry_faults new.journal) k (sum_set tx_faults old.jobs at job job' stands) parts
+      ∙ ap (λ js. sum_by entry_faults new.journal + sum_by tx_faults (actives js)) (sym jobs) in
+      subst (λ n. CountsFaults n from new.faults) total (counts_sum (recorded_faults old) k from old.faults new.faults h cause)
+
+  -- as many as before
+  still_counted : (job' : SeenJob) → new.jobs ≡ slice_set old.jobs at job' → new.journal ≡ old.journal → new.faults ≡ old.faults → part job' ≡ part job
+      → AreCounted from new
+  still_counted job' jobs journal faults same =
+      let sums : sum_by entry_faults new.journal ≡ sum_by entry_faults old.journal = ap (sum_by entry_faults) journal in
+      more_counted job' 0 jobs (omega (arith, sums, same)) faults
+
+  -- only a job changed
+  with_counted : (job' : SeenJob) → new ≡ with_job old at job' → part job' ≡ part job → AreCounted from new
+  with_counted job' is same = still_counted job' (ap (λ (n : Now). n.jobs) is) (ap (λ (n : Now). n.journal) is) (ap (λ (n : Now). n.faults) is) same
+
+  -- an entry takes over what its transaction recorded
+  entered_counted : (job' : SeenJob) (e : Entry) → new ≡ entering old at job' e → part job' ≡ 0 → entry_faults e ≡ part job → AreCounted from new
+  entered_counted job' e is none same =
+      let sums : sum_by entry_faults new.journal ≡ sum_by entry_faults old.journal + entry_faults e =
+      ap (λ (n : Now). sum_by entry_faults n.journal) is ∙ sum_by_push entry_faults old.journal e in
+      more_counted job' 0 (ap (λ (n : Now). n.jobs) is) (omega (arith, sums, none, same)) (ap (λ (n : Now). n.faults) is)
+
+  -- ---- no active transaction
+  by_idle : job.doing ≡ Idle → (answer : Turn) → IdleTurn s at old job answer new → AreCounted from new
+  by_idle is (turn.Ended end) row = with_counted (record job { doing = Ended end }) row.1 (ap (λ d. adds tx_faults (active_in d)) (sym is))
+  by_idle is turn.Went row = with_counted (beginning_job old job) row.1 (ap (λ d. adds tx_faults (active_in d)) (sym is))
+  by_idle is (turn.Busy object holder) row = absurd row
+  by_idle is turn.NoMemory row = absurd row
+
+  by_starved : job.doing ≡ Starved → (answer : Turn) → StarvedTurn at old job answer new → AreCounted from new
+  by_starved is (turn.Ended job_end.NoMemory) row =
+      with_counted (record job { doing = Ended job_end.NoMemory }) row (ap (λ d. adds tx_faults (active_in d)) (sym is))
+  by_starved is (turn.Ended job_end.Done) row = absurd row
+  by_starved is (turn.Ended (job_end.GaveUp c)) row = absurd row
+  by_starved is (turn.Ended job_end.JournalFull) row = absurd row
+  by_starved is turn.Went row = absurd row
+  by_starved is (turn.Busy object holder) row = absurd row
+  by_starved is turn.NoMemory row = absurd row
+
+  module _ (tx : SeenTx) (is : job.doing ≡ Active tx) where
+    recorded : tx_faults tx ≡ part job
+    recorded = ap (λ d. adds tx_faults (active_in d)) (sym is)
+
+    -- ---- a running one
+    call_counted : (call : Call) → Calls s at old job tx call new → AreCounted from new
+    call_counted call row =
+        let tx' = noting tx call row.reply (claims_at old tx call) row.parts in
+        let one = cond (is_fault_reply row.reply) 1 0 in
+        let replies : count_by is_fault_reply (tx.replies ++ row.reply ∷ []) ≡ count_by is_fault_reply tx.replies + one =
+        sum_by_push (λ r. cond (is_fault_reply r) 1 0) tx.replies row.reply in
+        let ended : sum_by undo_faults row.parts.undo.ended ≡ sum_by undo_faults tx.undo.ended = ap (λ (u : Records). sum_by undo_faults u.ended) row.undo in
+        let sums : sum_by entry_faults new.journal ≡ sum_by entry_faults old.journal = ap (sum_by entry_faults) row.journal in
+        let was = recorded in
+        more_counted (with_tx job row.place tx') one row.jobs (omega (arith, replies, ended, sums, was))
+        (fault_as_count (is_fault_reply row.reply) old.faults new.faults row.cause)
+
+    by_ask : (a : Ask) → AskedTurn s at old job tx a new → AreCounted from new
+    by_ask (ask.Call call) (inl row) = call_counted call row
+    by_ask (ask.Call call) (inr row) =
+        with_counted (with_tx job row.place (record tx { phase = Undoing (cause.Conflict row.object row.holder (length old.journal)) })) row.behind recorded
+    by_ask ask.Commit row =
+        let is = row.behind in
+        still_counted (with_tx job row.place (record tx { phase = Committing })) (ap (λ (n : Now). n.jobs) is) (ap (λ (n : Now). n.journal) is)
+        (ap (λ (n : Now). n.faults) is) recorded
+    by_ask ask.Abort row = with_counted (with_tx job row.place (record tx { phase = Undoing cause.Asked })) row.behind recorded
+    by_ask ask.End row = absurd row
+
+    by_running : (answer : Turn) → RunningTurn s at old job tx answer new → AreCounted from new
+    by_running turn.Went row = by_ask (asked_at s job.place) row
+    by_running turn.NoMemory row =
+        still_counted (with_tx job row.place (record tx { phase = Undoing cause.NoMemory; held = row.held })) row.jobs row.journal row.faults recorded
+    by_running (turn.Busy object holder) row = absurd row
+    by_running (turn.Ended end) row = absurd row
+
+    -- ---- one that commits
+    by_committing : tx.phase ≡ Committing → (answer : Turn) → CommittingTurn at old job tx answer new → AreCounted from new
+    by_committing commits turn.Went row =
+        let none = none_ended s at old job tx stands is commits told in
+        entered_counted (behind_commit job tx) (entry_of tx at (Committed [])) row refl
+        (ap (λ us. count_by is_fault_reply tx.replies + sum_by undo_faults us) (sym none) ∙ recorded)
+    by_committing commits (turn.Busy object holder) row = absurd row
+    by_committing commits turn.NoMemory row = absurd row
+    by_committing commits (turn.Ended end) row = absurd row
+
+    -- ---- one on its way back
+    tried_counted : Compensates s at old job tx new → AreCounted from new
+    tried_counted row =
+        let undo : Records = record { pending = row.older; ended = (row.tried, row.end) ∷ tx.undo.ended } in
+        let ended : sum_by undo_faults ((row.tried, row.end) ∷ tx.undo.ended) ≡ end_faults row.end + sum_by undo_faults tx.undo.ended =
+        sum_by-cons undo_faults (row.tried, row.end) tx.undo.ended in
+        let sums : sum_by entry_faults new.journal ≡ sum_by entry_faults old.journal = ap (sum_by entry_faults) row.journal in
+        let was = recorded in
+        more_counted (with_tx job job.place (record tx { undo = undo })) (end_faults row.end) row.jobs (omega (arith, ended, sums, was)) row.faults
+
+    by_records : (c : Cause) (pending : List Undo) → BackTurn s at old job tx c pending new → AreCounted from new
+    by_records c [] row =
+        entered_counted (behind_abort job tx c) (entry_of tx at (Aborted (record { cause = c; records = tx.undo.ended }))) row
+        (ap (adds tx_faults) (behind_abort_none job tx c)) recorded
+    by_records c (u ∷ pending) row = tried_counted row
+
+    by_undoing : (c : Cause) (answer : Turn) → UndoingTurn s at old job tx c answer new → AreCounted from new
+    by_undoing c turn.Went row = by_records c tx.undo.pending row
+    by_undoing c (turn.Busy object holder) row = absurd row
+    by_undoing c turn.NoMemory row = absurd row
+    by_undoing c (turn.Ended end) row = absurd row
+
+    by_phase : (p : Phase) → tx.phase ≡ p → (answer : Turn) → ActiveTurn s at old job tx p answer new → AreCounted from new
+    by_phase Running e answer row = by_running answer row
+    by_phase Committing e answer row = by_committing e answer row
+    by_phase (Undoing c) e answer row = by_undoing c answer row
+
+  by_doing : (d : Doing) → job.doing ≡ d → (answer : Turn) → TurnOf s at old job d answer new → AreCounted from new
+  by_doing Idle is answer row = by_idle is answer row
+  by_doing (Active tx) is answer row = by_phase tx is tx.phase refl answer row
+  by_doing Starved is answer row = by_starved is answer row
+  by_doing (Ended end) is answer row = absurd row
+
+-- a turn keeps the count
+pub turn_keeps_count : (s : Setting) (at from : ℕ) (old new : Now) (answer : Turn) → IsTurn s at old answer new
+    → AreTold s (length old.words) old.journal old.jobs → AreCounted from old → AreCounted from new
+turn_keeps_count s at from old new answer t told h = by_doing s at from old t.job new t.stands told h t.job.doing refl answer t.row

@@ -1,0 +1,93 @@
+-- What conflicts are judged by, of each job and of each entry.
+use Rattle.std.proofs.Common.{◌≡◌, ◌≢◌, ◌⊎◌, inl, inr, ℕ, zero, suc, ◌+◌, ◌-◌, ◌<◌, List, [], ◌∷◌, length, get_or, refl, ap, ap₂, sym, ◌∙◌, arith, length-set}
+use Rattle.std.specs.Prelude.{Option, slice_get}
+use Rattle.std.specs.declared.option.Option.TheVariants.{None, Some}
+use Rattle.xc_data.specs.declared.entry.Entry.{Entry}
+use Rattle.xc_data.specs.declared.entry.Outcome.{Outcome}
+use Rattle.xc_data.specs.declared.entry.Outcome.TheVariants.{Committed, Aborted}
+use Rattle.xc_text.specs.declared.script.Script.{Script}
+use Rattle.xc_script.specs.declared.ask.Ask.{Ask}
+use Rattle.xc_script.specs.declared.ask.Ask.TheVariants as ask
+use Rattle.xc_world.specs.Modes.{claims_of}
+use Rattle.xc_world.specs.Run.{Ran}
+use Rattle.xc_story.specs.Setting.{Setting}
+use Rattle.xc_story.specs.Seen.{SeenTx, SeenJob, active_of}
+use Rattle.xc_story.specs.Grounds.{Part}
+use Rattle.xc_story.specs.Progress.{Following, Progress, with_job, following_of, after_outcome, after_following, after_entry}
+use Rattle.xc_story.specs.Truth.{asked_behind, next_claims}
+use Rattle.xc_story.specs.Told.{active_part, active_parts, asked_of_tx, wanted_by}
+use Rattle.xc_turns.proofs.Lists.{get_set_other, get_inside}
+
+-- ---- active transactions by job
+abbrev read_part : Setting → ℕ → Option Following → ℕ → Option SeenJob → Option Part
+read_part s words f number None = None
+read_part s words f number (Some job) = active_part s words f number (active_of job)
+
+active_read : (s : Setting) (words number : ℕ) (fs : List Following) (jobs : List SeenJob) (j n : ℕ) → number + j ≡ n
+    → get_or (active_parts s words number fs jobs) j None ≡ read_part s words (slice_get fs j) n (slice_get jobs j)
+active_read s words number [] [] j n e = refl
+active_read s words number (f ∷ fs) [] j n e = refl
+active_read s words number [] (job ∷ jobs) zero n e =
+    ap (λ (k : ℕ). active_part s words None k (active_of job)) (let same : number ≡ n = omega arith in same)
+active_read s words number [] (job ∷ jobs) (suc j) n e = active_read s words (number + 1) [] jobs j n (omega arith)
+active_read s words number (f ∷ fs) (job ∷ jobs) zero n e =
+    ap (λ (k : ℕ). active_part s words (Some f) k (active_of job)) (let same : number ≡ n = omega arith in same)
+active_read s words number (f ∷ fs) (job ∷ jobs) (suc j) n e = active_read s words (number + 1) fs jobs j n (omega arith)
+
+-- a job's
+pub part_read : (s : Setting) (words : ℕ) (fs : List Following) (jobs : List SeenJob) (j : ℕ) (job : SeenJob) (o : Option SeenTx)
+    → slice_get jobs j ≡ Some job → active_of job ≡ o
+    → get_or (active_parts s words 1 fs jobs) j None ≡ active_part s words (slice_get fs j) (j + 1) o
+part_read s words fs jobs j job o stands is =
+    active_read s words 1 fs jobs j (j + 1) (omega arith) ∙ ap (read_part s words (slice_get fs j) (j + 1)) stands
+    ∙ ap (active_part s words (slice_get fs j) (j + 1)) is
+
+-- where a job stays, and what is told of it or nothing is there
+pub part_elsewhere : (s : Setting) (words : ℕ) (fs fs' : List Following) (jobs jobs' : List SeenJob) (j : ℕ) → slice_get jobs' j ≡ slice_get jobs j
+    → (slice_get fs' j ≡ slice_get fs j) ⊎ (slice_get jobs j ≡ None)
+    → get_or (active_parts s words 1 fs' jobs') j None ≡ get_or (active_parts s words 1 fs jobs) j None
+part_elsewhere s words fs fs' jobs jobs' j same told =
+    active_read s words 1 fs' jobs' j (j + 1) (omega arith) ∙ ap (read_part s words (slice_get fs' j) (j + 1)) same ∙ by_told told
+    ∙ sym (active_read s words 1 fs jobs j (j + 1) (omega arith))
+  where
+    by_told : (slice_get fs' j ≡ slice_get fs j) ⊎ (slice_get jobs j ≡ None)
+        → read_part s words (slice_get fs' j) (j + 1) (slice_get jobs j) ≡ read_part s words (slice_get fs j) (j + 1) (slice_get jobs j)
+    by_told (inl e) = ap (λ (f : Option Following). read_part s words f (j + 1) (slice_get jobs j)) e
+    by_told (inr none) =
+        ap (read_part s words (slice_get fs' j) (j + 1)) none ∙ sym (ap (read_part s words (slice_get fs j) (j + 1)) none)
+
+-- ---- jobs behind an entry
+-- another job stays as it is told
+jobs_behind : (script : Script) (p : Progress) (f : Following) (e : Entry) (outcome : Outcome) (j : ℕ) → j ≢ e.job - 1 → j < length p.jobs
+    → slice_get (after_outcome script p f e outcome).jobs j ≡ slice_get p.jobs j
+jobs_behind script p f e (Committed late) j ne low =
+    get_inside (with_job p.jobs e.job _) _ j (omega (arith, length-set p.jobs (e.job - 1))) ∙ get_set_other p.jobs (e.job - 1) j _ ne
+jobs_behind script p f e (Aborted report) j ne low = get_set_other p.jobs (e.job - 1) j _ ne
+
+jobs_followed : (script : Script) (p : Progress) (e : Entry) (o : Option Following) (j : ℕ) → j ≢ e.job - 1 → j < length p.jobs
+    → slice_get (after_following script p e o).jobs j ≡ slice_get p.jobs j
+jobs_followed script p e None j ne low = refl
+jobs_followed script p e (Some f) j ne low = jobs_behind script p f e e.outcome j ne low
+
+-- behind an entry another job stays as it is told
+pub jobs_elsewhere : (script : Script) (p : Progress) (e : Entry) (j : ℕ) → j ≢ e.job - 1 → j < length p.jobs
+    → slice_get (after_entry script p e).jobs j ≡ slice_get p.jobs j
+jobs_elsewhere script p e j ne low = jobs_followed script p e (following_of p e) j ne low
+
+-- ---- what the call claims that is asked next
+asked_same : (s : Setting) (o : Option Following) (tx : SeenTx) → asked_behind s.script o tx.replies ≡ asked_of_tx s o tx
+asked_same s None tx = refl
+asked_same s (Some f) tx = refl
+
+claims_same : (ran : Ran) (words : ℕ) (tx : SeenTx) (a : Ask) → ran.me ≡ tx.me → length ran.world.words ≡ words → next_claims ran a ≡ wanted_by words tx a
+claims_same ran words tx (ask.Call call) me count = ap₂ (claims_of call) me count
+claims_same ran words tx ask.Commit me count = refl
+claims_same ran words tx ask.Abort me count = refl
+claims_same ran words tx ask.End me count = refl
+
+-- where the plain machine's body has the transaction's private state, its entry wants what it wanted
+pub wanted_same : (s : Setting) (ran : Ran) (words : ℕ) (o p : Option Following) (tx : SeenTx) → ran.me ≡ tx.me → length ran.world.words ≡ words → p ≡ o
+    → next_claims ran (asked_behind s.script p tx.replies) ≡ wanted_by words tx (asked_of_tx s o tx)
+wanted_same s ran words o p tx me count e =
+    ap (λ (q : Option Following). next_claims ran (asked_behind s.script q tx.replies)) e ∙ ap (next_claims ran) (asked_same s o tx)
+    ∙ claims_same ran words tx (asked_of_tx s o tx) me count

@@ -1,0 +1,250 @@
+-- Jobs that run one after another, turn by turn.
+use Rattle.std.proofs.Common.{◌≡◌, ℕ, ◌+◌, ◌≤◌, inl, inr, List, [], ◌∷◌, ◌++◌, length, suc}
+use Rattle.std.proofs.Common.{refl, ap, sym, ◌∙◌, subst, arith, true, false, not}
+use Rattle.std.proofs.lemmas.List.Elements.{All-nil, All-cons, All-append, All-weaker}
+use Rattle.std.proofs.lemmas.Option.{get_or_from_slice_get, slice_get_within}
+use Rattle.std.specs.Prelude.{slice_get, slice_set, Option, All}
+use Rattle.std.specs.declared.option.Option.TheVariants.{None, Some}
+use mathlib.Core.Logic.{dite}
+use native.Mathlib.Decide.{ℕ_discrete}
+use Rattle.xc_data.specs.declared.entry.Cause.{Cause}
+use Rattle.xc_data.specs.declared.entry.Cause.TheVariants as cause
+use Rattle.xc_data.specs.declared.entry.Entry.{Entry}
+use Rattle.xc_data.specs.declared.entry.JobEnd.TheVariants as job_end
+use Rattle.xc_data.specs.declared.entry.Outcome.TheVariants.{Committed, Aborted}
+use Rattle.xc_data.specs.declared.entry.Turn.{Turn}
+use Rattle.xc_data.specs.declared.entry.Turn.TheVariants as turn
+use Rattle.xc_data.specs.declared.undo.Undo.{Undo}
+use Rattle.xc_text.specs.declared.script.Script.{Script}
+use Rattle.xc_script.specs.declared.ask.Ask.{Ask}
+use Rattle.xc_script.specs.declared.ask.Ask.TheVariants as ask
+use Rattle.xc_story.specs.declared.phase.Phase.{Phase}
+use Rattle.xc_story.specs.declared.phase.Phase.TheVariants.{Running, Committing, Undoing}
+use Rattle.xc_story.specs.Setting.{Setting}
+use Rattle.xc_story.specs.Truth.{AreInOrder, JobsRise, IsSerial, is_alone, is_tried_again}
+use Rattle.xc_story.specs.Seen.{SeenTx, SeenJob, Doing, Idle, Active, Starved, Ended, Now, active_in, active_of, actives, begun_count, rank_of, entering}
+use Rattle.xc_story.specs.Rows.{IsTurn, TurnOf, IdleTurn, ActiveTurn, RunningTurn, AskedTurn, CommittingTurn, UndoingTurn, BackTurn, StarvedTurn}
+use Rattle.xc_story.specs.Rows.{IsActiveAt, asked_at, entry_of, noting, claims_at, with_tx, new_tx, beginning_job, behind_commit, behind_abort}
+use Rattle.xc_story.specs.Opened.{IsOpening}
+use Rattle.xc_story.specs.Alone.{AreAlone, MeetsNobody}
+use Rattle.xc_turns.proofs.Lists.{get_cases}
+use Rattle.xc_turns.proofs.Jobs.{active_is, active_before, behind_abort_none, none_active, opened_rests}
+
+-- ---- a journal with one entry more
+order_more : (n : ℕ) (journal : List Entry) (e : Entry) → AreInOrder n journal → e.tx ≡ n + length journal + 1 → e.began ≡ n + length journal
+    → is_alone e.outcome ≡ true → AreInOrder n (journal ++ e ∷ [])
+order_more n [] e order number began alone =
+    (let h : e.tx ≡ n + 1 = number ∙ ap (λ k. k + 1) (let z : n + 0 ≡ n = omega arith in z) in h, began ∙ (let z : n + 0 ≡ n = omega arith in z), alone, tt)
+order_more n (first ∷ journal) e order number began alone =
+    let shift : n + suc (length journal) ≡ n + 1 + length journal = omega arith in
+    (order.0, order.1, order.2, order_more (n + 1) journal e order.3 (number ∙ ap (λ k. k + 1) shift) (began ∙ shift) alone)
+
+rise_more : (journal : List Entry) (e : Entry) (most : ℕ) → JobsRise journal → All (λ (x : Entry). x.job ≤ most) journal → e.job ≡ most
+    → JobsRise (journal ++ e ∷ [])
+rise_more journal e most rise before last i j a b ea eb less =
+    elim (get_cases journal e i a ea) [
+      | inl first ↦ elim (get_cases journal e j b eb) [
+        | inl second ↦ rise i j a b first second less
+        | inr second ↦
+            let P : Entry → Type 0 = λ x. x.job ≤ most in
+            let low : a.job ≤ most = subst P (get_or_from_slice_get journal i a a first) (before i a (slice_get_within journal i a first)) in
+            let top : b.job ≡ most = ap (λ (x : Entry). x.job) (sym second.1) ∙ last in
+            omega arith
+      ]
+      | inr first ↦ elim (get_cases journal e j b eb) [
+        | inl second ↦ absurd (let within = slice_get_within journal j b second in omega arith)
+        | inr second ↦ absurd (omega arith)
+      ]
+    ]
+
+-- ---- what a row leaves
+-- this is the next transaction
+abbrev IsNext : ℕ → SeenTx → Type 0
+IsNext entered tx = (tx.number ≡ entered + 1) × (tx.began ≡ entered) × MeetsNobody tx.phase
+
+-- a job's active transaction is the next
+next_of : (at : ℕ) (old : Now) (job : SeenJob) (tx : SeenTx) → slice_get old.jobs at ≡ Some job → job.doing ≡ Active tx → AreAlone old at
+    → IsNext (length old.journal) tx
+next_of at old job tx stands is alone = alone.mine tx (job, stands, ap active_in is)
+
+others_stay : (at : ℕ) (old new : Now) (was is : SeenJob) → new.jobs ≡ slice_set old.jobs at is → AreAlone old at → (j : ℕ) (tx : SeenTx)
+    → IsActiveAt new.jobs j tx → j ≡ at
+others_stay at old new was is same alone j tx active =
+    dite (ℕ_discrete j at) (λ e. e) (λ ne. alone.others j tx (active_before old.jobs at j is tx ne (subst (λ js. IsActiveAt js j tx) same active)))
+
+own_is : (at : ℕ) (old new : Now) (was is : SeenJob) (tx : SeenTx) → slice_get old.jobs at ≡ Some was → new.jobs ≡ slice_set old.jobs at is
+    → IsActiveAt new.jobs at tx → active_of is ≡ Some tx
+own_is at old new was is tx stands same active = active_is old.jobs at was stands is tx (subst (λ js. IsActiveAt js at tx) same active)
+
+-- the job stands otherwise, and nothing enters
+stays_so : (at : ℕ) (old new : Now) (was is : SeenJob) → slice_get old.jobs at ≡ Some was → new.jobs ≡ slice_set old.jobs at is
+    → new.journal ≡ old.journal → ((tx : SeenTx) → active_of is ≡ Some tx → IsNext (length old.journal) tx) → AreAlone old at → AreAlone new at
+stays_so at old new was is stands jobs journal next alone =
+    record {
+      serial = subst (λ j. IsSerial j) (sym journal) alone.serial;
+      before = subst (λ j. All (λ (e : Entry). e.job ≤ at + 1) j) (sym journal) alone.before;
+      others = others_stay at old new was is jobs alone;
+      mine = λ tx active. subst (λ (j : List Entry). IsNext (length j) tx) (sym journal) (next tx (own_is at old new was is tx stands jobs active));
+    }
+
+-- its transaction is this one
+goes_on : (at : ℕ) (old new : Now) (was is : SeenJob) (tx : SeenTx) → slice_get old.jobs at ≡ Some was → new.jobs ≡ slice_set old.jobs at is
+    → new.journal ≡ old.journal → is.doing ≡ Active tx → IsNext (length old.journal) tx → AreAlone old at → AreAlone new at
+goes_on at old new was is tx stands jobs journal has next alone =
+    stays_so at old new was is stands jobs journal
+    (λ other e. let same : tx ≡ other = let h = ap active_in has in cc in subst (IsNext (length old.journal)) same next) alone
+
+-- it has none
+rests : (at : ℕ) (old new : Now) (was is : SeenJob) → slice_get old.jobs at ≡ Some was → new.jobs ≡ slice_set old.jobs at is
+    → new.journal ≡ old.journal → active_of is ≡ None → AreAlone old at → AreAlone new at
+rests at old new was is stands jobs journal none alone =
+    stays_so at old new was is stands jobs journal (λ other e. absurd (let h : ◌≡◌ {A = Option SeenTx} None (Some other) = sym none ∙ e in cc)) alone
+
+-- its transaction enters
+enters : (at : ℕ) (old new : Now) (was is : SeenJob) (e : Entry) → slice_get old.jobs at ≡ Some was → new ≡ entering old at is e → active_of is ≡ None
+    → (e.tx ≡ length old.journal + 1) × (e.began ≡ length old.journal) × (is_alone e.outcome ≡ true) × (e.job ≡ at + 1) → AreAlone old at → AreAlone new at
+enters at old new was is e stands same none fits alone =
+    let jobs : new.jobs ≡ slice_set old.jobs at is = ap (λ (n : Now). n.jobs) same in
+    let journal : new.journal ≡ old.journal ++ e ∷ [] = ap (λ (n : Now). n.journal) same in
+    let P : Entry → Type 0 = λ x. x.job ≤ at + 1 in
+    let zero_first : length old.journal ≡ 0 + length old.journal = omega arith in
+    let serial : IsSerial (old.journal ++ e ∷ []) = record {
+      order = order_more 0 old.journal e alone.serial.order (fits.0 ∙ ap (λ n. n + 1) zero_first) (fits.1 ∙ zero_first) fits.2;
+      jobs = rise_more old.journal e (at + 1) alone.serial.jobs alone.before fits.3;
+    } in
+    let before : All P (old.journal ++ e ∷ []) =
+    All-append P old.journal (e ∷ []) alone.before (All-cons P e [] (omega (arith, fits.3)) (All-nil P)) in
+    record {
+      serial = subst (λ j. IsSerial j) (sym journal) serial;
+      before = subst (λ j. All P j) (sym journal) before;
+      others = others_stay at old new was is jobs alone;
+      mine = λ tx active. absurd (let h : ◌≡◌ {A = Option SeenTx} None (Some tx) = sym none ∙ own_is at old new was is tx stands jobs active in cc);
+    }
+
+-- ---- each row
+idle_row : (s : Setting) (at : ℕ) (old new : Now) (job : SeenJob) (answer : Turn) → slice_get old.jobs at ≡ Some job → job.doing ≡ Idle
+    → IdleTurn s at old job answer new → AreAlone old at → AreAlone new at
+idle_row s at old new job turn.Went stands is (ready, same) alone =
+    let first : length (actives old.jobs) ≡ 0 = ap length (none_active old.jobs (λ j tx active.
+    let here : IsActiveAt old.jobs at tx = subst (λ k. IsActiveAt old.jobs k tx) (alone.others j tx active) active in
+    let same_job : job ≡ here.0 = let a = here.1 in cc in
+    let h : ◌≡◌ {A = Option SeenTx} None (Some tx) = ap active_in (sym is) ∙ ap active_of same_job ∙ here.2 in cc)) in
+    let tx : SeenTx = new_tx (begun_count old + 1) (rank_of job.attempts (begun_count old + 1)) (length old.journal) job.me in
+    goes_on at old new job (beginning_job old job) tx stands (ap (λ (n : Now). n.jobs) same) (ap (λ (n : Now). n.journal) same) refl
+    (omega (arith, first), refl, tt) alone
+idle_row s at old new job (turn.Ended end) stands is (ending, same) alone =
+    rests at old new job (record job { doing = Ended end }) stands (ap (λ (n : Now). n.jobs) same) (ap (λ (n : Now). n.journal) same) refl alone
+idle_row s at old new job (turn.Busy object holder) stands is h alone = absurd h
+idle_row s at old new job turn.NoMemory stands is h alone = absurd h
+
+ask_row : (s : Setting) (at : ℕ) (old new : Now) (job : SeenJob) (tx : SeenTx) (a : Ask) → slice_get old.jobs at ≡ Some job → job.doing ≡ Active tx
+    → AskedTurn s at old job tx a new → AreAlone old at → AreAlone new at
+ask_row s at old new job tx (ask.Call call) stands is (inl c) alone =
+    let next = next_of at old job tx stands is alone in
+    let noted : SeenTx = noting tx call c.reply (claims_at old tx call) c.parts in
+    goes_on at old new job (with_tx job c.place noted) noted stands c.jobs c.journal refl next alone
+ask_row s at old new job tx (ask.Call call) stands is (inr c) alone =
+    let r = c.met.rival in absurd (r.other (alone.others r.place r.rival r.active))
+ask_row s at old new job tx ask.Commit stands is c alone =
+    let next = next_of at old job tx stands is alone in
+    let tx' : SeenTx = record tx { phase = Committing } in
+    goes_on at old new job (with_tx job c.place tx') tx' stands (ap (λ (n : Now). n.jobs) c.behind) (ap (λ (n : Now). n.journal) c.behind) refl
+    (next.0, next.1, tt) alone
+ask_row s at old new job tx ask.Abort stands is c alone =
+    let next = next_of at old job tx stands is alone in
+    let tx' : SeenTx = record tx { phase = Undoing cause.Asked } in
+    goes_on at old new job (with_tx job c.place tx') tx' stands (ap (λ (n : Now). n.jobs) c.behind) (ap (λ (n : Now). n.journal) c.behind) refl
+    (next.0, next.1, refl) alone
+ask_row s at old new job tx ask.End stands is h alone = absurd h
+
+running_row : (s : Setting) (at : ℕ) (old new : Now) (job : SeenJob) (tx : SeenTx) (answer : Turn) → slice_get old.jobs at ≡ Some job
+    → job.doing ≡ Active tx → RunningTurn s at old job tx answer new → AreAlone old at → AreAlone new at
+running_row s at old new job tx turn.Went stands is h alone = ask_row s at old new job tx (asked_at s job.place) stands is h alone
+running_row s at old new job tx turn.NoMemory stands is c alone =
+    let next = next_of at old job tx stands is alone in
+    let tx' : SeenTx = record tx { phase = Undoing cause.NoMemory; held = c.held } in
+    goes_on at old new job (with_tx job c.place tx') tx' stands c.jobs c.journal refl (next.0, next.1, refl) alone
+running_row s at old new job tx (turn.Busy object holder) stands is h alone = absurd h
+running_row s at old new job tx (turn.Ended end) stands is h alone = absurd h
+
+commit_row : (at : ℕ) (old new : Now) (job : SeenJob) (tx : SeenTx) (answer : Turn) → slice_get old.jobs at ≡ Some job → job.doing ≡ Active tx
+    → CommittingTurn at old job tx answer new → AreAlone old at → AreAlone new at
+commit_row at old new job tx turn.Went stands is same alone =
+    let next = next_of at old job tx stands is alone in
+    enters at old new job (behind_commit job tx) (entry_of tx at (Committed [])) stands same refl (next.0, next.1, refl, refl) alone
+commit_row at old new job tx turn.NoMemory stands is h alone = absurd h
+commit_row at old new job tx (turn.Busy object holder) stands is h alone = absurd h
+commit_row at old new job tx (turn.Ended end) stands is h alone = absurd h
+
+back_row : (s : Setting) (at : ℕ) (old new : Now) (job : SeenJob) (tx : SeenTx) (c : Cause) (pending : List Undo) → slice_get old.jobs at ≡ Some job
+    → job.doing ≡ Active tx → tx.phase ≡ Undoing c → BackTurn s at old job tx c pending new → AreAlone old at → AreAlone new at
+back_row s at old new job tx c [] stands is undoes same alone =
+    let next = next_of at old job tx stands is alone in
+    let lone : is_tried_again c ≡ false = subst MeetsNobody undoes next.2 in
+    enters at old new job (behind_abort job tx c) (entry_of tx at (Aborted (record { cause = c; records = tx.undo.ended }))) stands same
+    (behind_abort_none job tx c) (next.0, next.1, ap not lone, refl) alone
+back_row s at old new job tx c (u ∷ pending) stands is undoes t alone =
+    let next = next_of at old job tx stands is alone in
+    let tx' : SeenTx = record tx { undo = record { pending = t.older; ended = (t.tried, t.end) ∷ tx.undo.ended } } in
+    goes_on at old new job (with_tx job job.place tx') tx' stands t.jobs t.journal refl next alone
+
+undoing_row : (s : Setting) (at : ℕ) (old new : Now) (job : SeenJob) (tx : SeenTx) (c : Cause) (answer : Turn) → slice_get old.jobs at ≡ Some job
+    → job.doing ≡ Active tx → tx.phase ≡ Undoing c → UndoingTurn s at old job tx c answer new → AreAlone old at → AreAlone new at
+undoing_row s at old new job tx c turn.Went stands is undoes h alone = back_row s at old new job tx c tx.undo.pending stands is undoes h alone
+undoing_row s at old new job tx c turn.NoMemory stands is undoes h alone = absurd h
+undoing_row s at old new job tx c (turn.Busy object holder) stands is undoes h alone = absurd h
+undoing_row s at old new job tx c (turn.Ended end) stands is undoes h alone = absurd h
+
+active_row : (s : Setting) (at : ℕ) (old new : Now) (job : SeenJob) (tx : SeenTx) (p : Phase) (answer : Turn) → slice_get old.jobs at ≡ Some job
+    → job.doing ≡ Active tx → tx.phase ≡ p → ActiveTurn s at old job tx p answer new → AreAlone old at → AreAlone new at
+active_row s at old new job tx Running answer stands is phase h alone = running_row s at old new job tx answer stands is h alone
+active_row s at old new job tx Committing answer stands is phase h alone = commit_row at old new job tx answer stands is h alone
+active_row s at old new job tx (Undoing c) answer stands is phase h alone = undoing_row s at old new job tx c answer stands is phase h alone
+
+starved_row : (at : ℕ) (old new : Now) (job : SeenJob) (answer : Turn) → slice_get old.jobs at ≡ Some job → StarvedTurn at old job answer new
+    → AreAlone old at → AreAlone new at
+starved_row at old new job (turn.Ended job_end.NoMemory) stands same alone =
+    rests at old new job (record job { doing = Ended job_end.NoMemory }) stands (ap (λ (n : Now). n.jobs) same) (ap (λ (n : Now). n.journal) same) refl alone
+starved_row at old new job (turn.Ended job_end.Done) stands h alone = absurd h
+starved_row at old new job (turn.Ended (job_end.GaveUp c)) stands h alone = absurd h
+starved_row at old new job (turn.Ended job_end.JournalFull) stands h alone = absurd h
+starved_row at old new job turn.Went stands h alone = absurd h
+starved_row at old new job turn.NoMemory stands h alone = absurd h
+starved_row at old new job (turn.Busy object holder) stands h alone = absurd h
+
+doing_row : (s : Setting) (at : ℕ) (old new : Now) (job : SeenJob) (d : Doing) (answer : Turn) → slice_get old.jobs at ≡ Some job → job.doing ≡ d
+    → TurnOf s at old job d answer new → AreAlone old at → AreAlone new at
+doing_row s at old new job Idle answer stands is h alone = idle_row s at old new job answer stands is h alone
+doing_row s at old new job (Active tx) answer stands is h alone = active_row s at old new job tx tx.phase answer stands is refl h alone
+doing_row s at old new job Starved answer stands is h alone = starved_row at old new job answer stands h alone
+doing_row s at old new job (Ended end) answer stands is h alone = absurd h
+
+-- a turn of the one job that goes on
+pub alone_turned : (s : Setting) (at : ℕ) (old new : Now) (answer : Turn) → IsTurn s at old answer new → AreAlone old at → AreAlone new at
+alone_turned s at old new answer h alone = doing_row s at old new h.job h.job.doing answer h.stands refl h.row alone
+
+-- ---- before the first turn, and where a later job goes on
+-- a station before its first turn
+pub alone_opened : (script : Script) (now : Now) → IsOpening script now → AreAlone now 0
+alone_opened script now o =
+    let rests = λ (j : ℕ) (tx : SeenTx) (active : IsActiveAt now.jobs j tx).
+    opened_rests script script.plain.jobs j tx (subst (λ js. IsActiveAt js j tx) o.jobs active) in
+    let none : IsSerial [] = record { order = tt; jobs = λ i j a b ea eb less. cc } in
+    record {
+      serial = subst (λ j. IsSerial j) (sym o.journal) none;
+      before = subst (λ j. All (λ (e : Entry). e.job ≤ 0 + 1) j) (sym o.journal) (All-nil (λ (e : Entry). e.job ≤ 0 + 1));
+      others = λ j tx active. absurd (rests j tx active);
+      mine = λ tx active. absurd (rests 0 tx active);
+    }
+
+-- where the job has no active transaction a later one may go on
+pub alone_later : (now : Now) (at later : ℕ) → AreAlone now at → ((tx : SeenTx) → IsActiveAt now.jobs at tx → ⊥) → at ≤ later → AreAlone now later
+alone_later now at later alone rests after =
+    let none = λ (j : ℕ) (tx : SeenTx) (active : IsActiveAt now.jobs j tx).
+    rests tx (subst (λ k. IsActiveAt now.jobs k tx) (alone.others j tx active) active) in
+    record {
+      serial = alone.serial;
+      before = All-weaker (λ (e : Entry). e.job ≤ at + 1) (λ (e : Entry). e.job ≤ later + 1) (λ e le. omega arith) now.journal alone.before;
+      others = λ j tx active. absurd (none j tx active);
+      mine = λ tx active. absurd (none later tx active);
+    }

@@ -1,0 +1,228 @@
+-- Each row of the table of turns keeps the words.
+use Rattle.std.proofs.Common.{◌≡◌, ℕ, ◌+◌, length, inl, inr, Some, None, List, [], ◌∷◌, ◌++◌, refl, ap, sym, ◌∙◌, subst}
+use Rattle.std.specs.Prelude.{slice_get, slice_set}
+use Rattle.xc_compensate.specs.Records.{Records}
+use Rattle.xc_data.specs.declared.call.Call.{Call}
+use Rattle.xc_data.specs.declared.claim.Claim.{Claim}
+use Rattle.xc_data.specs.declared.entry.Cause.{Cause}
+use Rattle.xc_data.specs.declared.entry.Cause.TheVariants as cause
+use Rattle.xc_data.specs.declared.entry.Entry.{Entry}
+use Rattle.xc_data.specs.declared.entry.Outcome.TheVariants.{Committed, Aborted}
+use Rattle.xc_data.specs.declared.entry.JobEnd.TheVariants as job_end
+use Rattle.xc_data.specs.declared.entry.Turn.{Turn}
+use Rattle.xc_data.specs.declared.entry.Turn.TheVariants as turn
+use Rattle.xc_data.specs.declared.object.Object.TheVariants as object
+use Rattle.xc_data.specs.declared.undo.Undo.{Undo}
+use Rattle.xc_text.specs.declared.script.Script.{Script}
+use Rattle.xc_script.specs.declared.ask.Ask.{Ask}
+use Rattle.xc_script.specs.declared.ask.Ask.TheVariants as ask
+use Rattle.xc_script.specs.Place.{Place}
+use Rattle.xc_world.specs.Own.{Sees, Owns}
+use Rattle.xc_story.specs.declared.phase.Phase.{Phase}
+use Rattle.xc_story.specs.declared.phase.Phase.TheVariants.{Running, Committing, Undoing}
+use Rattle.xc_story.specs.Setting.{Setting}
+use Rattle.xc_story.specs.Progress.{words_left, progress_of}
+use Rattle.xc_story.specs.Seen.{SeenTx, SeenJob, Doing, Idle, Active, Starved, Ended, Now, active_in, active_of, begun_count, rank_of, with_job}
+use Rattle.xc_story.specs.Rows.{asked_at, new_tx, beginning_job, claims_at, noting, with_tx, entry_of, behind_commit, behind_abort}
+use Rattle.xc_story.specs.Rows.{Calls, Conflicts, HoldsWanting, Wants, Compensates, EntersAborted}
+use Rattle.xc_story.specs.Rows.{IdleTurn, AskedTurn, RunningTurn, CommittingTurn, BackTurn, UndoingTurn, StarvedTurn, ActiveTurn, TurnOf, IsTurn}
+use Rattle.xc_story.specs.Holding.{AreApart}
+use Rattle.xc_story.specs.Spoken.{HasSpoken, AreSpoken}
+use Rattle.xc_turns.proofs.Jobs.{behind_abort_none}
+use Rattle.xc_turns.proofs.Progressing.{progress-more}
+use Rattle.xc_turns.proofs.SpokenClaims.{sees_still, owns_still}
+use Rattle.xc_turns.proofs.SpokenTx.{begun_spoken, turned_spoken, tried_spoken, called_spoken}
+use Rattle.xc_turns.proofs.SpokenRows.{IsQuiet, Speaks, quiet_turn, commits_turn, enters_turn}
+
+-- the words of a station are those that its journal and its active transactions made
+abbrev pub KeepsWords : Setting → Now → Type 0
+KeepsWords s now = AreSpoken (progress_of s.script now.journal).words now.words now.jobs
+
+-- with the words and the journal as before
+kept_words : (s : Setting) (old new : Now) (jobs : List SeenJob) → new.jobs ≡ jobs → new.words ≡ old.words → new.journal ≡ old.journal
+    → KeepsWords s (record old { jobs = jobs }) → KeepsWords s new
+kept_words s old new jobs p q r h =
+    subst (λ j. AreSpoken (progress_of s.script j).words new.words new.jobs) (sym r)
+    (subst (λ w. AreSpoken (progress_of s.script old.journal).words w new.jobs) (sym q)
+    (subst (λ js. AreSpoken (progress_of s.script old.journal).words old.words js) (sym p) h))
+
+-- the words that a journal with one entry more leaves
+words_entered : (script : Script) (journal : List Entry) (e : Entry)
+    → (progress_of script (journal ++ e ∷ [])).words ≡ words_left (progress_of script journal).words e.calls e.outcome
+words_entered script journal e = ap (λ p. p.words) (progress-more script journal e)
+
+-- where no transaction is active nothing is said
+idle_quiet : (job : SeenJob) → active_of job ≡ None → IsQuiet job
+idle_quiet job none t e = cc (none, e)
+
+idle_speaks : (before : List ℕ) (job : SeenJob) → active_of job ≡ None → Speaks before job
+idle_speaks before job none t e = cc (none, e)
+
+active_quiet : (job : SeenJob) (tx : SeenTx) → active_of job ≡ Some tx → (tx.phase ≡ Committing → ⊥) → IsQuiet job
+active_quiet job tx is lacks t e phase = let same : t ≡ tx = cc (is, e) in lacks (ap (λ (x : SeenTx). x.phase) (sym same) ∙ phase)
+
+active_speaks : (before : List ℕ) (job : SeenJob) (tx : SeenTx) → active_of job ≡ Some tx → HasSpoken before tx → Speaks before job
+active_speaks before job tx is sp t e = let same : tx ≡ t = cc (is, e) in subst (HasSpoken before) same sp
+
+running_is_none : (p : Phase) → p ≡ Running → p ≡ Committing → ⊥
+running_is_none p is e = cc
+
+undoing_is_none : (p : Phase) (c : Cause) → p ≡ Undoing c → p ≡ Committing → ⊥
+undoing_is_none p c is e = cc
+
+module _ (s : Setting) (at : ℕ) (old : Now) (job : SeenJob) (new : Now) (stands : slice_get old.jobs at ≡ Some job) (apart : AreApart old.jobs)
+    (h : KeepsWords s old) where
+  abbrev before : List ℕ
+  before = (progress_of s.script old.journal).words
+
+  -- ---- no active transaction
+  -- from none to none
+  idles : (job' : SeenJob) → active_of job ≡ None → active_of job' ≡ None → KeepsWords s (with_job old at job')
+  idles job' was is = quiet_turn before old.words old.jobs at job stands h job' (idle_quiet job was) (idle_quiet job' is) (idle_speaks before job' is)
+
+  by_idle : job.doing ≡ Idle → (answer : Turn) → IdleTurn s at old job answer new → KeepsWords s new
+  by_idle is (turn.Ended end) row = subst (KeepsWords s) (sym row.1) (idles (record job { doing = Ended end }) (ap active_in is) refl)
+  by_idle is turn.Went row =
+      let number = begun_count old + 1 in
+      let tx = new_tx number (rank_of job.attempts number) (length old.journal) job.me in
+      let job' = beginning_job old job in
+      subst (KeepsWords s) (sym row.1) (quiet_turn before old.words old.jobs at job stands h job' (idle_quiet job (ap active_in is))
+      (active_quiet job' tx refl (running_is_none Running refl)) (active_speaks before job' tx refl (begun_spoken before _ _ _ _)))
+  by_idle is (turn.Busy object holder) row = absurd row
+  by_idle is turn.NoMemory row = absurd row
+
+  by_starved : job.doing ≡ Starved → (answer : Turn) → StarvedTurn at old job answer new → KeepsWords s new
+  by_starved is (turn.Ended job_end.NoMemory) row =
+      subst (KeepsWords s) (sym row) (idles (record job { doing = Ended job_end.NoMemory }) (ap active_in is) refl)
+  by_starved is (turn.Ended job_end.Done) row = absurd row
+  by_starved is (turn.Ended (job_end.GaveUp c)) row = absurd row
+  by_starved is (turn.Ended job_end.JournalFull) row = absurd row
+  by_starved is turn.Went row = absurd row
+  by_starved is (turn.Busy object holder) row = absurd row
+  by_starved is turn.NoMemory row = absurd row
+
+  module _ (tx : SeenTx) (is : job.doing ≡ Active tx) where
+    active : active_of job ≡ Some tx
+    active = ap active_in is
+
+    said : HasSpoken before tx
+    said = h.each at tx (job, stands, active)
+
+    -- from one that doesn't commit to one that doesn't
+    goes_on : (place : Place) (tx' : SeenTx) → (tx.phase ≡ Committing → ⊥) → (tx'.phase ≡ Committing → ⊥) → HasSpoken before tx'
+        → KeepsWords s (with_job old at (with_tx job place tx'))
+    goes_on place tx' was now sp =
+        let job' = with_tx job place tx' in
+        quiet_turn before old.words old.jobs at job stands h job' (active_quiet job tx active was) (active_quiet job' tx' refl now)
+        (active_speaks before job' tx' refl sp)
+
+    -- ---- a running one
+    turns_back : (place : Place) (c : Cause) (held : List Claim) → tx.phase ≡ Running
+        → ((word : ℕ) → Sees tx.number tx.held (object.Word word) → Sees tx.number held (object.Word word))
+        → ((word : ℕ) → Owns tx.number tx.held (object.Word word) → Owns tx.number held (object.Word word))
+        → KeepsWords s (with_job old at (with_tx job place (record tx { phase = Undoing c; held = held })))
+    turns_back place c held runs sees owns =
+        goes_on place (record tx { phase = Undoing c; held = held }) (running_is_none tx.phase runs) (undoing_is_none (Undoing c) c refl)
+        (turned_spoken before tx c held sees owns said)
+
+    call_kept : (call : Call) → tx.phase ≡ Running → Calls s at old job tx call new → KeepsWords s new
+    call_kept call runs row =
+        let tx' = noting tx call row.reply (claims_at old tx call) row.parts in
+        kept_words s old new _ row.jobs row.words row.journal
+        (goes_on row.place tx' (running_is_none tx.phase runs) (running_is_none tx'.phase runs)
+        (called_spoken before old.words old.jobs at job tx stands active runs h call row.reply row.parts row.free row.stores row.spoken))
+
+    conflict_kept : (call : Call) → tx.phase ≡ Running → Conflicts s at old job tx call new → KeepsWords s new
+    conflict_kept call runs row = subst (KeepsWords s) (sym row.behind) (turns_back row.place _ tx.held runs (λ word e. e) (λ word e. e))
+
+    by_ask : tx.phase ≡ Running → (a : Ask) → AskedTurn s at old job tx a new → KeepsWords s new
+    by_ask runs (ask.Call call) (inl row) = call_kept call runs row
+    by_ask runs (ask.Call call) (inr row) = conflict_kept call runs row
+    by_ask runs ask.Commit row =
+        subst (KeepsWords s) (sym row.behind) (commits_turn before old.words old.jobs at job stands h tx active apart runs
+        (with_tx job row.place (record tx { phase = Committing })) refl)
+    by_ask runs ask.Abort row = subst (KeepsWords s) (sym row.behind) (turns_back row.place cause.Asked tx.held runs (λ word e. e) (λ word e. e))
+    by_ask runs ask.End row = absurd row
+
+    held_still : (a : Ask) (held : List Claim) → HoldsWanting old at tx a held → (word : ℕ) → Sees tx.number tx.held (object.Word word)
+        → Sees tx.number held (object.Word word)
+    held_still (ask.Call call) held (inl same) word e = subst (λ cs. Sees tx.number cs (object.Word word)) (sym same) e
+    held_still (ask.Call call) held (inr more) word e =
+        subst (λ cs. Sees tx.number cs (object.Word word)) (sym more.1) (sees_still tx.number tx.held (claims_at old tx call) (object.Word word) e)
+    held_still ask.Commit held same word e = subst (λ cs. Sees tx.number cs (object.Word word)) (sym same) e
+    held_still ask.Abort held same word e = subst (λ cs. Sees tx.number cs (object.Word word)) (sym same) e
+    held_still ask.End held same word e = subst (λ cs. Sees tx.number cs (object.Word word)) (sym same) e
+
+    owned_still : (a : Ask) (held : List Claim) → HoldsWanting old at tx a held → (word : ℕ) → Owns tx.number tx.held (object.Word word)
+        → Owns tx.number held (object.Word word)
+    owned_still (ask.Call call) held (inl same) word e = subst (λ cs. Owns tx.number cs (object.Word word)) (sym same) e
+    owned_still (ask.Call call) held (inr more) word e =
+        subst (λ cs. Owns tx.number cs (object.Word word)) (sym more.1) (owns_still tx.number tx.held (claims_at old tx call) (object.Word word) e)
+    owned_still ask.Commit held same word e = subst (λ cs. Owns tx.number cs (object.Word word)) (sym same) e
+    owned_still ask.Abort held same word e = subst (λ cs. Owns tx.number cs (object.Word word)) (sym same) e
+    owned_still ask.End held same word e = subst (λ cs. Owns tx.number cs (object.Word word)) (sym same) e
+
+    want_kept : (a : Ask) → tx.phase ≡ Running → (row : Wants s at old job tx new) → HoldsWanting old at tx a row.held → KeepsWords s new
+    want_kept a runs row holds =
+        kept_words s old new _ row.jobs row.words row.journal
+        (turns_back row.place cause.NoMemory row.held runs (held_still a row.held holds) (owned_still a row.held holds))
+
+    by_running : tx.phase ≡ Running → (answer : Turn) → RunningTurn s at old job tx answer new → KeepsWords s new
+    by_running runs turn.Went row = by_ask runs (asked_at s job.place) row
+    by_running runs turn.NoMemory row = want_kept (asked_at s job.place) runs row row.holds
+    by_running runs (turn.Busy object holder) row = absurd row
+    by_running runs (turn.Ended end) row = absurd row
+
+    -- ---- one that commits
+    by_committing : tx.phase ≡ Committing → (answer : Turn) → CommittingTurn at old job tx answer new → KeepsWords s new
+    by_committing commits turn.Went row =
+        let e = entry_of tx at (Committed []) in
+        subst (KeepsWords s) (sym row) (subst (λ ws. AreSpoken ws old.words (slice_set old.jobs at (behind_commit job tx)))
+        (sym (words_entered s.script old.journal e))
+        (enters_turn before old.words old.jobs at job stands h tx active apart commits (behind_commit job tx) refl))
+    by_committing commits (turn.Busy object holder) row = absurd row
+    by_committing commits turn.NoMemory row = absurd row
+    by_committing commits (turn.Ended end) row = absurd row
+
+    -- ---- one on its way back
+    abort_kept : (c : Cause) → tx.phase ≡ Undoing c → EntersAborted at old job tx c new → KeepsWords s new
+    abort_kept c undoes row =
+        let e = entry_of tx at (Aborted (record { cause = c; records = tx.undo.ended })) in
+        let job' = behind_abort job tx c in
+        let none = behind_abort_none job tx c in
+        subst (KeepsWords s) (sym row) (subst (λ ws. AreSpoken ws old.words (slice_set old.jobs at job')) (sym (words_entered s.script old.journal e))
+        (quiet_turn before old.words old.jobs at job stands h job' (active_quiet job tx active (undoing_is_none tx.phase c undoes))
+        (idle_quiet job' none) (idle_speaks before job' none)))
+
+    tried_kept : (c : Cause) → tx.phase ≡ Undoing c → Compensates s at old job tx new → KeepsWords s new
+    tried_kept c undoes row =
+        let undo : Records = record { pending = row.older; ended = (row.tried, row.end) ∷ tx.undo.ended } in
+        kept_words s old new _ row.jobs row.words row.journal
+        (goes_on job.place (record tx { undo = undo }) (undoing_is_none tx.phase c undoes) (undoing_is_none tx.phase c undoes)
+        (tried_spoken before tx undo said))
+
+    by_records : (c : Cause) → tx.phase ≡ Undoing c → (pending : List Undo) → BackTurn s at old job tx c pending new → KeepsWords s new
+    by_records c undoes [] row = abort_kept c undoes row
+    by_records c undoes (u ∷ pending) row = tried_kept c undoes row
+
+    by_undoing : (c : Cause) → tx.phase ≡ Undoing c → (answer : Turn) → UndoingTurn s at old job tx c answer new → KeepsWords s new
+    by_undoing c undoes turn.Went row = by_records c undoes tx.undo.pending row
+    by_undoing c undoes (turn.Busy object holder) row = absurd row
+    by_undoing c undoes turn.NoMemory row = absurd row
+    by_undoing c undoes (turn.Ended end) row = absurd row
+
+    by_phase : (p : Phase) → tx.phase ≡ p → (answer : Turn) → ActiveTurn s at old job tx p answer new → KeepsWords s new
+    by_phase Running e answer row = by_running e answer row
+    by_phase Committing e answer row = by_committing e answer row
+    by_phase (Undoing c) e answer row = by_undoing c e answer row
+
+  by_doing : (d : Doing) → job.doing ≡ d → (answer : Turn) → TurnOf s at old job d answer new → KeepsWords s new
+  by_doing Idle is answer row = by_idle is answer row
+  by_doing (Active tx) is answer row = by_phase tx is tx.phase refl answer row
+  by_doing Starved is answer row = by_starved is answer row
+  by_doing (Ended end) is answer row = absurd row
+
+-- a turn keeps the words
+pub turn_keeps_words : (s : Setting) (at : ℕ) (old new : Now) (answer : Turn) → IsTurn s at old answer new → AreApart old.jobs → KeepsWords s old
+    → KeepsWords s new
+turn_keeps_words s at old new answer t apart h = by_doing s at old t.job new t.stands apart h t.job.doing refl answer t.row

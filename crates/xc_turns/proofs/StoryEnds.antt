@@ -1,0 +1,164 @@
+-- A transaction enters the journal, and its job goes on behind it.
+use Rattle.std.proofs.Common.{◌≡◌, ℕ, ◌+◌, ◌≤◌, List, [], ◌∷◌, ◌++◌, length, refl, ap, sym, ◌∙◌, subst, arith, length-append, length-set}
+use Rattle.std.specs.Prelude.{Option, slice_get, slice_set, unwrap_or}
+use Rattle.std.specs.declared.option.Option.TheVariants.{None, Some}
+use Rattle.std.proofs.lemmas.List.Sorted.{length_permutation}
+use Rattle.xc_data.specs.declared.entry.Cause.{Cause}
+use Rattle.xc_data.specs.declared.entry.Cause.TheVariants as cause
+use Rattle.xc_data.specs.declared.entry.Entry.{Entry}
+use Rattle.xc_script.specs.Ask.{Job, Walk}
+use Rattle.xc_script.specs.Place.{at_begin}
+use Rattle.xc_story.specs.declared.phase.Attempts.{Attempts}
+use Rattle.xc_story.specs.declared.phase.Phase.TheVariants.{Committing}
+use Rattle.xc_story.specs.Setting.{Setting}
+use Rattle.xc_story.specs.Progress.{Following, Progress, after_entry, following_abort, progress_of}
+use Rattle.xc_story.specs.Truth.{IsTrueEntry}
+use Rattle.xc_story.specs.Seen.{SeenTx, SeenJob, Active, Idle, active_of}
+use Rattle.xc_story.specs.Rows.{attempts_with, behind_abort, behind_commit, entry_of}
+use Rattle.xc_story.specs.Told.{AreAttempts, IsCommitting, IsDoing, IsInPhase, IsJobTold, IsUnderway, active_begin, begins_of, entry_begin}
+use Rattle.xc_turns.proofs.Lists.{get_set_same, get_set_other}
+use Rattle.xc_turns.proofs.Progressing.{progress-more, true-more}
+use Rattle.xc_turns.proofs.StoryBegins.{begins_count, begins_entered, begins_moved}
+use Rattle.xc_turns.proofs.StoryJobs.{AreJobsTold, AreToldBut, begun_in, told_in_place}
+use Rattle.xc_turns.proofs.StoryRows.{attempts_count}
+use Rattle.xc_turns.proofs.StoryEntries.{aborted_by, gone_on}
+
+-- ---- an entry behind the journal
+-- all is told behind it, where its job is
+pub enters : (s : Setting) (journal : List Entry) (jobs : List SeenJob) (at : ℕ) (job next : SeenJob) (tx : SeenTx) (e : Entry) (f g : Following)
+    → slice_get jobs at ≡ Some job → active_of job ≡ Some tx → active_of next ≡ None → entry_begin e ≡ active_begin tx
+    → slice_get (progress_of s.script journal).jobs at ≡ Some f
+    → (after_entry s.script (progress_of s.script journal) e).jobs ≡ slice_set (progress_of s.script journal).jobs at g
+    → IsTrueEntry s (progress_of s.script journal) e → IsJobTold s (begun_in journal jobs) (length journal + 1) g next
+    → AreToldBut s journal jobs → AreToldBut s (journal ++ e ∷ []) (slice_set jobs at next)
+enters s journal jobs at job next tx e f g stands some none same got leads one mine told =
+    let p = progress_of s.script journal in
+    let fs = p.jobs in
+    let n = begun_in journal jobs in
+    let next_jobs = slice_set jobs at next in
+    let more = begins_entered journal jobs at job next tx e stands some none same in
+    let length_is : length (journal ++ e ∷ []) ≡ length journal + 1 = length-append journal (e ∷ []) in
+    let as_many : length (begins_of (journal ++ e ∷ []) next_jobs) ≡ length (begins_of journal jobs) =
+    length_permutation (begins_of journal jobs) (begins_of (journal ++ e ∷ []) next_jobs) more in
+    let count : begun_in (journal ++ e ∷ []) next_jobs ≡ n =
+    sym (begins_count (journal ++ e ∷ []) next_jobs) ∙ as_many ∙ begins_count journal jobs in
+    let led : (progress_of s.script (journal ++ e ∷ [])).jobs ≡ slice_set fs at g = ap (λ (q : Progress). q.jobs) (progress-more s.script journal e) ∙ leads in
+    let all : AreJobsTold s n (length journal + 1) (slice_set fs at g) next_jobs =
+    told_in_place s n n (length journal) (length journal + 1) fs (slice_set fs at g) jobs at job next g (omega arith) (omega arith) stands
+    (get_set_same fs at f g got) (λ j ne. get_set_other fs at j g ne) mine told.jobs_told in
+    record {
+      entries = true-more s journal e told.entries one;
+      count = ap length led ∙ length-set fs at g ∙ told.count ∙ sym (length-set jobs at next);
+      jobs_told = subst (λ gs. AreJobsTold s (begun_in (journal ++ e ∷ []) next_jobs) (length (journal ++ e ∷ [])) gs next_jobs) (sym led)
+          (subst (λ k. AreJobsTold s k (length (journal ++ e ∷ [])) (slice_set fs at g) next_jobs) (sym count)
+          (subst (λ k. AreJobsTold s n k (slice_set fs at g) next_jobs) (sym length_is) all));
+      begins = begins_moved journal (journal ++ e ∷ []) (begins_of journal jobs) (begins_of (journal ++ e ∷ []) next_jobs) more (omega arith) told.begins;
+      few = subst (λ k. k ≤ 10000) (sym count) told.few;
+    }
+
+-- ---- its job behind it
+same_job : (a b : Job) → a.block ≡ b.block → a.next ≡ b.next → a.variables ≡ b.variables → a ≡ b
+same_job a b block next variables = λ i. record { block = block i; next = next i; variables = variables i }
+
+-- behind a commit
+pub committed_told : (s : Setting) (begun entered led : ℕ) (f : Following) (job : SeenJob) (tx : SeenTx) → job.doing ≡ Active tx → tx.phase ≡ Committing
+    → led ≡ entered → IsJobTold s begun entered f job → IsJobTold s begun (entered + 1) (gone_on s.script led f tx) (behind_commit job tx)
+committed_told s begun entered led f job tx active commits count told =
+    let under : IsUnderway s f job.place tx = subst (IsDoing s begun f job) active told.doing in
+    let committing : IsCommitting s f job.place tx = subst (IsInPhase s f job.place tx) commits under.phase in
+    let g = gone_on s.script led f tx in
+    let passed_job : Job = record { block = job.place.block; next = job.place.next + 1; variables = job.place.variables } in
+    let same : passed_job ≡ g.job = same_job passed_job g.job under.standing.block (ap (λ n. n + 1) under.standing.next)
+    (committing.settled.variables ∙ ap (λ (w : Walk). w.variables) committing.ahead) in
+    record {
+      block = told.block;
+      fresh = refl;
+      since = omega arith;
+      attempts = (refl, refl);
+      few = omega arith;
+      doing = (refl, ap at_begin same);
+    }
+
+-- the same attempts
+attempts_same : (f g : Following) (o : Option Attempts) → g.first ≡ f.first → g.failed ≡ f.failed → AreAttempts f o → AreAttempts g o
+attempts_same f g None first failed are = (first ∙ are.0, failed ∙ are.1)
+attempts_same f g (Some a) first failed are = (first ∙ are.0, ap length failed ∙ are.1, are.2, are.3, failed ∙ are.4)
+
+-- behind an abort that the script asked
+asked_told : (s : Setting) (begun entered led : ℕ) (f : Following) (job : SeenJob) (tx : SeenTx) (e : Entry) → led ≡ entered
+    → IsUnderway s f job.place tx → IsJobTold s begun entered f job
+    → IsJobTold s begun (entered + 1) (following_abort led f e cause.Asked) (behind_abort job tx cause.Asked)
+asked_told s begun entered led f job tx e count under told =
+    let passed_job : Job = record { block = job.place.block; next = job.place.next + 1; variables = job.place.begun } in
+    let next : Job = record f.job { next = f.job.next + 1 } in
+    let same : passed_job ≡ next = same_job passed_job next under.standing.block (ap (λ n. n + 1) under.standing.next) under.standing.begun in
+    record {
+      block = told.block;
+      fresh = told.fresh;
+      since = omega arith;
+      attempts = (refl, refl);
+      few = omega arith;
+      doing = (refl, ap at_begin same);
+    }
+
+-- behind one for want of memory
+wanted_told : (s : Setting) (begun entered led : ℕ) (f : Following) (job : SeenJob) (tx : SeenTx) (e : Entry) → led ≡ entered
+    → IsUnderway s f job.place tx → IsJobTold s begun entered f job
+    → IsJobTold s begun (entered + 1) (following_abort led f e cause.NoMemory) (behind_abort job tx cause.NoMemory)
+wanted_told s begun entered led f job tx e count under told =
+    let g = following_abort led f e cause.NoMemory in
+    record {
+      block = told.block;
+      fresh = told.fresh;
+      since = omega arith;
+      attempts = attempts_same f g job.attempts refl refl told.attempts;
+      few = told.few;
+      doing = (refl, under.left);
+    }
+
+-- an attempt more that is to be tried again
+abbrev tried_again : ℕ → Following → ℕ → Cause → Following
+tried_again led f number c = record f { first = Some (unwrap_or f.first number); failed = f.failed ++ c ∷ []; since = led + 1 }
+
+abbrev behind_attempt : SeenJob → SeenTx → Cause → SeenJob
+behind_attempt job tx c =
+    record job {
+      place = at_begin (record { block = job.place.block; next = job.place.next; variables = job.place.begun });
+      attempts = Some (attempts_with job.attempts tx c);
+      doing = Idle;
+    }
+
+tried_told : (s : Setting) (begun entered led : ℕ) (f : Following) (job : SeenJob) (tx : SeenTx) (c : Cause) → led ≡ entered
+    → IsUnderway s f job.place tx → IsJobTold s begun entered f job
+    → IsJobTold s begun (entered + 1) (tried_again led f tx.number c) (behind_attempt job tx c)
+tried_told s begun entered led f job tx c count under told =
+    let stood : Job = record { block = job.place.block; next = job.place.next; variables = job.place.begun } in
+    let same : stood ≡ f.job = same_job stood f.job under.standing.block under.standing.next under.standing.begun in
+    let longer : length (f.failed ++ c ∷ []) ≡ length f.failed + 1 = length-append f.failed (c ∷ []) in
+    record {
+      block = told.block;
+      fresh = told.fresh;
+      since = omega arith;
+      attempts = (ap Some (sym under.rank), longer ∙ ap (λ n. n + 1) (attempts_count f job.attempts told.attempts), omega arith, f.failed, refl);
+      few = let lt = under.attempts in omega arith;
+      doing = (under.goes_on, ap at_begin same);
+    }
+
+aborted_under : (s : Setting) (begun entered led at : ℕ) (f : Following) (job : SeenJob) (tx : SeenTx) (c : Cause) → led ≡ entered
+    → IsUnderway s f job.place tx → IsJobTold s begun entered f job
+    → IsJobTold s begun (entered + 1) (following_abort led f (entry_of tx at (aborted_by c tx)) c) (behind_abort job tx c)
+aborted_under s begun entered led at f job tx cause.Asked count under told =
+    asked_told s begun entered led f job tx (entry_of tx at (aborted_by cause.Asked tx)) count under told
+aborted_under s begun entered led at f job tx cause.NoMemory count under told =
+    wanted_told s begun entered led f job tx (entry_of tx at (aborted_by cause.NoMemory tx)) count under told
+aborted_under s begun entered led at f job tx (cause.Conflict object holder now) count under told =
+    tried_told s begun entered led f job tx (cause.Conflict object holder now) count under told
+aborted_under s begun entered led at f job tx (cause.Revoked object by now) count under told =
+    tried_told s begun entered led f job tx (cause.Revoked object by now) count under told
+
+-- behind an abort
+pub aborted_told : (s : Setting) (begun entered led at : ℕ) (f : Following) (job : SeenJob) (tx : SeenTx) (c : Cause) → job.doing ≡ Active tx
+    → led ≡ entered → IsJobTold s begun entered f job
+    → IsJobTold s begun (entered + 1) (following_abort led f (entry_of tx at (aborted_by c tx)) c) (behind_abort job tx c)
+aborted_told s begun entered led at f job tx c active count told =
+    aborted_under s begun entered led at f job tx c count (subst (IsDoing s begun f job) active told.doing) told

@@ -1,0 +1,181 @@
+-- The entry of a transaction that ends is true behind a true journal, and what the journal leads to with it.
+use Rattle.std.proofs.Common.{◌≡◌, inl, ℕ, ◌+◌, ◌-◌, ◌<◌, ◌≤◌, Bool, true, false, IsTrue, List, [], ◌∷◌, ◌++◌, length, map, refl, ap, sym, ◌∙◌, subst}
+use Rattle.std.proofs.Common.{arith}
+use Rattle.std.proofs.Common.{append-nil}
+use Rattle.std.specs.Prelude.{slice_get, slice_set, if◌then◌else◌}
+use Rattle.std.specs.declared.option.Option.TheVariants.{Some}
+use Rattle.xc_data.specs.declared.call.Call.{Call}
+use Rattle.xc_data.specs.declared.call.LateCall.{LateCall}
+use Rattle.xc_data.specs.declared.claim.Claim.{Claim}
+use Rattle.xc_data.specs.declared.entry.Cause.{Cause}
+use Rattle.xc_data.specs.declared.entry.Cause.TheVariants as cause
+use Rattle.xc_data.specs.declared.entry.Outcome.{Outcome}
+use Rattle.xc_data.specs.declared.entry.Outcome.TheVariants.{Committed, Aborted}
+use Rattle.xc_data.specs.declared.undo.Undo.{Undo}
+use Rattle.xc_text.specs.declared.script.Script.{Script}
+use Rattle.xc_script.specs.declared.ask.Ask.{Ask}
+use Rattle.xc_script.specs.declared.ask.Ask.TheVariants as ask
+use Rattle.xc_script.specs.Ask.{asks, passed}
+use Rattle.xc_script.specs.Place.{Place}
+use Rattle.xc_world.specs.Ends.{AreLegal, Ending}
+use Rattle.xc_world.specs.Run.{Ran, late_asked_of, lates, lates_fit}
+use Rattle.xc_story.specs.declared.phase.Phase.{Phase}
+use Rattle.xc_story.specs.declared.phase.Phase.TheVariants.{Committing, Undoing}
+use Rattle.xc_story.specs.Setting.{Setting}
+use Rattle.xc_story.specs.WordCalls.{AreWordReplies}
+use Rattle.xc_story.specs.Progress.{Following, Progress, after_entry, after_following, following_abort, following_of, kept_of}
+use Rattle.xc_story.specs.Progress.{started_blocks, started_job, untried}
+use Rattle.xc_story.specs.Truth.{AreLeft, AreRecords, IsHeldAt, IsPlayed, IsTrueEntry, is_tried_again, next_of}
+use Rattle.xc_story.specs.Seen.{SeenTx}
+use Rattle.xc_story.specs.Rows.{entry_of}
+use Rattle.xc_story.specs.Told.{IsCommitting, IsInPhase, IsUndoing, IsUnderway, asked_of_tx}
+use Rattle.xc_story.specs.Played.{HoldsFor, IsPlayedSoFar, ran_behind}
+
+-- ---- the entry of the job in one place
+-- the number behind a place leads back to it
+pub place_of_number : (at : ℕ) → at + 1 - 1 ≡ at
+place_of_number at = omega arith
+
+-- its job is the one in that place
+pub entry_following : (p : Progress) (at : ℕ) (tx : SeenTx) (outcome : Outcome) (f : Following) → slice_get p.jobs at ≡ Some f
+    → following_of p (entry_of tx at outcome) ≡ Some f
+entry_following p at tx outcome f got = ap (slice_get p.jobs) (place_of_number at) ∙ got
+
+-- ---- a commit
+commit_played : (s : Setting) (words : ℕ) (p : Progress) (at : ℕ) (tx : SeenTx) (next : Ask) → tx.phase ≡ Committing → IsPlayedSoFar s words p at tx
+    → IsPlayed p next (entry_of tx at (Committed []))
+commit_played s words p at tx next commits so =
+    let ran = ran_behind p at tx in
+    record {
+      fits = so.fits;
+      replies = so.replies;
+      held = subst (λ (f : Phase). HoldsFor ran (asked_of_tx s (slice_get p.jobs at) tx) f tx.held) commits so.holds;
+      outcome = record {
+        ends = ap (λ (calls : List LateCall). (lates ran.world (late_asked_of calls [])).ends) so.late;
+        late_fits = subst (λ (calls : List LateCall). IsTrue (lates_fit ran.world (late_asked_of calls []))) (sym so.late) refl;
+      };
+    }
+
+-- the entry of a commit is true behind a true journal
+pub commit_true : (s : Setting) (words : ℕ) (p : Progress) (f : Following) (at : ℕ) (place : Place) (tx : SeenTx) → slice_get p.jobs at ≡ Some f
+    → tx.phase ≡ Committing → IsUnderway s f place tx → tx.began ≤ p.entered → AreWordReplies p.words tx.calls tx.replies
+    → (IsTrue s.tells → IsPlayedSoFar s words p at tx) → IsTrueEntry s p (entry_of tx at (Committed []))
+commit_true s words p f at place tx got commits under began said played =
+    let committing : IsCommitting s f place tx = subst (IsInPhase s f place tx) commits under.phase in
+    record {
+      following = f;
+      numbered = omega arith;
+      started = entry_following p at tx (Committed []) f got;
+      entry = record {
+        story = record {
+          goes_on = under.goes_on;
+          left = under.left;
+          since = under.since;
+          began = began;
+          rank = under.rank;
+          failures = let lt = under.attempts in omega arith;
+          calls = under.asked;
+          asked = (ap asks (sym committing.ahead) ∙ committing.asked, ap length (sym under.none_kept));
+        };
+        words = said;
+        played = λ t. commit_played s words p at tx (next_of s.script f tx.replies) commits (played t);
+      };
+    }
+
+none_started : (calls : List Call) → started_blocks calls [] ≡ []
+none_started [] = refl
+none_started (c ∷ calls) = refl
+
+-- the job behind its commit
+abbrev pub gone_on : Script → ℕ → Following → SeenTx → Following
+gone_on script entered f tx = untried f.block (passed script f.job tx.replies) (entered + 1)
+
+-- it goes on in its place behind a commit
+pub commit_leads : (script : Script) (p : Progress) (f : Following) (at : ℕ) (tx : SeenTx) → slice_get p.jobs at ≡ Some f
+    → (after_entry script p (entry_of tx at (Committed []))).jobs ≡ slice_set p.jobs at (gone_on script p.entered f tx)
+commit_leads script p f at tx got =
+    let e = entry_of tx at (Committed []) in
+    let g = gone_on script p.entered f tx in
+    let more = started_job script (passed script f.job tx.replies) (p.entered + 1) in
+    ap (λ o. (after_following script p e o).jobs) (entry_following p at tx (Committed []) f got)
+    ∙ ap (λ bs. slice_set p.jobs (at + 1 - 1) g ++ map more bs) (none_started (kept_of tx.calls tx.replies))
+    ∙ append-nil (slice_set p.jobs (at + 1 - 1) g) ∙ ap (λ i. slice_set p.jobs i g) (place_of_number at)
+
+-- ---- an abort
+-- its outcome
+abbrev pub aborted_by : Cause → SeenTx → Outcome
+aborted_by c tx = Aborted (record { cause = c; records = tx.undo.ended })
+
+held_back : (ran : Ran) (next : Ask) (c : Cause) (held : List Claim) → HoldsFor ran next (Undoing c) held → IsHeldAt ran next c held
+held_back ran next cause.Asked held h = h
+held_back ran next (cause.Conflict object holder at) held h = h
+held_back ran next (cause.Revoked object by at) held h = h
+held_back ran next cause.NoMemory held h = h
+
+none_left_by : (ran : Ran) (tx : ℕ) (next : Ask) → AreLeft ran tx next []
+none_left_by ran tx (ask.Call call) = inl refl
+none_left_by ran tx ask.Commit = refl
+none_left_by ran tx ask.Abort = refl
+none_left_by ran tx ask.End = refl
+
+records_are : (ran : Ran) (tx : ℕ) (next : Ask) (c : Cause) (records : List Undo) → records ≡ ran.trail → AreRecords ran tx next c records
+records_are ran tx next cause.Asked records e = e
+records_are ran tx next (cause.Conflict object holder at) records e = e
+records_are ran tx next (cause.Revoked object by at) records e = e
+records_are ran tx next cause.NoMemory records e = ([], none_left_by ran tx next, e ∙ sym (append-nil ran.trail))
+
+abort_played : (s : Setting) (words : ℕ) (p : Progress) (f : Following) (at : ℕ) (tx : SeenTx) (c : Cause) → slice_get p.jobs at ≡ Some f
+    → tx.phase ≡ Undoing c → tx.undo.pending ≡ [] → IsPlayedSoFar s words p at tx
+    → IsPlayed p (next_of s.script f tx.replies) (entry_of tx at (aborted_by c tx))
+abort_played s words p f at tx c got undoes none so =
+    let ran = ran_behind p at tx in
+    let next = next_of s.script f tx.replies in
+    let trail : ran.trail ≡ map (λ (r : Ending). r.0) tx.undo.ended =
+    so.trail ∙ ap (λ (us : List Undo). us ++ map (λ (r : Ending). r.0) tx.undo.ended) none in
+    let asked : asked_of_tx s (slice_get p.jobs at) tx ≡ next = ap (λ o. asked_of_tx s o tx) got in
+    let holds = subst (λ (h : Phase). HoldsFor ran (asked_of_tx s (slice_get p.jobs at) tx) h tx.held) undoes so.holds in
+    record {
+      fits = so.fits;
+      replies = so.replies;
+      held = held_back ran next c tx.held (subst (λ a. HoldsFor ran a (Undoing c) tx.held) asked holds);
+      outcome = records_are ran tx.number next c (map (λ (r : Ending). r.0) tx.undo.ended) (sym trail);
+    }
+
+few_tried : (b : Bool) (n m : ℕ) → n < m → (if b then n + 1 else n) ≤ m
+few_tried true n m lt = omega arith
+few_tried false n m lt = omega arith
+
+-- the entry of an abort is true behind a true journal
+pub abort_true : (s : Setting) (words : ℕ) (p : Progress) (f : Following) (at : ℕ) (place : Place) (tx : SeenTx) (c : Cause) → slice_get p.jobs at ≡ Some f
+    → tx.phase ≡ Undoing c → tx.undo.pending ≡ [] → IsUnderway s f place tx → tx.began ≤ p.entered → AreWordReplies p.words tx.calls tx.replies
+    → (IsTrue s.tells → IsPlayedSoFar s words p at tx) → IsTrueEntry s p (entry_of tx at (aborted_by c tx))
+abort_true s words p f at place tx c got undoes none under began said played =
+    let undoing : IsUndoing s f tx c = subst (IsInPhase s f place tx) undoes under.phase in
+    record {
+      following = f;
+      numbered = omega arith;
+      started = entry_following p at tx (aborted_by c tx) f got;
+      entry = record {
+        story = record {
+          goes_on = under.goes_on;
+          left = under.left;
+          since = under.since;
+          began = began;
+          rank = under.rank;
+          failures = few_tried (is_tried_again c) (length f.failed) s.rules.attempts under.attempts;
+          calls = under.asked;
+          asked = (undoing.caused, subst (λ (us : List Undo). AreLegal s.rules.undo_tries (length us + 1) tx.undo.ended) none undoing.legal);
+        };
+        words = said;
+        played = λ t. abort_played s words p f at tx c got undoes none (played t);
+      };
+    }
+
+-- its job goes on in its place behind an abort
+pub abort_leads : (script : Script) (p : Progress) (f : Following) (at : ℕ) (tx : SeenTx) (c : Cause) → slice_get p.jobs at ≡ Some f
+    → (after_entry script p (entry_of tx at (aborted_by c tx))).jobs
+    ≡ slice_set p.jobs at (following_abort p.entered f (entry_of tx at (aborted_by c tx)) c)
+abort_leads script p f at tx c got =
+    let e = entry_of tx at (aborted_by c tx) in
+    ap (λ o. (after_following script p e o).jobs) (entry_following p at tx (aborted_by c tx) f got)
+    ∙ ap (λ i. slice_set p.jobs i (following_abort p.entered f e c)) (place_of_number at)

@@ -1,0 +1,142 @@
+-- The stories of all jobs, where one job goes on in its place.
+use Rattle.std.proofs.Common.{◌≡◌, ◌≢◌, ℕ, ◌+◌, ◌<◌, ◌≤◌, List, ◌∷◌, ◌++◌, length, map, suc, refl, ap, sym, ◌∙◌, subst, arith, length-set}
+use Rattle.std.specs.Prelude.{slice_get, slice_set}
+use Rattle.std.specs.declared.option.Option.TheVariants.{None, Some}
+use Rattle.std.specs.Option.{option_map}
+use Rattle.std.proofs.lemmas.List.Sorted.{length_permutation}
+use mathlib.Core.Logic.{dite}
+use native.Mathlib.Decide.{ℕ_discrete}
+use Rattle.xc_data.specs.declared.entry.Entry.{Entry}
+use Rattle.xc_data.specs.declared.entry.JobEnd.{JobEnd}
+use Rattle.xc_data.specs.declared.entry.JobEnd.TheVariants as job_end
+use Rattle.xc_story.specs.Setting.{Setting}
+use Rattle.xc_story.specs.Grounds.{AreGrounded}
+use Rattle.xc_story.specs.Progress.{Following, opening_progress, progress_of}
+use Rattle.xc_story.specs.Truth.{AreTrue, parts_of}
+use Rattle.xc_story.specs.Ending.{IsEnd}
+use Rattle.xc_story.specs.Seen.{SeenTx, SeenJob, Doing, Idle, Active, Starved, Ended, active_of, actives}
+use Rattle.xc_story.specs.Told.{AreTold, AreBegins, IsDoing, IsJobTold, active_begin, active_parts, begins_of, entry_begin}
+use Rattle.xc_turns.proofs.Lists.{get_beside, get_set_same, get_set_other}
+use Rattle.xc_turns.proofs.StoryBegins.{begins_begun, begins_count, begins_moved, begins_stay, begins_with, count_stays}
+
+-- each job goes on with its story
+abbrev pub AreJobsTold : Setting → ℕ → ℕ → List Following → List SeenJob → Type 0
+AreJobsTold s begun entered followings jobs =
+    (at : ℕ) (f : Following) (job : SeenJob) → slice_get followings at ≡ Some f → slice_get jobs at ≡ Some job → IsJobTold s begun entered f job
+
+-- how many transactions have begun
+abbrev pub begun_in : List Entry → List SeenJob → ℕ
+begun_in journal jobs = length journal + length (actives jobs)
+
+-- what is true of the stories, but for the grounds of conflicts
+pub record AreToldBut (s : Setting) (journal : List Entry) (jobs : List SeenJob) : Type 0 where
+  pub entries : AreTrue s (opening_progress s.script) journal
+  pub count : length (progress_of s.script journal).jobs ≡ length jobs
+  pub jobs_told : AreJobsTold s (begun_in journal jobs) (length journal) (progress_of s.script journal).jobs jobs
+  pub begins : AreBegins journal (begins_of journal jobs)
+  pub few : begun_in journal jobs ≤ 10000
+
+-- it is a part of what is true between two turns
+pub told_but : (s : Setting) (words : ℕ) (journal : List Entry) (jobs : List SeenJob) → AreTold s words journal jobs → AreToldBut s journal jobs
+told_but s words journal jobs told =
+    record { entries = told.entries; count = told.count; jobs_told = told.jobs_told; begins = told.begins; few = told.few }
+
+-- and with the grounds it is all of it
+pub told_whole : (s : Setting) (words : ℕ) (journal : List Entry) (jobs : List SeenJob) → AreToldBut s journal jobs
+    → AreGrounded s.tells (parts_of s journal) (active_parts s words 1 (progress_of s.script journal).jobs jobs) → AreTold s words journal jobs
+told_whole s words journal jobs told grounded =
+    record { entries = told.entries; count = told.count; jobs_told = told.jobs_told; begins = told.begins; few = told.few; grounded = grounded }
+
+-- ---- a job that stays as it was
+end_later : (s : Setting) (was is : ℕ) (f : Following) (end : JobEnd) → was ≤ is → IsEnd s was f end → IsEnd s is f end
+end_later s was is f job_end.Done le h = h
+end_later s was is f (job_end.GaveUp c) le h = h
+end_later s was is f job_end.JournalFull le h = let full = h.3 in (h.0, h.1, h.2, omega arith)
+end_later s was is f job_end.NoMemory le h = h
+
+doing_later : (s : Setting) (was is : ℕ) (f : Following) (job : SeenJob) (d : Doing) → was ≤ is → IsDoing s was f job d → IsDoing s is f job d
+doing_later s was is f job Idle le h = h
+doing_later s was is f job (Active tx) le h = h
+doing_later s was is f job Starved le h = h
+doing_later s was is f job (Ended end) le h = end_later s was is f end le h
+
+-- its story goes on behind no fewer begins and entries
+pub told_later : (s : Setting) (begun begun' entered entered' : ℕ) (f : Following) (job : SeenJob) → begun ≤ begun' → entered ≤ entered'
+    → IsJobTold s begun entered f job → IsJobTold s begun' entered' f job
+told_later s begun begun' entered entered' f job le longer told =
+    record {
+      block = told.block;
+      fresh = told.fresh;
+      since = let since = told.since in omega arith;
+      attempts = told.attempts;
+      few = told.few;
+      doing = doing_later s begun begun' f job job.doing le told.doing;
+    }
+
+-- the stories of all, where one job in its place is another, and the journal may tell something else of it
+pub told_in_place : (s : Setting) (begun begun' entered entered' : ℕ) (fs gs : List Following) (jobs : List SeenJob) (at : ℕ) (job next : SeenJob)
+    (g : Following)
+    → begun ≤ begun' → entered ≤ entered' → slice_get jobs at ≡ Some job → slice_get gs at ≡ Some g
+    → ((j : ℕ) → j ≢ at → slice_get gs j ≡ slice_get fs j) → IsJobTold s begun' entered' g next
+    → AreJobsTold s begun entered fs jobs → AreJobsTold s begun' entered' gs (slice_set jobs at next)
+told_in_place s begun begun' entered entered' fs gs jobs at job next g le longer stands follows others mine told j f there got_f got =
+    dite (ℕ_discrete j at)
+    (λ same.
+    let here : slice_get (slice_set jobs at next) at ≡ Some next = get_set_same jobs at job next stands in
+    let is : next ≡ there = let x : Some next ≡ Some there = sym here ∙ ap (slice_get (slice_set jobs at next)) (sym same) ∙ got in cc in
+    let of : g ≡ f = let x : Some g ≡ Some f = sym follows ∙ ap (slice_get gs) (sym same) ∙ got_f in cc in
+    subst (λ (h : Following). IsJobTold s begun' entered' h there) of (subst (IsJobTold s begun' entered' g) is mine))
+    (λ ne.
+    told_later s begun begun' entered entered' f there le longer
+    (told j f there (sym (others j ne) ∙ got_f) (sym (get_set_other jobs at j next ne) ∙ got)))
+
+-- ---- a turn that enters nothing
+-- one that begins nothing either
+pub goes_on : (s : Setting) (journal : List Entry) (jobs : List SeenJob) (at : ℕ) (job next : SeenJob) → slice_get jobs at ≡ Some job
+    → option_map active_begin (active_of next) ≡ option_map active_begin (active_of job)
+    → ((f : Following) → IsJobTold s (begun_in journal jobs) (length journal) f job → IsJobTold s (begun_in journal jobs) (length journal) f next)
+    → AreToldBut s journal jobs → AreToldBut s journal (slice_set jobs at next)
+goes_on s journal jobs at job next stands same moves told =
+    let fs = (progress_of s.script journal).jobs in
+    let n = begun_in journal jobs in
+    let e = length journal in
+    let (f, got) = get_beside fs jobs at job told.count stands in
+    let begins = begins_stay jobs at job next stands same in
+    let count : begun_in journal (slice_set jobs at next) ≡ n = ap (λ k. e + k) (count_stays jobs (slice_set jobs at next) begins) in
+    record {
+      entries = told.entries;
+      count = told.count ∙ sym (length-set jobs at next);
+      jobs_told = subst (λ k. AreJobsTold s k e fs (slice_set jobs at next)) (sym count)
+          (told_in_place s n n e e fs fs jobs at job next f (omega arith) (omega arith) stands got (λ j ne. refl)
+          (moves f (told.jobs_told at f job got stands)) told.jobs_told);
+      begins = subst (λ bs. AreBegins journal (map entry_begin journal ++ bs)) (sym begins) told.begins;
+      few = subst (λ k. k ≤ 10000) (sym count) told.few;
+    }
+
+-- one that begins
+pub begins_in : (s : Setting) (journal : List Entry) (jobs : List SeenJob) (at : ℕ) (job next : SeenJob) (tx : SeenTx) → slice_get jobs at ≡ Some job
+    → active_of job ≡ None → active_of next ≡ Some tx → tx.number ≡ begun_in journal jobs + 1 → tx.began ≡ length journal
+    → begun_in journal jobs < 10000
+    → ((f : Following) → IsJobTold s (begun_in journal jobs) (length journal) f job → IsJobTold s (begun_in journal jobs + 1) (length journal) f next)
+    → AreToldBut s journal jobs → AreToldBut s journal (slice_set jobs at next)
+begins_in s journal jobs at job next tx stands none some number began room moves told =
+    let fs = (progress_of s.script journal).jobs in
+    let n = begun_in journal jobs in
+    let e = length journal in
+    let (f, got) = get_beside fs jobs at job told.count stands in
+    let more = begins_begun journal jobs at job next tx stands none some in
+    let old = begins_of journal jobs in
+    let all = begins_of journal (slice_set jobs at next) in
+    let longer : length all ≡ suc (length old) = length_permutation (active_begin tx ∷ old) all more in
+    let count : begun_in journal (slice_set jobs at next) ≡ n + 1 =
+    omega (arith, longer, begins_count journal jobs, begins_count journal (slice_set jobs at next)) in
+    record {
+      entries = told.entries;
+      count = told.count ∙ sym (length-set jobs at next);
+      jobs_told = subst (λ k. AreJobsTold s k e fs (slice_set jobs at next)) (sym count)
+          (told_in_place s n (n + 1) e e fs fs jobs at job next f (omega arith) (omega arith) stands got (λ j ne. refl)
+          (moves f (told.jobs_told at f job got stands)) told.jobs_told);
+      begins = begins_moved journal journal (active_begin tx ∷ old) all more (omega arith)
+          (begins_with journal old tx.number tx.began (number ∙ ap (λ k. k + 1) (sym (begins_count journal jobs))) began told.begins);
+      few = subst (λ k. k ≤ 10000) (sym count) (omega arith);
+    }

@@ -1,0 +1,234 @@
+-- Each row of the table that enters nothing goes on with its job's story.
+use Rattle.std.proofs.Common.{◌≡◌, ℕ, ◌+◌, ◌<◌, ◌≤◌, false, List, [], ◌∷◌, ◌++◌, length, refl, ap, sym, ◌∙◌, subst, arith, length-append}
+use Rattle.std.specs.Prelude.{IsSome, Option, unwrap_or}
+use Rattle.std.specs.declared.option.Option.TheVariants.{None, Some}
+use Rattle.xc_data.specs.declared.call.Call.{Call}
+use Rattle.xc_data.specs.declared.call.Reply.{Reply}
+use Rattle.xc_data.specs.declared.claim.Claim.{Claim}
+use Rattle.xc_data.specs.declared.entry.Cause.{Cause}
+use Rattle.xc_data.specs.declared.entry.JobEnd.{JobEnd}
+use Rattle.xc_data.specs.declared.entry.JobEnd.TheVariants as job_end
+use Rattle.xc_data.specs.declared.private.Private.{Private}
+use Rattle.xc_data.specs.declared.undo.Undo.{Undo}
+use Rattle.xc_data.specs.declared.undo.UndoEnd.{UndoEnd}
+use Rattle.xc_compensate.specs.Records.{way_of}
+use Rattle.xc_script.specs.declared.ask.Ask.TheVariants as ask
+use Rattle.xc_script.specs.Ask.{Walk, answered, all_answered, asks, walk_from}
+use Rattle.xc_script.specs.Place.{Place, at_begin, walk_of, IsSettled}
+use Rattle.xc_world.specs.World.{beginning}
+use Rattle.xc_world.specs.Ends.{AreLegal, IsLegalEnd}
+use Rattle.xc_world.specs.Late.{is_late}
+use Rattle.xc_story.specs.declared.phase.Attempts.{Attempts}
+use Rattle.xc_story.specs.declared.phase.Phase.TheVariants.{Running, Committing, Undoing}
+use Rattle.xc_story.specs.Setting.{Setting}
+use Rattle.xc_story.specs.Progress.{Following}
+use Rattle.xc_story.specs.Truth.{IsCauseOf, next_of}
+use Rattle.xc_story.specs.Ending.{IsEnd}
+use Rattle.xc_story.specs.Seen.{SeenTx, SeenJob, Idle, Active, Starved, Ended, Now, begun_count, failures, rank_of}
+use Rattle.xc_story.specs.Rows.{IsEnding, IsReady, IsSameBegin, IsSamePlace, IsSpent, Parts, asked_at, beginning_job, body_at, new_tx, noting, with_tx}
+use Rattle.xc_story.specs.Told.{AreAttempts, IsDoing, IsInPhase, IsJobTold, IsRunning, IsStanding, IsUndoing, IsUnderway}
+use Rattle.xc_turns.proofs.StoryAsks.{answered-more, asks-more, asks-count, kept-more}
+
+-- ---- an idle job
+-- the attempts that the journal tells are as many as the job counts
+pub attempts_count : (f : Following) (attempts : Option Attempts) → AreAttempts f attempts → length f.failed ≡ failures attempts
+attempts_count f None are = ap length are.1
+attempts_count f (Some a) are = are.1
+
+-- and the first of them has the number that the job keeps
+pub attempts_rank : (f : Following) (attempts : Option Attempts) (number : ℕ) → AreAttempts f attempts → rank_of attempts number ≡ unwrap_or f.first number
+attempts_rank f None number are = ap (λ o. unwrap_or o number) (sym are.0)
+attempts_rank f (Some a) number are = ap (λ o. unwrap_or o number) (sym are.0)
+
+given_up : (s : Setting) (f : Following) (attempts : Option Attempts) (c : Cause) → IsSpent s attempts c → AreAttempts f attempts
+    → (s.rules.attempts ≤ length f.failed) × (before : List Cause) × (f.failed ≡ before ++ c ∷ [])
+given_up s f None c spent are = absurd spent
+given_up s f (Some a) c spent are =
+    let lt : s.rules.attempts ≤ length f.failed = let many = spent.0 in let same = are.1 in omega arith in
+    (lt, are.3, are.4 ∙ ap (λ (x : Cause). are.3 ++ x ∷ []) spent.1)
+
+-- it ends as its story does
+end_told : (s : Setting) (now : Now) (f : Following) (job : SeenJob) (end : JobEnd) → IsEnding s now job end → AreAttempts f job.attempts
+    → f.starved ≡ false → job.place ≡ at_begin f.job → IsEnd s (begun_count now) f end
+end_told s now f job job_end.Done ending are goes place = (goes, ap (λ (p : Place). body_at s p) (sym place) ∙ ending)
+end_told s now f job (job_end.GaveUp c) ending are goes place =
+    (goes, subst (λ (p : Place). IsSome (body_at s p)) place ending.0, given_up s f job.attempts c ending.1 are)
+end_told s now f job job_end.JournalFull ending are goes place =
+    let few : length f.failed < s.rules.attempts = let lt = ending.1 in let same = attempts_count f job.attempts are in omega arith in
+    (goes, subst (λ (p : Place). IsSome (body_at s p)) place ending.0, few, ending.2)
+end_told s now f job job_end.NoMemory ending are goes place = subst (λ (p : Place). IsSome (body_at s p)) place ending
+
+-- an idle job that ends
+pub ended_told : (s : Setting) (now : Now) (entered : ℕ) (f : Following) (job : SeenJob) (end : JobEnd) → job.doing ≡ Idle → IsEnding s now job end
+    → IsJobTold s (begun_count now) entered f job → IsJobTold s (begun_count now) entered f (record job { doing = Ended end })
+ended_told s now entered f job end idle ending told =
+    let (goes, place) = subst (IsDoing s (begun_count now) f job) idle told.doing in
+    record {
+      block = told.block;
+      fresh = told.fresh;
+      since = told.since;
+      attempts = told.attempts;
+      few = told.few;
+      doing = end_told s now f job end ending told.attempts goes place;
+    }
+
+-- a transaction that begins
+begun_underway : (s : Setting) (now : Now) (f : Following) (job : SeenJob) → IsReady s now job → AreAttempts f job.attempts
+    → f.starved ≡ false → job.place ≡ at_begin f.job → f.since ≤ length now.journal → job.me ≡ beginning job.me.places
+    → IsUnderway s f (record job.place { begun = job.place.variables })
+    (new_tx (begun_count now + 1) (rank_of job.attempts (begun_count now + 1)) (length now.journal) job.me)
+begun_underway s now f job ready are goes place since fresh =
+    let none : job.me.stored ≡ 0 = ap (λ (m : Private). m.stored) fresh in
+    record {
+      goes_on = goes;
+      left = subst (λ (p : Place). IsSome (body_at s p)) place ready.left;
+      attempts = let lt = ready.attempts in let same = attempts_count f job.attempts are in omega arith;
+      rank = attempts_rank f job.attempts (begun_count now + 1) are;
+      since = since;
+      standing = record {
+        block = ap (λ (p : Place). p.block) place;
+        next = ap (λ (p : Place). p.next) place;
+        begun = ap (λ (p : Place). p.variables) place;
+      };
+      asked = refl;
+      none_kept = refl;
+      stored = omega arith;
+      phase = record { ahead = ap (λ (p : Place). walk_of s.script (record p { begun = p.variables })) place; none = refl };
+    }
+
+-- an idle job whose next transaction begins
+pub begun_told : (s : Setting) (now : Now) (f : Following) (job : SeenJob) → job.doing ≡ Idle → IsReady s now job
+    → IsJobTold s (begun_count now) (length now.journal) f job → IsJobTold s (begun_count now + 1) (length now.journal) f (beginning_job now job)
+begun_told s now f job idle ready told =
+    let (goes, place) = subst (IsDoing s (begun_count now) f job) idle told.doing in
+    record {
+      block = told.block;
+      fresh = told.fresh;
+      since = told.since;
+      attempts = told.attempts;
+      few = told.few;
+      doing = begun_underway s now f job ready told.attempts goes place told.since told.fresh;
+    }
+
+-- ---- a job with an active transaction that stays active
+-- its story goes on where its transaction does
+pub active_told : (s : Setting) (begun entered : ℕ) (f : Following) (job : SeenJob) (place : Place) (tx next : SeenTx) → job.doing ≡ Active tx
+    → (IsUnderway s f job.place tx → IsUnderway s f place next)
+    → IsJobTold s begun entered f job → IsJobTold s begun entered f (with_tx job place next)
+active_told s begun entered f job place tx next active moves told =
+    record {
+      block = told.block;
+      fresh = told.fresh;
+      since = told.since;
+      attempts = told.attempts;
+      few = told.few;
+      doing = moves (subst (IsDoing s begun f job) active told.doing);
+    }
+
+-- the same begin stands in the same transaction
+pub same_standing : (f : Following) (old new : Place) → IsSameBegin old new → IsStanding f old → IsStanding f new
+same_standing f old new same stands =
+    record { block = same.block ∙ stands.block; next = same.next ∙ stands.next; begun = same.begun ∙ stands.begun }
+
+-- a running one's phase
+pub running_phase : (s : Setting) (f : Following) (place : Place) (tx : SeenTx) → tx.phase ≡ Running → IsUnderway s f place tx → IsRunning s f place tx
+running_phase s f place tx runs under = subst (IsInPhase s f place tx) runs under.phase
+
+-- behind a call
+pub called_underway : (s : Setting) (f : Following) (old new : Place) (tx : SeenTx) (call : Call) (reply : Reply) (claims : List Claim) (parts : Parts)
+    (made : List Undo)
+    → tx.phase ≡ Running → asks (walk_of s.script old) ≡ ask.Call call → IsSameBegin old new → walk_of s.script new ≡ answered (walk_of s.script old) reply
+    → is_late reply ≡ false → parts.undo ≡ record tx.undo { pending = tx.undo.pending ++ made } → parts.me.stored ≤ 16384
+    → IsUnderway s f old tx → IsUnderway s f new (noting tx call reply claims parts)
+called_underway s f old new tx call reply claims parts made runs asked same behind now undo stored under =
+    let running = running_phase s f old tx runs under in
+    let begin = walk_from s.script f.job in
+    let is : asks (all_answered begin tx.replies) ≡ ask.Call call = ap asks (sym running.ahead) ∙ asked in
+    let phase : IsRunning s f new (noting tx call reply claims parts) = record {
+      ahead = behind ∙ ap (λ (w : Walk). answered w reply) running.ahead ∙ sym (answered-more begin tx.replies reply);
+      none = ap (λ u. u.ended) undo ∙ running.none;
+    } in
+    record {
+      goes_on = under.goes_on;
+      left = under.left;
+      attempts = under.attempts;
+      rank = under.rank;
+      since = under.since;
+      standing = same_standing f old new same under.standing;
+      asked = asks-more begin tx.calls tx.replies call reply under.asked is;
+      none_kept = kept-more tx.calls tx.replies call reply (asks-count begin tx.calls tx.replies under.asked) now ∙ under.none_kept;
+      stored = stored;
+      phase = subst (IsInPhase s f new (noting tx call reply claims parts)) (sym runs) phase;
+    }
+
+-- on its way back
+pub back_underway : (s : Setting) (f : Following) (old new : Place) (tx : SeenTx) (c : Cause) (held : List Claim) → tx.phase ≡ Running → IsSamePlace s old new
+    → (next_of s.script f tx.replies ≡ asked_at s old → IsCauseOf c (next_of s.script f tx.replies))
+    → IsUnderway s f old tx → IsUnderway s f new (record tx { phase = Undoing c; held = held })
+back_underway s f old new tx c held runs same caused under =
+    let running = running_phase s f old tx runs under in
+    record {
+      goes_on = under.goes_on;
+      left = under.left;
+      attempts = under.attempts;
+      rank = under.rank;
+      since = under.since;
+      standing = same_standing f old new same.begin under.standing;
+      asked = under.asked;
+      none_kept = under.none_kept;
+      stored = under.stored;
+      phase = record {
+        caused = caused (ap asks (sym running.ahead));
+        legal = subst (λ ends. AreLegal s.rules.undo_tries (length tx.undo.pending + 1) ends) (sym running.none) tt;
+      };
+    }
+
+-- over to its commit
+pub commits_underway : (s : Setting) (f : Following) (old new : Place) (tx : SeenTx) → tx.phase ≡ Running → IsSamePlace s old new → IsSettled s.script new
+    → asked_at s old ≡ ask.Commit → IsUnderway s f old tx → IsUnderway s f new (record tx { phase = Committing })
+commits_underway s f old new tx runs same settled asked under =
+    let running = running_phase s f old tx runs under in
+    record {
+      goes_on = under.goes_on;
+      left = under.left;
+      attempts = under.attempts;
+      rank = under.rank;
+      since = under.since;
+      standing = same_standing f old new same.begin under.standing;
+      asked = under.asked;
+      none_kept = under.none_kept;
+      stored = under.stored;
+      phase = record { ahead = same.walk ∙ running.ahead; asked = ap asks same.walk ∙ asked; settled = settled; none = running.none };
+    }
+
+-- behind a compensation
+pub tried_underway : (s : Setting) (f : Following) (place : Place) (tx : SeenTx) (c : Cause) (older : List Undo) (u : Undo) (end : UndoEnd)
+    → tx.phase ≡ Undoing c → tx.undo.pending ≡ older ++ u ∷ [] → IsLegalEnd s.rules.undo_tries u end (way_of older u tx.undo)
+    → IsUnderway s f place tx → IsUnderway s f place (record tx { undo = record { pending = older; ended = (u, end) ∷ tx.undo.ended } })
+tried_underway s f place tx c older u end undoes newest legal under =
+    let undoing : IsUndoing s f tx c = subst (IsInPhase s f place tx) undoes under.phase in
+    let next : SeenTx = record tx { undo = record { pending = older; ended = (u, end) ∷ tx.undo.ended } } in
+    let count : length tx.undo.pending ≡ length older + 1 = ap length newest ∙ length-append older (u ∷ []) in
+    let phase : IsUndoing s f next c = record {
+      caused = undoing.caused;
+      legal = (legal, subst (λ n. AreLegal s.rules.undo_tries (n + 1) tx.undo.ended) count undoing.legal);
+    } in
+    record {
+      goes_on = under.goes_on;
+      left = under.left;
+      attempts = under.attempts;
+      rank = under.rank;
+      since = under.since;
+      standing = under.standing;
+      asked = under.asked;
+      none_kept = under.none_kept;
+      stored = under.stored;
+      phase = subst (IsInPhase s f place next) (sym undoes) phase;
+    }
+
+-- ---- a job that asks nothing more
+pub starved_told : (s : Setting) (begun entered : ℕ) (f : Following) (job : SeenJob) → job.doing ≡ Starved → IsJobTold s begun entered f job
+    → IsJobTold s begun entered f (record job { doing = Ended job_end.NoMemory })
+starved_told s begun entered f job starved told =
+    let was = subst (IsDoing s begun f job) starved told.doing in
+    record { block = told.block; fresh = told.fresh; since = told.since; attempts = told.attempts; few = told.few; doing = was.1 }

@@ -1,0 +1,119 @@
+-- Before the first turn all is true that is true between two turns.
+use Rattle.std.proofs.Common.{◌≡◌, ℕ, ◌+◌, ◌≤◌, List, [], ◌∷◌, length, map, zero, suc, refl, sym, ◌∙◌, subst, arith}
+use Rattle.std.specs.Prelude.{get_or, slice_get, sum_by}
+use Rattle.std.specs.declared.option.Option.TheVariants.{None, Some}
+use Rattle.std.proofs.lemmas.List.{length-map}
+use Rattle.std.proofs.lemmas.List.Sorted.{IsPermutation-refl}
+use Rattle.xc_data.specs.Counts.{CountsFaults}
+use Rattle.xc_text.specs.declared.script.Script.{Script}
+use Rattle.xc_script.specs.Ask.{block_place, fresh_job}
+use Rattle.xc_story.specs.Setting.{Setting}
+use Rattle.xc_story.specs.Grounds.{Part}
+use Rattle.xc_story.specs.Progress.{Following, progress_of, untried}
+use Rattle.xc_story.specs.Counted.{tx_faults}
+use Rattle.xc_story.specs.Holding.{AreApart}
+use Rattle.xc_story.specs.Kept.{IsKept}
+use Rattle.xc_story.specs.Opened.{IsOpening, opened_job}
+use Rattle.xc_story.specs.Seen.{SeenTx, SeenJob, Now, actives}
+use Rattle.xc_story.specs.Spoken.{AreSpoken}
+use Rattle.xc_story.specs.Told.{AreBegins, AreTold, IsJobTold, active_begin, active_parts}
+use Rattle.xc_turns.proofs.Jobs.{none_active, opened_rests}
+
+-- a job of a script that hasn't begun
+abbrev opened_following : Script → List ℕ → Following
+opened_following script name = untried name (fresh_job (block_place script name)) 0
+
+-- its jobs before their first transactions
+abbrev opened_jobs : Script → List (List ℕ) → List SeenJob
+opened_jobs script names = map (opened_job script) names
+
+-- none of them is active
+none_opened : (script : Script) (names : List (List ℕ)) → actives (opened_jobs script names) ≡ []
+none_opened script names = none_active (opened_jobs script names) (opened_rests script names)
+
+-- each is told
+opened_told : (s : Setting) (begun entered : ℕ) (names : List (List ℕ)) (at : ℕ) (f : Following) (job : SeenJob)
+    → slice_get (map (opened_following s.script) names) at ≡ Some f → slice_get (opened_jobs s.script names) at ≡ Some job → IsJobTold s begun entered f job
+opened_told s begun entered [] at f job got_f got = cc
+opened_told s begun entered (name ∷ names) zero f job got_f got =
+    let first : opened_following s.script name ≡ f = cc in
+    let one : opened_job s.script name ≡ job = cc in
+    let told : IsJobTold s begun entered (opened_following s.script name) (opened_job s.script name) = record {
+      block = refl;
+      fresh = refl;
+      since = omega arith;
+      attempts = (refl, refl);
+      few = omega arith;
+      doing = (refl, refl);
+    } in
+    subst (λ (g : Following). IsJobTold s begun entered g job) first
+    (subst (IsJobTold s begun entered (opened_following s.script name)) one told)
+opened_told s begun entered (name ∷ names) (suc at) f job got_f got = opened_told s begun entered names at f job got_f got
+
+-- no conflict has to be grounded
+none_wanted : (s : Setting) (words number : ℕ) (fs : List Following) (names : List (List ℕ)) (j : ℕ) (e : Part)
+    → get_or (active_parts s words number fs (opened_jobs s.script names)) j None ≡ Some e → ⊥
+none_wanted s words number [] [] j e got = cc
+none_wanted s words number (f ∷ fs) [] j e got = cc
+none_wanted s words number [] (name ∷ names) zero e got = cc
+none_wanted s words number [] (name ∷ names) (suc j) e got = none_wanted s words (number + 1) [] names j e got
+none_wanted s words number (f ∷ fs) (name ∷ names) zero e got = cc
+none_wanted s words number (f ∷ fs) (name ∷ names) (suc j) e got = none_wanted s words (number + 1) fs names j e got
+
+none_begun : AreBegins [] []
+none_begun =
+    record {
+      numbers = IsPermutation-refl [];
+      order = λ a b in_a in_b lt. absurd (let none = in_a.1 in omega arith);
+      by_now = λ a in_a. absurd (let none = in_a.1 in omega arith);
+    }
+
+start_told : (s : Setting) (words : ℕ) → AreTold s words [] (opened_jobs s.script s.script.plain.jobs)
+start_told s words =
+    let names = s.script.plain.jobs in
+    let jobs = opened_jobs s.script names in
+    record {
+      entries = tt;
+      count = length-map names (opened_following s.script) ∙ sym (length-map names (opened_job s.script));
+      jobs_told = λ at f job got_f got. opened_told s (0 + length (actives jobs)) 0 names at f job got_f got;
+      begins = subst (λ (txs : List SeenTx). AreBegins [] (map active_begin txs)) (sym (none_opened s.script names)) none_begun;
+      few = subst (λ (txs : List SeenTx). 0 + length txs ≤ 10000) (sym (none_opened s.script names)) (omega arith);
+      grounded = record {
+        entries = λ i e got. cc;
+        actives = λ j e got. absurd (none_wanted s words 1 (progress_of s.script []).jobs names j e got);
+      };
+    }
+
+start_spoken : (script : Script) (names : List (List ℕ)) (words : List ℕ) → AreSpoken words words (opened_jobs script names)
+start_spoken script names words =
+    record {
+      count = refl;
+      each = λ j tx active. absurd (opened_rests script names j tx active);
+      written = λ word j tx lt writer. absurd (opened_rests script names j tx writer.active);
+      others = λ word lt none. refl;
+    }
+
+start_apart : (script : Script) (names : List (List ℕ)) → AreApart (opened_jobs script names)
+start_apart script names =
+    record {
+      together = λ i j t u ne is_t is_u c d in_t in_u same. absurd (opened_rests script names i t is_t);
+      once = λ i t is_t. absurd (opened_rests script names i t is_t);
+    }
+
+start_counted : (script : Script) (names : List (List ℕ)) (faults : ℕ) → CountsFaults (0 + sum_by tx_faults (actives (opened_jobs script names))) faults faults
+start_counted script names faults =
+    subst (λ (txs : List SeenTx). CountsFaults (0 + sum_by tx_faults txs) faults faults) (sym (none_opened script names)) refl
+
+-- a start keeps all
+pub start_kept : (s : Setting) (now : Now) → IsOpening s.script now → IsKept s now.faults now
+start_kept s now opening =
+    let names = s.script.plain.jobs in
+    let first : Now = record now { words = s.script.plain.words; journal = []; jobs = opened_jobs s.script names } in
+    let same : now ≡ first = λ i. record now { words = opening.words i; journal = opening.journal i; jobs = opening.jobs i } in
+    let kept : IsKept s now.faults first = record {
+      told = start_told s (length s.script.plain.words);
+      spoken = start_spoken s.script names s.script.plain.words;
+      apart = start_apart s.script names;
+      counted = start_counted s.script names now.faults;
+    } in
+    subst (IsKept s now.faults) (sym same) kept

@@ -1,0 +1,243 @@
+-- Each turn goes on with the stories of all jobs.
+use Rattle.std.proofs.Common.{◌≡◌, inl, inr, ℕ, ◌+◌, ◌≤◌, IsTrue, List, [], ◌∷◌, ◌++◌, length, refl, ap, sym, ◌∙◌, subst, arith}
+use Rattle.std.specs.Prelude.{slice_get, slice_set}
+use Rattle.std.specs.declared.option.Option.TheVariants.{Some}
+use Rattle.std.specs.Option.{option_map}
+use Rattle.xc_data.specs.declared.call.Call.{Call}
+use Rattle.xc_data.specs.declared.entry.Cause.{Cause}
+use Rattle.xc_data.specs.declared.entry.Cause.TheVariants as cause
+use Rattle.xc_data.specs.declared.entry.Entry.{Entry}
+use Rattle.xc_data.specs.declared.entry.JobEnd.{JobEnd}
+use Rattle.xc_data.specs.declared.entry.JobEnd.TheVariants as job_end
+use Rattle.xc_data.specs.declared.entry.Outcome.TheVariants.{Committed}
+use Rattle.xc_data.specs.declared.entry.Turn.{Turn}
+use Rattle.xc_data.specs.declared.entry.Turn.TheVariants as turn
+use Rattle.xc_data.specs.declared.undo.Undo.{Undo}
+use Rattle.xc_script.specs.declared.ask.Ask.{Ask}
+use Rattle.xc_script.specs.declared.ask.Ask.TheVariants as ask
+use Rattle.xc_script.specs.Place.{Place, is_call}
+use Rattle.xc_story.specs.declared.phase.Phase.{Phase}
+use Rattle.xc_story.specs.declared.phase.Phase.TheVariants.{Running, Committing, Undoing}
+use Rattle.xc_story.specs.Setting.{Setting}
+use Rattle.xc_story.specs.WordCalls.{AreWordReplies}
+use Rattle.xc_story.specs.Progress.{Following, following_abort, progress_of}
+use Rattle.xc_story.specs.Seen.{SeenTx, SeenJob, Doing, Idle, Active, Starved, Ended, Now, active_in, begun_count, rank_of}
+use Rattle.xc_story.specs.Rows.{ActiveTurn, AskedTurn, BackTurn, Calls, Commits, Compensates, Conflicts, IdleTurn, IsActiveAt, IsEnding, IsReady, IsTurn}
+use Rattle.xc_story.specs.Rows.{StarvedTurn, TurnOf, TurnsBack, Wants, asked_at, behind_abort, behind_commit, beginning_job, claims_at, entry_of, new_tx}
+use Rattle.xc_story.specs.Rows.{noting, with_tx}
+use Rattle.xc_story.specs.Grounds.{AreGrounded}
+use Rattle.xc_story.specs.Truth.{parts_of}
+use Rattle.xc_story.specs.Told.{AreTold, IsDoing, IsUnderway, active_begin, active_parts}
+use Rattle.xc_story.specs.Played.{IsPlayedSoFar}
+use Rattle.xc_story.specs.Spoken.{AreSpoken}
+use Rattle.xc_turns.proofs.Lists.{get_beside}
+use Rattle.xc_turns.proofs.Jobs.{behind_abort_none}
+use Rattle.xc_turns.proofs.Progressing.{entered-all}
+use Rattle.xc_turns.proofs.StoryBegins.{active_begun}
+use Rattle.xc_turns.proofs.StoryJobs.{AreToldBut, begins_in, goes_on, told_but, told_whole}
+use Rattle.xc_turns.proofs.StoryRows.{active_told, back_underway, begun_told, called_underway, commits_underway, ended_told, starved_told, tried_underway}
+use Rattle.xc_turns.proofs.StoryEntries.{abort_leads, abort_true, aborted_by, commit_leads, commit_true, gone_on}
+use Rattle.xc_turns.proofs.StoryEnds.{aborted_told, committed_told, enters}
+
+-- the same journal and jobs
+told_as : (s : Setting) (journal journal' : List Entry) (jobs jobs' : List SeenJob) → journal' ≡ journal → jobs' ≡ jobs → AreToldBut s journal jobs
+    → AreToldBut s journal' jobs'
+told_as s journal journal' jobs jobs' entries same told =
+    subst (λ es. AreToldBut s es jobs') (sym entries) (subst (AreToldBut s journal) (sym same) told)
+
+-- what is true before a turn of the job in this place
+pub record Before (s : Setting) (at : ℕ) (old : Now) (job : SeenJob) : Type 0 where
+  pub stands : slice_get old.jobs at ≡ Some job
+  pub spoken : AreSpoken (progress_of s.script old.journal).words old.words old.jobs
+  pub played : IsTrue s.tells → (tx : SeenTx) → IsActiveAt old.jobs at tx
+      → IsPlayedSoFar s (length old.words) (progress_of s.script old.journal) at tx
+  pub told : AreToldBut s old.journal old.jobs
+
+module _ (s : Setting) (at : ℕ) (old new : Now) (job : SeenJob) (b : Before s at old job) where
+  -- the new moment's stories
+  abbrev After : Type 0
+  After = AreToldBut s new.journal new.jobs
+
+  -- ---- an idle job
+  ended_row : (end : JobEnd) → job.doing ≡ Idle → IsEnding s old job end → new.journal ≡ old.journal
+      → new.jobs ≡ slice_set old.jobs at (record job { doing = Ended end }) → After
+  ended_row end idle ending journal jobs =
+      told_as s old.journal new.journal (slice_set old.jobs at (record job { doing = Ended end })) new.jobs journal jobs
+      (goes_on s old.journal old.jobs at job (record job { doing = Ended end }) b.stands (ap (option_map active_begin) (sym (ap active_in idle)))
+      (λ f told. ended_told s old (length old.journal) f job end idle ending told) b.told)
+
+  begun_row : job.doing ≡ Idle → IsReady s old job → new.journal ≡ old.journal → new.jobs ≡ slice_set old.jobs at (beginning_job old job) → After
+  begun_row idle ready journal jobs =
+      let tx = new_tx (begun_count old + 1) (rank_of job.attempts (begun_count old + 1)) (length old.journal) job.me in
+      told_as s old.journal new.journal (slice_set old.jobs at (beginning_job old job)) new.jobs journal jobs
+      (begins_in s old.journal old.jobs at job (beginning_job old job) tx b.stands (ap active_in idle) refl refl refl ready.room
+      (λ f told. begun_told s old f job idle ready told) b.told)
+
+  idle_row : (answer : Turn) → job.doing ≡ Idle → IdleTurn s at old job answer new → After
+  idle_row (turn.Ended end) idle row = ended_row end idle row.0 (ap (λ (n : Now). n.journal) row.1) (ap (λ (n : Now). n.jobs) row.1)
+  idle_row turn.Went idle row = begun_row idle row.0 (ap (λ (n : Now). n.journal) row.1) (ap (λ (n : Now). n.jobs) row.1)
+  idle_row (turn.Busy object holder) idle row = absurd row
+  idle_row turn.NoMemory idle row = absurd row
+
+  starved_row : (answer : Turn) → job.doing ≡ Starved → StarvedTurn at old job answer new → After
+  starved_row (turn.Ended job_end.NoMemory) starved row =
+      let next : SeenJob = record job { doing = Ended job_end.NoMemory } in
+      told_as s old.journal new.journal (slice_set old.jobs at next) new.jobs (ap (λ (n : Now). n.journal) row) (ap (λ (n : Now). n.jobs) row)
+      (goes_on s old.journal old.jobs at job next b.stands (ap (option_map active_begin) (sym (ap active_in starved)))
+      (λ f told. starved_told s (begun_count old) (length old.journal) f job starved told) b.told)
+  starved_row (turn.Ended job_end.Done) starved row = absurd row
+  starved_row (turn.Ended (job_end.GaveUp c)) starved row = absurd row
+  starved_row (turn.Ended job_end.JournalFull) starved row = absurd row
+  starved_row turn.Went starved row = absurd row
+  starved_row (turn.Busy object holder) starved row = absurd row
+  starved_row turn.NoMemory starved row = absurd row
+
+  -- ---- a job with an active transaction that stays active
+  active_row : (place : Place) (tx next : SeenTx) → job.doing ≡ Active tx → active_begin next ≡ active_begin tx
+      → ((f : Following) → IsUnderway s f job.place tx → IsUnderway s f place next)
+      → new.journal ≡ old.journal → new.jobs ≡ slice_set old.jobs at (with_tx job place next) → After
+  active_row place tx next active same moves journal jobs =
+      told_as s old.journal new.journal (slice_set old.jobs at (with_tx job place next)) new.jobs journal jobs
+      (goes_on s old.journal old.jobs at job (with_tx job place next) b.stands
+      (ap Some same ∙ ap (option_map active_begin) (sym (ap active_in active)))
+      (λ f told. active_told s (begun_count old) (length old.journal) f job place tx next active (moves f) told) b.told)
+
+  called_row : (tx : SeenTx) (call : Call) → job.doing ≡ Active tx → tx.phase ≡ Running → asked_at s job.place ≡ ask.Call call
+      → Calls s at old job tx call new → After
+  called_row tx call active runs asked row =
+      active_row row.place tx (noting tx call row.reply (claims_at old tx call) row.parts) active refl
+      (λ f under. called_underway s f job.place row.place tx call row.reply (claims_at old tx call) row.parts row.made runs asked row.begin row.walk row.now
+      row.undo row.stored under)
+      row.journal row.jobs
+
+  conflict_row : (tx : SeenTx) (call : Call) → job.doing ≡ Active tx → tx.phase ≡ Running → asked_at s job.place ≡ ask.Call call
+      → Conflicts s at old job tx call new → After
+  conflict_row tx call active runs asked row =
+      let c = cause.Conflict row.object row.holder (length old.journal) in
+      active_row row.place tx (record tx { phase = Undoing c }) active refl
+      (λ f under. back_underway s f job.place row.place tx c tx.held runs row.same (λ next. ap is_call (next ∙ asked)) under)
+      (ap (λ (n : Now). n.journal) row.behind) (ap (λ (n : Now). n.jobs) row.behind)
+
+  commits_row : (tx : SeenTx) → job.doing ≡ Active tx → tx.phase ≡ Running → asked_at s job.place ≡ ask.Commit → Commits s at old job tx new → After
+  commits_row tx active runs asked row =
+      active_row row.place tx (record tx { phase = Committing }) active refl
+      (λ f under. commits_underway s f job.place row.place tx runs row.same row.settled asked under)
+      (ap (λ (n : Now). n.journal) row.behind) (ap (λ (n : Now). n.jobs) row.behind)
+
+  turned_row : (tx : SeenTx) → job.doing ≡ Active tx → tx.phase ≡ Running → asked_at s job.place ≡ ask.Abort → TurnsBack s at old job tx new → After
+  turned_row tx active runs asked row =
+      active_row row.place tx (record tx { phase = Undoing cause.Asked }) active refl
+      (λ f under. back_underway s f job.place row.place tx cause.Asked tx.held runs row.same (λ next. next ∙ asked) under)
+      (ap (λ (n : Now). n.journal) row.behind) (ap (λ (n : Now). n.jobs) row.behind)
+
+  wants_row : (tx : SeenTx) → job.doing ≡ Active tx → tx.phase ≡ Running → Wants s at old job tx new → After
+  wants_row tx active runs row =
+      active_row row.place tx (record tx { phase = Undoing cause.NoMemory; held = row.held }) active refl
+      (λ f under. back_underway s f job.place row.place tx cause.NoMemory row.held runs row.same (λ next. tt) under) row.journal row.jobs
+
+  tried_row : (tx : SeenTx) (c : Cause) → job.doing ≡ Active tx → tx.phase ≡ Undoing c → Compensates s at old job tx new → After
+  tried_row tx c active undoes row =
+      active_row job.place tx (record tx { undo = record { pending = row.older; ended = (row.tried, row.end) ∷ tx.undo.ended } }) active refl
+      (λ f under. tried_underway s f job.place tx c row.older row.tried row.end undoes row.newest row.legal under) row.journal row.jobs
+
+  asked_row : (tx : SeenTx) (a : Ask) → job.doing ≡ Active tx → tx.phase ≡ Running → asked_at s job.place ≡ a → AskedTurn s at old job tx a new → After
+  asked_row tx (ask.Call call) active runs asked (inl row) = called_row tx call active runs asked row
+  asked_row tx (ask.Call call) active runs asked (inr row) = conflict_row tx call active runs asked row
+  asked_row tx ask.Commit active runs asked row = commits_row tx active runs asked row
+  asked_row tx ask.Abort active runs asked row = turned_row tx active runs asked row
+  asked_row tx ask.End active runs asked row = absurd row
+
+  -- ---- a transaction that enters
+  -- it is active
+  is_active : (tx : SeenTx) → job.doing ≡ Active tx → IsActiveAt old.jobs at tx
+  is_active tx active = (job, b.stands, ap active_in active)
+
+  -- it began by now
+  began_by_now : (tx : SeenTx) → job.doing ≡ Active tx → tx.began ≤ (progress_of s.script old.journal).entered
+  began_by_now tx active =
+      let by = b.told.begins.by_now (active_begin tx) (active_begun old.journal old.jobs at tx (is_active tx active)) in
+      let all = entered-all s.script old.journal in
+      omega arith
+
+  replies_said : (tx : SeenTx) → job.doing ≡ Active tx → AreWordReplies (progress_of s.script old.journal).words tx.calls tx.replies
+  replies_said tx active = (b.spoken.each at tx (is_active tx active)).replies
+
+  -- what the journal tells of the job so far
+  follows : (f : Following) × (slice_get (progress_of s.script old.journal).jobs at ≡ Some f)
+  follows = get_beside (progress_of s.script old.journal).jobs old.jobs at job b.told.count b.stands
+
+  commit_row : (tx : SeenTx) → job.doing ≡ Active tx → tx.phase ≡ Committing → new.journal ≡ old.journal ++ entry_of tx at (Committed []) ∷ []
+      → new.jobs ≡ slice_set old.jobs at (behind_commit job tx) → After
+  commit_row tx active commits journal jobs =
+      let p = progress_of s.script old.journal in
+      let e = entry_of tx at (Committed []) in
+      let (f, got) = follows in
+      let told = b.told.jobs_told at f job got b.stands in
+      let under : IsUnderway s f job.place tx = subst (IsDoing s (begun_count old) f job) active told.doing in
+      told_as s (old.journal ++ e ∷ []) new.journal (slice_set old.jobs at (behind_commit job tx)) new.jobs journal jobs
+      (enters s old.journal old.jobs at job (behind_commit job tx) tx e f (gone_on s.script p.entered f tx) b.stands
+      (ap active_in active) refl refl got (commit_leads s.script p f at tx got)
+      (commit_true s (length old.words) p f at job.place tx got commits under (began_by_now tx active) (replies_said tx active)
+      (λ t. b.played t tx (is_active tx active)))
+      (committed_told s (begun_count old) (length old.journal) p.entered f job tx active commits (entered-all s.script old.journal) told) b.told)
+
+  abort_row : (tx : SeenTx) (c : Cause) → job.doing ≡ Active tx → tx.phase ≡ Undoing c → tx.undo.pending ≡ []
+      → new.journal ≡ old.journal ++ entry_of tx at (aborted_by c tx) ∷ [] → new.jobs ≡ slice_set old.jobs at (behind_abort job tx c) → After
+  abort_row tx c active undoes none journal jobs =
+      let p = progress_of s.script old.journal in
+      let e = entry_of tx at (aborted_by c tx) in
+      let (f, got) = follows in
+      let told = b.told.jobs_told at f job got b.stands in
+      let under : IsUnderway s f job.place tx = subst (IsDoing s (begun_count old) f job) active told.doing in
+      told_as s (old.journal ++ e ∷ []) new.journal (slice_set old.jobs at (behind_abort job tx c)) new.jobs journal jobs
+      (enters s old.journal old.jobs at job (behind_abort job tx c) tx e f (following_abort p.entered f e c) b.stands
+      (ap active_in active) (behind_abort_none job tx c) refl got (abort_leads s.script p f at tx c got)
+      (abort_true s (length old.words) p f at job.place tx c got undoes none under (began_by_now tx active) (replies_said tx active)
+      (λ t. b.played t tx (is_active tx active)))
+      (aborted_told s (begun_count old) (length old.journal) p.entered at f job tx c active (entered-all s.script old.journal) told) b.told)
+
+  back_row : (tx : SeenTx) (c : Cause) (pending : List Undo) → job.doing ≡ Active tx → tx.phase ≡ Undoing c → tx.undo.pending ≡ pending
+      → BackTurn s at old job tx c pending new → After
+  back_row tx c [] active undoes none row = abort_row tx c active undoes none (ap (λ (n : Now). n.journal) row) (ap (λ (n : Now). n.jobs) row)
+  back_row tx c (u ∷ pending) active undoes some row = tried_row tx c active undoes row
+
+  -- ---- all rows
+  phase_row : (tx : SeenTx) (phase : Phase) (answer : Turn) → job.doing ≡ Active tx → tx.phase ≡ phase → ActiveTurn s at old job tx phase answer new → After
+  phase_row tx Running turn.Went active is row = asked_row tx (asked_at s job.place) active is refl row
+  phase_row tx Running turn.NoMemory active is row = wants_row tx active is row
+  phase_row tx Running (turn.Busy object holder) active is row = absurd row
+  phase_row tx Running (turn.Ended end) active is row = absurd row
+  phase_row tx Committing turn.Went active is row = commit_row tx active is (ap (λ (n : Now). n.journal) row) (ap (λ (n : Now). n.jobs) row)
+  phase_row tx Committing turn.NoMemory active is row = absurd row
+  phase_row tx Committing (turn.Busy object holder) active is row = absurd row
+  phase_row tx Committing (turn.Ended end) active is row = absurd row
+  phase_row tx (Undoing c) turn.Went active is row = back_row tx c tx.undo.pending active is refl row
+  phase_row tx (Undoing c) turn.NoMemory active is row = absurd row
+  phase_row tx (Undoing c) (turn.Busy object holder) active is row = absurd row
+  phase_row tx (Undoing c) (turn.Ended end) active is row = absurd row
+
+  doing_row : (d : Doing) (answer : Turn) → job.doing ≡ d → TurnOf s at old job d answer new → After
+  doing_row Idle answer is row = idle_row answer is row
+  doing_row (Active tx) answer is row = phase_row tx tx.phase answer is refl row
+  doing_row Starved answer is row = starved_row answer is row
+  doing_row (Ended end) answer is row = absurd row
+
+-- a turn goes on with all that is true of the stories but for the grounds of conflicts
+pub turn_told : (s : Setting) (at : ℕ) (old new : Now) (answer : Turn) → IsTurn s at old answer new
+    → AreSpoken (progress_of s.script old.journal).words old.words old.jobs
+    → (IsTrue s.tells → (tx : SeenTx) → IsActiveAt old.jobs at tx → IsPlayedSoFar s (length old.words) (progress_of s.script old.journal) at tx)
+    → AreToldBut s old.journal old.jobs → AreToldBut s new.journal new.jobs
+turn_told s at old new answer turned spoken played told =
+    let b : Before s at old turned.job = record { stands = turned.stands; spoken = spoken; played = played; told = told } in
+    doing_row s at old new turned.job b turned.job.doing answer refl turned.row
+
+-- a turn keeps the stories of all jobs, where it keeps the grounds of conflicts
+pub a_turn_keeps_the_stories_but : (s : Setting) (at : ℕ) (old new : Now) (answer : Turn) → IsTurn s at old answer new
+    → AreSpoken (progress_of s.script old.journal).words old.words old.jobs
+    → (IsTrue s.tells → (tx : SeenTx) → IsActiveAt old.jobs at tx → IsPlayedSoFar s (length old.words) (progress_of s.script old.journal) at tx)
+    → AreTold s (length old.words) old.journal old.jobs
+    → AreGrounded s.tells (parts_of s new.journal) (active_parts s (length new.words) 1 (progress_of s.script new.journal).jobs new.jobs)
+    → AreTold s (length new.words) new.journal new.jobs
+a_turn_keeps_the_stories_but s at old new answer turned spoken played told grounded =
+    told_whole s (length new.words) new.journal new.jobs
+    (turn_told s at old new answer turned spoken played (told_but s (length old.words) old.journal old.jobs told)) grounded

@@ -1,0 +1,27 @@
+ghost use Rattle.std.specs.Prelude.{◌≡◌, ℕ, List, length, true};
+ghost use Rattle.xc_data.specs.declared.entry.JobLine.{JobLine};
+ghost use Rattle.xc_story.specs.Setting.{Setting};
+ghost use Rattle.xc_story.specs.Progress.{progress_of};
+ghost use Rattle.xc_story.specs.Seen.{SeenJob, Now};
+ghost use Rattle.xc_story.specs.Told.{AreTold};
+ghost use Rattle.xc_story.specs.Spoken.{AreSpoken};
+ghost use Rattle.xc_story.specs.Kept.{AreLinesOf};
+ghost use Rattle.xc_story.specs.Truth.{IsTrueJournal};
+ghost use Rattle.xc_story.specs.Ending.{AreEnds, IsComplete, all_done};
+
+/// Where each job has ended the journal is true, the words are its words, and each job has the end that its story has.
+pub fn where_all_have_ended_the_journal_is_true()
+    ensures journal { (s : Setting) (words : ℕ) (now : Now) (lines : List JobLine) → AreTold s words now.journal now.jobs
+        → AreLinesOf now.jobs lines → IsTrueJournal s now.journal }
+    ensures ends { (s : Setting) (words : ℕ) (now : Now) (lines : List JobLine) → AreTold s words now.journal now.jobs
+        → AreLinesOf now.jobs lines → AreEnds s (length now.journal) (progress_of s.script now.journal).jobs lines }
+    ensures words { (before words : List ℕ) (jobs : List SeenJob) (lines : List JobLine) → AreSpoken before words jobs
+        → AreLinesOf jobs lines → words ≡ before }
+{}
+
+/// Where each job was done, each transaction of each job has the one entry by which it was done with.
+pub fn where_all_are_done_all_is_complete()
+    ensures { (s : Setting) (now : Now) (lines : List JobLine) → IsTrueJournal s now.journal
+        → AreEnds s (length now.journal) (progress_of s.script now.journal).jobs lines → all_done lines ≡ true
+        → IsComplete s.script now.journal }
+{}

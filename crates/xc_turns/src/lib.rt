@@ -1,0 +1,11 @@
+//! Each turn of a station keeps what is true of it between two turns, over every host: laws, with no code.
+#![tactic(auto)]
+
+pub mod alone;
+pub mod counted;
+pub mod endings;
+pub mod holding;
+pub mod measured;
+pub mod numbers;
+pub mod spoken;
+pub mod stories;

@@ -1,0 +1,116 @@
+-- Modes behind claims, and loops over them.
+use Rattle.std.proofs.Common.{◌≡◌, ℕ, Bool, true, false, cond, ◌||◌, Option, Some, None, IsSome, List, [], ◌∷◌, ◌++◌, refl, ap, sym, ◌∙◌, subst}
+use Rattle.std.proofs.Common.{take, take_all, length-drop, arith, ◌-◌, ◌+◌, ◌<◌, suc, length, get_or, drop, drop-cons, add-one}
+use Rattle.std.specs.Prelude.{All, if◌then◌else◌}
+use Rattle.std.proofs.Math.Seq.{take-suc}
+use Rattle.std.proofs.lemmas.List.{take-append-drop}
+use Rattle.std.proofs.lemmas.List.Elements.{All-tail, All-weaker}
+use Rattle.xc_data.specs.declared.object.Object.{Object}
+use Rattle.xc_data.specs.declared.claim.Mode.{Mode}
+use Rattle.xc_data.specs.declared.claim.Claim.{Claim}
+use Rattle.xc_data.specs.Claims.{is_object}
+use Rattle.std.specs.FinMap as map
+use Rattle.xc_wordlocks.specs.Keys.{holder}
+use Rattle.xc_wordlocks.specs.Rows.{has}
+use Rattle.xc_wordlocks.specs.Table.{Table, mode_of, with_mode, claimed, KeepsOthers}
+use Rattle.xc_wordlocks.proofs.Orders.{same_object, itself}
+use Rattle.xc_wordlocks.proofs.Modes.{mode_of-insert, mode_of-remove, mode_of-remove_other}
+
+-- what is left of a list begins with the next one
+pub left-cons : {X : Type 0} (xs : List X) (i : ℕ) (x : X) → i < length xs → x ≡ get_or xs i x → drop i xs ≡ x ∷ drop (i + 1) xs
+left-cons xs i x lt e = rw add-one (drop-cons xs i x lt ∙ ap (λ y. y ∷ drop (suc i) xs) (sym e))
+
+-- what is seen of it ends with the last one
+pub take-more : {X : Type 0} (xs : List X) (i : ℕ) (x : X) → i < length xs → x ≡ get_or xs i x → take (i + 1) xs ≡ take i xs ++ x ∷ []
+take-more xs i x lt e = rw add-one (take-suc xs i x lt ∙ ap (λ y. take i xs ++ y ∷ []) (sym e))
+
+-- the whole list: what was seen, the next one, and the others
+pub parts : {X : Type 0} (xs : List X) (i : ℕ) (x : X) → i < length xs → x ≡ get_or xs i x → xs ≡ take i xs ++ x ∷ drop (i + 1) xs
+parts xs i x lt e = sym (take-append-drop i xs) ∙ ap (λ ys. take i xs ++ ys) (left-cons xs i x lt e)
+
+-- a range up to the end of a list is all behind its start
+pub all_behind : {X : Type 0} (n : ℕ) (xs : List X) → take (length xs - n) (drop n xs) ≡ drop n xs
+all_behind n xs = take_all (length xs - n) (drop n xs) (omega (arith, length-drop n xs))
+
+-- ---- one claim
+-- an object that a claim isn't on keeps its mode
+pub claimed_on : (was : Option Mode) (c : Claim) (o : Object) (b : Bool) → is_object c.object o ≡ b
+    → claimed was (c ∷ []) o ≡ cond b (Some (with_mode was c.mode)) was
+claimed_on was c o b e = ap (λ x. if x then Some (with_mode was c.mode) else was) e
+
+raised_by : (t : Table) (tx : ℕ) (c : Claim) (o : Object) (b : Bool) → is_object c.object o ≡ b
+    → cond b (Some (with_mode (mode_of t tx c.object) c.mode)) (mode_of t tx o) ≡ cond b (Some (with_mode (mode_of t tx o) c.mode)) (mode_of t tx o)
+raised_by t tx c o true e = ap (λ (p : Object). Some (with_mode (mode_of t tx p) c.mode)) (same_object c.object o e)
+raised_by t tx c o false e = refl
+
+-- a claim on what is held gives it the stronger of both modes
+pub raised : (t : Table) (tx : ℕ) (c : Claim) (m : Mode) (o : Object) → m ≡ with_mode (mode_of t tx c.object) c.mode
+    → mode_of (map.insert t (holder c.object tx) m) tx o ≡ claimed (mode_of t tx o) (c ∷ []) o
+raised t tx c m o e =
+    mode_of-insert t c.object o tx m ∙ ap (λ (x : Mode). cond (is_object c.object o) (Some x) (mode_of t tx o)) e
+    ∙ raised_by t tx c o (is_object c.object o) refl ∙ sym (claimed_on (mode_of t tx o) c o (is_object c.object o) refl)
+
+-- what is held before a claim is held behind it
+still_held : (was : Option Mode) (c : Claim) (o : Object) → IsSome was → IsSome (claimed was (c ∷ []) o)
+still_held was c o there = by (is_object c.object o) refl
+  where
+    by : (b : Bool) → is_object c.object o ≡ b → IsSome (if b then Some (with_mode was c.mode) else was)
+    by true e = refl
+    by false e = there
+
+-- ---- the loop over the claims
+-- the claims that are left make of these modes what all make of the first ones
+pub record Raising (tx : ℕ) (was now : Table) (claims left : List Claim) : Type 0 where
+  pub own : (o : Object) → claimed (mode_of now tx o) left o ≡ claimed (mode_of was tx o) claims o
+  pub others : KeepsOthers tx was now
+  pub held : All (λ (c : Claim). IsSome (mode_of now tx c.object)) left
+
+-- a claim more is done
+pub raising_more : (tx : ℕ) (was now next : Table) (claims rest : List Claim) (c : Claim) → Raising tx was now claims (c ∷ rest)
+    → ((o : Object) → mode_of next tx o ≡ claimed (mode_of now tx o) (c ∷ []) o) → KeepsOthers tx now next → Raising tx was next claims rest
+raising_more tx was now next claims rest c r own others = record {
+  own = λ o. ap (λ (m : Option Mode). claimed m rest o) (own o) ∙ r.own o;
+  others = λ n o ne. others n o ne ∙ r.others n o ne;
+  held = still rest (All-tail (λ (d : Claim). IsSome (mode_of now tx d.object)) c rest r.held);
+}
+  where
+    still : (cs : List Claim) → All (λ (d : Claim). IsSome (mode_of now tx d.object)) cs → All (λ (d : Claim). IsSome (mode_of next tx d.object)) cs
+    still cs h =
+        All-weaker (λ (d : Claim). IsSome (mode_of now tx d.object)) (λ (d : Claim). IsSome (mode_of next tx d.object))
+        (λ d there. subst IsSome (sym (own d.object)) (still_held (mode_of now tx d.object) c d.object there)) cs h
+
+-- ---- the loop over objects that are taken out
+-- without the objects that are left the transaction holds what it held at first without all
+pub record Removing (tx : ℕ) (was now : Table) (objects left : List Object) : Type 0 where
+  pub own : (o : Object) → cond (has left o) None (mode_of now tx o) ≡ cond (has objects o) None (mode_of was tx o)
+  pub others : KeepsOthers tx was now
+
+without : (b c : Bool) (m : Option Mode) → cond c None (cond b None m) ≡ cond (b || c) None m
+without true true m = refl
+without true false m = refl
+without false true m = refl
+without false false m = refl
+
+turned_object : (a b : Object) (x y : Bool) → is_object a b ≡ x → is_object b a ≡ y → x ≡ y
+turned_object a b true true e f = refl
+turned_object a b false false e f = refl
+turned_object a b true false e f =
+    let yes : is_object b a ≡ true = subst (λ (x : Object). is_object x a ≡ true) (same_object a b e) (itself a) in
+    sym yes ∙ f
+turned_object a b false true e f =
+    let yes : is_object a b ≡ true = subst (λ (x : Object). is_object x b ≡ true) (same_object b a f) (itself b) in
+    sym e ∙ yes
+
+-- the test may be asked either way
+pub is_object-swap : (a b : Object) → is_object a b ≡ is_object b a
+is_object-swap a b = turned_object a b (is_object a b) (is_object b a) refl refl
+
+-- an object more is taken out
+pub removing_more : (tx : ℕ) (was now : Table) (objects rest : List Object) (p : Object) → Removing tx was now objects (p ∷ rest)
+    → Removing tx was (map.remove now (holder p tx)) objects rest
+removing_more tx was now objects rest p r = record {
+  own = λ o.
+      ap (λ (m : Option Mode). cond (has rest o) None m) (mode_of-remove now p o tx ∙ ap (λ b. cond b None (mode_of now tx o)) (is_object-swap p o))
+      ∙ without (is_object o p) (has rest o) (mode_of now tx o) ∙ r.own o;
+  others = λ n o ne. mode_of-remove_other now p o tx n ne ∙ r.others n o ne;
+}

@@ -1,0 +1,107 @@
+-- What the table keeps: compatible modes, and rows that list what is held.
+use Rattle.std.proofs.Common.{◌≡◌, ◌≢◌, ℕ, Bool, true, false, Option, Some, None, is_some, List, [], ◌∷◌, refl, ap, sym, ◌∙◌, subst}
+use Rattle.std.specs.Prelude.{All, ◌==◌, if◌then◌else◌}
+use Rattle.std.proofs.lemmas.Bool.{eqb-true, eqb-false}
+use Rattle.std.proofs.lemmas.List.Elements.{All-head, All-tail}
+use Rattle.xc_data.specs.declared.object.Object.{Object}
+use Rattle.xc_data.specs.declared.claim.Mode.{Mode}
+use Rattle.xc_data.specs.declared.claim.Mode.TheVariants.{Shared, Exclusive}
+use Rattle.xc_data.specs.declared.claim.Claim.{Claim}
+use Rattle.xc_data.specs.Claims.{is_object, compatible, stronger}
+use Rattle.xc_wordlocks.specs.Rows.{has}
+use Rattle.xc_wordlocks.specs.Met.{IsNotMet}
+use Rattle.xc_wordlocks.specs.Table.{Table, mode_of, with_mode, claimed, KeepsOthers, AreCompatible}
+use Rattle.xc_wordlocks.proofs.Orders.{same_object}
+
+-- ---- modes
+both_shared : (a b : Mode) → compatible a b ≡ true → (a ≡ Shared) × (b ≡ Shared)
+both_shared Shared Shared e = (refl, refl)
+both_shared Shared Exclusive e = absurd (cc)
+both_shared Exclusive b e = absurd (cc)
+
+are_compatible : (a b : Mode) → (a ≡ Shared) × (b ≡ Shared) → compatible a b ≡ true
+are_compatible a b both = ap (λ x. compatible x b) both.0 ∙ ap (compatible Shared) both.1
+
+turned : (a b : Mode) → compatible a b ≡ true → compatible b a ≡ true
+turned Shared Shared e = refl
+turned Shared Exclusive e = absurd (cc)
+turned Exclusive b e = absurd (cc)
+
+joined : (a m b : Mode) → compatible a b ≡ true → compatible m b ≡ true → compatible (stronger a m) b ≡ true
+joined Shared m b e f = f
+joined Exclusive m b e f = e
+
+-- ---- a claim keeps the modes compatible
+-- what another holds is compatible with each claim that isn't met
+beside_claim : (t : Table) (tx n : ℕ) (c : Claim) (b : Mode) → n ≢ tx → IsNotMet t tx c → mode_of t n c.object ≡ Some b → compatible b c.mode ≡ true
+beside_claim t tx n c b ne free holds = by (compatible b c.mode) refl
+  where
+    by : (r : Bool) → compatible b c.mode ≡ r → r ≡ true
+    by true e = refl
+    by false e = absurd (free n (record { other = ne; held_as = b; holds = holds; apart = e }))
+
+-- what this one holds of an object, if it does, is compatible with another's mode
+IsBeside : Mode → Option Mode → Type 0
+IsBeside b m = (a : Mode) → m ≡ Some a → compatible a b ≡ true
+
+with_beside : (b m : Mode) (was : Option Mode) → IsBeside b was → compatible m b ≡ true → compatible (with_mode was m) b ≡ true
+unfolding IsBeside
+with_beside b m None beside e = e
+with_beside b m (Some a) beside e = joined a m b (beside a refl) e
+
+one_beside : (t : Table) (tx n : ℕ) (o : Object) (c : Claim) (b : Mode) (was : Option Mode) (r : Bool) → n ≢ tx → mode_of t n o ≡ Some b → IsNotMet t tx c
+    → is_object c.object o ≡ r → IsBeside b was → IsBeside b (if r then Some (with_mode was c.mode) else was)
+unfolding IsBeside
+one_beside t tx n o c b was true ne holds free e beside a is =
+    let at : mode_of t n c.object ≡ Some b = ap (mode_of t n) (same_object c.object o e) ∙ holds in
+    let fits = with_beside b c.mode was beside (turned b c.mode (beside_claim t tx n c b ne free at)) in
+    let same : with_mode was c.mode ≡ a = cc in
+    subst (λ x. compatible x b ≡ true) same fits
+one_beside t tx n o c b was false ne holds free e beside a is = beside a is
+
+all_beside : (t : Table) (tx n : ℕ) (o : Object) (cs : List Claim) (b : Mode) (was : Option Mode) → n ≢ tx → mode_of t n o ≡ Some b
+    → All (IsNotMet t tx) cs → IsBeside b was → IsBeside b (claimed was cs o)
+all_beside t tx n o [] b was ne holds free beside = beside
+all_beside t tx n o (c ∷ cs) b was ne holds free beside =
+    all_beside t tx n o cs b (if is_object c.object o then Some (with_mode was c.mode) else was) ne holds (All-tail (IsNotMet t tx) c cs free)
+    (one_beside t tx n o c b was (is_object c.object o) ne holds (All-head (IsNotMet t tx) c cs free) refl beside)
+
+module _ (t u : Table) (tx : ℕ) (claims : List Claim) (compatible_before : AreCompatible t) (free : All (IsNotMet t tx) claims)
+    (own : (o : Object) → mode_of u tx o ≡ claimed (mode_of t tx o) claims o) (others : KeepsOthers tx t u) where
+  beside_other : (k : ℕ) (o : Object) (a b : Mode) → k ≢ tx → mode_of u tx o ≡ Some a → mode_of u k o ≡ Some b → compatible a b ≡ true
+  unfolding IsBeside
+  beside_other k o a b ne mine other =
+      let holds : mode_of t k o ≡ Some b = sym (others k o ne) ∙ other in
+      all_beside t tx k o claims b (mode_of t tx o) ne holds free
+      (λ m is. are_compatible m b (compatible_before tx k o m b (λ e. ne (sym e)) is holds)) a (sym (own o) ∙ mine)
+
+  -- claims that aren't met leave the modes compatible
+  pub coherent_claim : AreCompatible u
+  coherent_claim n k o a b ne mine other = by (n == tx) (k == tx) refl refl
+    where
+      by : (x y : Bool) → (n == tx) ≡ x → (k == tx) ≡ y → (a ≡ Shared) × (b ≡ Shared)
+      by true true e f = absurd (ne (eqb-true n tx e ∙ sym (eqb-true k tx f)))
+      by true false e f =
+          both_shared a b (beside_other k o a b (eqb-false k tx f) (ap (λ j. mode_of u j o) (sym (eqb-true n tx e)) ∙ mine) other)
+      by false true e f =
+          both_shared a b (turned b a (beside_other n o b a (eqb-false n tx e) (ap (λ j. mode_of u j o) (sym (eqb-true k tx f)) ∙ other) mine))
+      by false false e f =
+          compatible_before n k o a b ne (sym (others n o (eqb-false n tx e)) ∙ mine) (sym (others k o (eqb-false k tx f)) ∙ other)
+
+-- a table of nothing is compatible
+pub coherent_empty : (t : Table) → ((n : ℕ) (o : Object) → mode_of t n o ≡ None) → AreCompatible t
+coherent_empty t empty n k o a b ne mine other =
+    let clash : None ≡ Some a = sym (empty n o) ∙ mine in
+    absurd (cc)
+
+-- ---- rows
+-- where the row of one transaction lists what it holds, and the others stay, all rows do
+pub listed_so : (tx : ℕ) (before after : ℕ → List Object) (s t : Table) → ((o : Object) → has (after tx) o ≡ is_some (mode_of t tx o))
+    → ((n : ℕ) → n ≢ tx → after n ≡ before n) → KeepsOthers tx s t → ((n : ℕ) (o : Object) → has (before n) o ≡ is_some (mode_of s n o))
+    → (n : ℕ) (o : Object) → has (after n) o ≡ is_some (mode_of t n o)
+listed_so tx before after s t own rows others listed n o = by (n == tx) refl
+  where
+    by : (b : Bool) → (n == tx) ≡ b → has (after n) o ≡ is_some (mode_of t n o)
+    by true e = ap (λ k. has (after k) o) (eqb-true n tx e) ∙ own o ∙ ap (λ k. is_some (mode_of t k o)) (sym (eqb-true n tx e))
+    by false e =
+        ap (λ l. has l o) (rows n (eqb-false n tx e)) ∙ listed n o ∙ ap is_some (sym (others n o (eqb-false n tx e)))

@@ -1,0 +1,38 @@
+-- The keys of the table: objects in an order, and who holds them.
+use Rattle.std.specs.Prelude.{ℕ}
+use Rattle.std.specs.Coded.{Coded}
+use Rattle.std.specs.declared.cmp.Ordering.{Ordering}
+use Rattle.xc_data.specs.declared.object.Object.{Object}
+use Rattle.xc_data.specs.declared.object.Object.TheVariants as object
+use Rattle.xc_data.specs.declared.claim.Mode.{Mode}
+use Rattle.xc_data.specs.contracts.claim.Mode as mode_row
+use Rattle.xc_wordlocks.specs.declared.key.Key.{Key}
+use Rattle.xc_wordlocks.specs.declared.key.Key.TheVariants as key
+use Rattle.xc_wordlocks.specs.declared.key.Holder.{Holder}
+use Rattle.xc_wordlocks.specs.contracts.key.Holder as holder_row
+use Rattle.xc_wordlocks.specs.contracts.key.HolderOrd.TheImpl as holder_ord
+
+-- an object's key
+abbrev pub key_of : Object → Key
+key_of (object.Word at) = key.Word at
+key_of (object.Name name) = key.Name name
+key_of (object.File num) = key.File num
+key_of (object.Pipe num) = key.Pipe num
+key_of (object.Pair num) = key.Pair num
+key_of object.Jobs = key.Jobs
+
+-- a transaction as the holder of an object
+abbrev pub holder : Object → ℕ → Holder
+holder o n = record { object = key_of o; tx = n }
+
+-- by object, and then by transaction
+abbrev pub holder_cmp : Holder → Holder → Ordering
+holder_cmp = holder_ord.ghosts.cmp
+
+-- how a proof stores a holder
+abbrev pub coded_holder : Coded Holder
+coded_holder = holder_row.the_row.coded
+
+-- how a proof stores a mode
+abbrev pub coded_mode : Coded Mode
+coded_mode = mode_row.the_row.coded

@@ -1,0 +1,101 @@
+ghost use Rattle.std.specs.Prelude.{◌≡◌, ℕ, All, MatchOption, MatchResult, None, OnOk, OnErr, IfErr};
+ghost use Rattle.xc_data.specs.declared.object.Object.{Object};
+ghost use Rattle.xc_wordlocks.specs.Table.{AreCompatible, KeepsOthers, claimed, mode_of};
+ghost use Rattle.xc_wordlocks.specs.Met.{IsCause, IsMet, IsNotMet};
+
+use crate::ClaimErr;
+use crate::holders::Holders;
+use crate::placing::hold_all;
+use crate::rows::Rows;
+use std::alloc::Global;
+use std::marker::Model;
+use xc_data::Claim;
+
+/// Which transaction holds which object, and in which mode. Contracts see it by `mode_of`.
+#[derive(Drop)]
+pub struct Claims {
+    holders: Holders,
+    rows: Rows,
+}
+
+impl Model for Claims {
+    ghost use Rattle.std.specs.FinMap as map;
+    ghost use Rattle.xc_data.specs.declared.claim.Mode.{Mode};
+    ghost use Rattle.xc_wordlocks.specs.Keys.{holder_cmp, coded_holder, coded_mode};
+    ghost use Rattle.xc_wordlocks.specs.Rows.{IsWhole};
+
+    ghost Value = { map.FinMap holder_cmp Mode };
+
+    ghost coded = { map.code coded_holder coded_mode };
+
+    ghost view = { λ a. a.holders };
+
+    ghost invariant = { λ a. IsWhole a.rows a.holders };
+}
+
+impl Claims {
+    pub fn new(alloc: Global) -> Claims
+        ensures empty { (n : ℕ) (o : Object) → mode_of result n o ≡ None }
+        ensures coherent { AreCompatible result }
+    {
+        Claims {
+            holders: Holders::new(alloc),
+            rows: Rows::new(alloc),
+        }
+    }
+
+    /// The smallest transaction that holds the claimed object in a mode which isn't compatible with
+    /// the claimed one. It takes no memory.
+    pub fn met(&self, claim: &Claim, tx: u32) -> Option<u32>
+        ensures met { MatchOption result (IsNotMet self.now tx claim.now) (IsMet self.now claim.now tx) }
+        ensures coherent { AreCompatible self.now }
+    {
+        let (holder, mode) = self.holders.first_other(&claim.object, tx)?;
+        if mode.is_compatible(claim.mode) {
+            None
+        } else {
+            Some(holder)
+        }
+    }
+
+    // Whether a claim is met, and which is the first.
+    fn check(&self, claims: &[Claim], tx: u32) -> Result<(), ClaimErr>
+        ensures { MatchResult result (λ _. All (IsNotMet self.now tx) claims.now) (IsCause self.now claims.now tx) }
+    {
+        for claim in claims {
+            if let Some(holder) = self.met(claim, tx) {
+                return Err(ClaimErr::Met {
+                    object: claim.object,
+                    holder,
+                });
+            }
+        }
+        Ok(())
+    }
+
+    /// The transaction holds all claimed objects. One that it held already it holds in the stronger
+    /// of both modes.
+    pub fn claim(&mut self, claims: &[Claim], tx: u32) -> Result<(), ClaimErr>
+        ensures unmet { OnOk result (All (IsNotMet self.old tx) claims.now) }
+        ensures held { OnOk result ((o : Object) → mode_of self.new tx o ≡ claimed (mode_of self.old tx o) claims.now o) }
+        ensures others { OnOk result (KeepsOthers tx self.old self.new) }
+        ensures err { OnErr result (self.new ≡ self.old) }
+        ensures cause { IfErr result (IsCause self.old claims.now tx) }
+        ensures coherent { AreCompatible self.new }
+    {
+        self.check(claims, tx)?;
+        hold_all(&mut self.holders, &mut self.rows, claims, tx)?;
+        Ok(())
+    }
+
+    /// The transaction holds nothing any longer. It takes no memory.
+    pub fn release_all(&mut self, tx: u32)
+        ensures released { (o : Object) → mode_of self.new tx o ≡ None }
+        ensures others { KeepsOthers tx self.old self.new }
+        ensures coherent { AreCompatible self.new }
+    {
+        if let Some(row) = self.rows.remove(tx) {
+            self.holders.remove_all(row.as_slice(), tx);
+        }
+    }
+}

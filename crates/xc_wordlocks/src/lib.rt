@@ -1,0 +1,19 @@
+//! The table of claims: which transaction holds which object, and in which mode.
+#![tactic(auto)]
+
+mod claims;
+mod holders;
+mod key;
+mod law;
+mod placing;
+mod refusal;
+mod rows;
+#[cfg(test)]
+mod tests;
+
+pub use claims::Claims;
+pub use law::{
+    a_held_list_has_one_mode_for_each_object, a_member_s_mode_is_the_mode_in_a_list,
+    a_mode_in_a_list_is_a_member_s, a_row_follows_the_held_list,
+};
+pub use refusal::ClaimErr;
