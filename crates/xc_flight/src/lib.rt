@@ -1,5 +1,5 @@
 //! Several active transactions in flight over one world: what is true of all of them at each moment,
-//! and that each turn of one keeps it. Plain data and laws, with no code; a station of several jobs is to be built over it.
+//! and that each turn of one keeps it. Plain data and laws, with no code; the station of several jobs stands on it.
 //! It needs no host and no table of claims: what a transaction has is read off the claims it holds.
 //!
 //! 1. The journal's state S is the world after the transactions that entered, one after another.
