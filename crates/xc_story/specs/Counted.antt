@@ -1,12 +1,12 @@
 -- The faults that are recorded, in the journal and in active transactions.
 use Rattle.std.specs.Prelude.{ℕ, ◌+◌, count_by, sum_by}
 use Rattle.xc_data.specs.Counts.{CountsFaults}
-use Rattle.xc_data.specs.Faults.{entry_faults, is_fault_reply, undo_faults}
+use Rattle.xc_data.specs.Faults.{entry_faults, is_fault_reply, is_fault_end, undo_faults}
 use Rattle.xc_story.specs.Seen.{SeenTx, Now, actives}
 
 -- those of an active transaction
 abbrev pub tx_faults : SeenTx → ℕ
-tx_faults tx = count_by is_fault_reply tx.replies + sum_by undo_faults tx.undo.ended
+tx_faults tx = count_by is_fault_reply tx.replies + (sum_by undo_faults tx.undo.ended + count_by is_fault_end tx.ends)
 
 -- all that are recorded
 abbrev pub recorded_faults : Now → ℕ

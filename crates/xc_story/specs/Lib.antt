@@ -4,6 +4,7 @@ pub mod Ending
 pub mod Grounds
 pub mod Holding
 pub mod Kept
+pub mod LateCalls
 pub mod Measure
 pub mod Opened
 pub mod Played

@@ -5,18 +5,18 @@ use Rattle.xc_script.specs.Ask.{transactions_at}
 use Rattle.xc_story.specs.declared.phase.Phase.{Phase}
 use Rattle.xc_story.specs.declared.phase.Phase.TheVariants.{Running, Committing, Undoing}
 use Rattle.xc_story.specs.Setting.{Setting}
-use Rattle.xc_story.specs.Seen.{SeenJob, Doing, Idle, Active, Starved, Ended, Now, failures}
+use Rattle.xc_story.specs.Seen.{SeenTx, SeenJob, Doing, Idle, Active, Starved, Ended, Now, failures, late_left}
 
--- an attempt at a transaction: two turns for each statement, which may leave a record, its begin, the entering of its
--- commit or abort, and its entry
+-- an attempt at a transaction: two turns for each statement, which may leave a record or a late call, its begin, the
+-- entering of its commit or abort, and its entry
 abbrev pub attempt_turns : List Statement → ℕ
 attempt_turns body = 2 * length body + 4
 
--- what is left of an attempt of so many statements, behind so many of them, with so many records
-abbrev pub phase_turns : ℕ → ℕ → ℕ → Phase → ℕ
-phase_turns statements at records Running = 2 * (statements - at) + records + 3
-phase_turns statements at records Committing = 2
-phase_turns statements at records (Undoing c) = records + 2
+-- what is left of an attempt of so many statements, behind so many of them
+abbrev pub phase_turns : ℕ → ℕ → SeenTx → Phase → ℕ
+phase_turns statements at tx Running = 2 * (statements - at) + length tx.undo.pending + length (late_left tx) + 3
+phase_turns statements at tx Committing = length (late_left tx) + 2
+phase_turns statements at tx (Undoing c) = length tx.undo.pending + 2
 
 -- transactions, each tried as often as the rules allow
 abbrev pub bodies_turns : Setting → List (List Statement) → ℕ
@@ -26,9 +26,9 @@ bodies_turns s bodies = sum_by (λ body. s.rules.attempts * attempt_turns body) 
 abbrev pub doing_turns : Setting → ℕ → ℕ → List (List Statement) → Doing → ℕ
 doing_turns s failed at [] Idle = 1
 doing_turns s failed at (body ∷ bodies) Idle = (s.rules.attempts - failed) * attempt_turns body + bodies_turns s bodies + 1
-doing_turns s failed at [] (Active tx) = phase_turns 0 at (length tx.undo.pending) tx.phase + 1
+doing_turns s failed at [] (Active tx) = phase_turns 0 at tx tx.phase + 1
 doing_turns s failed at (body ∷ bodies) (Active tx) =
-    phase_turns (length body) at (length tx.undo.pending) tx.phase + (s.rules.attempts - (failed + 1)) * attempt_turns body
+    phase_turns (length body) at tx tx.phase + (s.rules.attempts - (failed + 1)) * attempt_turns body
     + bodies_turns s bodies + 1
 doing_turns s failed at bodies Starved = 1
 doing_turns s failed at bodies (Ended end) = 0

@@ -5,8 +5,11 @@ use Rattle.std.specs.Prelude.{Option, nat_lt, if◌then◌else◌}
 use Rattle.std.specs.declared.option.Option.TheVariants.{None, Some}
 use Rattle.xc_data.specs.Claims.{compatible, holding}
 use Rattle.xc_data.specs.Counts.{CountsFault, CountsFaults}
-use Rattle.xc_data.specs.Faults.{is_fault_reply, end_faults}
+use Rattle.xc_data.specs.Faults.{is_fault_reply, is_fault_end, end_faults}
 use Rattle.xc_data.specs.declared.call.Answer.{Answer}
+use Rattle.xc_data.specs.declared.call.Answer.TheVariants as answer
+use Rattle.xc_data.specs.declared.call.LateCall.{LateCall}
+use Rattle.xc_data.specs.declared.call.LateEnd.{LateEnd}
 use Rattle.xc_data.specs.declared.call.Asked.{Asked}
 use Rattle.xc_data.specs.declared.call.Call.{Call}
 use Rattle.xc_data.specs.declared.call.Call.TheVariants as call
@@ -38,8 +41,8 @@ use Rattle.xc_world.specs.Act.{act}
 use Rattle.xc_world.specs.Act.Step.{stays}
 use Rattle.xc_world.specs.Ends.{IsLegalEnd}
 use Rattle.xc_world.specs.Effects.{undone_to}
-use Rattle.xc_world.specs.Fits.{fits, answer_of}
-use Rattle.xc_world.specs.Late.{is_late}
+use Rattle.xc_world.specs.Fits.{fits, late_fits, answer_of, late_answer_of}
+use Rattle.xc_world.specs.Late.{is_late, kept_call, late, ends}
 use Rattle.xc_world.specs.Modes.{claims_of}
 use Rattle.xc_world.specs.Trail.{recorded}
 use Rattle.xc_story.specs.declared.phase.Attempts.{Attempts}
@@ -47,8 +50,9 @@ use Rattle.xc_story.specs.declared.phase.Phase.{Phase}
 use Rattle.xc_story.specs.declared.phase.Phase.TheVariants.{Running, Committing, Undoing}
 use Rattle.xc_story.specs.Setting.{Setting}
 use Rattle.xc_story.specs.WordCalls.{IsWordStep}
+use Rattle.xc_story.specs.LateCalls.{waits}
 use Rattle.xc_story.specs.Seen.{SeenTx, SeenJob, Doing, Idle, Active, Starved, Ended, Now}
-use Rattle.xc_story.specs.Seen.{active_of, begun_count, failures, rank_of, with_job, entering}
+use Rattle.xc_story.specs.Seen.{active_of, begun_count, failures, late_left, rank_of, with_job, entering}
 
 -- ---- where a job stands
 -- its next transaction, where one is left
@@ -96,6 +100,8 @@ new_tx number rank began me =
       calls = [];
       replies = [];
       held = [];
+      late = [];
+      ends = [];
     }
 
 -- the job at the begin of its next transaction, whose number is the next
@@ -170,6 +176,8 @@ is_built (call.XLen h) = true
 is_built (call.XClose h) = true
 is_built (call.XCreate name) = true
 is_built (call.XRename from to) = true
+is_built (call.XUnlink name slot) = true
+is_built (call.XSync h slot) = true
 is_built _ = false
 
 -- what a call works on beside the host: its transaction's number, the private state, the stores that wait, the records
@@ -198,7 +206,7 @@ DoesIn words was is old new call reply =
 abbrev pub parts_of : SeenTx → Parts
 parts_of tx = record { number = tx.number; me = tx.me; stores = tx.writes; undo = tx.undo }
 
--- the transaction behind a call: noted with its reply, and what it claimed held
+-- the transaction behind a call: noted with its reply, what it claimed held, and kept for the commit where it replied so
 abbrev pub noting : SeenTx → Call → Reply → List Claim → Parts → SeenTx
 noting tx call reply claims parts =
     record tx {
@@ -208,6 +216,7 @@ noting tx call reply claims parts =
       calls = tx.calls ++ call ∷ [];
       replies = tx.replies ++ reply ∷ [];
       held = holding tx.held claims;
+      late = tx.late ++ kept_call call tx.me reply;
     }
 
 -- the stores that a call adds, over so many words
@@ -218,6 +227,12 @@ stored_by count _ = []
 -- what a transaction's call claims
 abbrev pub claims_at : Now → SeenTx → Call → List Claim
 claims_at now tx call = claims_of call tx.me (length now.words)
+
+-- over every host: a call that is kept for the commit replies as the plain machine does, which asks no host, and every
+-- other one replies now
+pub record IsReplyInTime (me : Private) (number : ℕ) (call : Call) (reply : Reply) : Type 0 where
+  pub kept : waits call ≡ true → (w : World) → reply ≡ (act w me number call answer.Fine).reply
+  pub now : waits call ≡ false → is_late reply ≡ false
 
 -- the call is done and noted
 pub record Calls (s : Setting) (at : ℕ) (old : Now) (job : SeenJob) (tx : SeenTx) (call : Call) (new : Now) : Type 0 where
@@ -233,8 +248,8 @@ pub record Calls (s : Setting) (at : ℕ) (old : Now) (job : SeenJob) (tx : Seen
   pub begin : IsSameBegin job.place place
   pub walk : walk_of s.script place ≡ answered (walk_of s.script job.place) reply
   pub nearer : job.place.at < place.at
-  -- it is no call that is kept for the commit, and one of those that scripts have so far
-  pub now : is_late reply ≡ false
+  -- it is kept for the commit or done now, and one of those that scripts have so far
+  pub in_time : IsReplyInTime tx.me tx.number call reply
   pub built : is_built call ≡ true
   -- the older records stay, and at most one comes behind them
   pub made : List Undo
@@ -337,7 +352,7 @@ RunningTurn s at old job tx turn.Went new = AskedTurn s at old job tx (asked_at 
 RunningTurn s at old job tx turn.NoMemory new = Wants s at old job tx new
 RunningTurn s at old job tx _ new = ⊥
 
--- ---- entries
+-- ---- what a transaction leaves at its end
 -- the entry of a transaction that ended so, of the job in this place
 abbrev pub entry_of : SeenTx → ℕ → Outcome → Entry
 entry_of tx at outcome =
@@ -352,6 +367,24 @@ entry_of tx at outcome =
       outcome = outcome;
     }
 
+-- ---- late calls
+-- from these contents of the host to those a late call is the plain machine's, with the answer that its end tells of
+pub record DoesLate (was is : Contents) (call : LateCall) (end : LateEnd) : Type 0 where
+  pub fits : IsTrue (late_fits (world_of was) call (late_answer_of end))
+  pub step : (w : World) → late (with_contents w was) call (late_answer_of end) ≡ ends (with_contents w is) end
+
+-- the next late call is done, in the order in which they were made, under the claims of its transaction
+pub record EndsLate (s : Setting) (at : ℕ) (old : Now) (job : SeenJob) (tx : SeenTx) (call : LateCall) (new : Now) : Type 0 where
+  pub end : LateEnd
+  pub jobs : new.jobs ≡ slice_set old.jobs at (with_tx job job.place (record tx { ends = tx.ends ++ end ∷ [] }))
+  pub words : new.words ≡ old.words
+  pub journal : new.journal ≡ old.journal
+  -- a fault exactly where the host's count rose
+  pub cause : CountsFault (is_fault_end end) old.faults new.faults
+  -- over a host that tells, its end and what it did are the plain machine's
+  pub does : IsTrue s.tells → DoesLate old.contents new.contents call end
+
+-- ---- entries
 -- behind a commit a job is at its next transaction, with the variables and the handles of this one's end
 abbrev pub behind_commit : SeenJob → SeenTx → SeenJob
 behind_commit job tx =
@@ -384,10 +417,20 @@ behind_abort job tx c =
       doing = Idle;
     }
 
--- a committing transaction enters
-abbrev pub CommittingTurn : ℕ → Now → SeenJob → SeenTx → Turn → Now → Type 0
-CommittingTurn at old job tx turn.Went new = new ≡ entering old at (behind_commit job tx) (entry_of tx at (Committed []))
-CommittingTurn at old job tx _ new = ⊥
+-- a committed transaction, each of whose late calls has its end, enters
+abbrev pub EntersCommitted : ℕ → Now → SeenJob → SeenTx → Now → Type 0
+EntersCommitted at old job tx new = new ≡ entering old at (behind_commit job tx) (entry_of tx at (Committed tx.ends))
+
+module _ (s : Setting) (at : ℕ) where
+  -- by the late calls that have no end yet
+  abbrev pub LateTurn : Now → SeenJob → SeenTx → List LateCall → Now → Type 0
+  LateTurn old job tx [] new = EntersCommitted at old job tx new
+  LateTurn old job tx (call ∷ calls) new = EndsLate s at old job tx call new
+
+  -- a committing transaction
+  abbrev pub CommittingTurn : Now → SeenJob → SeenTx → Turn → Now → Type 0
+  CommittingTurn old job tx turn.Went new = LateTurn old job tx (late_left tx) new
+  CommittingTurn old job tx _ new = ⊥
 
 -- ---- the way back
 -- the newest record without an end is tried
@@ -432,7 +475,7 @@ module _ (s : Setting) (at : ℕ) where
   -- a job with an active transaction, by the transaction's phase
   abbrev pub ActiveTurn : Now → SeenJob → SeenTx → Phase → Turn → Now → Type 0
   ActiveTurn old job tx Running answer new = RunningTurn s at old job tx answer new
-  ActiveTurn old job tx Committing answer new = CommittingTurn at old job tx answer new
+  ActiveTurn old job tx Committing answer new = CommittingTurn s at old job tx answer new
   ActiveTurn old job tx (Undoing c) answer new = UndoingTurn s at old job tx c answer new
 
   -- by what the job does; one that has ended has no turn

@@ -1,9 +1,11 @@
 -- A station between two turns, as plain data.
-use Rattle.std.specs.Prelude.{ℕ, ◌+◌, List, [], ◌∷◌, ◌++◌, length, slice_set, Option}
+use Rattle.std.specs.Prelude.{ℕ, ◌+◌, List, [], ◌∷◌, ◌++◌, length, drop, slice_set, Option}
 use Rattle.std.specs.List.{filter_map}
 use Rattle.std.specs.declared.option.Option.TheVariants.{None, Some}
 use Rattle.xc_data.specs.declared.call.Call.{Call}
 use Rattle.xc_data.specs.declared.call.Reply.{Reply}
+use Rattle.xc_data.specs.declared.call.LateCall.{LateCall}
+use Rattle.xc_data.specs.declared.call.LateEnd.{LateEnd}
 use Rattle.xc_data.specs.declared.claim.Claim.{Claim}
 use Rattle.xc_data.specs.declared.entry.Entry.{Entry}
 use Rattle.xc_data.specs.declared.entry.JobEnd.{JobEnd}
@@ -30,6 +32,9 @@ pub record SeenTx : Type 0 where
   pub calls : List Call
   pub replies : List Reply
   pub held : List Claim
+  -- its calls that are kept for the commit, each on the object that was fixed at the call, and the ends of the first of them
+  pub late : List LateCall
+  pub ends : List LateEnd
 
 -- what a job does: it has no active transaction; it has one; its last one was aborted for want of memory; it has ended
 pub data Doing : Type 0 where
@@ -74,6 +79,10 @@ actives jobs = filter_map active_of jobs
 -- how many transactions have begun: those that entered, and those that are active
 abbrev pub begun_count : Now → ℕ
 begun_count now = length now.journal + length (actives now.jobs)
+
+-- its late calls that have no end yet
+abbrev pub late_left : SeenTx → List LateCall
+late_left tx = drop (length tx.ends) tx.late
 
 -- ---- attempts
 -- how many ended in a conflict

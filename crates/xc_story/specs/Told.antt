@@ -38,6 +38,7 @@ IsAhead s f place tx = walk_of s.script place ≡ all_answered (walk_from s.scri
 pub record IsRunning (s : Setting) (f : Following) (place : Place) (tx : SeenTx) : Type 0 where
   pub ahead : IsAhead s f place tx
   pub none : tx.undo.ended ≡ []
+  pub no_ends : tx.ends ≡ []
 
 -- a committing one: its commit was asked, and the job stands where its walk does
 pub record IsCommitting (s : Setting) (f : Following) (place : Place) (tx : SeenTx) : Type 0 where
@@ -45,11 +46,13 @@ pub record IsCommitting (s : Setting) (f : Following) (place : Place) (tx : Seen
   pub asked : asks (walk_of s.script place) ≡ ask.Commit
   pub settled : IsSettled s.script place
   pub none : tx.undo.ended ≡ []
+  pub few_ends : length tx.ends ≤ length tx.late
 
 -- an undoing one: the compensations so far have legal ends
 pub record IsUndoing (s : Setting) (f : Following) (tx : SeenTx) (c : Cause) : Type 0 where
   pub caused : IsCauseOf c (next_of s.script f tx.replies)
   pub legal : AreLegal s.rules.undo_tries (length tx.undo.pending + 1) tx.undo.ended
+  pub no_ends : tx.ends ≡ []
 
 -- by its phase
 abbrev pub IsInPhase : Setting → Following → Place → SeenTx → Phase → Type 0
@@ -66,9 +69,9 @@ pub record IsUnderway (s : Setting) (f : Following) (place : Place) (tx : SeenTx
   -- it began behind its job's entry before
   pub since : f.since ≤ tx.began
   pub standing : IsStanding f place
-  -- its calls are the script's, and none was kept for the commit
+  -- its calls are the script's, and its late calls are as many as were kept for the commit
   pub asked : AsksEach (walk_from s.script f.job) tx.calls tx.replies
-  pub none_kept : kept_of tx.calls tx.replies ≡ []
+  pub kept : length tx.late ≡ length (kept_of tx.calls tx.replies)
   pub stored : tx.me.stored ≤ 16384
   pub phase : IsInPhase s f place tx tx.phase
 
