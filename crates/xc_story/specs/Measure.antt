@@ -7,14 +7,14 @@ use Rattle.xc_story.specs.declared.phase.Phase.TheVariants.{Running, Committing,
 use Rattle.xc_story.specs.Setting.{Setting}
 use Rattle.xc_story.specs.Seen.{SeenTx, SeenJob, Doing, Idle, Active, Starved, Ended, Now, failures, late_left}
 
--- an attempt at a transaction: two turns for each statement, which may leave a record or a late call, its begin, the
+-- an attempt at a transaction: three turns for each statement, which may leave a record and a late call, its begin, the
 -- entering of its commit or abort, and its entry
 abbrev pub attempt_turns : List Statement → ℕ
-attempt_turns body = 2 * length body + 4
+attempt_turns body = 3 * length body + 4
 
 -- what is left of an attempt of so many statements, behind so many of them
 abbrev pub phase_turns : ℕ → ℕ → SeenTx → Phase → ℕ
-phase_turns statements at tx Running = 2 * (statements - at) + length tx.undo.pending + length (late_left tx) + 3
+phase_turns statements at tx Running = 3 * (statements - at) + length tx.undo.pending + length (late_left tx) + 3
 phase_turns statements at tx Committing = length (late_left tx) + 2
 phase_turns statements at tx (Undoing c) = length tx.undo.pending + 2
 

@@ -2,6 +2,7 @@
 use Rattle.std.specs.Prelude.{◌≡◌, ℕ, ◌+◌, ◌<◌, ◌≤◌, true, false, List, [], ◌∷◌, ◌++◌, length, map, slice_get, unwrap_or}
 use Rattle.std.specs.Prelude.{IsSome, IsPermutation, Contains}
 use Rattle.std.specs.Prelude.{Option}
+use Rattle.std.specs.List.{list_all}
 use Rattle.std.specs.declared.option.Option.TheVariants.{None, Some}
 use Rattle.xc_data.specs.declared.claim.Claim.{Claim}
 use Rattle.xc_data.specs.declared.entry.Cause.{Cause}
@@ -21,6 +22,7 @@ use Rattle.xc_story.specs.Grounds.{Part, AreGrounded}
 use Rattle.xc_story.specs.Progress.{Following, kept_of, opening_progress, progress_of}
 use Rattle.xc_story.specs.Truth.{AsksEach, AreTrue, IsCauseOf, counting, next_of, parts_of}
 use Rattle.xc_story.specs.Ending.{IsEnd}
+use Rattle.xc_story.specs.Rows.{is_built}
 use Rattle.xc_story.specs.Seen.{SeenTx, SeenJob, Doing, Idle, Active, Starved, Ended, actives, active_of}
 
 -- ---- an active transaction, as a part of its job's story
@@ -72,6 +74,8 @@ pub record IsUnderway (s : Setting) (f : Following) (place : Place) (tx : SeenTx
   -- its calls are the script's, and its late calls are as many as were kept for the commit
   pub asked : AsksEach (walk_from s.script f.job) tx.calls tx.replies
   pub kept : length tx.late ≡ length (kept_of tx.calls tx.replies)
+  -- they are of those that scripts have so far: none starts a job
+  pub built : list_all is_built tx.calls ≡ true
   pub stored : tx.me.stored ≤ 16384
   pub phase : IsInPhase s f place tx tx.phase
 
