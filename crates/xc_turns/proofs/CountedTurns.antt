@@ -4,8 +4,9 @@ use Rattle.std.specs.Prelude.{slice_get, slice_set, count_by, sum_by}
 use Rattle.std.proofs.lemmas.List.Sums.{sum_by-cons, sum_by_push}
 use Rattle.xc_compensate.specs.Records.{Records}
 use Rattle.xc_data.specs.Counts.{CountsFaults}
-use Rattle.xc_data.specs.Faults.{entry_faults, is_fault_reply, undo_faults, end_faults}
+use Rattle.xc_data.specs.Faults.{entry_faults, is_fault_reply, is_fault_end, undo_faults, end_faults}
 use Rattle.xc_data.specs.declared.call.Call.{Call}
+use Rattle.xc_data.specs.declared.call.LateCall.{LateCall}
 use Rattle.xc_data.specs.declared.entry.Cause.{Cause}
 use Rattle.xc_data.specs.declared.entry.Cause.TheVariants as cause
 use Rattle.xc_data.specs.declared.entry.Entry.{Entry}
@@ -19,26 +20,42 @@ use Rattle.xc_script.specs.declared.ask.Ask.TheVariants as ask
 use Rattle.xc_story.specs.declared.phase.Phase.{Phase}
 use Rattle.xc_story.specs.declared.phase.Phase.TheVariants.{Running, Committing, Undoing}
 use Rattle.xc_story.specs.Setting.{Setting}
-use Rattle.xc_story.specs.Progress.{progress_of}
-use Rattle.xc_story.specs.Seen.{SeenTx, SeenJob, Doing, Idle, Active, Starved, Ended, Now, active_in, active_of, actives, with_job, entering}
+use Rattle.xc_story.specs.Progress.{Following, progress_of}
+use Rattle.xc_story.specs.Seen.{SeenTx, SeenJob, Doing, Idle, Active, Starved, Ended, Now, active_in, active_of, actives, late_left, with_job, entering}
 use Rattle.xc_story.specs.Rows.{asked_at, beginning_job, claims_at, noting, wanting, with_tx, entry_of, behind_commit, behind_abort}
-use Rattle.xc_story.specs.Rows.{Calls, Compensates}
+use Rattle.xc_story.specs.Rows.{Calls, EndsLate, LateTurn, Compensates}
 use Rattle.xc_story.specs.Rows.{IdleTurn, AskedTurn, RunningTurn, CommittingTurn, BackTurn, UndoingTurn, StarvedTurn, ActiveTurn, TurnOf, IsTurn}
-use Rattle.xc_story.specs.Told.{IsInPhase, IsDoing, AreTold}
+use Rattle.xc_story.specs.Told.{IsCommitting, IsInPhase, IsUndoing, IsDoing, AreTold}
 use Rattle.xc_story.specs.Counted.{tx_faults, recorded_faults, AreCounted}
 use Rattle.xc_turns.proofs.Lists.{get_beside}
 use Rattle.xc_turns.proofs.Jobs.{behind_abort_none}
 use Rattle.xc_turns.proofs.CountedSums.{adds, sum_set, counts_sum, fault_as_count}
 
--- ---- a committing transaction has no ended record
-none_ended : (s : Setting) (at : ℕ) (now : Now) (job : SeenJob) (tx : SeenTx) → slice_get now.jobs at ≡ Some job → job.doing ≡ Active tx
-    → tx.phase ≡ Committing → AreTold s (length now.words) now.journal now.jobs → tx.undo.ended ≡ []
-none_ended s at now job tx stands is commits told =
+-- ---- by its phase a transaction has ended records or late ends
+-- the job's story, with what its phase says
+in_phase : (s : Setting) (at : ℕ) (now : Now) (job : SeenJob) (tx : SeenTx) → slice_get now.jobs at ≡ Some job → job.doing ≡ Active tx
+    → AreTold s (length now.words) now.journal now.jobs → (f : Following) × IsInPhase s f job.place tx tx.phase
+in_phase s at now job tx stands is told =
     let f = get_beside (progress_of s.script now.journal).jobs now.jobs at job told.count stands in
     let j = told.jobs_told at f.0 job f.1 stands in
     let doing = subst (IsDoing s (length now.journal + length (actives now.jobs)) f.0 job) is j.doing in
-    let phase = subst (IsInPhase s f.0 job.place tx) commits doing.phase in
-    phase.none
+    (f.0, doing.phase)
+
+-- a committing one has no ended record
+none_ended : (s : Setting) (at : ℕ) (now : Now) (job : SeenJob) (tx : SeenTx) → slice_get now.jobs at ≡ Some job → job.doing ≡ Active tx
+    → tx.phase ≡ Committing → AreTold s (length now.words) now.journal now.jobs → tx.undo.ended ≡ []
+none_ended s at now job tx stands is commits told =
+    let phase = in_phase s at now job tx stands is told in
+    let committing : IsCommitting s phase.0 job.place tx = subst (IsInPhase s phase.0 job.place tx) commits phase.1 in
+    committing.none
+
+-- an undoing one has no end of a late call
+none_late : (s : Setting) (at : ℕ) (now : Now) (job : SeenJob) (tx : SeenTx) (c : Cause) → slice_get now.jobs at ≡ Some job → job.doing ≡ Active tx
+    → tx.phase ≡ Undoing c → AreTold s (length now.words) now.journal now.jobs → tx.ends ≡ []
+none_late s at now job tx c stands is undoes told =
+    let phase = in_phase s at now job tx stands is told in
+    let undoing : IsUndoing s phase.0 tx c = subst (IsInPhase s phase.0 job.place tx) undoes phase.1 in
+    undoing.no_ends
 
 -- ---- what moves
 moved : (a b x y n m k : ℕ) → b + x ≡ a + y → m + y ≡ n + x + k → n + a + k ≡ m + b
@@ -132,11 +149,25 @@ module _ (s : Setting) (at from : ℕ) (old : Now) (job : SeenJob) (new : Now) (
     by_running (turn.Ended end) row = absurd row
 
     -- ---- one that commits
-    by_committing : tx.phase ≡ Committing → (answer : Turn) → CommittingTurn at old job tx answer new → AreCounted from new
-    by_committing commits turn.Went row =
-        let none = none_ended s at old job tx stands is commits told in
-        entered_counted (behind_commit job tx) (entry_of tx at (Committed [])) row refl
-        (ap (λ us. count_by is_fault_reply tx.replies + sum_by undo_faults us) (sym none) ∙ recorded)
+    late_counted : (call : LateCall) → EndsLate s at old job tx call new → AreCounted from new
+    late_counted call row =
+        let one = cond (is_fault_end row.end) 1 0 in
+        let ends : count_by is_fault_end (tx.ends ++ row.end ∷ []) ≡ count_by is_fault_end tx.ends + one =
+        sum_by_push (λ e. cond (is_fault_end e) 1 0) tx.ends row.end in
+        let sums : sum_by entry_faults new.journal ≡ sum_by entry_faults old.journal = ap (sum_by entry_faults) row.journal in
+        let was = recorded in
+        more_counted (with_tx job job.place (record tx { ends = tx.ends ++ row.end ∷ [] })) one row.jobs (omega (arith, ends, sums, was))
+        (fault_as_count (is_fault_end row.end) old.faults new.faults row.cause)
+
+    by_late : tx.phase ≡ Committing → (calls : List LateCall) → LateTurn s at old job tx calls new → AreCounted from new
+    by_late commits [] row =
+        let none : sum_by undo_faults tx.undo.ended ≡ 0 = ap (sum_by undo_faults) (none_ended s at old job tx stands is commits told) in
+        let was = recorded in
+        entered_counted (behind_commit job tx) (entry_of tx at (Committed tx.ends)) row refl (omega (arith, none, was))
+    by_late commits (call ∷ calls) row = late_counted call row
+
+    by_committing : tx.phase ≡ Committing → (answer : Turn) → CommittingTurn s at old job tx answer new → AreCounted from new
+    by_committing commits turn.Went row = by_late commits (late_left tx) row
     by_committing commits (turn.Busy object holder) row = absurd row
     by_committing commits turn.NoMemory row = absurd row
     by_committing commits (turn.Ended end) row = absurd row
@@ -151,22 +182,24 @@ module _ (s : Setting) (at from : ℕ) (old : Now) (job : SeenJob) (new : Now) (
         let was = recorded in
         more_counted (with_tx job job.place (record tx { undo = undo })) (end_faults row.end) row.jobs (omega (arith, ended, sums, was)) row.faults
 
-    by_records : (c : Cause) (pending : List Undo) → BackTurn s at old job tx c pending new → AreCounted from new
-    by_records c [] row =
+    by_records : (c : Cause) → tx.phase ≡ Undoing c → (pending : List Undo) → BackTurn s at old job tx c pending new → AreCounted from new
+    by_records c undoes [] row =
+        let none : count_by is_fault_end tx.ends ≡ 0 = ap (count_by is_fault_end) (none_late s at old job tx c stands is undoes told) in
+        let was = recorded in
         entered_counted (behind_abort job tx c) (entry_of tx at (Aborted (record { cause = c; records = tx.undo.ended }))) row
-        (ap (adds tx_faults) (behind_abort_none job tx c)) recorded
-    by_records c (u ∷ pending) row = tried_counted row
+        (ap (adds tx_faults) (behind_abort_none job tx c)) (omega (arith, none, was))
+    by_records c undoes (u ∷ pending) row = tried_counted row
 
-    by_undoing : (c : Cause) (answer : Turn) → UndoingTurn s at old job tx c answer new → AreCounted from new
-    by_undoing c turn.Went row = by_records c tx.undo.pending row
-    by_undoing c (turn.Busy object holder) row = absurd row
-    by_undoing c turn.NoMemory row = absurd row
-    by_undoing c (turn.Ended end) row = absurd row
+    by_undoing : (c : Cause) → tx.phase ≡ Undoing c → (answer : Turn) → UndoingTurn s at old job tx c answer new → AreCounted from new
+    by_undoing c undoes turn.Went row = by_records c undoes tx.undo.pending row
+    by_undoing c undoes (turn.Busy object holder) row = absurd row
+    by_undoing c undoes turn.NoMemory row = absurd row
+    by_undoing c undoes (turn.Ended end) row = absurd row
 
     by_phase : (p : Phase) → tx.phase ≡ p → (answer : Turn) → ActiveTurn s at old job tx p answer new → AreCounted from new
     by_phase Running e answer row = by_running answer row
     by_phase Committing e answer row = by_committing e answer row
-    by_phase (Undoing c) e answer row = by_undoing c answer row
+    by_phase (Undoing c) e answer row = by_undoing c e answer row
 
   by_doing : (d : Doing) → job.doing ≡ d → (answer : Turn) → TurnOf s at old job d answer new → AreCounted from new
   by_doing Idle is answer row = by_idle is answer row

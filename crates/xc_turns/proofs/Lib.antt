@@ -9,6 +9,8 @@ pub mod GroundSteps
 pub mod Grounding
 pub mod HeldClaims
 pub mod Jobs
+pub mod LateCounts
+pub mod LeftParts
 pub mod Lefts
 pub mod Lists
 pub mod Orders

@@ -15,6 +15,7 @@ use Rattle.xc_data.specs.declared.entry.Outcome.TheVariants.{Committed, Aborted}
 use Rattle.xc_data.specs.declared.entry.Turn.{Turn}
 use Rattle.xc_data.specs.declared.entry.Turn.TheVariants as turn
 use Rattle.xc_data.specs.declared.undo.Undo.{Undo}
+use Rattle.xc_data.specs.declared.call.LateCall.{LateCall}
 use Rattle.xc_text.specs.declared.script.Script.{Script}
 use Rattle.xc_script.specs.declared.ask.Ask.{Ask}
 use Rattle.xc_script.specs.declared.ask.Ask.TheVariants as ask
@@ -22,9 +23,11 @@ use Rattle.xc_story.specs.declared.phase.Phase.{Phase}
 use Rattle.xc_story.specs.declared.phase.Phase.TheVariants.{Running, Committing, Undoing}
 use Rattle.xc_story.specs.Setting.{Setting}
 use Rattle.xc_story.specs.Truth.{AreInOrder, JobsRise, IsSerial, is_alone, is_tried_again}
-use Rattle.xc_story.specs.Seen.{SeenTx, SeenJob, Doing, Idle, Active, Starved, Ended, Now, active_in, active_of, actives, begun_count, rank_of, entering}
+use Rattle.xc_story.specs.Seen.{SeenTx, SeenJob, Doing, Idle, Active, Starved, Ended, Now, active_in, active_of, actives, begun_count, late_left}
+use Rattle.xc_story.specs.Seen.{rank_of, entering}
 use Rattle.xc_story.specs.Rows.{IsTurn, TurnOf, IdleTurn, ActiveTurn, RunningTurn, AskedTurn, CommittingTurn, UndoingTurn, BackTurn, StarvedTurn}
-use Rattle.xc_story.specs.Rows.{IsActiveAt, asked_at, entry_of, noting, wanting, claims_at, with_tx, new_tx, beginning_job, behind_commit, behind_abort}
+use Rattle.xc_story.specs.Rows.{LateTurn, IsActiveAt, asked_at, entry_of, noting, wanting, claims_at, with_tx, new_tx, beginning_job, behind_commit}
+use Rattle.xc_story.specs.Rows.{behind_abort}
 use Rattle.xc_story.specs.Opened.{IsOpening}
 use Rattle.xc_story.specs.Alone.{AreAlone, MeetsNobody}
 use Rattle.xc_turns.proofs.Lists.{get_cases}
@@ -167,14 +170,22 @@ running_row s at old new job tx turn.NoMemory stands is c alone =
 running_row s at old new job tx (turn.Busy object holder) stands is h alone = absurd h
 running_row s at old new job tx (turn.Ended end) stands is h alone = absurd h
 
-commit_row : (at : ℕ) (old new : Now) (job : SeenJob) (tx : SeenTx) (answer : Turn) → slice_get old.jobs at ≡ Some job → job.doing ≡ Active tx
-    → CommittingTurn at old job tx answer new → AreAlone old at → AreAlone new at
-commit_row at old new job tx turn.Went stands is same alone =
+late_row : (s : Setting) (at : ℕ) (old new : Now) (job : SeenJob) (tx : SeenTx) (calls : List LateCall) → slice_get old.jobs at ≡ Some job
+    → job.doing ≡ Active tx → LateTurn s at old job tx calls new → AreAlone old at → AreAlone new at
+late_row s at old new job tx [] stands is same alone =
     let next = next_of at old job tx stands is alone in
-    enters at old new job (behind_commit job tx) (entry_of tx at (Committed [])) stands same refl (next.0, next.1, refl, refl) alone
-commit_row at old new job tx turn.NoMemory stands is h alone = absurd h
-commit_row at old new job tx (turn.Busy object holder) stands is h alone = absurd h
-commit_row at old new job tx (turn.Ended end) stands is h alone = absurd h
+    enters at old new job (behind_commit job tx) (entry_of tx at (Committed tx.ends)) stands same refl (next.0, next.1, refl, refl) alone
+late_row s at old new job tx (call ∷ calls) stands is t alone =
+    let next = next_of at old job tx stands is alone in
+    let tx' : SeenTx = record tx { ends = tx.ends ++ t.end ∷ [] } in
+    goes_on at old new job (with_tx job job.place tx') tx' stands t.jobs t.journal refl next alone
+
+commit_row : (s : Setting) (at : ℕ) (old new : Now) (job : SeenJob) (tx : SeenTx) (answer : Turn) → slice_get old.jobs at ≡ Some job
+    → job.doing ≡ Active tx → CommittingTurn s at old job tx answer new → AreAlone old at → AreAlone new at
+commit_row s at old new job tx turn.Went stands is h alone = late_row s at old new job tx (late_left tx) stands is h alone
+commit_row s at old new job tx turn.NoMemory stands is h alone = absurd h
+commit_row s at old new job tx (turn.Busy object holder) stands is h alone = absurd h
+commit_row s at old new job tx (turn.Ended end) stands is h alone = absurd h
 
 back_row : (s : Setting) (at : ℕ) (old new : Now) (job : SeenJob) (tx : SeenTx) (c : Cause) (pending : List Undo) → slice_get old.jobs at ≡ Some job
     → job.doing ≡ Active tx → tx.phase ≡ Undoing c → BackTurn s at old job tx c pending new → AreAlone old at → AreAlone new at
@@ -198,7 +209,7 @@ undoing_row s at old new job tx c (turn.Ended end) stands is undoes h alone = ab
 active_row : (s : Setting) (at : ℕ) (old new : Now) (job : SeenJob) (tx : SeenTx) (p : Phase) (answer : Turn) → slice_get old.jobs at ≡ Some job
     → job.doing ≡ Active tx → tx.phase ≡ p → ActiveTurn s at old job tx p answer new → AreAlone old at → AreAlone new at
 active_row s at old new job tx Running answer stands is phase h alone = running_row s at old new job tx answer stands is h alone
-active_row s at old new job tx Committing answer stands is phase h alone = commit_row at old new job tx answer stands is h alone
+active_row s at old new job tx Committing answer stands is phase h alone = commit_row s at old new job tx answer stands is h alone
 active_row s at old new job tx (Undoing c) answer stands is phase h alone = undoing_row s at old new job tx c answer stands is phase h alone
 
 starved_row : (at : ℕ) (old new : Now) (job : SeenJob) (answer : Turn) → slice_get old.jobs at ≡ Some job → StarvedTurn at old job answer new

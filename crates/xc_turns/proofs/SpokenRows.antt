@@ -5,6 +5,7 @@ use Rattle.std.specs.List.{list_any}
 use mathlib.Core.Logic.{dite}
 use native.Mathlib.Decide.{ℕ_discrete}
 use Rattle.xc_data.specs.Claims.{owned}
+use Rattle.xc_data.specs.declared.call.LateEnd.{LateEnd}
 use Rattle.xc_data.specs.declared.object.Object.TheVariants as object
 use Rattle.xc_txmem.specs.Overlay.{overlaid, AreWithin}
 use Rattle.xc_world.specs.Own.{Owns}
@@ -18,7 +19,7 @@ use Rattle.xc_story.specs.Spoken.{stores_to, HasSpoken, IsWriter, AreSpoken}
 use Rattle.xc_turns.proofs.SpokenLists.{behind_alike, behind_count, behind_other, replies_alike}
 use Rattle.xc_turns.proofs.SpokenClaims.{owner_is_alone, owner_sees}
 use Rattle.xc_turns.proofs.Jobs.{active_was, active_is, active_here, active_before, active_after}
-use Rattle.xc_turns.proofs.SpokenTx.{no_writer, committing_spoken}
+use Rattle.xc_turns.proofs.SpokenTx.{no_writer, committing_spoken, ended_spoken}
 
 -- the job has no committing transaction
 abbrev pub IsQuiet : SeenJob → Type 0
@@ -121,6 +122,48 @@ module _ (before words : List ℕ) (jobs : List SeenJob) (at : ℕ) (job : SeenJ
             (λ t lt w. written_here t word lt w) (λ ne t lt w. written_there j t word ne lt w);
         others = left_words;
       })
+
+    -- ---- one of its late calls is done
+    module _ (ends : List LateEnd) (job' : SeenJob) (active' : active_of job' ≡ Some (record tx { ends = ends })) where
+      -- the one in its place is it
+      it_is : (t : SeenTx) → IsActiveAt (slice_set jobs at job') at t → record tx { ends = ends } ≡ t
+      it_is t a = let is = active_is jobs at job stands job' t a in cc (active', is)
+
+      -- it writes what it wrote
+      writer_was : (t : SeenTx) (word : ℕ) → IsWriter (slice_set jobs at job') at t word → IsWriter jobs at tx word
+      writer_was t word w =
+          let same = it_is t w.active in
+          record {
+            active = (job, stands, active);
+            phase = ap (λ (u : SeenTx). u.phase) same ∙ w.phase;
+            owns = subst (λ (u : SeenTx). Owns u.number u.held (object.Word word)) (sym same) w.owns;
+          }
+
+      writer_is : (t : SeenTx) (word : ℕ) → IsWriter jobs at t word → IsWriter (slice_set jobs at job') at (record tx { ends = ends }) word
+      writer_is t word w =
+          let was = active_was jobs at job stands t w.active in
+          let same : t ≡ tx = cc (active, was) in
+          record {
+            active = active_here jobs at job stands job' (record tx { ends = ends }) active';
+            phase = ap (λ (u : SeenTx). u.phase) (sym same) ∙ w.phase;
+            owns = subst (λ (u : SeenTx). Owns u.number u.held (object.Word word)) same w.owns;
+          }
+
+      -- the words stay
+      pub late_turn : AreSpoken before words (slice_set jobs at job')
+      late_turn = record {
+        count = h.count;
+        each = λ j. here_or (λ k. (t : SeenTx) → IsActiveAt (slice_set jobs at job') k t → HasSpoken before t) j
+            (λ t a. subst (HasSpoken before) (it_is t a) (ended_spoken before tx ends spoken)) (λ ne t a. h.each j t (active_before jobs at j job' t ne a));
+        written = λ word j. here_or (λ k. (t : SeenTx) → word < length before → IsWriter (slice_set jobs at job') k t word
+            → slice_index words word ≡ slice_index (words_behind before t.calls) word) j
+            (λ t lt w. h.written word at tx lt (writer_was t word w)
+            ∙ ap (λ (u : SeenTx). slice_index (words_behind before u.calls) word) (it_is t w.active))
+            (λ ne t lt w. h.written word j t lt (record { active = active_before jobs at j job' t ne w.active; phase = w.phase; owns = w.owns }));
+        others = λ word lt none. h.others word lt (λ j. here_or (λ k. (t : SeenTx) → IsWriter jobs k t word → ⊥) j
+            (λ t w. none at (record tx { ends = ends }) (writer_is t word w))
+            (λ ne t w. none j t (record { active = active_after jobs at j job' t ne w.active; phase = w.phase; owns = w.owns })));
+      }
 
     -- ---- it enters
     module _ (phase : tx.phase ≡ Committing) (job' : SeenJob) (none : active_of job' ≡ None) where

@@ -3,6 +3,7 @@ use Rattle.std.proofs.Common.{◌≡◌, ℕ, ◌+◌, length, inl, inr, Some, N
 use Rattle.std.specs.Prelude.{slice_get, slice_set}
 use Rattle.xc_compensate.specs.Records.{Records}
 use Rattle.xc_data.specs.declared.call.Call.{Call}
+use Rattle.xc_data.specs.declared.call.LateCall.{LateCall}
 use Rattle.xc_data.specs.declared.claim.Claim.{Claim}
 use Rattle.xc_data.specs.declared.entry.Cause.{Cause}
 use Rattle.xc_data.specs.declared.entry.Cause.TheVariants as cause
@@ -22,9 +23,9 @@ use Rattle.xc_story.specs.declared.phase.Phase.{Phase}
 use Rattle.xc_story.specs.declared.phase.Phase.TheVariants.{Running, Committing, Undoing}
 use Rattle.xc_story.specs.Setting.{Setting}
 use Rattle.xc_story.specs.Progress.{words_left, progress_of}
-use Rattle.xc_story.specs.Seen.{SeenTx, SeenJob, Doing, Idle, Active, Starved, Ended, Now, active_in, active_of, begun_count, rank_of, with_job}
+use Rattle.xc_story.specs.Seen.{SeenTx, SeenJob, Doing, Idle, Active, Starved, Ended, Now, active_in, active_of, begun_count, late_left, rank_of, with_job}
 use Rattle.xc_story.specs.Rows.{asked_at, new_tx, beginning_job, claims_at, noting, wanting, with_tx, entry_of, behind_commit, behind_abort}
-use Rattle.xc_story.specs.Rows.{Calls, Conflicts, HoldsWanting, Wants, Compensates, EntersAborted}
+use Rattle.xc_story.specs.Rows.{Calls, Conflicts, HoldsWanting, Wants, EndsLate, LateTurn, Compensates, EntersAborted}
 use Rattle.xc_story.specs.Rows.{IdleTurn, AskedTurn, RunningTurn, CommittingTurn, BackTurn, UndoingTurn, StarvedTurn, ActiveTurn, TurnOf, IsTurn}
 use Rattle.xc_story.specs.Holding.{AreApart}
 use Rattle.xc_story.specs.Spoken.{HasSpoken, AreSpoken}
@@ -32,7 +33,7 @@ use Rattle.xc_turns.proofs.Jobs.{behind_abort_none}
 use Rattle.xc_turns.proofs.Progressing.{progress-more}
 use Rattle.xc_turns.proofs.SpokenClaims.{sees_still, owns_still}
 use Rattle.xc_turns.proofs.SpokenTx.{begun_spoken, turned_spoken, tried_spoken, called_spoken}
-use Rattle.xc_turns.proofs.SpokenRows.{IsQuiet, Speaks, quiet_turn, commits_turn, enters_turn}
+use Rattle.xc_turns.proofs.SpokenRows.{IsQuiet, Speaks, quiet_turn, commits_turn, late_turn, enters_turn}
 
 -- the words of a station are those that its journal and its active transactions made
 abbrev pub KeepsWords : Setting → Now → Type 0
@@ -174,12 +175,22 @@ module _ (s : Setting) (at : ℕ) (old : Now) (job : SeenJob) (new : Now) (stand
     by_running runs (turn.Ended end) row = absurd row
 
     -- ---- one that commits
-    by_committing : tx.phase ≡ Committing → (answer : Turn) → CommittingTurn at old job tx answer new → KeepsWords s new
-    by_committing commits turn.Went row =
-        let e = entry_of tx at (Committed []) in
+    late_kept : (call : LateCall) → EndsLate s at old job tx call new → KeepsWords s new
+    late_kept call row =
+        let ends = tx.ends ++ row.end ∷ [] in
+        kept_words s old new _ row.jobs row.words row.journal
+        (late_turn before old.words old.jobs at job stands h tx active apart ends (with_tx job job.place (record tx { ends = ends })) refl)
+
+    by_late : tx.phase ≡ Committing → (calls : List LateCall) → LateTurn s at old job tx calls new → KeepsWords s new
+    by_late commits (call ∷ calls) row = late_kept call row
+    by_late commits [] row =
+        let e = entry_of tx at (Committed tx.ends) in
         subst (KeepsWords s) (sym row) (subst (λ ws. AreSpoken ws old.words (slice_set old.jobs at (behind_commit job tx)))
         (sym (words_entered s.script old.journal e))
         (enters_turn before old.words old.jobs at job stands h tx active apart commits (behind_commit job tx) refl))
+
+    by_committing : tx.phase ≡ Committing → (answer : Turn) → CommittingTurn s at old job tx answer new → KeepsWords s new
+    by_committing commits turn.Went row = by_late commits (late_left tx) row
     by_committing commits (turn.Busy object holder) row = absurd row
     by_committing commits turn.NoMemory row = absurd row
     by_committing commits (turn.Ended end) row = absurd row

@@ -10,6 +10,7 @@ use native.Mathlib.Decide.{ℕ_discrete}
 use Rattle.xc_compensate.specs.Records.{Records}
 use Rattle.xc_data.specs.Claims.{claim, holding}
 use Rattle.xc_data.specs.declared.call.Call.{Call}
+use Rattle.xc_data.specs.declared.call.LateEnd.{LateEnd}
 use Rattle.xc_data.specs.declared.call.Reply.{Reply}
 use Rattle.xc_data.specs.declared.claim.Claim.{Claim}
 use Rattle.xc_data.specs.declared.claim.Mode.{Mode}
@@ -65,6 +66,16 @@ turned_spoken before tx c held sees owns sp =
 -- one of its records is tried
 pub tried_spoken : (before : List ℕ) (tx : SeenTx) (undo : Records) → HasSpoken before tx → HasSpoken before (record tx { undo = undo })
 tried_spoken before tx undo sp =
+    record {
+      replies = sp.replies;
+      holds = record { reads = sp.holds.reads; stores = sp.holds.stores };
+      stores = sp.stores;
+      within = sp.within;
+    }
+
+-- one of its late calls is done
+pub ended_spoken : (before : List ℕ) (tx : SeenTx) (ends : List LateEnd) → HasSpoken before tx → HasSpoken before (record tx { ends = ends })
+ended_spoken before tx ends sp =
     record {
       replies = sp.replies;
       holds = record { reads = sp.holds.reads; stores = sp.holds.stores };

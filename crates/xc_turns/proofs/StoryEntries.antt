@@ -1,10 +1,10 @@
 -- The entry of a transaction that ends is true behind a true journal, and what the journal leads to with it.
-use Rattle.std.proofs.Common.{◌≡◌, ℕ, ◌+◌, ◌-◌, ◌<◌, ◌≤◌, Bool, true, false, IsTrue, List, [], ◌∷◌, ◌++◌, length, map, refl, ap, sym, ◌∙◌, subst}
+use Rattle.std.proofs.Common.{◌≡◌, ℕ, ◌+◌, ◌-◌, ◌<◌, ◌≤◌, Bool, true, false, IsTrue, List, [], ◌++◌, length, map, ap, sym, ◌∙◌, subst}
 use Rattle.std.proofs.Common.{arith}
 use Rattle.std.proofs.Common.{append-nil}
-use Rattle.std.specs.Prelude.{slice_get, slice_set, if◌then◌else◌}
+use Rattle.std.specs.Prelude.{slice_get, slice_set, take, if◌then◌else◌}
+use Rattle.std.specs.List.{list_all}
 use Rattle.std.specs.declared.option.Option.TheVariants.{Some}
-use Rattle.xc_data.specs.declared.call.Call.{Call}
 use Rattle.xc_data.specs.declared.call.LateCall.{LateCall}
 use Rattle.xc_data.specs.declared.claim.Claim.{Claim}
 use Rattle.xc_data.specs.declared.entry.Cause.{Cause}
@@ -22,13 +22,14 @@ use Rattle.xc_story.specs.declared.phase.Phase.{Phase}
 use Rattle.xc_story.specs.declared.phase.Phase.TheVariants.{Committing, Undoing}
 use Rattle.xc_story.specs.Setting.{Setting}
 use Rattle.xc_story.specs.WordCalls.{AreWordReplies}
-use Rattle.xc_story.specs.Progress.{Following, Progress, after_entry, after_following, following_abort, following_of, kept_of}
-use Rattle.xc_story.specs.Progress.{started_blocks, started_job, untried}
+use Rattle.xc_story.specs.Progress.{Following, Progress, after_entry, after_following, following_abort, following_of}
+use Rattle.xc_story.specs.Progress.{started_job, untried}
 use Rattle.xc_story.specs.Truth.{AreRecords, IsHeldAt, IsPlayed, IsTrueEntry, is_tried_again, next_of}
-use Rattle.xc_story.specs.Seen.{SeenTx}
-use Rattle.xc_story.specs.Rows.{entry_of}
+use Rattle.xc_story.specs.Seen.{SeenTx, late_left}
+use Rattle.xc_story.specs.Rows.{entry_of, is_built}
 use Rattle.xc_story.specs.Told.{IsCommitting, IsInPhase, IsUndoing, IsUnderway, asked_of_tx}
 use Rattle.xc_story.specs.Played.{HoldsFor, IsPlayedSoFar, RecordsFor, ran_behind}
+use Rattle.xc_turns.proofs.LateCounts.{kept_starts, left_none, take_all}
 
 -- ---- the entry of the job in one place
 -- the number behind a place leads back to it
@@ -41,30 +42,32 @@ pub entry_following : (p : Progress) (at : ℕ) (tx : SeenTx) (outcome : Outcome
 entry_following p at tx outcome f got = ap (slice_get p.jobs) (place_of_number at) ∙ got
 
 -- ---- a commit
-commit_played : (s : Setting) (words : ℕ) (p : Progress) (at : ℕ) (tx : SeenTx) (next : Ask) → tx.phase ≡ Committing → IsPlayedSoFar s words p at tx
-    → IsPlayed p next (entry_of tx at (Committed []))
-commit_played s words p at tx next commits so =
+commit_played : (s : Setting) (words : ℕ) (p : Progress) (at : ℕ) (tx : SeenTx) (next : Ask) → tx.phase ≡ Committing → length tx.ends ≡ length tx.late
+    → IsPlayedSoFar s words p at tx → IsPlayed p next (entry_of tx at (Committed tx.ends))
+commit_played s words p at tx next commits all so =
     let ran = ran_behind p at tx in
+    let whole : take (length tx.ends) ran.late ≡ ran.late = take_all ran.late (length tx.ends) (all ∙ ap length (sym so.late)) in
     record {
       fits = so.fits;
       replies = so.replies;
       held = subst (λ (f : Phase). HoldsFor ran (asked_of_tx s (slice_get p.jobs at) tx) f tx.held) commits so.holds;
       outcome = record {
-        ends = ap (λ (calls : List LateCall). (lates ran.world (late_asked_of calls [])).ends) so.late;
-        late_fits = subst (λ (calls : List LateCall). IsTrue (lates_fit ran.world (late_asked_of calls []))) (sym so.late) refl;
+        ends = ap (λ (calls : List LateCall). (lates ran.world (late_asked_of calls tx.ends)).ends) (sym whole) ∙ so.ends;
+        late_fits = subst (λ (calls : List LateCall). IsTrue (lates_fit ran.world (late_asked_of calls tx.ends))) whole so.late_fits;
       };
     }
 
 -- the entry of a commit is true behind a true journal
 pub commit_true : (s : Setting) (words : ℕ) (p : Progress) (f : Following) (at : ℕ) (place : Place) (tx : SeenTx) → slice_get p.jobs at ≡ Some f
-    → tx.phase ≡ Committing → IsUnderway s f place tx → tx.began ≤ p.entered → AreWordReplies p.words tx.calls tx.replies
-    → (IsTrue s.tells → IsPlayedSoFar s words p at tx) → IsTrueEntry s p (entry_of tx at (Committed []))
-commit_true s words p f at place tx got commits under began said played =
+    → tx.phase ≡ Committing → late_left tx ≡ [] → IsUnderway s f place tx → tx.began ≤ p.entered → AreWordReplies p.words tx.calls tx.replies
+    → (IsTrue s.tells → IsPlayedSoFar s words p at tx) → IsTrueEntry s p (entry_of tx at (Committed tx.ends))
+commit_true s words p f at place tx got commits none under began said played =
     let committing : IsCommitting s f place tx = subst (IsInPhase s f place tx) commits under.phase in
+    let all : length tx.ends ≡ length tx.late = left_none tx.late tx.ends committing.few_ends none in
     record {
       following = f;
       numbered = omega arith;
-      started = entry_following p at tx (Committed []) f got;
+      started = entry_following p at tx (Committed tx.ends) f got;
       entry = record {
         story = record {
           goes_on = under.goes_on;
@@ -74,16 +77,12 @@ commit_true s words p f at place tx got commits under began said played =
           rank = under.rank;
           failures = let lt = under.attempts in omega arith;
           calls = under.asked;
-          asked = (ap asks (sym committing.ahead) ∙ committing.asked, ap length (sym under.none_kept));
+          asked = (ap asks (sym committing.ahead) ∙ committing.asked, all ∙ under.kept);
         };
         words = said;
-        played = λ t. commit_played s words p at tx (next_of s.script f tx.replies) commits (played t);
+        played = λ t. commit_played s words p at tx (next_of s.script f tx.replies) commits all (played t);
       };
     }
-
-none_started : (calls : List Call) → started_blocks calls [] ≡ []
-none_started [] = refl
-none_started (c ∷ calls) = refl
 
 -- the job behind its commit
 abbrev pub gone_on : Script → ℕ → Following → SeenTx → Following
@@ -91,13 +90,13 @@ gone_on script entered f tx = untried f.block (passed script f.job tx.replies) (
 
 -- it goes on in its place behind a commit
 pub commit_leads : (script : Script) (p : Progress) (f : Following) (at : ℕ) (tx : SeenTx) → slice_get p.jobs at ≡ Some f
-    → (after_entry script p (entry_of tx at (Committed []))).jobs ≡ slice_set p.jobs at (gone_on script p.entered f tx)
-commit_leads script p f at tx got =
-    let e = entry_of tx at (Committed []) in
+    → list_all is_built tx.calls ≡ true → (after_entry script p (entry_of tx at (Committed tx.ends))).jobs ≡ slice_set p.jobs at (gone_on script p.entered f tx)
+commit_leads script p f at tx got built =
+    let e = entry_of tx at (Committed tx.ends) in
     let g = gone_on script p.entered f tx in
     let more = started_job script (passed script f.job tx.replies) (p.entered + 1) in
-    ap (λ o. (after_following script p e o).jobs) (entry_following p at tx (Committed []) f got)
-    ∙ ap (λ bs. slice_set p.jobs (at + 1 - 1) g ++ map more bs) (none_started (kept_of tx.calls tx.replies))
+    ap (λ o. (after_following script p e o).jobs) (entry_following p at tx (Committed tx.ends) f got)
+    ∙ ap (λ bs. slice_set p.jobs (at + 1 - 1) g ++ map more bs) (kept_starts tx.calls tx.replies tx.ends built)
     ∙ append-nil (slice_set p.jobs (at + 1 - 1) g) ∙ ap (λ i. slice_set p.jobs i g) (place_of_number at)
 
 -- ---- an abort

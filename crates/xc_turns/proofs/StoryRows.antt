@@ -1,8 +1,9 @@
 -- Each row of the table that enters nothing goes on with its job's story.
-use Rattle.std.proofs.Common.{◌≡◌, ℕ, ◌+◌, ◌<◌, ◌≤◌, false, List, [], ◌∷◌, ◌++◌, length, refl, ap, sym, ◌∙◌, subst, arith, length-append}
+use Rattle.std.proofs.Common.{◌≡◌, ℕ, ◌+◌, ◌<◌, ◌≤◌, true, false, List, [], ◌∷◌, ◌++◌, length, refl, ap, sym, ◌∙◌, subst, arith, length-append}
 use Rattle.std.specs.Prelude.{IsSome, Option, unwrap_or}
 use Rattle.std.specs.declared.option.Option.TheVariants.{None, Some}
 use Rattle.xc_data.specs.declared.call.Call.{Call}
+use Rattle.xc_data.specs.declared.call.LateEnd.{LateEnd}
 use Rattle.xc_data.specs.declared.call.Reply.{Reply}
 use Rattle.xc_data.specs.declared.claim.Claim.{Claim}
 use Rattle.xc_data.specs.declared.entry.Cause.{Cause}
@@ -15,9 +16,8 @@ use Rattle.xc_compensate.specs.Records.{Records, way_of}
 use Rattle.xc_script.specs.declared.ask.Ask.TheVariants as ask
 use Rattle.xc_script.specs.Ask.{Walk, answered, all_answered, asks, walk_from}
 use Rattle.xc_script.specs.Place.{Place, at_begin, walk_of, IsSettled}
-use Rattle.xc_world.specs.World.{beginning}
+use Rattle.xc_world.specs.World.{World, beginning}
 use Rattle.xc_world.specs.Ends.{AreLegal, IsLegalEnd}
-use Rattle.xc_world.specs.Late.{is_late}
 use Rattle.xc_story.specs.declared.phase.Attempts.{Attempts}
 use Rattle.xc_story.specs.declared.phase.Phase.TheVariants.{Running, Committing, Undoing}
 use Rattle.xc_story.specs.Setting.{Setting}
@@ -25,9 +25,11 @@ use Rattle.xc_story.specs.Progress.{Following}
 use Rattle.xc_story.specs.Truth.{IsCauseOf, next_of}
 use Rattle.xc_story.specs.Ending.{IsEnd}
 use Rattle.xc_story.specs.Seen.{SeenTx, SeenJob, Idle, Active, Starved, Ended, Now, begun_count, failures, rank_of}
-use Rattle.xc_story.specs.Rows.{IsEnding, IsReady, IsSameBegin, IsSamePlace, IsSpent, Parts, asked_at, beginning_job, body_at, new_tx, noting, with_tx}
-use Rattle.xc_story.specs.Told.{AreAttempts, IsDoing, IsInPhase, IsJobTold, IsRunning, IsStanding, IsUndoing, IsUnderway}
-use Rattle.xc_turns.proofs.StoryAsks.{answered-more, asks-more, asks-count, kept-more}
+use Rattle.xc_story.specs.Rows.{IsEnding, IsReady, IsReplyInTime, IsSameBegin, IsSamePlace, IsSpent, Parts, asked_at, beginning_job, body_at, is_built}
+use Rattle.xc_story.specs.Rows.{new_tx, noting, with_tx}
+use Rattle.xc_story.specs.Told.{AreAttempts, IsDoing, IsInPhase, IsCommitting, IsJobTold, IsRunning, IsStanding, IsUndoing, IsUnderway}
+use Rattle.xc_turns.proofs.StoryAsks.{answered-more, asks-more, asks-count}
+use Rattle.xc_turns.proofs.LateCounts.{late-more, built-more}
 
 -- ---- an idle job
 -- the attempts that the journal tells are as many as the job counts
@@ -91,9 +93,10 @@ begun_underway s now f job ready are goes place since fresh =
         begun = ap (λ (p : Place). p.variables) place;
       };
       asked = refl;
-      none_kept = refl;
+      kept = refl;
+      built = refl;
       stored = omega arith;
-      phase = record { ahead = ap (λ (p : Place). walk_of s.script (record p { begun = p.variables })) place; none = refl };
+      phase = record { ahead = ap (λ (p : Place). walk_of s.script (record p { begun = p.variables })) place; none = refl; no_ends = refl };
     }
 
 -- an idle job whose next transaction begins
@@ -135,18 +138,19 @@ pub running_phase : (s : Setting) (f : Following) (place : Place) (tx : SeenTx) 
 running_phase s f place tx runs under = subst (IsInPhase s f place tx) runs under.phase
 
 -- behind a call
-pub called_underway : (s : Setting) (f : Following) (old new : Place) (tx : SeenTx) (call : Call) (reply : Reply) (claims : List Claim) (parts : Parts)
-    (made : List Undo)
+pub called_underway : (w : World) (s : Setting) (f : Following) (old new : Place) (tx : SeenTx) (call : Call) (reply : Reply) (claims : List Claim)
+    (parts : Parts) (made : List Undo)
     → tx.phase ≡ Running → asks (walk_of s.script old) ≡ ask.Call call → IsSameBegin old new → walk_of s.script new ≡ answered (walk_of s.script old) reply
-    → is_late reply ≡ false → parts.undo ≡ record tx.undo { pending = tx.undo.pending ++ made } → parts.me.stored ≤ 16384
-    → IsUnderway s f old tx → IsUnderway s f new (noting tx call reply claims parts)
-called_underway s f old new tx call reply claims parts made runs asked same behind now undo stored under =
+    → IsReplyInTime tx.me tx.number call reply → is_built call ≡ true → parts.undo ≡ record tx.undo { pending = tx.undo.pending ++ made }
+    → parts.me.stored ≤ 16384 → IsUnderway s f old tx → IsUnderway s f new (noting tx call reply claims parts)
+called_underway w s f old new tx call reply claims parts made runs asked same behind in_time built undo stored under =
     let running = running_phase s f old tx runs under in
     let begin = walk_from s.script f.job in
     let is : asks (all_answered begin tx.replies) ≡ ask.Call call = ap asks (sym running.ahead) ∙ asked in
     let phase : IsRunning s f new (noting tx call reply claims parts) = record {
       ahead = behind ∙ ap (λ (w : Walk). answered w reply) running.ahead ∙ sym (answered-more begin tx.replies reply);
       none = ap (λ u. u.ended) undo ∙ running.none;
+      no_ends = running.no_ends;
     } in
     record {
       goes_on = under.goes_on;
@@ -156,7 +160,8 @@ called_underway s f old new tx call reply claims parts made runs asked same behi
       since = under.since;
       standing = same_standing f old new same under.standing;
       asked = asks-more begin tx.calls tx.replies call reply under.asked is;
-      none_kept = kept-more tx.calls tx.replies call reply (asks-count begin tx.calls tx.replies under.asked) now ∙ under.none_kept;
+      kept = late-more w tx.me tx.number tx.late tx.calls tx.replies call reply in_time (asks-count begin tx.calls tx.replies under.asked) under.kept;
+      built = built-more tx.calls call under.built built;
       stored = stored;
       phase = subst (IsInPhase s f new (noting tx call reply claims parts)) (sym runs) phase;
     }
@@ -176,11 +181,13 @@ back_underway s f old new tx c undo held ended runs same caused under =
       since = under.since;
       standing = same_standing f old new same.begin under.standing;
       asked = under.asked;
-      none_kept = under.none_kept;
+      kept = under.kept;
+      built = under.built;
       stored = under.stored;
       phase = record {
         caused = caused (ap asks (sym running.ahead));
         legal = subst (λ ends. AreLegal s.rules.undo_tries (length undo.pending + 1) ends) (sym (ended ∙ running.none)) tt;
+        no_ends = running.no_ends;
       };
     }
 
@@ -197,9 +204,43 @@ commits_underway s f old new tx runs same settled asked under =
       since = under.since;
       standing = same_standing f old new same.begin under.standing;
       asked = under.asked;
-      none_kept = under.none_kept;
+      kept = under.kept;
+      built = under.built;
       stored = under.stored;
-      phase = record { ahead = same.walk ∙ running.ahead; asked = ap asks same.walk ∙ asked; settled = settled; none = running.none };
+      phase = record {
+        ahead = same.walk ∙ running.ahead;
+        asked = ap asks same.walk ∙ asked;
+        settled = settled;
+        none = running.none;
+        few_ends = let none = ap length running.no_ends in omega arith;
+      };
+    }
+
+-- behind a late call
+pub ended_underway : (s : Setting) (f : Following) (place : Place) (tx : SeenTx) (end : LateEnd) → tx.phase ≡ Committing → length tx.ends < length tx.late
+    → IsUnderway s f place tx → IsUnderway s f place (record tx { ends = tx.ends ++ end ∷ [] })
+ended_underway s f place tx end commits some under =
+    let next : SeenTx = record tx { ends = tx.ends ++ end ∷ [] } in
+    let committing : IsCommitting s f place tx = subst (IsInPhase s f place tx) commits under.phase in
+    let phase : IsCommitting s f place next = record {
+      ahead = committing.ahead;
+      asked = committing.asked;
+      settled = committing.settled;
+      none = committing.none;
+      few_ends = omega (arith, length-append tx.ends (end ∷ []));
+    } in
+    record {
+      goes_on = under.goes_on;
+      left = under.left;
+      attempts = under.attempts;
+      rank = under.rank;
+      since = under.since;
+      standing = under.standing;
+      asked = under.asked;
+      kept = under.kept;
+      built = under.built;
+      stored = under.stored;
+      phase = subst (IsInPhase s f place next) (sym commits) phase;
     }
 
 -- behind a compensation
@@ -213,6 +254,7 @@ tried_underway s f place tx c older u end undoes newest legal under =
     let phase : IsUndoing s f next c = record {
       caused = undoing.caused;
       legal = (legal, subst (λ n. AreLegal s.rules.undo_tries (n + 1) tx.undo.ended) count undoing.legal);
+      no_ends = undoing.no_ends;
     } in
     record {
       goes_on = under.goes_on;
@@ -222,7 +264,8 @@ tried_underway s f place tx c older u end undoes newest legal under =
       since = under.since;
       standing = under.standing;
       asked = under.asked;
-      none_kept = under.none_kept;
+      kept = under.kept;
+      built = under.built;
       stored = under.stored;
       phase = subst (IsInPhase s f place next) (sym undoes) phase;
     }

@@ -4,6 +4,7 @@ use Rattle.std.specs.Prelude.{slice_get, slice_set}
 use Rattle.std.specs.declared.option.Option.TheVariants.{Some}
 use Rattle.std.specs.Option.{option_map}
 use Rattle.xc_data.specs.declared.call.Call.{Call}
+use Rattle.xc_data.specs.declared.call.LateCall.{LateCall}
 use Rattle.xc_data.specs.declared.entry.Cause.{Cause}
 use Rattle.xc_data.specs.declared.entry.Cause.TheVariants as cause
 use Rattle.xc_data.specs.declared.entry.Entry.{Entry}
@@ -13,6 +14,7 @@ use Rattle.xc_data.specs.declared.entry.Outcome.TheVariants.{Committed}
 use Rattle.xc_data.specs.declared.entry.Turn.{Turn}
 use Rattle.xc_data.specs.declared.entry.Turn.TheVariants as turn
 use Rattle.xc_data.specs.declared.undo.Undo.{Undo}
+use Rattle.xc_host.specs.Contents.{world_of}
 use Rattle.xc_script.specs.declared.ask.Ask.{Ask}
 use Rattle.xc_script.specs.declared.ask.Ask.TheVariants as ask
 use Rattle.xc_script.specs.Place.{Place, is_call}
@@ -21,10 +23,10 @@ use Rattle.xc_story.specs.declared.phase.Phase.TheVariants.{Running, Committing,
 use Rattle.xc_story.specs.Setting.{Setting}
 use Rattle.xc_story.specs.WordCalls.{AreWordReplies}
 use Rattle.xc_story.specs.Progress.{Following, following_abort, progress_of}
-use Rattle.xc_story.specs.Seen.{SeenTx, SeenJob, Doing, Idle, Active, Starved, Ended, Now, active_in, begun_count, rank_of}
+use Rattle.xc_story.specs.Seen.{SeenTx, SeenJob, Doing, Idle, Active, Starved, Ended, Now, active_in, begun_count, late_left, rank_of}
 use Rattle.xc_story.specs.Rows.{ActiveTurn, AskedTurn, BackTurn, Calls, Commits, Compensates, Conflicts, IdleTurn, IsActiveAt, IsEnding, IsReady, IsTurn}
-use Rattle.xc_story.specs.Rows.{StarvedTurn, TurnOf, TurnsBack, Wants, asked_at, behind_abort, behind_commit, beginning_job, claims_at, entry_of, new_tx}
-use Rattle.xc_story.specs.Rows.{noting, wanting, with_tx}
+use Rattle.xc_story.specs.Rows.{EndsLate, LateTurn, StarvedTurn, TurnOf, TurnsBack, Wants, asked_at, behind_abort, behind_commit, beginning_job}
+use Rattle.xc_story.specs.Rows.{claims_at, entry_of, new_tx, noting, wanting, with_tx}
 use Rattle.xc_story.specs.Grounds.{AreGrounded}
 use Rattle.xc_story.specs.Truth.{parts_of}
 use Rattle.xc_story.specs.Told.{AreTold, IsDoing, IsUnderway, active_begin, active_parts}
@@ -35,7 +37,9 @@ use Rattle.xc_turns.proofs.Jobs.{behind_abort_none}
 use Rattle.xc_turns.proofs.Progressing.{entered-all}
 use Rattle.xc_turns.proofs.StoryBegins.{active_begun}
 use Rattle.xc_turns.proofs.StoryJobs.{AreToldBut, begins_in, goes_on, told_but, told_whole}
-use Rattle.xc_turns.proofs.StoryRows.{active_told, back_underway, begun_told, called_underway, commits_underway, ended_told, starved_told, tried_underway}
+use Rattle.xc_turns.proofs.StoryRows.{active_told, back_underway, begun_told, called_underway, commits_underway, ended_told, ended_underway, starved_told}
+use Rattle.xc_turns.proofs.StoryRows.{tried_underway}
+use Rattle.xc_turns.proofs.LateCounts.{left_some}
 use Rattle.xc_turns.proofs.StoryEntries.{abort_leads, abort_true, aborted_by, commit_leads, commit_true, gone_on}
 use Rattle.xc_turns.proofs.StoryEnds.{aborted_told, committed_told, enters}
 
@@ -106,8 +110,8 @@ module _ (s : Setting) (at : ℕ) (old new : Now) (job : SeenJob) (b : Before s 
       → Calls s at old job tx call new → After
   called_row tx call active runs asked row =
       active_row row.place tx (noting tx call row.reply (claims_at old tx call) row.parts) active refl
-      (λ f under. called_underway s f job.place row.place tx call row.reply (claims_at old tx call) row.parts row.made runs asked row.begin row.walk row.now
-      row.undo row.stored under)
+      (λ f under. called_underway (world_of old.contents) s f job.place row.place tx call row.reply (claims_at old tx call) row.parts row.made runs asked
+      row.begin row.walk row.in_time row.built row.undo row.stored under)
       row.journal row.jobs
 
   conflict_row : (tx : SeenTx) (call : Call) → job.doing ≡ Active tx → tx.phase ≡ Running → asked_at s job.place ≡ ask.Call call
@@ -135,6 +139,12 @@ module _ (s : Setting) (at : ℕ) (old new : Now) (job : SeenJob) (b : Before s 
       let next = wanting tx row.left row.held in
       active_row row.place tx next active refl
       (λ f under. back_underway s f job.place row.place tx cause.NoMemory next.undo row.held refl runs row.same (λ asked. tt) under) row.journal row.jobs
+
+  late_row : (tx : SeenTx) (call : LateCall) (calls : List LateCall) → job.doing ≡ Active tx → tx.phase ≡ Committing → late_left tx ≡ call ∷ calls
+      → EndsLate s at old job tx call new → After
+  late_row tx call calls active commits some row =
+      active_row job.place tx (record tx { ends = tx.ends ++ row.end ∷ [] }) active refl
+      (λ f under. ended_underway s f job.place tx row.end commits (left_some tx.late tx.ends call calls some) under) row.journal row.jobs
 
   tried_row : (tx : SeenTx) (c : Cause) → job.doing ≡ Active tx → tx.phase ≡ Undoing c → Compensates s at old job tx new → After
   tried_row tx c active undoes row =
@@ -167,20 +177,25 @@ module _ (s : Setting) (at : ℕ) (old new : Now) (job : SeenJob) (b : Before s 
   follows : (f : Following) × (slice_get (progress_of s.script old.journal).jobs at ≡ Some f)
   follows = get_beside (progress_of s.script old.journal).jobs old.jobs at job b.told.count b.stands
 
-  commit_row : (tx : SeenTx) → job.doing ≡ Active tx → tx.phase ≡ Committing → new.journal ≡ old.journal ++ entry_of tx at (Committed []) ∷ []
-      → new.jobs ≡ slice_set old.jobs at (behind_commit job tx) → After
-  commit_row tx active commits journal jobs =
+  commit_row : (tx : SeenTx) → job.doing ≡ Active tx → tx.phase ≡ Committing → late_left tx ≡ []
+      → new.journal ≡ old.journal ++ entry_of tx at (Committed tx.ends) ∷ [] → new.jobs ≡ slice_set old.jobs at (behind_commit job tx) → After
+  commit_row tx active commits none journal jobs =
       let p = progress_of s.script old.journal in
-      let e = entry_of tx at (Committed []) in
+      let e = entry_of tx at (Committed tx.ends) in
       let (f, got) = follows in
       let told = b.told.jobs_told at f job got b.stands in
       let under : IsUnderway s f job.place tx = subst (IsDoing s (begun_count old) f job) active told.doing in
       told_as s (old.journal ++ e ∷ []) new.journal (slice_set old.jobs at (behind_commit job tx)) new.jobs journal jobs
       (enters s old.journal old.jobs at job (behind_commit job tx) tx e f (gone_on s.script p.entered f tx) b.stands
-      (ap active_in active) refl refl got (commit_leads s.script p f at tx got)
-      (commit_true s (length old.words) p f at job.place tx got commits under (began_by_now tx active) (replies_said tx active)
+      (ap active_in active) refl refl got (commit_leads s.script p f at tx got under.built)
+      (commit_true s (length old.words) p f at job.place tx got commits none under (began_by_now tx active) (replies_said tx active)
       (λ t. b.played t tx (is_active tx active)))
       (committed_told s (begun_count old) (length old.journal) p.entered f job tx active commits (entered-all s.script old.journal) told) b.told)
+
+  left_row : (tx : SeenTx) (calls : List LateCall) → job.doing ≡ Active tx → tx.phase ≡ Committing → late_left tx ≡ calls
+      → LateTurn s at old job tx calls new → After
+  left_row tx [] active commits none row = commit_row tx active commits none (ap (λ (n : Now). n.journal) row) (ap (λ (n : Now). n.jobs) row)
+  left_row tx (call ∷ calls) active commits some row = late_row tx call calls active commits some row
 
   abort_row : (tx : SeenTx) (c : Cause) → job.doing ≡ Active tx → tx.phase ≡ Undoing c → tx.undo.pending ≡ []
       → new.journal ≡ old.journal ++ entry_of tx at (aborted_by c tx) ∷ [] → new.jobs ≡ slice_set old.jobs at (behind_abort job tx c) → After
@@ -208,7 +223,7 @@ module _ (s : Setting) (at : ℕ) (old new : Now) (job : SeenJob) (b : Before s 
   phase_row tx Running turn.NoMemory active is row = wants_row tx active is row
   phase_row tx Running (turn.Busy object holder) active is row = absurd row
   phase_row tx Running (turn.Ended end) active is row = absurd row
-  phase_row tx Committing turn.Went active is row = commit_row tx active is (ap (λ (n : Now). n.journal) row) (ap (λ (n : Now). n.jobs) row)
+  phase_row tx Committing turn.Went active is row = left_row tx (late_left tx) active is refl row
   phase_row tx Committing turn.NoMemory active is row = absurd row
   phase_row tx Committing (turn.Busy object holder) active is row = absurd row
   phase_row tx Committing (turn.Ended end) active is row = absurd row

@@ -4,6 +4,7 @@ use Rattle.std.specs.Prelude.{All, Option, slice_set}
 use Rattle.std.specs.declared.option.Option.TheVariants.{None, Some}
 use Rattle.xc_data.specs.Claims.{holding}
 use Rattle.xc_data.specs.declared.call.Call.{Call}
+use Rattle.xc_data.specs.declared.call.LateCall.{LateCall}
 use Rattle.xc_data.specs.declared.claim.Claim.{Claim}
 use Rattle.xc_data.specs.declared.object.Object.{Object}
 use Rattle.xc_data.specs.declared.entry.Cause.{Cause}
@@ -20,11 +21,11 @@ use Rattle.xc_txmem.proofs.Overlays.{overlay_count}
 use Rattle.xc_story.specs.declared.phase.Phase.{Phase}
 use Rattle.xc_story.specs.declared.phase.Phase.TheVariants.{Running, Committing, Undoing}
 use Rattle.xc_story.specs.Setting.{Setting}
-use Rattle.xc_story.specs.Seen.{SeenTx, SeenJob, Doing, Idle, Active, Starved, Ended, Now, active_in, active_of, entering}
+use Rattle.xc_story.specs.Seen.{SeenTx, SeenJob, Doing, Idle, Active, Starved, Ended, Now, active_in, active_of, entering, late_left}
 use Rattle.xc_story.specs.Told.{cause_of_phase}
 use Rattle.xc_story.specs.Truth.{cause_in}
 use Rattle.xc_story.specs.Rows.{IsTurn, TurnOf, IdleTurn, StarvedTurn, ActiveTurn, RunningTurn, AskedTurn, CommittingTurn, UndoingTurn, BackTurn}
-use Rattle.xc_story.specs.Rows.{Calls, Conflicts, Commits, TurnsBack, Wants, HoldsWanting, Compensates}
+use Rattle.xc_story.specs.Rows.{Calls, Conflicts, Commits, TurnsBack, Wants, HoldsWanting, LateTurn, EndsLate, Compensates}
 use Rattle.xc_story.specs.Rows.{HasNoRival, IsFirstMet, asked_at, claims_at, beginning_job, behind_commit, behind_abort, entry_of, noting, wanting, with_tx}
 use Rattle.xc_turns.proofs.Jobs.{behind_abort_none}
 
@@ -295,8 +296,29 @@ module _ (s : Setting) (at : ℕ) (old : Now) (job : SeenJob) (new : Now) where
           why = why;
         })
 
-    committing_kind : (answer : Turn) → CommittingTurn at old job tx answer new → tx.phase ≡ Committing → Kind s at old job new
-    committing_kind turn.Went row e = enters_kind (behind_commit job tx) (Committed []) row refl (ap cause_of_phase (sym e))
+    late_kind : (call : LateCall) → EndsLate s at old job tx call new → Kind s at old job new
+    late_kind call row =
+        let ended : SeenTx = record tx { ends = tx.ends ++ row.end ∷ [] } in
+        moves (record {
+          behind = with_tx job job.place ended;
+          sets = record { jobs = row.jobs; words = ap length row.words };
+          journal = row.journal;
+          was = tx;
+          tx = ended;
+          before = active;
+          after = refl;
+          number = refl;
+          began = refl;
+          held = inl refl;
+          why = same (record { phase = refl; me = refl; replies = refl });
+        })
+
+    left_kind : (calls : List LateCall) → LateTurn s at old job tx calls new → tx.phase ≡ Committing → Kind s at old job new
+    left_kind [] row e = enters_kind (behind_commit job tx) (Committed tx.ends) row refl (ap cause_of_phase (sym e))
+    left_kind (call ∷ calls) row e = late_kind call row
+
+    committing_kind : (answer : Turn) → CommittingTurn s at old job tx answer new → tx.phase ≡ Committing → Kind s at old job new
+    committing_kind turn.Went row e = left_kind (late_left tx) row e
     committing_kind _ row e = absurd row
 
     back_kind : (c : Cause) (pending : List Undo) → BackTurn s at old job tx c pending new → tx.phase ≡ Undoing c → Kind s at old job new

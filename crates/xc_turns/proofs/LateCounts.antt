@@ -1,0 +1,158 @@
+-- Calls that are kept for the commit: one late call for each, and none that starts a job.
+use Rattle.std.proofs.Common.{◌≡◌, ℕ, ◌+◌, ◌<◌, ◌≤◌, Bool, true, false, List, [], ◌∷◌, ◌++◌, length, refl, ap, ap₂, sym, ◌∙◌, arith, length-append, length-drop}
+use Rattle.std.specs.Prelude.{◌||◌, ◌&&◌, not, drop, take, if◌then◌else◌}
+use Rattle.std.specs.List.{list_all}
+use Rattle.std.proofs.lemmas.Bool.{and_parts}
+use Rattle.std.proofs.lemmas.List.Folds.{list_all-append}
+use Rattle.std.proofs.Math.Seq.{take-length}
+use Rattle.xc_data.specs.declared.call.Call.{Call}
+use Rattle.xc_data.specs.declared.call.Call.TheVariants as call
+use Rattle.xc_data.specs.declared.call.LateCall.{LateCall}
+use Rattle.xc_data.specs.declared.call.LateEnd.{LateEnd}
+use Rattle.xc_data.specs.declared.call.Reply.{Reply}
+use Rattle.xc_data.specs.declared.call.Reply.TheVariants as reply
+use Rattle.xc_data.specs.declared.private.Place.{Place}
+use Rattle.xc_data.specs.declared.private.Place.TheVariants as place
+use Rattle.xc_data.specs.declared.private.Private.{Private}
+use Rattle.xc_data.specs.Private.{place_of}
+use Rattle.xc_world.specs.World.{World}
+use Rattle.xc_world.specs.Checks.{is_bad_handle, is_file, is_pipe, is_pair}
+use Rattle.xc_world.specs.Act.Step.{Stepped, stays}
+use Rattle.xc_world.specs.Late.{is_late, kept_call, late_call, sync_of, write_pipe_of, shutdown_of, send_of}
+use Rattle.xc_story.specs.Progress.{kept_of, started_blocks, started_by}
+use Rattle.xc_story.specs.LateCalls.{waits}
+use Rattle.xc_story.specs.Rows.{IsReplyInTime, is_built}
+
+-- ---- one late call for each
+sync_one : (p : Place) → not (is_file p) ≡ false → length (sync_of p) ≡ 1
+sync_one (place.File num at) good = refl
+sync_one _ good = cc good
+
+write_one : (p : Place) (bytes : List ℕ) → not (is_pipe p) ≡ false → length (write_pipe_of p bytes) ≡ 1
+write_one (place.Pipe num) bytes good = refl
+write_one _ bytes good = cc good
+
+shutdown_one : (p : Place) → not (is_pipe p || is_pair p) ≡ false → length (shutdown_of p) ≡ 1
+shutdown_one (place.Pipe num) good = refl
+shutdown_one (place.Pair num side) good = refl
+shutdown_one _ good = cc good
+
+send_one : (p : Place) (bytes : List ℕ) → not (is_pair p) ≡ false → length (send_of p bytes) ≡ 1
+send_one (place.Pair num side) bytes good = refl
+send_one _ bytes good = cc good
+
+waiting_one : (c : Call) (me : Private) → waits c ≡ true → is_bad_handle c me ≡ false → length (late_call c me) ≡ 1
+waiting_one (call.XUnlink name slot) me kept good = refl
+waiting_one (call.XSync h slot) me kept good = sync_one (place_of me.places h) good
+waiting_one (call.XWritePipe h bytes slot) me kept good = write_one (place_of me.places h) bytes good
+waiting_one (call.XShutdown h slot) me kept good = shutdown_one (place_of me.places h) good
+waiting_one (call.XSendmsg h bytes slot) me kept good = send_one (place_of me.places h) bytes good
+waiting_one (call.XThreadCreate body slot) me kept good = refl
+waiting_one _ me kept good = cc kept
+
+passed : (b : Bool) (w : World) (me : Private) (s : Stepped) → is_late (if b then stays w me reply.BadHandle else s).reply ≡ true → b ≡ false
+passed true w me s late = cc late
+passed false w me s late = refl
+
+late_one : (w : World) (me : Private) (number : ℕ) (c : Call) (r : Reply) → IsReplyInTime me number c r → is_late r ≡ true
+    → length (late_call c me) ≡ 1
+late_one w me number c r in_time late = by_test (waits c) refl
+  where
+    by_test : (b : Bool) → waits c ≡ b → length (late_call c me) ≡ 1
+    by_test true kept = waiting_one c me kept (passed (is_bad_handle c me) w me _ (ap is_late (sym (in_time.kept kept w)) ∙ late))
+    by_test false now = let no : true ≡ false = sym late ∙ in_time.now now in cc no
+
+kept_one : (me : Private) (c : Call) (r : Reply) → (is_late r ≡ true → length (late_call c me) ≡ 1)
+    → length (kept_call c me r) ≡ length (if is_late r then c ∷ [] else [])
+kept_one me c reply.Late one = one refl
+kept_one me c _ one = refl
+
+at_most_one : (b : Bool) (c : Call) → length (if b then c ∷ [] else []) ≤ 1
+at_most_one true c = omega arith
+at_most_one false c = omega arith
+
+-- a call leaves one late call at most
+pub kept_few : (w : World) (me : Private) (number : ℕ) (c : Call) (r : Reply) → IsReplyInTime me number c r → length (kept_call c me r) ≤ 1
+kept_few w me number c r in_time =
+    omega (arith, kept_one me c r (late_one w me number c r in_time), at_most_one (is_late r) c)
+
+kept_front : (b : Bool) (c : Call) (kept last more : List Call) → more ≡ kept ++ last
+    → (if b then c ∷ more else more) ≡ (if b then c ∷ kept else kept) ++ last
+kept_front true c kept last more e = ap (λ cs. c ∷ cs) e
+kept_front false c kept last more e = e
+
+-- one more call is kept where its reply says so
+kept-more : (calls : List Call) (replies : List Reply) (c : Call) (r : Reply) → length calls ≡ length replies
+    → kept_of (calls ++ c ∷ []) (replies ++ r ∷ []) ≡ kept_of calls replies ++ (if is_late r then c ∷ [] else [])
+kept-more [] [] c r e = refl
+kept-more [] (q ∷ replies) c r e = absurd (omega arith)
+kept-more (d ∷ calls) [] c r e = absurd (omega arith)
+kept-more (d ∷ calls) (q ∷ replies) c r e =
+    kept_front (is_late q) d (kept_of calls replies) (if is_late r then c ∷ [] else []) (kept_of (calls ++ c ∷ []) (replies ++ r ∷ []))
+    (kept-more calls replies c r (omega arith))
+
+-- late calls are as many as calls were kept, with one call more too
+pub late-more : (w : World) (me : Private) (number : ℕ) (late : List LateCall) (calls : List Call) (replies : List Reply) (c : Call) (r : Reply)
+    → IsReplyInTime me number c r → length calls ≡ length replies → length late ≡ length (kept_of calls replies)
+    → length (late ++ kept_call c me r) ≡ length (kept_of (calls ++ c ∷ []) (replies ++ r ∷ []))
+late-more w me number late calls replies c r in_time each same =
+    length-append late (kept_call c me r) ∙ ap₂ (λ m n. m + n) same (kept_one me c r (late_one w me number c r in_time))
+    ∙ sym (length-append (kept_of calls replies) (if is_late r then c ∷ [] else [])) ∙ ap length (sym (kept-more calls replies c r each))
+
+-- ---- no call starts a job
+built_starts : (c : Call) (e : LateEnd) → is_built c ≡ true → started_by c e ≡ []
+built_starts (call.XThreadCreate body slot) e built = cc built
+built_starts _ e built = refl
+
+none_starts : (calls : List Call) (ends : List LateEnd) → list_all is_built calls ≡ true → started_blocks calls ends ≡ []
+none_starts [] ends built = refl
+none_starts (c ∷ calls) [] built = refl
+none_starts (c ∷ calls) (e ∷ ends) built =
+    let parts = and_parts (is_built c) (list_all is_built calls) built in
+    ap₂ (λ xs ys. xs ++ ys) (built_starts c e parts.0) (none_starts calls ends parts.1)
+
+built_front : (b : Bool) (c : Call) (kept : List Call) → is_built c ≡ true → list_all is_built kept ≡ true
+    → list_all is_built (if b then c ∷ kept else kept) ≡ true
+built_front true c kept one rest = ap₂ (λ x y. x && y) one rest
+built_front false c kept one rest = rest
+
+kept_built : (calls : List Call) (replies : List Reply) → list_all is_built calls ≡ true → list_all is_built (kept_of calls replies) ≡ true
+kept_built [] replies built = refl
+kept_built (c ∷ calls) [] built = refl
+kept_built (c ∷ calls) (r ∷ replies) built =
+    let parts = and_parts (is_built c) (list_all is_built calls) built in
+    built_front (is_late r) c (kept_of calls replies) parts.0 (kept_built calls replies parts.1)
+
+-- such calls, kept for the commit, start no block
+pub kept_starts : (calls : List Call) (replies : List Reply) (ends : List LateEnd) → list_all is_built calls ≡ true
+    → started_blocks (kept_of calls replies) ends ≡ []
+kept_starts calls replies ends built = none_starts (kept_of calls replies) ends (kept_built calls replies built)
+
+-- with one more such call all are
+pub built-more : (calls : List Call) (c : Call) → list_all is_built calls ≡ true → is_built c ≡ true → list_all is_built (calls ++ c ∷ []) ≡ true
+built-more calls c all one =
+    list_all-append is_built calls (c ∷ []) ∙ ap₂ (λ x y. x && (y && true)) all one
+
+-- ---- ends
+-- where one is left there are fewer ends
+pub left_some : (late : List LateCall) (ends : List LateEnd) (c : LateCall) (calls : List LateCall) → drop (length ends) late ≡ c ∷ calls
+    → length ends < length late
+left_some late ends c calls e = omega (arith, length-drop (length ends) late, ap length e)
+
+-- one end more leaves one fewer
+pub left_less : (late : List LateCall) (ends : List LateEnd) (end : LateEnd) → length ends < length late
+    → length (drop (length (ends ++ end ∷ [])) late) < length (drop (length ends) late)
+left_less late ends end some =
+    omega (arith, length-drop (length ends) late, length-drop (length (ends ++ end ∷ [])) late, length-append ends (end ∷ []))
+
+-- one late call more leaves one more at most
+pub left_more : (late more : List LateCall) (n : ℕ) → length more ≤ 1 → length (drop n (late ++ more)) ≤ length (drop n late) + 1
+left_more late more n one = omega (arith, length-drop n late, length-drop n (late ++ more), length-append late more)
+
+-- where none is left each has its end
+pub left_none : (late : List LateCall) (ends : List LateEnd) → length ends ≤ length late → drop (length ends) late ≡ [] → length ends ≡ length late
+left_none late ends few none = omega (arith, length-drop (length ends) late, ap length none)
+
+-- and the first of as many are all
+pub take_all : (late : List LateCall) (n : ℕ) → n ≡ length late → take n late ≡ late
+take_all late n all = ap (λ k. take k late) all ∙ take-length late
