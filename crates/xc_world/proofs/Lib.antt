@@ -33,3 +33,5 @@ pub mod Records
 pub mod Trails
 pub mod Runs
 pub mod Holding
+pub mod Refutation
+pub mod RemainsSound
