@@ -17,8 +17,11 @@ pub mod EffectsParts
 pub mod EffectsCalls
 pub mod EffectsBody
 pub mod EffectsMade
-pub mod EffectsRemains
+pub mod EffectsLengths
+pub mod EffectsApart
 pub mod EffectsUndone
+pub mod EffectsPart
+pub mod EffectsRemains
 pub mod LocalParts
 pub mod LocalCalls
 pub mod Local
@@ -33,5 +36,3 @@ pub mod Records
 pub mod Trails
 pub mod Runs
 pub mod Holding
-pub mod Refutation
-pub mod RemainsSound
