@@ -19,6 +19,7 @@ pub mod EffectsBody
 pub mod EffectsMade
 pub mod EffectsLengths
 pub mod EffectsApart
+pub mod EffectsTrail
 pub mod EffectsUndone
 pub mod EffectsPart
 pub mod EffectsRemains

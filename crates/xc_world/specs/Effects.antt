@@ -24,15 +24,6 @@ takes_data (call.XReadPipe h n) = true
 takes_data (call.XRecvmsg h) = true
 takes_data _ = false
 
--- a call that leaves no record but of an overwrite
-abbrev pub only_overwrites : Call → Bool
-only_overwrites (call.XCreate name) = false
-only_overwrites (call.XWriteSeq h bytes) = false
-only_overwrites (call.XRename from to) = false
-only_overwrites call.XPipe = false
-only_overwrites call.XPair = false
-only_overwrites _ = true
-
 -- ---- records that were made one after another, each in the world that the ones before it left
 pub record IsOverwriteIn (w : World) (file : Num) (at : ℕ) (before after : List ℕ) (n : ℕ) : Type 0 where
   pub there : is_some (finite.get w.files file) ≡ true
