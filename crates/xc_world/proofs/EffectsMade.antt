@@ -1,8 +1,8 @@
 -- A call makes its record in the world before it, as each kind of record asks.
-use Rattle.std.proofs.Common.{◌≡◌, ℕ, ◌+◌, ◌≤◌, ◌<◌, Bool, true, false, Option, Some, None, is_some, List, [], ◌∷◌, length, take, drop, refl, ap, sym, ◌∙◌, subst, arith}
-use Rattle.std.specs.Prelude.{IsTrue, ◌==◌, nat_lt, not, if◌then◌else◌}
+use Rattle.std.proofs.Common.{◌≡◌, ℕ, ◌+◌, ◌≤◌, ◌<◌, Bool, true, false, Option, Some, None, is_some, List, [], ◌∷◌, length, take, drop, refl, ap, sym, subst, arith}
+use Rattle.std.specs.Prelude.{IsTrue, ◌==◌, nat_lt, if◌then◌else◌}
 use Rattle.std.specs.FinMap as finite
-use Rattle.std.proofs.lemmas.Bool.{false≢true, and_parts, cond_both, eqb-true, ltb-false, ltb-true}
+use Rattle.std.proofs.lemmas.Bool.{false≢true, cond_both, eqb-true, ltb-false}
 use Rattle.xc_data.specs.declared.object.Num.{Num}
 use Rattle.xc_data.specs.declared.call.Call.{Call}
 use Rattle.xc_data.specs.declared.call.Call.TheVariants as call
@@ -16,17 +16,16 @@ use Rattle.xc_data.specs.declared.private.Private.{Private}
 use Rattle.xc_data.specs.Private.{place_of, with_place, lowest_vacant}
 use Rattle.xc_world.specs.World.{World, file_of}
 use Rattle.xc_world.specs.Sound.{IsFree, IsKnown, IsSound}
-use Rattle.xc_world.specs.Checks.{is_refused}
 use Rattle.xc_world.specs.Act.Step.{Stepped}
 use Rattle.xc_world.specs.Act.Names.{next_num, created, renamed}
 use Rattle.xc_world.specs.Act.Files.{overwrite_at, append_at, overwrite_short, append_short}
 use Rattle.xc_world.specs.Act.Pipes.{new_pipe, pair_made, new_pair}
 use Rattle.xc_world.specs.Act.{fine, faulty, done, act}
-use Rattle.xc_world.specs.Fits.{fits, asks_host, may_stop, is_done}
+use Rattle.xc_world.specs.Fits.{fits, is_done}
 use Rattle.xc_world.specs.Trail.{done_of, overwrite_record, append_record, create_record, rename_record, pipe_record, pair_record, recorded}
 use Rattle.xc_world.specs.Effects.{AreMadeIn}
 use Rattle.xc_world.proofs.UndoingCalls.{Stops, done-inside}
-use Rattle.xc_world.proofs.UndoingBody.{refusal-none, act-cases, stops}
+use Rattle.xc_world.proofs.UndoingBody.{refusal-none, act-cases, next_free, stops}
 
 -- ---- one overwrite
 abbrev pub MakesOverwrite : World → List ℕ → Place → Stepped → Type 0
@@ -102,16 +101,6 @@ append_short-made w me h bytes n Vacant known stops = tt
 append_short-made w me h bytes n (Pipe num) known stops = tt
 append_short-made w me h bytes n (Pair num side) known stops = tt
 
--- a fault behind the first byte stops an append that would be done
-append-stops : (w : World) (me : Private) (tx h : ℕ) (bytes : List ℕ) (n : ℕ) → IsTrue (fits w me tx (call.XWriteSeq h bytes) (answer.Fault n))
-    → (n == 0) ≡ false → Stops n bytes (append_at w me h bytes (place_of me.places h))
-append-stops w me tx h bytes n fit some =
-    let c = call.XWriteSeq h bytes in
-    let fault = and_parts (not (is_refused c me (length w.words))) (if n == 0 then asks_host c else may_stop w me tx c n) fit in
-    let stop : may_stop w me tx c n ≡ true = subst (λ b. (if b then asks_host c else may_stop w me tx c n) ≡ true) some fault.1 in
-    let parts = and_parts (is_done (append_at w me h bytes (place_of me.places h)).reply) (nat_lt n (length bytes)) stop in
-    record { would = parts.0; before = ltb-true n (length bytes) parts.1 }
-
 -- ---- names, pipes and pairs
 created-made : (w : World) (me : Private) (tx : ℕ) (name : List ℕ) (o : Option Num) (vacant : Option ℕ) → finite.get w.names name ≡ o
     → IsFree w (next_num me tx)
@@ -146,10 +135,6 @@ new_pair-made w me tx (Some h) free =
 abbrev pub MakesCall : World → Private → ℕ → Call → Stepped → Type 0
 MakesCall w me tx c s = AreMadeIn w (recorded w me tx c s.reply)
 
--- the next number of a transaction is free
-next_free : (w : World) (me : Private) (tx : ℕ) → IsSound w me tx → IsFree w (next_num me tx)
-next_free w me tx sound = sound.new me.made (omega arith)
-
 fine-made : (w : World) (me : Private) (tx : ℕ) (c : Call) → IsSound w me tx → MakesCall w me tx c (fine w me tx c)
 fine-made w me tx (call.XWriteOvr h bytes) sound = overwrite_at-made w me h bytes (place_of me.places h) (sound.handles h)
 fine-made w me tx (call.XCreate name) sound =
@@ -163,9 +148,9 @@ fine-made w me tx _ sound = tt
 faulty-made : (w : World) (me : Private) (tx : ℕ) (c : Call) (n : ℕ) → IsSound w me tx → IsTrue (fits w me tx c (answer.Fault n))
     → MakesCall w me tx c (faulty w me c n)
 faulty-made w me tx (call.XWriteOvr h bytes) n sound fit =
-    overwrite_short-made w me h bytes n (place_of me.places h) (sound.handles h) (stops w me tx h bytes n fit)
+    overwrite_short-made w me h bytes n (place_of me.places h) (sound.handles h) (stops w me tx (call.XWriteOvr h bytes) n fit)
 faulty-made w me tx (call.XWriteSeq h bytes) n sound fit =
-    append_short-made w me h bytes n (place_of me.places h) (sound.handles h) (append-stops w me tx h bytes n fit)
+    append_short-made w me h bytes n (place_of me.places h) (sound.handles h) (stops w me tx (call.XWriteSeq h bytes) n fit)
 faulty-made w me tx _ n sound fit = tt
 
 done-made : (w : World) (me : Private) (tx : ℕ) (c : Call) (a : Answer) → IsSound w me tx → IsTrue (fits w me tx c a)

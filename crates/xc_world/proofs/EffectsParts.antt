@@ -22,7 +22,7 @@ module _ {X : Type 0} where
     | inl here ↦ absurd (let some = here.1 in cc)
     | inr is ↦ (
       (λ e. let there : finite.get (finite.insert m at x) q ≡ Some x =
-      ap (finite.get (finite.insert m at x)) e ∙ get-insert_same num_total num_exact m at x in absurd (cc (none, there))),
+          ap (finite.get (finite.insert m at x)) e ∙ get-insert_same num_total num_exact m at x in absurd (cc (none, there))),
       sym is ∙ none,
     )
   ]

@@ -1,6 +1,6 @@
 -- Each record of a body was made in the world that the ones before it left.
 use Rattle.std.proofs.Common.{◌≡◌, ℕ, ◌+◌, false, Option, Some, None, List, [], ◌∷◌, length, drop, take, unwrap_or, ◌++◌, refl, ap, sym, ◌∙◌, subst}
-use Rattle.std.specs.Prelude.{IsTrue, ◌==◌, All, Contains}
+use Rattle.std.specs.Prelude.{IsTrue, ◌==◌, Contains}
 use Rattle.std.specs.FinMap as finite
 use Rattle.std.proofs.lemmas.Bool.{and_parts, cond_both}
 use Rattle.std.proofs.lemmas.List.Elements.{All-weaker, All-contains_itself}
@@ -30,7 +30,7 @@ use Rattle.xc_world.specs.Fits.{fits}
 use Rattle.xc_world.specs.Run.{Ran, body, body_fits}
 use Rattle.xc_world.specs.Trail.{move_name, recorded, with_effect}
 use Rattle.xc_world.specs.Ends.{with_remains}
-use Rattle.xc_world.specs.Effects.{whole, takes_data, IsMadeIn, AreMadeIn}
+use Rattle.xc_world.specs.Effects.{whole, takes_data, AreMadeIn}
 use Rattle.xc_world.proofs.Joined.{body_first}
 use Rattle.xc_world.proofs.Sound.{act_sound}
 use Rattle.xc_world.proofs.UndoingBody.{act-cases}
@@ -195,7 +195,7 @@ made-in : (v w : World) (us : List Undo) → HasRoom v w → AreMadeIn v us → 
 made-in v w [] room made = tt
 made-in v w (u ∷ us) room made = (
   made_there v w u
-  (All-weaker (Contains (objects_of u)) (LeavesRoom v w) (λ o _. room_at v w room o) (objects_of u) (All-contains_itself (objects_of u))) made.0,
+      (All-weaker (Contains (objects_of u)) (LeavesRoom v w) (λ o _. room_at v w room o) (objects_of u) (All-contains_itself (objects_of u))) made.0,
   made-in (with_effect v u 0) (with_effect w u 0) us (effect-room v w u room) made.1,
 )
 

@@ -87,8 +87,8 @@ moved_covered w from to (Some num) e there vacant =
     let without = finite.remove w.names from in
     let two : from ≢ to = λ same. let gone : finite.get w.names from ≡ None = ap (finite.get w.names) same ∙ vacant in cc in (
       get-insert_other nat_list_cmp_total exact_bytes without to from num two
-      ∙ (finite.get-remove nat_list_cmp_total w.names from from
-      ∙ ap (λ b. cond b None (finite.get w.names from)) (alike nat_list_cmp_total exact_bytes from)),
+          ∙ (finite.get-remove nat_list_cmp_total w.names from from
+          ∙ ap (λ b. cond b None (finite.get w.names from)) (alike nat_list_cmp_total exact_bytes from)),
       ap is_some (get-insert_same nat_list_cmp_total exact_bytes without to num),
     )
 

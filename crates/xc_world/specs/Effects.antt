@@ -25,6 +25,7 @@ takes_data (call.XRecvmsg h) = true
 takes_data _ = false
 
 -- ---- records that were made one after another, each in the world that the ones before it left
+-- the file is there, all the new bytes lie within it, and the old ones stood under them; some of them were written
 pub record IsOverwriteIn (w : World) (file : Num) (at : ℕ) (before after : List ℕ) (n : ℕ) : Type 0 where
   pub there : is_some (finite.get w.files file) ≡ true
   pub inside : at + length after ≤ length (file_of w file)
