@@ -4,9 +4,7 @@ use Rattle.std.proofs.Common.{refl, ap, sym, ◌∙◌, subst}
 use Rattle.std.specs.Prelude.{All, Contains, if◌then◌else◌}
 use Rattle.std.specs.FinMap as finite
 use Rattle.std.specs.List.{list_any, AllByRecursion}
-use Rattle.std.specs.Cmp.Lexicographic.{nat_list_cmp_total}
 use Rattle.std.proofs.lemmas.Bool.{false≢true}
-use Rattle.std.proofs.lemmas.Map.Lookups.{exact_bytes}
 use Rattle.std.proofs.lemmas.List.Elements.{All-head, All-tail, All-weaker}
 use Rattle.std.proofs.lemmas.List.Folds.{list_any_at}
 use Rattle.xc_data.specs.declared.object.Object.{Object}
@@ -16,16 +14,14 @@ use Rattle.xc_data.specs.declared.undo.Undo.TheVariants.{Bytes, Tail, Made, Move
 use Rattle.xc_data.specs.declared.undo.UndoEnd.TheVariants.{Undone, Failed, Blocked}
 use Rattle.xc_data.specs.Standing.{objects_of}
 use Rattle.xc_data.specs.Claims.{is_object}
-use Rattle.xc_maps.proofs.Maps.{num_total, num_exact}
 use Rattle.xc_world.specs.World.{World}
 use Rattle.xc_world.specs.Laws.{AgreeAt}
 use Rattle.xc_world.specs.Trail.{with_effect}
 use Rattle.xc_world.specs.Ends.{Ending, share_object, blocker, remains, with_remains}
 use Rattle.xc_world.specs.Effects.{IsMadeIn}
-use Rattle.xc_world.proofs.Objects.{found, decide, agree_back, agree_on}
+use Rattle.xc_world.proofs.Objects.{found, decide, agree_back, agree_on, worlds_same}
 use Rattle.xc_world.proofs.Calls.{agreed, still_agree}
 use Rattle.xc_world.proofs.Records.{effect_alike, effect_only}
-use Rattle.xc_world.proofs.EffectsParts.{effect-words}
 
 -- ---- no object is spoken of by both
 abbrev pub AreApart : Undo → Undo → Type 0
@@ -42,20 +38,6 @@ untouched : (w : World) (u q : Undo) (j : ℕ) → AreApart u q → All (AgreeAt
 untouched w u q j apart = agreed (λ o. Contains (objects_of q) o → ⊥) w (with_effect w q j) (objects_of u) (effect_only w q j).others apart
 
 -- ---- their effects
--- worlds that agree at each object, with the same words and blocks, are the same
-same_world : (w v : World) → ((o : Object) → AgreeAt w v o) → w.words ≡ v.words → w.blocks ≡ v.blocks → w ≡ v
-same_world w v agree words blocks =
-    let names : w.names ≡ v.names = finite.same_map nat_list_cmp_total exact_bytes w.names v.names (λ q. agree (object.Name q)) in
-    let files : w.files ≡ v.files = finite.same_map num_total num_exact w.files v.files (λ q. agree (object.File q)) in
-    let pipes : w.pipes ≡ v.pipes = finite.same_map num_total num_exact w.pipes v.pipes (λ q. agree (object.Pipe q)) in
-    let pairs : w.pairs ≡ v.pairs = finite.same_map num_total num_exact w.pairs v.pairs (λ q. agree (object.Pair q)) in
-    ap (λ x. record w { words = x }) words
-    ∙ (ap (λ x. record w { words = v.words; names = x }) names
-    ∙ (ap (λ x. record w { words = v.words; names = v.names; files = x }) files
-    ∙ (ap (λ x. record w { words = v.words; names = v.names; files = v.files; pipes = x }) pipes
-    ∙ (ap (λ x. record v { pairs = x; started = w.started; blocks = w.blocks }) pairs
-    ∙ (ap (λ x. record v { started = x; blocks = w.blocks }) (agree object.Jobs) ∙ ap (λ x. record v { blocks = x }) blocks)))))
-
 -- both orders agree outside the objects of the second record
 outside : (w : World) (u q : Undo) (k j : ℕ) → AreApart u q → (o : Object) → (Contains (objects_of q) o → ⊥)
     → AgreeAt (with_effect (with_effect w u k) q j) (with_effect (with_effect w q j) u k) o
@@ -66,21 +48,17 @@ outside w u q k j apart o lacks =
     (still_agree (λ p. Contains (objects_of q) p → ⊥) w y x (with_effect y u k) (objects_of u) (effect_alike w y u k (untouched w u q j apart))
     (effect_only w q j).others o lacks)
 
-kept_words : (w : World) (u : Undo) (k : ℕ) → (with_effect w u k).words ≡ w.words
-kept_words w u k = ap (λ (v : World). v.words) (effect-words w w.words u k)
-
 in_either_order : (w : World) (u q : Undo) (k j : ℕ) → AreApart u q
     → with_effect (with_effect w u k) q j ≡ with_effect (with_effect w q j) u k
 in_either_order w u q k j apart =
     let x = with_effect w u k in
     let y = with_effect w q j in
-    same_world (with_effect x q j) (with_effect y u k)
+    worlds_same (with_effect x q j) (with_effect y u k)
     (λ o. elim (decide (objects_of q) o) [
       | inl its ↦ agree_back (with_effect y u k) (with_effect x q j) o
           (outside w q u j k (λ p a b. apart p b a) o (λ mine. apart o mine its))
       | inr lacks ↦ outside w u q k j apart o lacks
     ])
-    (kept_words x q j ∙ (kept_words w u k ∙ sym (kept_words y u k ∙ kept_words w q j)))
     ((effect_only x q j).blocks ∙ ((effect_only w u k).blocks ∙ sym ((effect_only y u k).blocks ∙ (effect_only w q j).blocks)))
 
 -- ---- what each asks of its world

@@ -43,7 +43,7 @@ move_name-words w words from to None = refl
 move_name-words w words from to (Some num) = refl
 
 -- an effect asks for no word
-pub effect-words : (w : World) (words : List ℕ) (u : Undo) (k : ℕ) → with_effect (with_words w words) u k ≡ with_words (with_effect w u k) words
+effect-words : (w : World) (words : List ℕ) (u : Undo) (k : ℕ) → with_effect (with_words w words) u k ≡ with_words (with_effect w u k) words
 effect-words w words (Bytes file at before after n) k = refl
 effect-words w words (Tail file from after n) k = refl
 effect-words w words (Made name num) k = refl
