@@ -1,5 +1,5 @@
-use Rattle.xc_flight.proofs.Overwriting.{overwrite_undone}
-use Rattle.xc_flight.proofs.turns.a_compensation_of_an_overwrite_keeps_all.Goals as goal
+use Rattle.xc_flight.proofs.Aborting.{newest_undone}
+use Rattle.xc_flight.proofs.turns.a_recorded_compensation_keeps_all.Goals as goal
 
 pub returns : goal.returns
-returns c = overwrite_undone
+returns c = newest_undone

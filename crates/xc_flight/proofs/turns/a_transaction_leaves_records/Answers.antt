@@ -1,5 +1,5 @@
-use Rattle.xc_flight.proofs.Overwriting.{records_made}
-use Rattle.xc_flight.proofs.turns.an_overwriting_transaction_leaves_records.Goals as goal
+use Rattle.xc_flight.proofs.Aborting.{records_made}
+use Rattle.xc_flight.proofs.turns.a_transaction_leaves_records.Goals as goal
 
 pub returns : goal.returns
 returns c = records_made
