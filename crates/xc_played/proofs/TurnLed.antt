@@ -2,6 +2,7 @@
 use Rattle.std.proofs.Common.{◌≡◌, ◌≢◌, ℕ, ◌+◌, ◌-◌, List, [], ◌∷◌, ◌++◌, length, refl, ap, sym, ◌∙◌, arith, Some}
 use Rattle.std.specs.Prelude.{map, replicate, slice_get, slice_set, unwrap_or}
 use Rattle.std.proofs.lemmas.List.Sums.{fold_push}
+use Rattle.xc_data.specs.declared.call.Asked.{Asked}
 use Rattle.xc_data.specs.declared.call.Call.{Call}
 use Rattle.xc_data.specs.declared.entry.Cause.{Cause}
 use Rattle.xc_data.specs.declared.entry.Entry.{Entry}
@@ -66,8 +67,8 @@ module _ (script : Script) (p : Progress) (f : Following) (jobs : List SeenJob) 
   behind = untried f.block (passed script f.job tx.replies) (p.entered + 1)
 
   -- the world is its run's
-  pub commit_world : (after_entry script p committed).state.world ≡ world_after_commit p.state.world (flown job.me tx)
-  commit_world = ap (λ (q : Progress). q.state.world) (led_by (Committed []))
+  pub commit_world : (us : List Asked) → (after_entry script p committed).state.world ≡ world_after_commit p.state.world (flown job.me us tx)
+  commit_world us = ap (λ (q : Progress). q.state.world) (led_by (Committed []))
       ∙ ap (λ m. (run p.state.world m tx.number (asked_of tx.calls tx.replies) []).late.world) private_is
 
   -- the handles are those of its end
@@ -94,8 +95,8 @@ module _ (script : Script) (p : Progress) (f : Following) (jobs : List SeenJob) 
   aborted c = entry_of tx at (Aborted (record { cause = c; records = tx.undo.ended }))
 
   -- the world has what remains
-  pub abort_world : (c : Cause) → (after_entry script p (aborted c)).state.world ≡ world_after_abort p.state.world (flown job.me tx)
-  abort_world c = ap (λ (q : Progress). q.state.world) (led_by (Aborted (record { cause = c; records = tx.undo.ended })))
+  pub abort_world : (us : List Asked) (c : Cause) → (after_entry script p (aborted c)).state.world ≡ world_after_abort p.state.world (flown job.me us tx)
+  abort_world us c = ap (λ (q : Progress). q.state.world) (led_by (Aborted (record { cause = c; records = tx.undo.ended })))
 
   -- the handles are those of its begin
   pub abort_handles : (c : Cause) (job' : SeenJob) → job'.me ≡ job.me
