@@ -12,7 +12,7 @@ use Rattle.xc_text.specs.declared.script.Statement.{Statement}
 use Rattle.xc_text.specs.declared.script.Statement.TheVariants as statement
 use Rattle.xc_script.specs.declared.ask.Ask.{Ask}
 use Rattle.xc_script.specs.declared.ask.Ask.TheVariants as ask
-use Rattle.xc_script.specs.Ask.{Variables, Walk, asks, ask_of, asks_of, data_of, handle_value, is_over}
+use Rattle.xc_script.specs.Ask.{Variables, Walk, asks, ask_of, asks_of, handle_value, is_over}
 use Rattle.xc_world.specs.World.{World}
 use Rattle.xc_world.specs.Act.{act}
 use Rattle.xc_world.specs.Effects.{takes_data, whole}

@@ -1,8 +1,7 @@
 -- A job's active transaction in the standing of all.
-use Rattle.std.proofs.Common.{◌≡◌, ℕ, true, List, ◌++◌, Some, map, subst}
-use Rattle.std.specs.Prelude.{◌&&◌, slice_get, IsTrue}
+use Rattle.std.proofs.Common.{◌≡◌, ℕ, true, ◌++◌, Some, map, subst}
+use Rattle.std.specs.Prelude.{slice_get, IsTrue}
 use Rattle.std.proofs.lemmas.Bool.{and_parts}
-use Rattle.xc_data.specs.declared.call.Asked.{Asked}
 use Rattle.xc_world.specs.Run.{asked_of, body, body_fits}
 use Rattle.xc_world.specs.Effects.{AreMadeIn}
 use Rattle.xc_world.proofs.Joined.{body_fits_append}

@@ -1,6 +1,6 @@
 -- The active transactions of jobs in flight, in the jobs' places.
 use Rattle.std.proofs.Common.{◌≡◌, ◌≢◌, ℕ, zero, suc, List, [], ◌∷◌, length, Some, None, get_or, ap, sym, ◌∙◌, subst, refl}
-use Rattle.std.specs.Prelude.{Option, slice_get, slice_set}
+use Rattle.std.specs.Prelude.{slice_get, slice_set}
 use Rattle.xc_data.specs.declared.call.Asked.{Asked}
 use Rattle.xc_data.specs.declared.private.Private.{Private}
 use Rattle.xc_script.specs.declared.ask.Ask.{Ask}

@@ -1,15 +1,18 @@
 -- What the newest record without an end of an undoing transaction tells of is there.
-use Rattle.std.proofs.Common.{◌≡◌, ℕ, ◌+◌, ◌≤◌, true, is_some, List, [], ◌∷◌, ◌++◌, Option, None, Some, length, map, unwrap_or, append_assoc, ap, sym, ◌∙◌, subst}
+use Rattle.std.proofs.Common.{◌≡◌, ℕ, ◌+◌, ◌≤◌, true, is_some, List, [], ◌∷◌, ◌++◌, Option, None, Some, length, map, unwrap_or, append_assoc}
+use Rattle.std.proofs.Common.{ap, sym, ◌∙◌, subst}
 use Rattle.std.specs.Prelude.{All, slice_get}
+use Rattle.std.specs.FinMap as finite
 use Rattle.std.proofs.lemmas.List.Elements.{All-head, All-tail, All-weaker}
 use Rattle.xc_data.specs.declared.entry.Cause.{Cause}
+use Rattle.xc_data.specs.declared.object.Num.{Num}
 use Rattle.xc_data.specs.declared.object.Object.TheVariants as object
 use Rattle.xc_data.specs.declared.undo.Undo.{Undo}
 use Rattle.xc_data.specs.declared.undo.Undo.TheVariants.{Bytes, Tail, Made, Moved, NewPipe, NewPair}
 use Rattle.xc_data.specs.Standing.{objects_of}
 use Rattle.xc_compensate.specs.Records.{way_of}
 use Rattle.xc_host.specs.Contents.{world_of, contents_of}
-use Rattle.xc_world.specs.World.{World}
+use Rattle.xc_world.specs.World.{World, file_of}
 use Rattle.xc_world.specs.Ends.{Ending, remains, with_remains}
 use Rattle.xc_world.specs.Effects.{whole, AreMadeIn, IsCovered}
 use Rattle.xc_world.specs.Laws.{AgreeAt}
@@ -28,20 +31,28 @@ one_of : {X : Type 0} (P : X → Type 0) (xs : List X) (x : X) (ys : List X) →
 one_of P [] x ys all = All-head P x ys all
 one_of P (z ∷ xs) x ys all = one_of P xs x ys (All-tail P z (xs ++ x ∷ ys) all)
 
+-- a file that is there, and has so many bytes
+abbrev Reaches : World → Num → ℕ → Type 0
+Reaches w file n = (is_some (finite.get w.files file) ≡ true) × (n ≤ length (file_of w file))
+
+reaches : (w v : World) (file : Num) (n : ℕ) → AgreeAt w v (object.File file) → Reaches v file n → Reaches w file n
+reaches w v file n agree there =
+    subst (λ (o : Option (List ℕ)). (is_some o ≡ true) × (n ≤ length (unwrap_or o []))) (sym agree) there
+
 -- what is covered in one world is covered by the host's contents of another that agrees with it at the record's objects
 covered_there : (w v : World) (u : Undo) → All (AgreeAt w v) (objects_of u) → IsCovered v u → IsCovered (world_of (contents_of w)) u
-covered_there w v (Bytes file at before after n) agree covered =
-    subst (λ (o : Option (List ℕ)). (is_some o ≡ true) × (at + n ≤ length (unwrap_or o []))) (sym (All-head (AgreeAt w v) (object.File file) [] agree)) covered
-covered_there w v (Tail file from after n) agree covered =
-    subst (λ (o : Option (List ℕ)). (is_some o ≡ true) × (from + n ≤ length (unwrap_or o []))) (sym (All-head (AgreeAt w v) (object.File file) [] agree)) covered
+covered_there w v (Bytes file at before after n) agree covered = reaches w v file (at + n) (All-head (AgreeAt w v) (object.File file) [] agree) covered
+covered_there w v (Tail file from after n) agree covered = reaches w v file (from + n) (All-head (AgreeAt w v) (object.File file) [] agree) covered
 covered_there w v (Made name num) agree covered =
-    let file = All-tail (AgreeAt w v) (object.Name name) (object.File num ∷ []) agree in
-    (All-head (AgreeAt w v) (object.Name name) (object.File num ∷ []) agree ∙ covered.0,
-    ap is_some (All-head (AgreeAt w v) (object.File num) [] file) ∙ covered.1)
+    let file = All-tail (AgreeAt w v) (object.Name name) (object.File num ∷ []) agree in (
+      All-head (AgreeAt w v) (object.Name name) (object.File num ∷ []) agree ∙ covered.0,
+      ap is_some (All-head (AgreeAt w v) (object.File num) [] file) ∙ covered.1,
+    )
 covered_there w v (Moved from to) agree covered =
-    let new = All-tail (AgreeAt w v) (object.Name from) (object.Name to ∷ []) agree in
-    (All-head (AgreeAt w v) (object.Name from) (object.Name to ∷ []) agree ∙ covered.0,
-    ap is_some (All-head (AgreeAt w v) (object.Name to) [] new) ∙ covered.1)
+    let new = All-tail (AgreeAt w v) (object.Name from) (object.Name to ∷ []) agree in (
+      All-head (AgreeAt w v) (object.Name from) (object.Name to ∷ []) agree ∙ covered.0,
+      ap is_some (All-head (AgreeAt w v) (object.Name to) [] new) ∙ covered.1,
+    )
 covered_there w v (NewPipe num) agree covered = ap is_some (All-head (AgreeAt w v) (object.Pipe num) [] agree) ∙ covered
 covered_there w v (NewPair num) agree covered = ap is_some (All-head (AgreeAt w v) (object.Pair num) [] agree) ∙ covered
 

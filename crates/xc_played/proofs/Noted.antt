@@ -52,11 +52,12 @@ all_told r tx next (Undoing cause.NoMemory) records e = ([], none_left r tx next
 records_for : (tx : ℕ) (r : Ran) (p : Phase) (next : Ask) (us : List Asked) (records : List Undo) → IsUnnoted p next us
     → IsTrue (body_fits r.world r.me tx us) → (goes_on tx r us).trail ≡ records → RecordsFor r tx next p records
 records_for tx r p next [] records was fit e = all_told r tx next p records (sym e)
-records_for tx r (Undoing cause.NoMemory) (ask.Call call) (a ∷ []) records was fit e =
-    (recorded r.world r.me tx a.call (act r.world r.me tx a.call a.answer).reply,
-    subst (λ c. AreLeftBy r tx c (recorded r.world r.me tx a.call (act r.world r.me tx a.call a.answer).reply)) was
-    (inr (a.answer, (and_parts (fits r.world r.me tx a.call a.answer) true fit).0, refl)),
-    sym e)
+records_for tx r (Undoing cause.NoMemory) (ask.Call call) (a ∷ []) records was fit e = (
+  recorded r.world r.me tx a.call (act r.world r.me tx a.call a.answer).reply,
+  subst (λ c. AreLeftBy r tx c (recorded r.world r.me tx a.call (act r.world r.me tx a.call a.answer).reply)) was
+      (inr (a.answer, (and_parts (fits r.world r.me tx a.call a.answer) true fit).0, refl)),
+  sym e,
+)
 records_for tx r p next (a ∷ us) records was fit e = absurd was
 
 module _ (s : Setting) (now : Now) (told : AreTold s (length now.words) now.journal now.jobs) (all : AreFlying s now) (at : ℕ) (job : SeenJob) (tx : SeenTx)
@@ -85,18 +86,17 @@ module _ (s : Setting) (now : Now) (told : AreTold s (length now.words) now.jour
       let i = (flight_there s now all at job tx there active).inside in
       let w = (state_of s now).world in
       let asked = asked_of tx.calls tx.replies in
+      let next = asked_of_tx s (slice_get (progress_of s.script now.journal).jobs at) tx in
+      let records = tx.undo.pending ++ map (λ (r : Ending). r.0) tx.undo.ended in
       record {
         fits = subst (λ me. IsTrue (body_fits w me tx.number asked)) private (fits_there s now all at job tx there active);
         replies = ap (λ me. (body w me tx.number asked).replies) (sym private) ∙ i.replies;
         me = ap (λ me. (body w me tx.number asked).me) (sym private) ∙ i.me;
         late = ap (λ me. (body w me tx.number asked).late) (sym private) ∙ i.late;
-        records = subst (λ me. RecordsFor (body w me tx.number asked) tx.number (asked_of_tx s (slice_get (progress_of s.script now.journal).jobs at) tx) tx.phase
-            (tx.undo.pending ++ map (λ (r : Ending). r.0) tx.undo.ended)) private
-            (records_for tx.number (body w job.me tx.number asked) tx.phase (asked_of_tx s (slice_get (progress_of s.script now.journal).jobs at) tx)
-            (all.unnoted at) (tx.undo.pending ++ map (λ (r : Ending). r.0) tx.undo.ended)
-            (all.was_asked at tx (job, there, active)) (rest_fits s now all at job tx there active) i.trail);
-        holds = subst (λ me. HoldsFor (body w me tx.number asked) (asked_of_tx s (slice_get (progress_of s.script now.journal).jobs at) tx) tx.phase tx.held)
-            private (all.holds at job tx there active);
+        records = subst (λ me. RecordsFor (body w me tx.number asked) tx.number next tx.phase records) private
+            (records_for tx.number (body w job.me tx.number asked) tx.phase next (all.unnoted at) records (all.was_asked at tx (job, there, active))
+            (rest_fits s now all at job tx there active) i.trail);
+        holds = subst (λ me. HoldsFor (body w me tx.number asked) next tx.phase tx.held) private (all.holds at job tx there active);
         count = ap (λ me. length (body w me tx.number asked).world.words) (sym private) ∙ (body_keeps w job.me tx.number asked).count
             ∙ sym all.flies.count;
       }

@@ -16,7 +16,7 @@ use Rattle.xc_file.specs.Calls.{IsOpenIn}
 use Rattle.xc_host.specs.Contents.{Contents}
 use Rattle.xc_world.specs.World.{World}
 use Rattle.xc_world.specs.Sound.{IsFit, IsKnown, IsSound}
-use Rattle.xc_world.specs.Run.{Ran, asked_of, body}
+use Rattle.xc_world.specs.Run.{Ran, asked_of}
 use Rattle.xc_world.specs.Ends.{Ending, remains, with_remains}
 use Rattle.xc_world.specs.Effects.{whole, AreMadeIn}
 use Rattle.xc_world.specs.Laws.{AgreeAt}

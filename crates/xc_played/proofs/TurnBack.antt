@@ -1,13 +1,9 @@
 -- A transaction that goes over to its commit or to its way back, or compensates, keeps all flights.
-use Rattle.std.proofs.Common.{◌≡◌, ℕ, inl, ◌==◌, Bool, true, false, List, [], ◌∷◌, ◌++◌, length, refl, ap, sym, ◌∙◌, subst, Some, None}
+use Rattle.std.proofs.Common.{◌≡◌, ℕ, ◌==◌, Bool, true, false, List, [], ◌∷◌, ◌++◌, refl, ap, sym, ◌∙◌, subst, Some, None}
 use Rattle.std.proofs.Common.{Option}
 use Rattle.std.specs.Prelude.{All, map, slice_get, slice_set, if◌then◌else◌}
-use Rattle.std.proofs.lemmas.List.Elements.{All-nil, All-cons, All-head, All-tail}
+use Rattle.std.proofs.lemmas.List.{append-nil}
 use Rattle.std.specs.FinMap as finite
-use Rattle.xc_data.specs.declared.call.Asked.{Asked}
-use Rattle.xc_data.specs.declared.call.Call.{Call}
-use Rattle.xc_data.specs.declared.call.Call.TheVariants as call
-use Rattle.xc_data.specs.declared.call.Reply.{Reply}
 use Rattle.xc_data.specs.declared.claim.Claim.{Claim}
 use Rattle.xc_data.specs.declared.entry.Cause.{Cause}
 use Rattle.xc_data.specs.declared.entry.Cause.TheVariants as cause
@@ -16,47 +12,35 @@ use Rattle.xc_data.specs.declared.undo.Undo.{Undo}
 use Rattle.xc_data.specs.declared.undo.Undo.TheVariants.{Bytes, Tail, Made, Moved, NewPipe, NewPair}
 use Rattle.xc_data.specs.declared.undo.UndoEnd.{UndoEnd}
 use Rattle.xc_data.specs.declared.undo.UndoEnd.TheVariants.{Undone, Failed, Blocked}
-use Rattle.xc_data.specs.Claims.{holding, held_of}
+use Rattle.xc_data.specs.Claims.{held_of}
 use Rattle.xc_compensate.specs.Records.{way_of}
 use Rattle.xc_host.specs.Contents.{Contents, contents_of, with_contents, world_of}
 use Rattle.xc_script.specs.declared.ask.Ask.{Ask}
-use Rattle.xc_script.specs.declared.ask.Ask.TheVariants as ask
 use Rattle.xc_script.specs.Place.{Place}
 use Rattle.xc_txmem.specs.Overlay.{overlaid}
 use Rattle.xc_world.specs.World.{World}
 use Rattle.xc_world.specs.Effects.{AreMadeIn, undone_to}
 use Rattle.xc_world.specs.Ends.{IsLegalEnd}
-use Rattle.xc_world.specs.Fits.{answer_of}
-use Rattle.xc_world.specs.Modes.{claims_of}
-use Rattle.xc_world.specs.Run.{Ran, asked_of}
+use Rattle.xc_world.specs.Run.{Ran}
 use Rattle.xc_world.specs.Trail.{move_name, undone}
-use Rattle.xc_world.proofs.Bodies.{body_keeps}
 use Rattle.xc_story.specs.declared.phase.Phase.{Phase}
 use Rattle.xc_story.specs.declared.phase.Phase.TheVariants.{Running, Committing, Undoing}
 use Rattle.xc_story.specs.Setting.{Setting}
 use Rattle.xc_story.specs.Progress.{Progress}
 use Rattle.xc_story.specs.Played.{HoldsFor}
 use Rattle.xc_story.specs.Told.{asked_of_tx}
-use Rattle.xc_story.specs.Truth.{IsPartOf, next_claims}
 use Rattle.xc_story.specs.Seen.{SeenTx, SeenJob, Active, active_in}
 use Rattle.xc_story.specs.Rows.{is_built, with_tx}
 use Rattle.xc_flight.specs.Active.{Tx, HoldTheSame}
 use Rattle.xc_flight.specs.Active as flight
-use Rattle.xc_flight.specs.Flight.{asked}
 use Rattle.xc_flight.specs.Standing.{Standing, InFlight, IsActive, turned}
 use Rattle.xc_flight.proofs.Calling.{is_running}
 use Rattle.xc_flight.proofs.Ending.{commits}
 use Rattle.xc_flight.proofs.Aborting.{newest_undone, records_made}
-use Rattle.xc_flight.proofs.Together.{call_granted, two_turns}
 use Rattle.xc_flight.proofs.Undoing.{turns_back}
 use Rattle.xc_played.specs.Flying.{IsUnnoted, flown, flown_phase, ran_at}
 use Rattle.xc_played.proofs.FlownLists.{flown_there, none_unnoted}
 use Rattle.xc_played.proofs.TurnParts.{Flying, world_in, standing_in, asked_same, goes_on}
-
--- an empty list behind a list changes nothing
-pub append_nil : {A : Type 0} (xs : List A) → xs ++ [] ≡ xs
-append_nil [] = refl
-append_nil (x ∷ xs) = ap (λ ys. x ∷ ys) (append_nil xs)
 
 -- ---- what is held
 -- what its calls claimed, in each phase
@@ -66,7 +50,7 @@ holds_at ran next Committing held e = e
 holds_at ran next (Undoing cause.Asked) held e = e
 holds_at ran next (Undoing (cause.Conflict object holder at)) held e = e
 holds_at ran next (Undoing (cause.Revoked object by at)) held e = e
-holds_at ran next (Undoing cause.NoMemory) held e = ([], tt, e ∙ ap held_of (sym (append_nil ran.touched)))
+holds_at ran next (Undoing cause.NoMemory) held e = ([], tt, e ∙ ap held_of (sym (append-nil ran.touched)))
 
 -- ---- a compensation depends on what the host has alone, and changes nothing else
 moved_in : (v : World) (from to : List ℕ) (o : Option Num)

@@ -1,13 +1,13 @@
 -- The entry of an active transaction keeps all flights.
 use Rattle.std.proofs.Common.{⊎_elim, ◌≡◌, ◌≢◌, true, ℕ, inl, inr, List, [], ◌++◌, length, refl, ap, sym, ◌∙◌, subst, Some, None}
-use Rattle.std.specs.Prelude.{All, Contains, map, slice_get, slice_set}
+use Rattle.std.specs.Prelude.{All, map, slice_get, slice_set}
 use Rattle.xc_data.specs.declared.call.LateCall.{LateCall}
 use Rattle.xc_data.specs.declared.claim.Claim.{Claim}
 use Rattle.xc_data.specs.declared.entry.Cause.TheVariants as cause
 use Rattle.xc_data.specs.declared.object.Object.{Object}
 use Rattle.xc_data.specs.declared.object.Object.TheVariants as object
 use Rattle.xc_data.specs.declared.private.Place.{Place as Handle}
-use Rattle.xc_data.specs.Claims.{held_of, owned}
+use Rattle.xc_data.specs.Claims.{held_of}
 use Rattle.xc_host.specs.Contents.{Contents}
 use Rattle.xc_script.specs.declared.ask.Ask.{Ask}
 use Rattle.xc_script.specs.declared.ask.Ask.TheVariants as ask
@@ -78,7 +78,8 @@ pub record Leads (p p' : Progress) (st : Standing) (jobs : List SeenJob) (at : �
 -- it keeps all
 pub enters : (s : Setting) (p p' : Progress) (words : List ℕ) (contents : Contents) (jobs : List SeenJob) (next at : ℕ) (job job' : SeenJob)
     → slice_get jobs at ≡ Some job → active_of job' ≡ None → job'.block ≡ job.block → (f : Flying s p words contents jobs next)
-    → Leads p p' (standing_in p.state.world (world_in p.state.world words contents) f.unnoted jobs next) jobs at job' → Flying s p' words contents (slice_set jobs at job') next
+    → Leads p p' (standing_in p.state.world (world_in p.state.world words contents) f.unnoted jobs next) jobs at job'
+    → Flying s p' words contents (slice_set jobs at job') next
 enters s p p' words contents jobs next at job job' there none block f l =
     let w = p.state.world in
     let w' = p'.state.world in

@@ -1,6 +1,7 @@
 -- What one entry more leads to.
 use Rattle.std.proofs.Common.{◌≡◌, ◌≢◌, ℕ, ◌+◌, ◌-◌, List, [], ◌∷◌, ◌++◌, length, refl, ap, sym, ◌∙◌, arith, Some}
 use Rattle.std.specs.Prelude.{map, replicate, slice_get, slice_set, unwrap_or}
+use Rattle.std.proofs.lemmas.List.{append-nil}
 use Rattle.std.proofs.lemmas.List.Sums.{fold_push}
 use Rattle.xc_data.specs.declared.call.Asked.{Asked}
 use Rattle.xc_data.specs.declared.call.Call.{Call}
@@ -20,7 +21,6 @@ use Rattle.xc_story.specs.Seen.{SeenTx, SeenJob}
 use Rattle.xc_story.specs.Rows.{entry_of}
 use Rattle.xc_flight.specs.Turns.{after_commit as world_after_commit, after_abort as world_after_abort}
 use Rattle.xc_played.specs.Flying.{flown, ran_at}
-use Rattle.xc_played.proofs.TurnBack.{append_nil}
 use Rattle.xc_played.proofs.TurnLists.{get_put_other, get_map, map-put, map-put_same}
 
 -- one entry more
@@ -80,7 +80,7 @@ module _ (script : Script) (p : Progress) (f : Following) (jobs : List SeenJob) 
       let mine : end (private_of p.state (at + 1)) ≡ job'.me.places = ap end private_is ∙ ap (λ (m : Private). m.places) me ∙ sym places in
       ap (λ (q : Progress). q.state.handles) (led_by (Committed []))
       ∙ (λ i. slice_set (handles i) (back_one at i) (mine i) ++ replicate (length (none_started (kept_of tx.calls tx.replies) i)) (mine i))
-      ∙ append_nil (slice_set (map places_of jobs) at job'.me.places) ∙ sym (map-put places_of jobs at job')
+      ∙ append-nil (slice_set (map places_of jobs) at job'.me.places) ∙ sym (map-put places_of jobs at job')
 
   -- the other jobs stay
   pub commit_followings : (j : ℕ) → j ≢ at → slice_get (after_entry script p committed).jobs j ≡ slice_get p.jobs j
@@ -88,7 +88,7 @@ module _ (script : Script) (p : Progress) (f : Following) (jobs : List SeenJob) 
       let to = started_job script (passed script f.job tx.replies) (p.entered + 1) in
       ap (λ (q : Progress). slice_get q.jobs j) (led_by (Committed []))
       ∙ (λ i. slice_get (slice_set p.jobs (at + 1 - 1) behind ++ map to (none_started (kept_of tx.calls tx.replies) i)) j)
-      ∙ ap (λ l. slice_get l j) (append_nil (slice_set p.jobs (at + 1 - 1) behind)) ∙ others_follow behind j ne
+      ∙ ap (λ l. slice_get l j) (append-nil (slice_set p.jobs (at + 1 - 1) behind)) ∙ others_follow behind j ne
 
   -- ---- of an abort
   abbrev aborted : Cause → Entry

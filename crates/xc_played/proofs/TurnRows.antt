@@ -1,31 +1,25 @@
 -- Each row of the table of turns keeps the flights of all.
-use Rattle.std.proofs.Common.{◌≡◌, inl, inr, ℕ, ◌+◌, List, [], ◌∷◌, length, refl, ap, sym, ◌∙◌, subst, arith, IsTrue, Option, Some, None, length-append}
+use Rattle.std.proofs.Common.{◌≡◌, ℕ, ◌+◌, List, [], ◌∷◌, length, refl, ap, sym, ◌∙◌, subst, arith, IsTrue, Option, Some, None, length-append}
 use Rattle.std.specs.Prelude.{slice_get, slice_set}
 use Rattle.xc_data.specs.declared.call.Call.{Call}
 use Rattle.xc_data.specs.declared.entry.Cause.{Cause}
 use Rattle.xc_data.specs.declared.entry.Cause.TheVariants as cause
 use Rattle.xc_data.specs.declared.entry.Entry.{Entry}
 use Rattle.xc_data.specs.declared.entry.Outcome.TheVariants.{Committed, Aborted}
-use Rattle.xc_data.specs.declared.claim.Claim.{Claim}
-use Rattle.xc_data.specs.declared.undo.Undo.{Undo}
-use Rattle.xc_data.specs.Claims.{holding}
 use Rattle.xc_compensate.specs.Records.{Records}
-use Rattle.xc_host.specs.Contents.{Contents, contents_of}
-use Rattle.xc_script.specs.declared.ask.Ask.{Ask}
-use Rattle.xc_script.specs.declared.ask.Ask.TheVariants as ask
+use Rattle.xc_host.specs.Contents.{Contents}
 use Rattle.xc_script.specs.Ask.{asks, walk_from}
-use Rattle.xc_script.specs.Place.{Place, walk_of}
+use Rattle.xc_script.specs.Place.{Place}
 use Rattle.xc_txmem.specs.Overlay.{overlaid}
 use Rattle.xc_story.specs.declared.phase.Phase.TheVariants.{Running, Committing, Undoing}
 use Rattle.xc_story.specs.Setting.{Setting}
 use Rattle.xc_story.specs.Progress.{Progress, progress_of, after_entry}
 use Rattle.xc_story.specs.Told.{asked_of_tx, AreTold, IsDoing, IsInPhase, IsRunning, IsUnderway}
 use Rattle.xc_story.specs.Seen.{SeenTx, SeenJob, Doing, Active, Now, active_in, active_of, actives, begun_count, entering, rank_of, with_job}
-use Rattle.xc_story.specs.Rows.{asked_at, behind_abort, behind_commit, beginning_job, claims_at, entry_of, noting, parts_of, seen, wanting, with_tx}
-use Rattle.xc_story.specs.Rows.{Calls, Conflicts, Commits, Compensates, HoldsWanting, IsLeft, TurnsBack, Wants}
+use Rattle.xc_story.specs.Rows.{asked_at, behind_abort, behind_commit, beginning_job, claims_at, entry_of, noting, seen, wanting, with_tx}
+use Rattle.xc_story.specs.Rows.{Calls, Conflicts, Commits, Compensates, TurnsBack, Wants}
 use Rattle.xc_played.specs.Flying.{AreFlying, flown}
 use Rattle.xc_played.proofs.TurnAborts.{abort_leads}
-use Rattle.xc_played.proofs.BuiltCalls.{asked_built, unrecorded}
 use Rattle.xc_played.proofs.FlownLists.{flown_there}
 use Rattle.xc_played.proofs.TurnBack.{back_keeps, commit_keeps, tried_keeps}
 use Rattle.xc_played.proofs.TurnCalls.{Stepping, asks-count, calls_keep}
@@ -33,7 +27,7 @@ use Rattle.xc_played.proofs.TurnEnters.{commit_leads, enters}
 use Rattle.xc_played.proofs.TurnLed.{progress-more, commit_world, commit_handles, commit_followings, abort_world, abort_handles, abort_followings}
 use Rattle.xc_played.proofs.TurnLists.{picked-put, size}
 use Rattle.xc_played.proofs.TurnParts.{Flying, Follows, begins_next, flying_from, flying_of, rests, told_at}
-use Rattle.xc_played.proofs.TurnWants.{wants_claims_keeps, wants_keeps, wants_part_keeps}
+use Rattle.xc_played.proofs.TurnWants.{wants_so}
 
 -- ---- a station behind a turn
 -- from its parts
@@ -163,56 +157,14 @@ module _ (s : Setting) (old : Now) (at : ℕ) (job : SeenJob) (there : slice_get
         row.place (record tx { phase = Committing }) refl refl
         (commit_keeps s before old.words old.contents old.jobs (begun_count old + 1) at job row.place tx there doing f runs))
 
-    -- ---- where memory was wanting
-    abbrev Wanting : Place → List Undo → List Claim → Contents → Type 0
-    Wanting place left held contents =
-        Flying s before old.words contents (slice_set old.jobs at (with_tx job place (wanting tx left held))) (begun_count old + 1)
-
-    -- a call that left nothing changed nothing at the host
-    same_there : (new : Now) (a : Ask) → asked_at s job.place ≡ a → IsLeft old new (parts_of tx) a [] → new.contents ≡ old.contents
-    same_there new a asked (inl there) = there.1
-    same_there new (ask.Call c) asked (inr (answer, does)) =
-        let w = record before.state.world { words = old.words } in
-        let d = does w refl in
-        ap contents_of d.world ∙ unrecorded (seen w old.contents tx.writes) tx.me tx.number c answer (asked_built (walk_of s.script job.place) c asked) (sym d.records)
-    same_there new ask.Commit asked (inr part) = absurd part
-    same_there new ask.Abort asked (inr part) = absurd part
-    same_there new ask.End asked (inr part) = absurd part
-
-    -- it holds no more
-    wants_same : (new : Now) (place : Place) (a : Ask) (left : List Undo) (held : List Claim) → tx.phase ≡ Running → asked_at s job.place ≡ a
-        → (left ≡ []) × (held ≡ tx.held) → IsLeft old new (parts_of tx) a left → Wanting place left held new.contents
-    wants_same new place a left held runs asked same leaves =
-        subst (Wanting place left held) (sym (same_there new a asked (subst (IsLeft old new (parts_of tx) a) same.0 leaves)))
-        (subst (λ h. Wanting place left h old.contents) (sym same.1)
-        (subst (λ us. Wanting place us tx.held old.contents) (sym same.0)
-        (wants_keeps s before old.words old.contents old.jobs (begun_count old + 1) at job place tx there doing f runs)))
-
-    -- by what is asked
-    wants_so : (new : Now) (place : Place) (a : Ask) (left : List Undo) (held : List Claim) → tx.phase ≡ Running → asked_at s job.place ≡ a
-        → HoldsWanting old at tx a left held → IsLeft old new (parts_of tx) a left → Wanting place left held new.contents
-    wants_so new place (ask.Call c) left held runs asked (inl same) leaves = wants_same new place (ask.Call c) left held runs asked same leaves
-    wants_so new place (ask.Call c) left held runs asked (inr more) (inl none) =
-        subst (Wanting place left held) (sym none.1)
-        (subst (λ h. Wanting place left h old.contents) (sym more.1)
-        (subst (λ us. Wanting place us (holding tx.held (claims_at old tx c)) old.contents) (sym none.0)
-        (wants_claims_keeps s before old.words old.contents old.jobs (begun_count old + 1) at job place tx there doing f runs c
-        (asked_here runs ∙ asked) more.0)))
-    wants_so new place (ask.Call c) left held runs asked (inr more) (inr (answer, does)) =
-        subst (λ h. Wanting place left h new.contents) (sym more.1)
-        (wants_part_keeps s before old.words old.contents old.jobs (begun_count old + 1) at job place tx there doing f runs c (asked_here runs ∙ asked) more.0
-        left answer new.contents (asked_built (walk_of s.script job.place) c asked) (does (record before.state.world { words = old.words }) refl))
-    wants_so new place ask.Commit left held runs asked same leaves = wants_same new place ask.Commit left held runs asked same leaves
-    wants_so new place ask.Abort left held runs asked same leaves = wants_same new place ask.Abort left held runs asked same leaves
-    wants_so new place ask.End left held runs asked same leaves = wants_same new place ask.End left held runs asked same leaves
-
-    -- whatever is
+    -- where memory was wanting
     pub row_wants : (new : Now) → IsTrue s.tells → tx.phase ≡ Running → Wants s at old job tx new → AreFlying s new
     row_wants new tells runs row =
         let next : SeenTx = wanting tx row.left row.held in
         kept new row.place next row.journal row.jobs
         (subst (λ ws. Flying s before ws new.contents (slice_set old.jobs at (with_tx job row.place next)) (begun_count old + 1)) (sym row.words)
-        (wants_so new row.place (asked_at s job.place) row.left row.held runs refl row.holds (row.contents tells)))
+        (wants_so s before old new (begun_count old + 1) at job row.place tx there doing f runs (asked_here runs) (asked_at s job.place) row.left row.held refl
+        row.holds (row.contents tells)))
 
     -- a record is tried
     pub row_compensates : (new : Now) (c : Cause) → IsTrue s.tells → tx.phase ≡ Undoing c → Compensates s at old job tx new → AreFlying s new

@@ -1,6 +1,8 @@
 -- A transaction that turns back for want of memory keeps all flights.
-use Rattle.std.proofs.Common.{◌≡◌, ℕ, true, inl, List, [], ◌∷◌, ◌++◌, length, refl, ap, sym, ◌∙◌, subst, Some}
+use Rattle.std.proofs.Common.{◌≡◌, ℕ, true, inl, inr, List, [], ◌∷◌, ◌++◌, length, refl, ap, sym, ◌∙◌, subst, Some}
 use Rattle.std.specs.Prelude.{All, slice_get, slice_set}
+use Rattle.std.proofs.lemmas.List.{append-nil}
+use Rattle.std.proofs.lemmas.List.{append-nil}
 use Rattle.xc_data.specs.declared.call.Answer.{Answer}
 use Rattle.xc_data.specs.declared.call.Asked.{Asked}
 use Rattle.xc_data.specs.declared.call.Call.{Call}
@@ -8,11 +10,10 @@ use Rattle.xc_data.specs.declared.claim.Claim.{Claim}
 use Rattle.xc_data.specs.declared.entry.Cause.TheVariants as cause
 use Rattle.xc_data.specs.declared.undo.Undo.{Undo}
 use Rattle.xc_data.specs.Claims.{holding, held_of}
-use Rattle.xc_compensate.specs.Records.{Records}
-use Rattle.xc_host.specs.Contents.{Contents}
+use Rattle.xc_host.specs.Contents.{Contents, contents_of}
 use Rattle.xc_script.specs.declared.ask.Ask.{Ask}
 use Rattle.xc_script.specs.declared.ask.Ask.TheVariants as ask
-use Rattle.xc_script.specs.Place.{Place}
+use Rattle.xc_script.specs.Place.{Place, walk_of}
 use Rattle.xc_world.specs.World.{World}
 use Rattle.xc_world.specs.Modes.{claims_of}
 use Rattle.xc_world.specs.Run.{Ran, asked_of}
@@ -23,8 +24,8 @@ use Rattle.xc_story.specs.Progress.{Progress}
 use Rattle.xc_story.specs.Played.{HoldsFor}
 use Rattle.xc_story.specs.Told.{asked_of_tx}
 use Rattle.xc_story.specs.Truth.{IsPartOf, next_claims}
-use Rattle.xc_story.specs.Seen.{SeenTx, SeenJob, Active, active_in}
-use Rattle.xc_story.specs.Rows.{DoesPart, HasNoRival, is_built, parts_of, seen, wanting, with_tx}
+use Rattle.xc_story.specs.Seen.{SeenTx, SeenJob, Active, Now, active_in}
+use Rattle.xc_story.specs.Rows.{DoesPart, HasNoRival, HoldsWanting, IsLeft, asked_at, claims_at, is_built, parts_of, seen, wanting, with_tx}
 use Rattle.xc_flight.specs.Active.{Tx, HoldTheSame}
 use Rattle.xc_flight.specs.Active as flight
 use Rattle.xc_flight.specs.Standing.{Standing, InFlight, IsActive, turned}
@@ -34,9 +35,9 @@ use Rattle.xc_flight.proofs.Claiming.{back_held, claimed, covers_through, merged
 use Rattle.xc_flight.proofs.Together.{call_granted, two_turns}
 use Rattle.xc_flight.proofs.Undoing.{turns_back, wants}
 use Rattle.xc_played.specs.Flying.{IsUnnoted, flown, flown_phase, ran_at}
-use Rattle.xc_played.proofs.BuiltCalls.{built-taken}
+use Rattle.xc_played.proofs.BuiltCalls.{asked_built, built-taken, unrecorded}
 use Rattle.xc_played.proofs.FlownLists.{flown_there, none_unnoted}
-use Rattle.xc_played.proofs.TurnBack.{append_nil, back_keeps}
+use Rattle.xc_played.proofs.TurnBack.{back_keeps}
 use Rattle.xc_played.proofs.TurnCalls.{holding-more}
 use Rattle.xc_played.proofs.TurnLists.{put_at}
 use Rattle.xc_played.proofs.TurnParts.{Flying, world_in, standing_in, asked_same, goes_on}
@@ -57,7 +58,7 @@ module _ (s : Setting) (p : Progress) (words : List ℕ) (contents : Contents) (
   wants_keeps =
       subst (λ us. Flying s p words contents
       (slice_set jobs at (with_tx job place (record tx { phase = Undoing cause.NoMemory; undo = record tx.undo { pending = us } }))) next)
-      (sym (append_nil tx.undo.pending)) (back_keeps s p words contents jobs next at job place tx there doing f cause.NoMemory runs)
+      (sym (append-nil tx.undo.pending)) (back_keeps s p words contents jobs next at job place tx there doing f cause.NoMemory runs)
 
   abbrev standing : Standing
   standing = standing_in p.state.world (world_in p.state.world words contents) f.unnoted jobs next
@@ -143,8 +144,9 @@ module _ (s : Setting) (p : Progress) (words : List ℕ) (contents : Contents) (
         wanter_keeps [] (f.unnoted at) contents
         (subst (λ us. InFlight (turned standing at (Some (flown job.me (f.unnoted at)
         (record tx { phase = Undoing cause.NoMemory; undo = record tx.undo { pending = us }; held = all_held }))) standing.now))
-        (sym (append_nil tx.undo.pending)) left_nothing)
-        (none_unnoted (Undoing cause.NoMemory) (asked_of_tx s (slice_get p.jobs at) (wanting tx [] all_held)) (f.unnoted at) (is_running standing at tx_flown f.flies active running).all_noted)
+        (sym (append-nil tx.undo.pending)) left_nothing)
+        (none_unnoted (Undoing cause.NoMemory) (asked_of_tx s (slice_get p.jobs at) (wanting tx [] all_held)) (f.unnoted at)
+        (is_running standing at tx_flown f.flies active running).all_noted)
 
     -- the call did its part, with this answer, and these records are left
     module _ (left : List Undo) (answer : Answer) (contents' : Contents) (is : is_built c ≡ true)
@@ -181,3 +183,47 @@ module _ (s : Setting) (p : Progress) (words : List ℕ) (contents : Contents) (
           (subst (λ t. InFlight (turned standing at (Some t) (after_call mid.now claimant asked_last))) wanter_is did_part))
           (subst (λ a. IsUnnoted (Undoing cause.NoMemory) a (asked_last ∷ [])) (sym asks ∙ asked_same s (slice_get p.jobs at) tx wanter refl) refl)
 
+-- ---- whatever it left
+module _ (s : Setting) (p : Progress) (old new : Now) (next at : ℕ) (job : SeenJob) (place : Place) (tx : SeenTx) (there : slice_get old.jobs at ≡ Some job)
+    (doing : job.doing ≡ Active tx) (f : Flying s p old.words old.contents old.jobs next) (runs : tx.phase ≡ Running)
+    (asks : asked_of_tx s (slice_get p.jobs at) tx ≡ asked_at s job.place) where
+  abbrev Wanting : List Undo → List Claim → Contents → Type 0
+  Wanting left held contents = Flying s p old.words contents (slice_set old.jobs at (with_tx job place (wanting tx left held))) next
+
+  -- a call that left nothing changed nothing at the host
+  same_there : (a : Ask) → asked_at s job.place ≡ a → IsLeft old new (parts_of tx) a [] → new.contents ≡ old.contents
+  same_there a asked (inl none) = none.1
+  same_there (ask.Call c) asked (inr (answer, does)) =
+      let w = record p.state.world { words = old.words } in
+      let d = does w refl in
+      ap contents_of d.world
+      ∙ unrecorded (seen w old.contents tx.writes) tx.me tx.number c answer (asked_built (walk_of s.script job.place) c asked) (sym d.records)
+  same_there ask.Commit asked (inr part) = absurd part
+  same_there ask.Abort asked (inr part) = absurd part
+  same_there ask.End asked (inr part) = absurd part
+
+  -- it holds no more
+  wants_same : (a : Ask) (left : List Undo) (held : List Claim) → asked_at s job.place ≡ a → (left ≡ []) × (held ≡ tx.held)
+      → IsLeft old new (parts_of tx) a left → Wanting left held new.contents
+  wants_same a left held asked same leaves =
+      subst (Wanting left held) (sym (same_there a asked (subst (IsLeft old new (parts_of tx) a) same.0 leaves)))
+      (subst (λ h. Wanting left h old.contents) (sym same.1)
+      (subst (λ us. Wanting us tx.held old.contents) (sym same.0)
+      (wants_keeps s p old.words old.contents old.jobs next at job place tx there doing f runs)))
+
+  -- it keeps all
+  pub wants_so : (a : Ask) (left : List Undo) (held : List Claim) → asked_at s job.place ≡ a → HoldsWanting old at tx a left held
+      → IsLeft old new (parts_of tx) a left → Wanting left held new.contents
+  wants_so (ask.Call c) left held asked (inl same) leaves = wants_same (ask.Call c) left held asked same leaves
+  wants_so (ask.Call c) left held asked (inr more) (inl none) =
+      subst (Wanting left held) (sym none.1)
+      (subst (λ h. Wanting left h old.contents) (sym more.1)
+      (subst (λ us. Wanting us (holding tx.held (claims_at old tx c)) old.contents) (sym none.0)
+      (wants_claims_keeps s p old.words old.contents old.jobs next at job place tx there doing f runs c (asks ∙ asked) more.0)))
+  wants_so (ask.Call c) left held asked (inr more) (inr (answer, does)) =
+      subst (λ h. Wanting left h new.contents) (sym more.1)
+      (wants_part_keeps s p old.words old.contents old.jobs next at job place tx there doing f runs c (asks ∙ asked) more.0 left answer new.contents
+      (asked_built (walk_of s.script job.place) c asked) (does (record p.state.world { words = old.words }) refl))
+  wants_so ask.Commit left held asked same leaves = wants_same ask.Commit left held asked same leaves
+  wants_so ask.Abort left held asked same leaves = wants_same ask.Abort left held asked same leaves
+  wants_so ask.End left held asked same leaves = wants_same ask.End left held asked same leaves

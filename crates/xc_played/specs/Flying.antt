@@ -1,6 +1,6 @@
 -- What is true of a station between two turns over a host that tells: each active transaction flies over the plain
 -- machine's world, where the journal left it.
-use Rattle.std.specs.Prelude.{◌≡◌, ℕ, suc, ◌+◌, true, List, [], ◌∷◌, length, map, All, slice_get, Option}
+use Rattle.std.specs.Prelude.{◌≡◌, ℕ, suc, ◌+◌, true, List, [], ◌∷◌, map, All, slice_get, Option}
 use Rattle.std.specs.declared.option.Option.TheVariants.{None, Some}
 use Rattle.xc_data.specs.declared.call.Asked.{Asked}
 use Rattle.xc_data.specs.declared.entry.Cause.TheVariants as cause
@@ -13,10 +13,10 @@ use Rattle.xc_world.specs.Run.{Ran, asked_of, body}
 use Rattle.xc_story.specs.declared.phase.Phase.{Phase as TurnPhase}
 use Rattle.xc_story.specs.declared.phase.Phase.TheVariants as phase
 use Rattle.xc_story.specs.Setting.{Setting}
-use Rattle.xc_story.specs.Progress.{Progress, progress_of}
+use Rattle.xc_story.specs.Progress.{progress_of}
 use Rattle.xc_story.specs.Played.{HoldsFor}
 use Rattle.xc_story.specs.Told.{asked_of_tx}
-use Rattle.xc_story.specs.Seen.{SeenTx, SeenJob, Doing, Idle, Active, Starved, Ended, Now, active_of, begun_count}
+use Rattle.xc_story.specs.Seen.{SeenTx, SeenJob, Doing, Active, Now, active_of, begun_count}
 use Rattle.xc_story.specs.Rows.{IsActiveAt, is_built}
 use Rattle.xc_flight.specs.Active.{Tx, Phase, Running, Committing, Undoing}
 use Rattle.xc_flight.specs.Standing.{Standing, InFlight, AreSound, IsIdleSound}
@@ -87,9 +87,9 @@ standing s now unnoted =
 abbrev pub ran_at : World → Private → SeenTx → Ran
 ran_at w began tx = body w began tx.number (asked_of tx.calls tx.replies)
 
--- ---- between two turns
+-- ---- between two turns: the jobs' transactions fly, and beside it what an entry and a begin need
 pub record AreFlying (s : Setting) (now : Now) : Type 0 where
-  -- what isn't noted, by the places of jobs
+  -- what isn't noted, by the places of jobs: at most a call that was asked
   pub unnoted : ℕ → List Asked
   pub was_asked : (at : ℕ) (tx : SeenTx) → IsActiveAt now.jobs at tx
       → IsUnnoted tx.phase (asked_of_tx s (slice_get (progress_of s.script now.journal).jobs at) tx) (unnoted at)
@@ -103,7 +103,7 @@ pub record AreFlying (s : Setting) (now : Now) : Type 0 where
   pub started : (state_of s now).world.started ≡ map (λ (job : SeenJob). job.block) now.jobs
   -- each active one holds what its calls claimed, in the order in which they did
   pub holds : (at : ℕ) (job : SeenJob) (tx : SeenTx) → slice_get now.jobs at ≡ Some job → active_of job ≡ Some tx
-      → HoldsFor (ran_at (state_of s now).world job.me tx) (asked_of_tx s (slice_get
-      (progress_of s.script now.journal).jobs at) tx) tx.phase tx.held
+      → HoldsFor (ran_at (state_of s now).world job.me tx) (asked_of_tx s (slice_get (progress_of s.script now.journal).jobs at) tx)
+      tx.phase tx.held
   -- its calls are of the kinds that are built
   pub built : (at : ℕ) (tx : SeenTx) → IsActiveAt now.jobs at tx → All (λ call. is_built call ≡ true) tx.calls
