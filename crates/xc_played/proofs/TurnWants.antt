@@ -77,8 +77,8 @@ module _ (s : Setting) (p : Progress) (words : List ℕ) (contents : Contents) (
   running : tx_flown.phase ≡ flight.Running
   running = ap flown_phase runs
 
-  held : tx.held ≡ held_of ran.touched
-  held = subst (λ ph. HoldsFor ran asked_next ph tx.held) runs (f.holds at job tx there (ap active_in doing))
+  held_so : tx.held ≡ held_of ran.touched
+  held_so = subst (λ ph. HoldsFor ran asked_next ph tx.held) runs (f.holds at job tx there (ap active_in doing))
 
   -- ---- behind the claims of the call that is asked
   module _ (c : Call) (asks : asked_next ≡ ask.Call c) (alone : All (HasNoRival jobs at) (claims_of c tx.me (length words))) where
@@ -96,7 +96,7 @@ module _ (s : Setting) (p : Progress) (words : List ℕ) (contents : Contents) (
     mid = turned standing at (Some claimant) standing.now
 
     same : HoldTheSame all_held (tx.held ++ claims)
-    same = subst (λ l. HoldTheSame (holding l claims) (l ++ claims)) (sym held) (merged_held ran.touched claims)
+    same = subst (λ l. HoldTheSame (holding l claims) (l ++ claims)) (sym held_so) (merged_held ran.touched claims)
 
     claims_first : InFlight mid
     claims_first =
@@ -127,7 +127,7 @@ module _ (s : Setting) (p : Progress) (words : List ℕ) (contents : Contents) (
           let touches : claims ≡ claims_of c ran.me (length ran.world.words) = λ i. claims_of c (sym me i) (sym many i) in
           let wanted : claims ≡ next_claims ran (asked_of_tx s (slice_get p.jobs at) wanter) =
           touches ∙ ap (next_claims ran) (sym asks ∙ asked_same s (slice_get p.jobs at) tx wanter refl) in
-          (claims, subst (IsPartOf claims) wanted (part_itself claims), ap (λ l. holding l claims) held ∙ holding-more ran.touched claims)
+          (claims, subst (IsPartOf claims) wanted (part_itself claims), ap (λ l. holding l claims) held_so ∙ holding-more ran.touched claims)
 
       wanter_keeps : (us : List Asked) (contents' : Contents)
           → InFlight (turned standing at (Some (flown job.me us wanter)) (world_in p.state.world words contents'))
