@@ -86,11 +86,13 @@ impl<T> Roomy<T> {
         self.items.as_slice()
     }
 
-    /// It takes no memory.
+    /// The room that is left is given back. It takes no memory.
     pub fn into_items(self) -> Items<T>
         ensures { result ≡ self.items }
     {
-        Items::from_vec(self.items)
+        let mut items = self.items;
+        items.shrink_to_fit();
+        Items::from_vec(items)
     }
 }
 
