@@ -23,7 +23,7 @@ use Rattle.xc_world.specs.Laws.{AgreeAt, late_objects}
 use Rattle.xc_world.specs.Sound.{IsFree}
 use Rattle.xc_data.specs.Claims.{objects}
 use Rattle.xc_world.specs.Own.{Sees, Owns, AgreeOn, KeepsBut, LooksWithin, SpeaksOfOwn, late_changes}
-use Rattle.xc_world.proofs.Objects.{agree_back, agree_on}
+use Rattle.xc_world.proofs.Objects.{agree_back, agree_on, words_same}
 use Rattle.xc_world.proofs.LocalParts.{agree_itself}
 use Rattle.xc_world.proofs.Bodies.{Alike, begin_alike, goes_on_alike, on_fits_alike, keeps_touched, keeps_more, keeps_on, body_keeps}
 use Rattle.xc_world.proofs.Records.{IsOf, remains_agree, remains_keep}
@@ -32,7 +32,7 @@ use Rattle.xc_world.proofs.Trails.{body_speaks}
 use Rattle.xc_flight.specs.Active.{Tx, Phase, Running, Committing, Undoing, Has, Own, Covers, num}
 use Rattle.xc_flight.specs.Flight.{noted, ran, asked, late_done, effects, left, returned, IsPhase, Inside, Flight}
 use Rattle.xc_flight.proofs.Basics.{has_decide, owns_has, sees_has, owns_own}
-use Rattle.xc_flight.proofs.Worlds.{words_agree, words_same, overlaid_other, overlaid_alike, given_alike}
+use Rattle.xc_flight.proofs.Worlds.{words_agree, overlaid_other, overlaid_alike, given_alike}
 
 -- ---- what a body left, by what its transaction has and owns
 pub ran_whole : (w : World) (t : Tx) → body w t.began t.number (asked t) ≡ ran w t
@@ -87,7 +87,8 @@ pub all_front : {X : Type 0} (P : X → Type 0) (xs ys : List X) → All P (xs +
 all_front P [] ys all = All-nil P
 all_front P (x ∷ xs) ys all = All-cons P x xs (All-head P x (xs ++ ys) all) (all_front P xs ys (All-tail P x (xs ++ ys) all))
 
-all_back : {X : Type 0} (P : X → Type 0) (xs ys : List X) → All P (xs ++ ys) → All P ys
+-- and of its back
+pub all_back : {X : Type 0} (P : X → Type 0) (xs ys : List X) → All P (xs ++ ys) → All P ys
 all_back P [] ys all = all
 all_back P (x ∷ xs) ys all = all_back P xs ys (All-tail P x (xs ++ ys) all)
 

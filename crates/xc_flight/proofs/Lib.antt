@@ -12,4 +12,4 @@ pub mod Claiming
 pub mod Sounding
 pub mod Together
 pub mod Examples
-pub mod Overwriting
+pub mod Aborting

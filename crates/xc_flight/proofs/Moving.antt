@@ -3,20 +3,14 @@ use Rattle.std.proofs.Common.{◌≡◌, ◌≢◌, ℕ, ◌<◌, ◌≤◌, ◌
 use Rattle.std.specs.Prelude.{slice_set, length}
 use mathlib.Core.Logic.{dite}
 use native.Mathlib.Decide.{ℕ_discrete}
-use Rattle.std.specs.FinMap as map
-use Rattle.std.specs.Cmp.Lexicographic.{nat_list_cmp_total}
-use Rattle.std.proofs.lemmas.Map.Lookups.{exact_bytes}
-use Rattle.xc_maps.proofs.Maps.{num_total, num_exact}
 use Rattle.xc_data.specs.declared.object.Object.{Object}
 use Rattle.xc_data.specs.declared.object.Object.TheVariants as object
-use Rattle.xc_world.specs.World.{World}
 use Rattle.xc_world.specs.Laws.{AgreeAt}
-use Rattle.xc_world.proofs.Objects.{agree_back, agree_on}
+use Rattle.xc_world.proofs.Objects.{agree_back, agree_on, worlds_same}
 use Rattle.xc_flight.specs.Active.{Tx, Has, Own, IsBelow}
 use Rattle.xc_flight.specs.Flight.{Flight}
 use Rattle.xc_flight.specs.Standing.{Standing, active_at, IsActive, HasSome, OwnSome, HasAt, OwnAt, InFlight, Move}
 use Rattle.xc_flight.proofs.Basics.{own_decide, owns_has}
-use Rattle.xc_flight.proofs.Worlds.{words_same}
 use Rattle.xc_flight.proofs.Frames.{flight_kept}
 
 -- ---- what a job has
@@ -128,17 +122,6 @@ module _ (s s' : Standing) (job : ℕ) (h : InFlight s) (m : Move s s' job) wher
         names = names_after;
         future = m.future;
       }
-
--- ---- worlds that agree at every object
-worlds_same : (v w : World) → ((o : Object) → AgreeAt v w o) → v.blocks ≡ w.blocks → v ≡ w
-worlds_same v w h blocks =
-    let words = words_same v.words w.words (λ k. h (object.Word k)) in
-    let names = map.same_map nat_list_cmp_total exact_bytes v.names w.names (λ q. h (object.Name q)) in
-    let files = map.same_map num_total num_exact v.files w.files (λ q. h (object.File q)) in
-    let pipes = map.same_map num_total num_exact v.pipes w.pipes (λ q. h (object.Pipe q)) in
-    let pairs = map.same_map num_total num_exact v.pairs w.pairs (λ q. h (object.Pair q)) in
-    let started = h object.Jobs in
-    λ i. record { words = words i; names = names i; files = files i; pipes = pipes i; pairs = pairs i; started = started i; blocks = blocks i }
 
 -- where nobody is active, the two worlds are one
 pub all_free : (s : Standing) → InFlight s → ((job : ℕ) → active_at s job ≡ None) → s.now ≡ s.state

@@ -30,16 +30,17 @@ use Rattle.xc_world.specs.Touch.{touch, objects_of_call, object_at}
 use Rattle.xc_world.specs.Run.{Ran, begins, step, goes_on, body, body_fits, lates, run, asked_of, late_asked_of}
 use Rattle.xc_world.specs.Sound.{IsSound, IsReady, IsKnown, IsFree, is_there}
 use Rattle.xc_world.specs.Laws.{AgreeAt}
-use Rattle.xc_world.specs.Own.{IsNumbered}
+use Rattle.xc_world.specs.Own.{AgreeOn, IsNumbered}
 use Rattle.xc_world.proofs.Sound.{act_sound}
 use Rattle.xc_world.proofs.SoundLate.{late_sound}
 use Rattle.xc_world.proofs.SoundReady.{act_keeps_ready, act_leaves_ready, late_keeps_ready}
 use Rattle.xc_world.proofs.EffectsBody.{body-sound, body-others_sound}
-use Rattle.xc_flight.specs.Active.{Tx, Committing, Has, num, IsBelow}
-use Rattle.xc_flight.specs.Flight.{noted, ran, asked, IsCommitting, IsPhase, Inside}
+use Rattle.xc_flight.specs.Active.{Tx, Running, Committing, Has, num, IsBelow}
+use Rattle.xc_flight.specs.Flight.{noted, ran, asked, left, IsCommitting, IsPhase, Inside}
 use Rattle.xc_flight.specs.Standing.{Standing, IsActive, InFlight, AreSound, IsIdleSound, entered}
 use Rattle.xc_flight.specs.Turns.{IsOpen}
 use Rattle.xc_flight.proofs.Basics.{owns_has}
+use Rattle.xc_flight.proofs.Calling.{running_left, all_noted}
 use Rattle.xc_flight.proofs.Frames.{ran_whole, ran_keeps, answered}
 use Rattle.xc_flight.proofs.Moving.{has_it, own_it, get_set_same, get_set_other, is_inside}
 
@@ -140,22 +141,30 @@ module _ (s : Standing) (job : ℕ) (t : Tx) (h : InFlight s) (active : IsActive
       (far (object.Pipe (num m k)) (λ lt. omega (arith, lt, le)))
       (far (object.Pair (num m k)) (λ lt. omega (arith, lt, le))) (h.future m k le)
 
-  -- the handles of a running transaction are known in its body's world
-  handles_known : IsSound s.state t.began t.number → ran s.state t ≡ noted s.state t → (i : ℕ) → IsKnown (ran s.state t).world (place_of t.me.places i)
-  handles_known sound same i =
+  -- a running transaction's private state is sound in its body's world
+  ran_sound : IsSound s.state t.began t.number → ran s.state t ≡ noted s.state t → IsSound (ran s.state t).world t.me t.number
+  ran_sound sound same =
       let end = body-sound s.state t.began t.number (asked t) sound inside.fits in
       let whole = subst (λ (r : Ran). IsSound r.world r.me t.number) (ran_whole s.state t) end in
-      subst (λ (m : Private). IsKnown (ran s.state t).world (place_of m.places i)) (ap (λ (r : Ran). r.me) same ∙ inside.me) (whole.handles i)
+      subst (λ (m : Private). IsSound (ran s.state t).world m t.number) (ap (λ (r : Ran). r.me) same ∙ inside.me) whole
 
   -- what a call touches is open to it
   pub touches_open : IsSound s.state t.began t.number → ran s.state t ≡ noted s.state t → (c : Call) (words : ℕ) (o : Object)
       → Contains (touch c t.me words) o → IsOpen s job o
   touches_open sound same c words o e =
-      let there = touch_there (ran s.state t).world t.me c words (handles_known sound same) o e in
+      let there = touch_there (ran s.state t).world t.me c words (ran_sound sound same).handles o e in
       record {
         below = below_or s.next (ran s.state t).world o future_absent there;
         foreign = λ j u ne other numbered. not_there (ran s.state t).world u.number o (others_absent j u ne other) numbered there;
       }
+
+  -- the station has no object with a number that a running transaction is still to give
+  pub still_absent : t.phase ≡ Running → IsSound s.state t.began t.number → (k : ℕ) → t.me.made ≤ k → IsFree s.now (num t.number k)
+  still_absent phase sound k le =
+      let q = num t.number k in
+      let there : AgreeOn (Has t) s.now (left s.state t Running) = running_left s job t h active phase in
+      free_in (ran s.state t).world s.now q (sym (there (object.File q) (inr refl))) (sym (there (object.Pipe q) (inr refl)))
+      (sym (there (object.Pair q) (inr refl))) ((ran_sound sound (all_noted s job t h active phase)).new k le)
 
 -- ---- a run with its late calls keeps all sound
 body_keeps_ready : (tx : ℕ) (r : Ran) (asked : List Asked) (d : LateCall) → IsSound r.world r.me tx → IsTrue (body_fits r.world r.me tx asked)

@@ -178,8 +178,9 @@ new_empty : (w : World) (n : ℕ) (k : KeptItem) → ((i : ℕ) → IsFree w (nu
 new_empty w n (Bytes q bytes) free e = ap in_pipe (subst (λ tx. finite.get w.pipes (num tx q.k) ≡ None) (sym e) (free q.k).pipe)
 new_empty w n (Message q side bytes) free e = ap in_pair (subst (λ tx. finite.get w.pairs (num tx q.k) ≡ None) (sym e) (free q.k).pair)
 
--- ---- its records speak of no pipe or pair but of those that it made
+-- ---- its records make nothing, and speak of no pipe or pair, but under its own number
 abbrev pub Coined : ℕ → Undo → Type 0
+Coined tx (undo.Made name n) = n.tx ≡ tx
 Coined tx (undo.NewPipe n) = n.tx ≡ tx
 Coined tx (undo.NewPair n) = n.tx ≡ tx
 Coined tx _ = Unit {0}
@@ -201,7 +202,7 @@ append_coined tx w bytes n (place.Pipe q) = All-nil (Coined tx)
 append_coined tx w bytes n (place.Pair q side) = All-nil (Coined tx)
 
 create_coined : (me : Private) (tx : ℕ) (name : List ℕ) (r : Reply) → All (Coined tx) (create_record me tx name r)
-create_coined me tx name (reply.Made h) = All-cons (Coined tx) (undo.Made name _) [] tt (All-nil (Coined tx))
+create_coined me tx name (reply.Made h) = All-cons (Coined tx) (undo.Made name _) [] refl (All-nil (Coined tx))
 create_coined me tx name _ = All-nil (Coined tx)
 
 rename_coined : (tx : ℕ) (from to : List ℕ) (r : Reply) → All (Coined tx) (rename_record from to r)

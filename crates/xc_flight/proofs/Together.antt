@@ -1,5 +1,5 @@
 -- A call with its claims in one turn; and what keeps all sound.
-use Rattle.std.proofs.Common.{◌≡◌, ◌≢◌, ℕ, ◌+◌, ◌<◌, List, [], ◌∷◌, ◌++◌, length, Option, Some, None, zero, suc, ap, sym, ◌∙◌, subst, refl, arith}
+use Rattle.std.proofs.Common.{◌≡◌, ◌≢◌, ℕ, ◌+◌, ◌<◌, List, [], ◌∷◌, ◌++◌, length, Option, Some, zero, suc, ap, sym, ◌∙◌, subst, refl, arith}
 use Rattle.std.specs.Prelude.{All, Contains, IsTrue, map, replicate, slice_set}
 use mathlib.Core.Logic.{dite}
 use native.Mathlib.Decide.{ℕ_discrete}
@@ -18,12 +18,9 @@ use Rattle.xc_world.specs.World.{World, beginning, no_handles}
 use Rattle.xc_world.specs.Fits.{fits}
 use Rattle.xc_world.specs.Touch.{touch}
 use Rattle.xc_world.specs.Modes.{mode_of, claims_of}
-use Rattle.xc_world.specs.Ends.{remains, with_remains}
-use Rattle.xc_world.specs.Effects.{AreMadeIn}
 use Rattle.xc_world.specs.Sound.{IsSound, IsFit, IsKnown}
-use Rattle.xc_world.proofs.EffectsRemains.{remains-sound}
 use Rattle.xc_flight.specs.Active.{Tx, Running, HoldTheSame}
-use Rattle.xc_flight.specs.Standing.{Standing, active_at, IsActive, InFlight, AreSound, IsIdleSound, turned, entered}
+use Rattle.xc_flight.specs.Standing.{Standing, IsActive, InFlight, AreSound, IsIdleSound, turned}
 use Rattle.xc_flight.specs.Turns.{starting, claiming, seen, IsOpen, HasNoRival, IsGranted, MayDo, IsNoted, noting, after_call}
 use Rattle.xc_flight.proofs.Moving.{get_set_same, get_set_other, is_inside, one_active}
 use Rattle.xc_flight.proofs.Calling.{called, all_noted}
@@ -97,21 +94,6 @@ begin_sound s job places sound lt idle j u e =
     (λ (q : j ≡ job). subst (λ (x : Tx). IsSound s.state x.began x.number) (one_active s' job t u is (subst (λ k. IsActive s' k u) q e))
     (idle s.next (omega arith)))
     (λ (ne : j ≢ job). sound j u (sym (get_set_other s.active job j (Some t) ne) ∙ e))
-
--- what remains of records that fit leaves all sound
-pub abort_sound : (s : Standing) (job : ℕ) (t : Tx) (now : World) → AreSound s → AreMadeIn s.state (map (λ r. r.0) t.ended) → IsActive s job t
-    → AreSound (entered s job (with_remains s.state (remains t.ended)) now)
-abort_sound s job t now sound made active j u e =
-    let s' = entered s job (with_remains s.state (remains t.ended)) now in
-    let none : active_at s' job ≡ None = get_set_same s.active job None (is_inside s.active job t active) in
-    dite (ℕ_discrete j job)
-    (λ (q : j ≡ job). let mine : IsActive s' job u = subst (λ k. IsActive s' k u) q e in absurd (cc (none, mine)))
-    (λ (ne : j ≢ job). remains-sound s.state u.began u.number t.ended made (sound j u (sym (get_set_other s.active job j None ne) ∙ e)))
-
--- the entry of an abort, for the jobs that have none
-pub abort_idle : (s : Standing) (t : Tx) (places : List Place) → AreMadeIn s.state (map (λ r. r.0) t.ended) → IsIdleSound s.state s.next places
-    → IsIdleSound (with_remains s.state (remains t.ended)) s.next places
-abort_idle s t places made idle m le = remains-sound s.state (beginning places) m t.ended made (idle m le)
 
 -- ---- a job that has no handle
 vacant_at : (n h : ℕ) → place_of (replicate n place.Vacant) h ≡ place.Vacant

@@ -30,12 +30,6 @@ words_agree w v x y (object.Pair num) e f = e
 words_agree w v x y object.Jobs e f = e
 
 -- ---- lists of words
-pub words_same : (xs ys : List ℕ) → ((k : ℕ) → slice_get xs k ≡ slice_get ys k) → xs ≡ ys
-words_same [] [] h = refl
-words_same [] (y ∷ ys) h = let e = h 0 in cc e
-words_same (x ∷ xs) [] h = let e = h 0 in cc e
-words_same (x ∷ xs) (y ∷ ys) h = let rest = words_same xs ys (λ k. h (suc k)) in cc (h 0, rest)
-
 -- stores elsewhere leave a word
 pub overlaid_other : (xs : List ℕ) (stores : List (ℕ × ℕ)) (at : ℕ) → All (λ (s : ℕ × ℕ). s.0 ≢ at) stores → slice_get xs at ≡ slice_get (overlaid xs stores) at
 overlaid_other xs [] at away = refl

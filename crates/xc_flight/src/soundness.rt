@@ -2,7 +2,7 @@ ghost use Rattle.xc_world.specs.Sound.{IsFit};
 ghost use Rattle.std.specs.Prelude.{◌≡◌, ◌<◌, ℕ, List, map, Some, length};
 ghost use Rattle.xc_world.specs.World.{World, beginning, no_handles};
 ghost use Rattle.xc_data.specs.declared.private.Place.{Place};
-ghost use Rattle.xc_flight.specs.Active.{Tx, Committing};
+ghost use Rattle.xc_flight.specs.Active.{Tx, Committing, Undoing};
 ghost use Rattle.xc_flight.specs.Turns.{starting, after_commit, after_abort};
 ghost use Rattle.xc_world.specs.Effects.{AreMadeIn};
 ghost use Rattle.xc_flight.specs.Standing.{IsSoundFor, Standing, InFlight, IsActive, AreSound, IsIdleSound, turned, entered, Flies, begun};
@@ -43,15 +43,18 @@ pub fn a_commit_leaves_its_job_sound()
         → IsIdleSound (after_commit s.state t) s.next t.me.places }
 {}
 
-/// The entry of an abort does, where its records are of overwrites.
+/// The entry of an abort keeps the journal's state sound for every active transaction, whatever
+/// remains of its records.
 pub fn an_abort_keeps_others_sound()
-    ensures { (s : Standing) (job : ℕ) (t : Tx) (now : World) → AreSound s → AreMadeIn s.state (map (λ r. r.0) t.ended) → IsActive s job t
+    ensures { (s : Standing) (job : ℕ) (t : Tx) (now : World) → Flies s job t Undoing → AreSound s
+        → AreMadeIn s.state (map (λ r. r.0) t.ended)
         → AreSound (entered s job (after_abort s.state t) now) }
 {}
 
-/// And every job may begin its next one.
+/// And every job that has none may begin its next one.
 pub fn an_abort_keeps_idle_jobs_sound()
-    ensures { (s : Standing) (t : Tx) (places : List Place) → AreMadeIn s.state (map (λ r. r.0) t.ended) → IsIdleSound s.state s.next places
+    ensures { (s : Standing) (job : ℕ) (t : Tx) (places : List Place) → Flies s job t Undoing
+        → AreMadeIn s.state (map (λ r. r.0) t.ended) → IsIdleSound s.state s.next places
         → IsIdleSound (after_abort s.state t) s.next places }
 {}
 

@@ -1,4 +1,4 @@
-ghost use Rattle.std.specs.Prelude.{map, true, ◌≡◌, ◌<◌, ◌+◌, ◌++◌, ◌∷◌, [], ℕ, List, IsTrue, All, Contains, None, Some, length};
+ghost use Rattle.std.specs.Prelude.{map, ◌≡◌, ◌<◌, ◌≤◌, ◌+◌, ◌++◌, ◌∷◌, [], ℕ, List, IsTrue, All, Contains, None, Some, length};
 ghost use Rattle.xc_data.specs.declared.object.Object.{Object};
 ghost use Rattle.xc_world.specs.Own.{AgreeOn};
 ghost use Rattle.xc_data.specs.declared.call.Asked.{Asked};
@@ -7,20 +7,21 @@ ghost use Rattle.xc_data.specs.declared.call.Call.{Call};
 ghost use Rattle.xc_world.specs.Touch.{touch};
 ghost use Rattle.xc_world.specs.Modes.{claims_of};
 ghost use Rattle.xc_world.specs.Fits.{fits};
+ghost use Rattle.xc_world.specs.Sound.{IsFree};
 ghost use Rattle.xc_data.specs.Claims.{holding, held_of};
-ghost use Rattle.xc_flight.specs.Active.{Tx, Own, Has, HoldTheSame, Running, Committing, Undoing};
+ghost use Rattle.xc_flight.specs.Active.{Tx, num, Own, Has, HoldTheSame, Running, Committing, Undoing};
 ghost use Rattle.xc_flight.specs.Turns.{starting, seen, claiming, IsGranted, IsOpen, HasNoRival, AreCompatible, MayDo, IsNoted, noting};
 ghost use Rattle.xc_flight.specs.Turns.{after_call, in_phase, IsDoneLate, with_end, wanting, with_undone, after_commit, after_abort};
 ghost use Rattle.xc_data.specs.declared.undo.Undo.{Undo};
 ghost use Rattle.xc_data.specs.declared.undo.UndoEnd.{UndoEnd};
 ghost use Rattle.xc_world.specs.Ends.{IsLegalEnd, blocker, with_remains};
-ghost use Rattle.xc_world.specs.Effects.{AreMadeIn, only_overwrites, undone_to};
+ghost use Rattle.xc_world.specs.Effects.{AreMadeIn, undone_to};
 ghost use Rattle.xc_data.specs.declared.call.LateCall.{LateCall};
 ghost use Rattle.xc_data.specs.declared.call.LateAnswer.{LateAnswer};
 ghost use Rattle.xc_world.specs.Late.{late};
 ghost use Rattle.xc_world.specs.Run.{run};
 ghost use Rattle.xc_data.specs.declared.private.Private.{Private};
-ghost use Rattle.xc_flight.specs.Flight.{ran, asked, effects, returned};
+ghost use Rattle.xc_flight.specs.Flight.{ran, effects, returned};
 ghost use Rattle.xc_flight.specs.Standing.{Standing, InFlight, IsActive, active_at, turned, entered, Flies, begun, IsSoundFor};
 
 /// A transaction begins with the next number: it holds nothing, and owns what it will make.
@@ -62,6 +63,12 @@ pub fn a_claim_keeps_all()
 /// What a running transaction has it sees as its body left it.
 pub fn what_one_has_it_sees()
     ensures { (s : Standing) (job : ℕ) (t : Tx) → Flies s job t Running → AgreeOn (Has t) (ran s.state t).world (seen s.now t) }
+{}
+
+/// No object has a number that a running transaction is still to give.
+pub fn what_it_will_make_is_absent()
+    ensures { (s : Standing) (job : ℕ) (t : Tx) → Flies s job t Running → IsSoundFor s.state t
+        → (k : ℕ) → t.me.made ≤ k → IsFree s.now (num t.number k) }
 {}
 
 /// A call of a running transaction, done by the plain machine in what it sees, keeps all.
@@ -121,14 +128,14 @@ pub fn a_compensation_keeps_all()
         → InFlight (turned s job (Some (with_undone t older u end)) (undone_to s.now u end)) }
 {}
 
-/// The records of a transaction that only overwrites were made one after another.
-pub fn an_overwriting_transaction_leaves_records()
+/// The records of a transaction were made one after another.
+pub fn a_transaction_leaves_records()
     ensures { (s : Standing) (job : ℕ) (t : Tx) → InFlight s → IsActive s job t → IsSoundFor s.state t
-        → All (λ c. only_overwrites c.call ≡ true) (asked t) → AreMadeIn s.state (t.pending ++ map (λ r. r.0) t.ended) }
+        → AreMadeIn s.state (t.pending ++ map (λ r. r.0) t.ended) }
 {}
 
-/// The compensation of such a record keeps all, however it ends.
-pub fn a_compensation_of_an_overwrite_keeps_all()
+/// The compensation of the newest of them keeps all, however it ends.
+pub fn a_recorded_compensation_keeps_all()
     ensures { (s : Standing) (job : ℕ) (t : Tx) (older : List Undo) (u : Undo) (end : UndoEnd) → Flies s job t Undoing
         → IsSoundFor s.state t → AreMadeIn s.state (t.pending ++ map (λ r. r.0) t.ended) → t.pending ≡ older ++ u ∷ []
         → (tries : ℕ) → IsLegalEnd tries u end (blocker (length older + 1 + 1) u t.ended)

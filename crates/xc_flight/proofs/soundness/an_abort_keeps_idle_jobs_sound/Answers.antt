@@ -1,5 +1,5 @@
-use Rattle.xc_flight.proofs.Together.{abort_idle}
+use Rattle.xc_flight.proofs.Aborting.{abort_idle}
 use Rattle.xc_flight.proofs.soundness.an_abort_keeps_idle_jobs_sound.Goals as goal
 
 pub returns : goal.returns
-returns c = abort_idle
+returns c = λ s job t places f. abort_idle s job t f places

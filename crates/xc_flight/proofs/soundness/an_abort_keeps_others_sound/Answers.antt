@@ -1,5 +1,5 @@
-use Rattle.xc_flight.proofs.Together.{abort_sound}
+use Rattle.xc_flight.proofs.Aborting.{abort_sound}
 use Rattle.xc_flight.proofs.soundness.an_abort_keeps_others_sound.Goals as goal
 
 pub returns : goal.returns
-returns c = abort_sound
+returns c = λ s job t now f. abort_sound s job t f now
