@@ -41,7 +41,8 @@ use Rattle.xc_flight.specs.Standing.{Standing, IsActive, InFlight, AreSound, IsI
 use Rattle.xc_flight.specs.Turns.{IsOpen}
 use Rattle.xc_flight.proofs.Basics.{owns_has}
 use Rattle.xc_flight.proofs.Calling.{running_left, all_noted}
-use Rattle.xc_flight.proofs.Frames.{ran_whole, ran_keeps, answered}
+use Rattle.xc_flight.proofs.Frames.{ran_whole, ran_keeps}
+use Rattle.xc_flight.proofs.LateReady.{run_sound}
 use Rattle.xc_flight.proofs.Moving.{has_it, own_it, get_set_same, get_set_other, is_inside}
 
 -- ---- what a call touches is in the world where its handles are known
@@ -165,47 +166,6 @@ module _ (s : Standing) (job : ℕ) (t : Tx) (h : InFlight s) (active : IsActive
       let there : AgreeOn (Has t) s.now (left s.state t Running) = running_left s job t h active phase in
       free_in (ran s.state t).world s.now q (sym (there (object.File q) (inr refl))) (sym (there (object.Pipe q) (inr refl)))
       (sym (there (object.Pair q) (inr refl))) ((ran_sound sound (all_noted s job t h active phase)).new k le)
-
--- ---- a run with its late calls keeps all sound
-body_keeps_ready : (tx : ℕ) (r : Ran) (asked : List Asked) (d : LateCall) → IsSound r.world r.me tx → IsTrue (body_fits r.world r.me tx asked)
-    → IsReady r.world d → IsReady (goes_on tx r asked).world d
-body_keeps_ready tx r [] d sound fit ready = ready
-body_keeps_ready tx r (c ∷ asked) d sound fit ready =
-    let s = act r.world r.me tx c.call c.answer in
-    let both = and_parts (fits r.world r.me tx c.call c.answer) (body_fits s.world s.me tx asked) fit in
-    body_keeps_ready tx (step tx r c) asked d (act_sound r.world r.me tx c.call c.answer both.0 sound) both.1
-    (act_keeps_ready r.world r.me tx c.call c.answer d both.0 sound ready)
-
--- the late calls that a body leaves are ready at its end
-leaves_ready : (tx : ℕ) (r : Ran) (asked : List Asked) → IsSound r.world r.me tx → IsTrue (body_fits r.world r.me tx asked) → All (IsReady r.world) r.late
-    → All (IsReady (goes_on tx r asked).world) (goes_on tx r asked).late
-leaves_ready tx r [] sound fit ready = ready
-leaves_ready tx r (c ∷ asked) sound fit ready =
-    let s = act r.world r.me tx c.call c.answer in
-    let both = and_parts (fits r.world r.me tx c.call c.answer) (body_fits s.world s.me tx asked) fit in
-    leaves_ready tx (step tx r c) asked (act_sound r.world r.me tx c.call c.answer both.0 sound) both.1
-    (All-append (IsReady s.world) r.late (kept_call c.call r.me s.reply)
-    (All-weaker (IsReady r.world) (IsReady s.world) (λ d. act_keeps_ready r.world r.me tx c.call c.answer d both.0 sound) r.late ready)
-    (act_leaves_ready r.world r.me tx c.call c.answer both.0 sound))
-
-lates_sound : (w : World) (you : Private) (ty : ℕ) (calls : List (LateCall × LateAnswer)) → All (λ x. IsReady w x.0) calls → IsSound w you ty
-    → IsSound (lates w calls).world you ty
-lates_sound w you ty [] ready sound = sound
-lates_sound w you ty ((c, a) ∷ rest) ready sound =
-    let P : LateCall × LateAnswer → Type 0 = λ x. IsReady w x.0 in
-    let y = (late w c a).world in
-    let Q : LateCall × LateAnswer → Type 0 = λ x. IsReady y x.0 in
-    let here : IsReady w c = All-head P (c, a) rest ready in
-    lates_sound y you ty rest (All-weaker P Q (λ x. late_keeps_ready w c a x.0 here.short sound.world) rest (All-tail P (c, a) rest ready))
-    (late_sound w you ty c a here.short here.there sound)
-
-run_sound : (w : World) (me you : Private) (tx ty : ℕ) (asked : List Asked) (ends : List LateEnd) → IsSound w me tx → IsTrue (body_fits w me tx asked)
-    → IsSound (body w me tx asked).world you ty
-    → IsSound (run w me tx asked ends).late.world you ty
-run_sound w me you tx ty asked ends sound fit other =
-    let r = body w me tx asked in
-    lates_sound r.world you ty (late_asked_of r.late ends) (answered (IsReady r.world) r.late ends
-    (leaves_ready tx (begins w me) asked sound fit (All-nil (IsReady w)))) other
 
 -- ---- the entry of a commit
 module _ (s : Standing) (job : ℕ) (t : Tx) (h : InFlight s) (sound : AreSound s) (active : IsActive s job t) (phase : t.phase ≡ Committing) where
