@@ -1,5 +1,5 @@
 -- The late calls of a transaction are ready: their objects are there. A run with its late calls keeps all sound.
-use Rattle.std.proofs.Common.{◌≡◌, ◌≢◌, ℕ, true, List, [], ◌∷◌, ◌++◌, length, take, ap, sym, ◌∙◌, subst, refl}
+use Rattle.std.proofs.Common.{◌≡◌, ◌≢◌, ℕ, List, [], ◌∷◌, ◌++◌, length, take, ap, sym, ◌∙◌, subst, refl}
 use Rattle.std.specs.Prelude.{All, IsTrue, is_some}
 use Rattle.std.proofs.lemmas.Bool.{and_parts}
 use Rattle.std.proofs.lemmas.List.Elements.{All-head, All-tail, All-weaker, All-nil, All-append, All-contains, All-take}
@@ -7,7 +7,7 @@ use Rattle.xc_data.specs.declared.object.Object.{Object}
 use Rattle.xc_data.specs.declared.object.Object.TheVariants as object
 use Rattle.xc_data.specs.declared.call.Asked.{Asked}
 use Rattle.xc_data.specs.declared.call.LateCall.{LateCall}
-use Rattle.xc_data.specs.declared.call.LateCall.TheVariants.{Unlink, Sync, WritePipe, Shutdown, Send, Thread}
+use Rattle.xc_data.specs.declared.call.LateCall.TheVariants.{Sync, WritePipe, Shutdown, Send}
 use Rattle.xc_data.specs.declared.call.LateEnd.{LateEnd}
 use Rattle.xc_data.specs.declared.call.LateAnswer.{LateAnswer}
 use Rattle.xc_data.specs.declared.private.Private.{Private}
@@ -15,7 +15,7 @@ use Rattle.xc_world.specs.World.{World}
 use Rattle.xc_world.specs.Act.{act}
 use Rattle.xc_world.specs.Late.{late, kept_call}
 use Rattle.xc_world.specs.Fits.{fits}
-use Rattle.xc_world.specs.Run.{Ran, begins, step, goes_on, body, body_fits, lates, run, asked_of, late_asked_of}
+use Rattle.xc_world.specs.Run.{Ran, begins, step, goes_on, body, body_fits, lates, run, late_asked_of}
 use Rattle.xc_world.specs.Sound.{IsFit, IsSound, IsReady, is_there, names_there}
 use Rattle.xc_world.specs.Laws.{AgreeAt, late_objects}
 use Rattle.xc_world.specs.Own.{LooksWithin}

@@ -5,35 +5,25 @@ use Rattle.std.specs.Cmp.Lexicographic.{pointwise}
 use mathlib.Core.Logic.{dite}
 use native.Mathlib.Decide.{ℕ_discrete}
 use Rattle.std.proofs.lemmas.List.{append-nil}
-use Rattle.std.proofs.lemmas.Bool.{and_parts, cases_lt}
-use Rattle.std.proofs.lemmas.List.Elements.{All-head, All-tail, All-weaker, All-nil, All-cons, All-append, All-contains}
+use Rattle.std.proofs.lemmas.Bool.{cases_lt}
+use Rattle.std.proofs.lemmas.List.Elements.{All-nil, All-cons, All-contains}
 use Rattle.std.specs.FinMap as finite
 use Rattle.xc_data.specs.declared.object.Num.{Num}
 use Rattle.xc_data.specs.declared.object.Object.{Object}
 use Rattle.xc_data.specs.declared.object.Object.TheVariants as object
 use Rattle.xc_data.specs.declared.call.Call.{Call}
 use Rattle.xc_data.specs.declared.call.Call.TheVariants as call
-use Rattle.xc_data.specs.declared.call.Asked.{Asked}
-use Rattle.xc_data.specs.declared.call.LateCall.{LateCall}
-use Rattle.xc_data.specs.declared.call.LateEnd.{LateEnd}
-use Rattle.xc_data.specs.declared.call.LateAnswer.{LateAnswer}
 use Rattle.xc_data.specs.declared.private.Place.{Place}
 use Rattle.xc_data.specs.declared.private.Place.TheVariants as place
 use Rattle.xc_data.specs.declared.private.Private.{Private}
 use Rattle.xc_data.specs.Private.{place_of}
 use Rattle.xc_world.specs.World.{World, beginning}
-use Rattle.xc_world.specs.Act.{act}
-use Rattle.xc_world.specs.Late.{late, kept_call}
-use Rattle.xc_world.specs.Fits.{fits}
 use Rattle.xc_world.specs.Checks.{is_refused}
 use Rattle.xc_world.specs.Touch.{touch, objects_of_call, object_at}
-use Rattle.xc_world.specs.Run.{Ran, begins, step, goes_on, body, body_fits, lates, run, asked_of, late_asked_of}
-use Rattle.xc_world.specs.Sound.{IsSound, IsReady, IsKnown, IsFree, is_there}
+use Rattle.xc_world.specs.Run.{Ran, body, body_fits, run, asked_of}
+use Rattle.xc_world.specs.Sound.{IsSound, IsKnown, IsFree, is_there}
 use Rattle.xc_world.specs.Laws.{AgreeAt}
 use Rattle.xc_world.specs.Own.{AgreeOn, IsNumbered}
-use Rattle.xc_world.proofs.Sound.{act_sound}
-use Rattle.xc_world.proofs.SoundLate.{late_sound}
-use Rattle.xc_world.proofs.SoundReady.{act_keeps_ready, act_leaves_ready, late_keeps_ready}
 use Rattle.xc_world.proofs.EffectsBody.{body-sound, body-others_sound}
 use Rattle.xc_flight.specs.Active.{Tx, Running, Committing, Has, num, IsBelow}
 use Rattle.xc_flight.specs.Flight.{noted, ran, asked, left, IsCommitting, IsPhase, Inside}

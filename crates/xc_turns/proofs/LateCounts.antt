@@ -2,7 +2,6 @@
 use Rattle.std.proofs.Common.{◌≡◌, ℕ, ◌+◌, ◌<◌, ◌≤◌, Bool, true, false, List, [], ◌∷◌, ◌++◌, length, refl, ap, ap₂, sym, ◌∙◌, arith, length-append, length-drop}
 use Rattle.std.specs.Prelude.{◌||◌, ◌&&◌, not, drop, take, if◌then◌else◌}
 use Rattle.std.specs.List.{list_all}
-use Rattle.std.proofs.lemmas.Bool.{and_parts}
 use Rattle.std.proofs.lemmas.List.Folds.{list_all-append}
 use Rattle.std.proofs.Math.Seq.{take-length}
 use Rattle.xc_data.specs.declared.call.Call.{Call}
@@ -19,7 +18,7 @@ use Rattle.xc_world.specs.World.{World}
 use Rattle.xc_world.specs.Checks.{is_bad_handle, is_file, is_pipe, is_pair}
 use Rattle.xc_world.specs.Act.Step.{Stepped, stays}
 use Rattle.xc_world.specs.Late.{is_late, kept_call, late_call, sync_of, write_pipe_of, shutdown_of, send_of}
-use Rattle.xc_story.specs.Progress.{kept_of, started_blocks, started_by}
+use Rattle.xc_story.specs.Progress.{kept_of}
 use Rattle.xc_story.specs.LateCalls.{waits}
 use Rattle.xc_story.specs.Rows.{IsReplyInTime, is_built}
 
