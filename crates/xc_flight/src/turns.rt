@@ -100,7 +100,7 @@ pub fn a_commit_keeps_all()
         → InFlight (turned s job (Some (in_phase t Committing)) (seen s.now t)) }
 {}
 
-/// What a committed transaction's late call without an end needs is in the station's world.
+/// What a late call of a committed transaction needs is in the station's world, whoever holds it.
 pub fn a_late_call_is_ready()
     ensures { (s : Standing) (job : ℕ) (t : Tx) (front rest : List LateCall) (call : LateCall) → Flies s job t Committing
         → IsSoundFor s.state t → t.late ≡ front ++ call ∷ rest → IsReady s.now call }
