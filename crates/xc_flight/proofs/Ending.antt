@@ -11,7 +11,7 @@ use Rattle.xc_data.specs.declared.call.LateAnswer.{LateAnswer}
 use Rattle.xc_world.specs.World.{World}
 use Rattle.xc_world.specs.Late.{late}
 use Rattle.xc_world.specs.Fits.{late_fits, late_answer_of}
-use Rattle.xc_world.specs.Run.{Ran, goes_on as body_goes_on, run, lates, lates_fit, late_asked_of, asked_of}
+use Rattle.xc_world.specs.Run.{Ran, goes_on as body_goes_on, lates, lates_fit, late_asked_of}
 use Rattle.xc_world.specs.Laws.{AgreeAt, EndsAlike, late_objects}
 use Rattle.xc_world.specs.Own.{AgreeOn, LooksWithin}
 use Rattle.xc_world.proofs.Objects.{agree_back}
@@ -21,7 +21,7 @@ use Rattle.xc_world.proofs.Runs.{late_keeps, late_fits_alike}
 use Rattle.xc_flight.specs.Active.{Tx, Running, Committing, Has, Own}
 use Rattle.xc_flight.specs.Flight.{noted, ran, late_done, left, returned, IsCommitting, IsPhase, Inside}
 use Rattle.xc_flight.specs.Standing.{Standing, IsActive, InFlight, turned, entered}
-use Rattle.xc_flight.specs.Turns.{seen, in_phase, IsDoneLate, with_end}
+use Rattle.xc_flight.specs.Turns.{seen, in_phase, IsDoneLate, with_end, after_commit}
 use Rattle.xc_flight.proofs.Basics.{owns_has}
 use Rattle.xc_flight.proofs.Worlds.{overlaid_count}
 use Rattle.xc_flight.proofs.Frames.{late_within, left_keeps, unstored}
@@ -113,7 +113,8 @@ lates_more w ((d, b) ∷ calls) c a =
       fits = ap (λ f. late_fits w d b && f) more.fits ∙ and_assoc (late_fits w d b) (lates_fit x calls) (late_fits (lates x calls).world c a);
     }
 
-one_of : (P : LateCall → Type 0) (front : List LateCall) (c : LateCall) (rest : List LateCall) → All P (front ++ c ∷ rest) → P c
+-- one of several
+pub one_of : (P : LateCall → Type 0) (front : List LateCall) (c : LateCall) (rest : List LateCall) → All P (front ++ c ∷ rest) → P c
 one_of P [] c rest h = All-head P c rest h
 one_of P (d ∷ front) c rest h = one_of P front c rest (All-tail P d (front ++ c ∷ rest) h)
 
@@ -121,17 +122,34 @@ front_count : (front : List LateCall) (c : LateCall) (rest : List LateCall) → 
 front_count [] c rest = omega arith
 front_count (d ∷ front) c rest = let more = front_count front c rest in omega (arith, more)
 
--- ---- a committing transaction does its next late call
+-- ---- a committing transaction
+is_committing : (w : World) (t : Tx) → Inside w t → t.phase ≡ Committing → IsCommitting w t
+is_committing w t i phase = subst (IsPhase w t) phase i.phase
+
+-- its late calls are those that its body left
+pub ran_late : (w : World) (t : Tx) → Inside w t → t.phase ≡ Committing → (ran w t).late ≡ t.late
+ran_late w t i phase =
+    ap (λ (r : Ran). r.late) (ap (λ l. body_goes_on t.number (noted w t) l) (is_committing w t i phase).all_noted) ∙ i.late
+
+-- what it left so far is in the station
+pub left_there : (s : Standing) (job : ℕ) (t : Tx) → InFlight s → IsActive s job t → t.phase ≡ Committing
+    → AgreeOn (Has t) (left s.state t Committing) s.now
+left_there s job t h active phase o e =
+    agree_back s.now (left s.state t Committing) o
+    (now_left s job t h active Committing (subst (λ p. AgreeOn (Own t) (returned s.now t p) (left s.state t p)) phase
+    (h.flights job t active).owns) o e)
+
+-- ---- it does its next late call
 module _ (s : Standing) (job : ℕ) (t : Tx) (c : LateCall) (a : LateAnswer) (h : InFlight s) (active : IsActive s job t) (phase : t.phase ≡ Committing)
     (k : IsDoneLate s.now t c a) where
   inside : Inside s.state t
   inside = (h.flights job t active).inside
 
   committing : IsCommitting s.state t
-  committing = subst (IsPhase s.state t) phase inside.phase
+  committing = is_committing s.state t inside phase
 
   split : (ran s.state t).late ≡ k.front ++ c ∷ k.rest
-  split = ap (λ (r : Ran). r.late) (ap (λ l. body_goes_on t.number (noted s.state t) l) committing.all_noted) ∙ inside.late ∙ k.split
+  split = ran_late s.state t inside phase ∙ k.split
 
   -- the late calls with this one
   one_more : late_done s.state (with_end t (late s.now c a).end) ≡ late_done s.state t ++ (c, a) ∷ []
@@ -144,12 +162,8 @@ module _ (s : Standing) (job : ℕ) (t : Tx) (c : LateCall) (a : LateAnswer) (h 
       ∙ ap (λ l. late_asked_of l (es ++ e ∷ [])) (take_one k.front c k.rest (length es) k.done) ∙ late_asked_more k.front es c e k.done
       ∙ ap (λ b. late_asked_of k.front es ++ (c, b) ∷ []) k.told ∙ ap (λ l. late_asked_of l es ++ (c, a) ∷ []) (sym first)
 
-  -- what it left so far is in the station
   there : AgreeOn (Has t) (left s.state t Committing) s.now
-  there o e =
-      agree_back s.now (left s.state t Committing) o
-      (now_left s job t h active Committing (subst (λ p. AgreeOn (Own t) (returned s.now t p) (left s.state t p)) phase
-      (h.flights job t active).owns) o e)
+  there = left_there s job t h active phase
 
   speaks : LooksWithin (Has t) (Own t) c
   speaks = one_of (LooksWithin (Has t) (Own t)) k.front c k.rest (subst (All (LooksWithin (Has t) (Own t))) split (late_within s.state t inside.covers))
@@ -204,19 +218,22 @@ module _ (s : Standing) (job : ℕ) (t : Tx) (c : LateCall) (a : LateAnswer) (h 
       })
 
 -- ---- a committed transaction whose late calls are all done enters
+-- what it left is where its run leads
+pub left_run : (w : World) (t : Tx) → Inside w t → t.phase ≡ Committing → length t.late_ends ≡ length t.late
+    → left w t Committing ≡ after_commit w t
+left_run w t i phase all =
+    let same : ran w t ≡ noted w t = ap (λ l. body_goes_on t.number (noted w t) l) (is_committing w t i phase).all_noted in
+    let done : take (length t.late_ends) (ran w t).late ≡ (ran w t).late = take_all (length t.late_ends) (ran w t).late
+    (let e = ap length (ran_late w t i phase) in omega (arith, e, all)) in
+    ap (λ l. (lates (ran w t).world (late_asked_of l t.late_ends)).world) done ∙ ap
+    (λ (r : Ran). (lates r.world (late_asked_of r.late t.late_ends)).world) same
+
+-- it enters
 pub committed : (s : Standing) (job : ℕ) (t : Tx) → InFlight s → IsActive s job t → t.phase ≡ Committing → length t.late_ends ≡ length t.late
-    → InFlight (entered s job (run s.state t.began t.number (asked_of t.calls t.replies) t.late_ends).late.world s.now)
+    → InFlight (entered s job (after_commit s.state t) s.now)
 committed s job t h active phase all =
     let w = s.state in
     let f = h.flights job t active in
-    let p : IsCommitting w t = subst (IsPhase w t) phase f.inside.phase in
-    let same_body : ran w t ≡ noted w t = ap (λ l. body_goes_on t.number (noted w t) l) p.all_noted in
-    let late_same : (ran w t).late ≡ t.late = ap (λ (r : Ran). r.late) same_body ∙ f.inside.late in
-    let done : take (length t.late_ends) (ran w t).late ≡ (ran w t).late = take_all (length t.late_ends) (ran w t).late
-    (let e = ap length late_same in omega (arith, e, all)) in
-    let same : left w t Committing ≡ (run w t.began t.number (asked_of t.calls t.replies) t.late_ends).late.world =
-    ap (λ l. (lates (ran w t).world (late_asked_of l t.late_ends)).world) done ∙ ap
-    (λ (r : Ran). (lates r.world (late_asked_of r.late t.late_ends)).world) same_body in
-    subst (λ v. InFlight (entered s job v s.now)) same
+    subst (λ v. InFlight (entered s job v s.now)) (left_run w t f.inside phase all)
     (ends s job t (left w t Committing) s.now h active (left_keeps w t f.inside Committing) (keeps_itself (Own t) s.now)
     (subst (λ q. AgreeOn (Own t) (returned s.now t q) (left w t q)) phase f.owns))

@@ -9,6 +9,7 @@ pub mod Ending
 pub mod Taking
 pub mod Undoing
 pub mod Claiming
+pub mod LateReady
 pub mod Sounding
 pub mod Together
 pub mod Examples

@@ -5,35 +5,25 @@ use Rattle.std.specs.Cmp.Lexicographic.{pointwise}
 use mathlib.Core.Logic.{dite}
 use native.Mathlib.Decide.{ℕ_discrete}
 use Rattle.std.proofs.lemmas.List.{append-nil}
-use Rattle.std.proofs.lemmas.Bool.{and_parts, cases_lt}
-use Rattle.std.proofs.lemmas.List.Elements.{All-head, All-tail, All-weaker, All-nil, All-cons, All-append, All-contains}
+use Rattle.std.proofs.lemmas.Bool.{cases_lt}
+use Rattle.std.proofs.lemmas.List.Elements.{All-nil, All-cons, All-contains}
 use Rattle.std.specs.FinMap as finite
 use Rattle.xc_data.specs.declared.object.Num.{Num}
 use Rattle.xc_data.specs.declared.object.Object.{Object}
 use Rattle.xc_data.specs.declared.object.Object.TheVariants as object
 use Rattle.xc_data.specs.declared.call.Call.{Call}
 use Rattle.xc_data.specs.declared.call.Call.TheVariants as call
-use Rattle.xc_data.specs.declared.call.Asked.{Asked}
-use Rattle.xc_data.specs.declared.call.LateCall.{LateCall}
-use Rattle.xc_data.specs.declared.call.LateEnd.{LateEnd}
-use Rattle.xc_data.specs.declared.call.LateAnswer.{LateAnswer}
 use Rattle.xc_data.specs.declared.private.Place.{Place}
 use Rattle.xc_data.specs.declared.private.Place.TheVariants as place
 use Rattle.xc_data.specs.declared.private.Private.{Private}
 use Rattle.xc_data.specs.Private.{place_of}
 use Rattle.xc_world.specs.World.{World, beginning}
-use Rattle.xc_world.specs.Act.{act}
-use Rattle.xc_world.specs.Late.{late, kept_call}
-use Rattle.xc_world.specs.Fits.{fits}
 use Rattle.xc_world.specs.Checks.{is_refused}
 use Rattle.xc_world.specs.Touch.{touch, objects_of_call, object_at}
-use Rattle.xc_world.specs.Run.{Ran, begins, step, goes_on, body, body_fits, lates, run, asked_of, late_asked_of}
-use Rattle.xc_world.specs.Sound.{IsSound, IsReady, IsKnown, IsFree, is_there}
+use Rattle.xc_world.specs.Run.{Ran, body, body_fits, run, asked_of}
+use Rattle.xc_world.specs.Sound.{IsSound, IsKnown, IsFree, is_there}
 use Rattle.xc_world.specs.Laws.{AgreeAt}
 use Rattle.xc_world.specs.Own.{AgreeOn, IsNumbered}
-use Rattle.xc_world.proofs.Sound.{act_sound}
-use Rattle.xc_world.proofs.SoundLate.{late_sound}
-use Rattle.xc_world.proofs.SoundReady.{act_keeps_ready, act_leaves_ready, late_keeps_ready}
 use Rattle.xc_world.proofs.EffectsBody.{body-sound, body-others_sound}
 use Rattle.xc_flight.specs.Active.{Tx, Running, Committing, Has, num, IsBelow}
 use Rattle.xc_flight.specs.Flight.{noted, ran, asked, left, IsCommitting, IsPhase, Inside}
@@ -41,7 +31,8 @@ use Rattle.xc_flight.specs.Standing.{Standing, IsActive, InFlight, AreSound, IsI
 use Rattle.xc_flight.specs.Turns.{IsOpen}
 use Rattle.xc_flight.proofs.Basics.{owns_has}
 use Rattle.xc_flight.proofs.Calling.{running_left, all_noted}
-use Rattle.xc_flight.proofs.Frames.{ran_whole, ran_keeps, answered}
+use Rattle.xc_flight.proofs.Frames.{ran_whole, ran_keeps}
+use Rattle.xc_flight.proofs.LateReady.{run_sound}
 use Rattle.xc_flight.proofs.Moving.{has_it, own_it, get_set_same, get_set_other, is_inside}
 
 -- ---- what a call touches is in the world where its handles are known
@@ -165,47 +156,6 @@ module _ (s : Standing) (job : ℕ) (t : Tx) (h : InFlight s) (active : IsActive
       let there : AgreeOn (Has t) s.now (left s.state t Running) = running_left s job t h active phase in
       free_in (ran s.state t).world s.now q (sym (there (object.File q) (inr refl))) (sym (there (object.Pipe q) (inr refl)))
       (sym (there (object.Pair q) (inr refl))) ((ran_sound sound (all_noted s job t h active phase)).new k le)
-
--- ---- a run with its late calls keeps all sound
-body_keeps_ready : (tx : ℕ) (r : Ran) (asked : List Asked) (d : LateCall) → IsSound r.world r.me tx → IsTrue (body_fits r.world r.me tx asked)
-    → IsReady r.world d → IsReady (goes_on tx r asked).world d
-body_keeps_ready tx r [] d sound fit ready = ready
-body_keeps_ready tx r (c ∷ asked) d sound fit ready =
-    let s = act r.world r.me tx c.call c.answer in
-    let both = and_parts (fits r.world r.me tx c.call c.answer) (body_fits s.world s.me tx asked) fit in
-    body_keeps_ready tx (step tx r c) asked d (act_sound r.world r.me tx c.call c.answer both.0 sound) both.1
-    (act_keeps_ready r.world r.me tx c.call c.answer d both.0 sound ready)
-
--- the late calls that a body leaves are ready at its end
-leaves_ready : (tx : ℕ) (r : Ran) (asked : List Asked) → IsSound r.world r.me tx → IsTrue (body_fits r.world r.me tx asked) → All (IsReady r.world) r.late
-    → All (IsReady (goes_on tx r asked).world) (goes_on tx r asked).late
-leaves_ready tx r [] sound fit ready = ready
-leaves_ready tx r (c ∷ asked) sound fit ready =
-    let s = act r.world r.me tx c.call c.answer in
-    let both = and_parts (fits r.world r.me tx c.call c.answer) (body_fits s.world s.me tx asked) fit in
-    leaves_ready tx (step tx r c) asked (act_sound r.world r.me tx c.call c.answer both.0 sound) both.1
-    (All-append (IsReady s.world) r.late (kept_call c.call r.me s.reply)
-    (All-weaker (IsReady r.world) (IsReady s.world) (λ d. act_keeps_ready r.world r.me tx c.call c.answer d both.0 sound) r.late ready)
-    (act_leaves_ready r.world r.me tx c.call c.answer both.0 sound))
-
-lates_sound : (w : World) (you : Private) (ty : ℕ) (calls : List (LateCall × LateAnswer)) → All (λ x. IsReady w x.0) calls → IsSound w you ty
-    → IsSound (lates w calls).world you ty
-lates_sound w you ty [] ready sound = sound
-lates_sound w you ty ((c, a) ∷ rest) ready sound =
-    let P : LateCall × LateAnswer → Type 0 = λ x. IsReady w x.0 in
-    let y = (late w c a).world in
-    let Q : LateCall × LateAnswer → Type 0 = λ x. IsReady y x.0 in
-    let here : IsReady w c = All-head P (c, a) rest ready in
-    lates_sound y you ty rest (All-weaker P Q (λ x. late_keeps_ready w c a x.0 here.short sound.world) rest (All-tail P (c, a) rest ready))
-    (late_sound w you ty c a here.short here.there sound)
-
-run_sound : (w : World) (me you : Private) (tx ty : ℕ) (asked : List Asked) (ends : List LateEnd) → IsSound w me tx → IsTrue (body_fits w me tx asked)
-    → IsSound (body w me tx asked).world you ty
-    → IsSound (run w me tx asked ends).late.world you ty
-run_sound w me you tx ty asked ends sound fit other =
-    let r = body w me tx asked in
-    lates_sound r.world you ty (late_asked_of r.late ends) (answered (IsReady r.world) r.late ends
-    (leaves_ready tx (begins w me) asked sound fit (All-nil (IsReady w)))) other
 
 -- ---- the entry of a commit
 module _ (s : Standing) (job : ℕ) (t : Tx) (h : InFlight s) (sound : AreSound s) (active : IsActive s job t) (phase : t.phase ≡ Committing) where

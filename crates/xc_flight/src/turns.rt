@@ -7,7 +7,7 @@ ghost use Rattle.xc_data.specs.declared.call.Call.{Call};
 ghost use Rattle.xc_world.specs.Touch.{touch};
 ghost use Rattle.xc_world.specs.Modes.{claims_of};
 ghost use Rattle.xc_world.specs.Fits.{fits};
-ghost use Rattle.xc_world.specs.Sound.{IsFree};
+ghost use Rattle.xc_world.specs.Sound.{IsFree, IsReady};
 ghost use Rattle.xc_data.specs.Claims.{holding, held_of};
 ghost use Rattle.xc_flight.specs.Active.{Tx, num, Own, Has, HoldTheSame, Running, Committing, Undoing};
 ghost use Rattle.xc_flight.specs.Turns.{starting, seen, claiming, IsGranted, IsOpen, HasNoRival, AreCompatible, MayDo, IsNoted, noting};
@@ -98,6 +98,12 @@ pub fn a_call_without_memory_keeps_all()
 pub fn a_commit_keeps_all()
     ensures { (s : Standing) (job : ℕ) (t : Tx) → Flies s job t Running
         → InFlight (turned s job (Some (in_phase t Committing)) (seen s.now t)) }
+{}
+
+/// What a late call of a committed transaction needs is in the station's world, whoever holds it.
+pub fn a_late_call_is_ready()
+    ensures { (s : Standing) (job : ℕ) (t : Tx) (front rest : List LateCall) (call : LateCall) → Flies s job t Committing
+        → IsSoundFor s.state t → t.late ≡ front ++ call ∷ rest → IsReady s.now call }
 {}
 
 /// The next late call of a committed transaction, done in the station's world, keeps all.

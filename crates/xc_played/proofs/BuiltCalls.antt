@@ -1,11 +1,10 @@
--- The calls that scripts have so far: no other is asked, they are done at once, and their records tell all that they do.
+-- The calls that scripts have so far: no other is asked, they take no data, and their records tell all that they do.
 use Rattle.std.proofs.Common.{◌≡◌, Bool, true, false, ℕ, List, [], ◌∷◌, refl, ap, ◌∙◌, subst}
 use Rattle.std.specs.Prelude.{if◌then◌else◌}
 use Rattle.xc_data.specs.declared.call.Answer.{Answer}
 use Rattle.xc_data.specs.declared.call.Call.{Call}
 use Rattle.xc_data.specs.declared.call.Call.TheVariants as call
 use Rattle.xc_data.specs.declared.call.Reply.{Reply}
-use Rattle.xc_data.specs.declared.call.Reply.TheVariants as reply
 use Rattle.xc_data.specs.declared.private.Private.{Private}
 use Rattle.xc_host.specs.Contents.{contents_of}
 use Rattle.xc_text.specs.declared.script.Statement.{Statement}
@@ -17,7 +16,6 @@ use Rattle.xc_world.specs.World.{World}
 use Rattle.xc_world.specs.Act.{act}
 use Rattle.xc_world.specs.Effects.{takes_data, whole}
 use Rattle.xc_world.specs.Ends.{with_remains}
-use Rattle.xc_world.specs.Late.{late_call, kept_call}
 use Rattle.xc_world.specs.Run.{taken_by}
 use Rattle.xc_world.specs.Trail.{recorded}
 use Rattle.xc_world.proofs.EffectsCalls.{act-leads}
@@ -45,26 +43,7 @@ pub asked_built : (walk : Walk) (c : Call) → asks walk ≡ ask.Call c → is_b
 asked_built walk c e = subst (λ a. asks_built a ≡ true) e (left_built walk.variables walk.stored walk.left)
 
 -- ---- what they do
-kept-nil : (c : Call) (me : Private) (r : Reply) → late_call c me ≡ [] → kept_call c me r ≡ []
-kept-nil c me reply.Late e = e
-kept-nil c me _ e = refl
-
--- they are done at once
-pub built-late : (c : Call) (me : Private) (r : Reply) → is_built c ≡ true → kept_call c me r ≡ []
-built-late (call.Load at) me r is = kept-nil (call.Load at) me r refl
-built-late (call.Store at value) me r is = kept-nil (call.Store at value) me r refl
-built-late (call.XOpen name) me r is = kept-nil (call.XOpen name) me r refl
-built-late (call.XRead h n) me r is = kept-nil (call.XRead h n) me r refl
-built-late (call.XWriteOvr h bytes) me r is = kept-nil (call.XWriteOvr h bytes) me r refl
-built-late (call.XWriteSeq h bytes) me r is = kept-nil (call.XWriteSeq h bytes) me r refl
-built-late (call.XSeek h to) me r is = kept-nil (call.XSeek h to) me r refl
-built-late (call.XLen h) me r is = kept-nil (call.XLen h) me r refl
-built-late (call.XClose h) me r is = kept-nil (call.XClose h) me r refl
-built-late (call.XCreate name) me r is = kept-nil (call.XCreate name) me r refl
-built-late (call.XRename from to) me r is = kept-nil (call.XRename from to) me r refl
-built-late _ me r is = cc
-
--- and take no data
+-- they take no data
 pub built-taken : (c : Call) (me : Private) (r : Reply) → is_built c ≡ true → taken_by c me r ≡ []
 built-taken (call.XReadPipe h n) me r is = cc
 built-taken (call.XRecvmsg h) me r is = cc

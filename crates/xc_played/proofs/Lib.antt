@@ -2,6 +2,7 @@ pub mod AtRest
 pub mod BuiltCalls
 pub mod FlownJobs
 pub mod FlownLists
+pub mod NextLate
 pub mod NextRecord
 pub mod Noted
 pub mod OpenFiles
@@ -9,6 +10,7 @@ pub mod TurnAborts
 pub mod TurnBack
 pub mod TurnCalls
 pub mod TurnEnters
+pub mod TurnLate
 pub mod TurnLed
 pub mod TurnLists
 pub mod TurnParts

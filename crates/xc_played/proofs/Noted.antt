@@ -1,5 +1,5 @@
 -- What an active transaction noted is what the plain machine's body gives in the world that the journal left.
-use Rattle.std.proofs.Common.{◌≡◌, inl, inr, ℕ, ◌+◌, ◌-◌, ◌<◌, zero, suc, true, List, [], ◌∷◌, ◌++◌, Some, length, map, ap, sym, ◌∙◌, subst, refl, arith}
+use Rattle.std.proofs.Common.{◌≡◌, inl, inr, ℕ, ◌+◌, ◌-◌, ◌<◌, zero, suc, true, List, [], ◌∷◌, ◌++◌, Some, length, take, map, ap, sym, ◌∙◌, subst, refl, arith}
 use Rattle.std.specs.Prelude.{slice_get, option_map, unwrap_or, IsTrue}
 use Rattle.std.proofs.lemmas.Bool.{and_parts}
 use Rattle.std.proofs.lemmas.List.{append-nil}
@@ -7,25 +7,27 @@ use Rattle.std.proofs.lemmas.Option.{slice_get-map, slice_get_within}
 use Rattle.xc_data.specs.declared.call.Asked.{Asked}
 use Rattle.xc_data.specs.declared.entry.Cause.TheVariants as cause
 use Rattle.xc_data.specs.declared.private.Place.{Place}
+use Rattle.xc_data.specs.declared.private.Private.{Private}
 use Rattle.xc_data.specs.declared.undo.Undo.{Undo}
 use Rattle.xc_script.specs.declared.ask.Ask.{Ask}
 use Rattle.xc_script.specs.declared.ask.Ask.TheVariants as ask
-use Rattle.xc_world.specs.World.{beginning, no_handles}
+use Rattle.xc_world.specs.World.{World, beginning, no_handles}
 use Rattle.xc_world.specs.Act.{act}
 use Rattle.xc_world.specs.Ends.{Ending}
 use Rattle.xc_world.specs.Fits.{fits}
-use Rattle.xc_world.specs.Run.{Ran, asked_of, body, body_fits, goes_on}
+use Rattle.xc_world.specs.Run.{Ran, asked_of, body, body_fits, goes_on, lates, lates_fit, late_asked_of}
 use Rattle.xc_world.specs.Trail.{recorded}
 use Rattle.xc_world.proofs.Bodies.{body_keeps}
 use Rattle.xc_story.specs.declared.phase.Phase.{Phase}
 use Rattle.xc_story.specs.declared.phase.Phase.TheVariants.{Running, Committing, Undoing}
 use Rattle.xc_story.specs.Setting.{Setting}
 use Rattle.xc_story.specs.Progress.{progress_of, private_of}
-use Rattle.xc_story.specs.Played.{HoldsFor, IsPlayedSoFar, RecordsFor}
+use Rattle.xc_story.specs.Played.{HoldsFor, IsPlayedSoFar, RecordsFor, done_late, late_done}
 use Rattle.xc_story.specs.Truth.{AreLeft, AreLeftBy}
 use Rattle.xc_story.specs.Told.{AreTold, asked_of_tx}
 use Rattle.xc_story.specs.Seen.{SeenTx, SeenJob, Now, active_of}
-use Rattle.xc_played.specs.Flying.{IsUnnoted, state_of, AreFlying}
+use Rattle.xc_flight.specs.Flight.{IsPhase}
+use Rattle.xc_played.specs.Flying.{IsUnnoted, flown, flown_phase, ran_at, state_of, AreFlying}
 use Rattle.xc_played.proofs.FlownJobs.{flight_there, fits_there, rest_fits}
 
 at_place : {X : Type 0} (xs : List X) (i : ℕ) → i < length xs → (x : X) × (slice_get xs i ≡ Some x)
@@ -60,6 +62,22 @@ records_for tx r (Undoing cause.NoMemory) (ask.Call call) (a ∷ []) records was
 )
 records_for tx r p next (a ∷ us) records was fit e = absurd was
 
+-- ---- the late calls that are done
+abbrev EndSo : Ran → SeenTx → Type 0
+EndSo r tx = ((done_late r tx).ends ≡ tx.ends) × IsTrue (lates_fit r.world (late_done r tx))
+
+none_done : (r : Ran) (tx : SeenTx) → tx.ends ≡ [] → EndSo r tx
+none_done r tx none =
+    subst (λ es. ((lates r.world (late_asked_of (take (length es) r.late) es)).ends ≡ es)
+    × IsTrue (lates_fit r.world (late_asked_of (take (length es) r.late) es))) (sym none) (refl, refl)
+
+-- they ended as the plain machine's do
+end_so : (w : World) (began : Private) (us : List Asked) (tx : SeenTx) (p : Phase) → IsPhase w (flown began us tx) (flown_phase p)
+    → EndSo (ran_at w began tx) tx
+end_so w began us tx Running i = none_done (ran_at w began tx) tx i.no_late_ends
+end_so w began us tx Committing i = subst (λ (r : Ran). EndSo r tx) (ap (goes_on tx.number (ran_at w began tx)) i.all_noted) (i.ends, i.fits)
+end_so w began us tx (Undoing c) none = none_done (ran_at w began tx) tx none
+
 module _ (s : Setting) (now : Now) (told : AreTold s (length now.words) now.journal now.jobs) (all : AreFlying s now) (at : ℕ) (job : SeenJob) (tx : SeenTx)
     (there : slice_get now.jobs at ≡ Some job) (active : active_of job ≡ Some tx) where
   fresh : job.me ≡ beginning job.me.places
@@ -87,12 +105,15 @@ module _ (s : Setting) (now : Now) (told : AreTold s (length now.words) now.jour
       let w = (state_of s now).world in
       let asked = asked_of tx.calls tx.replies in
       let next = asked_of_tx s (slice_get (progress_of s.script now.journal).jobs at) tx in
+      let ended = subst (λ me. EndSo (body w me tx.number asked) tx) private (end_so w job.me (all.unnoted at) tx tx.phase i.phase) in
       let records = tx.undo.pending ++ map (λ (r : Ending). r.0) tx.undo.ended in
       record {
         fits = subst (λ me. IsTrue (body_fits w me tx.number asked)) private (fits_there s now all at job tx there active);
         replies = ap (λ me. (body w me tx.number asked).replies) (sym private) ∙ i.replies;
         me = ap (λ me. (body w me tx.number asked).me) (sym private) ∙ i.me;
         late = ap (λ me. (body w me tx.number asked).late) (sym private) ∙ i.late;
+        ends = ended.0;
+        late_fits = ended.1;
         records = subst (λ me. RecordsFor (body w me tx.number asked) tx.number next tx.phase records) private
             (records_for tx.number (body w job.me tx.number asked) tx.phase next (all.unnoted at) records (all.was_asked at tx (job, there, active))
             (rest_fits s now all at job tx there active) i.trail);

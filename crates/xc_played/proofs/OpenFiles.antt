@@ -31,6 +31,7 @@ use Rattle.xc_flight.specs.Standing.{active_at, OwnSome, OwnAt}
 use Rattle.xc_flight.proofs.Basics.{has_decide, owns_has}
 use Rattle.xc_flight.proofs.Frames.{ran_keeps, ran_whole}
 use Rattle.xc_flight.proofs.Calling.{all_noted, sees}
+use Rattle.xc_flight.proofs.LateReady.{done_sound}
 use Rattle.xc_played.specs.Flying.{flown, flown_phase, state_of, standing, world_now, AreFlying}
 use Rattle.xc_played.proofs.FlownJobs.{flies_there, flight_there, sound_there, fits_there, made_there}
 use Rattle.xc_played.proofs.FlownLists.{flown_back}
@@ -116,7 +117,11 @@ module _ (s : Setting) (now : Now) (all : AreFlying s now) (at : ℕ) (job : See
 
   left_within : (num : Num) → IsWithin (finite.get state.files num) → (p : Phase) → IsWithin (finite.get (left state mine p).files num)
   left_within num within Running = body_within num within
-  left_within num within Committing = body_within num within
+  left_within num within Committing =
+      let begun = all.flies.begun at mine (flies_there s now all at job tx there active) in
+      file_within (left state mine Committing) num (begun_count now + 1)
+      (done_sound state mine (flight_there s now all at job tx there active).inside (sound_there s now all at job tx there active)
+      (looking num) (begun_count now + 1) (λ e. omega (arith, begun, e)) (look_sound num within))
   left_within num within Undoing =
       let stays = standing_fit state tx.undo.pending tx.undo.ended (made_there s now all at job tx there active)
       (sound_there s now all at job tx there active).world in

@@ -1,7 +1,7 @@
 -- A transaction that goes over to its commit or to its way back, or compensates, keeps all flights.
 use Rattle.std.proofs.Common.{◌≡◌, ℕ, ◌==◌, Bool, true, false, List, [], ◌∷◌, ◌++◌, refl, ap, sym, ◌∙◌, subst, Some, None}
 use Rattle.std.proofs.Common.{Option}
-use Rattle.std.specs.Prelude.{All, map, slice_get, slice_set, if◌then◌else◌}
+use Rattle.std.specs.Prelude.{map, slice_get, slice_set, if◌then◌else◌}
 use Rattle.std.proofs.lemmas.List.{append-nil}
 use Rattle.std.specs.FinMap as finite
 use Rattle.xc_data.specs.declared.claim.Claim.{Claim}
@@ -30,7 +30,7 @@ use Rattle.xc_story.specs.Progress.{Progress}
 use Rattle.xc_story.specs.Played.{HoldsFor}
 use Rattle.xc_story.specs.Told.{asked_of_tx}
 use Rattle.xc_story.specs.Seen.{SeenTx, SeenJob, Active, active_in}
-use Rattle.xc_story.specs.Rows.{is_built, with_tx}
+use Rattle.xc_story.specs.Rows.{with_tx}
 use Rattle.xc_flight.specs.Active.{Tx, HoldTheSame}
 use Rattle.xc_flight.specs.Active as flight
 use Rattle.xc_flight.specs.Standing.{Standing, InFlight, IsActive, turned}
@@ -111,9 +111,6 @@ module _ (s : Setting) (p : Progress) (words : List ℕ) (contents : Contents) (
   active : IsActive standing at tx_flown
   active = flown_there f.unnoted jobs at job tx there doing
 
-  built : All (λ call. is_built call ≡ true) tx.calls
-  built = f.built at job tx there (ap active_in doing)
-
   held : tx.phase ≡ Running → tx.held ≡ held_of ran.touched
   held runs = subst (λ ph. HoldsFor ran asked_next ph tx.held) runs (f.holds at job tx there (ap active_in doing))
 
@@ -131,7 +128,7 @@ module _ (s : Setting) (p : Progress) (words : List ℕ) (contents : Contents) (
       goes_on s p words words contents contents jobs next at (f.unnoted at) job place tx (record tx { phase = Undoing c }) there doing refl f
       (turns_back standing at tx_flown f.flies active (running runs) (f.sound at tx_flown active))
       (none_unnoted (Undoing c) (asked_of_tx s (slice_get p.jobs at) (record tx { phase = Undoing c })) (f.unnoted at) (noted_so runs))
-      (holds_at ran (asked_of_tx s (slice_get p.jobs at) (record tx { phase = Undoing c })) (Undoing c) tx.held (held runs)) built
+      (holds_at ran (asked_of_tx s (slice_get p.jobs at) (record tx { phase = Undoing c })) (Undoing c) tx.held (held runs))
 
   -- it commits
   pub commit_keeps : tx.phase ≡ Running
@@ -140,7 +137,7 @@ module _ (s : Setting) (p : Progress) (words : List ℕ) (contents : Contents) (
       goes_on s p words (overlaid words tx.writes) contents contents jobs next at (f.unnoted at) job place tx (record tx { phase = Committing }) there
       doing refl f (commits standing at tx_flown f.flies active (running runs))
       (none_unnoted Committing (asked_of_tx s (slice_get p.jobs at) (record tx { phase = Committing })) (f.unnoted at) (noted_so runs))
-      (held runs) built
+      (held runs)
 
   -- a record is tried
   pub tried_keeps : (c : Cause) (older : List Undo) (u : Undo) (end : UndoEnd) (contents' : Contents) → tx.phase ≡ Undoing c
@@ -160,4 +157,4 @@ module _ (s : Setting) (p : Progress) (words : List ℕ) (contents : Contents) (
       (subst (λ v. InFlight (turned standing at (Some (flown job.me (f.unnoted at) tx')) v)) leads done)
       (subst (λ a. IsUnnoted tx.phase a (f.unnoted at)) (asked_same s (slice_get p.jobs at) tx tx' refl)
       (f.was_asked at job tx there (ap active_in doing)))
-      (subst (λ a. HoldsFor ran a tx.phase tx.held) (asked_same s (slice_get p.jobs at) tx tx' refl) (f.holds at job tx there (ap active_in doing))) built
+      (subst (λ a. HoldsFor ran a tx.phase tx.held) (asked_same s (slice_get p.jobs at) tx tx' refl) (f.holds at job tx there (ap active_in doing)))

@@ -1,7 +1,7 @@
 -- A call that is done and noted keeps all flights.
 use Rattle.std.proofs.Common.{◌≡◌, ℕ, inl, inr, Bool, true, false, List, [], ◌∷◌, ◌++◌, length, refl, ap, sym, ◌∙◌, subst, arith, Some, suc}
 use Rattle.std.specs.Prelude.{All, Contains, map, slice_get, slice_set, nat_lt, nat_le, if◌then◌else◌}
-use Rattle.std.proofs.lemmas.List.Elements.{All-nil, All-cons, All-weaker, All-append, All-push, Contains-append_left, Contains-append_right, filter_map-append}
+use Rattle.std.proofs.lemmas.List.Elements.{All-nil, All-cons, All-weaker, All-append, Contains-append_left, Contains-append_right, filter_map-append}
 use Rattle.std.proofs.lemmas.Bool.Decides.{nat_tests}
 use Rattle.std.proofs.lemmas.List.Sums.{fold-append}
 use Rattle.xc_data.specs.declared.call.Asked.{Asked}
@@ -43,7 +43,7 @@ use Rattle.xc_flight.specs.Turns as turns
 use Rattle.xc_flight.proofs.Claiming.{merged_held}
 use Rattle.xc_flight.proofs.Together.{called_with_claims}
 use Rattle.xc_played.specs.Flying.{flown, flown_phase, ran_at}
-use Rattle.xc_played.proofs.BuiltCalls.{built-late, built-taken}
+use Rattle.xc_played.proofs.BuiltCalls.{built-taken}
 use Rattle.xc_played.proofs.FlownLists.{flown_there, none_unnoted}
 use Rattle.xc_played.proofs.TurnParts.{Flying, world_in, standing_in, goes_on}
 use Rattle.xc_played.proofs.TurnRivals.{no_rivals}
@@ -123,7 +123,7 @@ module _ (w : World) (words : List ℕ) (was is : Contents) (us : List Asked) (j
     ended = sym go.ended i;
     taken = taken i;
     late = late i;
-    late_ends = [];
+    late_ends = tx.ends;
   }
     where
       pending : tx.undo.pending ++ recorded (turns.seen now t) tx.me tx.number c (did now (claiming t after.held) (asked_with c reply)).reply
@@ -133,8 +133,8 @@ module _ (w : World) (words : List ℕ) (was is : Contents) (us : List Asked) (j
       taken : taken_by c tx.me (did now (claiming t after.held) (asked_with c reply)).reply ≡ []
       taken = built-taken c tx.me (did now (claiming t after.held) (asked_with c reply)).reply go.built
 
-      late : kept_call c tx.me (did now (claiming t after.held) (asked_with c reply)).reply ≡ []
-      late = built-late c tx.me (did now (claiming t after.held) (asked_with c reply)).reply go.built
+      late : tx.late ++ kept_call c tx.me (did now (claiming t after.held) (asked_with c reply)).reply ≡ tx.late ++ kept_call c tx.me reply
+      late = ap (λ (s : Stepped). tx.late ++ kept_call c tx.me s.reply) acts
 
   moved_so : after_call now t (asked_with c reply) ≡ world_in w words is
   moved_so = ap (λ (s : Stepped). record s.world { words = words }) acts
@@ -230,4 +230,3 @@ module _ (s : Setting) (p : Progress) (words : List ℕ) (was is : Contents) (jo
       goes_on s p words words was is jobs next at (f.unnoted at) job place tx behind there doing refl f (flies alone stores)
       (none_unnoted tx.phase (asked_of_tx s (slice_get p.jobs at) behind) (f.unnoted at) flies_so.all_noted)
       (subst (λ ph. HoldsFor (ran_at p.state.world job.me behind) (asked_of_tx s (slice_get p.jobs at) behind) ph behind.held) (sym runs) (held_behind count))
-      (All-push (λ call. is_built call ≡ true) tx.calls c (f.built at job tx there (ap active_in doing)) go.built)

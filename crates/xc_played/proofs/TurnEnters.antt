@@ -1,7 +1,6 @@
 -- The entry of an active transaction keeps all flights.
-use Rattle.std.proofs.Common.{⊎_elim, ◌≡◌, ◌≢◌, true, ℕ, inl, inr, List, [], ◌++◌, length, refl, ap, sym, ◌∙◌, subst, Some, None}
-use Rattle.std.specs.Prelude.{All, map, slice_get, slice_set}
-use Rattle.xc_data.specs.declared.call.LateCall.{LateCall}
+use Rattle.std.proofs.Common.{⊎_elim, ◌≡◌, ◌≢◌, ℕ, inl, inr, List, [], ◌++◌, length, refl, ap, sym, ◌∙◌, subst, Some, None}
+use Rattle.std.specs.Prelude.{map, slice_get, slice_set}
 use Rattle.xc_data.specs.declared.claim.Claim.{Claim}
 use Rattle.xc_data.specs.declared.entry.Cause.TheVariants as cause
 use Rattle.xc_data.specs.declared.object.Object.{Object}
@@ -14,7 +13,7 @@ use Rattle.xc_script.specs.declared.ask.Ask.TheVariants as ask
 use Rattle.xc_world.specs.World.{World}
 use Rattle.xc_world.specs.Modes.{claims_of}
 use Rattle.xc_world.specs.Own.{AgreeOn, Sees, Owns}
-use Rattle.xc_world.specs.Run.{Ran, asked_of, goes_on, lates, late_asked_of}
+use Rattle.xc_world.specs.Run.{Ran, asked_of, goes_on}
 use Rattle.xc_world.proofs.Bodies.{keeps_touched}
 use Rattle.xc_world.proofs.Runs.{other_run_apart}
 use Rattle.xc_story.specs.declared.phase.Phase.{Phase}
@@ -25,14 +24,13 @@ use Rattle.xc_story.specs.Played.{HoldsFor}
 use Rattle.xc_story.specs.Told.{asked_of_tx}
 use Rattle.xc_story.specs.Truth.{IsPartOf, next_claims}
 use Rattle.xc_story.specs.Seen.{SeenTx, SeenJob, Active, active_of}
-use Rattle.xc_story.specs.Rows.{is_built}
 use Rattle.xc_flight.specs.Active.{Tx, Has, Own, Covers}
 use Rattle.xc_flight.specs.Active as flight
 use Rattle.xc_flight.specs.Flight.{IsCommitting, IsPhase, ran, left, returned}
 use Rattle.xc_flight.specs.Standing.{Standing, InFlight, IsActive, AreSound, HasSome, OwnSome, IsIdleSound, entered}
 use Rattle.xc_flight.specs.Turns.{after_commit}
 use Rattle.xc_flight.proofs.Basics.{own_decide, owns_own}
-use Rattle.xc_flight.proofs.Ending.{committed}
+use Rattle.xc_flight.proofs.Ending.{committed, left_run}
 use Rattle.xc_flight.proofs.Frames.{left_keeps}
 use Rattle.xc_flight.proofs.Sounding.{sound_after, idle_after, own_after}
 use Rattle.xc_played.specs.Flying.{IsUnnoted, flown, flown_jobs, flown_phase, ran_at}
@@ -103,7 +101,6 @@ enters s p p' words contents jobs next at job job' there none block f l =
     let Idle_so : ℕ → SeenJob → Type 0 = λ j other. active_of other ≡ None → IsIdleSound w' next other.me.places in
     let Holds_so : ℕ → SeenJob → Type 0 = λ j other. (u : SeenTx) → active_of other ≡ Some u
     → HoldsFor (ran_at w' other.me u) (asked_of_tx s (slice_get p'.jobs j) u) u.phase u.held in
-    let Built_so : ℕ → SeenJob → Type 0 = λ j other. (u : SeenTx) → active_of other ≡ Some u → All (λ call. is_built call ≡ true) u.calls in
     record {
       unnoted = unnoted;
       was_asked = λ j other u e a. put_cases jobs at job job' Asked_so there (λ u e. absurd (cc (none, e)))
@@ -120,8 +117,6 @@ enters s p p' words contents jobs next at job job' there none block f l =
           (holds_alike (ran_at w other.me u) (ran_at w' other.me u) (asked_of_tx s (slice_get p.jobs j) u) u.phase u.held (l.bodies j other u ne e a)
           (f.holds j other u e a)))
           j other e u a;
-      built = λ j other u e a. put_cases jobs at job job' Built_so there (λ u e. absurd (cc (none, e)))
-          (λ j other ne e u a. f.built j other u e a) j other e u a;
     }
 
 -- ---- what one has and another owns
@@ -173,39 +168,37 @@ module _ (s : Setting) (p : Progress) (words : List ℕ) (contents : Contents) (
       owns_own tx_flown run_body.touched
       (subst (λ (r : Ran). Covers tx.held r.touched) (all_noted commits) (f.flies.flights at tx_flown active).inside.covers) o owns
 
-  -- its body leads there
-  pub body_leads : run_body.world ≡ behind
-  body_leads =
-      let late : run_body.late ≡ [] = (f.flies.flights at tx_flown active).inside.late in
-      ap (λ (calls : List LateCall). (lates run_body.world (late_asked_of calls [])).world) (sym late)
+  -- where each late call has its end it left what its run leads to
+  run_leads : tx.phase ≡ Committing → length tx.ends ≡ length tx.late → left p.state.world tx_flown flight.Committing ≡ behind
+  run_leads commits done = left_run p.state.world tx_flown (f.flies.flights at tx_flown active).inside (ap flown_phase commits) done
 
   -- it starts nothing
-  commit_started : tx.phase ≡ Committing → p.state.world.started ≡ behind.started
-  commit_started commits =
+  commit_started : tx.phase ≡ Committing → length tx.ends ≡ length tx.late → p.state.world.started ≡ behind.started
+  commit_started commits done =
       let flies = f.flies.flights at tx_flown active in
       let there_so : AgreeOn (Own tx_flown) standing.now (left p.state.world tx_flown flight.Committing) =
       subst (λ q. AgreeOn (Own tx_flown) (returned standing.now tx_flown q) (left p.state.world tx_flown q)) (ap flown_phase commits) flies.owns in
       ⊎_elim (there_so object.Jobs) ((left_keeps p.state.world tx_flown flies.inside flight.Committing).others object.Jobs) (own_decide tx_flown object.Jobs)
-      ∙ ap (λ (r : Ran). r.world.started) (all_noted commits) ∙ ap (λ (v : World). v.started) body_leads
+      ∙ ap (λ (v : World). v.started) (run_leads commits done)
 
-  commit_bodies : (j : ℕ) (other : SeenJob) (u : SeenTx) → tx.phase ≡ Committing → j ≢ at → slice_get jobs j ≡ Some other → active_of other ≡ Some u
-      → GivesSame (ran_at p.state.world other.me u) (ran_at behind other.me u)
-  commit_bodies j other u commits ne here does =
+  commit_bodies : (j : ℕ) (other : SeenJob) (u : SeenTx) → tx.phase ≡ Committing → length tx.ends ≡ length tx.late → j ≢ at
+      → slice_get jobs j ≡ Some other → active_of other ≡ Some u → GivesSame (ran_at p.state.world other.me u) (ran_at behind other.me u)
+  commit_bodies j other u commits done ne here does =
       let w = p.state.world in
-      let alike = other_run_apart w other.me job.me u.number tx.number (asked_of u.calls u.replies) (asked_of tx.calls tx.replies) []
+      let alike = other_run_apart w other.me job.me u.number tx.number (asked_of u.calls u.replies) (asked_of tx.calls tx.replies) tx.ends
       (λ o sees owns. apart_of s p words contents jobs next at j job other tx u there doing here (is_active other.doing u does) ne f o sees
       (own_so commits o owns)) in
-      let after = committed standing at tx_flown f.flies active (ap flown_phase commits) refl in
+      let after = committed standing at tx_flown f.flies active (ap flown_phase commits) done in
       record { me = alike.gave.me; touched = alike.gave.touched; count = alike.left.count ∙ sym f.flies.count ∙ after.count ∙ sym alike.right.count }
 
   -- what it leads to
-  pub commit_leads : (p' : Progress) (job' : SeenJob) → tx.phase ≡ Committing → p'.state.world ≡ behind
+  pub commit_leads : (p' : Progress) (job' : SeenJob) → tx.phase ≡ Committing → length tx.ends ≡ length tx.late → p'.state.world ≡ behind
       → p'.state.handles ≡ map (λ (job : SeenJob). job.me.places) (slice_set jobs at job') → ((j : ℕ) → j ≢ at → slice_get p'.jobs j ≡ slice_get p.jobs j)
       → job'.me.places ≡ tx.me.places → Leads p p' standing jobs at job'
-  commit_leads p' job' commits is handles followings places =
+  commit_leads p' job' commits done is handles followings places =
       let w = p.state.world in
       let phase = ap flown_phase commits in
-      let after = committed standing at tx_flown f.flies active phase refl in
+      let after = committed standing at tx_flown f.flies active phase done in
       record {
         flies = subst (λ v. InFlight (entered standing at v standing.now)) (sym is) after;
         sound = subst (λ v. AreSound (entered standing at v standing.now)) (sym is)
@@ -213,9 +206,9 @@ module _ (s : Setting) (p : Progress) (words : List ℕ) (contents : Contents) (
         others = λ places sound. subst (λ v. IsIdleSound v next places) (sym is) (idle_after standing at tx_flown f.flies f.sound active phase places sound);
         own = subst (λ v. IsIdleSound v next job'.me.places) (sym is) (subst (IsIdleSound behind next) (sym places)
             (own_after standing at tx_flown f.flies f.sound active phase standing.now after));
-        started = commit_started commits ∙ ap (λ (v : World). v.started) (sym is);
+        started = commit_started commits done ∙ ap (λ (v : World). v.started) (sym is);
         handles = handles;
         followings = followings;
         bodies = λ j other u ne here does. subst (λ v. GivesSame (ran_at w other.me u) (ran_at v other.me u)) (sym is)
-            (commit_bodies j other u commits ne here does);
+            (commit_bodies j other u commits done ne here does);
       }

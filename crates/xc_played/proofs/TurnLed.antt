@@ -1,10 +1,10 @@
 -- What one entry more leads to.
-use Rattle.std.proofs.Common.{◌≡◌, ◌≢◌, ℕ, ◌+◌, ◌-◌, List, [], ◌∷◌, ◌++◌, length, refl, ap, sym, ◌∙◌, arith, Some}
+use Rattle.std.proofs.Common.{◌≡◌, ◌≢◌, true, ℕ, ◌+◌, ◌-◌, List, [], ◌∷◌, ◌++◌, length, ap, sym, ◌∙◌, arith, Some}
+use Rattle.std.specs.List.{list_all}
 use Rattle.std.specs.Prelude.{map, replicate, slice_get, slice_set, unwrap_or}
 use Rattle.std.proofs.lemmas.List.{append-nil}
 use Rattle.std.proofs.lemmas.List.Sums.{fold_push}
 use Rattle.xc_data.specs.declared.call.Asked.{Asked}
-use Rattle.xc_data.specs.declared.call.Call.{Call}
 use Rattle.xc_data.specs.declared.entry.Cause.{Cause}
 use Rattle.xc_data.specs.declared.entry.Entry.{Entry}
 use Rattle.xc_data.specs.declared.entry.Outcome.{Outcome}
@@ -15,10 +15,11 @@ use Rattle.xc_text.specs.declared.script.Script.{Script}
 use Rattle.xc_script.specs.Ask.{passed}
 use Rattle.xc_world.specs.World.{beginning, no_handles}
 use Rattle.xc_world.specs.Run.{asked_of, body, run}
-use Rattle.xc_story.specs.Progress.{Following, Progress, untried, private_of, kept_of, started_blocks, started_job}
+use Rattle.xc_story.specs.Progress.{Following, Progress, untried, private_of, started_job}
 use Rattle.xc_story.specs.Progress.{following_abort, after_outcome, after_following, words_left, after_entry, opening_progress, progress_of}
 use Rattle.xc_story.specs.Seen.{SeenTx, SeenJob}
-use Rattle.xc_story.specs.Rows.{entry_of}
+use Rattle.xc_story.specs.Rows.{entry_of, is_built}
+use Rattle.xc_story.proofs.KeptCalls.{kept_starts}
 use Rattle.xc_flight.specs.Turns.{after_commit as world_after_commit, after_abort as world_after_abort}
 use Rattle.xc_played.specs.Flying.{flown, ran_at}
 use Rattle.xc_played.proofs.TurnLists.{get_put_other, get_map, map-put, map-put_same}
@@ -57,37 +58,32 @@ module _ (script : Script) (p : Progress) (f : Following) (jobs : List SeenJob) 
 
   -- ---- of a commit
   abbrev committed : Entry
-  committed = entry_of tx at (Committed [])
-
-  none_started : (calls : List Call) → started_blocks calls [] ≡ []
-  none_started [] = refl
-  none_started (c ∷ calls) = refl
+  committed = entry_of tx at (Committed tx.ends)
 
   abbrev behind : Following
   behind = untried f.block (passed script f.job tx.replies) (p.entered + 1)
 
   -- the world is its run's
   pub commit_world : (us : List Asked) → (after_entry script p committed).state.world ≡ world_after_commit p.state.world (flown job.me us tx)
-  commit_world us = ap (λ (q : Progress). q.state.world) (led_by (Committed []))
-      ∙ ap (λ m. (run p.state.world m tx.number (asked_of tx.calls tx.replies) []).late.world) private_is
+  commit_world us = ap (λ (q : Progress). q.state.world) (led_by (Committed tx.ends))
+      ∙ ap (λ m. (run p.state.world m tx.number (asked_of tx.calls tx.replies) tx.ends).late.world) private_is
 
   -- the handles are those of its end
-  pub commit_handles : (job' : SeenJob) → (ran_at p.state.world job.me tx).me ≡ tx.me → job'.me.places ≡ tx.me.places
+  pub commit_handles : (job' : SeenJob) → list_all is_built tx.calls ≡ true → (ran_at p.state.world job.me tx).me ≡ tx.me → job'.me.places ≡ tx.me.places
       → (after_entry script p committed).state.handles ≡ map (λ (job : SeenJob). job.me.places) (slice_set jobs at job')
-  commit_handles job' me places =
-      let blocks = started_blocks (kept_of tx.calls tx.replies) [] in
+  commit_handles job' built me places =
       let end : Private → List Handle = λ m. (body p.state.world m tx.number (asked_of tx.calls tx.replies)).me.places in
       let mine : end (private_of p.state (at + 1)) ≡ job'.me.places = ap end private_is ∙ ap (λ (m : Private). m.places) me ∙ sym places in
-      ap (λ (q : Progress). q.state.handles) (led_by (Committed []))
-      ∙ (λ i. slice_set (handles i) (back_one at i) (mine i) ++ replicate (length (none_started (kept_of tx.calls tx.replies) i)) (mine i))
+      ap (λ (q : Progress). q.state.handles) (led_by (Committed tx.ends))
+      ∙ (λ i. slice_set (handles i) (back_one at i) (mine i) ++ replicate (length (kept_starts tx.calls tx.replies tx.ends built i)) (mine i))
       ∙ append-nil (slice_set (map places_of jobs) at job'.me.places) ∙ sym (map-put places_of jobs at job')
 
   -- the other jobs stay
-  pub commit_followings : (j : ℕ) → j ≢ at → slice_get (after_entry script p committed).jobs j ≡ slice_get p.jobs j
-  commit_followings j ne =
+  pub commit_followings : list_all is_built tx.calls ≡ true → (j : ℕ) → j ≢ at → slice_get (after_entry script p committed).jobs j ≡ slice_get p.jobs j
+  commit_followings built j ne =
       let to = started_job script (passed script f.job tx.replies) (p.entered + 1) in
-      ap (λ (q : Progress). slice_get q.jobs j) (led_by (Committed []))
-      ∙ (λ i. slice_get (slice_set p.jobs (at + 1 - 1) behind ++ map to (none_started (kept_of tx.calls tx.replies) i)) j)
+      ap (λ (q : Progress). slice_get q.jobs j) (led_by (Committed tx.ends))
+      ∙ (λ i. slice_get (slice_set p.jobs (at + 1 - 1) behind ++ map to (kept_starts tx.calls tx.replies tx.ends built i)) j)
       ∙ ap (λ l. slice_get l j) (append-nil (slice_set p.jobs (at + 1 - 1) behind)) ∙ others_follow behind j ne
 
   -- ---- of an abort

@@ -1,7 +1,6 @@
 -- A station's jobs in flight, behind a journal that has led somewhere.
-use Rattle.std.proofs.Common.{◌≡◌, ◌≢◌, ℕ, ◌+◌, ◌<◌, ◌≤◌, true, List, [], length, refl, ap, sym, ◌∙◌, subst, arith, Option, Some, None}
-use Rattle.std.specs.Prelude.{All, map, slice_get, slice_set}
-use Rattle.std.proofs.lemmas.List.Elements.{All-nil}
+use Rattle.std.proofs.Common.{◌≡◌, ◌≢◌, ℕ, ◌+◌, ◌<◌, ◌≤◌, List, [], length, refl, ap, sym, ◌∙◌, subst, arith, Option, Some, None}
+use Rattle.std.specs.Prelude.{map, slice_get, slice_set}
 use mathlib.Core.Logic.{dite}
 use native.Mathlib.Decide.{ℕ_discrete}
 use Rattle.xc_data.specs.declared.call.Asked.{Asked}
@@ -15,7 +14,7 @@ use Rattle.xc_story.specs.Played.{HoldsFor}
 use Rattle.xc_story.specs.Told.{asked_of_tx, AreTold, IsJobTold}
 use Rattle.xc_story.specs.Truth.{next_of}
 use Rattle.xc_story.specs.Seen.{SeenTx, SeenJob, Active, Now, active_of, begun_count}
-use Rattle.xc_story.specs.Rows.{is_built, new_tx, with_tx}
+use Rattle.xc_story.specs.Rows.{new_tx, with_tx}
 use Rattle.xc_flight.specs.Active.{Tx}
 use Rattle.xc_flight.specs.Standing.{Standing, InFlight, AreSound, IsIdleSound, begun, turned}
 use Rattle.xc_flight.specs.Turns.{starting}
@@ -45,8 +44,6 @@ pub record Flying (s : Setting) (p : Progress) (words : List ℕ) (contents : Co
   pub started : p.state.world.started ≡ map (λ (job : SeenJob). job.block) jobs
   pub holds : (at : ℕ) (job : SeenJob) (tx : SeenTx) → slice_get jobs at ≡ Some job → active_of job ≡ Some tx
       → HoldsFor (ran_at p.state.world job.me tx) (asked_of_tx s (slice_get p.jobs at) tx) tx.phase tx.held
-  pub built : (at : ℕ) (job : SeenJob) (tx : SeenTx) → slice_get jobs at ≡ Some job → active_of job ≡ Some tx
-      → All (λ call. is_built call ≡ true) tx.calls
 
 -- of a station
 pub flying_of : (s : Setting) (now : Now) → AreFlying s now
@@ -61,7 +58,6 @@ flying_of s now f =
       handles = f.handles;
       started = f.started;
       holds = f.holds;
-      built = λ at job tx there is. f.built at tx (job, there, is);
     }
 
 -- and back
@@ -77,7 +73,6 @@ flying_from s now f =
       handles = f.handles;
       started = f.started;
       holds = f.holds;
-      built = λ at tx there. f.built at there.0 tx there.1 there.2;
     }
 
 -- ---- what the journal tells of a job
@@ -106,7 +101,6 @@ pub record Right (s : Setting) (p : Progress) (next at : ℕ) (us : List Asked) 
   pub idle : active_of job ≡ None → IsIdleSound p.state.world next job.me.places
   pub holds : (tx : SeenTx) → active_of job ≡ Some tx
       → HoldsFor (ran_at p.state.world job.me tx) (asked_of_tx s (slice_get p.jobs at) tx) tx.phase tx.held
-  pub built : (tx : SeenTx) → active_of job ≡ Some tx → All (λ call. is_built call ≡ true) tx.calls
 
 -- the others, by place
 pub put_cases : (jobs : List SeenJob) (at : ℕ) (job job' : SeenJob) (P : ℕ → SeenJob → Type 0) → slice_get jobs at ≡ Some job → P at job'
@@ -131,7 +125,6 @@ changed s p words words' contents contents' jobs next next' at us job job' there
     let Idle_so : ℕ → SeenJob → Type 0 = λ j other. active_of other ≡ None → IsIdleSound w next' other.me.places in
     let Holds_so : ℕ → SeenJob → Type 0 = λ j other. (u : SeenTx) → active_of other ≡ Some u
     → HoldsFor (ran_at w other.me u) (asked_of_tx s (slice_get p.jobs j) u) u.phase u.held in
-    let Built_so : ℕ → SeenJob → Type 0 = λ j other. (u : SeenTx) → active_of other ≡ Some u → All (λ call. is_built call ≡ true) u.calls in
     let Asked_so : ℕ → SeenJob → Type 0 = λ j other. (u : SeenTx) → active_of other ≡ Some u
     → IsUnnoted u.phase (asked_of_tx s (slice_get p.jobs j) u) (put_in f.unnoted at us j) in
     record {
@@ -146,7 +139,6 @@ changed s p words words' contents contents' jobs next next' at us job job' there
       handles = f.handles ∙ sym (map-put_same (λ (job : SeenJob). job.me.places) jobs at job' job there (ap (λ (m : Private). m.places) me));
       started = f.started ∙ sym (map-put_same (λ (job : SeenJob). job.block) jobs at job' job there block);
       holds = λ j other u e a. put_cases jobs at job job' Holds_so there right.holds (λ j other ne e u a. f.holds j other u e a) j other e u a;
-      built = λ j other u e a. put_cases jobs at job job' Built_so there right.built (λ j other ne e u a. f.built j other u e a) j other e u a;
     }
 
 -- ---- the job's transaction goes on
@@ -156,16 +148,14 @@ active_one job place tx u e = cc e
 -- what is true of an active transaction
 pub right_active : (s : Setting) (p : Progress) (next at : ℕ) (us : List Asked) (job : SeenJob) (place : Place) (tx : SeenTx)
     → IsUnnoted tx.phase (asked_of_tx s (slice_get p.jobs at) tx) us
-    → HoldsFor (ran_at p.state.world job.me tx) (asked_of_tx s (slice_get p.jobs at) tx) tx.phase tx.held
-    → All (λ call. is_built call ≡ true) tx.calls → Right s p next at us (with_tx job place tx)
-right_active s p next at us job place tx asked holds built =
+    → HoldsFor (ran_at p.state.world job.me tx) (asked_of_tx s (slice_get p.jobs at) tx) tx.phase tx.held → Right s p next at us (with_tx job place tx)
+right_active s p next at us job place tx asked holds =
     let w = p.state.world in
     record {
       was_asked = λ u e. subst (λ (v : SeenTx). IsUnnoted v.phase (asked_of_tx s (slice_get p.jobs at) v) us) (active_one job place tx u e) asked;
       idle = λ none. cc none;
       holds = λ u e. subst (λ (v : SeenTx). HoldsFor (ran_at w job.me v) (asked_of_tx s (slice_get p.jobs at) v) v.phase v.held)
           (active_one job place tx u e) holds;
-      built = λ u e. subst (λ (v : SeenTx). All (λ call. is_built call ≡ true) v.calls) (active_one job place tx u e) built;
     }
 
 -- it keeps all, where it keeps the flights
@@ -176,9 +166,8 @@ pub goes_on : (s : Setting) (p : Progress) (words words' : List ℕ) (contents c
     (world_in p.state.world words' contents'))
     → IsUnnoted tx'.phase (asked_of_tx s (slice_get p.jobs at) tx') us
     → HoldsFor (ran_at p.state.world job.me tx') (asked_of_tx s (slice_get p.jobs at) tx') tx'.phase tx'.held
-    → All (λ call. is_built call ≡ true) tx'.calls
     → Flying s p words' contents' (slice_set jobs at (with_tx job place tx')) next
-goes_on s p words words' contents contents' jobs next at us job place tx tx' there is number f flies asked holds built =
+goes_on s p words words' contents contents' jobs next at us job place tx tx' there is number f flies asked holds =
     let w = p.state.world in
     let job' : SeenJob = with_tx job place tx' in
     let put : flown_jobs (put_in f.unnoted at us) (slice_set jobs at job') ≡ slice_set (flown_jobs f.unnoted jobs) at (Some (flown job.me us tx')) =
@@ -190,7 +179,7 @@ goes_on s p words words' contents contents' jobs next at us job place tx tx' the
     changed s p words words' contents contents' jobs next next at us job job' there (omega arith) refl refl f
     (subst (λ active. InFlight (behind active)) (sym put) flies)
     (subst (λ active. AreSound (behind active)) (sym put) sound)
-    (right_active s p next at us job place tx' asked holds built)
+    (right_active s p next at us job place tx' asked holds)
 
 -- ---- an idle job
 -- what is true of a job without a transaction
@@ -201,7 +190,6 @@ right_idle s p next at us job none sound =
       was_asked = λ u e. absurd (cc (none, e));
       idle = λ same. sound;
       holds = λ u e. absurd (cc (none, e));
-      built = λ u e. absurd (cc (none, e));
     }
 
 -- it goes on without one
@@ -242,4 +230,4 @@ begins_next s p words contents jobs next at job place rank began there none fres
     changed s p words words contents contents jobs next (next + 1) at [] job job' there (omega arith) refl refl f
     (subst (λ active. InFlight (behind active)) (sym put) flies)
     (subst (λ active. AreSound (behind active)) (sym put) sound)
-    (right_active s p (next + 1) at [] job place tx tt refl (All-nil (λ call. is_built call ≡ true)))
+    (right_active s p (next + 1) at [] job place tx tt refl)

@@ -1,7 +1,9 @@
 -- Each row of the table of turns keeps the flights of all.
-use Rattle.std.proofs.Common.{◌≡◌, ℕ, ◌+◌, List, [], ◌∷◌, length, refl, ap, sym, ◌∙◌, subst, arith, IsTrue, Option, Some, None, length-append}
+use Rattle.std.proofs.Common.{◌≡◌, ℕ, ◌+◌, List, [], ◌∷◌, ◌++◌, length, refl, ap, sym, ◌∙◌, subst, arith, IsTrue, Option, Some, None}
+use Rattle.std.proofs.Common.{length-append, length-drop}
 use Rattle.std.specs.Prelude.{slice_get, slice_set}
 use Rattle.xc_data.specs.declared.call.Call.{Call}
+use Rattle.xc_data.specs.declared.call.LateCall.{LateCall}
 use Rattle.xc_data.specs.declared.entry.Cause.{Cause}
 use Rattle.xc_data.specs.declared.entry.Cause.TheVariants as cause
 use Rattle.xc_data.specs.declared.entry.Entry.{Entry}
@@ -14,16 +16,17 @@ use Rattle.xc_txmem.specs.Overlay.{overlaid}
 use Rattle.xc_story.specs.declared.phase.Phase.TheVariants.{Running, Committing, Undoing}
 use Rattle.xc_story.specs.Setting.{Setting}
 use Rattle.xc_story.specs.Progress.{Progress, progress_of, after_entry}
-use Rattle.xc_story.specs.Told.{asked_of_tx, AreTold, IsDoing, IsInPhase, IsRunning, IsUnderway}
-use Rattle.xc_story.specs.Seen.{SeenTx, SeenJob, Doing, Active, Now, active_in, active_of, actives, begun_count, entering, rank_of, with_job}
+use Rattle.xc_story.specs.Told.{asked_of_tx, AreTold, IsCommitting, IsDoing, IsInPhase, IsRunning, IsUnderway}
+use Rattle.xc_story.specs.Seen.{SeenTx, SeenJob, Doing, Active, Now, active_in, active_of, actives, begun_count, entering, late_left, rank_of, with_job}
 use Rattle.xc_story.specs.Rows.{asked_at, behind_abort, behind_commit, beginning_job, claims_at, entry_of, noting, seen, wanting, with_tx}
-use Rattle.xc_story.specs.Rows.{Calls, Conflicts, Commits, Compensates, TurnsBack, Wants}
+use Rattle.xc_story.specs.Rows.{Calls, Conflicts, Commits, Compensates, EndsLate, TurnsBack, Wants}
 use Rattle.xc_played.specs.Flying.{AreFlying, flown}
 use Rattle.xc_played.proofs.TurnAborts.{abort_leads}
 use Rattle.xc_played.proofs.FlownLists.{flown_there}
 use Rattle.xc_played.proofs.TurnBack.{back_keeps, commit_keeps, tried_keeps}
 use Rattle.xc_played.proofs.TurnCalls.{Stepping, asks-count, calls_keep}
 use Rattle.xc_played.proofs.TurnEnters.{commit_leads, enters}
+use Rattle.xc_played.proofs.TurnLate.{late_keeps}
 use Rattle.xc_played.proofs.TurnLed.{progress-more, commit_world, commit_handles, commit_followings, abort_world, abort_handles, abort_followings}
 use Rattle.xc_played.proofs.TurnLists.{picked-put, size}
 use Rattle.xc_played.proofs.TurnParts.{Flying, Follows, begins_next, flying_from, flying_of, rests, told_at}
@@ -175,6 +178,19 @@ module _ (s : Setting) (old : Now) (at : ℕ) (job : SeenJob) (there : slice_get
         (tried_keeps s before old.words old.contents old.jobs (begun_count old + 1) at job job.place tx there doing f c row.older row.tried row.end new.contents
         undoes row.newest row.legal (row.effect tells)))
 
+    committing : tx.phase ≡ Committing → IsCommitting s follows.following job.place tx
+    committing commits = subst (IsInPhase s follows.following job.place tx) commits underway.phase
+
+    -- a late call
+    pub row_ends_late : (new : Now) (call : LateCall) (calls : List LateCall) → IsTrue s.tells → tx.phase ≡ Committing → late_left tx ≡ call ∷ calls
+        → EndsLate s at old job tx call new → AreFlying s new
+    row_ends_late new call calls tells commits left row =
+        let tx' : SeenTx = record tx { ends = tx.ends ++ row.end ∷ [] } in
+        kept new job.place tx' row.journal row.jobs
+        (subst (λ ws. Flying s before ws new.contents (slice_set old.jobs at (with_tx job job.place tx')) (begun_count old + 1)) (sym row.words)
+        (late_keeps s before old.words old.contents new.contents old.jobs (begun_count old + 1) at job job.place tx there doing commits f call row.end
+        (row.does tells) calls left (committing commits).few_ends))
+
     -- ---- an entry
     entered_so : (job' : SeenJob) (e : Entry) → active_of job' ≡ None
         → Flying s (after_entry s.script before e) old.words old.contents (slice_set old.jobs at job') (begun_count old + 1)
@@ -188,21 +204,24 @@ module _ (s : Setting) (old : Now) (at : ℕ) (job : SeenJob) (there : slice_get
         flies_so s new (after_entry s.script before e) old.words old.contents new.jobs (begun_count old + 1) (progress-more s.script old.journal e)
         refl refl refl (omega (arith, count, none_now, was, more)) flown
 
-    -- of a commit
-    pub row_commit_enters : tx.phase ≡ Committing → AreFlying s (entering old at (behind_commit job tx) (entry_of tx at (Committed [])))
-    row_commit_enters commits =
+    -- of a commit, behind its last late call
+    pub row_commit_enters : tx.phase ≡ Committing → late_left tx ≡ []
+        → AreFlying s (entering old at (behind_commit job tx) (entry_of tx at (Committed tx.ends)))
+    row_commit_enters commits none =
         let fresh = follows.told.fresh in
         let next = begun_count old + 1 in
         let g = follows.following in
-        let e = entry_of tx at (Committed []) in
+        let e = entry_of tx at (Committed tx.ends) in
+        let few = (committing commits).few_ends in
+        let done : length tx.ends ≡ length tx.late = omega (arith, length-drop (length tx.ends) tx.late, ap length none, few) in
         let job' = behind_commit job tx in
         let me = (f.flies.flights at (flown job.me (f.unnoted at) tx) (flown_there f.unnoted old.jobs at job tx there doing)).inside.me in
         entered_so job' e refl
         (enters s before (after_entry s.script before e) old.words old.contents old.jobs next at job job' there refl refl f
-        (commit_leads s before old.words old.contents old.jobs next at job tx there doing f (after_entry s.script before e) job' commits
+        (commit_leads s before old.words old.contents old.jobs next at job tx there doing f (after_entry s.script before e) job' commits done
         (commit_world s.script before g old.jobs at job tx there follows.at_place fresh f.handles (f.unnoted at))
-        (commit_handles s.script before g old.jobs at job tx there follows.at_place fresh f.handles job' me refl)
-        (commit_followings s.script before g old.jobs at job tx there follows.at_place fresh f.handles) refl))
+        (commit_handles s.script before g old.jobs at job tx there follows.at_place fresh f.handles job' underway.built me refl)
+        (commit_followings s.script before g old.jobs at job tx there follows.at_place fresh f.handles underway.built) refl))
 
     -- of an abort
     pub row_abort_enters : (c : Cause) → tx.phase ≡ Undoing c → tx.undo.pending ≡ []

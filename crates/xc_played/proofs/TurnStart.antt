@@ -134,7 +134,6 @@ opening_flies s read limits =
       handles = ap (replicate (length names)) handles ∙ their_handles script names;
       started = (opening_base script.plain).1 ∙ their_blocks script names;
       holds = λ at job tx there active. (let none = (each_fresh script names at job there).none in absurd (cc (none, active)));
-      built = λ at job tx there active. (let none = (each_fresh script names at job there).none in absurd (cc (none, active)));
     }
 
 -- a start flies

@@ -1,6 +1,7 @@
 -- A turn keeps the flights of all, whatever its row.
 use Rattle.std.proofs.Common.{◌≡◌, ℕ, inl, inr, List, [], ◌∷◌, length, refl, ap, sym, subst, IsTrue, Some}
 use Rattle.std.specs.Prelude.{slice_get}
+use Rattle.xc_data.specs.declared.call.LateCall.{LateCall}
 use Rattle.xc_data.specs.declared.entry.Cause.{Cause}
 use Rattle.xc_data.specs.declared.entry.JobEnd.TheVariants as job_end
 use Rattle.xc_data.specs.declared.entry.Turn.{Turn}
@@ -12,11 +13,11 @@ use Rattle.xc_story.specs.declared.phase.Phase.{Phase}
 use Rattle.xc_story.specs.declared.phase.Phase.TheVariants.{Running, Committing, Undoing}
 use Rattle.xc_story.specs.Setting.{Setting}
 use Rattle.xc_story.specs.Told.{AreTold}
-use Rattle.xc_story.specs.Seen.{SeenTx, SeenJob, Doing, Idle, Active, Starved, Ended, Now, active_in}
-use Rattle.xc_story.specs.Rows.{IsTurn, TurnOf, IdleTurn, ActiveTurn, RunningTurn, AskedTurn, CommittingTurn, UndoingTurn, BackTurn, StarvedTurn}
+use Rattle.xc_story.specs.Seen.{SeenTx, SeenJob, Doing, Idle, Active, Starved, Ended, Now, active_in, late_left}
+use Rattle.xc_story.specs.Rows.{IsTurn, TurnOf, IdleTurn, ActiveTurn, RunningTurn, AskedTurn, CommittingTurn, LateTurn, UndoingTurn, BackTurn, StarvedTurn}
 use Rattle.xc_played.specs.Flying.{AreFlying}
 use Rattle.xc_played.proofs.TurnRows.{row_begins, row_ends, row_calls, row_conflicts, row_turns_back, row_commits, row_wants}
-use Rattle.xc_played.proofs.TurnRows.{row_compensates, row_commit_enters, row_abort_enters}
+use Rattle.xc_played.proofs.TurnRows.{row_compensates, row_ends_late, row_commit_enters, row_abort_enters}
 
 module _ (s : Setting) (old : Now) (at : ℕ) (job : SeenJob) (there : slice_get old.jobs at ≡ Some job)
     (told : AreTold s (length old.words) old.journal old.jobs) (flying : AreFlying s old) (tells : IsTrue s.tells) (new : Now) where
@@ -50,8 +51,12 @@ module _ (s : Setting) (old : Now) (at : ℕ) (job : SeenJob) (there : slice_get
     running_flies (turn.Busy object holder) runs row = absurd row
     running_flies (turn.Ended end) runs row = absurd row
 
-    committing_flies : (answer : Turn) → tx.phase ≡ Committing → CommittingTurn at old job tx answer new → AreFlying s new
-    committing_flies turn.Went commits row = subst (AreFlying s) (sym row) (row_commit_enters s old at job there told flying tx doing commits)
+    late_flies : (left : List LateCall) → tx.phase ≡ Committing → late_left tx ≡ left → LateTurn s at old job tx left new → AreFlying s new
+    late_flies [] commits none row = subst (AreFlying s) (sym row) (row_commit_enters s old at job there told flying tx doing commits none)
+    late_flies (call ∷ calls) commits some row = row_ends_late s old at job there told flying tx doing new call calls tells commits some row
+
+    committing_flies : (answer : Turn) → tx.phase ≡ Committing → CommittingTurn s at old job tx answer new → AreFlying s new
+    committing_flies turn.Went commits row = late_flies (late_left tx) commits refl row
     committing_flies turn.NoMemory commits row = absurd row
     committing_flies (turn.Busy object holder) commits row = absurd row
     committing_flies (turn.Ended end) commits row = absurd row

@@ -135,7 +135,6 @@ module _ (s : Setting) (p : Progress) (words : List ℕ) (contents : Contents) (
           → Flying s p words contents' (slice_set jobs at (with_tx job place wanter)) next
       wanter_keeps us contents' flies was =
           goes_on s p words words contents contents' jobs next at us job place tx wanter there doing refl f flies was wanter_holds
-          (f.built at job tx there (ap active_in doing))
 
     -- it leaves nothing, behind its claims
     pub wants_claims_keeps : Flying s p words contents (slice_set jobs at (with_tx job place (wanting tx [] all_held))) next

@@ -1,6 +1,6 @@
 -- What is true of a station between two turns over a host that tells: each active transaction flies over the plain
 -- machine's world, where the journal left it.
-use Rattle.std.specs.Prelude.{◌≡◌, ℕ, suc, ◌+◌, true, List, [], ◌∷◌, map, All, slice_get, Option}
+use Rattle.std.specs.Prelude.{◌≡◌, ℕ, suc, ◌+◌, List, [], ◌∷◌, map, slice_get, Option}
 use Rattle.std.specs.declared.option.Option.TheVariants.{None, Some}
 use Rattle.xc_data.specs.declared.call.Asked.{Asked}
 use Rattle.xc_data.specs.declared.entry.Cause.TheVariants as cause
@@ -17,7 +17,7 @@ use Rattle.xc_story.specs.Progress.{progress_of}
 use Rattle.xc_story.specs.Played.{HoldsFor}
 use Rattle.xc_story.specs.Told.{asked_of_tx}
 use Rattle.xc_story.specs.Seen.{SeenTx, SeenJob, Doing, Active, Now, active_of, begun_count}
-use Rattle.xc_story.specs.Rows.{IsActiveAt, is_built}
+use Rattle.xc_story.specs.Rows.{IsActiveAt}
 use Rattle.xc_flight.specs.Active.{Tx, Phase, Running, Committing, Undoing}
 use Rattle.xc_flight.specs.Standing.{Standing, InFlight, AreSound, IsIdleSound}
 
@@ -34,8 +34,7 @@ IsUnnoted p next [] = Unit {0}
 IsUnnoted (phase.Undoing cause.NoMemory) (ask.Call call) (asked ∷ []) = asked.call ≡ call
 IsUnnoted p next unnoted = ⊥
 
--- an active transaction whose job's private state at the begin was this, with what isn't noted; no call takes data or is
--- kept so far
+-- an active transaction whose job's private state at the begin was this, with what isn't noted; no call takes data so far
 abbrev pub flown : Private → List Asked → SeenTx → Tx
 flown began unnoted tx =
     record {
@@ -51,8 +50,8 @@ flown began unnoted tx =
       pending = tx.undo.pending;
       ended = tx.undo.ended;
       taken = [];
-      late = [];
-      late_ends = [];
+      late = tx.late;
+      late_ends = tx.ends;
     }
 
 -- a job's active transaction, where it has one
@@ -105,5 +104,3 @@ pub record AreFlying (s : Setting) (now : Now) : Type 0 where
   pub holds : (at : ℕ) (job : SeenJob) (tx : SeenTx) → slice_get now.jobs at ≡ Some job → active_of job ≡ Some tx
       → HoldsFor (ran_at (state_of s now).world job.me tx) (asked_of_tx s (slice_get (progress_of s.script now.journal).jobs at) tx)
       tx.phase tx.held
-  -- its calls are of the kinds that are built
-  pub built : (at : ℕ) (tx : SeenTx) → IsActiveAt now.jobs at tx → All (λ call. is_built call ≡ true) tx.calls

@@ -1,20 +1,22 @@
-ghost use Rattle.std.specs.Prelude.{◌≡◌, ℕ, ◌≤◌, false, List, length, map, IsTrue};
+ghost use Rattle.std.specs.Prelude.{◌≡◌, ℕ, ◌≤◌, ◌∷◌, false, List, length, map, IsTrue};
 ghost use Rattle.xc_data.specs.Private.{place_of};
+ghost use Rattle.xc_data.specs.declared.call.LateCall.{LateCall};
 ghost use Rattle.xc_data.specs.declared.entry.Cause.{Cause};
 ghost use Rattle.xc_data.specs.declared.entry.JobLine.{JobLine};
 ghost use Rattle.xc_compensate.specs.Records.{NextIsCovered};
 ghost use Rattle.xc_host.specs.Contents.{has_file};
 ghost use Rattle.xc_file.specs.Calls.{IsOpenIn};
-ghost use Rattle.xc_story.specs.declared.phase.Phase.TheVariants.{Running, Undoing};
+ghost use Rattle.xc_story.specs.declared.phase.Phase.TheVariants.{Committing, Running, Undoing};
 ghost use Rattle.xc_story.specs.Setting.{Setting};
 ghost use Rattle.xc_story.specs.Progress.{progress_of};
-ghost use Rattle.xc_story.specs.Seen.{SeenTx, SeenJob, Now};
+ghost use Rattle.xc_story.specs.Seen.{SeenTx, SeenJob, Now, late_left};
 ghost use Rattle.xc_story.specs.Rows.{IsActiveAt};
 ghost use Rattle.xc_story.specs.Told.{AreTold};
 ghost use Rattle.xc_story.specs.Kept.{AreLinesOf};
 ghost use Rattle.xc_story.specs.Ending.{IsFinalState};
 ghost use Rattle.xc_story.specs.Played.{IsPlayedSoFar};
 ghost use Rattle.xc_played.specs.Flying.{AreFlying, state_of};
+ghost use Rattle.xc_played.specs.LateCalls.{IsThereFor};
 
 /// What an active transaction noted is what the plain machine's body gives in the world that the journal left.
 pub fn what_is_noted_was_played()
@@ -40,6 +42,13 @@ pub fn what_it_will_make_is_absent()
 pub fn the_next_record_is_covered()
     ensures { (s : Setting) (now : Now) (at : ℕ) (tx : SeenTx) (c : Cause) → AreTold s (length now.words) now.journal now.jobs
         → AreFlying s now → IsActiveAt now.jobs at tx → tx.phase ≡ Undoing c → NextIsCovered now.contents tx.undo }
+{}
+
+/// What the next late call of a committing transaction needs is at the host, whoever holds it.
+pub fn the_next_late_call_finds_its_object()
+    ensures { (s : Setting) (now : Now) (at : ℕ) (tx : SeenTx) (call : LateCall) (calls : List LateCall)
+        → AreTold s (length now.words) now.journal now.jobs → AreFlying s now → IsActiveAt now.jobs at tx → tx.phase ≡ Committing
+        → late_left tx ≡ call ∷ calls → IsThereFor now.contents call }
 {}
 
 /// Where each job has ended, the words, the host's contents and the started jobs are those that the journal leads to.

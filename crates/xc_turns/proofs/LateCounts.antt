@@ -1,8 +1,7 @@
--- Calls that are kept for the commit: one late call for each, and none that starts a job.
+-- Calls that are kept for the commit: one late call for each.
 use Rattle.std.proofs.Common.{◌≡◌, ℕ, ◌+◌, ◌<◌, ◌≤◌, Bool, true, false, List, [], ◌∷◌, ◌++◌, length, refl, ap, ap₂, sym, ◌∙◌, arith, length-append, length-drop}
 use Rattle.std.specs.Prelude.{◌||◌, ◌&&◌, not, drop, take, if◌then◌else◌}
 use Rattle.std.specs.List.{list_all}
-use Rattle.std.proofs.lemmas.Bool.{and_parts}
 use Rattle.std.proofs.lemmas.List.Folds.{list_all-append}
 use Rattle.std.proofs.Math.Seq.{take-length}
 use Rattle.xc_data.specs.declared.call.Call.{Call}
@@ -19,7 +18,7 @@ use Rattle.xc_world.specs.World.{World}
 use Rattle.xc_world.specs.Checks.{is_bad_handle, is_file, is_pipe, is_pair}
 use Rattle.xc_world.specs.Act.Step.{Stepped, stays}
 use Rattle.xc_world.specs.Late.{is_late, kept_call, late_call, sync_of, write_pipe_of, shutdown_of, send_of}
-use Rattle.xc_story.specs.Progress.{kept_of, started_blocks, started_by}
+use Rattle.xc_story.specs.Progress.{kept_of}
 use Rattle.xc_story.specs.LateCalls.{waits}
 use Rattle.xc_story.specs.Rows.{IsReplyInTime, is_built}
 
@@ -99,35 +98,7 @@ late-more w me number late calls replies c r in_time each same =
     length-append late (kept_call c me r) ∙ ap₂ (λ m n. m + n) same (kept_one me c r (late_one w me number c r in_time))
     ∙ sym (length-append (kept_of calls replies) (if is_late r then c ∷ [] else [])) ∙ ap length (sym (kept-more calls replies c r each))
 
--- ---- no call starts a job
-built_starts : (c : Call) (e : LateEnd) → is_built c ≡ true → started_by c e ≡ []
-built_starts (call.XThreadCreate body slot) e built = cc built
-built_starts _ e built = refl
-
-none_starts : (calls : List Call) (ends : List LateEnd) → list_all is_built calls ≡ true → started_blocks calls ends ≡ []
-none_starts [] ends built = refl
-none_starts (c ∷ calls) [] built = refl
-none_starts (c ∷ calls) (e ∷ ends) built =
-    let parts = and_parts (is_built c) (list_all is_built calls) built in
-    ap₂ (λ xs ys. xs ++ ys) (built_starts c e parts.0) (none_starts calls ends parts.1)
-
-built_front : (b : Bool) (c : Call) (kept : List Call) → is_built c ≡ true → list_all is_built kept ≡ true
-    → list_all is_built (if b then c ∷ kept else kept) ≡ true
-built_front true c kept one rest = ap₂ (λ x y. x && y) one rest
-built_front false c kept one rest = rest
-
-kept_built : (calls : List Call) (replies : List Reply) → list_all is_built calls ≡ true → list_all is_built (kept_of calls replies) ≡ true
-kept_built [] replies built = refl
-kept_built (c ∷ calls) [] built = refl
-kept_built (c ∷ calls) (r ∷ replies) built =
-    let parts = and_parts (is_built c) (list_all is_built calls) built in
-    built_front (is_late r) c (kept_of calls replies) parts.0 (kept_built calls replies parts.1)
-
--- such calls, kept for the commit, start no block
-pub kept_starts : (calls : List Call) (replies : List Reply) (ends : List LateEnd) → list_all is_built calls ≡ true
-    → started_blocks (kept_of calls replies) ends ≡ []
-kept_starts calls replies ends built = none_starts (kept_of calls replies) ends (kept_built calls replies built)
-
+-- ---- calls that scripts have so far
 -- with one more such call all are
 pub built-more : (calls : List Call) (c : Call) → list_all is_built calls ≡ true → is_built c ≡ true → list_all is_built (calls ++ c ∷ []) ≡ true
 built-more calls c all one =

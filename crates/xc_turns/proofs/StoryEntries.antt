@@ -29,7 +29,8 @@ use Rattle.xc_story.specs.Seen.{SeenTx, late_left}
 use Rattle.xc_story.specs.Rows.{entry_of, is_built}
 use Rattle.xc_story.specs.Told.{IsCommitting, IsInPhase, IsUndoing, IsUnderway, asked_of_tx}
 use Rattle.xc_story.specs.Played.{HoldsFor, IsPlayedSoFar, RecordsFor, ran_behind}
-use Rattle.xc_turns.proofs.LateCounts.{kept_starts, left_none, take_all}
+use Rattle.xc_story.proofs.KeptCalls.{kept_starts}
+use Rattle.xc_turns.proofs.LateCounts.{left_none, take_all}
 
 -- ---- the entry of the job in one place
 -- the number behind a place leads back to it

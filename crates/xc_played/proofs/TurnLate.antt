@@ -1,0 +1,79 @@
+-- A committed transaction that does its next late call keeps all flights.
+use Rattle.std.proofs.Common.{◌≡◌, ℕ, ◌≤◌, List, [], ◌∷◌, ◌++◌, length, take, refl, ap, subst, Some}
+use Rattle.std.specs.Prelude.{IsTrue, slice_get, slice_set}
+use Rattle.std.proofs.lemmas.List.{length-take-le}
+use Rattle.xc_data.specs.declared.call.LateCall.{LateCall}
+use Rattle.xc_data.specs.declared.call.LateCall.TheVariants.{WritePipe}
+use Rattle.xc_data.specs.declared.call.LateAnswer.{LateAnswer}
+use Rattle.xc_data.specs.declared.call.LateAnswer.TheVariants as late_answer
+use Rattle.xc_data.specs.declared.call.LateEnd.{LateEnd}
+use Rattle.xc_host.specs.Contents.{Contents, world_of}
+use Rattle.xc_script.specs.Place.{Place}
+use Rattle.xc_world.specs.World.{World}
+use Rattle.xc_world.specs.Fits.{late_fits, late_answer_of}
+use Rattle.xc_world.specs.Late.{Ended, late, ends}
+use Rattle.xc_story.specs.declared.phase.Phase.TheVariants.{Committing}
+use Rattle.xc_story.specs.Setting.{Setting}
+use Rattle.xc_story.specs.Progress.{Progress}
+use Rattle.xc_story.specs.Played.{HoldsFor}
+use Rattle.xc_story.specs.Seen.{SeenTx, SeenJob, Active, active_in, late_left}
+use Rattle.xc_story.specs.Rows.{DoesLate, with_tx}
+use Rattle.xc_flight.specs.Active.{Tx}
+use Rattle.xc_flight.specs.Standing.{Standing, InFlight, IsActive, turned}
+use Rattle.xc_flight.specs.Turns.{IsDoneLate, with_end}
+use Rattle.xc_flight.proofs.Ending.{does_late}
+use Rattle.xc_played.specs.Flying.{IsUnnoted, flown, flown_phase, ran_at}
+use Rattle.xc_played.proofs.FlownLists.{flown_there}
+use Rattle.xc_played.proofs.NextLate.{late_split}
+use Rattle.xc_played.proofs.TurnParts.{Flying, world_in, standing_in, asked_same, goes_on}
+
+-- an answer fits a late call by what the host has alone
+late_fits_in : (w : World) (words : List ℕ) (contents : Contents) (c : LateCall) (a : LateAnswer)
+    → late_fits (world_of contents) c a ≡ late_fits (world_in w words contents) c a
+late_fits_in w words contents c late_answer.Fine = refl
+late_fits_in w words contents (WritePipe num bytes) (late_answer.Fault n) = refl
+late_fits_in w words contents (WritePipe num bytes) (late_answer.NoMemory n) = refl
+late_fits_in w words contents c a = refl
+
+module _ (s : Setting) (p : Progress) (words : List ℕ) (was is : Contents) (jobs : List SeenJob) (next at : ℕ) (job : SeenJob) (place : Place) (tx : SeenTx)
+    (there : slice_get jobs at ≡ Some job) (doing : job.doing ≡ Active tx) (commits : tx.phase ≡ Committing) (f : Flying s p words was jobs next)
+    (call : LateCall) (end : LateEnd) (does : DoesLate was is call end) where
+  abbrev standing : Standing
+  standing = standing_in p.state.world (world_in p.state.world words was) f.unnoted jobs next
+
+  abbrev tx_flown : Tx
+  tx_flown = flown job.me (f.unnoted at) tx
+
+  abbrev after : SeenTx
+  after = record tx { ends = tx.ends ++ end ∷ [] }
+
+  active : IsActive standing at tx_flown
+  active = flown_there f.unnoted jobs at job tx there doing
+
+  ends_so : late standing.now call (late_answer_of end) ≡ ends (world_in p.state.world words is) end
+  ends_so = does.step (record p.state.world { words = words })
+
+  -- it is the next one of those that have no end
+  done_so : (calls : List LateCall) → late_left tx ≡ call ∷ calls → length tx.ends ≤ length tx.late
+      → IsDoneLate standing.now tx_flown call (late_answer_of end)
+  done_so calls left few =
+      record {
+        front = take (length tx.ends) tx.late;
+        rest = calls;
+        split = late_split tx call calls left;
+        done = length-take-le (length tx.ends) tx.late few;
+        fit = subst IsTrue (late_fits_in p.state.world words was call (late_answer_of end)) does.fits;
+        told = ap (λ (e : Ended). late_answer_of e.end) ends_so;
+      }
+
+  -- it keeps all
+  pub late_keeps : (calls : List LateCall) → late_left tx ≡ call ∷ calls → length tx.ends ≤ length tx.late
+      → Flying s p words is (slice_set jobs at (with_tx job place after)) next
+  late_keeps calls left few =
+      let behind : InFlight (turned standing at (Some (flown job.me (f.unnoted at) after)) (world_in p.state.world words is)) =
+      subst (λ (e : Ended). InFlight (turned standing at (Some (with_end tx_flown e.end)) e.world)) ends_so
+      (does_late standing at tx_flown call (late_answer_of end) f.flies active (ap flown_phase commits) (done_so calls left few)) in
+      let asked = asked_same s (slice_get p.jobs at) tx after refl in
+      goes_on s p words words was is jobs next at (f.unnoted at) job place tx after there doing refl f behind
+      (subst (λ a. IsUnnoted tx.phase a (f.unnoted at)) asked (f.was_asked at job tx there (ap active_in doing)))
+      (subst (λ a. HoldsFor (ran_at p.state.world job.me tx) a tx.phase tx.held) asked (f.holds at job tx there (ap active_in doing)))
