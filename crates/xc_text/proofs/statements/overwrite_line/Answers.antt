@@ -1,8 +1,8 @@
 use Rattle.std.proofs.Common.{◌≡◌, Err, length, map, ◌<◌, arith, rules}
-use Rattle.xc_text.specs.Grammar.{overwrite_line}
+use Rattle.xc_text.specs.Statements.{overwrite_line}
 use Rattle.xc_text.specs.Views.{lexeme}
 use Rattle.xc_text.proofs.Checked.{overwrite_refused}
-use Rattle.xc_text.proofs.grammar.overwrite_line.Goals as goal
+use Rattle.xc_text.proofs.statements.overwrite_line.Goals as goal
 
 pub returns-in_err-handle-in-len1-up : goal.returns-in_err-handle-in-len1-up
 returns-in_err-handle-in-len1-up c =

@@ -1,8 +1,8 @@
 use Rattle.std.proofs.Common.{arith}
 use Rattle.std.proofs.lemmas.Bool.{ltb-true, ltb-false}
 use Rattle.xc_text.proofs.Forms.{no_abort}
-use Rattle.xc_text.proofs.grammar.abort_line.Goals as goal
-use Rattle.xc_text.proofs.grammar.abort_line.Goals.{in_default-via-then-tokens-lt4, in_default-via-else-tokens-lt4+else-tokens-lt5}
+use Rattle.xc_text.proofs.statements.abort_line.Goals as goal
+use Rattle.xc_text.proofs.statements.abort_line.Goals.{in_default-via-then-tokens-lt4, in_default-via-else-tokens-lt4+else-tokens-lt5}
 
 pub returns-in_default : goal.returns-in_default
 returns-in_default c =
