@@ -13,7 +13,8 @@ use Rattle.xc_text.specs.declared.script.Expression.TheVariants.{Term as OneTerm
 use Rattle.xc_text.specs.declared.script.Item.{Item}
 use Rattle.xc_text.specs.declared.script.Item.TheVariants as item
 use Rattle.xc_text.specs.declared.script.Statement.{Statement}
-use Rattle.xc_text.specs.declared.script.Statement.TheVariants.{Load, Store, Open, Read, Overwrite, Let, Abort, AbortIf, Require}
+use Rattle.xc_text.specs.declared.script.Statement.TheVariants.{Load, Store, Open, Create, Rename, Read, Overwrite, Append}
+use Rattle.xc_text.specs.declared.script.Statement.TheVariants.{Seek, Length, Close, Let, Abort, AbortIf, Require}
 use Rattle.xc_text.specs.declared.line.Line.{Line}
 use Rattle.xc_text.specs.declared.line.Line.TheVariants as line
 use Rattle.xc_text.specs.declared.line.Section.TheVariants.{Between, Block, Transaction}
@@ -74,8 +75,14 @@ abbrev pub with_statement : List (List ℕ) → Statement → List (List ℕ)
 with_statement names (Load at into) = with_target (with_term names at) into
 with_statement names (Store at value) = with_expression (with_term names at) value
 with_statement names (Open file into) = with_target names into
+with_statement names (Create file into) = with_target names into
+with_statement names (Rename from to) = names
 with_statement names (Read handle n into) = with_target (with_term (with_name names handle) n) into
 with_statement names (Overwrite handle items) = with_data (with_name names handle) items
+with_statement names (Append handle items) = with_data (with_name names handle) items
+with_statement names (Seek handle to) = with_term (with_name names handle) to
+with_statement names (Length handle into) = with_target (with_name names handle) into
+with_statement names (Close handle) = with_name names handle
 with_statement names (Let into value) = with_expression (with_name names into) value
 with_statement names Abort = names
 with_statement names (AbortIf left test right) = with_term (with_term names left) right

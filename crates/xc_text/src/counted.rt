@@ -47,6 +47,12 @@ fn push_statement(body: &mut Body, statement: Statement) -> Result<(), NoMemory>
         Statement::Open { name, into } => body.push(Statement::Open { name, into }),
         Statement::Read { handle, n, into } => body.push(Statement::Read { handle, n, into }),
         Statement::Overwrite { handle, data } => body.push(Statement::Overwrite { handle, data }),
+        Statement::Append { handle, data } => body.push(Statement::Append { handle, data }),
+        Statement::Create { name, into } => body.push(Statement::Create { name, into }),
+        Statement::Rename { from, to } => body.push(Statement::Rename { from, to }),
+        Statement::Seek { handle, to } => body.push(Statement::Seek { handle, to }),
+        Statement::Length { handle, into } => body.push(Statement::Length { handle, into }),
+        Statement::Close { handle } => body.push(Statement::Close { handle }),
         Statement::Let { into, value } => body.push(Statement::Let { into, value }),
         Statement::Abort => body.push(Statement::Abort),
         Statement::AbortIf { left, test, right } => body.push(Statement::AbortIf {

@@ -7,6 +7,7 @@
 mod block_names;
 mod counted;
 mod draft;
+mod file_calls;
 mod files;
 mod grammar;
 mod kinds;

@@ -2,16 +2,15 @@
 
 ghost use Rattle.std.specs.Prelude.{◌≡◌, ◌∷◌, [], map};
 ghost use Rattle.xc_text.specs.Answers.{Gives, both as together};
-ghost use Rattle.xc_text.specs.Statements.{load_line as load_said, store_line as store_said, open_line as open_said};
-ghost use Rattle.xc_text.specs.Statements.{read_line as read_said, overwrite_line as overwrite_said, let_line as let_said};
-ghost use Rattle.xc_text.specs.Statements.{bare as bare_said, abort_line as abort_said, statement_line as statement_said};
-ghost use Rattle.xc_text.specs.Terms.{term as term_of_token, test as test_of_token, ident as ident_of_token};
+ghost use Rattle.xc_text.specs.Statements.{bare as bare_said, target as target_said, term_into as term_into_said, load_line as load_said, store_line as store_said};
+ghost use Rattle.xc_text.specs.Statements.{let_line as let_said, abort_line as abort_said, statement_line as statement_said};
+ghost use Rattle.xc_text.specs.Terms.{term as term_of_token, test as test_of_token};
 ghost use Rattle.xc_text.specs.Views.{lexeme};
 
-use crate::pieces::{check_data, data};
-use crate::reason::{beside, both};
+use crate::file_calls::file_call_line;
+use crate::reason::both;
 use crate::script::{Statement, Term, Test};
-use crate::term::{expression, ident, is_sign, name, spells, term, test};
+use crate::term::{expression, ident, is_sign, spells, term, test};
 use crate::token::Token;
 use crate::why::{Stop, Why};
 use std::alloc::Global;
@@ -27,30 +26,41 @@ pub fn check_bare(tokens: &[Token]) -> Result<(), Why>
     }
 }
 
-fn load_into(at: &Token, arrow: &Token, into: &Token) -> Result<Statement, Why>
-    ensures { result ≡ load_said (lexeme at.now ∷ lexeme arrow.now ∷ lexeme into.now ∷ []) }
+fn target_in(arrow: &Token, into: &Token) -> Result<Option<Ident>, Why>
+    ensures { result ≡ target_said (lexeme arrow.now ∷ lexeme into.now ∷ []) }
 {
     if !is_sign(arrow, b"->") {
         return Err(Why::BadForm);
     }
-    let (at, into) = both(term(at), ident(into))?;
-    Ok(Statement::Load {
-        at,
-        into: Some(into),
-    })
+    Ok(Some(ident(into)?))
+}
+
+/// The variable that takes a reply, where the end of a line names one.
+pub fn target(tokens: &[Token]) -> Result<Option<Ident>, Why>
+    ensures { result ≡ target_said (map lexeme tokens.now) }
+{
+    match tokens {
+        [] => Ok(None),
+        [arrow, into] => target_in(arrow, into),
+        _ => Err(Why::BadForm),
+    }
+}
+
+/// A term, and the variable that takes a reply.
+pub fn term_into(tokens: &[Token]) -> Result<(Term, Option<Ident>), Why>
+    ensures { result ≡ term_into_said (map lexeme tokens.now) }
+{
+    match tokens {
+        [] => Err(Why::BadForm),
+        [first, behind @ ..] => both(term(first), target(behind)),
+    }
 }
 
 fn load_line(tokens: &[Token]) -> Result<Statement, Why>
     ensures { result ≡ load_said (map lexeme tokens.now) }
 {
-    match tokens {
-        [at] => Ok(Statement::Load {
-            at: term(at)?,
-            into: None,
-        }),
-        [at, arrow, into] => load_into(at, arrow, into),
-        _ => Err(Why::BadForm),
-    }
+    let (at, into) = term_into(tokens)?;
+    Ok(Statement::Load { at, into })
 }
 
 fn store_line(tokens: &[Token]) -> Result<Statement, Why>
@@ -61,86 +71,6 @@ fn store_line(tokens: &[Token]) -> Result<Statement, Why>
         [at, value @ ..] => {
             let (at, value) = both(term(at), expression(value))?;
             Ok(Statement::Store { at, value })
-        }
-    }
-}
-
-fn open_into(file: &Token, arrow: &Token, into: &Token) -> Result<Statement, Why>
-    ensures { result ≡ open_said (lexeme file.now ∷ lexeme arrow.now ∷ lexeme into.now ∷ []) }
-{
-    if !is_sign(arrow, b"->") {
-        return Err(Why::BadForm);
-    }
-    let (name, into) = both(name(file), ident(into))?;
-    Ok(Statement::Open {
-        name,
-        into: Some(into),
-    })
-}
-
-fn open_line(tokens: &[Token]) -> Result<Statement, Why>
-    ensures { result ≡ open_said (map lexeme tokens.now) }
-{
-    match tokens {
-        [file] => Ok(Statement::Open {
-            name: name(file)?,
-            into: None,
-        }),
-        [file, arrow, into] => open_into(file, arrow, into),
-        _ => Err(Why::BadForm),
-    }
-}
-
-fn read_any(handle: &Token, n: &Token) -> Result<Statement, Why>
-    ensures { result ≡ read_said (lexeme handle.now ∷ lexeme n.now ∷ []) }
-{
-    let (handle, n) = both(ident(handle), term(n))?;
-    Ok(Statement::Read {
-        handle,
-        n,
-        into: None,
-    })
-}
-
-fn count_into(n: &Token, into: &Token) -> Result<(Term, Ident), Why>
-    ensures { result ≡ together (term_of_token (lexeme n.now)) (ident_of_token (lexeme into.now)) }
-{
-    both(term(n), ident(into))
-}
-
-fn read_into(handle: &Token, n: &Token, arrow: &Token, into: &Token) -> Result<Statement, Why>
-    ensures { result ≡ read_said (lexeme handle.now ∷ lexeme n.now ∷ lexeme arrow.now ∷ lexeme into.now ∷ []) }
-{
-    if !is_sign(arrow, b"->") {
-        return Err(Why::BadForm);
-    }
-    let (handle, (n, into)) = both(ident(handle), count_into(n, into))?;
-    Ok(Statement::Read {
-        handle,
-        n,
-        into: Some(into),
-    })
-}
-
-fn read_line(tokens: &[Token]) -> Result<Statement, Why>
-    ensures { result ≡ read_said (map lexeme tokens.now) }
-{
-    match tokens {
-        [handle, n] => read_any(handle, n),
-        [handle, n, arrow, into] => read_into(handle, n, arrow, into),
-        _ => Err(Why::BadForm),
-    }
-}
-
-fn overwrite_line(alloc: Global, tokens: &[Token]) -> Result<Statement, Stop>
-    ensures { Gives (λ statement. statement) result (overwrite_said (map lexeme tokens.now)) }
-{
-    match tokens {
-        [] => Err(Stop::Refused(Why::BadForm)),
-        [handle, items @ ..] => {
-            let handle = beside(ident(handle), check_data(items))?;
-            let data = data(alloc, items)?;
-            Ok(Statement::Overwrite { handle, data })
         }
     }
 }
@@ -193,15 +123,6 @@ pub fn statement_line(alloc: Global, word: &[u8], rest: &[Token]) -> Result<Stat
     if spells(word, b"store") {
         return Ok(store_line(rest)?);
     }
-    if spells(word, b"x_open") {
-        return Ok(open_line(rest)?);
-    }
-    if spells(word, b"x_read") {
-        return Ok(read_line(rest)?);
-    }
-    if spells(word, b"x_write_ovr") {
-        return overwrite_line(alloc, rest);
-    }
     if spells(word, b"let") {
         return Ok(let_line(rest)?);
     }
@@ -212,5 +133,5 @@ pub fn statement_line(alloc: Global, word: &[u8], rest: &[Token]) -> Result<Stat
         check_bare(rest)?;
         return Ok(Statement::Require);
     }
-    Err(Stop::Refused(Why::UnknownLine))
+    file_call_line(alloc, word, rest)
 }
