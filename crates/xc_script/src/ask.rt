@@ -1,5 +1,5 @@
 ghost use Rattle.std.specs.Prelude.{◌≡◌, ◌≤◌, length, IfOk, Some, None, if◌then◌else◌};
-ghost use Rattle.xc_data.specs.declared.call.Call.TheVariants.{Store, XRead, XSeek, XWriteOvr, XWriteSeq};
+ghost use Rattle.xc_data.specs.declared.call.Call.TheVariants.{Store, XClose, XRead, XSeek, XWriteOvr, XWriteSeq};
 ghost use Rattle.xc_script.specs.Ask.{is_over, unless_over, data_of, handle_value, term_value, expression_value};
 ghost use Rattle.xc_script.specs.Ask.{ask_of, carried_by};
 
@@ -113,6 +113,13 @@ fn seek(variables: &Variables, handle: Ident, to: Term) -> Call
     }
 }
 
+fn close(variables: &Variables, handle: Ident) -> Call
+    ensures { result ≡ XClose (handle_value variables.now handle) }
+{
+    let h = handle_in(variables, handle);
+    Call::XClose { h }
+}
+
 /// What a statement asks that isn't silent, behind so many stored bytes.
 pub fn ask_of(
     alloc: Global,
@@ -140,9 +147,7 @@ pub fn ask_of(
         Statement::Length { handle, .. } => Ok(Ask::Call(Call::XLen {
             h: handle_in(variables, *handle),
         })),
-        Statement::Close { handle } => Ok(Ask::Call(Call::XClose {
-            h: handle_in(variables, *handle),
-        })),
+        Statement::Close { handle } => Ok(Ask::Call(close(variables, *handle))),
         _ => Ok(Ask::Abort),
     }
 }

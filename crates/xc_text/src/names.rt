@@ -75,7 +75,25 @@ fn add_data(names: &mut IdentList, items: &[Item]) -> Result<(), NoMemory>
     Ok(())
 }
 
-fn add_handle(names: &mut IdentList, handle: &Ident, into: &Option<Ident>) -> Result<(), NoMemory>
+fn add_term_into(names: &mut IdentList, term: &Term, into: &Option<Ident>) -> Result<(), NoMemory>
+    ensures { OnOk result (names.new ≡ with_target (with_term names.old term.now) into.now) }
+{
+    add_term(names, term)?;
+    add_target(names, into)
+}
+
+fn add_handle_and_term(names: &mut IdentList, handle: &Ident, term: &Term) -> Result<(), NoMemory>
+    ensures { OnOk result (names.new ≡ with_term (with_name names.old handle.now) term.now) }
+{
+    add_name(names, *handle)?;
+    add_term(names, term)
+}
+
+fn add_handle_into(
+    names: &mut IdentList,
+    handle: &Ident,
+    into: &Option<Ident>,
+) -> Result<(), NoMemory>
     ensures { OnOk result (names.new ≡ with_target (with_name names.old handle.now) into.now) }
 {
     add_name(names, *handle)?;
@@ -89,38 +107,27 @@ fn add_written(names: &mut IdentList, handle: &Ident, data: &Data) -> Result<(),
     add_data(names, data.as_slice())
 }
 
-fn add_moved(names: &mut IdentList, handle: &Ident, n: &Term) -> Result<(), NoMemory>
-    ensures { OnOk result (names.new ≡ with_term (with_name names.old handle.now) n.now) }
-{
-    add_name(names, *handle)?;
-    add_term(names, n)
-}
-
 /// Adds the variables of a statement, read or written, where they are new.
 pub fn add_statement(names: &mut IdentList, statement: &Statement) -> Result<(), NoMemory>
     ensures { OnOk result (names.new ≡ with_statement names.old statement.now) }
 {
     match statement {
-        Statement::Load { at, into } => {
-            add_term(names, at)?;
-            add_target(names, into)
-        }
+        Statement::Load { at, into } => add_term_into(names, at, into),
         Statement::Store { at, value } => {
             add_term(names, at)?;
             add_expression(names, value)
         }
-        Statement::Open { name: _, into } | Statement::Create { name: _, into } => {
-            add_target(names, into)
-        }
+        Statement::Open { into, .. } => add_target(names, into),
+        Statement::Create { into, .. } => add_target(names, into),
         Statement::Read { handle, n, into } => {
-            add_moved(names, handle, n)?;
-            add_target(names, into)
+            add_name(names, *handle)?;
+            add_term_into(names, n, into)
         }
         Statement::Overwrite { handle, data } | Statement::Append { handle, data } => {
             add_written(names, handle, data)
         }
-        Statement::Seek { handle, to } => add_moved(names, handle, to),
-        Statement::Length { handle, into } => add_handle(names, handle, into),
+        Statement::Seek { handle, to } => add_handle_and_term(names, handle, to),
+        Statement::Length { handle, into } => add_handle_into(names, handle, into),
         Statement::Close { handle } => add_name(names, *handle),
         Statement::Let { into, value } => {
             add_name(names, *into)?;
