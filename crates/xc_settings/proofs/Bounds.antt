@@ -8,7 +8,7 @@ use Rattle.std.proofs.lemmas.List.Elements.{All-nil, All-cons}
 use Rattle.std.proofs.lemmas.List.Splits.{length-slice_split}
 use Rattle.xc_story.specs.declared.rules.Rules.{Rules}
 use Rattle.xc_text.specs.Numbers.{number_of}
-use Rattle.xc_settings.specs.Options.{within, number_in, in_front, numbers_in, parts_of, job_numbers, choice_of, values_of, IsUpTo, AreJobs}
+use Rattle.xc_settings.specs.Options.{within, number_in, in_front, numbers_in, parts_of, job_numbers, choice_of, values_of, IsUpTo, AreJobs, AreRules}
 use Rattle.xc_settings.specs.Options.{workers_of, schedule_of, attempts_of, undo_tries_of, default_rules, rules_with, rules_of}
 
 -- a number that counts is within its bounds
@@ -78,12 +78,6 @@ undo_tries_of-bounds : (words : List (List ℕ)) (n : ℕ) → undo_tries_of wor
 undo_tries_of-bounds words n e =
     choice_of-keeps (IsUpTo 16) 3 (number_in 16) (values_of (codes "--undo-tries") words) n (omega arith, omega arith)
     (λ word. number-bounds 16 (number_of word)) e
-
--- what rules may be
-pub record AreRules (rules : Rules) : Type 0 where
-  pub attempts : IsUpTo 1000 rules.attempts
-  pub patience : rules.patience ≤ 1000000
-  pub undo_tries : IsUpTo 16 rules.undo_tries
 
 rules-bounds : (a u : Option ℕ) (rules : Rules) → ((n : ℕ) → a ≡ Some n → IsUpTo 1000 n) → ((n : ℕ) → u ≡ Some n → IsUpTo 16 n)
     → rules_with a u ≡ Some rules → AreRules rules

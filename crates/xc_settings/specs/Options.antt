@@ -108,10 +108,14 @@ pub record AreJobs (jobs : List ℕ) : Type 0 where
   pub count : IsUpTo 10000 (length jobs)
   pub each : All (IsUpTo 1000) jobs
 
+-- rules keep their bounds
+pub record AreRules (rules : Rules) : Type 0 where
+  pub attempts : IsUpTo 1000 rules.attempts
+  pub patience : rules.patience ≤ 1000000
+  pub undo_tries : IsUpTo 16 rules.undo_tries
+
 -- what is chosen keeps the bounds of the options and of the rules
 pub record KeepsBounds (chosen : Chosen) : Type 0 where
   pub workers : IsUpTo 64 chosen.workers
   pub schedule : IfSome chosen.schedule AreJobs
-  pub attempts : IsUpTo 1000 chosen.rules.attempts
-  pub patience : chosen.rules.patience ≤ 1000000
-  pub undo_tries : IsUpTo 16 chosen.rules.undo_tries
+  pub rules : AreRules chosen.rules

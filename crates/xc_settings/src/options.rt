@@ -1,5 +1,6 @@
 ghost use Rattle.std.specs.Prelude.{◌≡◌, map, string_bytes, IfOk, IsErrOf, None, Some};
-ghost use Rattle.xc_settings.specs.Options.{is_option, are_options, values_of, choice_of, number_in, schedule_of, rules_of, settings_of, KeepsBounds};
+ghost use Rattle.xc_settings.specs.Options.{is_option, are_options, values_of, choice_of, number_in, schedule_of, rules_of};
+ghost use Rattle.xc_settings.specs.Options.{settings_of, KeepsBounds};
 ghost use Rattle.xc_settings.specs.Found.{IsFound};
 
 use crate::values::{jobs, number};
