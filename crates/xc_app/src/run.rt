@@ -246,7 +246,8 @@ pub fn xcalls_run<R: AllocGlobal, S: Source, K: Sink, H: Host>(
 ) -> Finish<H>
     // A status was meant, and it has its cause. What is due with it was written, and it is the run's
     // status; or the sink failed behind a front of that. A run that is meant to be done has an entry
-    // for each transaction, which committed or aborted itself.
+    // for each transaction, which committed or aborted itself; so has one of which effects are left,
+    // where no job gave up.
     ensures answered { (meant : Status) × IsCaused (map string_bytes words.now) H.model.takes_scripts (S.told source.old)
         (S.told source.new) meant
         × IsDoneWith meant result.end × IsSaid meant result (K.told sink.old) (K.told sink.new) }
