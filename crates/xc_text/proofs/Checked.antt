@@ -9,7 +9,7 @@ use Rattle.xc_text.specs.declared.why.Stop.{Stop}
 use Rattle.xc_text.specs.declared.why.Stop.TheVariants as stop
 use Rattle.xc_text.specs.declared.why.Why.{Why}
 use Rattle.xc_text.specs.Answers.{Stops, both, seen}
-use Rattle.xc_text.specs.Grammar.{overwrite_line}
+use Rattle.xc_text.specs.Statements.{overwrite_line}
 use Rattle.xc_text.specs.Pieces.{item_of, items_of, data_of}
 use Rattle.xc_text.specs.Terms.{ident}
 use Rattle.xc_text.specs.Tokens.{Lexeme}

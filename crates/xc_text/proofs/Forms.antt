@@ -2,7 +2,7 @@
 use Rattle.std.proofs.Common.{◌≡◌, List, [], ◌∷◌, length, map, Err, refl}
 use Rattle.xc_text.specs.declared.token.Token.{Token}
 use Rattle.xc_text.specs.declared.why.Why.TheVariants.{BadForm}
-use Rattle.xc_text.specs.Grammar.{read_line, abort_line}
+use Rattle.xc_text.specs.Statements.{read_line, abort_line}
 use Rattle.xc_text.specs.Terms.{expression_of}
 use Rattle.xc_text.specs.Views.{lexeme}
 

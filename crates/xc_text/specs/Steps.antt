@@ -1,8 +1,9 @@
 -- What one more line adds to what was said so far.
 use Rattle.std.specs.Prelude.{ℕ, ◌||◌, ◌&&◌, Bool, true, false, List, [], ◌∷◌, ◌++◌, length, count_by, nat_eq, nat_le, nat_lt, replicate}
-use Rattle.std.specs.Prelude.{slice_set, Option, Some, None, Result, Ok, Err, if◌then◌else◌}
+use Rattle.std.specs.Prelude.{slice_set, is_some, Option, Some, None, Result, Ok, Err, if◌then◌else◌}
 use Rattle.std.specs.List.{list_all, list_any}
 use Rattle.std.specs.Cmp.Lexicographic.{pointwise}
+use Rattle.xc_data.specs.declared.script.Kind.{Kind}
 use Rattle.xc_data.specs.declared.script.Opened.{Opened}
 use Rattle.xc_data.specs.declared.script.Opened.TheVariants.{File}
 use Rattle.xc_text.specs.declared.script.Term.{Term}
@@ -109,6 +110,19 @@ added s name None = Err TooMany
 abbrev pub filed : Said → List ℕ → Option (List ℕ) → Result Said Why
 filed s name bytes = if list_any (is_file_of name) s.objects then Err Twice else added s name bytes
 
+-- a call of a kind fails, by its number from 1
+abbrev pub faulted : Said → Kind → ℕ → Result Said Why
+faulted s kind n =
+    if nat_lt n 1 then Err BadNumber
+    else Ok (record s { faults = s.faults ++ record { kind = kind; first = n; last = n } ∷ [] })
+
+-- a grain of 1 to 65,536 bytes, by one line
+abbrev pub grained : Said → ℕ → Result Said Why
+grained s n =
+    if nat_lt n 1 || nat_lt 65536 n then Err BadNumber
+    else if is_some s.grain then Err Twice
+    else Ok (record s { grain = Some n })
+
 -- a block begins, one of a name, and at most 1,000
 abbrev pub started : Said → List ℕ → Result Said Why
 started s name =
@@ -150,6 +164,8 @@ abbrev pub after : Said → Line → Result Said Why
 after s (line.Words n) = sized_by s n
 after s (line.Word at value) = valued_by s at value
 after s (line.File name bytes) = filed s name bytes
+after s (line.Fault kind n) = faulted s kind n
+after s (line.Grain n) = grained s n
 after s (line.Job name) = started s name
 after s line.Begin = begun s (block_in s.section)
 after s (line.Statement statement) = stated s statement
