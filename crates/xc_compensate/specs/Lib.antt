@@ -1,3 +1,4 @@
 pub mod Records
+pub mod Covered
 pub mod Restoring
 pub mod Turns
