@@ -1,14 +1,38 @@
 -- Effects of records one behind another, and in a world with other words.
-use Rattle.std.proofs.Common.{◌≡◌, ℕ, Option, Some, None, List, [], ◌∷◌, ◌++◌, refl, ap, ◌∙◌}
+use Rattle.std.proofs.Common.{◌≡◌, ◌≢◌, inl, inr, ℕ, Option, Some, None, List, [], ◌∷◌, ◌++◌, refl, ap, sym, ◌∙◌}
 use Rattle.std.proofs.lemmas.List.{map-append}
 use Rattle.xc_data.specs.declared.object.Num.{Num}
 use Rattle.xc_data.specs.declared.undo.Undo.{Undo}
 use Rattle.xc_data.specs.declared.undo.Undo.TheVariants.{Bytes, Tail, Made, Moved, NewPipe, NewPair}
 use Rattle.std.specs.FinMap as finite
+use Rattle.xc_maps.specs.Keys.{num_cmp}
+use Rattle.xc_maps.proofs.Maps.{num_total, num_exact}
+use Rattle.xc_maps.proofs.Laws.{get-insert_cases, get-insert_same}
 use Rattle.xc_world.specs.World.{World}
 use Rattle.xc_world.specs.Trail.{move_name, with_effect}
 use Rattle.xc_world.specs.Ends.{with_remains}
 use Rattle.xc_world.specs.Effects.{whole, AreMadeIn}
+use Rattle.xc_world.proofs.SoundParts.{free_other}
+
+-- ---- one number of a map
+module _ {X : Type 0} where
+  -- what is absent after an insertion was absent before it, and is not its key
+  pub absent_before : (m : finite.FinMap num_cmp X) (at q : Num) (x : X) → finite.get (finite.insert m at x) q ≡ None → (q ≢ at) × (finite.get m q ≡ None)
+  absent_before m at q x none = elim (get-insert_cases num_total num_exact m at q x) [
+    | inl here ↦ absurd (let some = here.1 in cc)
+    | inr is ↦ (
+      (λ e. let there : finite.get (finite.insert m at x) q ≡ Some x =
+          ap (finite.get (finite.insert m at x)) e ∙ get-insert_same num_total num_exact m at x in absurd (cc (none, there))),
+      sym is ∙ none,
+    )
+  ]
+
+  -- insertions at one key keep what is absent
+  pub absent_both : (m n : finite.FinMap num_cmp X) (at q : Num) (x y : X) → (finite.get n q ≡ None → finite.get m q ≡ None)
+      → finite.get (finite.insert n at y) q ≡ None → finite.get (finite.insert m at x) q ≡ None
+  absent_both m n at q x y h none = let was = absent_before n at q y none in free_other m at q x was.0 (h was.1)
+
+-- ---- in a world with other words
 
 -- the world with other words
 abbrev pub with_words : World → List ℕ → World

@@ -1,156 +1,163 @@
--- What remains of overwrites keeps each file's length, and with it a sound world sound.
-use Rattle.std.proofs.Common.{◌≡◌, ℕ, ◌+◌, ◌≤◌, inl, inr, true, is_some, List, [], ◌∷◌, ◌++◌, length, take, drop, map, unwrap_or, ap, sym, ◌∙◌, subst, arith}
-use Rattle.std.proofs.Common.{length-append, length-take, length-drop}
+-- What remains of records, however they ended, leaves a sound world sound.
+use Rattle.std.proofs.Common.{◌≡◌, ◌≢◌, ℕ, ◌≤◌, ◌<◌, true, Option, Some, None, List, [], ◌∷◌, length, map, refl, ap, sym, arith}
+use Rattle.std.specs.Prelude.{All}
 use Rattle.std.specs.FinMap as finite
-use Rattle.std.specs.List.{AllByRecursion}
+use Rattle.std.proofs.lemmas.List.Elements.{All-head, All-tail}
 use Rattle.xc_data.specs.declared.object.Num.{Num}
 use Rattle.xc_data.specs.declared.undo.Undo.{Undo}
 use Rattle.xc_data.specs.declared.undo.Undo.TheVariants.{Bytes, Tail, Made, Moved, NewPipe, NewPair}
 use Rattle.xc_data.specs.declared.undo.UndoEnd.TheVariants.{Undone, Failed, Blocked}
+use Rattle.xc_data.specs.declared.private.Place.{Place}
 use Rattle.xc_data.specs.declared.private.Private.{Private}
+use Rattle.xc_data.specs.Private.{place_of}
 use Rattle.xc_data.specs.Standing.{stopped_at}
-use Rattle.xc_maps.proofs.Maps.{num_total, num_exact}
-use Rattle.xc_maps.proofs.Laws.{get-insert_cases}
-use Rattle.xc_world.specs.World.{World, file_of, with_file}
-use Rattle.xc_world.specs.Sound.{IsSound}
-use Rattle.xc_world.specs.Act.Files.{overwritten}
-use Rattle.xc_world.specs.Trail.{with_effect}
+use Rattle.xc_world.specs.World.{World, file_of, empty_pipe, empty_pair}
+use Rattle.xc_world.specs.Sound.{IsFit, IsFree, IsKnown, IsSound}
+use Rattle.xc_world.specs.Trail.{move_name, with_effect}
 use Rattle.xc_world.specs.Ends.{Ending, remains, with_remains}
-use Rattle.xc_world.specs.Effects.{whole, IsMadeIn, AreMadeIn, IsCovered}
-use Rattle.xc_world.proofs.SoundParts.{keeps_file}
-use Rattle.xc_world.proofs.SoundSteps.{kept_sound}
-use Rattle.xc_world.proofs.EffectsParts.{whole-remains, made-behind}
+use Rattle.xc_world.specs.Effects.{whole, IsMadeIn, AreMadeIn, SparesNew}
+use Rattle.xc_world.proofs.SoundParts.{keeps_file, keeps_moved, adds_named, adds_pipe, adds_pair, all_insert, free_insert, free_other}
+use Rattle.xc_world.proofs.SoundCalls.{empty_short}
+use Rattle.xc_world.proofs.EffectsLengths.{overwrite_within, overwrite_length, append_within, append_length}
+use Rattle.xc_world.proofs.EffectsPart.{IsPart, effect_both, effect_whole, records_of, remains_part, itself_part}
 
--- the same files are there, and each is as long
-pub record IsLike (w v : World) : Type 0 where
-  pub there : (num : Num) → is_some (finite.get v.files num) ≡ is_some (finite.get w.files num)
-  pub size : (num : Num) → length (file_of v num) ≡ length (file_of w num)
+-- ---- the world that all the records left
+-- its files are within their limit
+abbrev pub AreWithin : World → Type 0
+AreWithin v = (q : Num) → length (file_of v q) ≤ 65536
 
-like-sym : (w v : World) → IsLike w v → IsLike v w
-like-sym w v like = record { there = λ num. sym (like.there num); size = λ num. sym (like.size num) }
+effect_limit : (v : World) (u : Undo) → IsMadeIn v u → AreWithin v → AreWithin (with_effect v u 0)
+effect_limit v (Bytes file at before after n) made within q =
+    let size = overwrite_length at n after (file_of v file) made.inside made.within in
+    let most = within file in
+    all_insert (λ (b : List ℕ). length b ≤ 65536) v.files file q _ [] (omega (arith, size, most)) (within q)
+effect_limit v (Tail file from after n) made within q =
+    let size = append_length n after (file_of v file) made.within in
+    let same = made.size in
+    let room = made.room in
+    let few = made.within in
+    all_insert (λ (b : List ℕ). length b ≤ 65536) v.files file q _ [] (omega (arith, size, same, room, few)) (within q)
+effect_limit v (Made name num) made within q = all_insert (λ (b : List ℕ). length b ≤ 65536) v.files num q [] [] (omega arith) (within q)
+effect_limit v (Moved from to) made within q = of_moved (finite.get v.names from)
+  where
+    of_moved : (o : Option Num) → length (file_of (move_name v from to o) q) ≤ 65536
+    of_moved None = within q
+    of_moved (Some num) = within q
+effect_limit v (NewPipe num) made within q = within q
+effect_limit v (NewPair num) made within q = within q
 
--- an effect within the covered bytes keeps the length, from whichever byte on it stands
-effect-size : (at n k : ℕ) (after file : List ℕ) → at + n ≤ length file → length (overwritten (at + k) (drop k (take n after)) file) ≡ length file
-effect-size at n k after file inside =
-    let covered = drop k (take n after) in
-    let l = length-append (take (at + k) file ++ covered) (drop (at + k + length covered) file) in
-    omega (
-      arith,
-      l,
-      length-append (take (at + k) file) covered,
-      length-take (at + k) file,
-      length-drop (at + k + length covered) file,
-      length-drop k (take n after),
-      length-take n after,
-    )
+-- a number that is spared is none of these
+spared : (me : Private) (tx k : ℕ) (num : Num) → (num.tx ≡ tx → num.k < me.made) → me.made ≤ k → record { tx = tx; k = k } ≢ num
+spared me tx k num spares le e =
+    let lt : num.k < me.made = spares (sym (ap (λ (q : Num). q.tx) e)) in
+    let same : k ≡ num.k = ap (λ (q : Num). q.k) e in
+    omega (arith, lt, same, le)
 
-put-like : (w : World) (file : Num) (bytes : List ℕ) → is_some (finite.get w.files file) ≡ true → length bytes ≡ length (file_of w file)
-    → IsLike w (with_file w file bytes)
-put-like w file bytes there size =
+moved_free : (v : World) (from to : List ℕ) (o : Option Num) (q : Num) → IsFree v q → IsFree (move_name v from to o) q
+moved_free v from to None q free = free
+moved_free v from to (Some num) q free = record { file = free.file; pipe = free.pipe; pair = free.pair }
+
+-- a number that is still to be given stays free where a record spares it
+effect_free : (me : Private) (tx k : ℕ) (v : World) (u : Undo) → me.made ≤ k → IsMadeIn v u → SparesNew me tx u → IsFree v (record { tx = tx; k = k })
+    → IsFree (with_effect v u 0) (record { tx = tx; k = k })
+effect_free me tx k v (Bytes file at before after n) le made spares free =
+    record { file = free_insert v.files file (record { tx = tx; k = k }) _ made.there free.file; pipe = free.pipe; pair = free.pair }
+effect_free me tx k v (Tail file from after n) le made spares free =
+    record { file = free_insert v.files file (record { tx = tx; k = k }) _ made.there free.file; pipe = free.pipe; pair = free.pair }
+effect_free me tx k v (Made name num) le made spares free =
     record {
-      there = λ num. elim (get-insert_cases num_total num_exact w.files file num bytes) [
-        | inl at ↦ ap is_some at.1 ∙ sym (ap (λ q. is_some (finite.get w.files q)) at.0 ∙ there)
-        | inr is ↦ ap is_some is
-      ];
-      size = λ num. elim (get-insert_cases num_total num_exact w.files file num bytes) [
-        | inl at ↦ ap (λ o. length (unwrap_or o [])) at.1 ∙ size ∙ sym (ap (λ q. length (file_of w q)) at.0)
-        | inr is ↦ ap (λ o. length (unwrap_or o [])) is
-      ];
+      file = free_other v.files num (record { tx = tx; k = k }) [] (spared me tx k num spares le) free.file;
+      pipe = free.pipe;
+      pair = free.pair;
+    }
+effect_free me tx k v (Moved from to) le made spares free = moved_free v from to (finite.get v.names from) (record { tx = tx; k = k }) free
+effect_free me tx k v (NewPipe num) le made spares free =
+    record {
+      file = free.file;
+      pipe = free_other v.pipes num (record { tx = tx; k = k }) empty_pipe (spared me tx k num spares le) free.pipe;
+      pair = free.pair;
+    }
+effect_free me tx k v (NewPair num) le made spares free =
+    record {
+      file = free.file;
+      pipe = free.pipe;
+      pair = free_other v.pairs num (record { tx = tx; k = k }) empty_pair (spared me tx k num spares le) free.pair;
     }
 
--- a covered effect keeps which files are there and each one's length
-pub effect-like : (w : World) (u : Undo) (k : ℕ) → IsCovered w u → IsLike w (with_effect w u k)
-effect-like w (Bytes file at before after n) k covered = put-like w file _ covered.0 (effect-size at n k after (file_of w file) covered.1)
-effect-like w (Tail file from after n) k covered = absurd covered
-effect-like w (Made name num) k covered = absurd covered
-effect-like w (Moved from to) k covered = absurd covered
-effect-like w (NewPipe num) k covered = absurd covered
-effect-like w (NewPair num) k covered = absurd covered
+all_free : (me : Private) (tx k : ℕ) (v : World) (us : List Undo) → me.made ≤ k → AreMadeIn v us → All (SparesNew me tx) us
+    → IsFree v (record { tx = tx; k = k })
+    → IsFree (with_remains v (whole us)) (record { tx = tx; k = k })
+all_free me tx k v [] le made spares free = free
+all_free me tx k v (u ∷ us) le made spares free =
+    all_free me tx k (with_effect v u 0) us le made.1 (All-tail (SparesNew me tx) u us spares)
+    (effect_free me tx k v u le made.0 (All-head (SparesNew me tx) u us spares) free)
 
-covered-like : (w v : World) (u : Undo) → IsLike w v → IsCovered w u → IsCovered v u
-covered-like w v (Bytes file at before after n) like covered =
-    let size = like.size file in
-    let inside : at + n ≤ length (file_of w file) = covered.1 in
-    (like.there file ∙ covered.0, omega (arith, size, inside))
-covered-like w v (Tail file from after n) like covered = covered
-covered-like w v (Made name num) like covered = covered
-covered-like w v (Moved from to) like covered = covered
-covered-like w v (NewPipe num) like covered = covered
-covered-like w v (NewPair num) like covered = covered
+-- ---- the world with what remains
+-- it is fit, and has what the first one had
+pub record StaysFit (w r : World) : Type 0 where
+  pub fit : IsFit r
+  pub known : (p : Place) → IsKnown w p → IsKnown r p
 
--- ---- records that were made are covered, also all of them in the world before the first
-pub one-covered : (w : World) (u : Undo) → IsMadeIn w u → IsCovered w u
-one-covered w (Bytes file at before after n) made =
-    let inside : at + length after ≤ length (file_of w file) = made.inside in
-    let within : n ≤ length after = made.within in
-    (made.there, omega (arith, inside, within))
-one-covered w (Tail file from after n) made = made
-one-covered w (Made name num) made = made
-one-covered w (Moved from to) made = made
-one-covered w (NewPipe num) made = made
-one-covered w (NewPair num) made = made
+fit_moved : (w : World) (from to : List ℕ) (o : Option Num) → finite.get w.names from ≡ o → IsFit w → StaysFit w (move_name w from to o)
+fit_moved w from to None e fit = record { fit = fit; known = λ p known. known }
+fit_moved w from to (Some num) e fit = let keeps = keeps_moved true w from to num e fit in record { fit = keeps.fit; known = keeps.known }
 
--- each record is covered
-abbrev pub AreCovered : World → List Undo → Type 0
-AreCovered w us = AllByRecursion (IsCovered w) us
+effect_fit : (r v : World) (u : Undo) (k : ℕ) → IsMadeIn v u → IsPart r v → AreWithin v
+    → IsFit r → StaysFit r (with_effect r u k)
+effect_fit r v (Bytes file at before after n) k made part limit fit =
+    let size = part.size file in
+    let inside = made.inside in
+    let within = made.within in
+    let some = overwrite_within at n k (length (file_of v file)) after (file_of r file) size (omega (arith, inside, within)) within in
+    let most = limit file in
+    let keeps = keeps_file r file _ (omega (arith, some, most)) fit in
+    record { fit = keeps.fit; known = keeps.known }
+effect_fit r v (Tail file from after n) k made part limit fit =
+    let some = append_within n k (length (file_of v file)) after (file_of r file) (part.size file) in
+    let size = made.size in
+    let room = made.room in
+    let within = made.within in
+    let keeps = keeps_file r file _ (omega (arith, some, size, room, within)) fit in
+    record { fit = keeps.fit; known = keeps.known }
+effect_fit r v (Made name num) k made part limit fit = let adds = adds_named r name num [] (omega arith) fit in record { fit = adds.fit; known = adds.known }
+effect_fit r v (Moved from to) k made part limit fit = fit_moved r from to (finite.get r.names from) refl fit
+effect_fit r v (NewPipe num) k made part limit fit = let adds = adds_pipe r num empty_pipe fit in record { fit = adds.fit; known = adds.known }
+effect_fit r v (NewPair num) k made part limit fit = let adds = adds_pair r num empty_pair empty_short fit in record { fit = adds.fit; known = adds.known }
 
-all-covered-like : (w v : World) (us : List Undo) → IsLike w v → AreCovered w us → AreCovered v us
-all-covered-like w v [] like covered = tt
-all-covered-like w v (u ∷ us) like covered = (covered-like w v u like covered.0, all-covered-like w v us like covered.1)
+goes_on_fit : (w r s : World) → StaysFit w r → StaysFit r s → StaysFit w s
+goes_on_fit w r s first next = record { fit = next.fit; known = λ p known. next.known p (first.known p known) }
 
--- records that were made are covered in the world before the first
-pub all-covered : (w : World) (us : List Undo) → AreMadeIn w us → AreCovered w us
-all-covered w [] made = tt
-all-covered w (u ∷ us) made =
-    let one = one-covered w u made.0 in
-    let v = with_effect w u 0 in
-    (one, all-covered-like v w us (like-sym w v (effect-like w u 0 one)) (all-covered v us made.1))
-
--- ---- what each covered effect keeps, all that remains of them keeps
-abbrev pub IsKept : (World → Type 0) → Type 0
-IsKept P = (v : World) (u : Undo) (k : ℕ) → IsCovered v u → P v → P (with_effect v u k)
-
-still-covered : (w : World) (u : Undo) (k : ℕ) (records : List Ending) → AreCovered w (u ∷ map (λ r. r.0) records)
-    → AreCovered (with_effect w u k) (map (λ r. r.0) records)
-still-covered w u k records covered = all-covered-like w (with_effect w u k) (map (λ r. r.0) records) (effect-like w u k covered.0) covered.1
-
--- what each covered effect keeps, what remains of covered records keeps
-pub remains-keep : (P : World → Type 0) → IsKept P → (w : World) (records : List Ending) → AreCovered w (map (λ r. r.0) records) → P w
-    → P (with_remains w (remains records))
-remains-keep P keep w [] covered p = p
-remains-keep P keep w ((u, Undone faults) ∷ records) covered p = remains-keep P keep w records covered.1 p
-remains-keep P keep w ((u, Failed done faults) ∷ records) covered p =
+-- from a part of the world that they were made in
+all_fit : (w r v : World) (records : List Ending) → AreMadeIn v (records_of records) → IsPart r v → AreWithin v → StaysFit w r
+    → StaysFit w (with_remains r (remains records))
+all_fit w r v [] made part within stays = stays
+all_fit w r v ((u, Undone faults) ∷ records) made part within stays =
+    all_fit w r (with_effect v u 0) records made.1 (effect_whole r v u made.0 part) (effect_limit v u made.0 within) stays
+all_fit w r v ((u, Failed done faults) ∷ records) made part within stays =
     let k = stopped_at u done in
-    remains-keep P keep (with_effect w u k) records (still-covered w u k records covered) (keep w u k covered.0 p)
-remains-keep P keep w ((u, Blocked by) ∷ records) covered p =
-    remains-keep P keep (with_effect w u 0) records (still-covered w u 0 records covered) (keep w u 0 covered.0 p)
+    all_fit w (with_effect r u k) (with_effect v u 0) records made.1 (effect_both r v u k made.0 part) (effect_limit v u made.0 within)
+    (goes_on_fit w r (with_effect r u k) stays (effect_fit r v u k made.0 part within stays.fit))
+all_fit w r v ((u, Blocked by) ∷ records) made part within stays =
+    all_fit w (with_effect r u 0) (with_effect v u 0) records made.1 (effect_both r v u 0 made.0 part) (effect_limit v u made.0 within)
+    (goes_on_fit w r (with_effect r u 0) stays (effect_fit r v u 0 made.0 part within stays.fit))
 
--- ---- the newest record that stands whole
-pub record-covered : (w : World) (older : List Undo) (u : Undo) (newer : List Ending) → AreMadeIn w (older ++ u ∷ map (λ r. r.0) newer)
-    → IsCovered (with_remains w (whole (older ++ u ∷ []) ++ remains newer)) u
-record-covered w older u newer made =
-    let x = with_remains w (whole older) in
-    let v = with_effect x u 0 in
-    let later = made-behind w older (u ∷ map (λ r. r.0) newer) made in
-    let one = one-covered x u later.0 in
-    subst (λ y. IsCovered y u) (sym (whole-remains w older u (remains newer)))
-    (remains-keep (λ y. IsCovered y u) (λ y q k covered is. covered-like y (with_effect y q k) u (effect-like y q k covered) is) v newer
-    (all-covered v (map (λ r. r.0) newer) later.1) (covered-like x v u (effect-like x u 0 one) one))
+-- what remains of records that were made leaves a fit world fit, and what was there
+pub remains-fit : (w : World) (records : List Ending) → AreMadeIn w (records_of records) → IsFit w → StaysFit w (with_remains w (remains records))
+remains-fit w records made fit = all_fit w w w records made (itself_part w) fit.files (record { fit = fit; known = λ p known. known })
 
--- ---- a sound world
-effect-sound : (me : Private) (tx : ℕ) → IsKept (λ v. IsSound v me tx)
-effect-sound me tx v (Bytes file at before after n) k covered sound =
-    let next = overwritten (at + k) (drop k (take n after)) (file_of v file) in
-    let size : length next ≡ length (file_of v file) = effect-size at n k after (file_of v file) covered.1 in
-    kept_sound v (with_file v file next) me tx (keeps_file v file next (omega (arith, size, sound.world.files file)) sound.world) covered.0 sound
-effect-sound me tx v (Tail file from after n) k covered sound = absurd covered
-effect-sound me tx v (Made name num) k covered sound = absurd covered
-effect-sound me tx v (Moved from to) k covered sound = absurd covered
-effect-sound me tx v (NewPipe num) k covered sound = absurd covered
-effect-sound me tx v (NewPair num) k covered sound = absurd covered
-
--- what remains of records that were made keeps a private state sound
-pub remains-sound : (w : World) (me : Private) (tx : ℕ) (records : List Ending) → AreMadeIn w (map (λ r. r.0) records) → IsSound w me tx
-    → IsSound (with_remains w (remains records)) me tx
-remains-sound w me tx records made sound =
-    remains-keep (λ v. IsSound v me tx) (effect-sound me tx) w records (all-covered w (map (λ r. r.0) records) made) sound
+-- where none of them makes an object that a private state is still to make, that stays sound
+pub remains-sound : (w : World) (me : Private) (tx : ℕ) (records : List Ending) → AreMadeIn w (map (λ r. r.0) records)
+    → All (SparesNew me tx) (map (λ r. r.0) records) → IsSound w me tx → IsSound (with_remains w (remains records)) me tx
+remains-sound w me tx records made spares sound =
+    let stays = remains-fit w records made sound.world in
+    let part = remains_part w w records made (itself_part w) in
+    record {
+      world = stays.fit;
+      made = sound.made;
+      stored = sound.stored;
+      new = λ k low.
+          let q : Num = record { tx = tx; k = k } in
+          let free = all_free me tx k w (records_of records) low made spares (sound.new k low) in
+          record { file = part.files q free.file; pipe = part.pipes q free.pipe; pair = part.pairs q free.pair };
+      handles = λ h. stays.known (place_of me.places h) (sound.handles h);
+    }

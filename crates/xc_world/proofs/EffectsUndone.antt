@@ -1,26 +1,33 @@
--- A compensation with a legal end leaves what remains with that end.
-use Rattle.std.proofs.Common.{◌≡◌, ◌≢◌, ℕ, ◌+◌, ◌-◌, ◌≤◌, ◌<◌, rules, Bool, true, false, Option, Some, None, is_some, unwrap_or, List, [], ◌∷◌, ◌++◌, length}
-use Rattle.std.proofs.Common.{take, drop, map, refl, ap, ap₂, sym, ◌∙◌, append_assoc, arith, length-drop}
-use Rattle.std.specs.Prelude.{◌==◌, if◌then◌else◌}
+-- A compensation with a legal end leaves what remains with that end, and finds its record covered.
+use Rattle.std.proofs.Common.{◌≡◌, ◌≢◌, ℕ, ◌+◌, ◌-◌, ◌≤◌, ◌<◌, true, cond, Option, Some, None, is_some, unwrap_or, List, [], ◌∷◌, ◌++◌, length, take, drop, map}
+use Rattle.std.proofs.Common.{ap, ap₂, sym, ◌∙◌, append_assoc, arith, length-drop, subst, refl}
+use Rattle.std.specs.Prelude.{◌==◌}
 use Rattle.std.specs.FinMap as finite
-use Rattle.std.proofs.lemmas.Bool.{false≢true, eqb-true, cond_both}
+use Rattle.std.specs.Cmp.Lexicographic.{nat_list_cmp_total}
+use Rattle.std.proofs.lemmas.Bool.{eqb-true, cond_both}
 use Rattle.std.proofs.lemmas.List.{take-append-drop, take-take, length-take-le}
-use Rattle.std.proofs.Math.Seq.{take-add}
+use Rattle.std.proofs.lemmas.Map.Lookups.{exact_bytes}
+use Rattle.std.proofs.Math.Seq.{take-add, take-append_seam}
 use Rattle.xc_data.specs.declared.object.Num.{Num}
 use Rattle.xc_data.specs.declared.undo.Undo.{Undo}
 use Rattle.xc_data.specs.declared.undo.Undo.TheVariants.{Bytes, Tail, Made, Moved, NewPipe, NewPair}
 use Rattle.xc_data.specs.declared.undo.UndoEnd.{UndoEnd}
 use Rattle.xc_data.specs.declared.undo.UndoEnd.TheVariants.{Undone, Failed, Blocked}
-use Rattle.xc_maps.proofs.Maps.{num_total, num_exact}
-use Rattle.xc_maps.proofs.Laws.{get-insert_same, get-insert_other, insert-insert_same, insert-insert_other, insert-get_same}
-use Rattle.xc_world.specs.World.{World, file_of, with_file}
+use Rattle.xc_data.specs.Standing.{stopped_at}
+use Rattle.xc_maps.proofs.Maps.{num_total, num_exact, undone as removed_again}
+use Rattle.xc_maps.proofs.Laws.{alike, get-insert_same, get-insert_other, insert-insert_same, insert-get_same, insert-remove_same}
+use Rattle.xc_world.specs.World.{World, file_of, with_file, empty_pipe, empty_pair}
 use Rattle.xc_world.specs.Act.Files.{overwritten}
-use Rattle.xc_world.specs.Trail.{with_effect, undone}
-use Rattle.xc_world.specs.Ends.{Ending, share_object, blocker, IsLegalEnd, remains, with_remains}
-use Rattle.xc_world.specs.Effects.{whole, IsOverwriteIn, AreMadeIn, restored, undone_to}
+use Rattle.xc_world.specs.Trail.{move_name, with_effect, undone}
+use Rattle.xc_world.specs.Ends.{Ending, blocker, IsLegalEnd, RestoredFits, remains, with_remains}
+use Rattle.xc_world.specs.Effects.{whole, IsMadeIn, AreMadeIn, IsCovered, restored, undone_to}
+use Rattle.xc_world.proofs.SoundParts.{there_put}
 use Rattle.xc_world.proofs.UndoingParts.{restored as back_again, swapped, there_by}
+use Rattle.xc_world.proofs.UndoingCalls.{none-removed}
 use Rattle.xc_world.proofs.EffectsParts.{whole-remains, remains-append, made-behind}
 use Rattle.xc_world.proofs.EffectsCalls.{at_start}
+use Rattle.xc_world.proofs.EffectsLengths.{overwrite_length, append_length}
+use Rattle.xc_world.proofs.EffectsApart.{effect_behind, made_past, newer_beside}
 
 -- ---- lists
 -- where the first bytes of an overwrite are put back, it stands from there on
@@ -45,129 +52,117 @@ front_restored at n done after file le within inside =
     ∙ (sym (append_assoc (take (at + done) file) (drop done a) q)
     ∙ ap (λ k. (take (at + done) file ++ drop done a) ++ drop k file) (sym end))))
 
--- ---- what stands of other files
-abbrev pub IsBeside : Num → List (Undo × ℕ) → Type 0
-IsBeside file [] = Unit {0}
-IsBeside file ((Bytes other at before after n, k) ∷ rest) = (other ≢ file) × IsBeside file rest
-IsBeside file (_ ∷ rest) = ⊥
-
-file-other : (w : World) (file other : Num) (bytes : List ℕ) → (other ≢ file) → file_of (with_file w file bytes) other ≡ file_of w other
-file-other w file other bytes ne = ap (λ o. unwrap_or o []) (get-insert_other num_total num_exact w.files file other bytes ne)
-
+-- ---- a file that was changed, and is changed again
 file-same : (w : World) (file : Num) (bytes : List ℕ) → file_of (with_file w file bytes) file ≡ bytes
 file-same w file bytes = ap (λ o. unwrap_or o []) (get-insert_same num_total num_exact w.files file bytes)
 
--- a file is put before them or behind
-remains-beside : (w : World) (file : Num) (bytes : List ℕ) (rest : List (Undo × ℕ)) → IsBeside file rest
-    → with_remains (with_file w file bytes) rest ≡ with_file (with_remains w rest) file bytes
-remains-beside w file bytes [] beside = refl
-remains-beside w file bytes ((Bytes other at before after n, k) ∷ rest) beside =
-    let v = with_file w file bytes in
-    let f = λ (xs : List ℕ). overwritten (at + k) (drop k (take n after)) xs in
-    let e : with_file v other (f (file_of v other)) ≡ with_file (with_file w other (f (file_of w other))) file bytes =
-    ap (λ xs. with_file v other (f xs)) (file-other w file other bytes beside.0)
-    ∙ ap (λ m. record w { files = m }) (insert-insert_other num_total num_exact w.files file other bytes (f (file_of w other)) (λ is. beside.0 (sym is))) in
-    ap (λ x. with_remains x rest) e ∙ remains-beside (with_file w other (f (file_of w other))) file bytes rest beside.1
-remains-beside w file bytes ((Tail other from after n, k) ∷ rest) beside = absurd beside
-remains-beside w file bytes ((Made name num, k) ∷ rest) beside = absurd beside
-remains-beside w file bytes ((Moved from to, k) ∷ rest) beside = absurd beside
-remains-beside w file bytes ((NewPipe num, k) ∷ rest) beside = absurd beside
-remains-beside w file bytes ((NewPair num, k) ∷ rest) beside = absurd beside
-
--- ---- nothing stands in the way
--- neither here nor behind
-none_blocks : (b : Bool) (from : ℕ) (o : Option ℕ) → (if b then Some from else o) ≡ None → (b ≡ false) × (o ≡ None)
-none_blocks true from o e = cc
-none_blocks false from o e = (refl, e)
-
-shares_itself : (file : Num) (at n : ℕ) (before after : List ℕ) (i m : ℕ) (xs ys : List ℕ)
-    → share_object (Bytes file at before after n) (Bytes file i xs ys m) ≡ true
-shares_itself file at n before after i m xs ys = search (rules)
-
-shares_none : (file other : Num) (at n : ℕ) (before after : List ℕ) (i m : ℕ) (xs ys : List ℕ)
-    → share_object (Bytes file at before after n) (Bytes other i xs ys m) ≡ false → (other ≢ file)
-shares_none file other at n before after i m xs ys apart e =
-    false≢true (sym apart ∙ (ap (λ f. share_object (Bytes file at before after n) (Bytes f i xs ys m)) e ∙ shares_itself file at n before after i m xs ys))
-
--- the newer records that stand are of other files
-newer-beside : (w : World) (from : ℕ) (file : Num) (at n : ℕ) (before after : List ℕ) (newer : List Ending) → AreMadeIn w (map (λ r. r.0) newer)
-    → blocker from (Bytes file at before after n) newer ≡ None → IsBeside file (remains newer)
-newer-beside w from file at n before after [] made free = tt
-newer-beside w from file at n before after ((Bytes other i xs ys m, Undone faults) ∷ newer) made free =
-    newer-beside (with_effect w (Bytes other i xs ys m) 0) (from + 1) file at n before after newer made.1 free
-newer-beside w from file at n before after ((Bytes other i xs ys m, Failed done faults) ∷ newer) made free =
-    let both = none_blocks (share_object (Bytes file at before after n) (Bytes other i xs ys m)) from _ free in (
-      shares_none file other at n before after i m xs ys both.0,
-      newer-beside (with_effect w (Bytes other i xs ys m) 0) (from + 1) file at n before after newer made.1 both.1,
-    )
-newer-beside w from file at n before after ((Bytes other i xs ys m, Blocked by) ∷ newer) made free =
-    let both = none_blocks (share_object (Bytes file at before after n) (Bytes other i xs ys m)) from _ free in (
-      shares_none file other at n before after i m xs ys both.0,
-      newer-beside (with_effect w (Bytes other i xs ys m) 0) (from + 1) file at n before after newer made.1 both.1,
-    )
-newer-beside w from file at n before after ((Tail other i xs m, end) ∷ newer) made free = absurd made.0
-newer-beside w from file at n before after ((Made name num, end) ∷ newer) made free = absurd made.0
-newer-beside w from file at n before after ((Moved old new, end) ∷ newer) made free = absurd made.0
-newer-beside w from file at n before after ((NewPipe num, end) ∷ newer) made free = absurd made.0
-newer-beside w from file at n before after ((NewPair num, end) ∷ newer) made free = absurd made.0
-
--- ---- one compensation
--- what is done to a file behind them can be done before them
-changed-beside : (w : World) (file : Num) (bytes next : List ℕ) (g : List ℕ → List ℕ) (rest : List (Undo × ℕ)) → IsBeside file rest → g bytes ≡ next
-    → (let x = with_remains (with_file w file bytes) rest in with_file x file (g (file_of x file)) ≡ with_remains (with_file w file next) rest)
-changed-beside w file bytes next g rest beside e =
-    let y = with_remains w rest in
-    let z = with_file y file bytes in
-    ap (λ (x : World). with_file x file (g (file_of x file))) (remains-beside w file bytes rest beside)
-    ∙ (ap (λ xs. with_file z file (g xs)) (file-same y file bytes)
-    ∙ (ap (λ m. record y { files = m }) (insert-insert_same num_total num_exact y.files file bytes (g bytes))
-    ∙ (ap (with_file y file) e ∙ sym (remains-beside w file next rest beside))))
+changed : (w : World) (file : Num) (bytes next : List ℕ) (g : List ℕ → List ℕ) → g bytes ≡ next
+    → (let x = with_file w file bytes in with_file x file (g (file_of x file)) ≡ with_file w file next)
+changed w file bytes next g e =
+    let x = with_file w file bytes in
+    ap (λ xs. with_file x file (g xs)) (file-same w file bytes)
+    ∙ (ap (λ m. record w { files = m }) (insert-insert_same num_total num_exact w.files file bytes (g bytes)) ∙ ap (with_file w file) e)
 
 -- the file as it is
 file-again : (w : World) (file : Num) → is_some (finite.get w.files file) ≡ true → with_file w file (file_of w file) ≡ w
 file-again w file there =
     ap (λ m. record w { files = m }) (insert-get_same num_total num_exact w.files file (file_of w file) (there_by (finite.get w.files file) [] there))
 
-undone-beside : (w : World) (file : Num) (at n : ℕ) (before after : List ℕ) (rest : List (Undo × ℕ)) → IsOverwriteIn w file at before after n
-    → IsBeside file rest
-    → undone (with_remains (with_effect w (Bytes file at before after n) 0) rest) (Bytes file at before after n) ≡ with_remains w rest
-undone-beside w file at n before after rest made beside =
+-- ---- a name that moved, and moves back
+moved_back : (w : World) (from to : List ℕ) (o : Option Num) → finite.get w.names from ≡ o → is_some o ≡ true → finite.get w.names to ≡ None
+    → (let x = move_name w from to o in move_name x to from (finite.get x.names to) ≡ w)
+moved_back w from to None e there vacant = cc
+moved_back w from to (Some num) e there vacant =
+    let without = finite.remove w.names from in
+    let x = move_name w from to (Some num) in
+    ap (move_name x to from) (get-insert_same nat_list_cmp_total exact_bytes without to num)
+    ∙ (ap (λ m. record w { names = finite.insert m from num })
+    (removed_again nat_list_cmp_total exact_bytes without to num (none-removed w.names from to vacant))
+    ∙ ap (λ m. record w { names = m }) (insert-remove_same nat_list_cmp_total exact_bytes w.names from num e))
+
+moved_covered : (w : World) (from to : List ℕ) (o : Option Num) → finite.get w.names from ≡ o → is_some o ≡ true → finite.get w.names to ≡ None
+    → IsCovered (move_name w from to o) (Moved from to)
+moved_covered w from to None e there vacant = cc
+moved_covered w from to (Some num) e there vacant =
+    let without = finite.remove w.names from in
+    let two : from ≢ to = λ same. let gone : finite.get w.names from ≡ None = ap (finite.get w.names) same ∙ vacant in cc in (
+      get-insert_other nat_list_cmp_total exact_bytes without to from num two
+          ∙ (finite.get-remove nat_list_cmp_total w.names from from
+          ∙ ap (λ b. cond b None (finite.get w.names from)) (alike nat_list_cmp_total exact_bytes from)),
+      ap is_some (get-insert_same nat_list_cmp_total exact_bytes without to num),
+    )
+
+-- ---- one record, with nothing behind it
+effect_undone : (w : World) (u : Undo) → IsMadeIn w u → undone (with_effect w u 0) u ≡ w
+effect_undone w (Bytes file at before after n) made =
     let f = file_of w file in
-    let whole_again : overwritten at (take n before) (overwritten (at + 0) (take n after) f) ≡ f =
+    let again : overwritten at (take n before) (overwritten (at + 0) (take n after) f) ≡ f =
     ap₂ (λ x y. overwritten at (take n x) y) made.old (at_start at (take n after) f)
     ∙ back_again at n (length after) (take n after) f (length-take-le n after made.within) made.within (omega (arith, made.inside, made.within)) in
-    changed-beside w file (overwritten (at + 0) (take n after) f) f (overwritten at (take n before)) rest beside whole_again
-    ∙ ap (λ v. with_remains v rest) (file-again w file made.there)
+    changed w file (overwritten (at + 0) (take n after) f) f (overwritten at (take n before)) again ∙ file-again w file made.there
+effect_undone w (Tail file from after n) made =
+    let f = file_of w file in
+    let again : take from (f ++ take n after) ≡ f = ap (λ k. take k (f ++ take n after)) (sym made.size) ∙ take-append_seam f (take n after) in
+    changed w file (f ++ take n after) f (take from) again ∙ file-again w file made.there
+effect_undone w (Made name num) made =
+    ap (λ m. record w { names = m; files = finite.remove (finite.insert w.files num []) num })
+    (removed_again nat_list_cmp_total exact_bytes w.names name num made.unnamed)
+    ∙ ap (λ m. record w { files = m }) (removed_again num_total num_exact w.files num [] made.absent)
+effect_undone w (Moved from to) made = moved_back w from to (finite.get w.names from) refl made.there made.vacant
+effect_undone w (NewPipe num) made = ap (λ m. record w { pipes = m }) (removed_again num_total num_exact w.pipes num empty_pipe made)
+effect_undone w (NewPair num) made = ap (λ m. record w { pairs = m }) (removed_again num_total num_exact w.pairs num empty_pair made)
 
-restored-beside : (w : World) (file : Num) (at n : ℕ) (before after : List ℕ) (rest : List (Undo × ℕ)) (done : ℕ) → IsOverwriteIn w file at before after n
-    → done ≤ n → IsBeside file rest
-    → restored (with_remains (with_effect w (Bytes file at before after n) 0) rest) (Bytes file at before after n) done
-    ≡ with_remains (with_effect w (Bytes file at before after n) done) rest
-restored-beside w file at n before after rest done made le beside =
+effect_restored : (w : World) (u : Undo) (done : ℕ) → IsMadeIn w u → RestoredFits u done
+    → restored (with_effect w u 0) u done ≡ with_effect w u (stopped_at u done)
+effect_restored w (Bytes file at before after n) done made fits =
     let f = file_of w file in
     let u = Bytes file at before after n in
+    let few : done < n = fits in
     let next = overwritten (at + done) (drop done (take n after)) f in
     let front : overwritten at (take done before) (overwritten (at + 0) (take n after) f) ≡ next =
-    ap₂ (λ x y. overwritten at (take done x) y) made.old (at_start at (take n after) f) ∙ front_restored at n done after f le made.within made.inside in
-    cond_both (done == 0) _ _ (λ x. x ≡ with_remains (with_effect w u done) rest)
-    (λ none. ap (λ k. with_remains (with_effect w u k) rest) (sym (eqb-true done 0 none)))
-    (λ _. changed-beside w file (overwritten (at + 0) (take n after) f) next (overwritten at (take done before)) rest beside front)
+    ap₂ (λ x y. overwritten at (take done x) y) made.old (at_start at (take n after) f)
+    ∙ front_restored at n done after f (omega (arith, few)) made.within made.inside in
+    cond_both (done == 0) _ _ (λ x. x ≡ with_effect w u done) (λ none. ap (with_effect w u) (sym (eqb-true done 0 none)))
+    (λ _. changed w file (overwritten (at + 0) (take n after) f) next (overwritten at (take done before)) front)
+effect_restored w (Tail file from after n) done made fits = refl
+effect_restored w (Made name num) done made fits = refl
+effect_restored w (Moved from to) done made fits = refl
+effect_restored w (NewPipe num) done made fits = refl
+effect_restored w (NewPair num) done made fits = refl
+
+effect_covered : (w : World) (u : Undo) → IsMadeIn w u → IsCovered (with_effect w u 0) u
+effect_covered w (Bytes file at before after n) made =
+    let f = file_of w file in
+    let next = overwritten (at + 0) (take n after) f in
+    let inside = made.inside in
+    let within = made.within in
+    let size = overwrite_length at n after f inside within in
+    (there_put w.files file next, subst (λ (xs : List ℕ). at + n ≤ length xs) (sym (file-same w file next)) (omega (arith, inside, within, size)))
+effect_covered w (Tail file from after n) made =
+    let f = file_of w file in
+    let next = f ++ take n after in
+    let same = made.size in
+    let size = append_length n after f made.within in
+    (there_put w.files file next, subst (λ (xs : List ℕ). from + n ≤ length xs) (sym (file-same w file next)) (omega (arith, same, size)))
+effect_covered w (Made name num) made = (get-insert_same nat_list_cmp_total exact_bytes w.names name num, there_put w.files num [])
+effect_covered w (Moved from to) made = moved_covered w from to (finite.get w.names from) refl made.there made.vacant
+effect_covered w (NewPipe num) made = there_put w.pipes num empty_pipe
+effect_covered w (NewPair num) made = there_put w.pairs num empty_pair
 
 -- ---- with what stands of newer ones
-ended-beside : (w : World) (u : Undo) (newer : List Ending) (tries from : ℕ) (end : UndoEnd) → AreMadeIn w (u ∷ map (λ r. r.0) newer)
+ended-beside : (w : World) (u : Undo) (newer : List Ending) (tries from : ℕ) (end : UndoEnd) → IsMadeIn w u
     → IsLegalEnd tries u end (blocker from u newer)
     → undone_to (with_remains (with_effect w u 0) (remains newer)) u end ≡ with_remains w (remains ((u, end) ∷ newer))
 ended-beside w u newer tries from (Blocked by) made legal = refl
-ended-beside w (Bytes file at before after n) newer tries from (Undone faults) made legal =
-    undone-beside w file at n before after (remains newer) made.0 (newer-beside _ from file at n before after newer made.1 legal.0)
-ended-beside w (Bytes file at before after n) newer tries from (Failed done faults) made legal =
-    let few : done < n = legal.2 in
-    restored-beside w file at n before after (remains newer) done made.0 (omega (arith, few)) (newer-beside _ from file at n before after newer made.1 legal.0)
-ended-beside w (Tail file from after n) newer tries i end made legal = absurd made.0
-ended-beside w (Made name num) newer tries i end made legal = absurd made.0
-ended-beside w (Moved from to) newer tries i end made legal = absurd made.0
-ended-beside w (NewPipe num) newer tries i end made legal = absurd made.0
-ended-beside w (NewPair num) newer tries i end made legal = absurd made.0
+ended-beside w u newer tries from (Undone faults) made legal =
+    let rest = remains newer in
+    let beside = newer_beside u from newer legal.0 in
+    ap (λ v. undone v u) (effect_behind w u 0 rest beside) ∙ effect_undone (with_remains w rest) u (made_past w u rest beside made)
+ended-beside w u newer tries from (Failed done faults) made legal =
+    let rest = remains newer in
+    let beside = newer_beside u from newer legal.0 in
+    ap (λ v. restored v u done) (effect_behind w u 0 rest beside)
+    ∙ (effect_restored (with_remains w rest) u done (made_past w u rest beside made) legal.2 ∙ sym (effect_behind w u (stopped_at u done) rest beside))
 
 -- a compensation of the newest record that stands whole leaves what its end tells of
 pub record-undone : (w : World) (older : List Undo) (u : Undo) (newer : List Ending) (tries : ℕ) (end : UndoEnd)
@@ -177,5 +172,15 @@ pub record-undone : (w : World) (older : List Undo) (u : Undo) (newer : List End
 record-undone w older u newer tries end made legal =
     let v = with_remains w (whole older) in
     ap (λ x. undone_to x u end) (whole-remains w older u (remains newer))
-    ∙ (ended-beside v u newer tries (length older + 1 + 1) end (made-behind w older (u ∷ map (λ r. r.0) newer) made) legal
+    ∙ (ended-beside v u newer tries (length older + 1 + 1) end (made-behind w older (u ∷ map (λ r. r.0) newer) made).0 legal
     ∙ sym (remains-append w (whole older) (remains ((u, end) ∷ newer))))
+
+-- the newest record that stands whole is covered, where nothing is in its way
+pub record-covered : (w : World) (older : List Undo) (u : Undo) (newer : List Ending) → AreMadeIn w (older ++ u ∷ map (λ r. r.0) newer)
+    → blocker (length older + 1 + 1) u newer ≡ None → IsCovered (with_remains w (whole (older ++ u ∷ []) ++ remains newer)) u
+record-covered w older u newer made free =
+    let v = with_remains w (whole older) in
+    let rest = remains newer in
+    let beside = newer_beside u (length older + 1 + 1) newer free in
+    subst (λ x. IsCovered x u) (sym (whole-remains w older u rest ∙ effect_behind v u 0 rest beside))
+    (effect_covered (with_remains v rest) u (made_past v u rest beside (made-behind w older (u ∷ map (λ r. r.0) newer) made).0))

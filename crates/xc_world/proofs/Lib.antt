@@ -17,8 +17,12 @@ pub mod EffectsParts
 pub mod EffectsCalls
 pub mod EffectsBody
 pub mod EffectsMade
-pub mod EffectsRemains
+pub mod EffectsLengths
+pub mod EffectsApart
+pub mod EffectsTrail
 pub mod EffectsUndone
+pub mod EffectsPart
+pub mod EffectsRemains
 pub mod LocalParts
 pub mod LocalCalls
 pub mod Local

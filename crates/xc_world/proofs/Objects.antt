@@ -1,14 +1,17 @@
 -- Objects: whether a list has one, and worlds that agree at one.
-use Rattle.std.proofs.Common.{◌≡◌, ◌⊎◌, inl, inr, Bool, true, false, List, ap, sym, ◌∙◌, subst, refl, arith}
-use Rattle.std.specs.Prelude.{Contains}
+use Rattle.std.proofs.Common.{◌≡◌, ◌⊎◌, inl, inr, ℕ, Bool, true, false, List, [], ◌∷◌, suc, ap, sym, ◌∙◌, subst, refl, arith}
+use Rattle.std.specs.Prelude.{Contains, slice_get}
+use Rattle.std.specs.FinMap as map
 use Rattle.std.specs.List.{list_any}
-use Rattle.std.specs.Cmp.Lexicographic.{same_text}
+use Rattle.std.specs.Cmp.Lexicographic.{same_text, nat_list_cmp_total}
+use Rattle.std.proofs.lemmas.Map.Lookups.{exact_bytes}
 use Rattle.std.proofs.lemmas.Map.Views.{Contains-from_any}
 use Rattle.std.proofs.lemmas.List.Folds.{list_any_at}
 use Rattle.std.proofs.lemmas.Cmp.{nat_list_eq_equiv}
 use Rattle.xc_data.specs.declared.object.Num.{Num}
 use Rattle.xc_data.specs.declared.object.Object.{Object}
 use Rattle.xc_data.specs.declared.object.Object.TheVariants as object
+use Rattle.xc_maps.proofs.Maps.{num_total, num_exact}
 use Rattle.xc_world.specs.World.{World}
 use Rattle.xc_data.specs.Claims.{is_object}
 use Rattle.xc_world.specs.Laws.{AgreeAt}
@@ -69,3 +72,21 @@ agree_on w v x (object.File num) e f = e ∙ f
 agree_on w v x (object.Pipe num) e f = e ∙ f
 agree_on w v x (object.Pair num) e f = e ∙ f
 agree_on w v x object.Jobs e f = e ∙ f
+
+-- lists of words that agree at each place are the same
+pub words_same : (xs ys : List ℕ) → ((k : ℕ) → slice_get xs k ≡ slice_get ys k) → xs ≡ ys
+words_same [] [] h = refl
+words_same [] (y ∷ ys) h = let e = h 0 in cc e
+words_same (x ∷ xs) [] h = let e = h 0 in cc e
+words_same (x ∷ xs) (y ∷ ys) h = let rest = words_same xs ys (λ k. h (suc k)) in cc (h 0, rest)
+
+-- worlds that agree at every object, with the same blocks, are the same
+pub worlds_same : (v w : World) → ((o : Object) → AgreeAt v w o) → v.blocks ≡ w.blocks → v ≡ w
+worlds_same v w h blocks =
+    let words = words_same v.words w.words (λ k. h (object.Word k)) in
+    let names = map.same_map nat_list_cmp_total exact_bytes v.names w.names (λ q. h (object.Name q)) in
+    let files = map.same_map num_total num_exact v.files w.files (λ q. h (object.File q)) in
+    let pipes = map.same_map num_total num_exact v.pipes w.pipes (λ q. h (object.Pipe q)) in
+    let pairs = map.same_map num_total num_exact v.pairs w.pairs (λ q. h (object.Pair q)) in
+    let started = h object.Jobs in
+    λ i. record { words = words i; names = names i; files = files i; pipes = pipes i; pairs = pairs i; started = started i; blocks = blocks i }

@@ -24,7 +24,7 @@ use Rattle.xc_world.specs.Act.Files.{overwritten}
 use Rattle.xc_world.specs.Trail.{move_name, with_effect, undone}
 use Rattle.xc_world.specs.Ends.{with_remains}
 use Rattle.xc_world.specs.Effects.{restored, undone_to}
-use Rattle.xc_world.specs.Laws.{AgreeAt, GoAlike}
+use Rattle.xc_world.specs.Laws.{AgreeAt, ChangesOnly, GoAlike}
 use Rattle.xc_world.proofs.LocalParts.{both_so, first_in, later_in, same_alike, agree_itself, go, file_alike, new_alike, moved_alike, pipe_alike, pair_alike}
 use Rattle.xc_world.proofs.LocalCalls.{same_file, same_name}
 use Rattle.xc_data.specs.declared.claim.Claim.{Claim}
@@ -124,6 +124,10 @@ effect_alike w v (Moved from to) k agree =
 effect_alike w v (NewPipe num) k agree = pipe_alike (object.Pipe num ∷ []) w v num empty_pipe empty_pipe refl (first_in (object.Pipe num) []) agree
 effect_alike w v (NewPair num) k agree = pair_alike (object.Pair num ∷ []) w v num empty_pair empty_pair refl (first_in (object.Pair num) []) agree
 
+-- it changes the objects of its record alone
+pub effect_only : (w : World) (u : Undo) (k : ℕ) → ChangesOnly (objects_of u) w (with_effect w u k)
+effect_only w u k = (effect_alike w w u k (agreed (λ _. Unit {0}) w w (objects_of u) (λ o _. agree_itself w o) (λ _ _. tt))).left
+
 -- ---- its undoing
 pub undone_alike : (w v : World) (u : Undo) → All (AgreeAt w v) (objects_of u) → GoAlike (objects_of u) w v (undone w u) (undone v u)
 undone_alike w v (Bytes file at before after n) agree = changed_file w v file (overwritten at (take n before)) agree
@@ -186,7 +190,7 @@ pub remains_keep : (P : Object → Type 0) (w : World) (us : List (Undo × ℕ))
 remains_keep P w [] of = keeps_itself P w
 remains_keep P w ((u, k) ∷ us) of =
     let one = of_one P (u, k) (All-head (IsOf P) (u, k) us of) in
-    let went = (effect_alike w w u k (agreed (λ _. Unit {0}) w w (objects_of u) (λ o _. agree_itself w o) (λ _ _. tt))).left in
+    let went = effect_only w u k in
     keeps_on P w (with_effect w u k) (with_remains (with_effect w u k) us)
     (record { others = λ o lacks. went.others o (λ at. lacks (one o at)); count = went.count; blocks = went.blocks })
     (remains_keep P (with_effect w u k) us (All-tail (IsOf P) (u, k) us of))

@@ -1,6 +1,6 @@
 -- Undoing all records of a body, the newest first, brings back the world of its begin.
 use Rattle.std.proofs.Common.{◌≡◌, ℕ, true, false, List, [], ◌∷◌, ◌++◌, length, refl, ap, subst, sym, ◌∙◌, arith}
-use Rattle.std.specs.Prelude.{IsTrue, ◌==◌, nat_lt, not, if◌then◌else◌}
+use Rattle.std.specs.Prelude.{IsTrue, ◌==◌, ◌&&◌, nat_lt, not, if◌then◌else◌}
 use Rattle.std.specs.FinMap as map
 use Rattle.std.proofs.lemmas.Bool.{and_parts, cond_both, ltb-true}
 use Rattle.std.proofs.lemmas.List.{length-set}
@@ -17,11 +17,10 @@ use Rattle.xc_data.specs.Private.{place_of, lowest_vacant}
 use Rattle.xc_world.specs.World.{World}
 use Rattle.xc_world.specs.Sound.{IsFree, IsSound}
 use Rattle.xc_world.specs.Act.Names.{next_num}
-use Rattle.xc_world.specs.Checks.{is_bad_handle, is_too_big, is_too_much, is_bad_word, is_refused}
+use Rattle.xc_world.specs.Checks.{bytes_of, is_bad_handle, is_too_big, is_too_much, is_bad_word, is_refused}
 use Rattle.xc_world.specs.Act.Step.{Stepped, stays, counted}
-use Rattle.xc_world.specs.Act.Files.{overwrite_at}
 use Rattle.xc_world.specs.Act.{fine, faulty, done, act}
-use Rattle.xc_world.specs.Fits.{fits, asks_host, may_stop, is_done}
+use Rattle.xc_world.specs.Fits.{fits, asks_host, may_stop, is_write, is_done}
 use Rattle.xc_world.specs.Run.{Ran, body, body_fits}
 use Rattle.xc_data.specs.declared.call.Asked.{Asked}
 use Rattle.xc_world.proofs.Joined.{body_first}
@@ -72,7 +71,7 @@ refused-undoes w us e = subst (Undoes w w) (sym e) (as_is w)
 
 -- ---- a call that passed the checks
 -- the next number of a transaction is free
-next_free : (w : World) (me : Private) (tx : ℕ) → IsSound w me tx → IsFree w (next_num me tx)
+pub next_free : (w : World) (me : Private) (tx : ℕ) → IsSound w me tx → IsFree w (next_num me tx)
 next_free w me tx sound = sound.new me.made (omega arith)
 
 -- where the host does its part, and where it fails
@@ -104,20 +103,19 @@ fine-undoes w me tx call.XPair sound = new_pair-undoes w me tx (lowest_vacant me
 fine-undoes w me tx (call.XRecvmsg h) sound = receive_at-undoes w me (place_of me.places h) (sound.handles h)
 fine-undoes w me tx _ sound = as_is w
 
--- a fault behind the first byte stops an overwrite that would be done
-pub stops : (w : World) (me : Private) (tx h : ℕ) (bytes : List ℕ) (n : ℕ) → IsTrue (fits w me tx (call.XWriteOvr h bytes) (answer.Fault n))
-    → (n == 0) ≡ false → Stops n bytes (overwrite_at w me h bytes (place_of me.places h))
-stops w me tx h bytes n fit some =
-    let c = call.XWriteOvr h bytes in
+-- a fault behind the first byte stops a write that would be done
+pub stops : (w : World) (me : Private) (tx : ℕ) (c : Call) (n : ℕ) → IsTrue (fits w me tx c (answer.Fault n)) → (n == 0) ≡ false
+    → Stops n (bytes_of c) (fine w me tx c)
+stops w me tx c n fit some =
     let fault = and_parts (not (is_refused c me (length w.words))) (if n == 0 then asks_host c else may_stop w me tx c n) fit in
     let stop : may_stop w me tx c n ≡ true = subst (λ b. (if b then asks_host c else may_stop w me tx c n) ≡ true) some fault.1 in
-    let parts = and_parts (is_done (overwrite_at w me h bytes (place_of me.places h)).reply) (nat_lt n (length bytes)) stop in
-    record { would = parts.0; before = ltb-true n (length bytes) parts.1 }
+    let parts = and_parts (is_write c && is_done (fine w me tx c).reply) (nat_lt n (length (bytes_of c))) stop in
+    record { would = (and_parts (is_write c) (is_done (fine w me tx c).reply) parts.0).1; before = ltb-true n (length (bytes_of c)) parts.1 }
 
 faulty-undoes : (w : World) (me : Private) (tx : ℕ) (c : Call) (n : ℕ) → IsSound w me tx → IsTrue (fits w me tx c (answer.Fault n))
     → UndoesCall w me tx c (faulty w me c n)
 faulty-undoes w me tx (call.XWriteOvr h bytes) n sound fit =
-    overwrite_short-undoes w me h bytes n (place_of me.places h) (sound.handles h) (stops w me tx h bytes n fit)
+    overwrite_short-undoes w me h bytes n (place_of me.places h) (sound.handles h) (stops w me tx (call.XWriteOvr h bytes) n fit)
 faulty-undoes w me tx (call.XWriteSeq h bytes) n sound fit = append_short-undoes w me h bytes n (place_of me.places h) (sound.handles h)
 faulty-undoes w me tx _ n sound fit = as_is w
 

@@ -153,7 +153,7 @@ created-undoes w me tx name None (Some h) e free v back =
     }
 
 -- a name that is not there is not there either without another
-none-removed : (m : map.FinMap name_cmp Num) (from to : List ℕ) → map.get m to ≡ None → map.get (map.remove m from) to ≡ None
+pub none-removed : (m : map.FinMap name_cmp Num) (from to : List ℕ) → map.get m to ≡ None → map.get (map.remove m from) to ≡ None
 none-removed m from to none =
     map.get-remove nat_list_cmp_total m from to
     ∙ cond_both (eq_by_cmp name_cmp to from) None (map.get m to) (λ o. o ≡ None) (λ _. refl) (λ _. none)

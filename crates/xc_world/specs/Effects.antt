@@ -1,13 +1,16 @@
 -- The effects that records have in a world, and where undoing them one by one leads.
-use Rattle.std.specs.Prelude.{◌≡◌, ℕ, ◌+◌, ◌≤◌, ◌==◌, Bool, true, false, is_some, List, [], ◌∷◌, length, map, take, drop, if◌then◌else◌}
+use Rattle.std.specs.Prelude.{◌≡◌, ℕ, ◌+◌, ◌≤◌, ◌<◌, ◌==◌, Bool, true, false, is_some, List, [], ◌∷◌, length, map, take, drop}
+use Rattle.std.specs.Prelude.{if◌then◌else◌}
+use Rattle.std.specs.declared.option.Option.TheVariants.{None, Some}
 use Rattle.std.specs.FinMap as finite
 use Rattle.xc_data.specs.declared.object.Num.{Num}
 use Rattle.xc_data.specs.declared.call.Call.{Call}
 use Rattle.xc_data.specs.declared.call.Call.TheVariants as call
 use Rattle.xc_data.specs.declared.undo.Undo.{Undo}
-use Rattle.xc_data.specs.declared.undo.Undo.TheVariants.{Bytes}
+use Rattle.xc_data.specs.declared.undo.Undo.TheVariants.{Bytes, Tail, Made, Moved, NewPipe, NewPair}
 use Rattle.xc_data.specs.declared.undo.UndoEnd.{UndoEnd}
 use Rattle.xc_data.specs.declared.undo.UndoEnd.TheVariants.{Undone, Failed, Blocked}
+use Rattle.xc_data.specs.declared.private.Private.{Private}
 use Rattle.xc_world.specs.World.{World, file_of, with_file}
 use Rattle.xc_world.specs.Act.Files.{overwritten}
 use Rattle.xc_world.specs.Trail.{with_effect, undone}
@@ -22,16 +25,8 @@ takes_data (call.XReadPipe h n) = true
 takes_data (call.XRecvmsg h) = true
 takes_data _ = false
 
--- a call that leaves no record but of an overwrite
-abbrev pub only_overwrites : Call → Bool
-only_overwrites (call.XCreate name) = false
-only_overwrites (call.XWriteSeq h bytes) = false
-only_overwrites (call.XRename from to) = false
-only_overwrites call.XPipe = false
-only_overwrites call.XPair = false
-only_overwrites _ = true
-
 -- ---- records that were made one after another, each in the world that the ones before it left
+-- the file is there, all the new bytes lie within it, and the old ones stood under them; some of them were written
 pub record IsOverwriteIn (w : World) (file : Num) (at : ℕ) (before after : List ℕ) (n : ℕ) : Type 0 where
   pub there : is_some (finite.get w.files file) ≡ true
   pub inside : at + length after ≤ length (file_of w file)
@@ -39,15 +34,44 @@ pub record IsOverwriteIn (w : World) (file : Num) (at : ℕ) (before after : Lis
   pub some : 1 ≤ n
   pub within : n ≤ length after
 
--- overwrites are the records that can be undone so far
+-- the file is there, as long as the record says, with room for all the new bytes; some of them were appended
+pub record IsAppendIn (w : World) (file : Num) (from : ℕ) (after : List ℕ) (n : ℕ) : Type 0 where
+  pub there : is_some (finite.get w.files file) ≡ true
+  pub size : length (file_of w file) ≡ from
+  pub room : from + length after ≤ 65536
+  pub some : 1 ≤ n
+  pub within : n ≤ length after
+
+-- neither the name nor a file of this number is there
+pub record IsNewFileIn (w : World) (name : List ℕ) (num : Num) : Type 0 where
+  pub unnamed : finite.get w.names name ≡ None
+  pub absent : finite.get w.files num ≡ None
+
+-- the old name has a file, and the new one none
+pub record IsRenameIn (w : World) (from to : List ℕ) : Type 0 where
+  pub there : is_some (finite.get w.names from) ≡ true
+  pub vacant : finite.get w.names to ≡ None
+
+-- what each kind of record asks of the world in which it is made
 abbrev pub IsMadeIn : World → Undo → Type 0
 IsMadeIn w (Bytes file at before after n) = IsOverwriteIn w file at before after n
-IsMadeIn w _ = ⊥
+IsMadeIn w (Tail file from after n) = IsAppendIn w file from after n
+IsMadeIn w (Made name num) = IsNewFileIn w name num
+IsMadeIn w (Moved from to) = IsRenameIn w from to
+IsMadeIn w (NewPipe num) = finite.get w.pipes num ≡ None
+IsMadeIn w (NewPair num) = finite.get w.pairs num ≡ None
 
 -- each record was made in the world that the records before it leave
 abbrev pub AreMadeIn : World → List Undo → Type 0
 AreMadeIn w [] = Unit {0}
 AreMadeIn w (u ∷ us) = IsMadeIn w u × AreMadeIn (with_effect w u 0) us
+
+-- a record makes no object whose number this private state is still to give
+abbrev pub SparesNew : Private → ℕ → Undo → Type 0
+SparesNew me tx (Made name num) = num.tx ≡ tx → num.k < me.made
+SparesNew me tx (NewPipe num) = num.tx ≡ tx → num.k < me.made
+SparesNew me tx (NewPair num) = num.tx ≡ tx → num.k < me.made
+SparesNew me tx _ = Unit {0}
 
 -- ---- one record's compensation
 -- the first bytes of an overwrite are the old ones again
@@ -62,7 +86,12 @@ undone_to w u (Undone faults) = undone w u
 undone_to w u (Failed done faults) = restored w u done
 undone_to w u (Blocked by) = w
 
--- the bytes that a record covers are in its file
+-- what a record tells of is as the record left it: an overwrite's and an append's bytes are in the file, a new file
+-- has its name, a moved one its new name alone, a new pipe or pair is there
 abbrev pub IsCovered : World → Undo → Type 0
 IsCovered w (Bytes file at before after n) = (is_some (finite.get w.files file) ≡ true) × (at + n ≤ length (file_of w file))
-IsCovered w _ = ⊥
+IsCovered w (Tail file from after n) = (is_some (finite.get w.files file) ≡ true) × (from + n ≤ length (file_of w file))
+IsCovered w (Made name num) = (finite.get w.names name ≡ Some num) × (is_some (finite.get w.files num) ≡ true)
+IsCovered w (Moved from to) = (finite.get w.names from ≡ None) × (is_some (finite.get w.names to) ≡ true)
+IsCovered w (NewPipe num) = is_some (finite.get w.pipes num) ≡ true
+IsCovered w (NewPair num) = is_some (finite.get w.pairs num) ≡ true

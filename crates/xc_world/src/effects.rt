@@ -12,7 +12,7 @@ ghost use Rattle.xc_world.specs.Sound.{IsSound};
 ghost use Rattle.xc_world.specs.Run.{body, body_fits, given_back};
 ghost use Rattle.xc_world.specs.Trail.{recorded};
 ghost use Rattle.xc_world.specs.Ends.{Ending, blocker, IsLegalEnd, remains, with_remains};
-ghost use Rattle.xc_world.specs.Effects.{whole, takes_data, only_overwrites, AreMadeIn, undone_to, IsCovered};
+ghost use Rattle.xc_world.specs.Effects.{whole, takes_data, AreMadeIn, SparesNew, undone_to, IsCovered};
 
 /// Outside the words, the effects of its records are all that a call does, unless it takes bytes or
 /// a message.
@@ -30,10 +30,9 @@ pub fn a_body_has_the_effects_of_its_records()
         ≡ record (with_remains w (whole (body w me tx asked).trail)) { words = (body w me tx asked).world.words } }
 {}
 
-/// A body that leaves no record but of overwrites: each fits the file as the ones before it left it.
-pub fn an_overwriting_body_leaves_a_trail()
+/// Each record of a body was made in the world that the ones before it left.
+pub fn a_body_leaves_a_trail()
     ensures { (w : World) (me : Private) (tx : ℕ) (asked : List Asked) → IsSound w me tx → IsTrue (body_fits w me tx asked)
-        → All (λ c. only_overwrites c.call ≡ true) asked
         → AreMadeIn w (body w me tx asked).trail }
 {}
 
@@ -47,17 +46,19 @@ pub fn a_record_is_undone()
         ≡ with_remains w (whole older ++ remains ((u, end) ∷ newer)) }
 {}
 
-/// The bytes that the newest record covers that still stands whole are in its file, however the
-/// newer ones ended, where none of them stands in its way.
+/// What the newest record tells of that still stands whole is as it left it, however the newer ones
+/// ended, where none of them stands in its way.
 pub fn the_newest_record_is_covered()
     ensures { (w : World) (older : List Undo) (u : Undo) (newer : List Ending)
         → AreMadeIn w (older ++ u ∷ map (λ r. r.0) newer) → blocker (length older + 1 + 1) u newer ≡ None
         → IsCovered (with_remains w (whole (older ++ u ∷ []) ++ remains newer)) u }
 {}
 
-/// Whatever remains of them, records leave a sound world sound.
+/// Whatever remains of them, records leave a sound world sound for a private state that is to make
+/// none of their new objects.
 pub fn what_remains_is_sound()
-    ensures { (w : World) (me : Private) (tx : ℕ) (records : List Ending) → AreMadeIn w (map (λ r. r.0) records) → IsSound w me tx
+    ensures { (w : World) (me : Private) (tx : ℕ) (records : List Ending) → AreMadeIn w (map (λ r. r.0) records)
+        → All (SparesNew me tx) (map (λ r. r.0) records) → IsSound w me tx
         → IsSound (with_remains w (remains records)) me tx }
 {}
 

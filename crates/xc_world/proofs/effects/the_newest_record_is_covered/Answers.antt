@@ -1,5 +1,5 @@
-use Rattle.xc_world.proofs.EffectsRemains.{record-covered}
+use Rattle.xc_world.proofs.EffectsUndone.{record-covered}
 use Rattle.xc_world.proofs.effects.the_newest_record_is_covered.Goals as goal
 
 pub returns : goal.returns
-returns c = λ w older u newer made free. record-covered w older u newer made
+returns c = record-covered

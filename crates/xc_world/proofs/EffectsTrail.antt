@@ -1,0 +1,214 @@
+-- Each record of a body was made in the world that the ones before it left.
+use Rattle.std.proofs.Common.{◌≡◌, ℕ, ◌+◌, false, Option, Some, None, List, [], ◌∷◌, length, drop, take, unwrap_or, ◌++◌, refl, ap, sym, ◌∙◌, subst}
+use Rattle.std.specs.Prelude.{IsTrue, ◌==◌, Contains}
+use Rattle.std.specs.FinMap as finite
+use Rattle.std.proofs.lemmas.Bool.{and_parts, cond_both}
+use Rattle.std.proofs.lemmas.List.Elements.{All-weaker, All-contains_itself}
+use Rattle.xc_data.specs.declared.object.Num.{Num}
+use Rattle.xc_data.specs.declared.object.Object.{Object}
+use Rattle.xc_data.specs.declared.object.Object.TheVariants as object
+use Rattle.xc_data.specs.declared.call.Asked.{Asked}
+use Rattle.xc_data.specs.declared.call.Call.{Call}
+use Rattle.xc_data.specs.declared.call.Call.TheVariants as call
+use Rattle.xc_data.specs.declared.call.Answer.{Answer}
+use Rattle.xc_data.specs.declared.call.Answer.TheVariants as answer
+use Rattle.xc_data.specs.declared.undo.Undo.{Undo}
+use Rattle.xc_data.specs.declared.undo.Undo.TheVariants.{Bytes, Tail, Made, Moved, NewPipe, NewPair}
+use Rattle.xc_data.specs.declared.private.Place.{Place}
+use Rattle.xc_data.specs.declared.private.Place.TheVariants.{Vacant, File, Pipe, Pair}
+use Rattle.xc_data.specs.declared.private.Private.{Private}
+use Rattle.xc_data.specs.Private.{place_of}
+use Rattle.xc_data.specs.Standing.{objects_of}
+use Rattle.xc_maps.specs.Keys.{num_cmp, name_cmp}
+use Rattle.xc_world.specs.World.{World, pair_of, pipe_of, waiting, empty_pipe, empty_pair}
+use Rattle.xc_world.specs.Sound.{IsSound}
+use Rattle.xc_world.specs.Act.Step.{Stepped}
+use Rattle.xc_world.specs.Act.Files.{overwritten}
+use Rattle.xc_world.specs.Act.Pipes.{read_pipe_at, received, receive_at}
+use Rattle.xc_world.specs.Act.{done, act}
+use Rattle.xc_world.specs.Fits.{fits}
+use Rattle.xc_world.specs.Run.{Ran, body, body_fits}
+use Rattle.xc_world.specs.Trail.{move_name, recorded, with_effect}
+use Rattle.xc_world.specs.Ends.{with_remains}
+use Rattle.xc_world.specs.Effects.{whole, takes_data, AreMadeIn}
+use Rattle.xc_world.proofs.Joined.{body_first}
+use Rattle.xc_world.proofs.Sound.{act_sound}
+use Rattle.xc_world.proofs.UndoingBody.{act-cases}
+use Rattle.xc_world.proofs.EffectsParts.{absent_before, absent_both, made-append}
+use Rattle.xc_world.proofs.EffectsCalls.{act-leads}
+use Rattle.xc_world.proofs.EffectsApart.{LeavesRoom, made_there}
+use Rattle.xc_world.proofs.EffectsMade.{act-made}
+
+-- ---- a world after a call, and what its records alone leave
+-- the same names and files, and no pipe or pair more
+pub record HasRoom (v w : World) : Type 0 where
+  pub names : v.names ≡ w.names
+  pub files : v.files ≡ w.files
+  pub pipes : (q : Num) → finite.get v.pipes q ≡ None → finite.get w.pipes q ≡ None
+  pub pairs : (q : Num) → finite.get v.pairs q ≡ None → finite.get w.pairs q ≡ None
+
+room_itself : (w : World) → HasRoom w w
+room_itself w = record { names = refl; files = refl; pipes = λ q none. none; pairs = λ q none. none }
+
+room_at : (v w : World) → HasRoom v w → (o : Object) → LeavesRoom v w o
+room_at v w room (object.Name name) = ap (λ (m : finite.FinMap name_cmp Num). finite.get m name) room.names
+room_at v w room (object.File num) = ap (λ (m : finite.FinMap num_cmp (List ℕ)). finite.get m num) room.files
+room_at v w room (object.Pipe num) = room.pipes num
+room_at v w room (object.Pair num) = room.pairs num
+room_at v w room (object.Word at) = tt
+room_at v w room object.Jobs = tt
+
+-- ---- what is taken
+abbrev pub LeavesIts : World → Stepped → Type 0
+LeavesIts w s = HasRoom s.world w
+
+read_pipe_at-room : (w : World) (me : Private) (n : ℕ) (p : Place) → LeavesIts w (read_pipe_at w me n p)
+read_pipe_at-room w me n (Pipe num) =
+    cond_both (n == 0) _ _ (LeavesIts w) (λ _. room_itself w) (λ _.
+    cond_both (length (pipe_of w num).held == 0) _ _ (LeavesIts w) (λ _. room_itself w) (λ _.
+    record {
+      names = refl;
+      files = refl;
+      pipes = λ q none. (absent_before w.pipes num q (record (pipe_of w num) { held = drop n (pipe_of w num).held }) none).1;
+      pairs = λ q none. none;
+    }))
+read_pipe_at-room w me n Vacant = room_itself w
+read_pipe_at-room w me n (File num at) = room_itself w
+read_pipe_at-room w me n (Pair num side) = room_itself w
+
+received-room : (w : World) (me : Private) (num : Num) (side : ℕ) (messages : List (List ℕ)) → LeavesIts w (received w me num side messages)
+received-room w me num side [] = room_itself w
+received-room w me num side (message ∷ messages) =
+    record { names = refl; files = refl; pipes = λ q none. none; pairs = λ q none. (absent_before w.pairs num q _ none).1 }
+
+receive_at-room : (w : World) (me : Private) (p : Place) → LeavesIts w (receive_at w me p)
+receive_at-room w me (Pair num side) = received-room w me num side (waiting (pair_of w num) side)
+receive_at-room w me Vacant = room_itself w
+receive_at-room w me (File num at) = room_itself w
+receive_at-room w me (Pipe num) = room_itself w
+
+read_pipe-room : (w : World) (me : Private) (tx h n : ℕ) (a : Answer) → LeavesIts w (done w me tx (call.XReadPipe h n) a)
+read_pipe-room w me tx h n answer.Fine = read_pipe_at-room w me n (place_of me.places h)
+read_pipe-room w me tx h n (answer.Fault k) = room_itself w
+
+recvmsg-room : (w : World) (me : Private) (tx h : ℕ) (a : Answer) → LeavesIts w (done w me tx (call.XRecvmsg h) a)
+recvmsg-room w me tx h answer.Fine = receive_at-room w me (place_of me.places h)
+recvmsg-room w me tx h (answer.Fault n) = room_itself w
+
+-- ---- every call
+abbrev pub LeavesRecorded : World → Private → ℕ → Call → Stepped → Type 0
+LeavesRecorded w me tx c s = HasRoom s.world (with_remains w (whole (recorded w me tx c s.reply)))
+
+-- what takes no data leaves just what is recorded
+led-room : (w : World) (me : Private) (tx : ℕ) (c : Call) (a : Answer) → takes_data c ≡ false → LeavesRecorded w me tx c (act w me tx c a)
+led-room w me tx c a e =
+    let v = (act w me tx c a).world in
+    let led = act-leads w me tx c a e in
+    record {
+      names = ap (λ (x : World). x.names) led;
+      files = ap (λ (x : World). x.files) led;
+      pipes = λ q none. sym (ap (λ (x : World). finite.get x.pipes q) led) ∙ none;
+      pairs = λ q none. sym (ap (λ (x : World). finite.get x.pairs q) led) ∙ none;
+    }
+
+act-room : (w : World) (me : Private) (tx : ℕ) (c : Call) (a : Answer) → LeavesRecorded w me tx c (act w me tx c a)
+act-room w me tx (call.XReadPipe h n) a =
+    let same = room_itself w in act-cases w me tx (call.XReadPipe h n) a (LeavesIts w) same same same same (read_pipe-room w me tx h n a)
+act-room w me tx (call.XRecvmsg h) a =
+    let same = room_itself w in act-cases w me tx (call.XRecvmsg h) a (LeavesIts w) same same same same (recvmsg-room w me tx h a)
+act-room w me tx (call.Load at) a = led-room w me tx (call.Load at) a refl
+act-room w me tx (call.Store at value) a = led-room w me tx (call.Store at value) a refl
+act-room w me tx (call.XOpen name) a = led-room w me tx (call.XOpen name) a refl
+act-room w me tx (call.XCreate name) a = led-room w me tx (call.XCreate name) a refl
+act-room w me tx (call.XRead h n) a = led-room w me tx (call.XRead h n) a refl
+act-room w me tx (call.XWriteOvr h bytes) a = led-room w me tx (call.XWriteOvr h bytes) a refl
+act-room w me tx (call.XWriteSeq h bytes) a = led-room w me tx (call.XWriteSeq h bytes) a refl
+act-room w me tx (call.XSeek h to) a = led-room w me tx (call.XSeek h to) a refl
+act-room w me tx (call.XLen h) a = led-room w me tx (call.XLen h) a refl
+act-room w me tx (call.XRename from to) a = led-room w me tx (call.XRename from to) a refl
+act-room w me tx (call.XClose h) a = led-room w me tx (call.XClose h) a refl
+act-room w me tx call.XPipe a = led-room w me tx call.XPipe a refl
+act-room w me tx call.XPair a = led-room w me tx call.XPair a refl
+act-room w me tx (call.XUnlink name slot) a = led-room w me tx (call.XUnlink name slot) a refl
+act-room w me tx (call.XSync h slot) a = led-room w me tx (call.XSync h slot) a refl
+act-room w me tx (call.XWritePipe h bytes slot) a = led-room w me tx (call.XWritePipe h bytes slot) a refl
+act-room w me tx (call.XShutdown h slot) a = led-room w me tx (call.XShutdown h slot) a refl
+act-room w me tx (call.XSendmsg h bytes slot) a = led-room w me tx (call.XSendmsg h bytes slot) a refl
+act-room w me tx (call.XThreadCreate body slot) a = led-room w me tx (call.XThreadCreate body slot) a refl
+
+-- ---- all calls of a body
+moved-room : (v w : World) (from to : List ℕ) (o : Option Num) → HasRoom v w → HasRoom (move_name v from to o) (move_name w from to o)
+moved-room v w from to None room = room
+moved-room v w from to (Some num) room =
+    record {
+      names = ap (λ m. finite.insert (finite.remove m from) to num) room.names;
+      files = room.files;
+      pipes = room.pipes;
+      pairs = room.pairs;
+    }
+
+-- the files with one that is changed by its own bytes
+abbrev changed_in : finite.FinMap num_cmp (List ℕ) → Num → (List ℕ → List ℕ) → finite.FinMap num_cmp (List ℕ)
+changed_in files file change = finite.insert files file (change (unwrap_or (finite.get files file) []))
+
+effect-room : (v w : World) (u : Undo) → HasRoom v w → HasRoom (with_effect v u 0) (with_effect w u 0)
+effect-room v w (Bytes file at before after n) room =
+    record {
+      names = room.names;
+      files = ap (λ m. changed_in m file (overwritten (at + 0) (drop 0 (take n after)))) room.files;
+      pipes = room.pipes;
+      pairs = room.pairs;
+    }
+effect-room v w (Tail file from after n) room =
+    record {
+      names = room.names;
+      files = ap (λ m. changed_in m file (λ bytes. bytes ++ drop 0 (take n after))) room.files;
+      pipes = room.pipes;
+      pairs = room.pairs;
+    }
+effect-room v w (Made name num) room =
+    record {
+      names = ap (λ m. finite.insert m name num) room.names;
+      files = ap (λ m. finite.insert m num []) room.files;
+      pipes = room.pipes;
+      pairs = room.pairs;
+    }
+effect-room v w (Moved from to) room =
+    subst (λ o. HasRoom (move_name v from to (finite.get v.names from)) (move_name w from to o)) (room_at v w room (object.Name from))
+    (moved-room v w from to (finite.get v.names from) room)
+effect-room v w (NewPipe num) room =
+    record {
+      names = room.names;
+      files = room.files;
+      pipes = λ q. absent_both w.pipes v.pipes num q empty_pipe empty_pipe (room.pipes q);
+      pairs = room.pairs;
+    }
+effect-room v w (NewPair num) room =
+    record {
+      names = room.names;
+      files = room.files;
+      pipes = room.pipes;
+      pairs = λ q. absent_both w.pairs v.pairs num q empty_pair empty_pair (room.pairs q);
+    }
+
+made-in : (v w : World) (us : List Undo) → HasRoom v w → AreMadeIn v us → AreMadeIn w us
+made-in v w [] room made = tt
+made-in v w (u ∷ us) room made = (
+  made_there v w u
+      (All-weaker (Contains (objects_of u)) (LeavesRoom v w) (λ o _. room_at v w room o) (objects_of u) (All-contains_itself (objects_of u))) made.0,
+  made-in (with_effect v u 0) (with_effect w u 0) us (effect-room v w u room) made.1,
+)
+
+-- each record of a body was made in the world that the ones before it left
+pub body-made : (w : World) (me : Private) (tx : ℕ) (asked : List Asked) → IsSound w me tx → IsTrue (body_fits w me tx asked)
+    → AreMadeIn w (body w me tx asked).trail
+body-made w me tx [] sound fit = tt
+body-made w me tx (c ∷ asked) sound fit =
+    let s = act w me tx c.call c.answer in
+    let us = recorded w me tx c.call s.reply in
+    let rest = body s.world s.me tx asked in
+    let both = and_parts (fits w me tx c.call c.answer) (body_fits s.world s.me tx asked) fit in
+    let later = body-made s.world s.me tx asked (act_sound w me tx c.call c.answer both.0 sound) both.1 in
+    subst (λ (r : Ran). AreMadeIn w r.trail) (sym (body_first w me tx c asked))
+    (made-append w us rest.trail (act-made w me tx c.call c.answer sound both.0)
+    (made-in s.world (with_remains w (whole us)) rest.trail (act-room w me tx c.call c.answer) later))
