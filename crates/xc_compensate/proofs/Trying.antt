@@ -6,9 +6,8 @@ use Rattle.xc_data.specs.Faults.{end_faults}
 use Rattle.xc_data.specs.declared.undo.Undo.{Undo}
 use Rattle.xc_data.specs.declared.undo.UndoEnd.{UndoEnd}
 use Rattle.xc_world.specs.Ends.{Ending, is_undone, blocker, IsLegalEnd}
-use Rattle.xc_world.specs.Effects.{undone_to}
+use Rattle.xc_world.specs.Effects.{undone_to, IsCovered}
 use Rattle.xc_host.specs.Cause.{IsCalled}
-use Rattle.xc_compensate.specs.Covered.{IsCovered}
 use Rattle.xc_host.specs.Contents.{Contents, contents_of, world_of}
 use Rattle.xc_host.specs.Model.{HostModel}
 use Rattle.xc_compensate.specs.Records.{Records, IsTried, NextIsCovered, way_of}

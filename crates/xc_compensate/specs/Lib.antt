@@ -1,4 +1,3 @@
 pub mod Records
-pub mod Covered
 pub mod Restoring
 pub mod Turns

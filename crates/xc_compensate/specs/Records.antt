@@ -9,8 +9,7 @@ use Rattle.xc_data.specs.declared.undo.Undo.{Undo}
 use Rattle.xc_data.specs.declared.undo.Undo.TheVariants.{Bytes, Tail, Made, Moved}
 use Rattle.xc_data.specs.declared.undo.UndoEnd.{UndoEnd}
 use Rattle.xc_world.specs.Ends.{Ending, is_undone, blocker, IsLegalEnd}
-use Rattle.xc_world.specs.Effects.{undone_to}
-use Rattle.xc_compensate.specs.Covered.{IsCovered}
+use Rattle.xc_world.specs.Effects.{undone_to, IsCovered}
 use Rattle.xc_host.specs.Cause.{IsCalled}
 use Rattle.xc_host.specs.Contents.{Contents, contents_of, world_of}
 use Rattle.xc_host.specs.Model.{HostModel}

@@ -2,12 +2,11 @@ ghost use Rattle.std.specs.Prelude.{◌≡◌, ◌≤◌, false, OnOk, OnErr, Is
 ghost use Rattle.std.specs.declared.option.Option.TheVariants.{None};
 ghost use Rattle.xc_data.specs.Counts.{CountsFault, CountsFaults};
 ghost use Rattle.xc_data.specs.Faults.{end_faults};
-ghost use Rattle.xc_world.specs.Effects.{undone_to};
+ghost use Rattle.xc_world.specs.Effects.{undone_to, IsCovered};
 ghost use Rattle.xc_world.specs.Ends.{IsLegalEnd};
 ghost use Rattle.xc_world.specs.Trail.{undone};
 ghost use Rattle.xc_host.specs.Cause.{IsCalled};
 ghost use Rattle.xc_host.specs.Contents.{contents_of, world_of};
-ghost use Rattle.xc_compensate.specs.Covered.{IsCovered};
 ghost use Rattle.xc_compensate.specs.Records.{IsRecord, is_overwrite};
 
 use xc_data::{Undo, UndoEnd};

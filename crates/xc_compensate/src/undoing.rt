@@ -4,11 +4,10 @@ ghost use Rattle.std.specs.List.{list_any, position};
 ghost use Rattle.xc_data.specs.Counts.{CountsFaults};
 ghost use Rattle.xc_data.specs.Faults.{end_faults};
 ghost use Rattle.xc_data.specs.Claims.{is_object};
-ghost use Rattle.xc_world.specs.Effects.{undone_to};
+ghost use Rattle.xc_world.specs.Effects.{undone_to, IsCovered};
 ghost use Rattle.xc_world.specs.Ends.{share_object, is_undone, blocks, blocker, IsLegalEnd};
 ghost use Rattle.xc_host.specs.Contents.{Contents, contents_of, world_of, wrote_front};
 ghost use Rattle.xc_host.specs.Cause.{IsCalled};
-ghost use Rattle.xc_compensate.specs.Covered.{IsCovered};
 ghost use Rattle.xc_compensate.specs.Records.{IsRecord};
 ghost use Rattle.xc_compensate.specs.Restoring.{IsStep, IsRestoreEnd, FitsIn, done_by};
 
