@@ -1,2 +1,3 @@
 pub mod ReadFronts
 pub mod FileCalls
+pub mod NameCalls

@@ -1,4 +1,5 @@
 pub mod Calls
 pub mod Reading
 pub mod Writing
+pub mod Naming
 pub mod Checks
