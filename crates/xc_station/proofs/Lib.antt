@@ -1,4 +1,3 @@
-pub mod Answered
 pub mod Begun
 pub mod Closed
 pub mod Doings
