@@ -1,6 +1,7 @@
 -- Where each job has ended all is as the journal says.
 use Rattle.std.proofs.Common.{◌≡◌, ℕ, zero, suc, List, [], ◌∷◌, None, get_or, map, ap, ap₂, sym, ◌∙◌, refl}
 use Rattle.xc_data.specs.declared.entry.JobLine.{JobLine}
+use Rattle.xc_data.specs.declared.call.Asked.{Asked}
 use Rattle.xc_data.specs.declared.private.Private.{Private}
 use Rattle.xc_host.specs.Contents.{contents_of}
 use Rattle.xc_world.specs.World.{World}
@@ -9,14 +10,14 @@ use Rattle.xc_story.specs.Ending.{IsFinalState}
 use Rattle.xc_story.specs.Seen.{SeenJob, Doing, Idle, Active, Starved, Ended, Now}
 use Rattle.xc_story.specs.Kept.{IsLineOf, AreLinesOf}
 use Rattle.xc_flight.proofs.Moving.{all_free}
-use Rattle.xc_played.specs.Flying.{flown_in, flown_job, state_of, standing, world_now, AreFlying}
+use Rattle.xc_played.specs.Flying.{flown_in, flown_jobs, state_of, standing, world_now, AreFlying}
 
 -- an ended job has no active transaction, and its line has its block
-over_flown : (began : Private) (line : JobLine) (job : SeenJob) (d : Doing) → IsLineOf line job d → flown_in began d ≡ None
-over_flown began line job Idle h = absurd h
-over_flown began line job (Active tx) h = absurd h
-over_flown began line job Starved h = absurd h
-over_flown began line job (Ended end) h = refl
+over_flown : (began : Private) (us : List Asked) (line : JobLine) (job : SeenJob) (d : Doing) → IsLineOf line job d → flown_in began us d ≡ None
+over_flown began us line job Idle h = absurd h
+over_flown began us line job (Active tx) h = absurd h
+over_flown began us line job Starved h = absurd h
+over_flown began us line job (Ended end) h = refl
 
 over_block : (line : JobLine) (job : SeenJob) (d : Doing) → IsLineOf line job d → line.block ≡ job.block
 over_block line job Idle h = absurd h
@@ -24,11 +25,12 @@ over_block line job (Active tx) h = absurd h
 over_block line job Starved h = absurd h
 over_block line job (Ended end) h = h.0
 
-none_flies : (jobs : List SeenJob) (lines : List JobLine) → AreLinesOf jobs lines → (at : ℕ) → get_or (map flown_job jobs) at None ≡ None
-none_flies [] lines h at = refl
-none_flies (job ∷ jobs) [] h at = absurd h
-none_flies (job ∷ jobs) (line ∷ lines) h zero = over_flown job.me line job job.doing h.0
-none_flies (job ∷ jobs) (line ∷ lines) h (suc at) = none_flies jobs lines h.1 at
+none_flies : (unnoted : ℕ → List Asked) (jobs : List SeenJob) (lines : List JobLine) → AreLinesOf jobs lines → (at : ℕ)
+    → get_or (flown_jobs unnoted jobs) at None ≡ None
+none_flies unnoted [] lines h at = refl
+none_flies unnoted (job ∷ jobs) [] h at = absurd h
+none_flies unnoted (job ∷ jobs) (line ∷ lines) h zero = over_flown job.me (unnoted 0) line job job.doing h.0
+none_flies unnoted (job ∷ jobs) (line ∷ lines) h (suc at) = none_flies (λ i. unnoted (suc i)) jobs lines h.1 at
 
 same_blocks : (jobs : List SeenJob) (lines : List JobLine) → AreLinesOf jobs lines
     → map (λ (line : JobLine). line.block) lines ≡ map (λ (job : SeenJob). job.block) jobs
@@ -40,7 +42,8 @@ same_blocks (job ∷ jobs) (line ∷ lines) h = ap₂ (λ b bs. b ∷ bs) (over_
 pub at_rest : (s : Setting) (now : Now) (lines : List JobLine) → AreFlying s now → AreLinesOf now.jobs lines
     → IsFinalState (state_of s now) (record { words = now.words; contents = now.contents; lines = lines })
 at_rest s now lines all h =
-    let same : world_now s now ≡ (state_of s now).world = all_free (standing s now) all.flies (none_flies now.jobs lines h) in
+    let same : world_now s now ≡ (state_of s now).world = all_free (standing s now all.unnoted) all.flies
+    (none_flies all.unnoted now.jobs lines h) in
     record {
       words = ap (λ (w : World). w.words) same;
       host = ap contents_of same;

@@ -1,5 +1,7 @@
 pub mod AtRest
+pub mod BuiltCalls
 pub mod FlownJobs
+pub mod FlownLists
 pub mod NextRecord
 pub mod Noted
 pub mod OpenFiles
@@ -14,3 +16,4 @@ pub mod TurnRivals
 pub mod TurnRows
 pub mod TurnStart
 pub mod TurnTable
+pub mod TurnWants

@@ -1,23 +1,64 @@
 -- What an active transaction noted is what the plain machine's body gives in the world that the journal left.
-use Rattle.std.proofs.Common.{◌≡◌, ℕ, ◌+◌, ◌-◌, ◌<◌, zero, suc, List, [], ◌∷◌, Some, length, ap, sym, ◌∙◌, subst, refl, arith}
+use Rattle.std.proofs.Common.{◌≡◌, inl, inr, ℕ, ◌+◌, ◌-◌, ◌<◌, zero, suc, true, List, [], ◌∷◌, ◌++◌, Some, length, map, ap, sym, ◌∙◌, subst, refl, arith}
 use Rattle.std.specs.Prelude.{slice_get, option_map, unwrap_or, IsTrue}
+use Rattle.std.proofs.lemmas.Bool.{and_parts}
+use Rattle.std.proofs.lemmas.List.{append-nil}
 use Rattle.std.proofs.lemmas.Option.{slice_get-map, slice_get_within}
+use Rattle.xc_data.specs.declared.call.Asked.{Asked}
+use Rattle.xc_data.specs.declared.entry.Cause.TheVariants as cause
 use Rattle.xc_data.specs.declared.private.Place.{Place}
+use Rattle.xc_data.specs.declared.undo.Undo.{Undo}
+use Rattle.xc_script.specs.declared.ask.Ask.{Ask}
+use Rattle.xc_script.specs.declared.ask.Ask.TheVariants as ask
 use Rattle.xc_world.specs.World.{beginning, no_handles}
-use Rattle.xc_world.specs.Run.{asked_of, body, body_fits}
+use Rattle.xc_world.specs.Act.{act}
+use Rattle.xc_world.specs.Ends.{Ending}
+use Rattle.xc_world.specs.Fits.{fits}
+use Rattle.xc_world.specs.Run.{Ran, asked_of, body, body_fits, goes_on}
+use Rattle.xc_world.specs.Trail.{recorded}
+use Rattle.xc_world.proofs.Bodies.{body_keeps}
+use Rattle.xc_story.specs.declared.phase.Phase.{Phase}
+use Rattle.xc_story.specs.declared.phase.Phase.TheVariants.{Running, Committing, Undoing}
 use Rattle.xc_story.specs.Setting.{Setting}
 use Rattle.xc_story.specs.Progress.{progress_of, private_of}
-use Rattle.xc_story.specs.Played.{HoldsFor, IsPlayedSoFar}
+use Rattle.xc_story.specs.Played.{HoldsFor, IsPlayedSoFar, RecordsFor}
+use Rattle.xc_story.specs.Truth.{AreLeft, AreLeftBy}
 use Rattle.xc_story.specs.Told.{AreTold, asked_of_tx}
 use Rattle.xc_story.specs.Seen.{SeenTx, SeenJob, Now, active_of}
-use Rattle.xc_flight.proofs.Frames.{ran_keeps}
-use Rattle.xc_played.specs.Flying.{flown, state_of, AreFlying}
-use Rattle.xc_played.proofs.FlownJobs.{flight_there, fits_there}
+use Rattle.xc_played.specs.Flying.{IsUnnoted, state_of, AreFlying}
+use Rattle.xc_played.proofs.FlownJobs.{flight_there, fits_there, rest_fits}
 
 at_place : {X : Type 0} (xs : List X) (i : ℕ) → i < length xs → (x : X) × (slice_get xs i ≡ Some x)
 at_place [] i lt = let none = lt in absurd (omega (arith, none))
 at_place (x ∷ xs) zero lt = (x, refl)
 at_place (x ∷ xs) (suc i) lt = at_place xs i (omega (arith, lt))
+
+-- ---- the records
+none_left : (r : Ran) (tx : ℕ) (next : Ask) → AreLeft r tx next []
+none_left r tx (ask.Call call) = inl refl
+none_left r tx ask.Commit = refl
+none_left r tx ask.Abort = refl
+none_left r tx ask.End = refl
+
+all_told : (r : Ran) (tx : ℕ) (next : Ask) (p : Phase) (records : List Undo) → records ≡ r.trail → RecordsFor r tx next p records
+all_told r tx next Running records e = e
+all_told r tx next Committing records e = e
+all_told r tx next (Undoing cause.Asked) records e = e
+all_told r tx next (Undoing (cause.Conflict object holder at)) records e = e
+all_told r tx next (Undoing (cause.Revoked object by at)) records e = e
+all_told r tx next (Undoing cause.NoMemory) records e = ([], none_left r tx next, e ∙ sym (append-nil r.trail))
+
+-- they are those of a body's calls, and of the one that isn't noted
+records_for : (tx : ℕ) (r : Ran) (p : Phase) (next : Ask) (us : List Asked) (records : List Undo) → IsUnnoted p next us
+    → IsTrue (body_fits r.world r.me tx us) → (goes_on tx r us).trail ≡ records → RecordsFor r tx next p records
+records_for tx r p next [] records was fit e = all_told r tx next p records (sym e)
+records_for tx r (Undoing cause.NoMemory) (ask.Call call) (a ∷ []) records was fit e = (
+  recorded r.world r.me tx a.call (act r.world r.me tx a.call a.answer).reply,
+  subst (λ c. AreLeftBy r tx c (recorded r.world r.me tx a.call (act r.world r.me tx a.call a.answer).reply)) was
+      (inr (a.answer, (and_parts (fits r.world r.me tx a.call a.answer) true fit).0, refl)),
+  sym e,
+)
+records_for tx r p next (a ∷ us) records was fit e = absurd was
 
 module _ (s : Setting) (now : Now) (told : AreTold s (length now.words) now.journal now.jobs) (all : AreFlying s now) (at : ℕ) (job : SeenJob) (tx : SeenTx)
     (there : slice_get now.jobs at ≡ Some job) (active : active_of job ≡ Some tx) where
@@ -45,14 +86,17 @@ module _ (s : Setting) (now : Now) (told : AreTold s (length now.words) now.jour
       let i = (flight_there s now all at job tx there active).inside in
       let w = (state_of s now).world in
       let asked = asked_of tx.calls tx.replies in
+      let next = asked_of_tx s (slice_get (progress_of s.script now.journal).jobs at) tx in
+      let records = tx.undo.pending ++ map (λ (r : Ending). r.0) tx.undo.ended in
       record {
         fits = subst (λ me. IsTrue (body_fits w me tx.number asked)) private (fits_there s now all at job tx there active);
         replies = ap (λ me. (body w me tx.number asked).replies) (sym private) ∙ i.replies;
         me = ap (λ me. (body w me tx.number asked).me) (sym private) ∙ i.me;
         late = ap (λ me. (body w me tx.number asked).late) (sym private) ∙ i.late;
-        trail = ap (λ me. (body w me tx.number asked).trail) (sym private) ∙ i.trail;
-        holds = subst (λ me. HoldsFor (body w me tx.number asked) (asked_of_tx s (slice_get (progress_of s.script now.journal).jobs at) tx) tx.phase tx.held)
-            private (all.holds at job tx there active);
-        count = ap (λ me. length (body w me tx.number asked).world.words) (sym private) ∙ (ran_keeps w (flown job.me tx) i.covers).count
+        records = subst (λ me. RecordsFor (body w me tx.number asked) tx.number next tx.phase records) private
+            (records_for tx.number (body w job.me tx.number asked) tx.phase next (all.unnoted at) records (all.was_asked at tx (job, there, active))
+            (rest_fits s now all at job tx there active) i.trail);
+        holds = subst (λ me. HoldsFor (body w me tx.number asked) next tx.phase tx.held) private (all.holds at job tx there active);
+        count = ap (λ me. length (body w me tx.number asked).world.words) (sym private) ∙ (body_keeps w job.me tx.number asked).count
             ∙ sym all.flies.count;
       }

@@ -15,24 +15,25 @@ use Rattle.xc_data.specs.Private.{place_of}
 use Rattle.xc_file.specs.Calls.{IsOpenIn}
 use Rattle.xc_host.specs.Contents.{Contents}
 use Rattle.xc_world.specs.World.{World}
-use Rattle.xc_world.specs.Sound.{IsKnown, IsSound}
-use Rattle.xc_world.specs.Run.{asked_of, body}
+use Rattle.xc_world.specs.Sound.{IsFit, IsKnown, IsSound}
+use Rattle.xc_world.specs.Run.{Ran, asked_of}
 use Rattle.xc_world.specs.Ends.{Ending, remains, with_remains}
 use Rattle.xc_world.specs.Effects.{whole, AreMadeIn}
 use Rattle.xc_world.specs.Laws.{AgreeAt}
 use Rattle.xc_world.proofs.EffectsBody.{body-sound, body-others_sound}
-use Rattle.xc_world.proofs.EffectsRemains.{remains-sound}
+use Rattle.xc_world.proofs.EffectsRemains.{StaysFit, remains-fit}
 use Rattle.xc_story.specs.declared.phase.Phase.TheVariants as turn
 use Rattle.xc_story.specs.Setting.{Setting}
 use Rattle.xc_story.specs.Seen.{SeenTx, SeenJob, Now, active_of, begun_count}
 use Rattle.xc_flight.specs.Active.{Tx, Phase, Running, Committing, Undoing, Has, Own}
-use Rattle.xc_flight.specs.Flight.{left, returned, ran}
+use Rattle.xc_flight.specs.Flight.{asked, left, noted, returned, ran}
 use Rattle.xc_flight.specs.Standing.{active_at, OwnSome, OwnAt}
 use Rattle.xc_flight.proofs.Basics.{has_decide, owns_has}
-use Rattle.xc_flight.proofs.Frames.{ran_keeps}
-use Rattle.xc_flight.proofs.Calling.{sees}
+use Rattle.xc_flight.proofs.Frames.{ran_keeps, ran_whole}
+use Rattle.xc_flight.proofs.Calling.{all_noted, sees}
 use Rattle.xc_played.specs.Flying.{flown, flown_phase, state_of, standing, world_now, AreFlying}
-use Rattle.xc_played.proofs.FlownJobs.{flown_back, flies_there, flight_there, sound_there, fits_there, made_there}
+use Rattle.xc_played.proofs.FlownJobs.{flies_there, flight_there, sound_there, fits_there, made_there}
+use Rattle.xc_played.proofs.FlownLists.{flown_back}
 
 -- ---- a file that is there, within its limit
 abbrev pub IsWithin : Option (List ℕ) → Type 0
@@ -68,12 +69,12 @@ records_blocked : (us : List Undo) (es : List Ending) → map (λ (r : Ending). 
 records_blocked [] es = refl
 records_blocked (u ∷ us) es = ap (λ l. u ∷ l) (records_blocked us es)
 
--- what stands of records that were made keeps a private state sound
-standing_sound : (w : World) (me : Private) (tx : ℕ) (us : List Undo) (es : List Ending) → AreMadeIn w (us ++ map (λ (r : Ending). r.0) es) → IsSound w me tx
-    → IsSound (with_remains w (whole us ++ remains es)) me tx
-standing_sound w me tx us es made sound =
-    subst (λ l. IsSound (with_remains w l) me tx) (remains_blocked us es)
-    (remains-sound w me tx (blocked us ++ es) (subst (AreMadeIn w) (sym (records_blocked us es)) made) sound)
+-- what stands of records that were made keeps a world fit
+standing_fit : (w : World) (us : List Undo) (es : List Ending) → AreMadeIn w (us ++ map (λ (r : Ending). r.0) es) → IsFit w
+    → StaysFit w (with_remains w (whole us ++ remains es))
+standing_fit w us es made fit =
+    subst (λ l. StaysFit w (with_remains w l)) (remains_blocked us es)
+    (remains-fit w (blocked us ++ es) (subst (AreMadeIn w) (sym (records_blocked us es)) made) fit)
 
 -- ---- the private state of a transaction that has one file open
 abbrev looking : Num → Private
@@ -93,7 +94,7 @@ module _ (s : Setting) (now : Now) (all : AreFlying s now) (at : ℕ) (job : See
   state = (state_of s now).world
 
   abbrev mine : Tx
-  mine = flown job.me tx
+  mine = flown job.me (all.unnoted at) tx
 
   look_sound : (num : Num) → IsWithin (finite.get state.files num) → IsSound state (looking num) (begun_count now + 1)
   look_sound num within =
@@ -107,19 +108,19 @@ module _ (s : Setting) (now : Now) (all : AreFlying s now) (at : ℕ) (job : See
 
   body_within : (num : Num) → IsWithin (finite.get state.files num) → IsWithin (finite.get (ran state mine).world.files num)
   body_within num within =
-      let asked = asked_of tx.calls tx.replies in
       let begun = all.flies.begun at mine (flies_there s now all at job tx there active) in
-      file_within (body state job.me tx.number asked).world num (begun_count now + 1)
-      (body-others_sound state job.me (looking num) tx.number (begun_count now + 1) asked (sound_there s now all at job tx there active)
-      (fits_there s now all at job tx there active) (look_sound num within) (λ e. omega (arith, begun, e)))
+      file_within (ran state mine).world num (begun_count now + 1)
+      (subst (λ (r : Ran). IsSound r.world (looking num) (begun_count now + 1)) (ran_whole state mine)
+      (body-others_sound state job.me (looking num) tx.number (begun_count now + 1) (asked mine) (sound_there s now all at job tx there active)
+      (flight_there s now all at job tx there active).inside.fits (look_sound num within) (λ e. omega (arith, begun, e))))
 
   left_within : (num : Num) → IsWithin (finite.get state.files num) → (p : Phase) → IsWithin (finite.get (left state mine p).files num)
   left_within num within Running = body_within num within
   left_within num within Committing = body_within num within
   left_within num within Undoing =
-      file_within (left state mine Undoing) num (begun_count now + 1)
-      (standing_sound state (looking num) (begun_count now + 1) tx.undo.pending tx.undo.ended (made_there s now all at job tx there active)
-      (look_sound num within))
+      let stays = standing_fit state tx.undo.pending tx.undo.ended (made_there s now all at job tx there active)
+      (sound_there s now all at job tx there active).world in
+      (stays.known (place.File num 0) within.0, stays.fit.files num)
 
   returned_file : (num : Num) (p : Phase) → AgreeAt (returned (world_now s now) mine p) (left state mine p) (object.File num)
       → finite.get now.contents.files num ≡ finite.get (left state mine p).files num
@@ -136,10 +137,10 @@ module _ (s : Setting) (now : Now) (all : AreFlying s now) (at : ℕ) (job : See
 
 -- ---- the station has each file that the journal's world has
 owner_within : (s : Setting) (now : Now) (all : AreFlying s now) (num : Num) → IsWithin (finite.get (state_of s now).world.files num)
-    → (at : ℕ) (o : Option Tx) → active_at (standing s now) at ≡ o → OwnSome o (object.File num) → IsWithin (finite.get now.contents.files num)
+    → (at : ℕ) (o : Option Tx) → active_at (standing s now all.unnoted) at ≡ o → OwnSome o (object.File num) → IsWithin (finite.get now.contents.files num)
 owner_within s now all num within at None e own = absurd own
 owner_within s now all num within at (Some t) e own =
-    let f = flown_back now.jobs at t e in
+    let f = flown_back all.unnoted now.jobs at t e in
     owned_within s now all at f.job f.tx f.there f.active num within (subst (λ u. Own u (object.File num)) f.same own)
 
 -- within its limit there, and so here
@@ -147,8 +148,8 @@ pub still_within : (s : Setting) (now : Now) (all : AreFlying s now) (num : Num)
     → IsWithin (finite.get now.contents.files num)
 still_within s now all num within =
     ⊎_elim (λ (is : IsWithin (finite.get now.contents.files num)). is) (λ (lacks : IsWithin (finite.get now.contents.files num) → ⊥).
-    let nobody : (at : ℕ) → OwnAt (standing s now) at (object.File num) → ⊥ =
-    λ at own. lacks (owner_within s now all num within at (active_at (standing s now) at) refl own) in
+    let nobody : (at : ℕ) → OwnAt (standing s now all.unnoted) at (object.File num) → ⊥ =
+    λ at own. lacks (owner_within s now all num within at (active_at (standing s now all.unnoted) at) refl own) in
     let e : finite.get now.contents.files num ≡ finite.get (state_of s now).world.files num = all.flies.free (object.File num) nobody in
     subst IsWithin (sym e) within)
     (within_decide (finite.get now.contents.files num))
@@ -157,14 +158,14 @@ still_within s now all num within =
 module _ (s : Setting) (now : Now) (all : AreFlying s now) (at : ℕ) (job : SeenJob) (tx : SeenTx) (there : slice_get now.jobs at ≡ Some job)
     (active : active_of job ≡ Some tx) (runs : tx.phase ≡ turn.Running) where
   abbrev runner : Tx
-  runner = flown job.me tx
+  runner = flown job.me (all.unnoted at) tx
 
   body_there : (num : Num) → IsWithin (finite.get (ran (state_of s now).world runner).world.files num) → IsWithin (finite.get now.contents.files num)
   body_there num within =
       ⊎_elim
       (λ (has : Has runner (object.File num)).
       let e : finite.get (ran (state_of s now).world runner).world.files num ≡ finite.get now.contents.files num =
-      sees (standing s now) at runner all.flies (flies_there s now all at job tx there active) (ap flown_phase runs) (object.File num) has in
+      sees (standing s now all.unnoted) at runner all.flies (flies_there s now all at job tx there active) (ap flown_phase runs) (object.File num) has in
       subst IsWithin e within)
       (λ (lacks : Has runner (object.File num) → ⊥).
       let keeps = ran_keeps (state_of s now).world runner (flight_there s now all at job tx there active).inside.covers in
@@ -177,9 +178,12 @@ module _ (s : Setting) (now : Now) (all : AreFlying s now) (at : ℕ) (job : See
   pub open_files : (h : ℕ) → IsOpenIn now.contents (place_of tx.me.places h)
   open_files h =
       let w = (state_of s now).world in
-      let asked = asked_of tx.calls tx.replies in
       let me = (flight_there s now all at job tx there active).inside.me in
-      let after = body-sound w job.me tx.number asked (sound_there s now all at job tx there active) (fits_there s now all at job tx there active) in
-      let world = (body w job.me tx.number asked).world in
-      open_there now.contents world (place_of tx.me.places h) body_there
+      let after = body-sound w job.me tx.number (asked_of tx.calls tx.replies) (sound_there s now all at job tx there active)
+      (fits_there s now all at job tx there active) in
+      let world = (noted w runner).world in
+      let same : ran w runner ≡ noted w runner =
+      all_noted (standing s now all.unnoted) at runner all.flies (flies_there s now all at job tx there active) (ap flown_phase runs) in
+      open_there now.contents world (place_of tx.me.places h)
+      (λ num within. body_there num (subst (λ (r : Ran). IsWithin (finite.get r.world.files num)) (sym same) within))
       (subst (λ (m : Private). IsKnown world (place_of m.places h)) me (after.handles h)) after.world.files

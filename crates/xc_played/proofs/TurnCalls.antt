@@ -8,7 +8,6 @@ use Rattle.xc_data.specs.declared.call.Asked.{Asked}
 use Rattle.xc_data.specs.declared.call.Call.{Call}
 use Rattle.xc_data.specs.declared.call.Call.TheVariants as call
 use Rattle.xc_data.specs.declared.call.Reply.{Reply}
-use Rattle.xc_data.specs.declared.call.Reply.TheVariants as reply
 use Rattle.xc_data.specs.declared.claim.Claim.{Claim}
 use Rattle.xc_data.specs.declared.claim.Mode.TheVariants.{Exclusive}
 use Rattle.xc_data.specs.declared.object.Object.{Object}
@@ -21,7 +20,7 @@ use Rattle.xc_script.specs.Place.{Place}
 use Rattle.xc_world.specs.World.{World}
 use Rattle.xc_world.specs.Act.Step.{Stepped, stays}
 use Rattle.xc_world.specs.Fits.{answer_of}
-use Rattle.xc_world.specs.Late.{late_call, kept_call}
+use Rattle.xc_world.specs.Late.{kept_call}
 use Rattle.xc_world.specs.Modes.{claims_of}
 use Rattle.xc_world.specs.Run.{Ran, asked_of, body, step, taken_by}
 use Rattle.xc_world.specs.Trail.{recorded}
@@ -44,31 +43,10 @@ use Rattle.xc_flight.specs.Turns as turns
 use Rattle.xc_flight.proofs.Claiming.{merged_held}
 use Rattle.xc_flight.proofs.Together.{called_with_claims}
 use Rattle.xc_played.specs.Flying.{flown, flown_phase, ran_at}
-use Rattle.xc_played.proofs.TurnParts.{Flying, world_in, standing_in, flown_at, goes_on}
+use Rattle.xc_played.proofs.BuiltCalls.{built-late, built-taken}
+use Rattle.xc_played.proofs.FlownLists.{flown_there, none_unnoted}
+use Rattle.xc_played.proofs.TurnParts.{Flying, world_in, standing_in, goes_on}
 use Rattle.xc_played.proofs.TurnRivals.{no_rivals}
-
--- ---- calls that scripts have so far
-kept-nil : (c : Call) (me : Private) (r : Reply) → late_call c me ≡ [] → kept_call c me r ≡ []
-kept-nil c me reply.Late e = e
-kept-nil c me _ e = refl
-
--- they are done at once
-pub built-late : (c : Call) (me : Private) (r : Reply) → is_built c ≡ true → kept_call c me r ≡ []
-built-late (call.Load at) me r is = kept-nil (call.Load at) me r refl
-built-late (call.Store at value) me r is = kept-nil (call.Store at value) me r refl
-built-late (call.XOpen name) me r is = kept-nil (call.XOpen name) me r refl
-built-late (call.XRead h n) me r is = kept-nil (call.XRead h n) me r refl
-built-late (call.XWriteOvr h bytes) me r is = kept-nil (call.XWriteOvr h bytes) me r refl
-built-late _ me r is = cc
-
--- and take no data
-pub built-taken : (c : Call) (me : Private) (r : Reply) → is_built c ≡ true → taken_by c me r ≡ []
-built-taken (call.Load at) me r is = refl
-built-taken (call.Store at value) me r is = refl
-built-taken (call.XOpen name) me r is = refl
-built-taken (call.XRead h n) me r is = refl
-built-taken (call.XWriteOvr h bytes) me r is = refl
-built-taken _ me r is = cc
 
 -- ---- a call more
 pub asks-count : (walk : Walk) (calls : List Call) (replies : List Reply) → AsksEach walk calls replies → length calls ≡ length replies
@@ -109,11 +87,11 @@ stored_own me count c own within = All-nil (λ (s : ℕ × ℕ). own (object.Wor
 -- ---- the transaction behind its call
 -- what the step to it shows
 pub record Stepping (from to : World) (tx : SeenTx) (c : Call) (reply : Reply) (parts : Parts) : Type 0 where
-  pub does : Does from to tx.number (parts_of tx) parts c reply
+  pub does : Does from to (parts_of tx) parts c reply
   pub built : is_built c ≡ true
   pub ended : parts.undo.ended ≡ tx.undo.ended
 
-module _ (w : World) (words : List ℕ) (was is : Contents) (job : SeenJob) (tx : SeenTx) (c : Call) (reply : Reply) (parts : Parts)
+module _ (w : World) (words : List ℕ) (was is : Contents) (us : List Asked) (job : SeenJob) (tx : SeenTx) (c : Call) (reply : Reply) (parts : Parts)
     (go : Stepping (seen (record w { words = words }) was tx.writes) (seen (record w { words = words }) is parts.stores) tx c reply parts) where
   abbrev now : World
   now = world_in w words was
@@ -122,7 +100,7 @@ module _ (w : World) (words : List ℕ) (was is : Contents) (job : SeenJob) (tx 
   claims = claims_of c tx.me (length words)
 
   abbrev t : Tx
-  t = flown job.me tx
+  t = flown job.me us tx
 
   abbrev after : SeenTx
   after = noting tx c reply claims parts
@@ -130,7 +108,7 @@ module _ (w : World) (words : List ℕ) (was is : Contents) (job : SeenJob) (tx 
   acts : did now (claiming t after.held) (asked_with c reply) ≡ stays (seen (record w { words = words }) is parts.stores) parts.me reply
   acts = go.does.step
 
-  noted_so : noting_in_flight now (claiming t after.held) (asked_with c reply) parts.stores ≡ flown job.me after
+  noted_so : noting_in_flight now (claiming t after.held) (asked_with c reply) parts.stores ≡ flown job.me us after
   noted_so = λ i. record {
     number = tx.number;
     phase = flown_phase tx.phase;
@@ -138,7 +116,7 @@ module _ (w : World) (words : List ℕ) (was is : Contents) (job : SeenJob) (tx 
     me = (ap (λ (s : Stepped). s.me) acts) i;
     calls = tx.calls ++ c ∷ [];
     replies = tx.replies ++ (ap (λ (s : Stepped). s.reply) acts) i ∷ [];
-    unnoted = [];
+    unnoted = us;
     held = after.held;
     writes = parts.stores;
     pending = pending i;
@@ -171,10 +149,10 @@ module _ (s : Setting) (p : Progress) (words : List ℕ) (was is : Contents) (jo
     (go : Stepping (seen (record p.state.world { words = words }) was tx.writes) (seen (record p.state.world { words = words }) is parts.stores)
     tx c reply parts) (f : Flying s p words was jobs next) where
   abbrev standing : Standing
-  standing = standing_in p.state.world words was jobs next
+  standing = standing_in p.state.world (world_in p.state.world words was) f.unnoted jobs next
 
   abbrev tx_flown : Tx
-  tx_flown = flown job.me tx
+  tx_flown = flown job.me (f.unnoted at) tx
 
   abbrev claimed : List Claim
   claimed = claims_of c tx.me (length words)
@@ -186,7 +164,7 @@ module _ (s : Setting) (p : Progress) (words : List ℕ) (was is : Contents) (jo
   ran = ran_at p.state.world job.me tx
 
   active : IsActive standing at tx_flown
-  active = flown_at jobs at job tx there doing
+  active = flown_there f.unnoted jobs at job tx there doing
 
   running : tx_flown.phase ≡ flight.Running
   running = ap flown_phase runs
@@ -194,17 +172,19 @@ module _ (s : Setting) (p : Progress) (words : List ℕ) (was is : Contents) (jo
   held : tx.held ≡ held_of ran.touched
   held = subst (λ ph. HoldsFor ran (asked_of_tx s (slice_get p.jobs at) tx) ph tx.held) runs (f.holds at job tx there (ap active_in doing))
 
+  flies_so : IsRunning p.state.world tx_flown
+  flies_so = subst (IsPhase p.state.world tx_flown) running (f.flies.flights at tx_flown active).inside.phase
+
   same : HoldTheSame behind.held (tx.held ++ claimed)
   same = subst (λ l. HoldTheSame (holding l claimed) (l ++ claimed)) (sym held) (merged_held ran.touched claimed)
 
   stored : parts.stores ≡ tx.writes ++ stored_by (length words) c → All (λ x. Own (claiming tx_flown behind.held) (object.Word x.0)) parts.stores
   stored stores =
-      let phase : IsRunning p.state.world tx_flown = subst (IsPhase p.state.world tx_flown) running (f.flies.flights at tx_flown active).inside.phase in
       let P : ℕ × ℕ → Type 0 = λ x. Own tx_flown (object.Word x.0) in
       let Q : ℕ × ℕ → Type 0 = λ x. Own (claiming tx_flown behind.held) (object.Word x.0) in
       subst (All Q) (sym stores)
       (All-append Q tx.writes (stored_by (length words) c)
-      (All-weaker P Q (λ x own. more (object.Word x.0) own) tx.writes phase.stored)
+      (All-weaker P Q (λ x own. more (object.Word x.0) own) tx.writes flies_so.stored)
       (stored_own tx.me (length words) c (Own (claiming tx_flown behind.held))
       (λ o at. inl (held_now o (Contains-append_right (owned tx.held) (owned claimed) o at)))))
     where
@@ -216,20 +196,20 @@ module _ (s : Setting) (p : Progress) (words : List ℕ) (was is : Contents) (jo
       more o (inr numbered) = inr numbered
 
   flies : All (HasNoRival jobs at) claimed → parts.stores ≡ tx.writes ++ stored_by (length words) c
-      → InFlight (turned standing at (Some (flown job.me behind)) (world_in p.state.world words is))
+      → InFlight (turned standing at (Some (flown job.me (f.unnoted at) behind)) (world_in p.state.world words is))
   flies alone stores =
       let w = p.state.world in
-      let did_so = acts w words was is job tx c reply parts go in
+      let did_so = acts w words was is (f.unnoted at) job tx c reply parts go in
       let noted : IsNoted standing.now (claiming tx_flown behind.held) (asked_with c reply) parts.stores = record {
         told = ap (λ (x : Stepped). answer_of x.reply) did_so;
         words = sym (ap (λ (x : Stepped). x.world.words) did_so);
         stored = stored stores;
       } in
       let done = called_with_claims standing at tx_flown (asked_with c reply) behind.held parts.stores f.flies active running (f.sound at tx_flown active)
-      (no_rivals w words was jobs next at claimed alone) same go.does.fits noted in
-      subst (λ x. InFlight (turned standing at (Some (flown job.me behind)) x)) (moved_so w words was is job tx c reply parts go)
+      (no_rivals w standing.now f.unnoted jobs next at claimed alone) same go.does.fits noted in
+      subst (λ x. InFlight (turned standing at (Some (flown job.me (f.unnoted at) behind)) x)) (moved_so w words was is (f.unnoted at) job tx c reply parts go)
       (subst (λ x. InFlight (turned standing at (Some x) (after_call standing.now tx_flown (asked_with c reply))))
-      (noted_so w words was is job tx c reply parts go) done)
+      (noted_so w words was is (f.unnoted at) job tx c reply parts go) done)
 
   held_behind : length tx.calls ≡ length tx.replies → behind.held ≡ held_of (ran_at p.state.world job.me behind).touched
   held_behind count =
@@ -247,6 +227,7 @@ module _ (s : Setting) (p : Progress) (words : List ℕ) (was is : Contents) (jo
   pub calls_keep : All (HasNoRival jobs at) claimed → parts.stores ≡ tx.writes ++ stored_by (length words) c → length tx.calls ≡ length tx.replies
       → Flying s p words is (slice_set jobs at (with_tx job place behind)) next
   calls_keep alone stores count =
-      goes_on s p words words was is jobs next at job place tx behind there doing refl f (flies alone stores)
+      goes_on s p words words was is jobs next at (f.unnoted at) job place tx behind there doing refl f (flies alone stores)
+      (none_unnoted tx.phase (asked_of_tx s (slice_get p.jobs at) behind) (f.unnoted at) flies_so.all_noted)
       (subst (λ ph. HoldsFor (ran_at p.state.world job.me behind) (asked_of_tx s (slice_get p.jobs at) behind) ph behind.held) (sym runs) (held_behind count))
       (All-push (λ call. is_built call ≡ true) tx.calls c (f.built at job tx there (ap active_in doing)) go.built)

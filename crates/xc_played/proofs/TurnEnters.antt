@@ -1,22 +1,21 @@
 -- The entry of an active transaction keeps all flights.
 use Rattle.std.proofs.Common.{⊎_elim, ◌≡◌, ◌≢◌, true, ℕ, inl, inr, List, [], ◌++◌, length, refl, ap, sym, ◌∙◌, subst, Some, None}
-use Rattle.std.specs.Prelude.{All, Contains, map, slice_get, slice_set}
+use Rattle.std.specs.Prelude.{All, map, slice_get, slice_set}
 use Rattle.xc_data.specs.declared.call.LateCall.{LateCall}
 use Rattle.xc_data.specs.declared.claim.Claim.{Claim}
 use Rattle.xc_data.specs.declared.entry.Cause.TheVariants as cause
 use Rattle.xc_data.specs.declared.object.Object.{Object}
 use Rattle.xc_data.specs.declared.object.Object.TheVariants as object
 use Rattle.xc_data.specs.declared.private.Place.{Place as Handle}
-use Rattle.xc_data.specs.Claims.{held_of, owned}
+use Rattle.xc_data.specs.Claims.{held_of}
 use Rattle.xc_host.specs.Contents.{Contents}
 use Rattle.xc_script.specs.declared.ask.Ask.{Ask}
 use Rattle.xc_script.specs.declared.ask.Ask.TheVariants as ask
 use Rattle.xc_world.specs.World.{World}
 use Rattle.xc_world.specs.Modes.{claims_of}
 use Rattle.xc_world.specs.Own.{AgreeOn, Sees, Owns}
-use Rattle.xc_world.specs.Run.{Ran, asked_of, lates, late_asked_of}
-use Rattle.xc_world.proofs.Bodies.{body_keeps}
-use Rattle.xc_world.proofs.Objects.{decide}
+use Rattle.xc_world.specs.Run.{Ran, asked_of, goes_on, lates, late_asked_of}
+use Rattle.xc_world.proofs.Bodies.{keeps_touched}
 use Rattle.xc_world.proofs.Runs.{other_run_apart}
 use Rattle.xc_story.specs.declared.phase.Phase.{Phase}
 use Rattle.xc_story.specs.declared.phase.Phase.TheVariants.{Running, Committing, Undoing}
@@ -29,14 +28,17 @@ use Rattle.xc_story.specs.Seen.{SeenTx, SeenJob, Active, active_of}
 use Rattle.xc_story.specs.Rows.{is_built}
 use Rattle.xc_flight.specs.Active.{Tx, Has, Own, Covers}
 use Rattle.xc_flight.specs.Active as flight
-use Rattle.xc_flight.specs.Flight.{ran, left, returned}
+use Rattle.xc_flight.specs.Flight.{IsCommitting, IsPhase, ran, left, returned}
 use Rattle.xc_flight.specs.Standing.{Standing, InFlight, IsActive, AreSound, HasSome, OwnSome, IsIdleSound, entered}
 use Rattle.xc_flight.specs.Turns.{after_commit}
+use Rattle.xc_flight.proofs.Basics.{own_decide, owns_own}
 use Rattle.xc_flight.proofs.Ending.{committed}
+use Rattle.xc_flight.proofs.Frames.{left_keeps}
 use Rattle.xc_flight.proofs.Sounding.{sound_after, idle_after, own_after}
-use Rattle.xc_played.specs.Flying.{flown, flown_job, flown_phase, ran_at}
-use Rattle.xc_played.proofs.TurnLists.{map-put, map-put_same}
-use Rattle.xc_played.proofs.TurnParts.{Flying, world_in, standing_in, flown_at, is_active, none_flown, put_cases}
+use Rattle.xc_played.specs.Flying.{IsUnnoted, flown, flown_jobs, flown_phase, ran_at}
+use Rattle.xc_played.proofs.FlownLists.{flown-put, flown_there, is_active, none_flown, put_elsewhere, put_in}
+use Rattle.xc_played.proofs.TurnLists.{map-put_same}
+use Rattle.xc_played.proofs.TurnParts.{Flying, world_in, standing_in, put_cases}
 
 -- ---- what others hold, in another world
 wanted_alike : (ran ran' : Ran) (next : Ask) → ran.me ≡ ran'.me → length ran.world.words ≡ length ran'.world.words
@@ -75,8 +77,9 @@ pub record Leads (p p' : Progress) (st : Standing) (jobs : List SeenJob) (at : �
 
 -- it keeps all
 pub enters : (s : Setting) (p p' : Progress) (words : List ℕ) (contents : Contents) (jobs : List SeenJob) (next at : ℕ) (job job' : SeenJob)
-    → slice_get jobs at ≡ Some job → active_of job' ≡ None → job'.block ≡ job.block → Flying s p words contents jobs next
-    → Leads p p' (standing_in p.state.world words contents jobs next) jobs at job' → Flying s p' words contents (slice_set jobs at job') next
+    → slice_get jobs at ≡ Some job → active_of job' ≡ None → job'.block ≡ job.block → (f : Flying s p words contents jobs next)
+    → Leads p p' (standing_in p.state.world (world_in p.state.world words contents) f.unnoted jobs next) jobs at job'
+    → Flying s p' words contents (slice_set jobs at job') next
 enters s p p' words contents jobs next at job job' there none block f l =
     let w = p.state.world in
     let w' = p'.state.world in
@@ -89,16 +92,24 @@ enters s p p' words contents jobs next at job job' there none block f l =
       started = l.started i;
       blocks = l.flies.blocks i;
     } in
-    let active : slice_set (map flown_job jobs) at None ≡ map flown_job (slice_set jobs at job') =
-    ap (slice_set (map flown_job jobs) at) (sym (none_flown job'.me job'.doing none)) ∙ sym (map-put flown_job jobs at job') in
-    let same : entered (standing_in w words contents jobs next) at w' (world_in w words contents)
-    ≡ standing_in w' words contents (slice_set jobs at job') next =
+    let unnoted = put_in f.unnoted at [] in
+    let active : slice_set (flown_jobs f.unnoted jobs) at None ≡ flown_jobs unnoted (slice_set jobs at job') =
+    ap (slice_set (flown_jobs f.unnoted jobs) at) (sym (none_flown job'.me [] job'.doing none)) ∙ sym (flown-put f.unnoted jobs at [] job') in
+    let same : entered (standing_in w (world_in w words contents) f.unnoted jobs next) at w' (world_in w words contents)
+    ≡ standing_in w' (world_in w' words contents) unnoted (slice_set jobs at job') next =
     λ i. record { state = w'; now = now i; active = active i; next = next } in
+    let Asked_so : ℕ → SeenJob → Type 0 = λ j other. (u : SeenTx) → active_of other ≡ Some u
+    → IsUnnoted u.phase (asked_of_tx s (slice_get p'.jobs j) u) (unnoted j) in
     let Idle_so : ℕ → SeenJob → Type 0 = λ j other. active_of other ≡ None → IsIdleSound w' next other.me.places in
     let Holds_so : ℕ → SeenJob → Type 0 = λ j other. (u : SeenTx) → active_of other ≡ Some u
     → HoldsFor (ran_at w' other.me u) (asked_of_tx s (slice_get p'.jobs j) u) u.phase u.held in
     let Built_so : ℕ → SeenJob → Type 0 = λ j other. (u : SeenTx) → active_of other ≡ Some u → All (λ call. is_built call ≡ true) u.calls in
     record {
+      unnoted = unnoted;
+      was_asked = λ j other u e a. put_cases jobs at job job' Asked_so there (λ u e. absurd (cc (none, e)))
+          (λ j other ne e u a. subst (λ o. IsUnnoted u.phase (asked_of_tx s o u) (unnoted j)) (sym (l.followings j ne))
+          (subst (IsUnnoted u.phase (asked_of_tx s (slice_get p.jobs j) u)) (sym (put_elsewhere f.unnoted at j [] ne)) (f.was_asked j other u e a)))
+          j other e u a;
       flies = subst InFlight same l.flies;
       sound = subst AreSound same l.sound;
       idle = put_cases jobs at job job' Idle_so there (λ e. l.own) (λ j other ne e lacks. l.others other.me.places (f.idle j other e lacks));
@@ -116,43 +127,51 @@ enters s p p' words contents jobs next at job job' there none block f l =
 -- ---- what one has and another owns
 pub apart_of : (s : Setting) (p : Progress) (words : List ℕ) (contents : Contents) (jobs : List SeenJob) (next at j : ℕ) (job other : SeenJob) (tx u : SeenTx)
     → slice_get jobs at ≡ Some job → job.doing ≡ Active tx → slice_get jobs j ≡ Some other → other.doing ≡ Active u → j ≢ at
-    → Flying s p words contents jobs next → (o : Object)
-    → Sees u.number (ran_at p.state.world other.me u).touched o → Owns tx.number (ran_at p.state.world job.me tx).touched o → ⊥
+    → (f : Flying s p words contents jobs next) → (o : Object)
+    → Sees u.number (ran_at p.state.world other.me u).touched o → Own (flown job.me (f.unnoted at) tx) o → ⊥
 apart_of s p words contents jobs next at j job other tx u there doing here does ne f o sees owns =
-    let w = p.state.world in
-    let t = flown job.me tx in
-    let v = flown other.me u in
-    let mine = flown_at jobs at job tx there doing in
-    let its = flown_at jobs j other u here does in
+    let v = flown other.me (f.unnoted j) u in
+    let mine = flown_there f.unnoted jobs at job tx there doing in
+    let its = flown_there f.unnoted jobs j other u here does in
     f.flies.apart at j o (λ e. ne (sym e))
-    (subst (λ x. OwnSome x o) (sym mine) (own_so (f.flies.flights at t mine).inside.covers owns))
+    (subst (λ x. OwnSome x o) (sym mine) owns)
     (subst (λ x. HasSome x o) (sym its) (has_so (f.flies.flights j v its).inside.covers sees))
   where
-    own_so : Covers tx.held (ran_at p.state.world job.me tx).touched → Owns tx.number (ran_at p.state.world job.me tx).touched o → Own (flown job.me tx) o
-    own_so covers (inl at) = inl (covers.owned o at)
-    own_so covers (inr numbered) = inr numbered
-
-    has_so : Covers u.held (ran_at p.state.world other.me u).touched → Sees u.number (ran_at p.state.world other.me u).touched o → Has (flown other.me u) o
-    has_so covers (inl at) = inl (covers.objects o at)
+    has_so : Covers u.held (ran p.state.world (flown other.me (f.unnoted j) u)).touched → Sees u.number (ran_at p.state.world other.me u).touched o
+        → Has (flown other.me (f.unnoted j) u) o
+    has_so covers (inl at) =
+        inl (covers.objects o (keeps_touched u.number (ran_at p.state.world other.me u) (f.unnoted j) o at))
     has_so covers (inr numbered) = inr numbered
 
 -- ---- a commit enters
 module _ (s : Setting) (p : Progress) (words : List ℕ) (contents : Contents) (jobs : List SeenJob) (next at : ℕ) (job : SeenJob) (tx : SeenTx)
     (there : slice_get jobs at ≡ Some job) (doing : job.doing ≡ Active tx) (f : Flying s p words contents jobs next) where
   abbrev standing : Standing
-  standing = standing_in p.state.world words contents jobs next
+  standing = standing_in p.state.world (world_in p.state.world words contents) f.unnoted jobs next
 
   abbrev tx_flown : Tx
-  tx_flown = flown job.me tx
+  tx_flown = flown job.me (f.unnoted at) tx
 
   active : IsActive standing at tx_flown
-  active = flown_at jobs at job tx there doing
+  active = flown_there f.unnoted jobs at job tx there doing
 
   abbrev behind : World
   behind = after_commit p.state.world tx_flown
 
   abbrev run_body : Ran
   run_body = ran_at p.state.world job.me tx
+
+  -- it has noted all that it did
+  all_noted : tx.phase ≡ Committing → ran p.state.world tx_flown ≡ run_body
+  all_noted commits =
+      let phase : IsCommitting p.state.world tx_flown =
+      subst (IsPhase p.state.world tx_flown) (ap flown_phase commits) (f.flies.flights at tx_flown active).inside.phase in
+      ap (goes_on tx.number run_body) phase.all_noted
+
+  own_so : tx.phase ≡ Committing → (o : Object) → Owns tx.number run_body.touched o → Own tx_flown o
+  own_so commits o owns =
+      owns_own tx_flown run_body.touched
+      (subst (λ (r : Ran). Covers tx.held r.touched) (all_noted commits) (f.flies.flights at tx_flown active).inside.covers) o owns
 
   -- its body leads there
   pub body_leads : run_body.world ≡ behind
@@ -166,22 +185,16 @@ module _ (s : Setting) (p : Progress) (words : List ℕ) (contents : Contents) (
       let flies = f.flies.flights at tx_flown active in
       let there_so : AgreeOn (Own tx_flown) standing.now (left p.state.world tx_flown flight.Committing) =
       subst (λ q. AgreeOn (Own tx_flown) (returned standing.now tx_flown q) (left p.state.world tx_flown q)) (ap flown_phase commits) flies.owns in
-      ⊎_elim (λ (at : Contains (owned run_body.touched) object.Jobs). there_so object.Jobs (inl (flies.inside.covers.owned object.Jobs at)))
-      (λ (lacks : Contains (owned run_body.touched) object.Jobs → ⊥).
-      (body_keeps p.state.world job.me tx.number (asked_of tx.calls tx.replies)).others object.Jobs (λ own. none_of lacks own))
-      (decide (owned run_body.touched) object.Jobs)
-      ∙ ap (λ (v : World). v.started) body_leads
-    where
-      none_of : (Contains (owned run_body.touched) object.Jobs → ⊥) → Owns tx.number run_body.touched object.Jobs → ⊥
-      none_of lacks (inl at) = lacks at
-      none_of lacks (inr numbered) = numbered
+      ⊎_elim (there_so object.Jobs) ((left_keeps p.state.world tx_flown flies.inside flight.Committing).others object.Jobs) (own_decide tx_flown object.Jobs)
+      ∙ ap (λ (r : Ran). r.world.started) (all_noted commits) ∙ ap (λ (v : World). v.started) body_leads
 
   commit_bodies : (j : ℕ) (other : SeenJob) (u : SeenTx) → tx.phase ≡ Committing → j ≢ at → slice_get jobs j ≡ Some other → active_of other ≡ Some u
       → GivesSame (ran_at p.state.world other.me u) (ran_at behind other.me u)
   commit_bodies j other u commits ne here does =
       let w = p.state.world in
       let alike = other_run_apart w other.me job.me u.number tx.number (asked_of u.calls u.replies) (asked_of tx.calls tx.replies) []
-      (apart_of s p words contents jobs next at j job other tx u there doing here (is_active other.doing u does) ne f) in
+      (λ o sees owns. apart_of s p words contents jobs next at j job other tx u there doing here (is_active other.doing u does) ne f o sees
+      (own_so commits o owns)) in
       let after = committed standing at tx_flown f.flies active (ap flown_phase commits) refl in
       record { me = alike.gave.me; touched = alike.gave.touched; count = alike.left.count ∙ sym f.flies.count ∙ after.count ∙ sym alike.right.count }
 

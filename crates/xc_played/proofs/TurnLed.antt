@@ -1,7 +1,9 @@
 -- What one entry more leads to.
 use Rattle.std.proofs.Common.{◌≡◌, ◌≢◌, ℕ, ◌+◌, ◌-◌, List, [], ◌∷◌, ◌++◌, length, refl, ap, sym, ◌∙◌, arith, Some}
 use Rattle.std.specs.Prelude.{map, replicate, slice_get, slice_set, unwrap_or}
+use Rattle.std.proofs.lemmas.List.{append-nil}
 use Rattle.std.proofs.lemmas.List.Sums.{fold_push}
+use Rattle.xc_data.specs.declared.call.Asked.{Asked}
 use Rattle.xc_data.specs.declared.call.Call.{Call}
 use Rattle.xc_data.specs.declared.entry.Cause.{Cause}
 use Rattle.xc_data.specs.declared.entry.Entry.{Entry}
@@ -19,7 +21,6 @@ use Rattle.xc_story.specs.Seen.{SeenTx, SeenJob}
 use Rattle.xc_story.specs.Rows.{entry_of}
 use Rattle.xc_flight.specs.Turns.{after_commit as world_after_commit, after_abort as world_after_abort}
 use Rattle.xc_played.specs.Flying.{flown, ran_at}
-use Rattle.xc_played.proofs.TurnBack.{append_nil}
 use Rattle.xc_played.proofs.TurnLists.{get_put_other, get_map, map-put, map-put_same}
 
 -- one entry more
@@ -66,8 +67,8 @@ module _ (script : Script) (p : Progress) (f : Following) (jobs : List SeenJob) 
   behind = untried f.block (passed script f.job tx.replies) (p.entered + 1)
 
   -- the world is its run's
-  pub commit_world : (after_entry script p committed).state.world ≡ world_after_commit p.state.world (flown job.me tx)
-  commit_world = ap (λ (q : Progress). q.state.world) (led_by (Committed []))
+  pub commit_world : (us : List Asked) → (after_entry script p committed).state.world ≡ world_after_commit p.state.world (flown job.me us tx)
+  commit_world us = ap (λ (q : Progress). q.state.world) (led_by (Committed []))
       ∙ ap (λ m. (run p.state.world m tx.number (asked_of tx.calls tx.replies) []).late.world) private_is
 
   -- the handles are those of its end
@@ -79,7 +80,7 @@ module _ (script : Script) (p : Progress) (f : Following) (jobs : List SeenJob) 
       let mine : end (private_of p.state (at + 1)) ≡ job'.me.places = ap end private_is ∙ ap (λ (m : Private). m.places) me ∙ sym places in
       ap (λ (q : Progress). q.state.handles) (led_by (Committed []))
       ∙ (λ i. slice_set (handles i) (back_one at i) (mine i) ++ replicate (length (none_started (kept_of tx.calls tx.replies) i)) (mine i))
-      ∙ append_nil (slice_set (map places_of jobs) at job'.me.places) ∙ sym (map-put places_of jobs at job')
+      ∙ append-nil (slice_set (map places_of jobs) at job'.me.places) ∙ sym (map-put places_of jobs at job')
 
   -- the other jobs stay
   pub commit_followings : (j : ℕ) → j ≢ at → slice_get (after_entry script p committed).jobs j ≡ slice_get p.jobs j
@@ -87,15 +88,15 @@ module _ (script : Script) (p : Progress) (f : Following) (jobs : List SeenJob) 
       let to = started_job script (passed script f.job tx.replies) (p.entered + 1) in
       ap (λ (q : Progress). slice_get q.jobs j) (led_by (Committed []))
       ∙ (λ i. slice_get (slice_set p.jobs (at + 1 - 1) behind ++ map to (none_started (kept_of tx.calls tx.replies) i)) j)
-      ∙ ap (λ l. slice_get l j) (append_nil (slice_set p.jobs (at + 1 - 1) behind)) ∙ others_follow behind j ne
+      ∙ ap (λ l. slice_get l j) (append-nil (slice_set p.jobs (at + 1 - 1) behind)) ∙ others_follow behind j ne
 
   -- ---- of an abort
   abbrev aborted : Cause → Entry
   aborted c = entry_of tx at (Aborted (record { cause = c; records = tx.undo.ended }))
 
   -- the world has what remains
-  pub abort_world : (c : Cause) → (after_entry script p (aborted c)).state.world ≡ world_after_abort p.state.world (flown job.me tx)
-  abort_world c = ap (λ (q : Progress). q.state.world) (led_by (Aborted (record { cause = c; records = tx.undo.ended })))
+  pub abort_world : (us : List Asked) (c : Cause) → (after_entry script p (aborted c)).state.world ≡ world_after_abort p.state.world (flown job.me us tx)
+  abort_world us c = ap (λ (q : Progress). q.state.world) (led_by (Aborted (record { cause = c; records = tx.undo.ended })))
 
   -- the handles are those of its begin
   pub abort_handles : (c : Cause) (job' : SeenJob) → job'.me ≡ job.me

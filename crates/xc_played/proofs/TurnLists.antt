@@ -41,24 +41,6 @@ put_at [] i b y e = cc e
 put_at (z ∷ zs) zero b y e = refl
 put_at (z ∷ zs) (suc i) b y e = put_at zs i b y e
 
--- what a map shows of an element
-pub map_at : {A B : Type 0} (f : A → Option B) (xs : List A) (i : ℕ) (x : A) → slice_get xs i ≡ Some x → get_or (map f xs) i None ≡ f x
-map_at f [] i x e = cc e
-map_at f (z ∷ zs) zero x e = let is : z ≡ x = cc e in ap f is
-map_at f (z ∷ zs) (suc i) x e = map_at f zs i x e
-
--- an element that a map shows
-pub record Shown {A B : Type 0} (f : A → Option B) (xs : List A) (i : ℕ) (b : B) : Type 0 where
-  pub item : A
-  pub at : slice_get xs i ≡ Some item
-  pub is : f item ≡ Some b
-
--- each that it shows is there
-pub shown_at : {A B : Type 0} (f : A → Option B) (xs : List A) (i : ℕ) (b : B) → get_or (map f xs) i None ≡ Some b → Shown f xs i b
-shown_at f [] i b e = cc e
-shown_at f (z ∷ zs) zero b e = record { item = z; at = refl; is = e }
-shown_at f (z ∷ zs) (suc i) b e = let more = shown_at f zs i b e in record { item = more.item; at = more.at; is = more.is }
-
 -- it is inside
 pub inside : {A : Type 0} (xs : List A) (i : ℕ) (x : A) → slice_get xs i ≡ Some x → i < length xs
 inside [] i x e = cc e
@@ -70,11 +52,6 @@ pub found_at : {A : Type 0} (xs : List A) (i : ℕ) → i < length xs → (x : A
 found_at [] i lt = absurd (omega (arith, lt))
 found_at (z ∷ zs) zero lt = (z, refl)
 found_at (z ∷ zs) (suc i) lt = found_at zs i (omega (arith, lt))
-
--- as many as before
-pub length-map_all : {A B : Type 0} (f : A → B) (xs : List A) → length (map f xs) ≡ length xs
-length-map_all f [] = refl
-length-map_all f (z ∷ zs) = ap suc (length-map_all f zs)
 
 -- ---- how many are picked
 abbrev pub size : {B : Type 0} → Option B → ℕ

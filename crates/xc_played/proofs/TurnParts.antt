@@ -1,9 +1,10 @@
 -- A station's jobs in flight, behind a journal that has led somewhere.
-use Rattle.std.proofs.Common.{◌≡◌, ◌≢◌, ℕ, ◌+◌, ◌<◌, ◌≤◌, true, List, length, get_or, refl, ap, sym, ◌∙◌, subst, arith, Option, Some, None}
+use Rattle.std.proofs.Common.{◌≡◌, ◌≢◌, ℕ, ◌+◌, ◌<◌, ◌≤◌, true, List, [], length, refl, ap, sym, ◌∙◌, subst, arith, Option, Some, None}
 use Rattle.std.specs.Prelude.{All, map, slice_get, slice_set}
 use Rattle.std.proofs.lemmas.List.Elements.{All-nil}
 use mathlib.Core.Logic.{dite}
 use native.Mathlib.Decide.{ℕ_discrete}
+use Rattle.xc_data.specs.declared.call.Asked.{Asked}
 use Rattle.xc_data.specs.declared.private.Private.{Private}
 use Rattle.xc_host.specs.Contents.{Contents, with_contents}
 use Rattle.xc_script.specs.Place.{Place}
@@ -13,29 +14,32 @@ use Rattle.xc_story.specs.Progress.{Following, Progress, progress_of}
 use Rattle.xc_story.specs.Played.{HoldsFor}
 use Rattle.xc_story.specs.Told.{asked_of_tx, AreTold, IsJobTold}
 use Rattle.xc_story.specs.Truth.{next_of}
-use Rattle.xc_story.specs.Seen.{SeenTx, SeenJob, Doing, Idle, Active, Starved, Ended, Now, active_in, active_of, begun_count}
+use Rattle.xc_story.specs.Seen.{SeenTx, SeenJob, Active, Now, active_of, begun_count}
 use Rattle.xc_story.specs.Rows.{is_built, new_tx, with_tx}
 use Rattle.xc_flight.specs.Active.{Tx}
 use Rattle.xc_flight.specs.Standing.{Standing, InFlight, AreSound, IsIdleSound, begun, turned}
 use Rattle.xc_flight.specs.Turns.{starting}
 use Rattle.xc_flight.proofs.Rows.{begins}
 use Rattle.xc_flight.proofs.Together.{begin_sound, step_sound}
-use Rattle.xc_played.specs.Flying.{AreFlying, flown, flown_in, flown_job, ran_at}
-use Rattle.xc_played.proofs.TurnLists.{get_put_same, get_put_other, map-put, map-put_same, map_at, found_at, inside, length-map_all}
+use Rattle.xc_played.specs.Flying.{AreFlying, IsUnnoted, flown, flown_jobs, ran_at}
+use Rattle.xc_played.proofs.FlownLists.{flown-at, flown-count, flown-put, flown-put_same, flown_there, none_flown, put_elsewhere, put_here, put_in}
+use Rattle.xc_played.proofs.TurnLists.{get_put_same, get_put_other, map-put_same, found_at, inside}
 
 -- a world with these words and contents
 abbrev pub world_in : World → List ℕ → Contents → World
 world_in w words contents = record (with_contents w contents) { words = words }
 
 -- the jobs in flight over it
-abbrev pub standing_in : World → List ℕ → Contents → List SeenJob → ℕ → Standing
-standing_in w words contents jobs next =
-    record { state = w; now = world_in w words contents; active = map flown_job jobs; next = next }
+abbrev pub standing_in : World → World → (ℕ → List Asked) → List SeenJob → ℕ → Standing
+standing_in w now unnoted jobs next = record { state = w; now = now; active = flown_jobs unnoted jobs; next = next }
 
 -- what is true of them, behind a journal that has led here
 pub record Flying (s : Setting) (p : Progress) (words : List ℕ) (contents : Contents) (jobs : List SeenJob) (next : ℕ) : Type 0 where
-  pub flies : InFlight (standing_in p.state.world words contents jobs next)
-  pub sound : AreSound (standing_in p.state.world words contents jobs next)
+  pub unnoted : ℕ → List Asked
+  pub was_asked : (at : ℕ) (job : SeenJob) (tx : SeenTx) → slice_get jobs at ≡ Some job → active_of job ≡ Some tx
+      → IsUnnoted tx.phase (asked_of_tx s (slice_get p.jobs at) tx) (unnoted at)
+  pub flies : InFlight (standing_in p.state.world (world_in p.state.world words contents) unnoted jobs next)
+  pub sound : AreSound (standing_in p.state.world (world_in p.state.world words contents) unnoted jobs next)
   pub idle : (at : ℕ) (job : SeenJob) → slice_get jobs at ≡ Some job → active_of job ≡ None → IsIdleSound p.state.world next job.me.places
   pub handles : p.state.handles ≡ map (λ (job : SeenJob). job.me.places) jobs
   pub started : p.state.world.started ≡ map (λ (job : SeenJob). job.block) jobs
@@ -49,6 +53,8 @@ pub flying_of : (s : Setting) (now : Now) → AreFlying s now
     → Flying s (progress_of s.script now.journal) now.words now.contents now.jobs (begun_count now + 1)
 flying_of s now f =
     record {
+      unnoted = f.unnoted;
+      was_asked = λ at job tx there is. f.was_asked at tx (job, there, is);
       flies = f.flies;
       sound = f.sound;
       idle = f.idle;
@@ -63,6 +69,8 @@ pub flying_from : (s : Setting) (now : Now) → Flying s (progress_of s.script n
     → AreFlying s now
 flying_from s now f =
     record {
+      unnoted = f.unnoted;
+      was_asked = λ at tx there. f.was_asked at there.0 tx there.1 there.2;
       flies = f.flies;
       sound = f.sound;
       idle = f.idle;
@@ -71,29 +79,6 @@ flying_from s now f =
       holds = f.holds;
       built = λ at tx there. f.built at there.0 tx there.1 there.2;
     }
-
--- ---- what a job does
-pub is_active : (d : Doing) (tx : SeenTx) → active_in d ≡ Some tx → d ≡ Active tx
-is_active Idle tx e = cc e
-is_active (Active u) tx e = let is : u ≡ tx = cc e in ap Active is
-is_active Starved tx e = cc e
-is_active (Ended end) tx e = cc e
-
--- a job whose transaction is active, in flight
-pub flown_at : (jobs : List SeenJob) (at : ℕ) (job : SeenJob) (tx : SeenTx) → slice_get jobs at ≡ Some job → job.doing ≡ Active tx
-    → get_or (map flown_job jobs) at None ≡ Some (flown job.me tx)
-flown_at jobs at job tx there is = map_at flown_job jobs at job there ∙ ap (flown_in job.me) is
-
--- a job with no transaction has none in flight
-pub none_flown : (me : Private) (d : Doing) → active_in d ≡ None → flown_in me d ≡ None
-none_flown me Idle e = refl
-none_flown me (Active tx) e = cc e
-none_flown me Starved e = refl
-none_flown me (Ended end) e = refl
-
--- nor at its place
-pub none_at : (jobs : List SeenJob) (at : ℕ) (job : SeenJob) → slice_get jobs at ≡ Some job → active_of job ≡ None → get_or (map flown_job jobs) at None ≡ None
-none_at jobs at job there none = map_at flown_job jobs at job there ∙ none_flown job.me job.doing none
 
 -- ---- what the journal tells of a job
 pub record Follows (s : Setting) (begun entered : ℕ) (p : Progress) (at : ℕ) (job : SeenJob) : Type 0 where
@@ -115,8 +100,9 @@ asked_same s None a b e = refl
 asked_same s (Some f) a b e = ap (next_of s.script f) e
 
 -- ---- a job changes, behind the same journal
--- what is true of the job with its transaction
-pub record Right (s : Setting) (p : Progress) (next at : ℕ) (job : SeenJob) : Type 0 where
+-- what is true of the job with its transaction, and with what isn't noted
+pub record Right (s : Setting) (p : Progress) (next at : ℕ) (us : List Asked) (job : SeenJob) : Type 0 where
+  pub was_asked : (tx : SeenTx) → active_of job ≡ Some tx → IsUnnoted tx.phase (asked_of_tx s (slice_get p.jobs at) tx) us
   pub idle : active_of job ≡ None → IsIdleSound p.state.world next job.me.places
   pub holds : (tx : SeenTx) → active_of job ≡ Some tx
       → HoldsFor (ran_at p.state.world job.me tx) (asked_of_tx s (slice_get p.jobs at) tx) tx.phase tx.held
@@ -135,18 +121,25 @@ put_cases jobs at job job' P there mine others j other e = dite (ℕ_discrete j 
 
 -- it keeps all, where it keeps the flights
 pub changed : (s : Setting) (p : Progress) (words words' : List ℕ) (contents contents' : Contents) (jobs : List SeenJob) (next next' at : ℕ)
-    (job job' : SeenJob) → slice_get jobs at ≡ Some job → next ≤ next' → job'.me ≡ job.me → job'.block ≡ job.block
-    → Flying s p words contents jobs next
-    → InFlight (standing_in p.state.world words' contents' (slice_set jobs at job') next')
-    → AreSound (standing_in p.state.world words' contents' (slice_set jobs at job') next')
-    → Right s p next' at job' → Flying s p words' contents' (slice_set jobs at job') next'
-changed s p words words' contents contents' jobs next next' at job job' there le me block f flies sound right =
+    (us : List Asked) (job job' : SeenJob) → slice_get jobs at ≡ Some job → next ≤ next' → job'.me ≡ job.me → job'.block ≡ job.block
+    → (f : Flying s p words contents jobs next)
+    → InFlight (standing_in p.state.world (world_in p.state.world words' contents') (put_in f.unnoted at us) (slice_set jobs at job') next')
+    → AreSound (standing_in p.state.world (world_in p.state.world words' contents') (put_in f.unnoted at us) (slice_set jobs at job') next')
+    → Right s p next' at us job' → Flying s p words' contents' (slice_set jobs at job') next'
+changed s p words words' contents contents' jobs next next' at us job job' there le me block f flies sound right =
     let w = p.state.world in
     let Idle_so : ℕ → SeenJob → Type 0 = λ j other. active_of other ≡ None → IsIdleSound w next' other.me.places in
     let Holds_so : ℕ → SeenJob → Type 0 = λ j other. (u : SeenTx) → active_of other ≡ Some u
     → HoldsFor (ran_at w other.me u) (asked_of_tx s (slice_get p.jobs j) u) u.phase u.held in
     let Built_so : ℕ → SeenJob → Type 0 = λ j other. (u : SeenTx) → active_of other ≡ Some u → All (λ call. is_built call ≡ true) u.calls in
+    let Asked_so : ℕ → SeenJob → Type 0 = λ j other. (u : SeenTx) → active_of other ≡ Some u
+    → IsUnnoted u.phase (asked_of_tx s (slice_get p.jobs j) u) (put_in f.unnoted at us j) in
     record {
+      unnoted = put_in f.unnoted at us;
+      was_asked = λ j other u e a. put_cases jobs at job job' Asked_so there
+          (λ u a. subst (IsUnnoted u.phase (asked_of_tx s (slice_get p.jobs at) u)) (sym (put_here f.unnoted at us)) (right.was_asked u a))
+          (λ j other ne e u a. subst (IsUnnoted u.phase (asked_of_tx s (slice_get p.jobs j) u)) (sym (put_elsewhere f.unnoted at j us ne))
+          (f.was_asked j other u e a)) j other e u a;
       flies = flies;
       sound = sound;
       idle = put_cases jobs at job job' Idle_so there right.idle (λ j other ne e none m low. f.idle j other e none m (omega (arith, low, le)));
@@ -161,12 +154,14 @@ active_one : (job : SeenJob) (place : Place) (tx u : SeenTx) → active_of (with
 active_one job place tx u e = cc e
 
 -- what is true of an active transaction
-pub right_active : (s : Setting) (p : Progress) (next at : ℕ) (job : SeenJob) (place : Place) (tx : SeenTx)
+pub right_active : (s : Setting) (p : Progress) (next at : ℕ) (us : List Asked) (job : SeenJob) (place : Place) (tx : SeenTx)
+    → IsUnnoted tx.phase (asked_of_tx s (slice_get p.jobs at) tx) us
     → HoldsFor (ran_at p.state.world job.me tx) (asked_of_tx s (slice_get p.jobs at) tx) tx.phase tx.held
-    → All (λ call. is_built call ≡ true) tx.calls → Right s p next at (with_tx job place tx)
-right_active s p next at job place tx holds built =
+    → All (λ call. is_built call ≡ true) tx.calls → Right s p next at us (with_tx job place tx)
+right_active s p next at us job place tx asked holds built =
     let w = p.state.world in
     record {
+      was_asked = λ u e. subst (λ (v : SeenTx). IsUnnoted v.phase (asked_of_tx s (slice_get p.jobs at) v) us) (active_one job place tx u e) asked;
       idle = λ none. cc none;
       holds = λ u e. subst (λ (v : SeenTx). HoldsFor (ran_at w job.me v) (asked_of_tx s (slice_get p.jobs at) v) v.phase v.held)
           (active_one job place tx u e) holds;
@@ -174,32 +169,36 @@ right_active s p next at job place tx holds built =
     }
 
 -- it keeps all, where it keeps the flights
-pub goes_on : (s : Setting) (p : Progress) (words words' : List ℕ) (contents contents' : Contents) (jobs : List SeenJob) (next at : ℕ) (job : SeenJob)
-    (place : Place) (tx tx' : SeenTx) → slice_get jobs at ≡ Some job → job.doing ≡ Active tx → tx'.number ≡ tx.number
-    → Flying s p words contents jobs next
-    → InFlight (turned (standing_in p.state.world words contents jobs next) at (Some (flown job.me tx')) (world_in p.state.world words' contents'))
+pub goes_on : (s : Setting) (p : Progress) (words words' : List ℕ) (contents contents' : Contents) (jobs : List SeenJob) (next at : ℕ) (us : List Asked)
+    (job : SeenJob) (place : Place) (tx tx' : SeenTx) → slice_get jobs at ≡ Some job → job.doing ≡ Active tx → tx'.number ≡ tx.number
+    → (f : Flying s p words contents jobs next)
+    → InFlight (turned (standing_in p.state.world (world_in p.state.world words contents) f.unnoted jobs next) at (Some (flown job.me us tx'))
+    (world_in p.state.world words' contents'))
+    → IsUnnoted tx'.phase (asked_of_tx s (slice_get p.jobs at) tx') us
     → HoldsFor (ran_at p.state.world job.me tx') (asked_of_tx s (slice_get p.jobs at) tx') tx'.phase tx'.held
     → All (λ call. is_built call ≡ true) tx'.calls
     → Flying s p words' contents' (slice_set jobs at (with_tx job place tx')) next
-goes_on s p words words' contents contents' jobs next at job place tx tx' there is number f flies holds built =
+goes_on s p words words' contents contents' jobs next at us job place tx tx' there is number f flies asked holds built =
     let w = p.state.world in
     let job' : SeenJob = with_tx job place tx' in
-    let put : map flown_job (slice_set jobs at job') ≡ slice_set (map flown_job jobs) at (Some (flown job.me tx')) = map-put flown_job jobs at job' in
+    let put : flown_jobs (put_in f.unnoted at us) (slice_set jobs at job') ≡ slice_set (flown_jobs f.unnoted jobs) at (Some (flown job.me us tx')) =
+    flown-put f.unnoted jobs at us job' in
     let behind : (active : List (Option Tx)) → Standing =
     λ (active : List (Option Tx)). record { state = w; now = world_in w words' contents'; active = active; next = next } in
-    let sound = step_sound (standing_in w words contents jobs next) at (flown job.me tx) (flown job.me tx') (world_in w words' contents') f.sound
-    (flown_at jobs at job tx there is) number refl in
-    changed s p words words' contents contents' jobs next next at job job' there (omega arith) refl refl f
+    let sound = step_sound (standing_in w (world_in w words contents) f.unnoted jobs next) at (flown job.me (f.unnoted at) tx) (flown job.me us tx')
+    (world_in w words' contents') f.sound (flown_there f.unnoted jobs at job tx there is) number refl in
+    changed s p words words' contents contents' jobs next next at us job job' there (omega arith) refl refl f
     (subst (λ active. InFlight (behind active)) (sym put) flies)
     (subst (λ active. AreSound (behind active)) (sym put) sound)
-    (right_active s p next at job place tx' holds built)
+    (right_active s p next at us job place tx' asked holds built)
 
 -- ---- an idle job
 -- what is true of a job without a transaction
-pub right_idle : (s : Setting) (p : Progress) (next at : ℕ) (job : SeenJob) → active_of job ≡ None → IsIdleSound p.state.world next job.me.places
-    → Right s p next at job
-right_idle s p next at job none sound =
+pub right_idle : (s : Setting) (p : Progress) (next at : ℕ) (us : List Asked) (job : SeenJob) → active_of job ≡ None
+    → IsIdleSound p.state.world next job.me.places → Right s p next at us job
+right_idle s p next at us job none sound =
     record {
+      was_asked = λ u e. absurd (cc (none, e));
       idle = λ same. sound;
       holds = λ u e. absurd (cc (none, e));
       built = λ u e. absurd (cc (none, e));
@@ -211,14 +210,15 @@ pub rests : (s : Setting) (p : Progress) (words : List ℕ) (contents : Contents
     → Flying s p words contents jobs next → Flying s p words contents (slice_set jobs at job') next
 rests s p words contents jobs next at job job' there none none' me block f =
     let w = p.state.world in
-    let same : map flown_job (slice_set jobs at job') ≡ map flown_job jobs =
-    map-put_same flown_job jobs at job' job there (none_flown job'.me job'.doing none' ∙ sym (none_flown job.me job.doing none)) in
+    let same : flown_jobs (put_in f.unnoted at []) (slice_set jobs at job') ≡ flown_jobs f.unnoted jobs =
+    flown-put_same f.unnoted jobs at [] job job' there
+    (none_flown job'.me [] job'.doing none' ∙ sym (none_flown job.me (f.unnoted at) job.doing none)) in
     let behind : (active : List (Option Tx)) → Standing =
     λ (active : List (Option Tx)). record { state = w; now = world_in w words contents; active = active; next = next } in
-    changed s p words words contents contents jobs next next at job job' there (omega arith) me block f
+    changed s p words words contents contents jobs next next at [] job job' there (omega arith) me block f
     (subst (λ active. InFlight (behind active)) (sym same) f.flies)
     (subst (λ active. AreSound (behind active)) (sym same) f.sound)
-    (right_idle s p next at job' none' (subst (λ (m : Private). IsIdleSound w next m.places) (sym me) (f.idle at job there none)))
+    (right_idle s p next at [] job' none' (subst (λ (m : Private). IsIdleSound w next m.places) (sym me) (f.idle at job there none)))
 
 -- its next transaction begins
 pub begins_next : (s : Setting) (p : Progress) (words : List ℕ) (contents : Contents) (jobs : List SeenJob) (next at : ℕ) (job : SeenJob) (place : Place)
@@ -229,15 +229,17 @@ begins_next s p words contents jobs next at job place rank began there none fres
     let w = p.state.world in
     let tx : SeenTx = new_tx next rank began job.me in
     let job' : SeenJob = with_tx job place tx in
-    let st = standing_in w words contents jobs next in
-    let lt : at < length st.active = (let a = inside jobs at job there in omega (arith, a, length-map_all flown_job jobs)) in
-    let put : map flown_job (slice_set jobs at job') ≡ slice_set (map flown_job jobs) at (Some (flown job.me tx)) = map-put flown_job jobs at job' in
+    let st = standing_in w (world_in w words contents) f.unnoted jobs next in
+    let lt : at < length st.active = (let a = inside jobs at job there in omega (arith, a, flown-count f.unnoted jobs)) in
+    let put : flown_jobs (put_in f.unnoted at []) (slice_set jobs at job') ≡ slice_set (flown_jobs f.unnoted jobs) at (Some (flown job.me [] tx)) =
+    flown-put f.unnoted jobs at [] job' in
     let behind : (active : List (Option Tx)) → Standing =
     λ (active : List (Option Tx)). record { state = w; now = world_in w words contents; active = active; next = next + 1 } in
-    let flies = begins st at job.me f.flies lt (none_at jobs at job there none) in
+    let flies = begins st at job.me f.flies lt
+    (flown-at f.unnoted jobs at job there ∙ none_flown job.me (f.unnoted at) job.doing none) in
     let sound : AreSound (begun st at (starting next job.me)) = subst (λ m. AreSound (begun st at (starting next m))) (sym fresh)
     (begin_sound st at job.me.places f.sound lt (f.idle at job there none)) in
-    changed s p words words contents contents jobs next (next + 1) at job job' there (omega arith) refl refl f
+    changed s p words words contents contents jobs next (next + 1) at [] job job' there (omega arith) refl refl f
     (subst (λ active. InFlight (behind active)) (sym put) flies)
     (subst (λ active. AreSound (behind active)) (sym put) sound)
-    (right_active s p (next + 1) at job place tx refl (All-nil (λ call. is_built call ≡ true)))
+    (right_active s p (next + 1) at [] job place tx tt refl (All-nil (λ call. is_built call ≡ true)))

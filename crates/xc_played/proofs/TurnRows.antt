@@ -1,16 +1,13 @@
 -- Each row of the table of turns keeps the flights of all.
-use Rattle.std.proofs.Common.{◌≡◌, inl, inr, ℕ, ◌+◌, List, [], ◌∷◌, length, refl, ap, sym, ◌∙◌, subst, arith, IsTrue, Option, Some, None, length-append}
+use Rattle.std.proofs.Common.{◌≡◌, ℕ, ◌+◌, List, [], ◌∷◌, length, refl, ap, sym, ◌∙◌, subst, arith, IsTrue, Option, Some, None, length-append}
 use Rattle.std.specs.Prelude.{slice_get, slice_set}
 use Rattle.xc_data.specs.declared.call.Call.{Call}
 use Rattle.xc_data.specs.declared.entry.Cause.{Cause}
 use Rattle.xc_data.specs.declared.entry.Cause.TheVariants as cause
 use Rattle.xc_data.specs.declared.entry.Entry.{Entry}
 use Rattle.xc_data.specs.declared.entry.Outcome.TheVariants.{Committed, Aborted}
-use Rattle.xc_data.specs.declared.claim.Claim.{Claim}
 use Rattle.xc_compensate.specs.Records.{Records}
 use Rattle.xc_host.specs.Contents.{Contents}
-use Rattle.xc_script.specs.declared.ask.Ask.{Ask}
-use Rattle.xc_script.specs.declared.ask.Ask.TheVariants as ask
 use Rattle.xc_script.specs.Ask.{asks, walk_from}
 use Rattle.xc_script.specs.Place.{Place}
 use Rattle.xc_txmem.specs.Overlay.{overlaid}
@@ -19,16 +16,18 @@ use Rattle.xc_story.specs.Setting.{Setting}
 use Rattle.xc_story.specs.Progress.{Progress, progress_of, after_entry}
 use Rattle.xc_story.specs.Told.{asked_of_tx, AreTold, IsDoing, IsInPhase, IsRunning, IsUnderway}
 use Rattle.xc_story.specs.Seen.{SeenTx, SeenJob, Doing, Active, Now, active_in, active_of, actives, begun_count, entering, rank_of, with_job}
-use Rattle.xc_story.specs.Rows.{asked_at, behind_abort, behind_commit, beginning_job, claims_at, entry_of, noting, seen, with_tx}
-use Rattle.xc_story.specs.Rows.{Calls, Conflicts, Commits, Compensates, HoldsWanting, TurnsBack, Wants}
+use Rattle.xc_story.specs.Rows.{asked_at, behind_abort, behind_commit, beginning_job, claims_at, entry_of, noting, seen, wanting, with_tx}
+use Rattle.xc_story.specs.Rows.{Calls, Conflicts, Commits, Compensates, TurnsBack, Wants}
 use Rattle.xc_played.specs.Flying.{AreFlying, flown}
 use Rattle.xc_played.proofs.TurnAborts.{abort_leads}
-use Rattle.xc_played.proofs.TurnBack.{back_keeps, commit_keeps, tried_keeps, wants_claims_keeps}
+use Rattle.xc_played.proofs.FlownLists.{flown_there}
+use Rattle.xc_played.proofs.TurnBack.{back_keeps, commit_keeps, tried_keeps}
 use Rattle.xc_played.proofs.TurnCalls.{Stepping, asks-count, calls_keep}
 use Rattle.xc_played.proofs.TurnEnters.{commit_leads, enters}
 use Rattle.xc_played.proofs.TurnLed.{progress-more, commit_world, commit_handles, commit_followings, abort_world, abort_handles, abort_followings}
 use Rattle.xc_played.proofs.TurnLists.{picked-put, size}
-use Rattle.xc_played.proofs.TurnParts.{Flying, Follows, begins_next, flown_at, flying_from, flying_of, rests, told_at}
+use Rattle.xc_played.proofs.TurnParts.{Flying, Follows, begins_next, flying_from, flying_of, rests, told_at}
+use Rattle.xc_played.proofs.TurnWants.{wants_so}
 
 -- ---- a station behind a turn
 -- from its parts
@@ -59,13 +58,13 @@ row_kept s old new at job job' there same journal put f =
     (ap (progress_of s.script) journal) refl refl put (omega (arith, count, many, entries, same)) f
 
 -- a job behind its abort
-pub record IsLeft (job job' : SeenJob) : Type 0 where
+pub record IsBack (job job' : SeenJob) : Type 0 where
   pub none : active_of job' ≡ None
   pub block : job'.block ≡ job.block
   pub me : job'.me ≡ job.me
 
 -- whatever the cause
-abort_left : (job : SeenJob) (tx : SeenTx) (c : Cause) → IsLeft job (behind_abort job tx c)
+abort_left : (job : SeenJob) (tx : SeenTx) (c : Cause) → IsBack job (behind_abort job tx c)
 abort_left job tx cause.Asked = record { none = refl; block = refl; me = refl }
 abort_left job tx cause.NoMemory = record { none = refl; block = refl; me = refl }
 abort_left job tx (cause.Conflict object holder when) = record { none = refl; block = refl; me = refl }
@@ -126,7 +125,7 @@ module _ (s : Setting) (old : Now) (at : ℕ) (job : SeenJob) (there : slice_get
         let w = before.state.world in
         let at_words = record w { words = old.words } in
         let go : Stepping (seen at_words old.contents tx.writes) (seen at_words new.contents row.parts.stores) tx c row.reply row.parts = record {
-          does = row.does tells at_words tx.number refl;
+          does = row.does tells at_words refl;
           built = row.built;
           ended = ap (λ (u : Records). u.ended) row.undo;
         } in
@@ -158,34 +157,14 @@ module _ (s : Setting) (old : Now) (at : ℕ) (job : SeenJob) (there : slice_get
         row.place (record tx { phase = Committing }) refl refl
         (commit_keeps s before old.words old.contents old.jobs (begun_count old + 1) at job row.place tx there doing f runs))
 
-    -- what it is then
-    abbrev wanting : List Claim → SeenTx
-    wanting held = record tx { phase = Undoing cause.NoMemory; held = held }
-
-    abbrev Wanting : Place → List Claim → Type 0
-    Wanting place held = Flying s before old.words old.contents (slice_set old.jobs at (with_tx job place (wanting held))) (begun_count old + 1)
-
-    wants_same : (place : Place) (held : List Claim) → tx.phase ≡ Running → held ≡ tx.held → Wanting place held
-    wants_same place held runs same = subst (Wanting place) (sym same)
-        (back_keeps s before old.words old.contents old.jobs (begun_count old + 1) at job place tx there doing f cause.NoMemory runs)
-
-    wants_so : (place : Place) (a : Ask) (held : List Claim) → tx.phase ≡ Running → asked_at s job.place ≡ a → HoldsWanting old at tx a held
-        → Wanting place held
-    wants_so place (ask.Call c) held runs asks (inl same) = wants_same place held runs same
-    wants_so place (ask.Call c) held runs asks (inr more) = subst (Wanting place) (sym more.1)
-        (wants_claims_keeps s before old.words old.contents old.jobs (begun_count old + 1) at job place tx there doing f c runs (asked_here runs ∙ asks) more.0)
-    wants_so place ask.Commit held runs asks same = wants_same place held runs same
-    wants_so place ask.Abort held runs asks same = wants_same place held runs same
-    wants_so place ask.End held runs asks same = wants_same place held runs same
-
     -- where memory was wanting
     pub row_wants : (new : Now) → IsTrue s.tells → tx.phase ≡ Running → Wants s at old job tx new → AreFlying s new
     row_wants new tells runs row =
-        let jobs = slice_set old.jobs at (with_tx job row.place (wanting row.held)) in
-        kept new row.place (wanting row.held) row.journal row.jobs
-        (subst (λ ws. Flying s before ws new.contents jobs (begun_count old + 1)) (sym row.words)
-        (subst (λ c. Flying s before old.words c jobs (begun_count old + 1)) (sym (row.contents tells))
-        (wants_so row.place (asked_at s job.place) row.held runs refl row.holds)))
+        let next : SeenTx = wanting tx row.left row.held in
+        kept new row.place next row.journal row.jobs
+        (subst (λ ws. Flying s before ws new.contents (slice_set old.jobs at (with_tx job row.place next)) (begun_count old + 1)) (sym row.words)
+        (wants_so s before old new (begun_count old + 1) at job row.place tx there doing f runs (asked_here runs) (asked_at s job.place) row.left row.held refl
+        row.holds (row.contents tells)))
 
     -- a record is tried
     pub row_compensates : (new : Now) (c : Cause) → IsTrue s.tells → tx.phase ≡ Undoing c → Compensates s at old job tx new → AreFlying s new
@@ -217,11 +196,11 @@ module _ (s : Setting) (old : Now) (at : ℕ) (job : SeenJob) (there : slice_get
         let g = follows.following in
         let e = entry_of tx at (Committed []) in
         let job' = behind_commit job tx in
-        let me = (f.flies.flights at (flown job.me tx) (flown_at old.jobs at job tx there doing)).inside.me in
+        let me = (f.flies.flights at (flown job.me (f.unnoted at) tx) (flown_there f.unnoted old.jobs at job tx there doing)).inside.me in
         entered_so job' e refl
         (enters s before (after_entry s.script before e) old.words old.contents old.jobs next at job job' there refl refl f
         (commit_leads s before old.words old.contents old.jobs next at job tx there doing f (after_entry s.script before e) job' commits
-        (commit_world s.script before g old.jobs at job tx there follows.at_place fresh f.handles)
+        (commit_world s.script before g old.jobs at job tx there follows.at_place fresh f.handles (f.unnoted at))
         (commit_handles s.script before g old.jobs at job tx there follows.at_place fresh f.handles job' me refl)
         (commit_followings s.script before g old.jobs at job tx there follows.at_place fresh f.handles) refl))
 
@@ -238,7 +217,7 @@ module _ (s : Setting) (old : Now) (at : ℕ) (job : SeenJob) (there : slice_get
         entered_so job' e back.none
         (enters s before (after_entry s.script before e) old.words old.contents old.jobs next at job job' there back.none back.block f
         (abort_leads s before old.words old.contents old.jobs next at job tx c there doing undoes none f (after_entry s.script before e) job'
-        (abort_world s.script before g old.jobs at job tx there follows.at_place fresh f.handles c)
+        (abort_world s.script before g old.jobs at job tx there follows.at_place fresh f.handles (f.unnoted at) c)
         (abort_handles s.script before g old.jobs at job tx there follows.at_place fresh f.handles c job' back.me)
         (abort_followings s.script before g old.jobs at job tx there follows.at_place fresh f.handles c) back.me
         (λ j other at_j. (told_at s (length old.words) old j other told at_j).told.fresh)))

@@ -3,6 +3,7 @@ use Rattle.std.proofs.Common.{◌≡◌, ℕ, ◌+◌, ◌-◌, List, [], ◌∷
 use Rattle.std.specs.Prelude.{All, map, replicate, slice_get}
 use Rattle.std.proofs.lemmas.List.Elements.{All-head, All-tail}
 use Rattle.xc_data.specs.Limits.{KeepsLimits}
+use Rattle.xc_data.specs.declared.call.Asked.{Asked}
 use Rattle.xc_data.specs.declared.object.Num.{Num}
 use Rattle.xc_data.specs.declared.private.Place.{Place as Handle}
 use Rattle.xc_data.specs.declared.private.Place.TheVariants.{Vacant}
@@ -23,7 +24,7 @@ use Rattle.xc_story.specs.Opened.{IsOpening, opened_job}
 use Rattle.xc_story.specs.Seen.{SeenJob, Now, active_of, actives}
 use Rattle.xc_flight.specs.Standing.{IsIdleSound}
 use Rattle.xc_flight.proofs.Rows.{starts}
-use Rattle.xc_played.specs.Flying.{AreFlying, flown_job}
+use Rattle.xc_played.specs.Flying.{AreFlying, flown_jobs}
 use Rattle.xc_played.proofs.TurnParts.{Flying, standing_in, world_in}
 use Rattle.xc_played.proofs.TurnRows.{flies_so}
 
@@ -98,10 +99,10 @@ module _ (script : Script) where
   none_active [] = refl
   none_active (name ∷ names) = none_active names
 
-  none_flies : (names : List (List ℕ)) (at : ℕ) → get_or (map flown_job (map (opened_job script) names)) at None ≡ None
-  none_flies [] at = refl
-  none_flies (name ∷ names) zero = refl
-  none_flies (name ∷ names) (suc at) = none_flies names at
+  none_flies : (unnoted : ℕ → List Asked) (names : List (List ℕ)) (at : ℕ) → get_or (flown_jobs unnoted (map (opened_job script) names)) at None ≡ None
+  none_flies unnoted [] at = refl
+  none_flies unnoted (name ∷ names) zero = refl
+  none_flies unnoted (name ∷ names) (suc at) = none_flies (λ i. unnoted (suc i)) names at
 
   their_handles : (names : List (List ℕ)) → replicate (length names) no_handles ≡ map (λ (job : SeenJob). job.me.places) (map (opened_job script) names)
   their_handles [] = refl
@@ -118,12 +119,15 @@ opening_flies s read limits =
     let script = s.script in
     let names = script.plain.jobs in
     let w = opening script.plain in
-    let idle = none_flies script names in
+    let unnoted : ℕ → List Asked = λ at. [] in
+    let idle = none_flies script unnoted names in
     let handles = no_opening_handles script read in
     let sound : IsIdleSound w 1 no_handles =
     λ m le. subst (λ hs. IsSound w (beginning hs) m) handles (opening_sound script.plain limits m (omega (arith, le))) in
     record {
-      flies = starts (standing_in w script.plain.words (opened script.plain.prologue.objects) (map (opened_job script) names) 1) idle
+      unnoted = unnoted;
+      was_asked = λ at job tx there active. tt;
+      flies = starts (standing_in w (world_in w script.plain.words (opened script.plain.prologue.objects)) unnoted (map (opened_job script) names) 1) idle
           (opening_now script.plain) (λ m k le. (sound m le).new k (omega arith));
       sound = λ j t e. absurd (cc (idle j, e));
       idle = λ at job there none. subst (IsIdleSound w 1) (sym (each_fresh script names at job there).handles) sound;

@@ -1,18 +1,22 @@
 -- What is true of a station between two turns over a host that tells: each active transaction flies over the plain
 -- machine's world, where the journal left it.
-use Rattle.std.specs.Prelude.{◌≡◌, ℕ, ◌+◌, true, List, [], length, map, All, slice_get, Option}
+use Rattle.std.specs.Prelude.{◌≡◌, ℕ, suc, ◌+◌, true, List, [], ◌∷◌, map, All, slice_get, Option}
 use Rattle.std.specs.declared.option.Option.TheVariants.{None, Some}
+use Rattle.xc_data.specs.declared.call.Asked.{Asked}
+use Rattle.xc_data.specs.declared.entry.Cause.TheVariants as cause
 use Rattle.xc_data.specs.declared.private.Private.{Private}
 use Rattle.xc_host.specs.Contents.{with_contents}
+use Rattle.xc_script.specs.declared.ask.Ask.{Ask}
+use Rattle.xc_script.specs.declared.ask.Ask.TheVariants as ask
 use Rattle.xc_world.specs.World.{World, State}
 use Rattle.xc_world.specs.Run.{Ran, asked_of, body}
 use Rattle.xc_story.specs.declared.phase.Phase.{Phase as TurnPhase}
 use Rattle.xc_story.specs.declared.phase.Phase.TheVariants as phase
 use Rattle.xc_story.specs.Setting.{Setting}
-use Rattle.xc_story.specs.Progress.{Progress, progress_of}
+use Rattle.xc_story.specs.Progress.{progress_of}
 use Rattle.xc_story.specs.Played.{HoldsFor}
 use Rattle.xc_story.specs.Told.{asked_of_tx}
-use Rattle.xc_story.specs.Seen.{SeenTx, SeenJob, Doing, Idle, Active, Starved, Ended, Now, active_of, begun_count}
+use Rattle.xc_story.specs.Seen.{SeenTx, SeenJob, Doing, Active, Now, active_of, begun_count}
 use Rattle.xc_story.specs.Rows.{IsActiveAt, is_built}
 use Rattle.xc_flight.specs.Active.{Tx, Phase, Running, Committing, Undoing}
 use Rattle.xc_flight.specs.Standing.{Standing, InFlight, AreSound, IsIdleSound}
@@ -24,9 +28,16 @@ flown_phase phase.Running = Running
 flown_phase phase.Committing = Committing
 flown_phase (phase.Undoing c) = Undoing
 
--- an active transaction whose job's private state at the begin was this; no call takes data or is kept so far
-abbrev pub flown : Private → SeenTx → Tx
-flown began tx =
+-- what an active transaction did that isn't noted: nothing, or where it undoes for want of memory the call that was asked
+abbrev pub IsUnnoted : TurnPhase → Ask → List Asked → Type 0
+IsUnnoted p next [] = Unit {0}
+IsUnnoted (phase.Undoing cause.NoMemory) (ask.Call call) (asked ∷ []) = asked.call ≡ call
+IsUnnoted p next unnoted = ⊥
+
+-- an active transaction whose job's private state at the begin was this, with what isn't noted; no call takes data or is
+-- kept so far
+abbrev pub flown : Private → List Asked → SeenTx → Tx
+flown began unnoted tx =
     record {
       number = tx.number;
       phase = flown_phase tx.phase;
@@ -34,7 +45,7 @@ flown began tx =
       me = tx.me;
       calls = tx.calls;
       replies = tx.replies;
-      unnoted = [];
+      unnoted = unnoted;
       held = tx.held;
       writes = tx.writes;
       pending = tx.undo.pending;
@@ -45,13 +56,14 @@ flown began tx =
     }
 
 -- a job's active transaction, where it has one
-abbrev pub flown_in : Private → Doing → Option Tx
-flown_in began (Active tx) = Some (flown began tx)
-flown_in began _ = None
+abbrev pub flown_in : Private → List Asked → Doing → Option Tx
+flown_in began unnoted (Active tx) = Some (flown began unnoted tx)
+flown_in began unnoted _ = None
 
--- the same of the job
-abbrev pub flown_job : SeenJob → Option Tx
-flown_job job = flown_in job.me job.doing
+-- the same of each job; what isn't noted is by their places
+abbrev pub flown_jobs : (ℕ → List Asked) → List SeenJob → List (Option Tx)
+flown_jobs unnoted [] = []
+flown_jobs unnoted (job ∷ jobs) = flown_in job.me (unnoted 0) job.doing ∷ flown_jobs (λ at. unnoted (suc at)) jobs
 
 -- the plain machine's state that the journal leads to
 abbrev pub state_of : Setting → Now → State
@@ -62,12 +74,12 @@ abbrev pub world_now : Setting → Now → World
 world_now s now = record (with_contents (state_of s now).world now.contents) { words = now.words }
 
 -- all together
-abbrev pub standing : Setting → Now → Standing
-standing s now =
+abbrev pub standing : Setting → Now → (ℕ → List Asked) → Standing
+standing s now unnoted =
     record {
       state = (state_of s now).world;
       now = world_now s now;
-      active = map flown_job now.jobs;
+      active = flown_jobs unnoted now.jobs;
       next = begun_count now + 1;
     }
 
@@ -75,11 +87,15 @@ standing s now =
 abbrev pub ran_at : World → Private → SeenTx → Ran
 ran_at w began tx = body w began tx.number (asked_of tx.calls tx.replies)
 
--- ---- between two turns
+-- ---- between two turns: the jobs' transactions fly, and beside it what an entry and a begin need
 pub record AreFlying (s : Setting) (now : Now) : Type 0 where
-  pub flies : InFlight (standing s now)
+  -- what isn't noted, by the places of jobs: at most a call that was asked
+  pub unnoted : ℕ → List Asked
+  pub was_asked : (at : ℕ) (tx : SeenTx) → IsActiveAt now.jobs at tx
+      → IsUnnoted tx.phase (asked_of_tx s (slice_get (progress_of s.script now.journal).jobs at) tx) (unnoted at)
+  pub flies : InFlight (standing s now unnoted)
   -- the world is sound for each active transaction, and for the next one of each other job
-  pub sound : AreSound (standing s now)
+  pub sound : AreSound (standing s now unnoted)
   pub idle : (at : ℕ) (job : SeenJob) → slice_get now.jobs at ≡ Some job → active_of job ≡ None
       → IsIdleSound (state_of s now).world (begun_count now + 1) job.me.places
   -- the handles and the blocks of the jobs are those that the journal leads to
@@ -87,7 +103,7 @@ pub record AreFlying (s : Setting) (now : Now) : Type 0 where
   pub started : (state_of s now).world.started ≡ map (λ (job : SeenJob). job.block) now.jobs
   -- each active one holds what its calls claimed, in the order in which they did
   pub holds : (at : ℕ) (job : SeenJob) (tx : SeenTx) → slice_get now.jobs at ≡ Some job → active_of job ≡ Some tx
-      → HoldsFor (ran_at (state_of s now).world job.me tx) (asked_of_tx s (slice_get
-      (progress_of s.script now.journal).jobs at) tx) tx.phase tx.held
+      → HoldsFor (ran_at (state_of s now).world job.me tx) (asked_of_tx s (slice_get (progress_of s.script now.journal).jobs at) tx)
+      tx.phase tx.held
   -- its calls are of the kinds that are built
   pub built : (at : ℕ) (tx : SeenTx) → IsActiveAt now.jobs at tx → All (λ call. is_built call ≡ true) tx.calls

@@ -1,8 +1,9 @@
-ghost use Rattle.std.specs.Prelude.{◌≡◌, ℕ, List, length, map, IsTrue};
+ghost use Rattle.std.specs.Prelude.{◌≡◌, ℕ, ◌≤◌, false, List, length, map, IsTrue};
 ghost use Rattle.xc_data.specs.Private.{place_of};
 ghost use Rattle.xc_data.specs.declared.entry.Cause.{Cause};
 ghost use Rattle.xc_data.specs.declared.entry.JobLine.{JobLine};
 ghost use Rattle.xc_compensate.specs.Records.{NextIsCovered};
+ghost use Rattle.xc_host.specs.Contents.{has_file};
 ghost use Rattle.xc_file.specs.Calls.{IsOpenIn};
 ghost use Rattle.xc_story.specs.declared.phase.Phase.TheVariants.{Running, Undoing};
 ghost use Rattle.xc_story.specs.Setting.{Setting};
@@ -27,7 +28,15 @@ pub fn open_files_are_there()
         → IsActiveAt now.jobs at tx → tx.phase ≡ Running → IsOpenIn now.contents (place_of tx.me.places h) }
 {}
 
-/// The newest record without an end of an undoing transaction is covered by its file, if nothing stands in its way.
+/// No file at the host has a number that a running transaction has still to give.
+pub fn what_it_will_make_is_absent()
+    ensures { (s : Setting) (now : Now) (at : ℕ) (tx : SeenTx) (k : ℕ) → AreTold s (length now.words) now.journal now.jobs → AreFlying s now
+        → IsActiveAt now.jobs at tx → tx.phase ≡ Running → tx.me.made ≤ k
+        → has_file now.contents (record { tx = tx.number; k = k }) ≡ false }
+{}
+
+/// What the newest record without an end of an undoing transaction tells of is at the host as the record left it, if
+/// nothing stands in its way.
 pub fn the_next_record_is_covered()
     ensures { (s : Setting) (now : Now) (at : ℕ) (tx : SeenTx) (c : Cause) → AreTold s (length now.words) now.journal now.jobs
         → AreFlying s now → IsActiveAt now.jobs at tx → tx.phase ≡ Undoing c → NextIsCovered now.contents tx.undo }

@@ -21,7 +21,7 @@ use Rattle.xc_story.specs.declared.phase.Phase.TheVariants.{Running, Committing,
 use Rattle.xc_story.specs.Setting.{Setting}
 use Rattle.xc_story.specs.Progress.{progress_of}
 use Rattle.xc_story.specs.Seen.{SeenTx, SeenJob, Doing, Idle, Active, Starved, Ended, Now, active_in, active_of, actives, with_job, entering}
-use Rattle.xc_story.specs.Rows.{asked_at, beginning_job, claims_at, noting, with_tx, entry_of, behind_commit, behind_abort}
+use Rattle.xc_story.specs.Rows.{asked_at, beginning_job, claims_at, noting, wanting, with_tx, entry_of, behind_commit, behind_abort}
 use Rattle.xc_story.specs.Rows.{Calls, Compensates}
 use Rattle.xc_story.specs.Rows.{IdleTurn, AskedTurn, RunningTurn, CommittingTurn, BackTurn, UndoingTurn, StarvedTurn, ActiveTurn, TurnOf, IsTurn}
 use Rattle.xc_story.specs.Told.{IsInPhase, IsDoing, AreTold}
@@ -127,7 +127,7 @@ module _ (s : Setting) (at from : ℕ) (old : Now) (job : SeenJob) (new : Now) (
     by_running : (answer : Turn) → RunningTurn s at old job tx answer new → AreCounted from new
     by_running turn.Went row = by_ask (asked_at s job.place) row
     by_running turn.NoMemory row =
-        still_counted (with_tx job row.place (record tx { phase = Undoing cause.NoMemory; held = row.held })) row.jobs row.journal row.faults recorded
+        still_counted (with_tx job row.place (wanting tx row.left row.held)) row.jobs row.journal row.faults recorded
     by_running (turn.Busy object holder) row = absurd row
     by_running (turn.Ended end) row = absurd row
 

@@ -6,6 +6,7 @@ use Rattle.std.proofs.lemmas.List.Sums.{sum_by-cons}
 use Rattle.std.specs.Prelude.{IsSome, slice_get, slice_set, sum_by, unwrap_or}
 use Rattle.std.specs.declared.option.Option.TheVariants.{Some}
 use Rattle.xc_data.specs.declared.call.Call.{Call}
+use Rattle.xc_data.specs.declared.claim.Claim.{Claim}
 use Rattle.xc_data.specs.declared.entry.Cause.{Cause}
 use Rattle.xc_data.specs.declared.entry.Cause.TheVariants as cause
 use Rattle.xc_data.specs.declared.entry.Entry.{Entry}
@@ -27,8 +28,8 @@ use Rattle.xc_story.specs.declared.phase.Phase.TheVariants.{Running, Committing,
 use Rattle.xc_story.specs.Setting.{Setting}
 use Rattle.xc_story.specs.Seen.{SeenTx, SeenJob, Doing, Idle, Active, Starved, Ended, Now, failures, begun_count, rank_of, entering}
 use Rattle.xc_story.specs.Rows.{IsTurn, TurnOf, IdleTurn, ActiveTurn, RunningTurn, AskedTurn, CommittingTurn, UndoingTurn, BackTurn, StarvedTurn}
-use Rattle.xc_story.specs.Rows.{Calls, IsSameBegin, asked_at, body_at}
-use Rattle.xc_story.specs.Rows.{IsSamePlace, entry_of, noting, claims_at, with_tx, new_tx, beginning_job, behind_commit, behind_abort}
+use Rattle.xc_story.specs.Rows.{Calls, HoldsWanting, IsSameBegin, asked_at, body_at}
+use Rattle.xc_story.specs.Rows.{IsSamePlace, entry_of, noting, wanting, claims_at, with_tx, new_tx, beginning_job, behind_commit, behind_abort}
 use Rattle.xc_story.specs.Measure.{attempt_turns, phase_turns, bodies_turns, doing_turns, job_turns, turns_left}
 use Rattle.xc_turns.proofs.Lists.{sum_set_place}
 
@@ -231,11 +232,25 @@ ask_falls s at old new job tx ask.Abort stands is runs asked c =
     (λ e. cc) refl
 ask_falls s at old new job tx ask.End stands is runs asked c = absurd c
 
+wanting_less : (n at records left : ℕ) (p : Phase) → p ≡ Running → left ≤ n - at → records + left + 2 < phase_turns n at records p
+wanting_less n at records left p runs before = subst (λ q. records + left + 2 < phase_turns n at records q) (sym runs) (omega arith)
+
+-- what left a record is a call, whose statement is still to come
+left_before : (s : Setting) (at : ℕ) (old : Now) (place : Place) (tx : SeenTx) (a : Ask) (left : List Undo) (held : List Claim) → asked_at s place ≡ a
+    → length left ≤ 1 → HoldsWanting old at tx a left held → length left ≤ length (first_of (bodies_at s place)) - place.at
+left_before s at old place tx (ask.Call call) left held asked one holds = omega (arith, asked_before s place call asked)
+left_before s at old place tx ask.Commit left held asked one kept = let none = ap length kept.0 in omega arith
+left_before s at old place tx ask.Abort left held asked one kept = let none = ap length kept.0 in omega arith
+left_before s at old place tx ask.End left held asked one kept = let none = ap length kept.0 in omega arith
+
 running_falls : (s : Setting) (at : ℕ) (old new : Now) (job : SeenJob) (tx : SeenTx) (answer : Turn) → slice_get old.jobs at ≡ Some job
     → job.doing ≡ Active tx → tx.phase ≡ Running → RunningTurn s at old job tx answer new → turns_left s new < turns_left s old
 running_falls s at old new job tx turn.Went stands is runs h = ask_falls s at old new job tx (asked_at s job.place) stands is runs refl h
 running_falls s at old new job tx turn.NoMemory stands is runs c =
-    turn_falls s at old new job c.place tx (record tx { phase = Undoing cause.NoMemory; held = c.held }) stands is runs c.jobs c.same (λ e. cc) refl
+    goes_on s at old new job c.place tx (wanting tx c.left c.held) stands is c.jobs c.same.begin
+    (λ n e. subst (λ m. m + 2 < phase_turns n job.place.at (length tx.undo.pending) tx.phase) (sym (length-append tx.undo.pending c.left))
+    (wanting_less n job.place.at (length tx.undo.pending) (length c.left) tx.phase runs
+    (subst (λ m. length c.left ≤ m - job.place.at) (sym e) (left_before s at old job.place tx (asked_at s job.place) c.left c.held refl c.one c.holds))))
 running_falls s at old new job tx (turn.Busy object holder) stands is runs h = absurd h
 running_falls s at old new job tx (turn.Ended end) stands is runs h = absurd h
 

@@ -24,7 +24,7 @@ use Rattle.xc_story.specs.Setting.{Setting}
 use Rattle.xc_story.specs.Truth.{AreInOrder, JobsRise, IsSerial, is_alone, is_tried_again}
 use Rattle.xc_story.specs.Seen.{SeenTx, SeenJob, Doing, Idle, Active, Starved, Ended, Now, active_in, active_of, actives, begun_count, rank_of, entering}
 use Rattle.xc_story.specs.Rows.{IsTurn, TurnOf, IdleTurn, ActiveTurn, RunningTurn, AskedTurn, CommittingTurn, UndoingTurn, BackTurn, StarvedTurn}
-use Rattle.xc_story.specs.Rows.{IsActiveAt, asked_at, entry_of, noting, claims_at, with_tx, new_tx, beginning_job, behind_commit, behind_abort}
+use Rattle.xc_story.specs.Rows.{IsActiveAt, asked_at, entry_of, noting, wanting, claims_at, with_tx, new_tx, beginning_job, behind_commit, behind_abort}
 use Rattle.xc_story.specs.Opened.{IsOpening}
 use Rattle.xc_story.specs.Alone.{AreAlone, MeetsNobody}
 use Rattle.xc_turns.proofs.Lists.{get_cases}
@@ -162,7 +162,7 @@ running_row : (s : Setting) (at : ℕ) (old new : Now) (job : SeenJob) (tx : See
 running_row s at old new job tx turn.Went stands is h alone = ask_row s at old new job tx (asked_at s job.place) stands is h alone
 running_row s at old new job tx turn.NoMemory stands is c alone =
     let next = next_of at old job tx stands is alone in
-    let tx' : SeenTx = record tx { phase = Undoing cause.NoMemory; held = c.held } in
+    let tx' : SeenTx = wanting tx c.left c.held in
     goes_on at old new job (with_tx job c.place tx') tx' stands c.jobs c.journal refl (next.0, next.1, refl) alone
 running_row s at old new job tx (turn.Busy object holder) stands is h alone = absurd h
 running_row s at old new job tx (turn.Ended end) stands is h alone = absurd h

@@ -23,7 +23,7 @@ use Rattle.xc_story.specs.declared.phase.Phase.TheVariants.{Running, Committing,
 use Rattle.xc_story.specs.Setting.{Setting}
 use Rattle.xc_story.specs.Progress.{words_left, progress_of}
 use Rattle.xc_story.specs.Seen.{SeenTx, SeenJob, Doing, Idle, Active, Starved, Ended, Now, active_in, active_of, begun_count, rank_of, with_job}
-use Rattle.xc_story.specs.Rows.{asked_at, new_tx, beginning_job, claims_at, noting, with_tx, entry_of, behind_commit, behind_abort}
+use Rattle.xc_story.specs.Rows.{asked_at, new_tx, beginning_job, claims_at, noting, wanting, with_tx, entry_of, behind_commit, behind_abort}
 use Rattle.xc_story.specs.Rows.{Calls, Conflicts, HoldsWanting, Wants, Compensates, EntersAborted}
 use Rattle.xc_story.specs.Rows.{IdleTurn, AskedTurn, RunningTurn, CommittingTurn, BackTurn, UndoingTurn, StarvedTurn, ActiveTurn, TurnOf, IsTurn}
 use Rattle.xc_story.specs.Holding.{AreApart}
@@ -117,13 +117,10 @@ module _ (s : Setting) (at : ℕ) (old : Now) (job : SeenJob) (new : Now) (stand
         (active_speaks before job' tx' refl sp)
 
     -- ---- a running one
-    turns_back : (place : Place) (c : Cause) (held : List Claim) → tx.phase ≡ Running
-        → ((word : ℕ) → Sees tx.number tx.held (object.Word word) → Sees tx.number held (object.Word word))
-        → ((word : ℕ) → Owns tx.number tx.held (object.Word word) → Owns tx.number held (object.Word word))
-        → KeepsWords s (with_job old at (with_tx job place (record tx { phase = Undoing c; held = held })))
-    turns_back place c held runs sees owns =
-        goes_on place (record tx { phase = Undoing c; held = held }) (running_is_none tx.phase runs) (undoing_is_none (Undoing c) c refl)
-        (turned_spoken before tx c held sees owns said)
+    turns_back : (place : Place) (c : Cause) → tx.phase ≡ Running → KeepsWords s (with_job old at (with_tx job place (record tx { phase = Undoing c })))
+    turns_back place c runs =
+        goes_on place (record tx { phase = Undoing c }) (running_is_none tx.phase runs) (undoing_is_none (Undoing c) c refl)
+        (turned_spoken before tx c tx.held (λ word e. e) (λ word e. e) said)
 
     call_kept : (call : Call) → tx.phase ≡ Running → Calls s at old job tx call new → KeepsWords s new
     call_kept call runs row =
@@ -133,7 +130,7 @@ module _ (s : Setting) (at : ℕ) (old : Now) (job : SeenJob) (new : Now) (stand
         (called_spoken before old.words old.jobs at job tx stands active runs h call row.reply row.parts row.free row.stores row.spoken))
 
     conflict_kept : (call : Call) → tx.phase ≡ Running → Conflicts s at old job tx call new → KeepsWords s new
-    conflict_kept call runs row = subst (KeepsWords s) (sym row.behind) (turns_back row.place _ tx.held runs (λ word e. e) (λ word e. e))
+    conflict_kept call runs row = subst (KeepsWords s) (sym row.behind) (turns_back row.place _ runs)
 
     by_ask : tx.phase ≡ Running → (a : Ask) → AskedTurn s at old job tx a new → KeepsWords s new
     by_ask runs (ask.Call call) (inl row) = call_kept call runs row
@@ -141,31 +138,34 @@ module _ (s : Setting) (at : ℕ) (old : Now) (job : SeenJob) (new : Now) (stand
     by_ask runs ask.Commit row =
         subst (KeepsWords s) (sym row.behind) (commits_turn before old.words old.jobs at job stands h tx active apart runs
         (with_tx job row.place (record tx { phase = Committing })) refl)
-    by_ask runs ask.Abort row = subst (KeepsWords s) (sym row.behind) (turns_back row.place cause.Asked tx.held runs (λ word e. e) (λ word e. e))
+    by_ask runs ask.Abort row = subst (KeepsWords s) (sym row.behind) (turns_back row.place cause.Asked runs)
     by_ask runs ask.End row = absurd row
 
-    held_still : (a : Ask) (held : List Claim) → HoldsWanting old at tx a held → (word : ℕ) → Sees tx.number tx.held (object.Word word)
+    held_still : (a : Ask) (left : List Undo) (held : List Claim) → HoldsWanting old at tx a left held → (word : ℕ) → Sees tx.number tx.held (object.Word word)
         → Sees tx.number held (object.Word word)
-    held_still (ask.Call call) held (inl same) word e = subst (λ cs. Sees tx.number cs (object.Word word)) (sym same) e
-    held_still (ask.Call call) held (inr more) word e =
+    held_still (ask.Call call) left held (inl kept) word e = subst (λ cs. Sees tx.number cs (object.Word word)) (sym kept.1) e
+    held_still (ask.Call call) left held (inr more) word e =
         subst (λ cs. Sees tx.number cs (object.Word word)) (sym more.1) (sees_still tx.number tx.held (claims_at old tx call) (object.Word word) e)
-    held_still ask.Commit held same word e = subst (λ cs. Sees tx.number cs (object.Word word)) (sym same) e
-    held_still ask.Abort held same word e = subst (λ cs. Sees tx.number cs (object.Word word)) (sym same) e
-    held_still ask.End held same word e = subst (λ cs. Sees tx.number cs (object.Word word)) (sym same) e
+    held_still ask.Commit left held kept word e = subst (λ cs. Sees tx.number cs (object.Word word)) (sym kept.1) e
+    held_still ask.Abort left held kept word e = subst (λ cs. Sees tx.number cs (object.Word word)) (sym kept.1) e
+    held_still ask.End left held kept word e = subst (λ cs. Sees tx.number cs (object.Word word)) (sym kept.1) e
 
-    owned_still : (a : Ask) (held : List Claim) → HoldsWanting old at tx a held → (word : ℕ) → Owns tx.number tx.held (object.Word word)
+    owned_still : (a : Ask) (left : List Undo) (held : List Claim) → HoldsWanting old at tx a left held → (word : ℕ) → Owns tx.number tx.held (object.Word word)
         → Owns tx.number held (object.Word word)
-    owned_still (ask.Call call) held (inl same) word e = subst (λ cs. Owns tx.number cs (object.Word word)) (sym same) e
-    owned_still (ask.Call call) held (inr more) word e =
+    owned_still (ask.Call call) left held (inl kept) word e = subst (λ cs. Owns tx.number cs (object.Word word)) (sym kept.1) e
+    owned_still (ask.Call call) left held (inr more) word e =
         subst (λ cs. Owns tx.number cs (object.Word word)) (sym more.1) (owns_still tx.number tx.held (claims_at old tx call) (object.Word word) e)
-    owned_still ask.Commit held same word e = subst (λ cs. Owns tx.number cs (object.Word word)) (sym same) e
-    owned_still ask.Abort held same word e = subst (λ cs. Owns tx.number cs (object.Word word)) (sym same) e
-    owned_still ask.End held same word e = subst (λ cs. Owns tx.number cs (object.Word word)) (sym same) e
+    owned_still ask.Commit left held kept word e = subst (λ cs. Owns tx.number cs (object.Word word)) (sym kept.1) e
+    owned_still ask.Abort left held kept word e = subst (λ cs. Owns tx.number cs (object.Word word)) (sym kept.1) e
+    owned_still ask.End left held kept word e = subst (λ cs. Owns tx.number cs (object.Word word)) (sym kept.1) e
 
-    want_kept : (a : Ask) → tx.phase ≡ Running → (row : Wants s at old job tx new) → HoldsWanting old at tx a row.held → KeepsWords s new
+    want_kept : (a : Ask) → tx.phase ≡ Running → (row : Wants s at old job tx new) → HoldsWanting old at tx a row.left row.held → KeepsWords s new
     want_kept a runs row holds =
+        let tx' = wanting tx row.left row.held in
         kept_words s old new _ row.jobs row.words row.journal
-        (turns_back row.place cause.NoMemory row.held runs (held_still a row.held holds) (owned_still a row.held holds))
+        (goes_on row.place tx' (running_is_none tx.phase runs) (undoing_is_none tx'.phase cause.NoMemory refl)
+        (tried_spoken before (record tx { phase = Undoing cause.NoMemory; held = row.held }) tx'.undo
+        (turned_spoken before tx cause.NoMemory row.held (held_still a row.left row.held holds) (owned_still a row.left row.held holds) said)))
 
     by_running : tx.phase ≡ Running → (answer : Turn) → RunningTurn s at old job tx answer new → KeepsWords s new
     by_running runs turn.Went row = by_ask runs (asked_at s job.place) row

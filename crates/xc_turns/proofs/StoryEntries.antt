@@ -1,5 +1,5 @@
 -- The entry of a transaction that ends is true behind a true journal, and what the journal leads to with it.
-use Rattle.std.proofs.Common.{◌≡◌, inl, ℕ, ◌+◌, ◌-◌, ◌<◌, ◌≤◌, Bool, true, false, IsTrue, List, [], ◌∷◌, ◌++◌, length, map, refl, ap, sym, ◌∙◌, subst}
+use Rattle.std.proofs.Common.{◌≡◌, ℕ, ◌+◌, ◌-◌, ◌<◌, ◌≤◌, Bool, true, false, IsTrue, List, [], ◌∷◌, ◌++◌, length, map, refl, ap, sym, ◌∙◌, subst}
 use Rattle.std.proofs.Common.{arith}
 use Rattle.std.proofs.Common.{append-nil}
 use Rattle.std.specs.Prelude.{slice_get, slice_set, if◌then◌else◌}
@@ -14,7 +14,6 @@ use Rattle.xc_data.specs.declared.entry.Outcome.TheVariants.{Committed, Aborted}
 use Rattle.xc_data.specs.declared.undo.Undo.{Undo}
 use Rattle.xc_text.specs.declared.script.Script.{Script}
 use Rattle.xc_script.specs.declared.ask.Ask.{Ask}
-use Rattle.xc_script.specs.declared.ask.Ask.TheVariants as ask
 use Rattle.xc_script.specs.Ask.{asks, passed}
 use Rattle.xc_script.specs.Place.{Place}
 use Rattle.xc_world.specs.Ends.{AreLegal, Ending}
@@ -25,11 +24,11 @@ use Rattle.xc_story.specs.Setting.{Setting}
 use Rattle.xc_story.specs.WordCalls.{AreWordReplies}
 use Rattle.xc_story.specs.Progress.{Following, Progress, after_entry, after_following, following_abort, following_of, kept_of}
 use Rattle.xc_story.specs.Progress.{started_blocks, started_job, untried}
-use Rattle.xc_story.specs.Truth.{AreLeft, AreRecords, IsHeldAt, IsPlayed, IsTrueEntry, is_tried_again, next_of}
+use Rattle.xc_story.specs.Truth.{AreRecords, IsHeldAt, IsPlayed, IsTrueEntry, is_tried_again, next_of}
 use Rattle.xc_story.specs.Seen.{SeenTx}
 use Rattle.xc_story.specs.Rows.{entry_of}
 use Rattle.xc_story.specs.Told.{IsCommitting, IsInPhase, IsUndoing, IsUnderway, asked_of_tx}
-use Rattle.xc_story.specs.Played.{HoldsFor, IsPlayedSoFar, ran_behind}
+use Rattle.xc_story.specs.Played.{HoldsFor, IsPlayedSoFar, RecordsFor, ran_behind}
 
 -- ---- the entry of the job in one place
 -- the number behind a place leads back to it
@@ -112,17 +111,12 @@ held_back ran next (cause.Conflict object holder at) held h = h
 held_back ran next (cause.Revoked object by at) held h = h
 held_back ran next cause.NoMemory held h = h
 
-none_left_by : (ran : Ran) (tx : ℕ) (next : Ask) → AreLeft ran tx next []
-none_left_by ran tx (ask.Call call) = inl refl
-none_left_by ran tx ask.Commit = refl
-none_left_by ran tx ask.Abort = refl
-none_left_by ran tx ask.End = refl
-
-records_are : (ran : Ran) (tx : ℕ) (next : Ask) (c : Cause) (records : List Undo) → records ≡ ran.trail → AreRecords ran tx next c records
-records_are ran tx next cause.Asked records e = e
-records_are ran tx next (cause.Conflict object holder at) records e = e
-records_are ran tx next (cause.Revoked object by at) records e = e
-records_are ran tx next cause.NoMemory records e = ([], none_left_by ran tx next, e ∙ sym (append-nil ran.trail))
+records_back : (ran : Ran) (tx : ℕ) (next : Ask) (c : Cause) (records : List Undo) → RecordsFor ran tx next (Undoing c) records
+    → AreRecords ran tx next c records
+records_back ran tx next cause.Asked records h = h
+records_back ran tx next (cause.Conflict object holder at) records h = h
+records_back ran tx next (cause.Revoked object by at) records h = h
+records_back ran tx next cause.NoMemory records h = h
 
 abort_played : (s : Setting) (words : ℕ) (p : Progress) (f : Following) (at : ℕ) (tx : SeenTx) (c : Cause) → slice_get p.jobs at ≡ Some f
     → tx.phase ≡ Undoing c → tx.undo.pending ≡ [] → IsPlayedSoFar s words p at tx
@@ -130,15 +124,16 @@ abort_played : (s : Setting) (words : ℕ) (p : Progress) (f : Following) (at : 
 abort_played s words p f at tx c got undoes none so =
     let ran = ran_behind p at tx in
     let next = next_of s.script f tx.replies in
-    let trail : ran.trail ≡ map (λ (r : Ending). r.0) tx.undo.ended =
-    so.trail ∙ ap (λ (us : List Undo). us ++ map (λ (r : Ending). r.0) tx.undo.ended) none in
+    let ended : List Undo = map (λ (r : Ending). r.0) tx.undo.ended in
     let asked : asked_of_tx s (slice_get p.jobs at) tx ≡ next = ap (λ o. asked_of_tx s o tx) got in
     let holds = subst (λ (h : Phase). HoldsFor ran (asked_of_tx s (slice_get p.jobs at) tx) h tx.held) undoes so.holds in
+    let told = subst (λ (h : Phase). RecordsFor ran tx.number (asked_of_tx s (slice_get p.jobs at) tx) h (tx.undo.pending ++ ended)) undoes so.records in
+    let all = subst (λ (us : List Undo). RecordsFor ran tx.number (asked_of_tx s (slice_get p.jobs at) tx) (Undoing c) (us ++ ended)) none told in
     record {
       fits = so.fits;
       replies = so.replies;
       held = held_back ran next c tx.held (subst (λ a. HoldsFor ran a (Undoing c) tx.held) asked holds);
-      outcome = records_are ran tx.number next c (map (λ (r : Ending). r.0) tx.undo.ended) (sym trail);
+      outcome = records_back ran tx.number next c ended (subst (λ a. RecordsFor ran tx.number a (Undoing c) ended) asked all);
     }
 
 few_tried : (b : Bool) (n m : ℕ) → n < m → (if b then n + 1 else n) ≤ m

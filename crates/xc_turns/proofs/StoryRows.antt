@@ -11,7 +11,7 @@ use Rattle.xc_data.specs.declared.entry.JobEnd.TheVariants as job_end
 use Rattle.xc_data.specs.declared.private.Private.{Private}
 use Rattle.xc_data.specs.declared.undo.Undo.{Undo}
 use Rattle.xc_data.specs.declared.undo.UndoEnd.{UndoEnd}
-use Rattle.xc_compensate.specs.Records.{way_of}
+use Rattle.xc_compensate.specs.Records.{Records, way_of}
 use Rattle.xc_script.specs.declared.ask.Ask.TheVariants as ask
 use Rattle.xc_script.specs.Ask.{Walk, answered, all_answered, asks, walk_from}
 use Rattle.xc_script.specs.Place.{Place, at_begin, walk_of, IsSettled}
@@ -162,10 +162,11 @@ called_underway s f old new tx call reply claims parts made runs asked same behi
     }
 
 -- on its way back
-pub back_underway : (s : Setting) (f : Following) (old new : Place) (tx : SeenTx) (c : Cause) (held : List Claim) → tx.phase ≡ Running → IsSamePlace s old new
+pub back_underway : (s : Setting) (f : Following) (old new : Place) (tx : SeenTx) (c : Cause) (undo : Records) (held : List Claim)
+    → undo.ended ≡ tx.undo.ended → tx.phase ≡ Running → IsSamePlace s old new
     → (next_of s.script f tx.replies ≡ asked_at s old → IsCauseOf c (next_of s.script f tx.replies))
-    → IsUnderway s f old tx → IsUnderway s f new (record tx { phase = Undoing c; held = held })
-back_underway s f old new tx c held runs same caused under =
+    → IsUnderway s f old tx → IsUnderway s f new (record tx { phase = Undoing c; undo = undo; held = held })
+back_underway s f old new tx c undo held ended runs same caused under =
     let running = running_phase s f old tx runs under in
     record {
       goes_on = under.goes_on;
@@ -179,7 +180,7 @@ back_underway s f old new tx c held runs same caused under =
       stored = under.stored;
       phase = record {
         caused = caused (ap asks (sym running.ahead));
-        legal = subst (λ ends. AreLegal s.rules.undo_tries (length tx.undo.pending + 1) ends) (sym running.none) tt;
+        legal = subst (λ ends. AreLegal s.rules.undo_tries (length undo.pending + 1) ends) (sym (ended ∙ running.none)) tt;
       };
     }
 

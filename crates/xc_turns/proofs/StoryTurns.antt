@@ -24,7 +24,7 @@ use Rattle.xc_story.specs.Progress.{Following, following_abort, progress_of}
 use Rattle.xc_story.specs.Seen.{SeenTx, SeenJob, Doing, Idle, Active, Starved, Ended, Now, active_in, begun_count, rank_of}
 use Rattle.xc_story.specs.Rows.{ActiveTurn, AskedTurn, BackTurn, Calls, Commits, Compensates, Conflicts, IdleTurn, IsActiveAt, IsEnding, IsReady, IsTurn}
 use Rattle.xc_story.specs.Rows.{StarvedTurn, TurnOf, TurnsBack, Wants, asked_at, behind_abort, behind_commit, beginning_job, claims_at, entry_of, new_tx}
-use Rattle.xc_story.specs.Rows.{noting, with_tx}
+use Rattle.xc_story.specs.Rows.{noting, wanting, with_tx}
 use Rattle.xc_story.specs.Grounds.{AreGrounded}
 use Rattle.xc_story.specs.Truth.{parts_of}
 use Rattle.xc_story.specs.Told.{AreTold, IsDoing, IsUnderway, active_begin, active_parts}
@@ -115,7 +115,7 @@ module _ (s : Setting) (at : ℕ) (old new : Now) (job : SeenJob) (b : Before s 
   conflict_row tx call active runs asked row =
       let c = cause.Conflict row.object row.holder (length old.journal) in
       active_row row.place tx (record tx { phase = Undoing c }) active refl
-      (λ f under. back_underway s f job.place row.place tx c tx.held runs row.same (λ next. ap is_call (next ∙ asked)) under)
+      (λ f under. back_underway s f job.place row.place tx c tx.undo tx.held refl runs row.same (λ next. ap is_call (next ∙ asked)) under)
       (ap (λ (n : Now). n.journal) row.behind) (ap (λ (n : Now). n.jobs) row.behind)
 
   commits_row : (tx : SeenTx) → job.doing ≡ Active tx → tx.phase ≡ Running → asked_at s job.place ≡ ask.Commit → Commits s at old job tx new → After
@@ -127,13 +127,14 @@ module _ (s : Setting) (at : ℕ) (old new : Now) (job : SeenJob) (b : Before s 
   turned_row : (tx : SeenTx) → job.doing ≡ Active tx → tx.phase ≡ Running → asked_at s job.place ≡ ask.Abort → TurnsBack s at old job tx new → After
   turned_row tx active runs asked row =
       active_row row.place tx (record tx { phase = Undoing cause.Asked }) active refl
-      (λ f under. back_underway s f job.place row.place tx cause.Asked tx.held runs row.same (λ next. next ∙ asked) under)
+      (λ f under. back_underway s f job.place row.place tx cause.Asked tx.undo tx.held refl runs row.same (λ next. next ∙ asked) under)
       (ap (λ (n : Now). n.journal) row.behind) (ap (λ (n : Now). n.jobs) row.behind)
 
   wants_row : (tx : SeenTx) → job.doing ≡ Active tx → tx.phase ≡ Running → Wants s at old job tx new → After
   wants_row tx active runs row =
-      active_row row.place tx (record tx { phase = Undoing cause.NoMemory; held = row.held }) active refl
-      (λ f under. back_underway s f job.place row.place tx cause.NoMemory row.held runs row.same (λ next. tt) under) row.journal row.jobs
+      let next = wanting tx row.left row.held in
+      active_row row.place tx next active refl
+      (λ f under. back_underway s f job.place row.place tx cause.NoMemory next.undo row.held refl runs row.same (λ asked. tt) under) row.journal row.jobs
 
   tried_row : (tx : SeenTx) (c : Cause) → job.doing ≡ Active tx → tx.phase ≡ Undoing c → Compensates s at old job tx new → After
   tried_row tx c active undoes row =

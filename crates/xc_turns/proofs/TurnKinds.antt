@@ -25,7 +25,7 @@ use Rattle.xc_story.specs.Told.{cause_of_phase}
 use Rattle.xc_story.specs.Truth.{cause_in}
 use Rattle.xc_story.specs.Rows.{IsTurn, TurnOf, IdleTurn, StarvedTurn, ActiveTurn, RunningTurn, AskedTurn, CommittingTurn, UndoingTurn, BackTurn}
 use Rattle.xc_story.specs.Rows.{Calls, Conflicts, Commits, TurnsBack, Wants, HoldsWanting, Compensates}
-use Rattle.xc_story.specs.Rows.{HasNoRival, IsFirstMet, asked_at, claims_at, beginning_job, behind_commit, behind_abort, entry_of, noting, with_tx}
+use Rattle.xc_story.specs.Rows.{HasNoRival, IsFirstMet, asked_at, claims_at, beginning_job, behind_commit, behind_abort, entry_of, noting, wanting, with_tx}
 use Rattle.xc_turns.proofs.Jobs.{behind_abort_none}
 
 -- ---- the kinds
@@ -229,26 +229,26 @@ module _ (s : Setting) (at : ℕ) (old : Now) (job : SeenJob) (new : Now) where
           why = free tt;
         })
 
-    wanting_held : (a : Ask) (held : List Claim) → HoldsWanting old at tx a held → HoldsOn old.jobs at tx.held held
-    wanting_held (ask.Call call) held (inl kept) = inl kept
-    wanting_held (ask.Call call) held (inr more) = inr (claims_at old tx call, more.0, more.1)
-    wanting_held ask.Commit held kept = inl kept
-    wanting_held ask.Abort held kept = inl kept
-    wanting_held ask.End held kept = inl kept
+    wanting_held : (a : Ask) (left : List Undo) (held : List Claim) → HoldsWanting old at tx a left held → HoldsOn old.jobs at tx.held held
+    wanting_held (ask.Call call) left held (inl kept) = inl kept.1
+    wanting_held (ask.Call call) left held (inr more) = inr (claims_at old tx call, more.0, more.1)
+    wanting_held ask.Commit left held kept = inl kept.1
+    wanting_held ask.Abort left held kept = inl kept.1
+    wanting_held ask.End left held kept = inl kept.1
 
     wants_kind : Wants s at old job tx new → Kind s at old job new
     wants_kind row =
         moves (record {
-          behind = with_tx job row.place (record tx { phase = Undoing cause.NoMemory; held = row.held });
+          behind = with_tx job row.place (wanting tx row.left row.held);
           sets = record { jobs = row.jobs; words = ap length row.words };
           journal = row.journal;
           was = tx;
-          tx = record tx { phase = Undoing cause.NoMemory; held = row.held };
+          tx = wanting tx row.left row.held;
           before = active;
           after = refl;
           number = refl;
           began = refl;
-          held = wanting_held (asked_at s job.place) row.held row.holds;
+          held = wanting_held (asked_at s job.place) row.left row.held row.holds;
           why = free tt;
         })
 

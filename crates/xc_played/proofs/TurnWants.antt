@@ -1,0 +1,228 @@
+-- A transaction that turns back for want of memory keeps all flights.
+use Rattle.std.proofs.Common.{◌≡◌, ℕ, true, inl, inr, List, [], ◌∷◌, ◌++◌, length, refl, ap, sym, ◌∙◌, subst, Some}
+use Rattle.std.specs.Prelude.{All, slice_get, slice_set}
+use Rattle.std.proofs.lemmas.List.{append-nil}
+use Rattle.xc_data.specs.declared.call.Answer.{Answer}
+use Rattle.xc_data.specs.declared.call.Asked.{Asked}
+use Rattle.xc_data.specs.declared.call.Call.{Call}
+use Rattle.xc_data.specs.declared.claim.Claim.{Claim}
+use Rattle.xc_data.specs.declared.entry.Cause.TheVariants as cause
+use Rattle.xc_data.specs.declared.undo.Undo.{Undo}
+use Rattle.xc_data.specs.Claims.{holding, held_of}
+use Rattle.xc_host.specs.Contents.{Contents, contents_of}
+use Rattle.xc_script.specs.declared.ask.Ask.{Ask}
+use Rattle.xc_script.specs.declared.ask.Ask.TheVariants as ask
+use Rattle.xc_script.specs.Place.{Place, walk_of}
+use Rattle.xc_world.specs.World.{World}
+use Rattle.xc_world.specs.Modes.{claims_of}
+use Rattle.xc_world.specs.Run.{Ran, asked_of}
+use Rattle.xc_world.proofs.Bodies.{body_keeps}
+use Rattle.xc_story.specs.declared.phase.Phase.TheVariants.{Running, Undoing}
+use Rattle.xc_story.specs.Setting.{Setting}
+use Rattle.xc_story.specs.Progress.{Progress}
+use Rattle.xc_story.specs.Played.{HoldsFor}
+use Rattle.xc_story.specs.Told.{asked_of_tx}
+use Rattle.xc_story.specs.Truth.{IsPartOf, next_claims}
+use Rattle.xc_story.specs.Seen.{SeenTx, SeenJob, Active, Now, active_in}
+use Rattle.xc_story.specs.Rows.{DoesPart, HasNoRival, HoldsWanting, IsLeft, asked_at, claims_at, is_built, parts_of, seen, wanting, with_tx}
+use Rattle.xc_flight.specs.Active.{Tx, HoldTheSame}
+use Rattle.xc_flight.specs.Active as flight
+use Rattle.xc_flight.specs.Standing.{Standing, InFlight, IsActive, turned}
+use Rattle.xc_flight.specs.Turns.{MayDo, after_call, claiming, did, in_phase, wanting as wanting_in_flight}
+use Rattle.xc_flight.proofs.Calling.{is_running}
+use Rattle.xc_flight.proofs.Claiming.{back_held, claimed, covers_through, merged_held}
+use Rattle.xc_flight.proofs.Together.{call_granted, two_turns}
+use Rattle.xc_flight.proofs.Undoing.{turns_back, wants}
+use Rattle.xc_played.specs.Flying.{IsUnnoted, flown, flown_phase, ran_at}
+use Rattle.xc_played.proofs.BuiltCalls.{asked_built, built-taken, unrecorded}
+use Rattle.xc_played.proofs.FlownLists.{flown_there, none_unnoted}
+use Rattle.xc_played.proofs.TurnBack.{back_keeps}
+use Rattle.xc_played.proofs.TurnCalls.{holding-more}
+use Rattle.xc_played.proofs.TurnLists.{put_at}
+use Rattle.xc_played.proofs.TurnParts.{Flying, world_in, standing_in, asked_same, goes_on}
+use Rattle.xc_played.proofs.TurnRivals.{no_rivals}
+
+part_itself : {A : Type 0} (xs : List A) → IsPartOf xs xs
+part_itself [] = tt
+part_itself (x ∷ xs) = inl (refl, part_itself xs)
+
+-- a call with an answer
+abbrev pub asked_by : Call → Answer → Asked
+asked_by c answer = record { call = c; answer = answer }
+
+module _ (s : Setting) (p : Progress) (words : List ℕ) (contents : Contents) (jobs : List SeenJob) (next at : ℕ) (job : SeenJob) (place : Place) (tx : SeenTx)
+    (there : slice_get jobs at ≡ Some job) (doing : job.doing ≡ Active tx) (f : Flying s p words contents jobs next) (runs : tx.phase ≡ Running) where
+  -- it leaves nothing, and holds no more
+  pub wants_keeps : Flying s p words contents (slice_set jobs at (with_tx job place (wanting tx [] tx.held))) next
+  wants_keeps =
+      subst (λ us. Flying s p words contents
+      (slice_set jobs at (with_tx job place (record tx { phase = Undoing cause.NoMemory; undo = record tx.undo { pending = us } }))) next)
+      (sym (append-nil tx.undo.pending)) (back_keeps s p words contents jobs next at job place tx there doing f cause.NoMemory runs)
+
+  abbrev standing : Standing
+  standing = standing_in p.state.world (world_in p.state.world words contents) f.unnoted jobs next
+
+  abbrev tx_flown : Tx
+  tx_flown = flown job.me (f.unnoted at) tx
+
+  abbrev ran : Ran
+  ran = ran_at p.state.world job.me tx
+
+  abbrev asked_next : Ask
+  asked_next = asked_of_tx s (slice_get p.jobs at) tx
+
+  active : IsActive standing at tx_flown
+  active = flown_there f.unnoted jobs at job tx there doing
+
+  running : tx_flown.phase ≡ flight.Running
+  running = ap flown_phase runs
+
+  held_so : tx.held ≡ held_of ran.touched
+  held_so = subst (λ ph. HoldsFor ran asked_next ph tx.held) runs (f.holds at job tx there (ap active_in doing))
+
+  -- ---- behind the claims of the call that is asked
+  module _ (c : Call) (asks : asked_next ≡ ask.Call c) (alone : All (HasNoRival jobs at) (claims_of c tx.me (length words))) where
+    abbrev claims : List Claim
+    claims = claims_of c tx.me (length words)
+
+    abbrev all_held : List Claim
+    all_held = holding tx.held claims
+
+    -- it claims, and goes on
+    abbrev claimant : Tx
+    claimant = claiming tx_flown all_held
+
+    abbrev mid : Standing
+    mid = turned standing at (Some claimant) standing.now
+
+    same : HoldTheSame all_held (tx.held ++ claims)
+    same = subst (λ l. HoldTheSame (holding l claims) (l ++ claims)) (sym held_so) (merged_held ran.touched claims)
+
+    claims_first : InFlight mid
+    claims_first =
+        let granted = call_granted standing at tx_flown c (length words) f.flies active running (f.sound at tx_flown active)
+        (no_rivals p.state.world standing.now f.unnoted jobs next at claims alone) in
+        claimed standing at tx_flown claims all_held f.flies active granted same running
+
+    claims_active : IsActive mid at claimant
+    claims_active = put_at standing.active at tx_flown claimant active
+
+    -- then it turns back
+    left_nothing : InFlight (turned standing at (Some (flown job.me (f.unnoted at) (record tx { phase = Undoing cause.NoMemory; held = all_held })))
+        standing.now)
+    left_nothing =
+        subst InFlight (two_turns standing at (Some claimant) (Some (in_phase claimant flight.Undoing)) standing.now standing.now)
+        (turns_back mid at claimant claims_first claims_active running (f.sound at tx_flown active))
+
+    -- with these records left
+    module _ (left : List Undo) where
+      abbrev wanter : SeenTx
+      wanter = wanting tx left all_held
+
+      wanter_holds : HoldsFor ran (asked_of_tx s (slice_get p.jobs at) wanter) (Undoing cause.NoMemory) all_held
+      wanter_holds =
+          let me : ran.me ≡ tx.me = (f.flies.flights at tx_flown active).inside.me in
+          let many : length ran.world.words ≡ length words =
+          (body_keeps p.state.world job.me tx.number (asked_of tx.calls tx.replies)).count ∙ sym f.flies.count in
+          let touches : claims ≡ claims_of c ran.me (length ran.world.words) = λ i. claims_of c (sym me i) (sym many i) in
+          let wanted : claims ≡ next_claims ran (asked_of_tx s (slice_get p.jobs at) wanter) =
+          touches ∙ ap (next_claims ran) (sym asks ∙ asked_same s (slice_get p.jobs at) tx wanter refl) in
+          (claims, subst (IsPartOf claims) wanted (part_itself claims), ap (λ l. holding l claims) held_so ∙ holding-more ran.touched claims)
+
+      wanter_keeps : (us : List Asked) (contents' : Contents)
+          → InFlight (turned standing at (Some (flown job.me us wanter)) (world_in p.state.world words contents'))
+          → IsUnnoted (Undoing cause.NoMemory) (asked_of_tx s (slice_get p.jobs at) wanter) us
+          → Flying s p words contents' (slice_set jobs at (with_tx job place wanter)) next
+      wanter_keeps us contents' flies was =
+          goes_on s p words words contents contents' jobs next at us job place tx wanter there doing refl f flies was wanter_holds
+          (f.built at job tx there (ap active_in doing))
+
+    -- it leaves nothing, behind its claims
+    pub wants_claims_keeps : Flying s p words contents (slice_set jobs at (with_tx job place (wanting tx [] all_held))) next
+    wants_claims_keeps =
+        wanter_keeps [] (f.unnoted at) contents
+        (subst (λ us. InFlight (turned standing at (Some (flown job.me (f.unnoted at)
+        (record tx { phase = Undoing cause.NoMemory; undo = record tx.undo { pending = us }; held = all_held }))) standing.now))
+        (sym (append-nil tx.undo.pending)) left_nothing)
+        (none_unnoted (Undoing cause.NoMemory) (asked_of_tx s (slice_get p.jobs at) (wanting tx [] all_held)) (f.unnoted at)
+        (is_running standing at tx_flown f.flies active running).all_noted)
+
+    -- the call did its part, with this answer, and these records are left
+    module _ (left : List Undo) (answer : Answer) (contents' : Contents) (is : is_built c ≡ true)
+        (does : DoesPart (seen (record p.state.world { words = words }) contents tx.writes) (seen (record p.state.world { words = words }) contents' tx.writes)
+        (parts_of tx) (asked_by c answer) left) where
+      abbrev asked_last : Asked
+      asked_last = asked_by c answer
+
+      may : MayDo mid.now claimant asked_last
+      may = record { fit = does.fits; covers = covers_through all_held (tx.held ++ claims) claims same.left (back_held tx.held claims) }
+
+      did_part : InFlight (turned standing at (Some (wanting_in_flight mid.now claimant asked_last)) (after_call mid.now claimant asked_last))
+      did_part =
+          subst InFlight (two_turns standing at (Some claimant) (Some (wanting_in_flight mid.now claimant asked_last)) standing.now
+          (after_call mid.now claimant asked_last))
+          (wants mid at claimant asked_last claims_first claims_active running may (f.sound at tx_flown active))
+
+      -- what it is then
+      wanter_is : wanting_in_flight mid.now claimant asked_last ≡ flown job.me (asked_last ∷ []) (wanting tx left all_held)
+      wanter_is = λ i. record (flown job.me (asked_last ∷ []) (wanting tx left all_held)) {
+        pending = tx.undo.pending ++ sym does.records i;
+        taken = built-taken c tx.me (did mid.now claimant asked_last).reply is i;
+      }
+
+      part_there : after_call mid.now claimant asked_last ≡ world_in p.state.world words contents'
+      part_there = ap (λ (v : World). record v { words = words }) (sym does.world)
+
+      -- it keeps all
+      pub wants_part_keeps : Flying s p words contents' (slice_set jobs at (with_tx job place (wanting tx left all_held))) next
+      wants_part_keeps =
+          let wanter : SeenTx = wanting tx left all_held in
+          wanter_keeps left (asked_last ∷ []) contents'
+          (subst (λ v. InFlight (turned standing at (Some (flown job.me (asked_last ∷ []) wanter)) v)) part_there
+          (subst (λ t. InFlight (turned standing at (Some t) (after_call mid.now claimant asked_last))) wanter_is did_part))
+          (subst (λ a. IsUnnoted (Undoing cause.NoMemory) a (asked_last ∷ [])) (sym asks ∙ asked_same s (slice_get p.jobs at) tx wanter refl) refl)
+
+-- ---- whatever it left
+module _ (s : Setting) (p : Progress) (old new : Now) (next at : ℕ) (job : SeenJob) (place : Place) (tx : SeenTx) (there : slice_get old.jobs at ≡ Some job)
+    (doing : job.doing ≡ Active tx) (f : Flying s p old.words old.contents old.jobs next) (runs : tx.phase ≡ Running)
+    (asks : asked_of_tx s (slice_get p.jobs at) tx ≡ asked_at s job.place) where
+  abbrev Wanting : List Undo → List Claim → Contents → Type 0
+  Wanting left held contents = Flying s p old.words contents (slice_set old.jobs at (with_tx job place (wanting tx left held))) next
+
+  -- a call that left nothing changed nothing at the host
+  same_there : (a : Ask) → asked_at s job.place ≡ a → IsLeft old new (parts_of tx) a [] → new.contents ≡ old.contents
+  same_there a asked (inl none) = none.1
+  same_there (ask.Call c) asked (inr (answer, does)) =
+      let w = record p.state.world { words = old.words } in
+      let d = does w refl in
+      ap contents_of d.world
+      ∙ unrecorded (seen w old.contents tx.writes) tx.me tx.number c answer (asked_built (walk_of s.script job.place) c asked) (sym d.records)
+  same_there ask.Commit asked (inr part) = absurd part
+  same_there ask.Abort asked (inr part) = absurd part
+  same_there ask.End asked (inr part) = absurd part
+
+  -- it holds no more
+  wants_same : (a : Ask) (left : List Undo) (held : List Claim) → asked_at s job.place ≡ a → (left ≡ []) × (held ≡ tx.held)
+      → IsLeft old new (parts_of tx) a left → Wanting left held new.contents
+  wants_same a left held asked same leaves =
+      subst (Wanting left held) (sym (same_there a asked (subst (IsLeft old new (parts_of tx) a) same.0 leaves)))
+      (subst (λ h. Wanting left h old.contents) (sym same.1)
+      (subst (λ us. Wanting us tx.held old.contents) (sym same.0)
+      (wants_keeps s p old.words old.contents old.jobs next at job place tx there doing f runs)))
+
+  -- it keeps all
+  pub wants_so : (a : Ask) (left : List Undo) (held : List Claim) → asked_at s job.place ≡ a → HoldsWanting old at tx a left held
+      → IsLeft old new (parts_of tx) a left → Wanting left held new.contents
+  wants_so (ask.Call c) left held asked (inl same) leaves = wants_same (ask.Call c) left held asked same leaves
+  wants_so (ask.Call c) left held asked (inr more) (inl none) =
+      subst (Wanting left held) (sym none.1)
+      (subst (λ h. Wanting left h old.contents) (sym more.1)
+      (subst (λ us. Wanting us (holding tx.held (claims_at old tx c)) old.contents) (sym none.0)
+      (wants_claims_keeps s p old.words old.contents old.jobs next at job place tx there doing f runs c (asks ∙ asked) more.0)))
+  wants_so (ask.Call c) left held asked (inr more) (inr (answer, does)) =
+      subst (λ h. Wanting left h new.contents) (sym more.1)
+      (wants_part_keeps s p old.words old.contents old.jobs next at job place tx there doing f runs c (asks ∙ asked) more.0 left answer new.contents
+      (asked_built (walk_of s.script job.place) c asked) (does (record p.state.world { words = old.words }) refl))
+  wants_so ask.Commit left held asked same leaves = wants_same ask.Commit left held asked same leaves
+  wants_so ask.Abort left held asked same leaves = wants_same ask.Abort left held asked same leaves
+  wants_so ask.End left held asked same leaves = wants_same ask.End left held asked same leaves
