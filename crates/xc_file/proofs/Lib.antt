@@ -1,3 +1,4 @@
 pub mod ReadFronts
+pub mod Appends
 pub mod FileCalls
 pub mod NameCalls
