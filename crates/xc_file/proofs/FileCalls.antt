@@ -23,7 +23,7 @@ use Rattle.xc_world.specs.Act.{act, done}
 use Rattle.xc_world.specs.Act.Step.{Stepped, stays, counted}
 use Rattle.xc_world.specs.Checks.{is_bad_handle, is_too_big, is_too_much, is_bad_word, is_refused}
 use Rattle.xc_world.specs.Fits.{fits, answer_of}
-use Rattle.xc_world.specs.Trail.{overwrite_record, done_of}
+use Rattle.xc_world.specs.Trail.{overwrite_record, append_record, done_of}
 use Rattle.xc_host.specs.Model.{HostModel}
 use Rattle.xc_host.specs.Contents.{Contents, with_contents, world_of}
 use Rattle.xc_compensate.specs.Records.{Records}
@@ -85,6 +85,13 @@ nothing_done w bytes place.Vacant = refl
 nothing_done w bytes (place.Pipe num) = refl
 nothing_done w bytes (place.Pair num side) = refl
 
+-- an append of nothing leaves no record
+nothing_appended : (w : World) (bytes : List ℕ) (p : Place) → append_record w bytes 0 p ≡ []
+nothing_appended w bytes (place.File num at) = refl
+nothing_appended w bytes place.Vacant = refl
+nothing_appended w bytes (place.Pipe num) = refl
+nothing_appended w bytes (place.Pair num side) = refl
+
 -- a record with nothing behind
 grown_by_none : (undo : Records) → undo ≡ record undo { pending = undo.pending ++ [] }
 grown_by_none undo = ap (λ (p : List Undo). let u : Records = record undo { pending = p } in u) (sym (append-nil undo.pending))
@@ -117,14 +124,25 @@ refused_call model call s r e none =
       memory = tt;
     }
 
+-- a write of either kind that is refused did nothing
+refused_done : (call : Call) (me : Private) (all : ℕ) (r : Reply) → refusal_of call me ≡ Some r → done_of all r ≡ 0
+refused_done call me all r e = (plain_first (is_bad_handle call me) (is_too_big call) (is_too_much call me) r e).done all
+
 -- a refused overwrite leaves no record
 pub refused_overwrite : (was : Moment) (h : ℕ) (bytes : List ℕ) (r : Reply) → refusal_of (call.XWriteOvr h bytes) was.me ≡ Some r
     → AreRecorded (call.XWriteOvr h bytes) was [] r
 refused_overwrite was h bytes r e =
-    let c = call.XWriteOvr h bytes in
-    let plain = plain_first (is_bad_handle c was.me) (is_too_big c) (is_too_much c was.me) r e in
-    λ w. sym (ap (λ n. overwrite_record (with_contents w was.contents) bytes n (place_of was.me.places h)) (plain.done (length bytes))
-    ∙ nothing_done (with_contents w was.contents) bytes (place_of was.me.places h))
+    let p = place_of was.me.places h in
+    λ w. sym (ap (λ n. overwrite_record (with_contents w was.contents) bytes n p) (refused_done (call.XWriteOvr h bytes) was.me (length bytes) r e)
+    ∙ nothing_done (with_contents w was.contents) bytes p)
+
+-- a refused append leaves no record
+pub refused_append : (was : Moment) (h : ℕ) (bytes : List ℕ) (r : Reply) → refusal_of (call.XWriteSeq h bytes) was.me ≡ Some r
+    → AreRecorded (call.XWriteSeq h bytes) was [] r
+refused_append was h bytes r e =
+    let p = place_of was.me.places h in
+    λ w. sym (ap (λ n. append_record (with_contents w was.contents) bytes n p) (refused_done (call.XWriteSeq h bytes) was.me (length bytes) r e)
+    ∙ nothing_appended (with_contents w was.contents) bytes p)
 
 -- a call that the checks let pass, and that leaves no record
 pub unrecorded_call : {H : Type 0} (model : HostModel H) (call : Call) (old new : CallState H) (result : Result Reply NoMemory)

@@ -2,4 +2,5 @@ pub mod Calls
 pub mod Reading
 pub mod Writing
 pub mod Naming
+pub mod Appending
 pub mod Checks

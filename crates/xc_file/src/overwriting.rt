@@ -14,6 +14,7 @@ ghost use Rattle.xc_file.specs.Checks.{IsOpenAt};
 ghost use Rattle.xc_file.specs.Writing.{AddsOne, IsInside, Overwrote, moved_on};
 
 use crate::checks::{OpenFile, open_file};
+use crate::moving::move_on;
 use crate::reading::read_whole;
 use crate::writing::{Written, write_whole};
 use std::alloc::Global;
@@ -147,18 +148,6 @@ fn done_of(bytes: &Chunk, reply: &Reply) -> u32
         Reply::Done => bytes.len() as u32,
         Reply::Fault(done) => *done,
         _ => 0,
-    }
-}
-
-// The position of an open file is behind what was done.
-fn move_on(me: &mut Private, file: OpenFile, done: u32)
-    requires open { file.h < 256 }
-    requires room { file.at + done < 2 ^ 32 }
-    ensures { me.new ≡ moved_on me.old file.h file.num file.at done }
-{
-    if done > 0 {
-        let OpenFile { h, num, at } = file;
-        me.set_place(h, Place::File { num, at: at + done });
     }
 }
 
