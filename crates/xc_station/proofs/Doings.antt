@@ -1,7 +1,7 @@
 -- Each call of a transaction is the plain machine's, or leaves its part where memory is wanting.
 use Rattle.std.proofs.Common.{◌≡◌, ◌⊎◌, inl, inr, ℕ, ◌≤◌, Bool, true, false, List, [], ◌∷◌, ◌++◌, length, refl, ap, sym, ◌∙◌, subst, IsTrue, arith}
 use Rattle.std.proofs.lemmas.List.{append_cancel_left}
-use Rattle.std.specs.Prelude.{Result, Ok, Err, IfOk, IsOk, OnErr, OnOk}
+use Rattle.std.specs.Prelude.{Result, Ok, Err, IfOk, IsErr, IsOk, OnErr, OnOk, is_err}
 use Rattle.std.specs.declared.option.Option.TheVariants.{None}
 use Rattle.xc_data.specs.Counts.{CountsFault}
 use Rattle.xc_data.specs.Faults.{is_fault_reply}
@@ -134,16 +134,10 @@ module _ {H : Type 0} (model : HostModel H) (c : Call) (old : Acting H) (writes 
         records = sym (append_nil old.tx.undo.pending) ∙ ap (λ us. old.tx.undo.pending ++ us) (sym (word-trail v me number c reply is));
       }
 
-  still_records : old.tx.undo ≡ record old.tx.undo { pending = old.tx.undo.pending ++ [] }
-  still_records = ap (λ us. record old.tx.undo { pending = us }) (sym (append_nil old.tx.undo.pending))
-
-  -- it has acted
-  pub word_acted : (r : Result Reply NoMemory) → IfOk r (λ reply. reply ≡ word_reply (overlaid old.words old.tx.writes) c)
-      → OnOk r (writes ≡ old.tx.writes ++ stored_by (length old.words) c)
-      → OnOk r (overlaid old.words writes ≡ words_after (overlaid old.words old.tx.writes) c)
-      → OnErr r (writes ≡ old.tx.writes) → IfOk r (λ reply. is_late reply ≡ false) → old.tx.me.stored ≤ 16384
-      → HasActed model c old (storing old writes) r
-  word_acted (Ok reply) gives stores after err now stored =
+  word_done : (reply : Reply) → reply ≡ word_reply (overlaid old.words old.tx.writes) c → writes ≡ old.tx.writes ++ stored_by (length old.words) c
+      → overlaid old.words writes ≡ words_after (overlaid old.words old.tx.writes) c → is_late reply ≡ false → old.tx.me.stored ≤ 16384
+      → HasDone model c old (storing old writes) reply
+  word_done reply gives stores after now stored =
       let quiet = ap is_fault_reply gives ∙ word-quiet (overlaid old.words old.tx.writes) c is in
       record {
         tx = refl;
@@ -151,20 +145,39 @@ module _ {H : Type 0} (model : HostModel H) (c : Call) (old : Acting H) (writes 
         stored = stored;
         made = [];
         one = omega arith;
-        undo = still_records;
+        undo = ap (λ us. record old.tx.undo { pending = us }) (sym (append_nil old.tx.undo.pending));
         now = now;
         cause = subst (λ b. CountsFault b (model.fault_count old.host) (model.fault_count old.host)) (sym quiet) refl;
         spoken = record { words = after; gives = λ _. gives };
         does = λ tells. does_words reply gives after;
       }
-  word_acted (Err e) gives stores after err now stored =
-      record {
-        left = [];
-        one = omega arith;
-        tx = λ i. record old.tx { writes = err i; undo = still_records i };
-        faults = refl;
-        contents = λ tells. inl (refl, refl);
-      }
+
+-- a load has acted
+pub load_acted : {H : Type 0} (model : HostModel H) (c : Call) (at : ℕ) (old : Acting H) (reply : Reply) → c ≡ call.Load at
+    → reply ≡ word_reply (overlaid old.words old.tx.writes) (call.Load at) → is_late reply ≡ false → old.tx.me.stored ≤ 16384 → HasDone model c old old reply
+load_acted model c at old reply is gives now stored =
+    subst (λ d. HasDone model d old old reply) (sym is)
+    (word_done model (call.Load at) old old.tx.writes refl reply gives (sym (append_nil old.tx.writes)) refl now stored)
+
+-- a store has acted
+pub store_acted : {H : Type 0} (model : HostModel H) (c : Call) (at value : ℕ) (old : Acting H) (writes : List (ℕ × ℕ)) (r : Result Reply NoMemory)
+    → c ≡ call.Store at value
+    → IfOk r (λ reply. reply ≡ word_reply (overlaid old.words old.tx.writes) (call.Store at value))
+    → OnOk r (writes ≡ old.tx.writes ++ stored_by (length old.words) (call.Store at value))
+    → OnOk r (overlaid old.words writes ≡ words_after (overlaid old.words old.tx.writes) (call.Store at value))
+    → OnErr r (writes ≡ old.tx.writes) → IfOk r (λ reply. is_late reply ≡ false) → old.tx.me.stored ≤ 16384
+    → HasActed model c old (storing old writes) r
+store_acted model c at value old writes (Ok reply) is gives stores after err now stored =
+    subst (λ d. HasDone model d old (storing old writes) reply) (sym is)
+    (word_done model (call.Store at value) old writes refl reply gives stores after now stored)
+store_acted model c at value old writes (Err e) is gives stores after err now stored =
+    record {
+      left = [];
+      one = omega arith;
+      tx = λ i. record old.tx { writes = err i; undo = record old.tx.undo { pending = sym (append_nil old.tx.undo.pending) i } };
+      faults = refl;
+      contents = λ tells. inl (refl, refl);
+    }
 
 -- ---- memory is wanting for the variable that takes the reply
 -- a reply that brings a value is no fault
@@ -173,9 +186,9 @@ unfaulty (reply.Fault n) h = absurd (h refl)
 unfaulty _ h = refl
 
 -- only a reply that brings a value may want memory
-pub wants_value : {A E : Type 0} (a : Result A E) (e : E) (r : Reply) → a ≡ Err e → (value_in r ≡ None → IsOk a) → value_in r ≡ None → ⊥
-wants_value (Ok x) e r is lasting nothing = cc
-wants_value (Err d) e r is lasting nothing = let ok = lasting nothing in cc
+pub wants_value : {A E : Type 0} (a : Result A E) (r : Reply) → is_err a ≡ true → (value_in r ≡ None → IsOk a) → value_in r ≡ None → ⊥
+wants_value (Ok x) r failed lasting nothing = cc
+wants_value (Err e) r failed lasting nothing = let ok = lasting nothing in cc
 
 -- the call was done, and the handles are as before it: its part stands as it was left
 pub unanswered : {H : Type 0} (model : HostModel H) (c : Call) (old new behind : Acting H) (reply : Reply) → HasDone model c old new reply
@@ -192,14 +205,23 @@ unanswered model c old new behind reply d is brings =
       one = d.one;
       tx = ap (λ (t : SeenTx). record t { me = old.tx.me }) left;
       faults = subst (λ b. CountsFault b (model.fault_count old.host) (model.fault_count new.host)) quiet d.cause;
-      contents = λ tells. inr (answer_of reply, λ w at.
-        let does = d.does tells w at in
-        record {
-          fits = does.fits;
-          world = ap (λ (ws : List (ℕ × ℕ)). seen w (model.contents new.host) ws) (sym writes) ∙ ap (λ (s : Stepped). s.world) (sym does.step);
-          records = append_cancel_left old.tx.undo.pending d.made (recorded (seen w (model.contents old.host) old.tx.writes) old.tx.me old.tx.number c reply)
-              (sym (ap (λ (u : Records). u.pending) d.undo) ∙ does.records)
-              ∙ ap (λ (s : Stepped). recorded (seen w (model.contents old.host) old.tx.writes) old.tx.me old.tx.number c s.reply) (sym does.step);
-        });
+      contents = λ tells. inr (
+        answer_of reply,
+        λ w at.
+            let does = d.does tells w at in
+            record {
+              fits = does.fits;
+              world = ap (λ (ws : List (ℕ × ℕ)). seen w (model.contents new.host) ws) (sym writes) ∙ ap (λ (s : Stepped). s.world) (sym does.step);
+              records = append_cancel_left old.tx.undo.pending d.made (recorded (seen w (model.contents old.host) old.tx.writes) old.tx.me old.tx.number c reply)
+                  (sym (ap (λ (u : Records). u.pending) d.undo) ∙ does.records)
+                  ∙ ap (λ (s : Stepped). recorded (seen w (model.contents old.host) old.tx.writes) old.tx.me old.tx.number c s.reply) (sym does.step);
+            },
+      );
     } in
     subst (λ a. LeavesOff model c old a) (sym is) now
+
+-- the same of an answer
+pub unanswered_so : {H : Type 0} (model : HostModel H) (c : Call) (old new : Acting H) (r : Result Reply NoMemory) → IsErr r
+    → LeavesOff model c old new → HasActed model c old new r
+unanswered_so model c old new (Ok reply) failed left = cc
+unanswered_so model c old new (Err e) failed left = left

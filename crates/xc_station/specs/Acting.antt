@@ -88,7 +88,7 @@ pub record LeavesOff {H : Type 0} (model : HostModel H) (call : Call) (old new :
   pub contents : IsTrue model.tells
       → ((left ≡ []) × (model.contents new.host ≡ model.contents old.host))
       ⊎ ((answer : Answer) × DoesPartIn old.words (model.contents old.host) (model.contents new.host) (parts_of old.tx)
-          (record { call = call; answer = answer }) left)
+      (record { call = call; answer = answer }) left)
 
 -- by what the call answers
 abbrev pub HasActed : {H : Type 0} → HostModel H → Call → Acting H → Acting H → Result Reply NoMemory → Type 0

@@ -13,7 +13,9 @@ ghost use Rattle.xc_station.specs.Jobs.{seen_tx};
 use crate::tx::Tx;
 use std::alloc::Global;
 use xc_data::{Call, NoMemory, Reply};
-use xc_file::{x_close, x_create, x_len, x_open, x_read, x_rename, x_seek, x_write_ovr};
+use xc_file::{
+    x_close, x_create, x_len, x_open, x_read, x_rename, x_seek, x_write_ovr, x_write_seq,
+};
 use xc_host::Host;
 use xc_script::JobState;
 use xc_text::Script;
@@ -32,7 +34,8 @@ pub struct Shared<H: Host> {
 #[tactic(auto, using(xc_txmem::proofs::Overlays::overlay_count))]
 fn load(words: &Words, writes: &WriteSet, at: u64) -> Reply
     requires { AreWithin (length words.now) writes.now }
-    ensures { result ≡ word_reply (overlaid words.now writes.now) (PlainCall.Load at) }
+    ensures reply { result ≡ word_reply (overlaid words.now writes.now) (PlainCall.Load at) }
+    ensures now { is_late result ≡ false }
 {
     if words.count() as u64 <= at {
         return Reply::BadWord;
@@ -55,23 +58,6 @@ fn store(words: &Words, writes: &mut WriteSet, at: u64, value: u64) -> Result<Re
     }
     writes.store(at as usize, value)?;
     Ok(Reply::Done)
-}
-
-// Does a call on words.
-fn act_on_words(words: &Words, writes: &mut WriteSet, call: &Call) -> Result<Reply, NoMemory>
-    requires word { is_word_call call.now ≡ true }
-    requires within { AreWithin (length words.now) writes.old }
-    ensures reply { IfOk result (λ reply. reply ≡ word_reply (overlaid words.now writes.old) call.now) }
-    ensures stores { OnOk result (writes.new ≡ writes.old ++ stored_by (length words.now) call.now) }
-    ensures words { OnOk result (overlaid words.now writes.new ≡ words_after (overlaid words.now writes.old) call.now) }
-    ensures err { OnErr result (writes.new ≡ writes.old) }
-    ensures now { IfOk result (λ reply. is_late reply ≡ false) }
-{
-    match call {
-        Call::Load { at } => Ok(load(words, writes, *at)),
-        Call::Store { at, value } => store(words, writes, *at, *value),
-        _ => unreachable!(),
-    }
 }
 
 // Does a call. Where memory is wanting, a part that the call did at the host is among the records.
@@ -97,11 +83,13 @@ fn act<H: Host>(
         ..
     } = tx;
     match call {
-        Call::Load { .. } | Call::Store { .. } => act_on_words(words, writes, call),
+        Call::Load { at } => Ok(load(words, writes, *at)),
+        Call::Store { at, value } => store(words, writes, *at, *value),
         Call::XOpen { name } => x_open(host, me, name),
         Call::XCreate { name } => x_create(host, me, undo, *number, name),
         Call::XRead { h, n } => x_read(alloc, host, me, *h, *n),
         Call::XWriteOvr { h, bytes } => x_write_ovr(alloc, host, me, undo, *h, bytes),
+        Call::XWriteSeq { h, bytes } => x_write_seq(host, me, undo, *h, bytes),
         Call::XSeek { h, to } => Ok(x_seek(me, *h, *to)),
         Call::XLen { h } => Ok(x_len(host, me, *h)),
         Call::XClose { h } => Ok(x_close(me, *h)),

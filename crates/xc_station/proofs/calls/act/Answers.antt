@@ -1,11 +1,14 @@
 use Rattle.std.proofs.Common.{arith, refl}
-use Rattle.xc_station.proofs.Doings.{alone_acted, file_acted, word_acted}
+use Rattle.xc_station.proofs.Doings.{alone_acted, file_acted, load_acted, store_acted}
 use Rattle.xc_station.proofs.calls.act.Goals as goal
 
 pub returns-in-Load-clause-acted : goal.returns-in-Load-clause-acted
-returns-in-Load-clause-acted g c =
-    let e = c.act_on_words.ensures in
-    word_acted g.H.Host.model _ _ _ ? _ e.reply e.stores e.words e.err e.now c.requires.may.stored
+returns-in-Load-clause-acted g c = load_acted g.H.Host.model _ _ _ _ c.in-Load.is c.load.ensures.reply c.load.ensures.now c.requires.may.stored
+
+pub returns-in-Store-clause-acted : goal.returns-in-Store-clause-acted
+returns-in-Store-clause-acted g c =
+    let e = c.store.ensures in
+    store_acted g.H.Host.model _ _ _ _ _ _ c.in-Store.is e.reply e.stores e.words e.err e.now c.requires.may.stored
 
 pub returns-in-XOpen-clause-acted : goal.returns-in-XOpen-clause-acted
 returns-in-XOpen-clause-acted g c =
@@ -47,3 +50,8 @@ pub returns-in-XRename-clause-acted : goal.returns-in-XRename-clause-acted
 returns-in-XRename-clause-acted g c =
     let e = c.x_rename.ensures in
     file_acted g.H.Host.model _ _ _ _ _ c.in-XRename.is refl (e.call c.args.tx.now.number c.args.tx.now.me) refl c.requires.may.stored e.now
+
+pub returns-in-XWriteSeq-clause-acted : goal.returns-in-XWriteSeq-clause-acted
+returns-in-XWriteSeq-clause-acted g c =
+    let e = c.x_write_seq.ensures in
+    file_acted g.H.Host.model _ _ _ _ _ c.in-XWriteSeq.is refl (e.call c.args.tx.now.number) refl e.stored e.now
