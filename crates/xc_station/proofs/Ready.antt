@@ -28,6 +28,7 @@ use Rattle.xc_story.specs.Seen.{SeenTx, SeenJob, Active, Now, active_in, actives
 use Rattle.xc_story.specs.Told.{AreAttempts, IsDoing, IsInPhase, IsUnderway}
 use Rattle.xc_story.specs.Rows.{IsActiveAt}
 use Rattle.xc_turns.proofs.GivenNumbers.{given_once}
+use Rattle.xc_played.proofs.NewNumbers.{absent_now}
 use Rattle.xc_played.proofs.NextRecord.{covered_now}
 use Rattle.xc_played.proofs.OpenFiles.{open_files}
 use Rattle.xc_station.specs.declared.calls.Shared.{Shared}
@@ -165,7 +166,12 @@ module _ {H : Type 0} (model : HostModel H) (shared : Shared H) (journal : List 
           stored = t.underway.stored;
           none = phase.none;
         };
-        files = λ tells h. open_files s now (steady.flying tells) at (seen_job was) runs.tx there (ap active_in runs.doing) runs.phase h;
+        ready = λ tells.
+            let flying = steady.flying tells in
+            record {
+              files = λ h. open_files s now flying at (seen_job was) runs.tx there (ap active_in runs.doing) runs.phase h;
+              new = absent_now s now flying at (seen_job was) runs.tx there (ap active_in runs.doing) runs.phase runs.tx.me.made (omega arith);
+            };
       }
 
   -- so it stands at this moment
@@ -193,7 +199,8 @@ module _ {H : Type 0} (model : HostModel H) (shared : Shared H) (journal : List 
         back.doing,
         λ none. let lacks : back.newest ∷ back.older ≡ [] = sym back.pending ∙ none in cc lacks,
         λ tells older u pending way.
-            covered_now s now (steady.flying tells) at (seen_job was) back.tx back.cause older u there (ap active_in back.doing) back.phase pending,
+            covered_now s now (steady.flying tells) at (seen_job was) back.tx back.cause older u there (ap active_in back.doing) back.phase pending
+                way,
       )
 
   -- numbers that fit, of a job with an active transaction

@@ -9,7 +9,7 @@ ghost use Rattle.xc_story.specs.declared.rules.Rules.{Rules as PlainRules};
 ghost use Rattle.xc_story.specs.Seen.{SeenJob, Now, Active};
 ghost use Rattle.xc_story.specs.Setting.{setting};
 ghost use Rattle.xc_story.specs.Rows.{with_tx};
-ghost use Rattle.xc_station.specs.Acting.{AreOpenIn, MayGo};
+ghost use Rattle.xc_station.specs.Acting.{AreReadyFor, MayGo};
 ghost use Rattle.xc_station.specs.Jobs.{seen_job, seen_tx};
 ghost use Rattle.xc_station.specs.Moments.{CanRun, HasClaimed, HasTx, IsAt, IsRow, moved};
 
@@ -92,7 +92,7 @@ fn try_call<H: Host>(
     requires settled { IsSettled script.now place.old }
     requires may { MayGo (length shared.old.words) (seen_tx tx.old) }
     requires count { length shared.old.words ≤ 4096 }
-    requires open { IsTrue H.model.tells → AreOpenIn (H.model.contents shared.old.host) tx.old.me }
+    requires ready { IsTrue H.model.tells → AreReadyFor (seen_tx tx.old) (H.model.contents shared.old.host) }
     ensures words { shared.new.words ≡ shared.old.words }
     ensures row { (rules : PlainRules) (now : Now) (at : ℕ) (job : SeenJob) → let s = setting script.now rules H.model.tells in
         IsAt H.model shared.old now at job → HasTx s job place.old (seen_tx tx.old) → length now.journal ≡ entered
@@ -124,7 +124,7 @@ fn go<H: Host>(
     requires left { IsSome (next_body script.now (job_of place.old)) }
     requires may { MayGo (length shared.old.words) (seen_tx tx.old) }
     requires count { length shared.old.words ≤ 4096 }
-    requires open { IsTrue H.model.tells → AreOpenIn (H.model.contents shared.old.host) tx.old.me }
+    requires ready { IsTrue H.model.tells → AreReadyFor (seen_tx tx.old) (H.model.contents shared.old.host) }
     ensures count { length shared.new.words ≡ length shared.old.words }
     ensures row { (rules : PlainRules) (now : Now) (at : ℕ) (job : SeenJob) → let s = setting script.now rules H.model.tells in
         IsAt H.model shared.old now at job → job.doing ≡ Active (seen_tx tx.old) → job.place ≡ place.old → length now.journal ≡ entered
@@ -147,7 +147,8 @@ fn go<H: Host>(
 }
 
 /// The turn of a job whose transaction runs: its next call, the entering of its commit, which writes its stores, or that
-/// of its way back. The journal has so many entries.
+/// of its way back. Where memory is wanting it keeps what it claimed, and the record of what its call had done at the
+/// host. The journal has so many entries.
 pub fn run<H: Host>(
     alloc: Global,
     shared: &mut Shared<H>,

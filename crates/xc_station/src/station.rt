@@ -215,7 +215,7 @@ impl<H: Host> Station<H> {
     /// | running, a call is asked, and another holds something against it | it undoes, with Conflict | Went |
     /// | running, the commit is asked | its stores are written | Went |
     /// | running, an abort is asked | it undoes | Went |
-    /// | running, no memory | it undoes | NoMemory |
+    /// | running, no memory | nothing is noted, but what a call had done at the host is recorded; it undoes | NoMemory |
     /// | committing | the Committed entry; its claims end | Went |
     /// | undoing, a record has no end | the newest such record is tried | Went |
     /// | undoing, all have one | the Aborted entry; its claims end | Went |

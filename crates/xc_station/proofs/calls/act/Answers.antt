@@ -1,4 +1,5 @@
 use Rattle.std.proofs.Common.{arith, refl}
+use Rattle.xc_station.specs.Acting.{acting}
 use Rattle.xc_station.proofs.Doings.{alone_acted, file_acted, load_acted, store_acted}
 use Rattle.xc_station.proofs.calls.act.Goals as goal
 
@@ -44,7 +45,9 @@ returns-in-XClose-clause-acted g c =
 pub returns-in-XLen-clause-acted : goal.returns-in-XLen-clause-acted
 returns-in-XLen-clause-acted g c =
     let e = c.x_len.ensures in
-    file_acted g.H.Host.model _ _ _ _ _ c.in-XLen.is refl (e.call c.args.tx.now.number c.args.tx.now.undo) refl c.requires.may.stored e.now
+    let old = acting c.args.host.now c.args.words.now c.args.tx.now in
+    file_acted g.H.Host.model _ _ old (record old { host = c.x_len.new.host }) _ c.in-XLen.is refl (e.call c.args.tx.now.number c.args.tx.now.undo) refl
+    c.requires.may.stored e.now
 
 pub returns-in-XRename-clause-acted : goal.returns-in-XRename-clause-acted
 returns-in-XRename-clause-acted g c =

@@ -4,7 +4,7 @@ use Rattle.xc_story.specs.declared.phase.Phase.TheVariants.{Committing, Undoing}
 use Rattle.xc_story.specs.Rows.{IsSamePlace}
 use Rattle.xc_story.specs.Setting.{setting}
 use Rattle.xc_txmem.proofs.Overlays.{overlay_count}
-use Rattle.xc_station.proofs.RowsRun.{asked_walk, commits, has_tx, turns_back, wanting}
+use Rattle.xc_station.proofs.RowsRun.{asked_walk, commits, has_tx, turns_back, wants}
 use Rattle.xc_station.proofs.running.go.Goals as goal
 
 pub returns-in-Ok-Commit-clause-count : goal.returns-in-Ok-Commit-clause-count
@@ -34,5 +34,5 @@ returns-in-Err-clause-row g c rules now at job here doing place journal =
     let e = c.in-Err.ensures in
     let same : IsSamePlace (setting c.args.script.now rules g.H.Host.model.tells) c.args.place.now c.ask.new.self =
     record { begin = record { block = e.same.0; next = e.same.1; begun = e.begun }; walk = e.walk; at = e.at } in
-    wanting g.H.Host.model _ _ _ _ _ c.ask.new.self c.args.tx.now here (has_tx _ _ _ _ _ doing place same) c.args.shared.now c.want.new.tx c.want.result
+    wants g.H.Host.model _ _ _ _ _ c.ask.new.self c.args.tx.now here (has_tx _ _ _ _ _ doing place same) c.args.shared.now c.want.new.tx c.want.result
     refl refl refl c.want.ensures.0 c.want.ensures.1
