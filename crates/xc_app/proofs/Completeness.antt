@@ -116,6 +116,7 @@ caused_by_bytes words chosen takes old new s chose answer refused unscripted = r
   done_of : (takes : Bool) (old new : Told) (s : Status) → IsOfBytes s → ((line : ℕ) (why : Why) → s ≡ status.Refused line why → IsRefusal old new line why)
       → (s ≡ status.NotScripted → IsUnscripted takes old new) → AreScript takes old.bytes → IsDone s
   done_of takes old new status.Done answer refused unscripted script = tt
+  done_of takes old new status.Left answer refused unscripted script = tt
   done_of takes old new status.GaveUp answer refused unscripted script = tt
   done_of takes old new status.NoMemory answer refused unscripted script = tt
   done_of takes old new (status.Refused line why) answer refused unscripted script = absurd (never_refused takes old new line why script
@@ -155,7 +156,13 @@ done_with model words old new host status.Done (Some end) due h (chosen, chose, 
     let whole = run.whole in
     let s = setting end.opening.script chosen.rules model.tells in
     whole.complete
-    (all_done_of s (length end.journal.items) (progress_of end.opening.script end.journal.items).jobs end.jobs whole.ends h.1 h.2)
+    (all_done_of s (length end.journal.items) (progress_of end.opening.script end.journal.items).jobs end.jobs whole.ends h.1 h.3)
+done_with model words old new host status.Left None due h run = h
+done_with model words old new host status.Left (Some end) due h (chosen, chose, bytes, came, (read, run)) = λ none.
+    let whole = run.whole in
+    let s = setting end.opening.script chosen.rules model.tells in
+    whole.complete
+    (all_done_of s (length end.journal.items) (progress_of end.opening.script end.journal.items).jobs end.jobs whole.ends h.1 none)
 done_with model words old new host status.GaveUp o due h run = tt
 done_with model words old new host (status.Refused line why) o due h run = tt
 done_with model words old new host status.Usage o due h run = tt
@@ -177,7 +184,7 @@ plainly model words old new host status.Done (Some end) due before after h (by, 
     let one : by ≡ chosen = same_choice by chosen (settings_of words) chose again in
     let whole = run.whole in
     let s = setting end.opening.script by.rules model.tells in
-    let done = all_done_of s (length end.journal.items) (progress_of end.opening.script end.journal.items).jobs end.jobs whole.ends h.1 h.2 in
+    let done = all_done_of s (length end.journal.items) (progress_of end.opening.script end.journal.items).jobs end.jobs whole.ends h.1 h.3 in
     let plain = run.plain (ap (λ (c : Chosen). c.schedule) one ∙ none) tells faults done in
     subst (AppendsWhole before after) (h.0 ∙ plain) wrote
 plainly model words old new host (status.Refused line why) o due before after h run wrote tells is = cc is
@@ -185,5 +192,6 @@ plainly model words old new host status.Usage o due before after h run wrote tel
 plainly model words old new host status.ReadFault o due before after h run wrote tells is = cc is
 plainly model words old new host status.WriteFault o due before after h run wrote tells is = cc is
 plainly model words old new host status.NotScripted o due before after h run wrote tells is = cc is
+plainly model words old new host status.Left o due before after h run wrote tells is = cc is
 plainly model words old new host status.GaveUp o due before after h run wrote tells is = cc is
 plainly model words old new host status.NoMemory o due before after h run wrote tells is = cc is

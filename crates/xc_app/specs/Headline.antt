@@ -1,5 +1,5 @@
 -- What a run promises, in the words of the plain machine alone.
-use Rattle.std.specs.Prelude.{◌≡◌, ℕ, ◌⊎◌, ◌&&◌, Bool, true, false, not, List, take, sum_by, IsSome, IsTrue, Option, Ok, Err}
+use Rattle.std.specs.Prelude.{◌≡◌, ℕ, ◌⊎◌, ◌&&◌, Bool, true, false, not, nat_lt, List, take, sum_by, IsSome, IsTrue, Option, Ok, Err}
 use Rattle.std.specs.declared.option.Option.TheVariants.{None, Some}
 use Rattle.std.specs.List.{list_any}
 use Rattle.xc_data.specs.declared.entry.JobEnd.{JobEnd}
@@ -12,6 +12,7 @@ use Rattle.xc_text.specs.declared.script.Script.{Script}
 use Rattle.xc_edge.specs.Streams.{Came, AppendsPart, AppendsWhole}
 use Rattle.xc_edge.specs.Told.{Told, HasFailed}
 use Rattle.xc_print.specs.Text.{text}
+use Rattle.xc_print.specs.Totals.{totals_of}
 use Rattle.xc_station.specs.declared.start.End.{End}
 use Rattle.xc_settings.specs.declared.chosen.Chosen.{Chosen}
 use Rattle.xc_settings.specs.Options.{settings_of}
@@ -90,37 +91,7 @@ IsOneOf None (Some host) = Unit {0}
 IsOneOf (Some end) None = Unit {0}
 IsOneOf (Some end) (Some host) = ⊥
 
--- a run that is done has its end, and each transaction of each started job has the one entry by which it was done with
-abbrev pub IsDoneWith : {H : Type 0} → Status → Option (End H) → Type 0
-IsDoneWith status.Done None = ⊥
-IsDoneWith status.Done (Some end) = IsComplete end.opening.script end.journal.items
-IsDoneWith _ end = Unit {0}
-
--- ---- the status that is meant
--- done, with a job that gave up, or without memory
-abbrev pub IsDone : Status → Type 0
-IsDone status.Done = Unit {0}
-IsDone status.GaveUp = Unit {0}
-IsDone status.NoMemory = Unit {0}
-IsDone _ = ⊥
-
--- the words are refused, but for want of memory
-abbrev pub IsUsage : Status → Type 0
-IsUsage status.Usage = Unit {0}
-IsUsage status.NoMemory = Unit {0}
-IsUsage _ = ⊥
-
--- a status has its cause: in the words, in the host, and in the source before and after it was read
-pub record IsCaused (words : List (List ℕ)) (takes_scripts : Bool) (old new : Told) (meant : Status) : Type 0 where
-  pub usage : meant ≡ status.Usage → settings_of words ≡ None
-  pub refused_words : settings_of words ≡ None → IsUsage meant
-  pub refused : (line : ℕ) (why : Why) → meant ≡ status.Refused line why → IsRefusal old new line why
-  pub unscripted : meant ≡ status.NotScripted → IsUnscripted takes_scripts old new
-  pub read_fault : meant ≡ status.ReadFault → HasFailed old new
-  -- with words that choose, no failed read and a script that the host follows the run is done, but for want of memory
-  pub complete : IsSome (settings_of words) → (HasFailed old new → ⊥) → AreScript takes_scripts old.bytes → IsDone meant
-
--- ---- what is written
+-- ---- what became of the jobs and of their effects
 -- a job ended for want of memory
 abbrev pub is_memory : JobEnd → Bool
 is_memory job_end.NoMemory = true
@@ -148,10 +119,50 @@ gives_up line = is_given_up line.end
 abbrev pub gave_up : {H : Type 0} → End H → Bool
 gave_up end = list_any gives_up end.jobs
 
+-- some effect of an aborted transaction remains: the last line of the text counts them
+abbrev pub leaves_effects : {H : Type 0} → End H → Bool
+leaves_effects end = nat_lt 0 (totals_of end.journal.items).remains
+
+-- a run that is done has its end, and each transaction of each started job has the one entry by which it was done with; so it is
+-- where effects are left, unless a job gave up
+abbrev pub IsDoneWith : {H : Type 0} → Status → Option (End H) → Type 0
+IsDoneWith status.Done None = ⊥
+IsDoneWith status.Done (Some end) = IsComplete end.opening.script end.journal.items
+IsDoneWith status.Left None = ⊥
+IsDoneWith status.Left (Some end) = gave_up end ≡ false → IsComplete end.opening.script end.journal.items
+IsDoneWith _ end = Unit {0}
+
+-- ---- the status that is meant
+-- done, with effects that are left, with a job that gave up, or without memory
+abbrev pub IsDone : Status → Type 0
+IsDone status.Done = Unit {0}
+IsDone status.Left = Unit {0}
+IsDone status.GaveUp = Unit {0}
+IsDone status.NoMemory = Unit {0}
+IsDone _ = ⊥
+
+-- the words are refused, but for want of memory
+abbrev pub IsUsage : Status → Type 0
+IsUsage status.Usage = Unit {0}
+IsUsage status.NoMemory = Unit {0}
+IsUsage _ = ⊥
+
+-- a status has its cause: in the words, in the host, and in the source before and after it was read
+pub record IsCaused (words : List (List ℕ)) (takes_scripts : Bool) (old new : Told) (meant : Status) : Type 0 where
+  pub usage : meant ≡ status.Usage → settings_of words ≡ None
+  pub refused_words : settings_of words ≡ None → IsUsage meant
+  pub refused : (line : ℕ) (why : Why) → meant ≡ status.Refused line why → IsRefusal old new line why
+  pub unscripted : meant ≡ status.NotScripted → IsUnscripted takes_scripts old new
+  pub read_fault : meant ≡ status.ReadFault → HasFailed old new
+  -- with words that choose, no failed read and a script that the host follows the run is done, but for want of memory
+  pub complete : IsSome (settings_of words) → (HasFailed old new → ⊥) → AreScript takes_scripts old.bytes → IsDone meant
+
+-- ---- what is written
 -- what is due with a status and an end
 abbrev pub IsDueWithEnd : {H : Type 0} → Status → End H → List ℕ → Type 0
-IsDueWithEnd status.Done end due = (due ≡ end_text end) × (starves end ≡ false) × (gave_up end ≡ false)
-IsDueWithEnd status.GaveUp end due = (due ≡ end_text end) × (starves end ≡ false) × (gave_up end ≡ true)
+IsDueWithEnd status.Done end due = (due ≡ end_text end) × (starves end ≡ false) × (leaves_effects end ≡ false) × (gave_up end ≡ false)
+IsDueWithEnd status.Left end due = (due ≡ end_text end) × (starves end ≡ false) × (leaves_effects end ≡ true)
+IsDueWithEnd status.GaveUp end due = (due ≡ end_text end) × (starves end ≡ false) × (leaves_effects end ≡ false) × (gave_up end ≡ true)
 IsDueWithEnd status.NoMemory end due = (due ≡ no_memory_line) ⊎ ((due ≡ end_text end) × (starves end ≡ true))
 IsDueWithEnd _ end due = ⊥
 

@@ -21,6 +21,8 @@ pub enum Status {
     WriteFault,
     /// Memory was wanting, in the run or in one of its jobs.
     NoMemory,
+    /// An effect of an aborted transaction remains: its compensation failed, or was blocked.
+    Left,
     /// A job gave up after as many attempts at one transaction as are allowed, or found the journal full.
     GaveUp,
     /// The host takes no scripts, and the script has a line for one that does.
@@ -39,6 +41,7 @@ impl Status {
             Status::ReadFault => 3,
             Status::WriteFault => 4,
             Status::NoMemory => 5,
+            Status::Left => 6,
             Status::GaveUp => 7,
             Status::NotScripted => 8,
         }

@@ -1,6 +1,7 @@
 //! The top call: a script is read, run and printed.
 #![tactic(auto)]
 
+mod ends;
 mod finish;
 mod lines;
 mod run;

@@ -9,13 +9,14 @@ ghost use Rattle.xc_story.specs.Truth.{IsSerial};
 ghost use Rattle.xc_station.specs.Stations.{KeepsOrigin, NobodyLives, now_of};
 ghost use Rattle.xc_app.specs.Due.{due_bytes};
 ghost use Rattle.xc_app.specs.Headline.{is_refused_by, IsRun, IsRunOf, IsRunOver, IsOneOf, IsCaused, IsDoneWith};
-ghost use Rattle.xc_app.specs.Headline.{IsDue, IsDueAlone, IsSaid, IsSaidPlainly, starves, is_starved, gave_up, gives_up};
+ghost use Rattle.xc_app.specs.Headline.{IsDue, IsDueAlone, IsSaid, IsSaidPlainly};
 ghost use Rattle.xc_app.specs.Outcomes.{IsOfBytes, IsRefusedBy, IsUnrefused};
 
+use crate::ends::status_of;
 use crate::lines::refused;
 use crate::{Finish, LIMIT, Status};
 use std::alloc::Global;
-use xc_data::{JobEnd, JobLine, JobNumbers, Text};
+use xc_data::{JobNumbers, Text};
 use xc_edge::{ReadErr, Sink, Source, read_up_to, write_whole};
 use xc_host::{Host, OpenErr};
 use xc_print::render;
@@ -97,43 +98,6 @@ fn of_refusal<H: Drop>(alloc: Global, host: H, line: u32, why: Why) -> Outcome<H
         Ok(text) => alone(host, Status::Refused { line, why }, Due::Line(text)),
         Err(_) => no_memory(host),
     }
-}
-
-fn is_starved(job: &JobLine) -> bool
-    ensures { result ≡ is_starved job.now }
-{
-    matches!(job.end, JobEnd::NoMemory)
-}
-
-fn is_given_up(job: &JobLine) -> bool
-    ensures { result ≡ gives_up job.now }
-{
-    matches!(job.end, JobEnd::GaveUp(_) | JobEnd::JournalFull)
-}
-
-fn starves<H>(end: &End<H>) -> bool
-    ensures { result ≡ starves end.now }
-{
-    end.jobs.as_slice().iter().any(|job| is_starved(job))
-}
-
-fn gave_up<H>(end: &End<H>) -> bool
-    ensures { result ≡ gave_up end.now }
-{
-    end.jobs.as_slice().iter().any(|job| is_given_up(job))
-}
-
-// Memory first: a run in which it was wanting has that status, whatever else became of its jobs.
-fn status_of<H>(end: &End<H>) -> Status
-    ensures { result ≡ (if starves end.now then Status.NoMemory else if gave_up end.now then Status.GaveUp else Status.Done) }
-{
-    if starves(end) {
-        return Status::NoMemory;
-    }
-    if gave_up(end) {
-        return Status::GaveUp;
-    }
-    Status::Done
 }
 
 // The outcome of a run that left this.
@@ -282,7 +246,8 @@ pub fn xcalls_run<R: AllocGlobal, S: Source, K: Sink, H: Host>(
 ) -> Finish<H>
     // A status was meant, and it has its cause. What is due with it was written, and it is the run's
     // status; or the sink failed behind a front of that. A run that is meant to be done has an entry
-    // for each transaction, which committed or aborted itself.
+    // for each transaction, which committed or aborted itself; so has one of which effects are left,
+    // where no job gave up.
     ensures answered { (meant : Status) × IsCaused (map string_bytes words.now) H.model.takes_scripts (S.told source.old)
         (S.told source.new) meant
         × IsDoneWith meant result.end × IsSaid meant result (K.told sink.old) (K.told sink.new) }

@@ -1,13 +1,11 @@
 -- What the last line counts.
-use Rattle.std.specs.Prelude.{ℕ, Bool, not, is_some, List, ◌++◌, codes, count_by, sum_by}
+use Rattle.std.specs.Prelude.{ℕ, Bool, not, List, ◌++◌, codes, count_by, sum_by}
 use Rattle.std.specs.Fmt.{decimal}
 use Rattle.xc_data.specs.Faults.{is_commit, entry_faults}
-use Rattle.xc_data.specs.Standing.{stands_from}
 use Rattle.xc_data.specs.declared.entry.Entry.{Entry}
 use Rattle.xc_data.specs.declared.entry.Outcome.{Outcome}
 use Rattle.xc_data.specs.declared.entry.Outcome.TheVariants.{Committed, Aborted}
-use Rattle.xc_data.specs.declared.undo.Undo.{Undo}
-use Rattle.xc_data.specs.declared.undo.UndoEnd.{UndoEnd}
+use Rattle.xc_failure.specs.Effects.{stands}
 use Rattle.xc_print.specs.declared.totals.Totals.{Totals}
 
 -- whether an entry is a commit
@@ -17,10 +15,6 @@ is_committed entry = is_commit entry.outcome
 -- whether an entry is an abort
 abbrev pub is_aborted : Entry → Bool
 is_aborted entry = not (is_commit entry.outcome)
-
--- whether the effect of a record stands
-abbrev pub stands : Undo × UndoEnd → Bool
-stands (undo, end) = is_some (stands_from undo end)
 
 -- how many effects stand behind an outcome
 abbrev pub outcome_remains : Outcome → ℕ

@@ -1,5 +1,4 @@
 ghost use Rattle.std.specs.Prelude.{◌≡◌, ◌++◌, take, drop, OnOk};
-ghost use Rattle.xc_data.specs.Standing.{stands_from as standing_place};
 ghost use Rattle.xc_print.specs.Records.{kind_text, undo_end_text, undo_line, undo_lines};
 ghost use Rattle.xc_print.specs.Records.{overwrite_text, tail_text, made_text, moved_text, effect_text, standing_line, remains_lines};
 
@@ -7,6 +6,7 @@ use crate::bytes::push_bytes;
 use crate::objects::push_labelled;
 use crate::page::Page;
 use xc_data::{Chunk, Name, NoMemory, Num, Undo, UndoEnd};
+use xc_failure::standing;
 
 fn push_kind(out: &mut Page, undo: &Undo) -> Result<(), NoMemory>
     ensures { OnOk result (out.new ≡ out.old ++ kind_text undo.now) }
@@ -58,20 +58,6 @@ pub fn push_undos(out: &mut Page, records: &[(Undo, UndoEnd)]) -> Result<(), NoM
     Ok(())
 }
 
-/// The place in a record's covered bytes from which on its effect stands, none where it is undone.
-pub fn stands_from(undo: &Undo, end: &UndoEnd) -> Option<u32>
-    ensures { result ≡ standing_place undo.now end.now }
-{
-    match end {
-        UndoEnd::Undone { .. } => None,
-        UndoEnd::Blocked { .. } => Some(0),
-        UndoEnd::Failed { done, .. } => match undo {
-            Undo::Bytes { .. } => Some(*done),
-            _ => Some(0),
-        },
-    }
-}
-
 fn covered(after: &Chunk, n: u32) -> &[u8]
     ensures { result.now ≡ take n after.now }
 {
@@ -83,7 +69,7 @@ fn covered(after: &Chunk, n: u32) -> &[u8]
     }
 }
 
-fn standing(after: &Chunk, n: u32, k: u32) -> &[u8]
+fn standing_bytes(after: &Chunk, n: u32, k: u32) -> &[u8]
     ensures { result.now ≡ drop k (take n after.now) }
 {
     let bytes = covered(after, n);
@@ -139,7 +125,7 @@ fn push_effect(out: &mut Page, undo: &Undo, k: u32) -> Result<(), NoMemory>
             ..
         } => {
             let from = *at as u64 + k as u64;
-            push_overwrite(out, *file, from, standing(after, *n, k))
+            push_overwrite(out, *file, from, standing_bytes(after, *n, k))
         }
         Undo::Tail {
             file,
@@ -172,7 +158,7 @@ pub fn push_remains(out: &mut Page, records: &[(Undo, UndoEnd)]) -> Result<(), N
     ensures { OnOk result (out.new ≡ out.old ++ remains_lines records.now) }
 {
     for (undo, end) in records {
-        push_standing(out, undo, stands_from(undo, end))?;
+        push_standing(out, undo, standing(undo, end))?;
     }
     Ok(())
 }

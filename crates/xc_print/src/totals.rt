@@ -1,9 +1,10 @@
 ghost use Rattle.std.specs.Prelude.{◌≡◌, ◌≤◌, ◌<◌, ◌^◌, length, count_by, sum_by};
 ghost use Rattle.xc_data.specs.Faults.{is_fault_reply, is_fault_end, undo_faults, outcome_faults, entry_faults};
-ghost use Rattle.xc_print.specs.Totals.{is_committed, is_aborted, stands, outcome_remains, entry_remains, totals_of};
+ghost use Rattle.xc_failure.specs.Effects.{stands};
+ghost use Rattle.xc_print.specs.Totals.{is_committed, is_aborted, outcome_remains, entry_remains, totals_of};
 
-use crate::records::stands_from;
 use xc_data::{Entry, LateEnd, Outcome, Reply, Undo, UndoEnd};
+use xc_failure::standing;
 
 /// What the last line of a text counts.
 #[derive(Clone, Copy, Debug, PartialEq, Eq)]
@@ -109,7 +110,7 @@ fn entry_faults_of(entry: &Entry) -> u128
 fn is_standing(ended: &(Undo, UndoEnd)) -> bool
     ensures { result ≡ stands ended.now }
 {
-    stands_from(&ended.0, &ended.1).is_some()
+    standing(&ended.0, &ended.1).is_some()
 }
 
 fn count_standing(records: &[(Undo, UndoEnd)]) -> usize

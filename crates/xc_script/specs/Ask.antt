@@ -6,6 +6,7 @@ use Rattle.std.specs.Fmt.{decimal}
 use Rattle.std.specs.declared.option.Option.TheVariants.{None, Some}
 use Rattle.std.specs.Cmp.Lexicographic.{pointwise}
 use Rattle.std.specs.FinMap as map
+use Rattle.xc_data.specs.declared.call.Call.{Call}
 use Rattle.xc_data.specs.declared.call.Call.TheVariants as call
 use Rattle.xc_data.specs.declared.call.Reply.{Reply}
 use Rattle.xc_data.specs.declared.call.Reply.TheVariants as reply
@@ -148,17 +149,25 @@ stands variables refused [] = true
 stands variables refused (s ∷ rest) = not (is_silent variables refused s)
 
 -- ---- what is asked
--- bytes that are too long for an overwrite make the transaction abort itself
-abbrev pub overwrite_of : ℕ → ℕ → List ℕ → Ask
-overwrite_of stored h bytes = if is_over stored (length bytes) then ask.Abort else ask.Call (call.XWriteOvr h bytes)
+-- a call is asked, but where its bytes are too long the transaction aborts itself
+abbrev pub unless_over : ℕ → Call → Ask
+unless_over stored call = if is_over stored (length (bytes_of call)) then ask.Abort else ask.Call call
 
 -- what a statement asks that isn't silent: a call, or the transaction's own abort
 abbrev pub ask_of : Variables → ℕ → Statement → Ask
 ask_of variables stored (statement.Load at into) = ask.Call (call.Load (term_value variables at))
 ask_of variables stored (statement.Store at value) = ask.Call (call.Store (term_value variables at) (expression_value variables value))
 ask_of variables stored (statement.Open name into) = ask.Call (call.XOpen name)
+ask_of variables stored (statement.Create name into) = ask.Call (call.XCreate name)
+ask_of variables stored (statement.Rename from to) = ask.Call (call.XRename from to)
 ask_of variables stored (statement.Read h n into) = ask.Call (call.XRead (handle_value variables h) (term_value variables n))
-ask_of variables stored (statement.Overwrite h items) = overwrite_of stored (handle_value variables h) (data_of variables items)
+ask_of variables stored (statement.Overwrite h items) =
+    unless_over stored (call.XWriteOvr (handle_value variables h) (data_of variables items))
+ask_of variables stored (statement.Append h items) =
+    unless_over stored (call.XWriteSeq (handle_value variables h) (data_of variables items))
+ask_of variables stored (statement.Seek h to) = ask.Call (call.XSeek (handle_value variables h) (term_value variables to))
+ask_of variables stored (statement.Length h into) = ask.Call (call.XLen (handle_value variables h))
+ask_of variables stored (statement.Close h) = ask.Call (call.XClose (handle_value variables h))
 ask_of variables stored _ = ask.Abort
 
 -- the transaction asks what its next statement does, and behind the last one the commit
@@ -195,6 +204,8 @@ bound variables (Some v) reply = bound_to variables v reply
 abbrev pub target_of : Statement → Option (List ℕ)
 target_of (statement.Load at into) = into
 target_of (statement.Open name into) = into
+target_of (statement.Create name into) = into
+target_of (statement.Length h into) = into
 target_of (statement.Read h n into) = into
 target_of _ = None
 

@@ -25,6 +25,8 @@ pub fn target_of(statement: &Statement) -> Option<Ident>
     match statement {
         Statement::Load { into, .. } => *into,
         Statement::Open { into, .. } => *into,
+        Statement::Create { into, .. } => *into,
+        Statement::Length { into, .. } => *into,
         Statement::Read { into, .. } => *into,
         _ => None,
     }

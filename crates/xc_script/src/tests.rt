@@ -7,7 +7,7 @@ use crate::value::Variables;
 use crate::{Ask, JobState};
 use std::alloc::Global;
 use std::test::Fail;
-use xc_data::{Call, Chunk, Ident, Items, NoMemory, Reply};
+use xc_data::{Call, Chunk, Ident, Items, Name, NoMemory, Reply};
 use xc_text::{Data, Item, Script, Statement, Term, parse};
 
 fn ident(name: &[u8]) -> Result<Ident, NoMemory> {
@@ -78,17 +78,21 @@ fn long(alloc: Global, n: usize) -> Result<Data, NoMemory> {
     data(alloc, &[bytes.as_slice(), b"@n"])
 }
 
-// Whether an overwrite of so many bytes, behind so many stored ones, is an abort.
-fn aborts(alloc: Global, stored: u128, n: usize) -> Result<bool, NoMemory> {
+// Whether an overwrite of so many bytes, behind so many stored ones, is an abort, and an append.
+fn aborts(alloc: Global, stored: u128, n: usize) -> Result<[bool; 2], NoMemory> {
     let handle = ident(b"h")?;
     let data = long(alloc, n)?;
-    let statement = Statement::Overwrite { handle, data };
-    let ask = ask_of(alloc, &variables(alloc)?, stored, &statement)?;
-    Ok(ask == Ask::Abort)
+    let overwrite = Statement::Overwrite { handle, data };
+    let data = long(alloc, n)?;
+    let append = Statement::Append { handle, data };
+    let variables = variables(alloc)?;
+    let first = ask_of(alloc, &variables, stored, &overwrite)?;
+    let second = ask_of(alloc, &variables, stored, &append)?;
+    Ok([first == Ask::Abort, second == Ask::Abort])
 }
 
 #[test]
-fn an_overwrite_that_is_too_long_aborts(rt: HostRuntime) -> Result<(), Fail> {
+fn a_write_that_is_too_long_aborts(rt: HostRuntime) -> Result<(), Fail> {
     for (stored, n, abort) in [
         (0, 1, false),
         (0, 1022, false),
@@ -100,7 +104,7 @@ fn an_overwrite_that_is_too_long_aborts(rt: HostRuntime) -> Result<(), Fail> {
     ] {
         assert_eq!(rt;
             aborts(rt.alloc(), stored, n)?,
-            abort,
+            [abort, abort],
             "{n} behind {stored}"
         );
     }
@@ -212,6 +216,52 @@ fn variables_that_are_let(rt: HostRuntime) -> Result<(), Fail> {
     let silent = "abort if x != 0\nlet x 1\nrequire\nlet x x + x\nload x\nlet x 3\n";
     assert_eq!(rt; asked(alloc, silent, &[])?, load(2));
     assert_eq!(rt; asked(alloc, silent, &[Reply::BadWord])?, Ask::Commit);
+    Ok(())
+}
+
+#[test]
+fn calls_on_files(rt: HostRuntime) -> Result<(), Fail> {
+    let alloc = rt.alloc();
+    let a = Name::new(b"a").ok_or("a")?;
+    let b = Name::new(b"b").ok_or("b")?;
+    let bytes = Chunk::new(alloc, b"7")?;
+    for (line, call) in [
+        ("x_create a -> h\n", Call::XCreate { name: a }),
+        ("x_rename a b\n", Call::XRename { from: a, to: b }),
+        ("x_seek h n\n", Call::XSeek { h: 3, to: 7 }),
+        ("x_seek n h\n", Call::XSeek { h: 65535, to: 0 }),
+        ("x_len h\n", Call::XLen { h: 3 }),
+        ("x_close h\n", Call::XClose { h: 3 }),
+        ("x_write_seq h @n\n", Call::XWriteSeq { h: 3, bytes }),
+    ] {
+        let mut lines = String::new(alloc);
+        write!(lines, "x_open a -> h\nlet n 7\n{line}")?;
+        let ask = asked(alloc, lines.as_str(), &[Reply::Made(3)])?;
+        assert_eq!(rt; ask, Ask::Call(call), "{line}");
+    }
+    Ok(())
+}
+
+// Whether an append behind a read of 15,000 bytes and an append with this reply is an abort.
+fn append_aborts(alloc: Global, reply: Reply) -> Result<bool, Fail> {
+    let lines = "x_read h 1\nx_write_seq h \"x\"*1024\nx_write_seq h \"y\"*1024\n";
+    let bytes = vec![in alloc; b'z'; 15000]?;
+    let got = Reply::Got(Chunk::from_vec(bytes)?);
+    Ok(asked(alloc, lines, &[got, reply])? == Ask::Abort)
+}
+
+#[test]
+fn appends_are_stored(rt: HostRuntime) -> Result<(), Fail> {
+    for (reply, aborts) in [
+        (Reply::Done, true),
+        (Reply::TooBig, true),
+        (Reply::Fault(0), true),
+        (Reply::BadHandle, false),
+    ] {
+        assert_eq!(rt; append_aborts(rt.alloc(), reply)?, aborts);
+    }
+    let lines = "x_len h -> n\nload n\n";
+    assert_eq!(rt; asked(rt.alloc(), lines, &[Reply::Number(5)])?, load(5));
     Ok(())
 }
 

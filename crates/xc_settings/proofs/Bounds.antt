@@ -6,9 +6,10 @@ use Rattle.std.specs.Option.{option_and_then, option_map}
 use Rattle.std.proofs.lemmas.Bool.Decides.{nat_tests}
 use Rattle.std.proofs.lemmas.List.Elements.{All-nil, All-cons}
 use Rattle.std.proofs.lemmas.List.Splits.{length-slice_split}
+use Rattle.xc_story.specs.declared.rules.Rules.{Rules}
 use Rattle.xc_text.specs.Numbers.{number_of}
-use Rattle.xc_settings.specs.Options.{within, number_in, in_front, numbers_in, parts_of, job_numbers, choice_of, values_of, IsUpTo, AreJobs}
-use Rattle.xc_settings.specs.Options.{workers_of, schedule_of, attempts_of}
+use Rattle.xc_settings.specs.Options.{within, number_in, in_front, numbers_in, parts_of, job_numbers, choice_of, values_of, IsUpTo, AreJobs, AreRules}
+use Rattle.xc_settings.specs.Options.{workers_of, schedule_of, attempts_of, undo_tries_of, default_rules, rules_with, rules_of}
 
 -- a number that counts is within its bounds
 within-bounds : (most n m : ℕ) → within most n ≡ Some m → IsUpTo most m
@@ -68,11 +69,28 @@ workers_of-bounds words n e =
     choice_of-keeps (IsUpTo 64) 4 (number_in 64) (values_of (codes "--workers") words) n (omega arith, omega arith)
     (λ word. number-bounds 64 (number_of word)) e
 
--- so does that of attempts
-pub attempts_of-bounds : (words : List (List ℕ)) (n : ℕ) → attempts_of words ≡ Some n → IsUpTo 1000 n
+attempts_of-bounds : (words : List (List ℕ)) (n : ℕ) → attempts_of words ≡ Some n → IsUpTo 1000 n
 attempts_of-bounds words n e =
     choice_of-keeps (IsUpTo 1000) 100 (number_in 1000) (values_of (codes "--attempts") words) n (omega arith, omega arith)
     (λ word. number-bounds 1000 (number_of word)) e
+
+undo_tries_of-bounds : (words : List (List ℕ)) (n : ℕ) → undo_tries_of words ≡ Some n → IsUpTo 16 n
+undo_tries_of-bounds words n e =
+    choice_of-keeps (IsUpTo 16) 3 (number_in 16) (values_of (codes "--undo-tries") words) n (omega arith, omega arith)
+    (λ word. number-bounds 16 (number_of word)) e
+
+rules-bounds : (a u : Option ℕ) (rules : Rules) → ((n : ℕ) → a ≡ Some n → IsUpTo 1000 n) → ((n : ℕ) → u ≡ Some n → IsUpTo 16 n)
+    → rules_with a u ≡ Some rules → AreRules rules
+rules-bounds (Some attempts) (Some tries) rules each_a each_u e =
+    let same : record default_rules { attempts = attempts; undo_tries = tries } ≡ rules = cc in
+    subst AreRules same (record { attempts = each_a attempts refl; patience = omega arith; undo_tries = each_u tries refl })
+rules-bounds (Some attempts) None rules each_a each_u e = absurd (cc)
+rules-bounds None u rules each_a each_u e = absurd (cc)
+
+-- so do the rules
+pub rules_of-bounds : (words : List (List ℕ)) (rules : Rules) → rules_of words ≡ Some rules → AreRules rules
+rules_of-bounds words rules e =
+    rules-bounds (attempts_of words) (undo_tries_of words) rules (attempts_of-bounds words) (undo_tries_of-bounds words) e
 
 -- and so does the schedule, where there is one
 pub schedule_of-bounds : (words : List (List ℕ)) (schedule : Option (List ℕ)) → schedule_of words ≡ Some schedule → IfSome schedule AreJobs

@@ -39,6 +39,7 @@ job_numbers word = if nat_le (length (parts_of word)) 10000 then numbers_in 1000
 -- the word is the name of an option
 abbrev pub is_option : List ℕ → Bool
 is_option word = bytes_eq word (codes "--workers") || bytes_eq word (codes "--schedule") || bytes_eq word (codes "--attempts")
+    || bytes_eq word (codes "--undo-tries")
 
 -- the words are options, each with one word behind it, its value
 abbrev pub are_options : List (List ℕ) → Bool
@@ -75,15 +76,27 @@ schedule_of words = choice_of None (λ value. option_map Some (job_numbers value
 abbrev pub attempts_of : List (List ℕ) → Option ℕ
 attempts_of words = choice_of default_rules.attempts (number_in 1000) (values_of (codes "--attempts") words)
 
+-- how often one compensation is tried
+abbrev pub undo_tries_of : List (List ℕ) → Option ℕ
+undo_tries_of words = choice_of default_rules.undo_tries (number_in 16) (values_of (codes "--undo-tries") words)
+
+-- the rules with so many attempts and tries, where both are there
+abbrev pub rules_with : Option ℕ → Option ℕ → Option Rules
+rules_with (Some attempts) (Some undo_tries) = Some (record default_rules { attempts = attempts; undo_tries = undo_tries })
+rules_with _ _ = None
+
+-- the rules that words choose
+abbrev pub rules_of : List (List ℕ) → Option Rules
+rules_of words = rules_with (attempts_of words) (undo_tries_of words)
+
 -- the choices together, where all are there
-abbrev pub chosen : Option ℕ → Option (Option (List ℕ)) → Option ℕ → Option Chosen
-chosen (Some workers) (Some schedule) (Some attempts) =
-    Some (record { workers = workers; schedule = schedule; rules = record default_rules { attempts = attempts } })
+abbrev pub chosen : Option ℕ → Option Rules → Option (Option (List ℕ)) → Option Chosen
+chosen (Some workers) (Some rules) (Some schedule) = Some (record { workers = workers; schedule = schedule; rules = rules })
 chosen _ _ _ = None
 
 -- what the words of a command line choose, and nothing where they are refused
 abbrev pub settings_of : List (List ℕ) → Option Chosen
-settings_of words = if are_options words then chosen (workers_of words) (schedule_of words) (attempts_of words) else None
+settings_of words = if are_options words then chosen (workers_of words) (rules_of words) (schedule_of words) else None
 
 -- ---- its bounds
 -- a number is from 1 to `most`
@@ -95,10 +108,14 @@ pub record AreJobs (jobs : List ℕ) : Type 0 where
   pub count : IsUpTo 10000 (length jobs)
   pub each : All (IsUpTo 1000) jobs
 
+-- rules keep their bounds
+pub record AreRules (rules : Rules) : Type 0 where
+  pub attempts : IsUpTo 1000 rules.attempts
+  pub patience : rules.patience ≤ 1000000
+  pub undo_tries : IsUpTo 16 rules.undo_tries
+
 -- what is chosen keeps the bounds of the options and of the rules
 pub record KeepsBounds (chosen : Chosen) : Type 0 where
   pub workers : IsUpTo 64 chosen.workers
   pub schedule : IfSome chosen.schedule AreJobs
-  pub attempts : IsUpTo 1000 chosen.rules.attempts
-  pub patience : chosen.rules.patience ≤ 1000000
-  pub undo_tries : IsUpTo 16 chosen.rules.undo_tries
+  pub rules : AreRules chosen.rules

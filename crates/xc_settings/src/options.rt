@@ -1,5 +1,6 @@
 ghost use Rattle.std.specs.Prelude.{◌≡◌, map, string_bytes, IfOk, IsErrOf, None, Some};
-ghost use Rattle.xc_settings.specs.Options.{is_option, are_options, values_of, choice_of, number_in, schedule_of, settings_of, KeepsBounds};
+ghost use Rattle.xc_settings.specs.Options.{is_option, are_options, values_of, choice_of, number_in, schedule_of, rules_of};
+ghost use Rattle.xc_settings.specs.Options.{settings_of, KeepsBounds};
 ghost use Rattle.xc_settings.specs.Found.{IsFound};
 
 use crate::values::{jobs, number};
@@ -14,11 +15,15 @@ const SCHEDULE: &str = "--schedule";
 
 const ATTEMPTS: &str = "--attempts";
 
+const UNDO_TRIES: &str = "--undo-tries";
+
 const DEFAULT_WORKERS: u32 = 4;
 
 const MOST_WORKERS: u32 = 64;
 
 const MOST_ATTEMPTS: u32 = 1000;
+
+const MOST_UNDO_TRIES: u32 = 16;
 
 // The rules where no word sets another.
 const DEFAULT_RULES: Rules = Rules {
@@ -38,7 +43,7 @@ enum Found<'a> {
 fn is_option(word: &str) -> bool
     ensures { result ≡ is_option word.now }
 {
-    matches!(word, WORKERS | SCHEDULE | ATTEMPTS)
+    matches!(word, WORKERS | SCHEDULE | ATTEMPTS | UNDO_TRIES)
 }
 
 // Each option has a value behind it, and nothing else stands there.
@@ -95,6 +100,19 @@ fn schedule_choice(alloc: Global, words: &[String]) -> Result<Option<JobNumbers>
     }
 }
 
+// The rules that the words choose.
+fn rules_choice(words: &[String]) -> Option<Rules>
+    ensures { result ≡ rules_of (map string_bytes words.now) }
+{
+    let attempts = number_choice(words, ATTEMPTS, DEFAULT_RULES.attempts, MOST_ATTEMPTS)?;
+    let undo_tries = number_choice(words, UNDO_TRIES, DEFAULT_RULES.undo_tries, MOST_UNDO_TRIES)?;
+    Some(Rules {
+        attempts,
+        undo_tries,
+        ..DEFAULT_RULES
+    })
+}
+
 /// What the words behind the program's name choose.
 pub fn settings(alloc: Global, words: &[String]) -> Result<Chosen, SettingsErr>
     ensures ok { IfOk result (λ chosen. settings_of (map string_bytes words.now) ≡ Some chosen) }
@@ -107,17 +125,13 @@ pub fn settings(alloc: Global, words: &[String]) -> Result<Chosen, SettingsErr>
     let Some(workers) = number_choice(words, WORKERS, DEFAULT_WORKERS, MOST_WORKERS) else {
         return Err(SettingsErr::Usage);
     };
-    let Some(attempts) = number_choice(words, ATTEMPTS, DEFAULT_RULES.attempts, MOST_ATTEMPTS)
-    else {
+    let Some(rules) = rules_choice(words) else {
         return Err(SettingsErr::Usage);
     };
     let schedule = schedule_choice(alloc, words)?;
     Ok(Chosen {
         workers,
         schedule,
-        rules: Rules {
-            attempts,
-            ..DEFAULT_RULES
-        },
+        rules,
     })
 }

@@ -65,7 +65,7 @@ fn options(rt: HostRuntime) -> Result<(), Fail> {
     Ok(())
 }
 
-const REFUSED: [&str; 42] = [
+const REFUSED: [&str; 41] = [
     "more",
     "more|4",
     "--workers",
@@ -77,7 +77,6 @@ const REFUSED: [&str; 42] = [
     "--Workers|2",
     "--work|2",
     "--patience|1",
-    "--undo-tries|1",
     "--seed|1",
     "--help|1",
     "--workers|4|--workers|4",

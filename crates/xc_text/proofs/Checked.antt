@@ -3,13 +3,12 @@ use Rattle.std.proofs.Common.{◌≡◌, ℕ, ◌-◌, ◌<◌, List, [], ◌∷
 use Rattle.std.proofs.Common.{ap, sym, ◌∙◌}
 use Rattle.std.specs.Prelude.{IsOk}
 use Rattle.xc_text.specs.declared.script.Item.{Item}
-use Rattle.xc_text.specs.declared.script.Statement.TheVariants.{Overwrite}
 use Rattle.xc_text.specs.declared.token.Token.{Token}
 use Rattle.xc_text.specs.declared.why.Stop.{Stop}
 use Rattle.xc_text.specs.declared.why.Stop.TheVariants as stop
 use Rattle.xc_text.specs.declared.why.Why.{Why}
 use Rattle.xc_text.specs.Answers.{Stops, both, seen}
-use Rattle.xc_text.specs.Grammar.{overwrite_line}
+use Rattle.xc_text.specs.Statements.{written}
 use Rattle.xc_text.specs.Pieces.{item_of, items_of, data_of}
 use Rattle.xc_text.specs.Terms.{ident}
 use Rattle.xc_text.specs.Tokens.{Lexeme}
@@ -47,14 +46,13 @@ refused_first (Err d) (Ok b) e h = grind (arith, h)
 refused_first (Err d) (Err c) e h = grind (arith, h)
 
 -- a line that writes is refused where its handle or its data are
-pub overwrite_refused : (t : Token) (ts : List Token) (e : Why) → t ≡ get_or ts 0 t → 0 < length ts →
+pub written_refused : (t : Token) (ts : List Token) (e : Why) → t ≡ get_or ts 0 t → 0 < length ts →
     first_of (ident (lexeme t)) (checked (data_of (map lexeme (take (length ts - 1) (drop 1 ts))))) ≡ Err e →
-    overwrite_line (map lexeme ts) ≡ Err e
-overwrite_refused t [] e is some bad = absurd (omega arith)
-overwrite_refused t (u ∷ ts) e is some bad =
+    written (map lexeme ts) ≡ Err e
+written_refused t [] e is some bad = absurd (omega arith)
+written_refused t (u ∷ ts) e is some bad =
     let rest : take (length (u ∷ ts) - 1) ts ≡ ts = take_all (length (u ∷ ts) - 1) ts (omega arith) in
-    ap (seen (λ (p : List ℕ × List Item). Overwrite p.0 p.1))
-    (refused_first (ident (lexeme u)) (data_of (map lexeme ts)) e (rw (is, rest) at bad))
+    refused_first (ident (lexeme u)) (data_of (map lexeme ts)) e (rw (is, rest) at bad)
 
 no_item : (f : List Item → List Item) (a : Result Item Why) (b : Result (List Item) Why) (e : Why) →
     IsOk (seen f (seen (λ (p : Item × List Item). p.0 ∷ p.1) (both a b))) → a ≡ Err e → ⊥

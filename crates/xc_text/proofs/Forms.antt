@@ -2,7 +2,7 @@
 use Rattle.std.proofs.Common.{◌≡◌, List, [], ◌∷◌, length, map, Err, refl}
 use Rattle.xc_text.specs.declared.token.Token.{Token}
 use Rattle.xc_text.specs.declared.why.Why.TheVariants.{BadForm}
-use Rattle.xc_text.specs.Grammar.{read_line, abort_line}
+use Rattle.xc_text.specs.Statements.{abort_line}
 use Rattle.xc_text.specs.Terms.{expression_of}
 use Rattle.xc_text.specs.Views.{lexeme}
 
@@ -13,15 +13,6 @@ no_expression (a ∷ []) one three = absurd (one refl)
 no_expression (a ∷ b ∷ []) one three = refl
 no_expression (a ∷ b ∷ c ∷ []) one three = absurd (three refl)
 no_expression (a ∷ b ∷ c ∷ d ∷ ts) one three = refl
-
--- neither two tokens nor four
-pub no_read : (ts : List Token) → (length ts ≡ 2 → ⊥) → (length ts ≡ 4 → ⊥) → Err BadForm ≡ read_line (map lexeme ts)
-no_read [] two four = refl
-no_read (a ∷ []) two four = refl
-no_read (a ∷ b ∷ []) two four = absurd (two refl)
-no_read (a ∷ b ∷ c ∷ []) two four = refl
-no_read (a ∷ b ∷ c ∷ d ∷ []) two four = absurd (four refl)
-no_read (a ∷ b ∷ c ∷ d ∷ e ∷ ts) two four = refl
 
 -- no token, and not four
 pub no_abort : (ts : List Token) → (length ts ≡ 0 → ⊥) → (length ts ≡ 4 → ⊥) → Err BadForm ≡ abort_line (map lexeme ts)

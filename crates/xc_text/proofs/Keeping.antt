@@ -1,16 +1,18 @@
 -- What a script that was read keeps to.
 use Rattle.std.proofs.Common.{◌≡◌, ℕ, ◌+◌, ◌<◌, ◌≤◌, Bool, true, false, List, [], ◌∷◌, ◌++◌, length, Option, None, Some, Result, Ok, Err, IfOk, IfSome, cond}
 use Rattle.std.proofs.Common.{refl, ap, ◌∙◌, subst, arith, lit≤, nat_lt, nat_le, ◌||◌, ◌&&◌}
-use Rattle.std.specs.Prelude.{All, codes, count_by, nat_eq, if◌then◌else◌}
+use Rattle.std.specs.Prelude.{All, codes, count_by, is_some, nat_eq, if◌then◌else◌}
 use Rattle.std.specs.Cmp.Lexicographic.{pointwise}
 use Rattle.std.specs.List.{list_all, list_any, IsDistinct}
 use Rattle.std.proofs.lemmas.Bool.{cond_both, ltb-false, leb-false, leb-true, and_parts, or_parts}
 use Rattle.std.proofs.lemmas.List.{length-append, length-replicate, length-set, length-map, map-append}
 use Rattle.std.proofs.lemmas.List.Elements.{All-nil, All-push}
 use Rattle.std.proofs.lemmas.List.Sums.{sum_by-le}
+use Rattle.xc_data.specs.declared.script.Kind.{Kind}
 use Rattle.xc_data.specs.declared.script.Opened.{Opened}
 use Rattle.xc_data.specs.declared.script.Opened.TheVariants.{File, Pipe, Pair}
-use Rattle.xc_data.specs.Limits.{KeepsLimits, IsPrologue, IsOpenedFit, is_pipe_line, is_pair_line}
+use Rattle.xc_data.specs.declared.script.Prologue.{Prologue as OnePrologue}
+use Rattle.xc_data.specs.Limits.{KeepsLimits, IsPrologue, IsOpenedFit, IsGrain, is_pipe_line, is_pair_line}
 use Rattle.xc_text.specs.declared.script.Statement.{Statement}
 use Rattle.xc_text.specs.declared.script.Script.{Script}
 use Rattle.xc_text.specs.declared.line.Line.{Line}
@@ -20,15 +22,17 @@ use Rattle.xc_text.specs.declared.line.Section.TheVariants.{Prologue, Between, B
 use Rattle.xc_text.specs.declared.why.Why.{Why}
 use Rattle.xc_text.specs.declared.why.Why.TheVariants.{UnknownLine}
 use Rattle.xc_text.specs.Answers.{Refusal, and_then, both, seen}
-use Rattle.xc_text.specs.Grammar.{line_of, first_line, worded_line, words_line, word_line, file_line, job_line, bare, statement_line}
+use Rattle.xc_text.specs.Grammar.{line_of, first_line, worded_line, words_line, word_line, file_line, fault_line, grain_line, job_line}
+use Rattle.xc_text.specs.Kinds.{kind}
 use Rattle.xc_text.specs.Lines.{lines_of, is_line_byte}
 use Rattle.xc_text.specs.Literals.{is_within, contents, only_literals}
 use Rattle.xc_text.specs.Said.{Said, opening}
 use Rattle.xc_text.specs.Sections.{block_in, transaction_in, is_outside}
-use Rattle.xc_text.specs.Scripts.{names_of, IsBlock, IsFileLine, IsScript, at_line, script_of, closed, read_from, parse_of}
-use Rattle.xc_text.specs.Steps.{is_call, is_file_of, has_few_calls, is_among, sized_by, valued_by, added}
+use Rattle.xc_text.specs.Scripts.{names_of, IsBlock, IsFileLine, IsOneCall, IsScript, at_line, prologue_of, script_of, closed, read_from, parse_of}
+use Rattle.xc_text.specs.Steps.{is_call, is_file_of, has_few_calls, is_among, sized_by, valued_by, added, faulted, grained}
 use Rattle.xc_text.specs.Steps.{filed, started, begun, stated, committed, ended_block, after, after_any}
 use Rattle.xc_text.specs.Steps.{after_tokens, after_bytes, with_statement}
+use Rattle.xc_text.specs.Statements.{bare, statement_line}
 use Rattle.xc_text.specs.Terms.{spells, number, ident, name}
 use Rattle.xc_text.specs.Tokens.{Lexeme, Word, Literal, tokens_of}
 use Rattle.xc_text.proofs.Indexing.{distinct_more}
@@ -43,11 +47,13 @@ CountFits (Transaction name) transactions = transactions < 1000
 abbrev IsBody : List Statement → Type 0
 IsBody body = count_by is_call body ≤ 256
 
--- the files so far
-pub record AreFiles (objects : List Opened) : Type 0 where
-  pub few : length objects ≤ 4096
-  pub fit : All IsOpenedFit objects
-  pub each : All IsFileLine objects
+-- what a host is opened with, so far
+pub record IsOpening (p : OnePrologue) : Type 0 where
+  pub few : length p.objects ≤ 4096
+  pub fit : All IsOpenedFit p.objects
+  pub each : All IsFileLine p.objects
+  pub faults : All IsOneCall p.faults
+  pub grain : IsGrain p.grain
 
 -- the names of the blocks that have ended, and of the one under way
 abbrev pub all_names : Section → List (List ℕ) → List (List ℕ)
@@ -70,7 +76,7 @@ pub record IsSound (s : Said) : Type 0 where
   pub distinct : AreDistinct s.jobs
   pub calls : All IsBody s.transactions
   pub body : IsBody s.body
-  pub files : AreFiles s.objects
+  pub opening : IsOpening (prologue_of s)
   pub each_block : All IsBlock s.blocks
 
 abbrev Keeps : Result Said Why → Type 0
@@ -99,7 +105,7 @@ opening-keeps =
       distinct = none_alike;
       calls = All-nil IsBody;
       body = omega arith;
-      files = record { few = omega arith; fit = All-nil IsOpenedFit; each = All-nil IsFileLine };
+      opening = record { few = omega arith; fit = All-nil IsOpenedFit; each = All-nil IsFileLine; faults = All-nil IsOneCall; grain = tt };
       each_block = All-nil IsBlock;
     }
 
@@ -117,7 +123,7 @@ sized-keeps r n k =
       distinct = k.distinct;
       calls = k.calls;
       body = k.body;
-      files = k.files;
+      opening = k.opening;
       each_block = k.each_block;
     }))
 
@@ -133,7 +139,7 @@ valued-keeps r at value k =
       distinct = k.distinct;
       calls = k.calls;
       body = k.body;
-      files = k.files;
+      opening = k.opening;
       each_block = k.each_block;
     })
 
@@ -160,10 +166,12 @@ added-keeps r file (Some bytes) few k =
       distinct = k.distinct;
       calls = k.calls;
       body = k.body;
-      files = record {
+      opening = record {
         few = rw length-append (omega (arith, leb-false _ _ room));
-        fit = All-push IsOpenedFit r.objects (File file bytes) k.files.fit few;
-        each = All-push IsFileLine r.objects (File file bytes) k.files.each tt;
+        fit = All-push IsOpenedFit r.objects (File file bytes) k.opening.fit few;
+        each = All-push IsFileLine r.objects (File file bytes) k.opening.each tt;
+        faults = k.opening.faults;
+        grain = k.opening.grain;
       };
       each_block = k.each_block;
     })
@@ -171,6 +179,52 @@ added-keeps r file (Some bytes) few k =
 filed-keeps : (r : Said) (file : List ℕ) (bytes : Option (List ℕ)) → IfSome bytes (λ bs. length bs ≤ 65536) → IsSound r → Keeps (filed r file bytes)
 filed-keeps r file bytes few k =
     cond_both (list_any (is_file_of file) r.objects) _ _ Keeps (λ _. tt) (λ _. added-keeps r file bytes few k)
+
+faulted-keeps : (r : Said) (kind : Kind) (n : ℕ) → IsSound r → Keeps (faulted r kind n)
+faulted-keeps r kind n k =
+    cond_both (nat_lt n 1) _ _ Keeps (λ _. tt) (λ counted.
+    record {
+      some_words = k.some_words;
+      few_words = k.few_words;
+      count = k.count;
+      named = k.named;
+      few_blocks = k.few_blocks;
+      distinct = k.distinct;
+      calls = k.calls;
+      body = k.body;
+      opening = record {
+        few = k.opening.few;
+        fit = k.opening.fit;
+        each = k.opening.each;
+        faults = All-push IsOneCall r.faults _ k.opening.faults (ltb-false _ _ counted, refl);
+        grain = k.opening.grain;
+      };
+      each_block = k.each_block;
+    })
+
+grained-keeps : (r : Said) (n : ℕ) → IsSound r → Keeps (grained r n)
+grained-keeps r n k =
+    cond_both (nat_lt n 1 || nat_lt 65536 n) _ _ Keeps (λ _. tt) (λ fits.
+    cond_both (is_some r.grain) _ _ Keeps (λ _. tt) (λ _.
+    let parts = or_parts _ _ fits in
+    record {
+      some_words = k.some_words;
+      few_words = k.few_words;
+      count = k.count;
+      named = k.named;
+      few_blocks = k.few_blocks;
+      distinct = k.distinct;
+      calls = k.calls;
+      body = k.body;
+      opening = record {
+        few = k.opening.few;
+        fit = k.opening.fit;
+        each = k.opening.each;
+        faults = k.opening.faults;
+        grain = (ltb-false _ _ parts.0, ltb-false _ _ parts.1);
+      };
+      each_block = k.each_block;
+    }))
 
 stated-keeps : (s : Said) (statement : Statement) → IsSound s → Keeps (stated s statement)
 stated-keeps s statement k =
@@ -184,7 +238,7 @@ stated-keeps s statement k =
       distinct = k.distinct;
       calls = k.calls;
       body = leb-true _ _ (and_parts _ _ few).0;
-      files = k.files;
+      opening = k.opening;
       each_block = k.each_block;
     }) (λ _. tt)
 
@@ -203,7 +257,7 @@ begun-keeps r (Block name) e k =
       distinct = k.distinct;
       calls = k.calls;
       body = k.body;
-      files = k.files;
+      opening = k.opening;
       each_block = k.each_block;
     })
 
@@ -221,7 +275,7 @@ committed-keeps r (Transaction name) e k =
       distinct = k.distinct;
       calls = All-push IsBody r.transactions r.body k.calls k.body;
       body = omega arith;
-      files = k.files;
+      opening = k.opening;
       each_block = k.each_block;
     }
 
@@ -239,7 +293,7 @@ ended-keeps r (Block name) e k =
       distinct = k.distinct;
       calls = All-nil IsBody;
       body = k.body;
-      files = k.files;
+      opening = k.opening;
       each_block = All-push IsBlock r.blocks _ k.each_block (record { transactions = count_at r (Block name) e k; calls = k.calls });
     }
 
@@ -275,7 +329,7 @@ started-keeps r name outside k =
       distinct = distinct_more r.jobs name new k.distinct;
       calls = k.calls;
       body = k.body;
-      files = k.files;
+      opening = k.opening;
       each_block = k.each_block;
     }))
 
@@ -283,6 +337,8 @@ after-keeps : (r : Said) (says : Line) → IsFitLine r.section says → IsSound 
 after-keeps r (line.Words n) first k = sized-keeps r n k
 after-keeps r (line.Word at value) first k = valued-keeps r at value k
 after-keeps r (line.File file bytes) first k = filed-keeps r file bytes first k
+after-keeps r (line.Fault kind n) first k = faulted-keeps r kind n k
+after-keeps r (line.Grain n) first k = grained-keeps r n k
 after-keeps r (line.Job name) first k = started-keeps r name first k
 after-keeps r line.Begin first k = begun-keeps r r.section refl k
 after-keeps r (line.Statement s) first k = stated-keeps r s k
@@ -316,24 +372,39 @@ file_fits [] = tt
 file_fits (n ∷ literals) =
     fits_seen Prologue (λ (p : List ℕ × Unit {0}). line.File p.0 (contents literals)) (both (name n) (only_literals literals)) (λ _. few_bytes literals)
 
+fault_fits : (rest : List Lexeme) → IfOk (fault_line rest) (IsFitLine Prologue)
+fault_fits [] = tt
+fault_fits (k ∷ []) = tt
+fault_fits (k ∷ n ∷ []) = fits_seen Prologue (λ (p : Kind × ℕ). line.Fault p.0 p.1) (both (kind k) (number n)) (λ _. tt)
+fault_fits (k ∷ n ∷ m ∷ ts) = tt
+
+grain_fits : (rest : List Lexeme) → IfOk (grain_line rest) (IsFitLine Prologue)
+grain_fits [] = tt
+grain_fits (n ∷ []) = fits_seen Prologue line.Grain (number n) (λ _. tt)
+grain_fits (n ∷ m ∷ ts) = tt
+
 job_fits : (p : Section) (rest : List Lexeme) → is_outside p ≡ true → IfOk (job_line rest) (IsFitLine p)
 job_fits p [] outside = tt
 job_fits p (n ∷ []) outside = fits_seen p line.Job (ident n) (λ _. outside)
 job_fits p (n ∷ m ∷ ts) outside = tt
 
-prologue_fits : (rest : List Lexeme) (words word file job : Bool) →
+prologue_fits : (rest : List Lexeme) (words word file fault grain job : Bool) →
     IfOk (
     if words then words_line rest
     else if word then word_line rest
     else if file then file_line rest
+    else if fault then fault_line rest
+    else if grain then grain_line rest
     else if job then job_line rest
     else Err UnknownLine
     ) (IsFitLine Prologue)
-prologue_fits rest true word file job = words_fits rest
-prologue_fits rest false true file job = word_fits rest
-prologue_fits rest false false true job = file_fits rest
-prologue_fits rest false false false true = job_fits Prologue rest refl
-prologue_fits rest false false false false = tt
+prologue_fits rest true word file fault grain job = words_fits rest
+prologue_fits rest false true file fault grain job = word_fits rest
+prologue_fits rest false false true fault grain job = file_fits rest
+prologue_fits rest false false false true grain job = fault_fits rest
+prologue_fits rest false false false false true job = grain_fits rest
+prologue_fits rest false false false false false true = job_fits Prologue rest refl
+prologue_fits rest false false false false false false = tt
 
 between_fits : (rest : List Lexeme) (job : Bool) → IfOk (if job then job_line rest else Err UnknownLine) (IsFitLine Between)
 between_fits rest true = job_fits Between rest refl
@@ -352,7 +423,8 @@ transaction_fits p word rest false = fits_seen p line.Statement (statement_line 
 
 worded_fits : (p : Section) (word : List ℕ) (rest : List Lexeme) → IfOk (worded_line p word rest) (IsFitLine p)
 worded_fits Prologue word rest =
-    prologue_fits rest (spells word (codes "words")) (spells word (codes "word")) (spells word (codes "file")) (spells word (codes "job"))
+    prologue_fits rest (spells word (codes "words")) (spells word (codes "word")) (spells word (codes "file")) (spells word (codes "fault"))
+    (spells word (codes "grain")) (spells word (codes "job"))
 worded_fits Between word rest = between_fits rest (spells word (codes "job"))
 worded_fits (Block name) word rest = block_fits (Block name) rest (spells word (codes "tx")) (spells word (codes "end"))
 worded_fits (Transaction name) word rest = transaction_fits (Transaction name) word rest (spells word (codes "commit"))
@@ -397,14 +469,14 @@ no_pair (File file bytes) is = omega arith
 no_pair (Pipe bytes) is = absurd is
 no_pair Pair is = absurd is
 
-of_files : (objects : List Opened) → AreFiles objects → IsPrologue (record { objects = objects; faults = []; grain = None })
-of_files objects files =
+of_files : (p : OnePrologue) → IsOpening p → IsPrologue p
+of_files p is =
     record {
-      objects = files.few;
-      contents = files.fit;
-      pipes = omega (arith, sum_by-le (λ o. cond (is_pipe_line o) 1 0) 0 objects (λ k d lt. no_pipe _ (files.each k d lt)));
-      pairs = omega (arith, sum_by-le (λ o. cond (is_pair_line o) 1 0) 0 objects (λ k d lt. no_pair _ (files.each k d lt)));
-      grain = tt;
+      objects = is.few;
+      contents = is.fit;
+      pipes = omega (arith, sum_by-le (λ o. cond (is_pipe_line o) 1 0) 0 p.objects (λ k d lt. no_pipe _ (is.each k d lt)));
+      pairs = omega (arith, sum_by-le (λ o. cond (is_pair_line o) 1 0) 0 p.objects (λ k d lt. no_pair _ (is.each k d lt)));
+      grain = is.grain;
     }
 
 script_of-keeps : (r : Said) → is_outside r.section ≡ true → IsSound r → IsScript (script_of r)
@@ -417,10 +489,9 @@ script_of-keeps r outside k =
       distinct = subst AreDistinct jobs k.distinct;
       jobs = jobs;
       bodies = refl;
-      prologue = of_files r.objects k.files;
-      files = k.files.each;
-      faults = refl;
-      grain = refl;
+      prologue = of_files (prologue_of r) k.opening;
+      files = k.opening.each;
+      faults = k.opening.faults;
       each_block = k.each_block;
     }
 

@@ -1,5 +1,6 @@
 pub mod Answers
 pub mod Grammar
+pub mod Kinds
 pub mod Lines
 pub mod Literals
 pub mod Numbers
@@ -8,6 +9,7 @@ pub mod Quoted
 pub mod Said
 pub mod Scripts
 pub mod Sections
+pub mod Statements
 pub mod Steps
 pub mod Terms
 pub mod Tokens

@@ -1,20 +1,24 @@
 -- What the lines of a script have said so far.
-use Rattle.std.specs.Prelude.{ℕ, Bool, false, List, [], replicate}
+use Rattle.std.specs.Prelude.{ℕ, Bool, false, List, [], replicate, Option, None}
+use Rattle.xc_data.specs.declared.script.FaultLine.{FaultLine}
 use Rattle.xc_data.specs.declared.script.Opened.{Opened}
 use Rattle.xc_text.specs.declared.script.Block.{Block}
 use Rattle.xc_text.specs.declared.script.Statement.{Statement}
 use Rattle.xc_text.specs.declared.line.Section.{Section}
 use Rattle.xc_text.specs.declared.line.Section.TheVariants.{Prologue}
 
--- the section that the next line stands in; the words, and whether a `words` and a `word` line came; the objects of
--- the prologue; the variables' names, each once; the names of the blocks that have begun; the blocks that have ended,
--- of the one under way the transactions that have ended, and of the transaction under way the statements
+-- the section that the next line stands in; the words, and whether a `words` and a `word` line came; the objects, the
+-- faults and the grain of the prologue; the variables' names, each once; the names of the blocks that have begun; the
+-- blocks that have ended, of the one under way the transactions that have ended, and of the transaction under way the
+-- statements
 pub record Said : Type 0 where
   pub section : Section
   pub words : List ℕ
   pub sized : Bool
   pub valued : Bool
   pub objects : List Opened
+  pub faults : List FaultLine
+  pub grain : Option ℕ
   pub names : List (List ℕ)
   pub jobs : List (List ℕ)
   pub blocks : List Block
@@ -29,6 +33,8 @@ opening = record {
   sized = false;
   valued = false;
   objects = [];
+  faults = [];
+  grain = None;
   names = [];
   jobs = [];
   blocks = [];

@@ -1,10 +1,12 @@
 -- What a script says, and what a script that was read keeps to.
-use Rattle.std.specs.Prelude.{◌≡◌, ℕ, ◌+◌, ◌≤◌, List, [], ◌∷◌, length, map, All, count_by, nat_eq, nat_lt, None, Result, Ok, Err}
+use Rattle.std.specs.Prelude.{◌≡◌, ℕ, ◌+◌, ◌≤◌, List, [], ◌∷◌, length, map, All, count_by, nat_eq, nat_lt, Result, Ok, Err}
 use Rattle.std.specs.Prelude.{if◌then◌else◌}
 use Rattle.std.specs.Cmp.Lexicographic.{pointwise}
 use Rattle.std.specs.List.{IsDistinct}
+use Rattle.xc_data.specs.declared.script.FaultLine.{FaultLine}
 use Rattle.xc_data.specs.declared.script.Opened.{Opened}
 use Rattle.xc_data.specs.declared.script.Opened.TheVariants.{File, Pipe, Pair}
+use Rattle.xc_data.specs.declared.script.Prologue.{Prologue}
 use Rattle.xc_data.specs.Limits.{IsPrologue}
 use Rattle.xc_text.specs.declared.script.Block.{Block as OneBlock}
 use Rattle.xc_text.specs.declared.script.Script.{Script}
@@ -25,12 +27,16 @@ at_line n (Err e) = Err (n, e)
 abbrev pub names_of : List OneBlock → List (List ℕ)
 names_of blocks = map (λ b. b.name) blocks
 
+-- what a host is opened with
+abbrev pub prologue_of : Said → Prologue
+prologue_of s = record { objects = s.objects; faults = s.faults; grain = s.grain }
+
 -- the whole script
 abbrev pub script_of : Said → Script
 script_of s = record {
   plain = record {
     words = s.words;
-    prologue = record { objects = s.objects; faults = []; grain = None };
+    prologue = prologue_of s;
     bodies = [];
     jobs = s.jobs;
   };
@@ -61,6 +67,10 @@ IsFileLine (File name bytes) = Unit {0}
 IsFileLine (Pipe bytes) = ⊥
 IsFileLine Pair = ⊥
 
+-- a fault line of one call, counted from 1
+abbrev pub IsOneCall : FaultLine → Type 0
+IsOneCall line = (1 ≤ line.first) × (line.first ≡ line.last)
+
 -- a script that was read
 pub record IsScript (s : Script) : Type 0 where
   pub some_words : 1 ≤ length s.plain.words
@@ -71,6 +81,5 @@ pub record IsScript (s : Script) : Type 0 where
   pub bodies : s.plain.bodies ≡ []
   pub prologue : IsPrologue s.plain.prologue
   pub files : All IsFileLine s.plain.prologue.objects
-  pub faults : s.plain.prologue.faults ≡ []
-  pub grain : s.plain.prologue.grain ≡ None
+  pub faults : All IsOneCall s.plain.prologue.faults
   pub each_block : All IsBlock s.blocks

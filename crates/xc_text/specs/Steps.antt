@@ -1,8 +1,9 @@
 -- What one more line adds to what was said so far.
 use Rattle.std.specs.Prelude.{ℕ, ◌||◌, ◌&&◌, Bool, true, false, List, [], ◌∷◌, ◌++◌, length, count_by, nat_eq, nat_le, nat_lt, replicate}
-use Rattle.std.specs.Prelude.{slice_set, Option, Some, None, Result, Ok, Err, if◌then◌else◌}
+use Rattle.std.specs.Prelude.{slice_set, is_some, Option, Some, None, Result, Ok, Err, if◌then◌else◌}
 use Rattle.std.specs.List.{list_all, list_any}
 use Rattle.std.specs.Cmp.Lexicographic.{pointwise}
+use Rattle.xc_data.specs.declared.script.Kind.{Kind}
 use Rattle.xc_data.specs.declared.script.Opened.{Opened}
 use Rattle.xc_data.specs.declared.script.Opened.TheVariants.{File}
 use Rattle.xc_text.specs.declared.script.Term.{Term}
@@ -12,7 +13,8 @@ use Rattle.xc_text.specs.declared.script.Expression.TheVariants.{Term as OneTerm
 use Rattle.xc_text.specs.declared.script.Item.{Item}
 use Rattle.xc_text.specs.declared.script.Item.TheVariants as item
 use Rattle.xc_text.specs.declared.script.Statement.{Statement}
-use Rattle.xc_text.specs.declared.script.Statement.TheVariants.{Load, Store, Open, Read, Overwrite, Let, Abort, AbortIf, Require}
+use Rattle.xc_text.specs.declared.script.Statement.TheVariants.{Load, Store, Open, Create, Rename, Read, Overwrite, Append}
+use Rattle.xc_text.specs.declared.script.Statement.TheVariants.{Seek, Length, Close, Let, Abort, AbortIf, Require}
 use Rattle.xc_text.specs.declared.line.Line.{Line}
 use Rattle.xc_text.specs.declared.line.Line.TheVariants as line
 use Rattle.xc_text.specs.declared.line.Section.TheVariants.{Between, Block, Transaction}
@@ -73,8 +75,14 @@ abbrev pub with_statement : List (List ℕ) → Statement → List (List ℕ)
 with_statement names (Load at into) = with_target (with_term names at) into
 with_statement names (Store at value) = with_expression (with_term names at) value
 with_statement names (Open file into) = with_target names into
+with_statement names (Create file into) = with_target names into
+with_statement names (Rename from to) = names
 with_statement names (Read handle n into) = with_target (with_term (with_name names handle) n) into
 with_statement names (Overwrite handle items) = with_data (with_name names handle) items
+with_statement names (Append handle items) = with_data (with_name names handle) items
+with_statement names (Seek handle to) = with_term (with_name names handle) to
+with_statement names (Length handle into) = with_target (with_name names handle) into
+with_statement names (Close handle) = with_name names handle
 with_statement names (Let into value) = with_expression (with_name names into) value
 with_statement names Abort = names
 with_statement names (AbortIf left test right) = with_term (with_term names left) right
@@ -108,6 +116,19 @@ added s name None = Err TooMany
 -- one file of a name
 abbrev pub filed : Said → List ℕ → Option (List ℕ) → Result Said Why
 filed s name bytes = if list_any (is_file_of name) s.objects then Err Twice else added s name bytes
+
+-- a call of a kind fails, by its number from 1
+abbrev pub faulted : Said → Kind → ℕ → Result Said Why
+faulted s kind n =
+    if nat_lt n 1 then Err BadNumber
+    else Ok (record s { faults = s.faults ++ record { kind = kind; first = n; last = n } ∷ [] })
+
+-- a grain of 1 to 65,536 bytes, by one line
+abbrev pub grained : Said → ℕ → Result Said Why
+grained s n =
+    if nat_lt n 1 || nat_lt 65536 n then Err BadNumber
+    else if is_some s.grain then Err Twice
+    else Ok (record s { grain = Some n })
 
 -- a block begins, one of a name, and at most 1,000
 abbrev pub started : Said → List ℕ → Result Said Why
@@ -150,6 +171,8 @@ abbrev pub after : Said → Line → Result Said Why
 after s (line.Words n) = sized_by s n
 after s (line.Word at value) = valued_by s at value
 after s (line.File name bytes) = filed s name bytes
+after s (line.Fault kind n) = faulted s kind n
+after s (line.Grain n) = grained s n
 after s (line.Job name) = started s name
 after s line.Begin = begun s (block_in s.section)
 after s (line.Statement statement) = stated s statement

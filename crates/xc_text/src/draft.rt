@@ -1,19 +1,15 @@
-ghost use Rattle.std.specs.Prelude.{◌≡◌, ◌≤◌, replicate, false, IfOk, Some};
-ghost use Rattle.std.specs.List.{list_any};
+ghost use Rattle.std.specs.Prelude.{◌≡◌, ◌≤◌, replicate, IfOk};
 ghost use Rattle.xc_text.specs.Answers.{Gives};
 ghost use Rattle.xc_text.specs.Said.{opening};
 ghost use Rattle.xc_text.specs.Scripts.{script_of};
 ghost use Rattle.xc_text.specs.Sections.{block_in, is_outside, transaction_in};
-ghost use Rattle.xc_text.specs.Steps.{is_file_of, sized_by, valued_by, filed, added, started, begun, stated, committed, ended_block, after};
-ghost use Rattle.xc_text.specs.Steps.{after_bytes};
+ghost use Rattle.xc_text.specs.Steps.{started, begun, stated, committed, ended_block, after, after_bytes};
 
 use crate::block_names::BlockNames;
 use crate::counted::Counted;
 use crate::files::Files;
 use crate::grammar::line_of;
-use crate::limits::{
-    FIRST_WORDS, MOST_BLOCKS, MOST_FILES, MOST_NAMES, MOST_TRANSACTIONS, MOST_WORDS,
-};
+use crate::limits::{FIRST_WORDS, MOST_BLOCKS, MOST_NAMES, MOST_TRANSACTIONS};
 use crate::line::{Line, Section};
 use crate::lines::are_line_bytes;
 use crate::names::add_statement;
@@ -23,7 +19,9 @@ use crate::why::{Stop, Why};
 use std::alloc::Global;
 use std::marker::Model;
 use std::mem;
-use xc_data::{Chunk, Ident, IdentList, Items, Name, NoMemory, Prologue, Script0, WordList};
+use xc_data::{FaultList, Ident, IdentList, Items, NoMemory, Prologue, Script0, WordList};
+
+mod opening;
 
 /// A script as far as its lines were read.
 #[derive(Drop)]
@@ -35,6 +33,8 @@ pub struct Draft {
     /// A `word` line came.
     valued: bool,
     files: Files,
+    faults: FaultList,
+    grain: Option<u32>,
     /// The variables' names, each once.
     names: IdentList,
     /// The names of all blocks, also of the one under way.
@@ -58,6 +58,8 @@ impl Model for Draft {
       sized = a.sized;
       valued = a.valued;
       objects = a.files;
+      faults = a.faults;
+      grain = a.grain;
       names = a.names;
       jobs = a.jobs;
       blocks = a.blocks;
@@ -84,6 +86,8 @@ impl Draft {
             sized: false,
             valued: false,
             files: Files::new(alloc),
+            faults: Items::new(alloc),
+            grain: None,
             names: Items::new(alloc),
             jobs: BlockNames::new(alloc),
             blocks: Items::new(alloc),
@@ -105,8 +109,8 @@ impl Draft {
     {
         let prologue = Prologue {
             objects: self.files.into_objects(),
-            faults: Items::new(alloc),
-            grain: None,
+            faults: self.faults,
+            grain: self.grain,
         };
         Script {
             plain: Script0 {
@@ -116,54 +120,6 @@ impl Draft {
                 jobs: self.jobs.into_names(),
             },
             blocks: self.blocks,
-        }
-    }
-
-    fn size(&mut self, alloc: Global, n: u64) -> Result<(), Stop>
-        ensures { Gives (λ _. self.new) result (sized_by self.old n) }
-    {
-        if n < 1 || n > MOST_WORDS {
-            return Err(Stop::Refused(Why::BadNumber));
-        }
-        if self.sized || self.valued {
-            return Err(Stop::Refused(Why::Twice));
-        }
-        self.words = zeros(alloc, n)?;
-        self.sized = true;
-        Ok(())
-    }
-
-    fn value(&mut self, at: u64, value: u64) -> Result<(), Stop>
-        ensures { Gives (λ _. self.new) result (valued_by self.old at value) }
-    {
-        if at >= self.words.len() as u64 {
-            return Err(Stop::Refused(Why::BadNumber));
-        }
-        self.words.set(at as usize, value);
-        self.valued = true;
-        Ok(())
-    }
-
-    fn add_file(&mut self, name: Name, bytes: Chunk) -> Result<(), Stop>
-        requires new { list_any (is_file_of name) self.old.objects ≡ false }
-        ensures { Gives (λ _. self.new) result (added self.old name (Some bytes)) }
-    {
-        if self.files.len() >= MOST_FILES {
-            return Err(Stop::Refused(Why::TooMany));
-        }
-        self.files.push(name, bytes)?;
-        Ok(())
-    }
-
-    fn file(&mut self, name: Name, bytes: Option<Chunk>) -> Result<(), Stop>
-        ensures { Gives (λ _. self.new) result (filed self.old name bytes) }
-    {
-        if self.files.has(name) {
-            return Err(Stop::Refused(Why::Twice));
-        }
-        match bytes {
-            Some(bytes) => self.add_file(name, bytes),
-            None => Err(Stop::Refused(Why::TooMany)),
         }
     }
 
@@ -239,6 +195,8 @@ impl Draft {
             Line::Words(n) => self.size(alloc, n),
             Line::Word { at, value } => self.value(at, value),
             Line::File { name, bytes } => self.file(name, bytes),
+            Line::Fault { kind, n } => self.fault(kind, n),
+            Line::Grain(n) => self.set_grain(n),
             Line::Job(name) => self.start(name),
             Line::Begin => self.begin(),
             Line::Statement(statement) => self.state(statement),

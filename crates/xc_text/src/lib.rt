@@ -7,8 +7,10 @@
 mod block_names;
 mod counted;
 mod draft;
+mod file_calls;
 mod files;
 mod grammar;
+mod kinds;
 mod limits;
 mod line;
 mod lines;
@@ -19,6 +21,7 @@ mod parser;
 mod pieces;
 mod reason;
 mod script;
+mod statements;
 mod term;
 mod token;
 mod why;

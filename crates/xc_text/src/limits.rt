@@ -10,6 +10,8 @@ pub const FIRST_WORDS: u64 = 16;
 pub const MOST_FILES: usize = 4096;
 /// The bytes of one of them.
 pub const MOST_FILE_BYTES: u32 = 65_536;
+/// The grain of a host.
+pub const MOST_GRAIN: u64 = 65_536;
 /// Blocks of a script.
 pub const MOST_BLOCKS: usize = 1000;
 /// A block's transactions.

@@ -2,7 +2,7 @@ ghost use Rattle.std.specs.Prelude.{◌≡◌};
 ghost use Rattle.xc_text.specs.Sections.{block_in, is_outside, transaction_in};
 
 use crate::script::Statement;
-use xc_data::{Chunk, Ident, Name};
+use xc_data::{Chunk, Ident, Kind, Name};
 
 /// Where in a script a line stands.
 #[derive(Clone, Copy, Debug, PartialEq)]
@@ -55,6 +55,10 @@ pub enum Line {
     Word { at: u64, value: u64 },
     /// A file opens with its bytes; none where they are too many.
     File { name: Name, bytes: Option<Chunk> },
+    /// The nth call of a kind fails.
+    Fault { kind: Kind, n: u64 },
+    /// The most bytes of one read or write.
+    Grain(u64),
     /// A `job` block begins.
     Job(Ident),
     /// A transaction begins.

@@ -3,7 +3,7 @@ ghost use Rattle.std.specs.List.{list_any};
 ghost use Rattle.std.specs.Cmp.Lexicographic.{pointwise};
 ghost use Rattle.xc_text.specs.Steps.{is_among, with_name, with_term, with_expression, with_target, with_item, with_data, with_statement};
 
-use crate::script::{Expression, Item, Statement, Term};
+use crate::script::{Data, Expression, Item, Statement, Term};
 use xc_data::{Ident, IdentList, NoMemory};
 
 fn is_named(names: &[Ident], name: &Ident) -> bool
@@ -75,38 +75,65 @@ fn add_data(names: &mut IdentList, items: &[Item]) -> Result<(), NoMemory>
     Ok(())
 }
 
+fn add_term_into(names: &mut IdentList, term: &Term, into: &Option<Ident>) -> Result<(), NoMemory>
+    ensures { OnOk result (names.new ≡ with_target (with_term names.old term.now) into.now) }
+{
+    add_term(names, term)?;
+    add_target(names, into)
+}
+
+fn add_handle_and_term(names: &mut IdentList, handle: &Ident, term: &Term) -> Result<(), NoMemory>
+    ensures { OnOk result (names.new ≡ with_term (with_name names.old handle.now) term.now) }
+{
+    add_name(names, *handle)?;
+    add_term(names, term)
+}
+
+fn add_handle_into(
+    names: &mut IdentList,
+    handle: &Ident,
+    into: &Option<Ident>,
+) -> Result<(), NoMemory>
+    ensures { OnOk result (names.new ≡ with_target (with_name names.old handle.now) into.now) }
+{
+    add_name(names, *handle)?;
+    add_target(names, into)
+}
+
+fn add_written(names: &mut IdentList, handle: &Ident, data: &Data) -> Result<(), NoMemory>
+    ensures { OnOk result (names.new ≡ with_data (with_name names.old handle.now) data.now) }
+{
+    add_name(names, *handle)?;
+    add_data(names, data.as_slice())
+}
+
 /// Adds the variables of a statement, read or written, where they are new.
 pub fn add_statement(names: &mut IdentList, statement: &Statement) -> Result<(), NoMemory>
     ensures { OnOk result (names.new ≡ with_statement names.old statement.now) }
 {
     match statement {
-        Statement::Load { at, into } => {
-            add_term(names, at)?;
-            add_target(names, into)
-        }
+        Statement::Load { at, into } => add_term_into(names, at, into),
         Statement::Store { at, value } => {
             add_term(names, at)?;
             add_expression(names, value)
         }
-        Statement::Open { name: _, into } => add_target(names, into),
+        Statement::Open { into, .. } => add_target(names, into),
+        Statement::Create { into, .. } => add_target(names, into),
         Statement::Read { handle, n, into } => {
             add_name(names, *handle)?;
-            add_term(names, n)?;
-            add_target(names, into)
+            add_term_into(names, n, into)
         }
-        Statement::Overwrite { handle, data } => {
-            add_name(names, *handle)?;
-            add_data(names, data.as_slice())
+        Statement::Overwrite { handle, data } | Statement::Append { handle, data } => {
+            add_written(names, handle, data)
         }
+        Statement::Seek { handle, to } => add_handle_and_term(names, handle, to),
+        Statement::Length { handle, into } => add_handle_into(names, handle, into),
+        Statement::Close { handle } => add_name(names, *handle),
         Statement::Let { into, value } => {
             add_name(names, *into)?;
             add_expression(names, value)
         }
-        Statement::AbortIf {
-            left,
-            test: _,
-            right,
-        } => add_terms(names, left, right),
-        Statement::Abort | Statement::Require => Ok(()),
+        Statement::AbortIf { left, right, .. } => add_terms(names, left, right),
+        Statement::Rename { .. } | Statement::Abort | Statement::Require => Ok(()),
     }
 }

@@ -58,6 +58,15 @@ pub enum Statement {
         name: Name,
         into: Option<Ident>,
     },
+    /// Makes an empty file.
+    Create {
+        name: Name,
+        into: Option<Ident>,
+    },
+    Rename {
+        from: Name,
+        to: Name,
+    },
     /// Reads up to n bytes through the handle in a variable.
     Read {
         handle: Ident,
@@ -68,6 +77,25 @@ pub enum Statement {
     Overwrite {
         handle: Ident,
         data: Data,
+    },
+    /// Writes behind a file's bytes through the handle in a variable.
+    Append {
+        handle: Ident,
+        data: Data,
+    },
+    /// Sets the position of the handle in a variable.
+    Seek {
+        handle: Ident,
+        to: Term,
+    },
+    /// Asks for the length of the file whose handle is in a variable.
+    Length {
+        handle: Ident,
+        into: Option<Ident>,
+    },
+    /// Gives up the handle in a variable.
+    Close {
+        handle: Ident,
     },
     /// A variable takes a number.
     Let {

@@ -164,6 +164,30 @@ fn all_items(alloc: Global, v: Ident) -> Result<Data, Fail> {
     Ok(items)
 }
 
+fn push_file_calls(
+    alloc: Global,
+    name: Name,
+    h: Ident,
+    v: Ident,
+    body: &mut Body,
+) -> Result<(), Fail> {
+    let other = Name::new(b"g.2").ok_or("other")?;
+    let into = Some(h);
+    body.push(Statement::Create { name: other, into })?;
+    body.push(Statement::Rename {
+        from: name,
+        to: other,
+    })?;
+    let data = all_items(alloc, v)?;
+    body.push(Statement::Append { handle: h, data })?;
+    let to = Term::Number(65536);
+    body.push(Statement::Seek { handle: h, to })?;
+    let into = Some(v);
+    body.push(Statement::Length { handle: h, into })?;
+    body.push(Statement::Close { handle: v })?;
+    Ok(())
+}
+
 fn all_statements(alloc: Global, name: Name, h: Ident, v: Ident) -> Result<Body, Fail> {
     let mut body = Body::new(alloc);
     body.push(Statement::Load {
@@ -185,6 +209,7 @@ fn all_statements(alloc: Global, name: Name, h: Ident, v: Ident) -> Result<Body,
     })?;
     let data = all_items(alloc, v)?;
     body.push(Statement::Overwrite { handle: h, data })?;
+    push_file_calls(alloc, name, h, v, &mut body)?;
     body.push(Statement::Let {
         into: v,
         value: Expression::Sum(Term::Variable(v), Term::Number(1)),
@@ -218,7 +243,8 @@ fn file_at(script: &Script, at: usize) -> Option<(&[u8], &[u8])> {
 const WHOLE: &str =
     "words 2\nfile f.1 \"q\\n\\\"\"*2 \"x\"*0 \"\\\\\\x00\\x4f\\xFe\"\nword 1 7\nfile A-_.0\njob a\ntx
 load 1 -> v\nstore 1 3 - v\nx_open f.1 -> h\nx_read h v\nx_write_ovr h \"ab\\n\"*2 $v @7 @v \"c\"*0
-let v v + 1\nabort\nabort if v <= 3\nrequire\ncommit\nend\n";
+x_create g.2 -> h\nx_rename f.1 g.2\nx_write_seq h \"ab\\n\"*2 $v @7 @v \"\"\nx_seek h 65536
+x_len h -> v\nx_close v\nlet v v + 1\nabort\nabort if v <= 3\nrequire\ncommit\nend\n";
 
 #[test]
 fn a_whole_script(rt: HostRuntime) -> Result<(), Fail> {

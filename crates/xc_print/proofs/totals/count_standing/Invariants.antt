@@ -1,5 +1,5 @@
 use Rattle.std.proofs.Common.{◌≡◌, ◌+◌, ◌≤◌, drop, count_by}
-use Rattle.xc_print.specs.Totals.{stands}
+use Rattle.xc_failure.specs.Effects.{stands}
 use Rattle.xc_print.proofs.totals.count_standing.Given as goal
 
 -- what is counted and what is left are all

@@ -1,0 +1,59 @@
+ghost use Rattle.std.specs.Prelude.{◌≡◌, ◌≤◌, length, if◌then◌else◌};
+ghost use Rattle.xc_app.specs.Headline.{starves, is_starved, gave_up, gives_up, leaves_effects};
+
+use crate::Status;
+use xc_data::{JobEnd, JobLine};
+use xc_print::Totals;
+use xc_station::End;
+
+fn is_starved(job: &JobLine) -> bool
+    ensures { result ≡ is_starved job.now }
+{
+    matches!(job.end, JobEnd::NoMemory)
+}
+
+fn is_given_up(job: &JobLine) -> bool
+    ensures { result ≡ gives_up job.now }
+{
+    matches!(job.end, JobEnd::GaveUp(_) | JobEnd::JournalFull)
+}
+
+fn starves<H>(end: &End<H>) -> bool
+    ensures { result ≡ starves end.now }
+{
+    end.jobs.as_slice().iter().any(|job| is_starved(job))
+}
+
+fn gave_up<H>(end: &End<H>) -> bool
+    ensures { result ≡ gave_up end.now }
+{
+    end.jobs.as_slice().iter().any(|job| is_given_up(job))
+}
+
+fn leaves_effects<H>(end: &End<H>) -> bool
+    requires { length end.now.journal.items ≤ 10000 }
+    ensures { result ≡ leaves_effects end.now }
+{
+    Totals::of(end.journal.as_slice()).remains > 0
+}
+
+/// The status that a run with this end is meant to have. Memory comes first: a run in which it was wanting has that status,
+/// whatever else became of its jobs.
+pub fn status_of<H>(end: &End<H>) -> Status
+    requires { length end.now.journal.items ≤ 10000 }
+    ensures { result ≡ (if starves end.now then Status.NoMemory
+        else if leaves_effects end.now then Status.Left
+        else if gave_up end.now then Status.GaveUp
+        else Status.Done) }
+{
+    if starves(end) {
+        return Status::NoMemory;
+    }
+    if leaves_effects(end) {
+        return Status::Left;
+    }
+    if gave_up(end) {
+        return Status::GaveUp;
+    }
+    Status::Done
+}

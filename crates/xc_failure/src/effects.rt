@@ -1,0 +1,19 @@
+ghost use Rattle.std.specs.Prelude.{◌≡◌};
+ghost use Rattle.xc_data.specs.Standing.{stands_from};
+
+use xc_data::{Undo, UndoEnd};
+
+/// The byte of a record from which on its effect stands: none exactly where it is undone, the number of restored bytes for an
+/// overwrite that was restored in part, and 0 for every other record. It takes no memory.
+pub fn standing(undo: &Undo, end: &UndoEnd) -> Option<u32>
+    ensures { result ≡ stands_from undo.now end.now }
+{
+    match end {
+        UndoEnd::Undone { .. } => None,
+        UndoEnd::Blocked { .. } => Some(0),
+        UndoEnd::Failed { done, .. } => match undo {
+            Undo::Bytes { .. } => Some(*done),
+            _ => Some(0),
+        },
+    }
+}

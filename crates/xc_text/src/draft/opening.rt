@@ -1,0 +1,89 @@
+//! The lines of a prologue.
+
+ghost use Rattle.std.specs.Prelude.{◌≡◌, false, Some};
+ghost use Rattle.std.specs.List.{list_any};
+ghost use Rattle.xc_text.specs.Answers.{Gives};
+ghost use Rattle.xc_text.specs.Steps.{is_file_of, sized_by, valued_by, filed, added, faulted, grained};
+
+use crate::draft::{Draft, zeros};
+use crate::limits::{MOST_FILES, MOST_GRAIN, MOST_WORDS};
+use crate::why::{Stop, Why};
+use std::alloc::Global;
+use xc_data::{Chunk, FaultLine, Kind, Name};
+
+impl Draft {
+    pub(super) fn size(&mut self, alloc: Global, n: u64) -> Result<(), Stop>
+        ensures { Gives (λ _. self.new) result (sized_by self.old n) }
+    {
+        if n < 1 || n > MOST_WORDS {
+            return Err(Stop::Refused(Why::BadNumber));
+        }
+        if self.sized || self.valued {
+            return Err(Stop::Refused(Why::Twice));
+        }
+        self.words = zeros(alloc, n)?;
+        self.sized = true;
+        Ok(())
+    }
+
+    pub(super) fn value(&mut self, at: u64, value: u64) -> Result<(), Stop>
+        ensures { Gives (λ _. self.new) result (valued_by self.old at value) }
+    {
+        if at >= self.words.len() as u64 {
+            return Err(Stop::Refused(Why::BadNumber));
+        }
+        self.words.set(at as usize, value);
+        self.valued = true;
+        Ok(())
+    }
+
+    fn add_file(&mut self, name: Name, bytes: Chunk) -> Result<(), Stop>
+        requires new { list_any (is_file_of name) self.old.objects ≡ false }
+        ensures { Gives (λ _. self.new) result (added self.old name (Some bytes)) }
+    {
+        if self.files.len() >= MOST_FILES {
+            return Err(Stop::Refused(Why::TooMany));
+        }
+        self.files.push(name, bytes)?;
+        Ok(())
+    }
+
+    pub(super) fn file(&mut self, name: Name, bytes: Option<Chunk>) -> Result<(), Stop>
+        ensures { Gives (λ _. self.new) result (filed self.old name bytes) }
+    {
+        if self.files.has(name) {
+            return Err(Stop::Refused(Why::Twice));
+        }
+        match bytes {
+            Some(bytes) => self.add_file(name, bytes),
+            None => Err(Stop::Refused(Why::TooMany)),
+        }
+    }
+
+    pub(super) fn fault(&mut self, kind: Kind, n: u64) -> Result<(), Stop>
+        ensures { Gives (λ _. self.new) result (faulted self.old kind n) }
+    {
+        if n < 1 {
+            return Err(Stop::Refused(Why::BadNumber));
+        }
+        self.faults.push(FaultLine {
+            kind,
+            first: n,
+            last: n,
+        })?;
+        Ok(())
+    }
+
+    pub(super) fn set_grain(&mut self, n: u64) -> Result<(), Stop>
+        ensures { Gives (λ _. self.new) result (grained self.old n) }
+    {
+        if n < 1 || n > MOST_GRAIN {
+            return Err(Stop::Refused(Why::BadNumber));
+        }
+        if self.grain.is_some() {
+            return Err(Stop::Refused(Why::Twice));
+        }
+        self.grain = Some(n as u32);
+        Ok(())
+    }
+}
