@@ -29,8 +29,7 @@ use Rattle.xc_file.specs.Appending.{Appends, StopsShort, tail}
 use Rattle.xc_file.specs.Calls.{CallState, Moment, moment_of, Acts, AreRecorded, DidPart, IsFileCall}
 use Rattle.xc_file.specs.Calls.{refusal_of, is_check_reply, replies_fault}
 use Rattle.xc_file.specs.Writing.{AddsOne, moved_on}
-use Rattle.xc_file.proofs.FileCalls.{passed, same_made}
-use Rattle.xc_file.proofs.NameCalls.{moment}
+use Rattle.xc_file.proofs.FileCalls.{moment, passed, same_made}
 
 -- the state behind an append of n of the bytes
 abbrev behind : Contents → Private → ℕ → Num → List ℕ → ℕ → Private

@@ -30,67 +30,7 @@ use Rattle.xc_compensate.specs.Records.{Records}
 use Rattle.xc_file.specs.Calls.{CallState, Moment, moment_of, IsFileCall, Acts, AreRecorded, StepsAlone}
 use Rattle.xc_file.specs.Calls.{refusal_of, is_check_reply, replies_fault}
 use Rattle.xc_file.specs.Writing.{AddsOne}
-
--- the first of three checks that refuses
-abbrev first : Bool → Bool → Bool → Option Reply
-first bad big much =
-    if bad then Some reply.BadHandle
-    else if big then Some reply.TooBig
-    else if much then Some reply.TooMuch
-    else None
-
-none_some : {T : Type 0} (x : T) → None ≡ Some x → ⊥
-none_some x e = subst (λ o. MatchOption o (Unit {0}) (λ _. ⊥)) e tt
-
-stays_so : (bad big much : Bool) (w : World) (me : Private) (other : Stepped) (r : Reply) → first bad big much ≡ Some r
-    → (if bad then stays w me reply.BadHandle else if big then stays w me reply.TooBig else if much then stays w me reply.TooMuch else other) ≡ stays w me r
-stays_so true big much w me other r e = ap (λ o. stays w me (unwrap_or o r)) e
-stays_so false true much w me other r e = ap (λ o. stays w me (unwrap_or o r)) e
-stays_so false false true w me other r e = ap (λ o. stays w me (unwrap_or o r)) e
-stays_so false false false w me other r e = absurd (none_some r e)
-
--- a refused call leaves the plain machine as it was, with this reply
-pub refused_acts : (w : World) (me : Private) (tx : ℕ) (call : Call) (answer : Answer) (r : Reply) → refusal_of call me ≡ Some r
-    → act w me tx call answer ≡ stays w me r
-refused_acts w me tx call answer r e =
-    stays_so (is_bad_handle call me) (is_too_big call) (is_too_much call me) w me
-    (if is_bad_word call (length w.words) then stays w me reply.BadWord else counted call (done w me tx call answer)) r e
-
-none_of : (bad big much word : Bool) → first bad big much ≡ None → (bad || big || much || word) ≡ word
-none_of true big much word e = absurd (none_some reply.BadHandle (sym e))
-none_of false true much word e = absurd (none_some reply.TooBig (sym e))
-none_of false false true word e = absurd (none_some reply.TooMuch (sym e))
-none_of false false false word e = refl
-
--- where none of them refuses a call, the plain machine's checks refuse a bad word alone
-pub passed_checks : (me : Private) (call : Call) (words : ℕ) → refusal_of call me ≡ None → is_refused call me words ≡ is_bad_word call words
-passed_checks me call words e = none_of (is_bad_handle call me) (is_too_big call) (is_too_much call me) (is_bad_word call words) e
-
--- a reply of a check is fine, no fault, and leaves no record
-record IsPlain (r : Reply) : Type 0 where
-  pub answer : answer_of r ≡ Fine
-  pub fault : is_fault_reply r ≡ false
-  pub done : (all : ℕ) → done_of all r ≡ 0
-
-plain_first : (bad big much : Bool) (r : Reply) → first bad big much ≡ Some r → IsPlain r
-plain_first true big much r e = subst (λ o. IsPlain (unwrap_or o r)) e (record { answer = refl; fault = refl; done = λ _. refl })
-plain_first false true much r e = subst (λ o. IsPlain (unwrap_or o r)) e (record { answer = refl; fault = refl; done = λ _. refl })
-plain_first false false true r e = subst (λ o. IsPlain (unwrap_or o r)) e (record { answer = refl; fault = refl; done = λ _. refl })
-plain_first false false false r e = absurd (none_some r e)
-
--- an overwrite of nothing leaves no record
-nothing_done : (w : World) (bytes : List ℕ) (p : Place) → overwrite_record w bytes 0 p ≡ []
-nothing_done w bytes (place.File num at) = refl
-nothing_done w bytes place.Vacant = refl
-nothing_done w bytes (place.Pipe num) = refl
-nothing_done w bytes (place.Pair num side) = refl
-
--- an append of nothing leaves no record
-nothing_appended : (w : World) (bytes : List ℕ) (p : Place) → append_record w bytes 0 p ≡ []
-nothing_appended w bytes (place.File num at) = refl
-nothing_appended w bytes place.Vacant = refl
-nothing_appended w bytes (place.Pipe num) = refl
-nothing_appended w bytes (place.Pair num side) = refl
+use Rattle.xc_file.proofs.Refusals.{IsPlain, plain_first, refused_acts}
 
 -- a record with nothing behind
 grown_by_none : (undo : Records) → undo ≡ record undo { pending = undo.pending ++ [] }
@@ -124,26 +64,6 @@ refused_call model call s r e none =
       memory = tt;
     }
 
--- a write of either kind that is refused did nothing
-refused_done : (call : Call) (me : Private) (all : ℕ) (r : Reply) → refusal_of call me ≡ Some r → done_of all r ≡ 0
-refused_done call me all r e = (plain_first (is_bad_handle call me) (is_too_big call) (is_too_much call me) r e).done all
-
--- a refused overwrite leaves no record
-pub refused_overwrite : (was : Moment) (h : ℕ) (bytes : List ℕ) (r : Reply) → refusal_of (call.XWriteOvr h bytes) was.me ≡ Some r
-    → AreRecorded (call.XWriteOvr h bytes) was [] r
-refused_overwrite was h bytes r e =
-    let p = place_of was.me.places h in
-    λ w. sym (ap (λ n. overwrite_record (with_contents w was.contents) bytes n p) (refused_done (call.XWriteOvr h bytes) was.me (length bytes) r e)
-    ∙ nothing_done (with_contents w was.contents) bytes p)
-
--- a refused append leaves no record
-pub refused_append : (was : Moment) (h : ℕ) (bytes : List ℕ) (r : Reply) → refusal_of (call.XWriteSeq h bytes) was.me ≡ Some r
-    → AreRecorded (call.XWriteSeq h bytes) was [] r
-refused_append was h bytes r e =
-    let p = place_of was.me.places h in
-    λ w. sym (ap (λ n. append_record (with_contents w was.contents) bytes n p) (refused_done (call.XWriteSeq h bytes) was.me (length bytes) r e)
-    ∙ nothing_appended (with_contents w was.contents) bytes p)
-
 -- a call that the checks let pass, and that leaves no record
 pub unrecorded_call : {H : Type 0} (model : HostModel H) (call : Call) (old new : CallState H) (result : Result Reply NoMemory)
     → refusal_of call old.me ≡ None → IfOk result (λ r. is_check_reply call r ≡ false) → new.undo ≡ old.undo
@@ -175,7 +95,7 @@ unrecorded_call model call old new (Err e) free reply undo acts none still err c
       memory = record { me = err; effect = λ t. inl (refl, still t); none = λ _. refl };
     }
 
--- records behind the same ones are the same
+-- what is put behind the same records is the same
 pub same_made : (old new : Records) (made more : List Undo) → new ≡ record old { pending = old.pending ++ made }
     → new ≡ record { pending = old.pending ++ more; ended = [] } → made ≡ more
 same_made old new made more grown is = append_cancel_left old.pending made more (ap (λ u. u.pending) (sym grown ∙ is))
@@ -213,6 +133,10 @@ recorded_call model call made old new (Err e) free reply acts records are adds e
       memory = record { me = err_me; effect = λ t. inl (refl, still t); none = λ _. refl };
     }
 
+-- the moment of these contents, with this private state
+abbrev pub moment : Contents → ℕ → Private → Moment
+moment c number me = record { contents = c; number = number; me = me }
+
 -- a call at the handle of an open file
 pub at_handle : {H : Type 0} (model : HostModel H) (call : ℕ → Call) (k h : ℕ) (old new : CallState H) (result : Result Reply NoMemory)
     → k ≡ h → refusal_of (call h) old.me ≡ None → (refusal_of (call k) old.me ≡ None → IsFileCall model (call k) old new result)
@@ -220,32 +144,10 @@ pub at_handle : {H : Type 0} (model : HostModel H) (call : ℕ → Call) (k h : 
 at_handle model call k h old new result same free is =
     subst (λ i. IsFileCall model (call i) old new result) same (is (subst (λ i. refusal_of (call i) old.me ≡ None) (sym same) free))
 
--- what the checks say of a call that needs a vacant handle, by the lowest
-abbrev pub by_handle : Option ℕ → Option Reply
-by_handle vacant = if is_none vacant then Some reply.TooMuch else None
-
--- what the checks say of a call that needs an open file, by whether it is one
-abbrev pub by_kind : Bool → Option Reply
-by_kind is_open = if not is_open then Some reply.BadHandle else None
-
 -- a reply of a fine answer is no fault
 no_fault : (r : Reply) → answer_of r ≡ Fine → is_fault_reply r ≡ false
 no_fault (reply.Fault n) e = cc
-no_fault (reply.Number n) e = refl
-no_fault (reply.Got bytes) e = refl
-no_fault (reply.Made h) e = refl
-no_fault (reply.MadePair h k) e = refl
-no_fault reply.Done e = refl
-no_fault reply.End e = refl
-no_fault reply.Empty e = refl
-no_fault reply.NoName e = refl
-no_fault reply.Exists e = refl
-no_fault reply.BadHandle e = refl
-no_fault reply.PastEnd e = refl
-no_fault reply.TooBig e = refl
-no_fault reply.TooMuch e = refl
-no_fault reply.BadWord e = refl
-no_fault reply.Late e = refl
+no_fault _ e = refl
 
 -- what the checks say of a call, with more that is so where one refuses it
 refused_more : {A : Type 0} (P : Type 0) (Q R : A → Type 0) (o : Option A) → ((a : A) → Q a → R a) → MatchOption o P Q → MatchOption o P R
@@ -277,11 +179,12 @@ alone_call {H = H} model call s next r alone =
       memory = tt;
     }
 
--- what follows of a reply, and of the want of one
+-- what follows of each reply
 pub ok_more : (P Q : Reply → Type 0) (result : Result Reply NoMemory) → ((r : Reply) → P r → Q r) → IfOk result P → IfOk result Q
 ok_more P Q (Ok r) more p = more r p
 ok_more P Q (Err e) more p = tt
 
+-- what holds anyway holds where there is none
 pub err_always : (P : Type 0) (result : Result Reply NoMemory) → P → OnErr result P
 err_always P (Ok r) p = tt
 err_always P (Err e) p = p

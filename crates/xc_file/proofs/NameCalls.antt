@@ -20,6 +20,7 @@ use Rattle.xc_world.specs.Act.Names.{created, renamed, next_num}
 use Rattle.xc_world.specs.Checks.{has_made_all}
 use Rattle.xc_host.specs.Contents.{Contents, with_contents, renamed_file}
 use Rattle.xc_file.specs.Calls.{Acts, Moment}
+use Rattle.xc_file.proofs.FileCalls.{moment}
 use Rattle.xc_file.specs.Naming.{Renames, Creates, IsMadeAt, with_made}
 
 -- ---- a rename
@@ -37,10 +38,6 @@ renamed_exists : (w : World) (me : Private) (from to : List ℕ) (o p : Option N
 renamed_exists w me from to None p some there = cc
 renamed_exists w me from to (Some num) None some there = cc
 renamed_exists w me from to (Some num) (Some other) some there = refl
-
--- the moments before and after a call with this private state
-abbrev pub moment : Contents → ℕ → Private → Moment
-moment c number me = record { contents = c; number = number; me = me }
 
 -- a rename is the plain machine's
 pub rename_acts : (was is : Contents) (number : ℕ) (me : Private) (from to : List ℕ) (r : Reply) → Renames was is from to r
@@ -76,10 +73,7 @@ rename_acts was is number me from to _ never = absurd never
 abbrev pub much : Bool → Option ℕ → Bool
 much all vacant = all || is_none vacant
 
--- what the checks say of a create by them
-abbrev pub by_much : Bool → Option Reply
-by_much b = if b then Some reply.TooMuch else None
-
+-- neither is so
 pub much_none : (all : Bool) (vacant : Option ℕ) (h : ℕ) → all ≡ false → vacant ≡ Some h → much all vacant ≡ false
 much_none all vacant h few there = ap (λ o. all || is_none o) there ∙ or-false all ∙ few
 

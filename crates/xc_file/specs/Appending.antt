@@ -17,7 +17,8 @@ HasRoom c file bytes = length (file_in c file) + length bytes ≤ 65536
 abbrev pub Appends : Contents → Contents → Num → List ℕ → Reply → Type 0
 Appends was is file bytes TooBig = (is ≡ was) × (65536 < length (file_in was file) + length bytes)
 Appends was is file bytes Done = (is ≡ appended_front was file bytes) × HasRoom was file bytes
-Appends was is file bytes (Fault n) = (is ≡ appended_front was file (take n bytes)) × ((n ≡ 0) ⊎ ((n < length bytes) × HasRoom was file bytes))
+Appends was is file bytes (Fault n) = (is ≡ appended_front was file (take n bytes))
+    × ((n ≡ 0) ⊎ ((n < length bytes) × HasRoom was file bytes))
 Appends was is file bytes _ = ⊥
 
 -- the record of n bytes that were appended to a file of `from` bytes; none where n is 0

@@ -9,7 +9,8 @@ loop-done-preserved g c =
     let bytes = c.args.bytes.now in
     let done = c.loop-done.done in
     let left = take (length bytes - done) (drop done bytes) in
-    let within : done + c.in-Ok.count ≤ length bytes = omega (arith, length-take (length bytes - done) (drop done bytes), length-drop done bytes, did.bound.1) in
+    let within : done + c.in-Ok.count ≤ length bytes =
+    omega (arith, length-take (length bytes - done) (drop done bytes), length-drop done bytes, did.bound.1) in
     record {
       room = within;
       there = λ t. (append_grows _ _ c.args.file (take c.in-Ok.count left) (did.ok t)).0;

@@ -1,7 +1,8 @@
 use Rattle.std.proofs.Common.{◌+◌, ◌≤◌, ap, sym, ◌∙◌, subst}
 use Rattle.xc_data.specs.declared.call.Call.TheVariants.{XWriteSeq}
 use Rattle.xc_file.specs.Checks.{refusal_at}
-use Rattle.xc_file.proofs.FileCalls.{refused_call, refused_append, at_handle}
+use Rattle.xc_file.proofs.FileCalls.{refused_call, at_handle}
+use Rattle.xc_file.proofs.Refusals.{refused_append}
 use Rattle.xc_file.proofs.AppendCalls.{append_call}
 use Rattle.xc_file.proofs.appending.x_write_seq.Goals as goal
 

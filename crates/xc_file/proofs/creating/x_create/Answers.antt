@@ -6,7 +6,8 @@ use Rattle.xc_data.specs.declared.call.Call.TheVariants.{XCreate}
 use Rattle.xc_world.specs.Checks.{has_made_all}
 use Rattle.xc_world.specs.Trail.{create_record}
 use Rattle.xc_file.proofs.FileCalls.{refused_call, recorded_call}
-use Rattle.xc_file.proofs.NameCalls.{by_much, much_none, created_acts}
+use Rattle.xc_file.proofs.Refusals.{by_much}
+use Rattle.xc_file.proofs.NameCalls.{much_none, created_acts}
 use Rattle.xc_file.proofs.creating.x_create.Goals as goal
 
 pub returns-then-me-ge-MAX_MADE-clause-call : goal.returns-then-me-ge-MAX_MADE-clause-call
@@ -34,7 +35,7 @@ returns-clause-call g c =
     (record { host = c.args.host.now; number = c.args.tx; me = me; undo = c.args.undo.now })
     (record { host = c.create_at.new.host; number = c.args.tx; me = c.create_at.new.me; undo = c.create_at.new.undo }) c.create_at.result
     (ap by_much (much_none (has_made_all me) (lowest_vacant me.places) c.in-Some.h (lt-leb 16 me.made few) vacant)) next.reply
-    (λ t. created_acts (model.contents c.args.host.now) (model.contents c.create_at.new.host) c.args.tx me c.create_at.new.me name c.in-Some.h c.create_at.result
-    few vacant next.made next.me (next.told t))
+    (λ t. created_acts (model.contents c.args.host.now) (model.contents c.create_at.new.host) c.args.tx me c.create_at.new.me name c.in-Some.h
+    c.create_at.result few vacant next.made next.me (next.told t))
     (λ t. next.records) (λ r w. refl) next.grows
     next.err next.err_undo next.err_contents next.cause

@@ -5,7 +5,8 @@ use Rattle.xc_data.specs.declared.private.Place.TheVariants.{File}
 use Rattle.xc_world.specs.Trail.{overwrite_record, done_of}
 use Rattle.xc_host.specs.Contents.{world_of}
 use Rattle.xc_file.specs.Checks.{refusal_at}
-use Rattle.xc_file.proofs.FileCalls.{refused_call, refused_overwrite, recorded_call, at_handle}
+use Rattle.xc_file.proofs.FileCalls.{refused_call, recorded_call, at_handle}
+use Rattle.xc_file.proofs.Refusals.{refused_overwrite}
 use Rattle.xc_file.proofs.overwriting.x_write_ovr.Goals as goal
 
 pub returns-in-Err-clause-call : goal.returns-in-Err-clause-call

@@ -10,6 +10,7 @@ returns-in-Err-clause-call g c = λ number undo. refused_call g.H.Host.model _
 pub returns-clause-call : goal.returns-clause-call
 returns-clause-call g c =
     let next = c.read_next.ensures in
-    λ number undo. at_handle g.H.Host.model (λ h. XRead h c.args.n) _ _ (record { host = c.args.host.now; number = number; me = c.args.me.now; undo = undo }) _ _
+    λ number undo. at_handle g.H.Host.model (λ h. XRead h c.args.n) _ _
+    (record { host = c.args.host.now; number = number; me = c.args.me.now; undo = undo }) _ _
     c.in-Ok.ensures.open.0 c.in-Ok.ensures.checks
     (λ free. unrecorded_call g.H.Host.model _ _ _ _ free next.reply refl (next.acts number) (λ r w. refl) next.contents next.err next.cause)

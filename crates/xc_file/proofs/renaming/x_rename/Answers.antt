@@ -3,8 +3,8 @@ use Rattle.xc_data.specs.declared.call.Call.TheVariants.{XRename}
 use Rattle.xc_world.specs.Trail.{rename_record}
 use Rattle.xc_file.specs.Calls.{Acts}
 use Rattle.xc_file.specs.Naming.{Renames}
-use Rattle.xc_file.proofs.FileCalls.{recorded_call, ok_more, err_always}
-use Rattle.xc_file.proofs.NameCalls.{moment, rename_acts}
+use Rattle.xc_file.proofs.FileCalls.{moment, recorded_call, ok_more, err_always}
+use Rattle.xc_file.proofs.NameCalls.{rename_acts}
 use Rattle.xc_file.proofs.renaming.x_rename.Goals as goal
 
 pub returns-clause-call : goal.returns-clause-call
