@@ -200,7 +200,7 @@ module _ {H : Type 0} (model : HostModel H) (shared : Shared H) (journal : List 
         λ none. let lacks : back.newest ∷ back.older ≡ [] = sym back.pending ∙ none in cc lacks,
         λ tells older u pending way.
             covered_now s now (steady.flying tells) at (seen_job was) back.tx back.cause older u there (ap active_in back.doing) back.phase pending
-                way,
+            way,
       )
 
   -- numbers that fit, of a job with an active transaction
