@@ -1,4 +1,5 @@
 pub mod Kinds
 pub mod State
 pub mod Faults
+pub mod Spans
 pub mod Machine

@@ -10,11 +10,11 @@ ghost use Rattle.xc_memhost.specs.State.{empty_state, opened_state, mem_host_mod
 ghost use Rattle.xc_memhost.specs.Faults.{is_listed, begun};
 ghost use Rattle.xc_memhost.specs.Machine.{front_of, written_of, written};
 
-use crate::faults::{any_lists, grained, lines_of, place_of};
+use crate::faults::{Faults, grained, place_of};
 use crate::objects::Objects;
 use std::alloc::Global;
 use std::marker::Model;
-use xc_data::{Chunk, FaultList, Kind, Name, Num, Prologue};
+use xc_data::{Chunk, Kind, Name, Num, Prologue};
 use xc_host::{Fault, Host, HostErr, OpenErr};
 
 /// A host in memory. It tells its contents, and exactly the calls that its prologue lists fail.
@@ -22,7 +22,7 @@ use xc_host::{Fault, Host, HostErr, OpenErr};
 pub struct MemHost {
     alloc: Global,
     objects: Objects,
-    lines: FaultList,
+    lines: Faults,
     grain: Option<u32>,
     calls: [u64; 25],
     all: u64,
@@ -51,7 +51,7 @@ impl MemHost {
         MemHost {
             alloc,
             objects: Objects::new(alloc),
-            lines: FaultList::new(alloc),
+            lines: Faults::none(alloc),
             grain: None,
             calls: [0; 25],
             all: 0,
@@ -77,7 +77,7 @@ impl MemHost {
         let number = self.calls[place].saturating_add(1);
         self.calls[place] = number;
         self.all = self.all.saturating_add(1);
-        let fails = any_lists(self.lines.as_slice(), kind, number, self.all);
+        let fails = self.lines.lists(kind, number, self.all);
         if fails {
             self.faults = self.faults.saturating_add(1);
         }
@@ -116,7 +116,7 @@ impl Host for MemHost {
         ensures refused { IsErrOf result OpenErr.NotScripted → ⊥ }
     {
         let objects = Objects::of(self.alloc, prologue.objects.as_slice())?;
-        let lines = lines_of(self.alloc, prologue.faults.as_slice())?;
+        let lines = Faults::of(self.alloc, prologue.faults.as_slice())?;
         self.objects = objects;
         self.lines = lines;
         self.grain = prologue.grain;
