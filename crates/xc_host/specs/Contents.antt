@@ -1,5 +1,6 @@
 -- What a host holds, where it tells: the part of the plain machine's world that outlives a run.
-use Rattle.std.specs.Prelude.{ℕ, ◌==◌, ◌||◌, Bool, not, is_some, List, [], ◌∷◌, length, unwrap_or}
+use Rattle.std.specs.Prelude.{ℕ, ◌==◌, ◌||◌, Bool, not, is_some, List, [], ◌∷◌, ◌++◌, length, take, unwrap_or, Option}
+use Rattle.std.specs.declared.option.Option.TheVariants.{None, Some}
 use Rattle.std.specs.FinMap as map
 use Rattle.xc_data.specs.declared.object.Num.{Num}
 use Rattle.xc_data.specs.declared.script.Opened.{Opened}
@@ -32,6 +33,36 @@ wrote c file at bytes = record c { files = map.insert c.files file (overwritten 
 abbrev pub wrote_front : Contents → Num → ℕ → List ℕ → Contents
 wrote_front c file at [] = c
 wrote_front c file at (b ∷ bs) = wrote c file at (b ∷ bs)
+
+-- bytes stand behind those of a file
+abbrev pub appended : Contents → Num → List ℕ → Contents
+appended c file bytes = record c { files = map.insert c.files file (file_in c file ++ bytes) }
+
+-- the same; nothing is changed where there are none
+abbrev pub appended_front : Contents → Num → List ℕ → Contents
+appended_front c file [] = c
+appended_front c file (b ∷ bs) = appended c file (b ∷ bs)
+
+-- a file has its first bytes alone
+abbrev pub shortened : Contents → Num → ℕ → Contents
+shortened c file len = record c { files = map.insert c.files file (take len (file_in c file)) }
+
+-- an empty file of this number, under a new name
+abbrev pub created : Contents → List ℕ → Num → Contents
+created c name num = record c { names = map.insert c.names name num; files = map.insert c.files num [] }
+
+-- neither the name nor the file
+abbrev pub uncreated : Contents → List ℕ → Num → Contents
+uncreated c name num = record c { names = map.remove c.names name; files = map.remove c.files num }
+
+-- a name's file has another name alone; nothing is changed where there is none
+abbrev pub renamed_file : Contents → List ℕ → List ℕ → Option Num → Contents
+renamed_file c from to None = c
+renamed_file c from to (Some num) = record c { names = map.insert (map.remove c.names from) to num }
+
+-- the same of the file that has the name
+abbrev pub renamed : Contents → List ℕ → List ℕ → Contents
+renamed c from to = renamed_file c from to (map.get c.names from)
 
 -- ---- the host part of a world
 abbrev pub contents_of : World → Contents

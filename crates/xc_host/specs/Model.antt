@@ -12,3 +12,5 @@ pub record HostModel (H : Type 0) : Type 0 where
   pub contents : H → Contents
   -- how often it has answered a fault; at the last value of a u64 it stays
   pub fault_count : H → ℕ
+  -- how many calls it has had since it was opened; at the last value of a u64 it stays
+  pub calls : H → ℕ

@@ -1,10 +1,10 @@
-ghost use Rattle.std.specs.Prelude.{◌≡◌, ◌↔◌, ◌<◌, ◌≤◌, ◌+◌, ◌&&◌, true, false};
+ghost use Rattle.std.specs.Prelude.{◌≡◌, ◌↔◌, ◌<◌, ◌≤◌, ◌+◌, ◌&&◌, true, false, None, Some, is_some};
 ghost use Rattle.std.specs.Prelude.{not, length, take, IfOk, OnOk, OnErr, IsErrOf, IsTrue, is_err};
 ghost use Rattle.std.specs.FinMap as map;
 ghost use Rattle.xc_data.specs.Counts.{CountsFault};
 ghost use Rattle.xc_data.specs.Limits.{IsPrologue};
-ghost use Rattle.xc_host.specs.Cause.{is_fault};
-ghost use Rattle.xc_host.specs.Contents.{file_in, has_file, wrote, opened, needs_scripted};
+ghost use Rattle.xc_host.specs.Cause.{is_fault, IsCalled};
+ghost use Rattle.xc_host.specs.Contents.{file_in, has_file, wrote, appended, shortened, created, uncreated, renamed, opened, needs_scripted};
 ghost use Rattle.xc_host.specs.Fronts.{IsFront};
 ghost use Rattle.xc_host.specs.Model.{HostModel};
 
@@ -14,7 +14,7 @@ use xc_data::{Chunk, Name, Num, Prologue};
 /// What the calls of transactions go to. Only its own calls change it.
 ///
 /// A call that fails changes nothing. A count of faults rises exactly where a call answers a fault,
-/// and never falls. Each host keeps its allocator. For a host that tells, every object that a call
+/// and never falls; a count of calls rises at each call behind the opening. Each host keeps its allocator. For a host that tells, every object that a call
 /// names is there.
 pub trait Host: Drop {
     ghost model: { HostModel Self };
@@ -37,6 +37,16 @@ pub trait Host: Drop {
     fn lookup(&mut self, name: &Name) -> Result<Option<Num>, HostErr>
         ensures value { IsTrue model.tells → IfOk result (λ found. found ≡ map.get (model.contents self.old).names name.now) }
         ensures stays { IsTrue model.tells → model.contents self.new ≡ model.contents self.old }
+        ensures called { IsCalled (model.calls self.old) (model.calls self.new) }
+        ensures cause { CountsFault (is_fault result) (model.fault_count self.old) (model.fault_count self.new) };
+
+    /// An empty file of a new number, under a name that is absent.
+    fn create(&mut self, name: &Name, num: Num) -> Result<(), HostErr>
+        requires absent { IsTrue model.tells → map.get (model.contents self.old).names name.now ≡ None }
+        requires new { IsTrue model.tells → has_file (model.contents self.old) num ≡ false }
+        ensures ok { IsTrue model.tells → OnOk result (model.contents self.new ≡ created (model.contents self.old) name.now num) }
+        ensures err { IsTrue model.tells → OnErr result (model.contents self.new ≡ model.contents self.old) }
+        ensures called { IsCalled (model.calls self.old) (model.calls self.new) }
         ensures cause { CountsFault (is_fault result) (model.fault_count self.old) (model.fault_count self.new) };
 
     /// A file's length.
@@ -44,6 +54,7 @@ pub trait Host: Drop {
         requires there { IsTrue model.tells → has_file (model.contents self.old) file ≡ true }
         ensures value { IsTrue model.tells → IfOk result (λ n. n ≡ length (file_in (model.contents self.old) file)) }
         ensures stays { IsTrue model.tells → model.contents self.new ≡ model.contents self.old }
+        ensures called { IsCalled (model.calls self.old) (model.calls self.new) }
         ensures cause { CountsFault (is_err result) (model.fault_count self.old) (model.fault_count self.new) };
 
     /// A front of the n bytes from `at`. It is empty exactly where none is there or n is 0.
@@ -52,6 +63,7 @@ pub trait Host: Drop {
         ensures bound { IfOk result (λ front. length front ≤ n) }
         ensures value { IsTrue model.tells → IfOk result (λ front. IsFront (file_in (model.contents self.old) file) at n front) }
         ensures stays { IsTrue model.tells → model.contents self.new ≡ model.contents self.old }
+        ensures called { IsCalled (model.calls self.old) (model.calls self.new) }
         ensures cause { CountsFault (is_fault result) (model.fault_count self.old) (model.fault_count self.new) };
 
     /// Writes a front of the bytes over those from `at`, and answers its length.
@@ -63,6 +75,28 @@ pub trait Host: Drop {
         ensures ok { IsTrue model.tells
             → IfOk result (λ n. model.contents self.new ≡ wrote (model.contents self.old) file at (take n bytes.now)) }
         ensures err { IsTrue model.tells → OnErr result (model.contents self.new ≡ model.contents self.old) }
+        ensures called { IsCalled (model.calls self.old) (model.calls self.new) }
+        ensures cause { CountsFault (is_err result) (model.fault_count self.old) (model.fault_count self.new) };
+
+    /// Appends a front of the bytes, and answers its length. A file has at most 65,536 bytes.
+    fn append(&mut self, file: Num, bytes: &[u8]) -> Result<u32, HostErr>
+        requires there { IsTrue model.tells → has_file (model.contents self.old) file ≡ true }
+        requires fits { IsTrue model.tells → length (file_in (model.contents self.old) file) + length bytes.now ≤ 65536 }
+        requires some { 0 < length bytes.now }
+        ensures bound { IfOk result (λ n. (0 < n) × (n ≤ length bytes.now)) }
+        ensures ok { IsTrue model.tells
+            → IfOk result (λ n. model.contents self.new ≡ appended (model.contents self.old) file (take n bytes.now)) }
+        ensures err { IsTrue model.tells → OnErr result (model.contents self.new ≡ model.contents self.old) }
+        ensures called { IsCalled (model.calls self.old) (model.calls self.new) }
+        ensures cause { CountsFault (is_fault result) (model.fault_count self.old) (model.fault_count self.new) };
+
+    /// The file of a name takes another, which is absent. It takes no memory.
+    fn rename(&mut self, from: &Name, to: &Name) -> Result<(), Fault>
+        requires there { IsTrue model.tells → is_some (map.get (model.contents self.old).names from.now) ≡ true }
+        requires absent { IsTrue model.tells → map.get (model.contents self.old).names to.now ≡ None }
+        ensures ok { IsTrue model.tells → OnOk result (model.contents self.new ≡ renamed (model.contents self.old) from.now to.now) }
+        ensures err { IsTrue model.tells → OnErr result (model.contents self.new ≡ model.contents self.old) }
+        ensures called { IsCalled (model.calls self.old) (model.calls self.new) }
         ensures cause { CountsFault (is_err result) (model.fault_count self.old) (model.fault_count self.new) };
 
     /// Undoes an overwrite: as `write_at`. It takes no memory.
@@ -74,5 +108,33 @@ pub trait Host: Drop {
         ensures ok { IsTrue model.tells
             → IfOk result (λ n. model.contents self.new ≡ wrote (model.contents self.old) file at (take n bytes.now)) }
         ensures err { IsTrue model.tells → OnErr result (model.contents self.new ≡ model.contents self.old) }
+        ensures called { IsCalled (model.calls self.old) (model.calls self.new) }
+        ensures cause { CountsFault (is_err result) (model.fault_count self.old) (model.fault_count self.new) };
+
+    /// Undoes an append: the file has its first `len` bytes alone. It takes no memory.
+    fn cut(&mut self, file: Num, len: u32) -> Result<(), Fault>
+        requires there { IsTrue model.tells → has_file (model.contents self.old) file ≡ true }
+        requires within { IsTrue model.tells → len ≤ length (file_in (model.contents self.old) file) }
+        ensures ok { IsTrue model.tells → OnOk result (model.contents self.new ≡ shortened (model.contents self.old) file len) }
+        ensures err { IsTrue model.tells → OnErr result (model.contents self.new ≡ model.contents self.old) }
+        ensures called { IsCalled (model.calls self.old) (model.calls self.new) }
+        ensures cause { CountsFault (is_err result) (model.fault_count self.old) (model.fault_count self.new) };
+
+    /// Undoes a create: the name and its file go. It takes no memory.
+    fn uncreate(&mut self, name: &Name, num: Num) -> Result<(), Fault>
+        requires named { IsTrue model.tells → map.get (model.contents self.old).names name.now ≡ Some num }
+        requires there { IsTrue model.tells → has_file (model.contents self.old) num ≡ true }
+        ensures ok { IsTrue model.tells → OnOk result (model.contents self.new ≡ uncreated (model.contents self.old) name.now num) }
+        ensures err { IsTrue model.tells → OnErr result (model.contents self.new ≡ model.contents self.old) }
+        ensures called { IsCalled (model.calls self.old) (model.calls self.new) }
+        ensures cause { CountsFault (is_err result) (model.fault_count self.old) (model.fault_count self.new) };
+
+    /// Undoes a rename: the name `to` becomes `from` again. It takes no memory.
+    fn name_back(&mut self, from: &Name, to: &Name) -> Result<(), Fault>
+        requires there { IsTrue model.tells → is_some (map.get (model.contents self.old).names to.now) ≡ true }
+        requires absent { IsTrue model.tells → map.get (model.contents self.old).names from.now ≡ None }
+        ensures ok { IsTrue model.tells → OnOk result (model.contents self.new ≡ renamed (model.contents self.old) to.now from.now) }
+        ensures err { IsTrue model.tells → OnErr result (model.contents self.new ≡ model.contents self.old) }
+        ensures called { IsCalled (model.calls self.old) (model.calls self.new) }
         ensures cause { CountsFault (is_err result) (model.fault_count self.old) (model.fault_count self.new) };
 }
