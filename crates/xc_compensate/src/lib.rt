@@ -2,6 +2,7 @@
 #![tactic(auto)]
 
 mod stack;
+mod taking_back;
 #[cfg(test)]
 mod tests;
 mod undoing;
