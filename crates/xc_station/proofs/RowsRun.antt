@@ -27,6 +27,7 @@ use Rattle.xc_script.specs.Place.{Place, job_of, walk_of, IsSettled}
 use Rattle.xc_txmem.specs.Overlay.{overlaid}
 use Rattle.xc_world.specs.Late.{is_late}
 use Rattle.xc_world.specs.Modes.{claims_of}
+use Rattle.xc_wordlocks.specs.Index.{Held}
 use Rattle.xc_wordlocks.specs.Table.{claimed, mode_in}
 use Rattle.xc_wordlocks.proofs.Held.{claimed-holding}
 use Rattle.xc_story.specs.declared.phase.Phase.TheVariants.{Committing, Undoing}
@@ -296,7 +297,7 @@ module _ {H : Type 0} (model : HostModel H) (s : Setting) (shared : Shared H) (n
         undo = done.undo;
         calls = (ap (λ (r : Roomy Call). r.items) a.notes.0 ∙ ap (λ (t : SeenTx). t.calls) g.held) i ++ call ∷ [];
         replies = (ap (λ (r : Roomy Reply). r.items) a.notes.1 ∙ ap (λ (t : SeenTx). t.replies) g.held) i ++ reply ∷ [];
-        held = (ap (λ (r : Roomy Claim). r.items) a.notes.2 ∙ ap (λ (t : SeenTx). t.held) g.held ∙ ap (holding old.held.items) claims_now) i;
+        held = (ap (λ (h : Held). h.items) a.notes.2 ∙ ap (λ (t : SeenTx). t.held) g.held ∙ ap (holding old.held.items) claims_now) i;
       })
 
       spoken_now : IsWordStep (overlaid now.words old.writes) (overlaid now.words done.writes) call reply

@@ -1,10 +1,12 @@
 -- What a call of a running transaction needs, and what it does.
-use Rattle.std.specs.Prelude.{◌≡◌, ℕ, ◌≤◌, []}
+use Rattle.std.specs.Prelude.{◌≡◌, ℕ, ◌≤◌, List, []}
 use Rattle.xc_data.specs.Private.{place_of}
+use Rattle.xc_data.specs.declared.claim.Claim.{Claim}
 use Rattle.xc_data.specs.declared.private.Private.{Private}
 use Rattle.xc_file.specs.Calls.{IsOpenIn}
 use Rattle.xc_host.specs.Contents.{Contents}
 use Rattle.xc_txmem.specs.Overlay.{AreWithin}
+use Rattle.xc_wordlocks.specs.Index.{HasRoomFor}
 use Rattle.xc_story.specs.declared.phase.Phase.TheVariants.{Running}
 use Rattle.xc_story.specs.Seen.{SeenTx}
 use Rattle.xc_station.specs.declared.tx.Tx.{Tx}
@@ -15,10 +17,10 @@ pub record HasNoteRoom (tx : Tx) : Type 0 where
   pub calls : 1 ≤ tx.calls.spare
   pub replies : 1 ≤ tx.replies.spare
 
--- and for two claims
-pub record HasRoom (tx : Tx) : Type 0 where
+-- and for its claims
+pub record HasRoom (tx : Tx) (claims : List Claim) : Type 0 where
   pub notes : HasNoteRoom tx
-  pub held : 2 ≤ tx.held.spare
+  pub held : HasRoomFor tx.held claims
 
 -- ---- a transaction that may do its next call on so many words
 pub record MayGo (words : ℕ) (tx : SeenTx) : Type 0 where
