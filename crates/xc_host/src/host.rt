@@ -4,7 +4,8 @@ ghost use Rattle.std.specs.FinMap as map;
 ghost use Rattle.xc_data.specs.Counts.{CountsFault};
 ghost use Rattle.xc_data.specs.Limits.{IsPrologue};
 ghost use Rattle.xc_host.specs.Cause.{is_fault, IsCalled};
-ghost use Rattle.xc_host.specs.Contents.{file_in, has_file, wrote, appended, shortened, created, uncreated, renamed, opened, needs_scripted};
+ghost use Rattle.xc_host.specs.Contents.{file_in, has_file, wrote, appended, shortened, created, uncreated, renamed, opened};
+ghost use Rattle.xc_host.specs.Contents.{needs_scripted};
 ghost use Rattle.xc_host.specs.Fronts.{IsFront};
 ghost use Rattle.xc_host.specs.Model.{HostModel};
 
@@ -14,8 +15,8 @@ use xc_data::{Chunk, Name, Num, Prologue};
 /// What the calls of transactions go to. Only its own calls change it.
 ///
 /// A call that fails changes nothing. A count of faults rises exactly where a call answers a fault,
-/// and never falls; a count of calls rises at each call behind the opening. Each host keeps its allocator. For a host that tells, every object that a call
-/// names is there.
+/// and never falls; a count of calls rises at each call behind the opening. Each host keeps its
+/// allocator. For a host that tells, every object that a call names is there.
 pub trait Host: Drop {
     ghost model: { HostModel Self };
 

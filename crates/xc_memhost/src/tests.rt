@@ -258,6 +258,34 @@ fn faults_by_any(alloc: Global) -> Result<Row, NoMemory> {
     })
 }
 
+// Lines that overlap, in no order, and one of no number.
+fn faults_that_overlap(alloc: Global) -> Result<Row, NoMemory> {
+    let steps = vec![in alloc;
+        (HostCall::Len(FILE), HostAnswer::Fault),
+        (HostCall::Len(FILE), HostAnswer::Fault),
+        (HostCall::Len(FILE), HostAnswer::Number(6)),
+        (HostCall::Len(FILE), HostAnswer::Fault),
+        (HostCall::Len(FILE), HostAnswer::Fault),
+        (HostCall::Len(FILE), HostAnswer::Fault),
+        (HostCall::Len(FILE), HostAnswer::Number(6)),
+    ]?;
+    let lines = vec![in alloc;
+        line(Kind::Len, 5, 6),
+        line(Kind::Len, 1, 2),
+        line(Kind::Len, 7, 4),
+        line(Kind::Len, 4, 6),
+        line(Kind::Len, 2, 2),
+        line(Kind::Len, 5, 5),
+    ]?;
+    Ok(Row {
+        lines,
+        grain: None,
+        steps,
+        left: b"abcdef",
+        faults: 5,
+    })
+}
+
 fn failed_writes(alloc: Global) -> Result<Row, NoMemory> {
     let steps = vec![in alloc;
         (write(alloc, 0, b"XY")?, HostAnswer::Fault),
@@ -285,6 +313,7 @@ fn worked_rows(rt: HostRuntime) -> Result<(), Fail> {
         ("grain 3", with_grain(alloc, 3, b"bcd", b"aW12ef")?),
         ("faults of a kind", faults_of_a_kind(alloc)?),
         ("faults by any", faults_by_any(alloc)?),
+        ("faults that overlap", faults_that_overlap(alloc)?),
         ("failed writes", failed_writes(alloc)?),
     ]?;
     for (row, told) in rows {

@@ -61,8 +61,3 @@ few_touched _ me words is = cc
 -- and claims as many
 pub few_claims : (c : Call) (me : Private) (words : ℕ) → is_built c ≡ true → length (claims_of c me words) ≤ 2
 few_claims c me words is = few_claimed (mode_of c) (touch c me words) (few_touched c me words is)
-
--- a held claim on an object is one whose object that is
-pub any_object : (o : Object) (held : List Claim) → list_any (λ (c : Claim). is_object o c.object) held ≡ list_any (is_object o) (objects held)
-any_object o [] = refl
-any_object o (c ∷ held) = ap (λ b. is_object o c.object || b) (any_object o held)

@@ -6,12 +6,14 @@ use Rattle.xc_data.specs.Private.{place_of}
 use Rattle.xc_data.specs.declared.call.Answer.{Answer}
 use Rattle.xc_data.specs.declared.call.Call.{Call}
 use Rattle.xc_data.specs.declared.call.Reply.{Reply}
+use Rattle.xc_data.specs.declared.claim.Claim.{Claim}
 use Rattle.xc_data.specs.declared.memory.NoMemory.{NoMemory}
 use Rattle.xc_data.specs.declared.undo.Undo.{Undo}
 use Rattle.xc_file.specs.Calls.{IsNewIn, IsOpenIn}
 use Rattle.xc_host.specs.Contents.{Contents}
 use Rattle.xc_host.specs.Model.{HostModel}
 use Rattle.xc_txmem.specs.Overlay.{AreWithin, overlaid}
+use Rattle.xc_wordlocks.specs.Index.{HasRoomFor}
 use Rattle.xc_world.specs.Late.{is_late}
 use Rattle.xc_story.specs.declared.phase.Phase.TheVariants.{Running}
 use Rattle.xc_story.specs.Rows.{DoesIn, DoesPartIn, Parts, parts_of, stored_by}
@@ -26,10 +28,10 @@ pub record HasNoteRoom (tx : Tx) : Type 0 where
   pub calls : 1 ≤ tx.calls.spare
   pub replies : 1 ≤ tx.replies.spare
 
--- and for two claims
-pub record HasRoom (tx : Tx) : Type 0 where
+-- and for its claims
+pub record HasRoom (tx : Tx) (claims : List Claim) : Type 0 where
   pub notes : HasNoteRoom tx
-  pub held : 2 ≤ tx.held.spare
+  pub held : HasRoomFor tx.held claims
 
 -- ---- a transaction that may do its next call on so many words
 pub record MayGo (words : ℕ) (tx : SeenTx) : Type 0 where

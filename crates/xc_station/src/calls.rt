@@ -31,7 +31,6 @@ pub struct Shared<H: Host> {
 }
 
 // The transaction's own stores are seen.
-#[tactic(auto, using(xc_txmem::proofs::Overlays::overlay_count))]
 fn load(words: &Words, writes: &WriteSet, at: u64) -> Reply
     requires { AreWithin (length words.now) writes.now }
     ensures reply { result ≡ word_reply (overlaid words.now writes.now) (PlainCall.Load at) }
@@ -44,7 +43,6 @@ fn load(words: &Words, writes: &WriteSet, at: u64) -> Reply
 }
 
 // A store waits for the commit.
-#[tactic(auto, using(xc_txmem::proofs::Overlays::overlay_count, xc_txmem::proofs::Overlays::overlay_adds))]
 fn store(words: &Words, writes: &mut WriteSet, at: u64, value: u64) -> Result<Reply, NoMemory>
     requires { AreWithin (length words.now) writes.old }
     ensures reply { IfOk result (λ reply. reply ≡ word_reply (overlaid words.now writes.old) (PlainCall.Store at value)) }

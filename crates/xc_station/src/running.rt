@@ -57,13 +57,14 @@ fn claim<H: Host>(
     ensures claimed { HasClaimed shared.old.claims shared.new.claims tx.old tx.new
         (claims_of call.now tx.old.me (length shared.old.words)) entered result }
 {
-    if tx.room().is_err() {
+    let touched = touched_by(alloc, &shared.words, tx, call);
+    let claims = touched.as_slice();
+    if tx.room(claims).is_err() {
         return Err(want(tx));
     }
-    let claims = touched_by(alloc, &shared.words, tx, call);
-    match shared.claims.claim(claims.as_slice(), tx.number) {
+    match shared.claims.claim(claims, tx.number) {
         Ok(()) => {
-            tx.hold(claims.as_slice());
+            tx.hold(claims);
             Ok(())
         }
         Err(ClaimErr::Met { object, holder }) => {

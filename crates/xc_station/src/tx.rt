@@ -1,6 +1,5 @@
-ghost use Rattle.std.specs.Prelude.{◌≡◌, ◌<◌, ◌≤◌, ◌+◌, ◌∷◌, ◌++◌, [], ℕ, length, map, get_or, slice_set, OnOk};
-ghost use Rattle.std.specs.List.{list_any};
-ghost use Rattle.xc_data.specs.Claims.{holding_one, holding, is_object, merged};
+ghost use Rattle.std.specs.Prelude.{◌≡◌, ◌≤◌, ◌+◌, ◌∷◌, ◌++◌, [], ℕ, length, OnOk};
+ghost use Rattle.xc_data.specs.Claims.{holding};
 ghost use Rattle.xc_data.specs.declared.entry.Cause.{Cause as PlainCause};
 ghost use Rattle.xc_story.specs.declared.phase.Phase.TheVariants as PlainPhase;
 ghost use Rattle.xc_story.specs.Rows.{entry_of, new_tx};
@@ -13,6 +12,7 @@ use xc_data::{Call, Claim, Entry, LateList, NoMemory, Outcome, Private, Reply, R
 use xc_journal::Roomy;
 use xc_story::Phase;
 use xc_txmem::WriteSet;
+use xc_wordlocks::Holding;
 
 /// An active transaction, with what its entry will say.
 #[derive(Drop)]
@@ -29,7 +29,7 @@ pub struct Tx {
     pub undo: Stack,
     pub calls: Roomy<Call>,
     pub replies: Roomy<Reply>,
-    pub held: Roomy<Claim>,
+    pub held: Holding,
 }
 
 impl Tx {
@@ -47,29 +47,28 @@ impl Tx {
             undo: Stack::new(alloc),
             calls: Roomy::new(alloc),
             replies: Roomy::new(alloc),
-            held: Roomy::new(alloc),
+            held: Holding::new(alloc),
         }
     }
 
     /// Makes room for one call, its reply and its claims.
-    pub fn room(&mut self) -> Result<(), NoMemory>
-        ensures ok { OnOk result (HasRoom self.new) }
+    pub fn room(&mut self, claims: &[Claim]) -> Result<(), NoMemory>
+        requires { length claims.now ≤ 2 }
+        ensures ok { OnOk result (HasRoom self.new claims.now) }
         ensures same { seen_tx self.new ≡ seen_tx self.old }
     {
         self.calls.reserve(1)?;
         self.replies.reserve(1)?;
-        self.held.reserve(2)?;
-        Ok(())
+        self.held.reserve(claims)
     }
 
     /// Holds what is claimed, into the room for it. It takes no memory.
     pub fn hold(&mut self, claims: &[Claim])
-        requires room { HasRoom self.old }
-        requires few { length claims.now ≤ 2 }
+        requires { HasRoom self.old claims.now }
         ensures held { seen_tx self.new ≡ record (seen_tx self.old) { held = holding self.old.held.items claims.now } }
         ensures room { HasNoteRoom self.new }
     {
-        hold(&mut self.held, claims);
+        self.held.hold(claims);
     }
 
     /// Notes a call with its reply, into the room for them. It takes no memory.
@@ -120,57 +119,5 @@ impl Tx {
             held: held.into_items(),
             outcome,
         }
-    }
-}
-
-fn holds(held: &[Claim], new: &Claim) -> bool
-    ensures { result ≡ list_any (λ claim. is_object new.now.object claim.object) held.now }
-{
-    held.iter().any(|claim| new.object == claim.object)
-}
-
-fn merge_at(held: &mut Roomy<Claim>, at: usize, new: &Claim)
-    requires { at < length held.old.items }
-    ensures held { held.new.items ≡ slice_set held.old.items at (merged new.now (get_or held.old.items at new.now)) }
-    ensures spare { held.new.spare ≡ held.old.spare }
-{
-    let Claim { object, mode } = *held.get(at);
-    let mode = if new.object == object {
-        mode.stronger(new.mode)
-    } else {
-        mode
-    };
-    held.set(at, Claim { object, mode });
-}
-
-// Each held claim behind a new one.
-fn merge(held: &mut Roomy<Claim>, new: &Claim)
-    ensures held { held.new.items ≡ map (merged new.now) held.old.items }
-    ensures spare { held.new.spare ≡ held.old.spare }
-{
-    for at in 0..held.len() {
-        merge_at(held, at, new);
-    }
-}
-
-fn hold_one(held: &mut Roomy<Claim>, new: &Claim)
-    requires { 1 ≤ held.old.spare }
-    ensures held { held.new.items ≡ holding_one held.old.items new.now }
-    ensures spare { held.old.spare ≤ held.new.spare + 1 }
-{
-    if holds(held.as_slice(), new) {
-        merge(held, new);
-    } else {
-        held.enter(*new);
-    }
-}
-
-// Holds what is claimed: an object that isn't held yet behind the others.
-fn hold(held: &mut Roomy<Claim>, claims: &[Claim])
-    requires { length claims.now ≤ held.old.spare }
-    ensures { held.new.items ≡ holding held.old.items claims.now }
-{
-    for claim in claims {
-        hold_one(held, claim);
     }
 }
