@@ -24,7 +24,7 @@ use Rattle.xc_world.specs.Fits.{fits, answer_of}
 use Rattle.xc_world.specs.Trail.{recorded, append_record, done_of}
 use Rattle.xc_host.specs.Contents.{Contents, file_in, with_contents, world_of}
 use Rattle.xc_host.specs.Model.{HostModel}
-use Rattle.xc_compensate.specs.Records.{AtHost, Records}
+use Rattle.xc_compensate.specs.Records.{Records}
 use Rattle.xc_file.specs.Appending.{Appends, StopsShort, tail}
 use Rattle.xc_file.specs.Calls.{CallState, Moment, moment_of, Acts, AreRecorded, DidPart, IsFileCall}
 use Rattle.xc_file.specs.Calls.{refusal_of, is_check_reply, replies_fault}

@@ -1,36 +1,30 @@
 -- Calls on files, as their contract has them.
-use Rattle.std.proofs.Common.{◌≡◌, ℕ, ◌||◌, Bool, true, false, IsTrue, Option, Some, None, Ok, Err, inl}
-use Rattle.std.proofs.Common.{List, [], ◌++◌, length, refl, ap, sym, ◌∙◌, subst, append-nil, arith, if◌then◌else◌}
+use Rattle.std.proofs.Common.{◌≡◌, ℕ, false, IsTrue, Option, Some, None, Ok, Err, inl}
+use Rattle.std.proofs.Common.{List, [], ◌++◌, refl, ap, sym, ◌∙◌, subst, append-nil, arith}
 use Rattle.std.proofs.lemmas.List.{append_cancel_left}
-use Rattle.std.specs.Prelude.{MatchOption, IfOk, OnOk, OnErr, Result, unwrap_or, is_none, not}
+use Rattle.std.specs.Prelude.{MatchOption, IfOk, OnOk, OnErr, Result}
 use Rattle.xc_data.specs.Counts.{CountsFault}
 use Rattle.xc_data.specs.declared.memory.NoMemory.{NoMemory}
 use Rattle.xc_data.specs.declared.call.Call.{Call}
 use Rattle.xc_data.specs.declared.call.Call.TheVariants as call
-use Rattle.xc_data.specs.declared.call.Answer.{Answer}
 use Rattle.xc_data.specs.declared.call.Answer.TheVariants.{Fine}
 use Rattle.xc_data.specs.declared.call.Reply.{Reply}
 use Rattle.xc_data.specs.declared.call.Reply.TheVariants as reply
-use Rattle.xc_data.specs.declared.private.Place.{Place}
-use Rattle.xc_data.specs.declared.private.Place.TheVariants as place
 use Rattle.xc_data.specs.declared.private.Private.{Private}
-use Rattle.xc_data.specs.declared.object.Num.{Num}
 use Rattle.xc_data.specs.declared.undo.Undo.{Undo}
 use Rattle.xc_data.specs.Faults.{is_fault_reply}
-use Rattle.xc_data.specs.Private.{place_of}
 use Rattle.xc_world.specs.World.{World}
-use Rattle.xc_world.specs.Act.{act, done}
-use Rattle.xc_world.specs.Act.Step.{Stepped, stays, counted}
-use Rattle.xc_world.specs.Checks.{is_bad_handle, is_too_big, is_too_much, is_bad_word, is_refused}
+use Rattle.xc_world.specs.Act.{act}
+use Rattle.xc_world.specs.Act.Step.{stays}
+use Rattle.xc_world.specs.Checks.{is_bad_handle, is_too_big, is_too_much}
 use Rattle.xc_world.specs.Fits.{fits, answer_of}
-use Rattle.xc_world.specs.Trail.{overwrite_record, append_record, done_of}
 use Rattle.xc_host.specs.Model.{HostModel}
-use Rattle.xc_host.specs.Contents.{Contents, with_contents, world_of}
+use Rattle.xc_host.specs.Contents.{Contents, with_contents}
 use Rattle.xc_compensate.specs.Records.{Records}
 use Rattle.xc_file.specs.Calls.{CallState, Moment, moment_of, IsFileCall, Acts, AreRecorded, StepsAlone}
 use Rattle.xc_file.specs.Calls.{refusal_of, is_check_reply, replies_fault}
 use Rattle.xc_file.specs.Writing.{AddsOne}
-use Rattle.xc_file.proofs.Refusals.{IsPlain, plain_first, refused_acts}
+use Rattle.xc_file.proofs.Refusals.{plain_first, refused_acts}
 
 -- a record with nothing behind
 grown_by_none : (undo : Records) → undo ≡ record undo { pending = undo.pending ++ [] }

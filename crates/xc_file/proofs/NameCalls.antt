@@ -1,5 +1,5 @@
 -- Calls on names, as the plain machine does them.
-use Rattle.std.proofs.Common.{◌≡◌, ℕ, ◌+◌, ◌<◌, ◌||◌, Bool, true, false, IsTrue, Option, Some, None, Ok, Err, List, refl, ap, sym, ◌∙◌, subst, if◌then◌else◌}
+use Rattle.std.proofs.Common.{◌≡◌, ℕ, ◌<◌, ◌||◌, Bool, true, false, Option, Some, None, Ok, Err, List, refl, ap, sym, ◌∙◌, subst, if◌then◌else◌}
 use Rattle.std.proofs.Math.Bool.{or-false}
 use Rattle.std.proofs.lemmas.Bool.{lt-leb}
 use Rattle.std.specs.Prelude.{Result, IfOk, is_some, is_none, not, ◌&&◌}
@@ -19,7 +19,7 @@ use Rattle.xc_world.specs.Act.Step.{Stepped, stays, counted}
 use Rattle.xc_world.specs.Act.Names.{created, renamed, next_num}
 use Rattle.xc_world.specs.Checks.{has_made_all}
 use Rattle.xc_host.specs.Contents.{Contents, with_contents, renamed_file}
-use Rattle.xc_file.specs.Calls.{Acts, Moment}
+use Rattle.xc_file.specs.Calls.{Acts}
 use Rattle.xc_file.proofs.FileCalls.{moment}
 use Rattle.xc_file.specs.Naming.{Renames, Creates, IsMadeAt, with_made}
 

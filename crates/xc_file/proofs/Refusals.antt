@@ -1,10 +1,7 @@
 -- What the private checks say of a call, and what they leave of one that they refuse.
-use Rattle.std.proofs.Common.{◌≡◌, ℕ, ◌||◌, Bool, true, false, IsTrue, Option, Some, None, Ok, Err, inl}
-use Rattle.std.proofs.Common.{List, [], ◌++◌, length, refl, ap, sym, ◌∙◌, subst, append-nil, arith, if◌then◌else◌}
-use Rattle.std.proofs.lemmas.List.{append_cancel_left}
-use Rattle.std.specs.Prelude.{MatchOption, IfOk, OnOk, OnErr, Result, unwrap_or, is_none, not}
-use Rattle.xc_data.specs.Counts.{CountsFault}
-use Rattle.xc_data.specs.declared.memory.NoMemory.{NoMemory}
+use Rattle.std.proofs.Common.{◌≡◌, ℕ, ◌||◌, Bool, true, false, Option, Some, None}
+use Rattle.std.proofs.Common.{List, [], length, refl, ap, sym, ◌∙◌, subst, if◌then◌else◌}
+use Rattle.std.specs.Prelude.{MatchOption, unwrap_or, not}
 use Rattle.xc_data.specs.declared.call.Call.{Call}
 use Rattle.xc_data.specs.declared.call.Call.TheVariants as call
 use Rattle.xc_data.specs.declared.call.Answer.{Answer}
@@ -14,22 +11,17 @@ use Rattle.xc_data.specs.declared.call.Reply.TheVariants as reply
 use Rattle.xc_data.specs.declared.private.Place.{Place}
 use Rattle.xc_data.specs.declared.private.Place.TheVariants as place
 use Rattle.xc_data.specs.declared.private.Private.{Private}
-use Rattle.xc_data.specs.declared.object.Num.{Num}
-use Rattle.xc_data.specs.declared.undo.Undo.{Undo}
 use Rattle.xc_data.specs.Faults.{is_fault_reply}
 use Rattle.xc_data.specs.Private.{place_of}
 use Rattle.xc_world.specs.World.{World}
 use Rattle.xc_world.specs.Act.{act, done}
 use Rattle.xc_world.specs.Act.Step.{Stepped, stays, counted}
 use Rattle.xc_world.specs.Checks.{is_bad_handle, is_too_big, is_too_much, is_bad_word, is_refused}
-use Rattle.xc_world.specs.Fits.{fits, answer_of}
+use Rattle.xc_world.specs.Fits.{answer_of}
 use Rattle.xc_world.specs.Trail.{overwrite_record, append_record, done_of}
-use Rattle.xc_host.specs.Model.{HostModel}
-use Rattle.xc_host.specs.Contents.{Contents, with_contents, world_of}
-use Rattle.xc_compensate.specs.Records.{Records}
-use Rattle.xc_file.specs.Calls.{CallState, Moment, moment_of, IsFileCall, Acts, AreRecorded, StepsAlone}
-use Rattle.xc_file.specs.Calls.{refusal_of, is_check_reply, replies_fault}
-use Rattle.xc_file.specs.Writing.{AddsOne}
+use Rattle.xc_host.specs.Contents.{with_contents}
+use Rattle.xc_file.specs.Calls.{Moment, AreRecorded}
+use Rattle.xc_file.specs.Calls.{refusal_of}
 
 -- the first of three checks that refuses
 abbrev first : Bool → Bool → Bool → Option Reply

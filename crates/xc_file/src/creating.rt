@@ -1,9 +1,8 @@
-ghost use Rattle.std.specs.Prelude.{◌≡◌, ◌≤◌, ◌<◌, ℕ, ◌++◌, [], Some, false, IfOk, OnOk, OnErr, IsTrue};
+ghost use Rattle.std.specs.Prelude.{◌≡◌, ◌≤◌, ◌<◌, ◌++◌, [], Some, false, IfOk, OnOk, OnErr, IsTrue};
 ghost use Rattle.xc_world.specs.Late.{is_late};
 ghost use Rattle.xc_world.specs.Trail.{create_record};
 ghost use Rattle.xc_world.specs.Act.Names.{next_num};
 ghost use Rattle.xc_data.specs.Counts.{CountsFault};
-ghost use Rattle.xc_data.specs.Private.{lowest_vacant};
 ghost use Rattle.xc_data.specs.declared.call.Call.TheVariants.{XCreate};
 ghost use Rattle.xc_file.specs.Calls.{IsFileCall, IsNewIn, is_check_reply, replies_fault};
 ghost use Rattle.xc_file.specs.Naming.{IsAbsent, IsMadeAt, Creates, with_made};

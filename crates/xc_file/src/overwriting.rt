@@ -11,7 +11,7 @@ ghost use Rattle.xc_host.specs.Cause.{is_fault};
 ghost use Rattle.xc_host.specs.Contents.{file_in, has_file, wrote_front, world_of};
 ghost use Rattle.xc_file.specs.Calls.{Acts, IsFileCall, IsOpenIn, is_check_reply, replies_fault};
 ghost use Rattle.xc_file.specs.Checks.{IsOpenAt};
-ghost use Rattle.xc_file.specs.Writing.{AddsOne, IsInside, Overwrote, moved_on};
+ghost use Rattle.xc_file.specs.Writing.{AddsOne, IsInside, Overwrote};
 
 use crate::checks::{OpenFile, open_file};
 use crate::moving::move_on;

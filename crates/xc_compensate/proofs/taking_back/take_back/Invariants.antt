@@ -1,7 +1,6 @@
 use Rattle.std.proofs.Common.{◌≡◌, ◌≤◌, ◌<◌, IsTrue}
 use Rattle.xc_data.specs.Counts.{CountsFaults}
 use Rattle.xc_host.specs.Cause.{IsCalled}
-use Rattle.xc_host.specs.Contents.{world_of}
 use Rattle.xc_compensate.proofs.taking_back.take_back.Given as goal
 
 -- each try so far failed, and changed nothing

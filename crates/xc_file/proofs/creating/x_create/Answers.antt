@@ -1,4 +1,4 @@
-use Rattle.std.proofs.Common.{◌≡◌, refl, ap, sym, ◌∙◌, ◌||◌, true}
+use Rattle.std.proofs.Common.{refl, ap, sym, ◌∙◌, ◌||◌, true}
 use Rattle.std.proofs.lemmas.Bool.{le-leb, lt-leb}
 use Rattle.std.specs.Prelude.{is_none}
 use Rattle.xc_data.specs.Private.{lowest_vacant}

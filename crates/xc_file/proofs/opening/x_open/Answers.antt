@@ -1,7 +1,5 @@
-use Rattle.std.proofs.Common.{refl, ap, sym, ◌∙◌, Some, None, if◌then◌else◌}
-use Rattle.std.specs.Prelude.{is_none, Option}
-use Rattle.xc_data.specs.declared.call.Reply.{Reply}
-use Rattle.xc_data.specs.declared.call.Reply.TheVariants.{TooMuch}
+use Rattle.std.proofs.Common.{refl, ap, sym, ◌∙◌}
+use Rattle.std.specs.Prelude.{is_none}
 use Rattle.xc_file.proofs.FileCalls.{refused_call, unrecorded_call}
 use Rattle.xc_file.proofs.Refusals.{by_much}
 use Rattle.xc_file.proofs.opening.x_open.Goals as goal
