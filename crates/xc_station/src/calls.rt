@@ -12,7 +12,7 @@ ghost use Rattle.xc_story.specs.WordCalls.{is_word_call, is_overwrite, word_repl
 ghost use Rattle.xc_story.specs.Rows.{DoesIn, IsSameBegin, is_built, parts_of, stored_by};
 ghost use Rattle.xc_story.specs.Seen.{SeenTx};
 ghost use Rattle.xc_station.specs.Acting.{AreOpenIn, MayGo};
-ghost use Rattle.xc_station.specs.Jobs.{seen_tx};
+ghost use Rattle.xc_station.specs.Jobs.{begun_of, seen_tx};
 
 use crate::tx::Tx;
 use std::alloc::Global;
@@ -139,6 +139,7 @@ pub fn do_call<H: Host>(
     requires open { IsTrue H.model.tells → AreOpenIn (H.model.contents host.old) tx.old.me }
     ensures same { (tx.new.number ≡ tx.old.number) × (tx.new.rank ≡ tx.old.rank) × (tx.new.began ≡ tx.old.began) ×
         (tx.new.phase ≡ tx.old.phase) }
+    ensures begun { begun_of tx.new ≡ begun_of tx.old }
     ensures notes { (tx.new.calls ≡ tx.old.calls) × (tx.new.replies ≡ tx.old.replies) × (tx.new.held ≡ tx.old.held) }
     ensures stores { OnOk result (tx.new.writes ≡ tx.old.writes ++ stored_by (length words.now) call.now) }
     ensures stored { tx.new.me.stored ≤ 16384 }
@@ -155,17 +156,24 @@ pub fn do_call<H: Host>(
     ensures does { IsTrue H.model.tells → IfOk result (DoesIn words.now (H.model.contents host.old) (H.model.contents host.new)
         (parts_of (seen_tx tx.old)) (parts_of (seen_tx tx.new)) call.now) }
 {
+    if is_on_words(call) {
+        let Tx {
+            me,
+            writes,
+            undo,
+            ..
+        } = tx;
+        let reply = act(alloc, host, words, me, writes, undo, call)?;
+        place.answer(script, &reply)?;
+        return Ok(reply);
+    }
+    tx.keep();
     let Tx {
         me,
         writes,
         undo,
         ..
     } = tx;
-    if is_on_words(call) {
-        let reply = act(alloc, host, words, me, writes, undo, call)?;
-        place.answer(script, &reply)?;
-        return Ok(reply);
-    }
     let before = *me;
     let reply = act(alloc, host, words, me, writes, undo, call)?;
     if place.answer(script, &reply).is_err() {

@@ -38,7 +38,7 @@ returns-in-Ok-clause-row g c rules now at job here has journal =
     called g.H.Host.model _ _ _ _ _ _ c.args.tx.now here has
     (record { host = c.do_call.new.host; words = c.claim.new.shared.words; claims = c.claim.new.shared.claims }) c.claim.new.tx c.args.call
     c.in_default.ensures.same.1 c.requires.asked c.in_default.ensures.claimed c.do_call.new.place c.claim.new.shared.host c.do_call.new.tx c.note.new.self
-    c.in-Ok.reply acted c.in_default.ensures.same.0 c.note.ensures
+    c.in-Ok.reply acted c.in_default.ensures.same.0 c.note.ensures.noted
 
 pub returns-in-Err-do_call-clause-row : goal.returns-in-Err-do_call-clause-row
 returns-in-Err-do_call-clause-row g c rules now at job here has journal =
@@ -48,6 +48,6 @@ returns-in-Err-do_call-clause-row g c rules now at job here has journal =
     starved g.H.Host.model _ _ _ _ _ c.do_call.new.place c.args.tx.now here there
     (record { host = c.do_call.new.host; words = c.claim.new.shared.words; claims = c.claim.new.shared.claims }) c.claim.new.tx c.args.call
     c.in_default.ensures.same.1 (ap (λ p. asks (walk_of c.args.script.now p)) e.err_place ∙ c.requires.asked) c.in_default.ensures.claimed c.want.new.tx
-    c.want.result (c.want.ensures.0 ∙ ap (λ (t : SeenTx). record t { phase = Undoing cause.NoMemory }) e.err_tx) c.want.ensures.1
+    c.want.result (c.want.ensures.tx ∙ ap (λ (t : SeenTx). record t { phase = Undoing cause.NoMemory }) e.err_tx) c.want.ensures.answer
     (e.cause ∙ ap g.H.Host.model.fault_count c.in_default.ensures.same.0)
     (λ tells. e.err_host tells ∙ ap g.H.Host.model.contents c.in_default.ensures.same.0)
