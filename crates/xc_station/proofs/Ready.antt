@@ -35,7 +35,7 @@ use Rattle.xc_station.specs.declared.calls.Shared.{Shared}
 use Rattle.xc_station.specs.declared.job.Job.{Job}
 use Rattle.xc_station.specs.declared.job.Stage.{Stage}
 use Rattle.xc_station.specs.declared.job.Stage.TheVariants as stage
-use Rattle.xc_station.specs.Jobs.{seen_doing, seen_job, seen_jobs}
+use Rattle.xc_station.specs.Jobs.{doing_of, seen_job, seen_jobs}
 use Rattle.xc_station.specs.Moments.{AreSingle, CanRun, IsAt}
 use Rattle.xc_station.specs.Stations.{HasRooms, IsSteady, moment}
 use Rattle.xc_station.proofs.Placed.{get_map, length_set}
@@ -149,7 +149,7 @@ module _ {H : Type 0} (model : HostModel H) (shared : Shared H) (journal : List 
       let s = setting script rules model.tells in
       let now = moment model shared journal jobs in
       let there = get_map seen_job jobs at was is.stands in
-      let runs = running_stage (seen_doing was.activity) is.stage in
+      let runs = running_stage (doing_of was) is.stage in
       let t = telling s faults now steady at (seen_job was) runs.tx there runs.doing in
       let active : IsActiveAt now.jobs at runs.tx = (seen_job was, there, ap active_in runs.doing) in
       let spoken = steady.kept.spoken.each at runs.tx active in
@@ -194,7 +194,7 @@ module _ {H : Type 0} (model : HostModel H) (shared : Shared H) (journal : List 
       let s = setting script rules model.tells in
       let now = moment model shared journal jobs in
       let there = get_map seen_job jobs at was is.stands in
-      let back = undoing_stage (seen_doing was.activity) is.stage in (
+      let back = undoing_stage (doing_of was) is.stage in (
         back.tx,
         back.doing,
         λ none. let lacks : back.newest ∷ back.older ≡ [] = sym back.pending ∙ none in cc lacks,
@@ -204,18 +204,18 @@ module _ {H : Type 0} (model : HostModel H) (shared : Shared H) (journal : List 
       )
 
   -- numbers that fit, of a job with an active transaction
-  pub fits_next : (s : Stage) (tx : SeenTx) → IsThere jobs at s was → seen_doing was.activity ≡ Active tx → was.place.next < 2 ^ 32
+  pub fits_next : (s : Stage) (tx : SeenTx) → IsThere jobs at s was → doing_of was ≡ Active tx → was.place.next < 2 ^ 32
   fits_next s tx is does = few_next (setting script rules model.tells) faults (moment model shared journal jobs) steady at (seen_job was) tx
       (get_map seen_job jobs at was is.stands) does
 
   -- and attempts
-  pub fits_failures : (s : Stage) (tx : SeenTx) → IsThere jobs at s was → seen_doing was.activity ≡ Active tx → rules.attempts < 2 ^ 32
+  pub fits_failures : (s : Stage) (tx : SeenTx) → IsThere jobs at s was → doing_of was ≡ Active tx → rules.attempts < 2 ^ 32
       → failures was.attempts + 1 < 2 ^ 32
   fits_failures s tx is does fits =
       let few = few_failures (setting script rules model.tells) faults (moment model shared journal jobs) steady at (seen_job was) tx
       (get_map seen_job jobs at was is.stands) does in omega (arith, few, fits)
 
   -- each active one has its room
-  pub has_room : (s : Stage) (tx : SeenTx) → IsThere jobs at s was → seen_doing was.activity ≡ Active tx → (1 ≤ active) × (1 ≤ spare)
+  pub has_room : (s : Stage) (tx : SeenTx) → IsThere jobs at s was → doing_of was ≡ Active tx → (1 ≤ active) × (1 ≤ spare)
   has_room s tx is does = one_active shared.claims active spare (moment model shared journal jobs) lines at (seen_job was) tx
       (get_map seen_job jobs at was is.stands) (ap active_in does) rooms

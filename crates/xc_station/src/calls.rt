@@ -8,7 +8,7 @@ ghost use Rattle.xc_world.specs.Late.{is_late};
 ghost use Rattle.xc_story.specs.WordCalls.{is_word_call, word_reply, words_after};
 ghost use Rattle.xc_story.specs.Rows.{IsSameBegin, is_built, stored_by};
 ghost use Rattle.xc_station.specs.Acting.{AreReadyFor, HasActed, MayGo, acting};
-ghost use Rattle.xc_station.specs.Jobs.{seen_tx};
+ghost use Rattle.xc_station.specs.Jobs.{begun_of, seen_tx};
 
 use crate::tx::Tx;
 use std::alloc::Global;
@@ -69,6 +69,7 @@ fn act<H: Host>(
     requires built { is_built call.now ≡ true }
     requires may { MayGo (length words.now) (seen_tx tx.old) }
     requires ready { IsTrue H.model.tells → AreReadyFor (seen_tx tx.old) (H.model.contents host.old) }
+    ensures begun { (tx.new.changed ≡ tx.old.changed) × (tx.new.begun ≡ tx.old.begun) }
     ensures notes { (tx.new.calls ≡ tx.old.calls) × (tx.new.replies ≡ tx.old.replies) }
     ensures words { is_word_call call.now ≡ true → tx.new.me ≡ tx.old.me }
     ensures acted { HasActed H.model call.now (acting host.old words.now tx.old) (acting host.new words.now tx.new) result }
@@ -117,6 +118,7 @@ pub fn do_call<H: Host>(
     requires settled { IsSettled script.now place.old }
     requires may { MayGo (length words.now) (seen_tx tx.old) }
     requires ready { IsTrue H.model.tells → AreReadyFor (seen_tx tx.old) (H.model.contents host.old) }
+    ensures begun { begun_of tx.new ≡ begun_of tx.old }
     ensures notes { (tx.new.calls ≡ tx.old.calls) × (tx.new.replies ≡ tx.old.replies) }
     ensures walk { IfOk result (λ reply. walk_of script.now place.new ≡ answered (walk_of script.now place.old) reply) }
     ensures nearer { OnOk result (place.old.at < place.new.at) }
@@ -129,6 +131,7 @@ pub fn do_call<H: Host>(
         place.answer(script, &reply)?;
         return Ok(reply);
     }
+    tx.keep();
     let before = tx.me;
     let reply = act(alloc, host, words, tx, call)?;
     if place.answer(script, &reply).is_err() {

@@ -10,11 +10,11 @@ ghost use Rattle.xc_story.specs.Seen.{SeenJob, Now, Active};
 ghost use Rattle.xc_story.specs.Setting.{setting};
 ghost use Rattle.xc_story.specs.Rows.{with_tx};
 ghost use Rattle.xc_station.specs.Acting.{AreReadyFor, MayGo};
-ghost use Rattle.xc_station.specs.Jobs.{seen_job, seen_tx};
+ghost use Rattle.xc_station.specs.Jobs.{begun_of, seen_job, seen_tx};
 ghost use Rattle.xc_station.specs.Moments.{CanRun, HasClaimed, HasTx, IsAt, IsRow, moved};
 
 use crate::calls::{Shared, do_call};
-use crate::job::{Activity, Job};
+use crate::job::Job;
 use crate::tx::Tx;
 use smallvec::SmallVec;
 use std::alloc::Global;
@@ -37,7 +37,9 @@ fn touched_by(alloc: Global, words: &Words, tx: &Tx, call: &Call) -> SmallVec<Cl
 
 // The transaction undoes for want of memory.
 fn want(tx: &mut Tx) -> Turn
-    ensures { (seen_tx tx.new ≡ record (seen_tx tx.old) { phase = PlainPhase.Undoing PlainCause.NoMemory }) × (result ≡ Turn.NoMemory) }
+    ensures tx { seen_tx tx.new ≡ record (seen_tx tx.old) { phase = PlainPhase.Undoing PlainCause.NoMemory } }
+    ensures begun { begun_of tx.new ≡ begun_of tx.old }
+    ensures answer { result ≡ Turn.NoMemory }
 {
     tx.phase = Phase::Undoing(Cause::NoMemory);
     Turn::NoMemory
@@ -56,6 +58,7 @@ fn claim<H: Host>(
     ensures same { (shared.new.host ≡ shared.old.host) × (shared.new.words ≡ shared.old.words) }
     ensures claimed { HasClaimed shared.old.claims shared.new.claims tx.old tx.new
         (claims_of call.now tx.old.me (length shared.old.words)) entered result }
+    ensures begun { begun_of tx.new ≡ begun_of tx.old }
 {
     let touched = touched_by(alloc, &shared.words, tx, call);
     let claims = touched.as_slice();
@@ -95,6 +98,7 @@ fn try_call<H: Host>(
     requires count { length shared.old.words ≤ 4096 }
     requires ready { IsTrue H.model.tells → AreReadyFor (seen_tx tx.old) (H.model.contents shared.old.host) }
     ensures words { shared.new.words ≡ shared.old.words }
+    ensures begun { begun_of tx.new ≡ begun_of tx.old }
     ensures row { (rules : PlainRules) (now : Now) (at : ℕ) (job : SeenJob) → let s = setting script.now rules H.model.tells in
         IsAt H.model shared.old now at job → HasTx s job place.old (seen_tx tx.old) → length now.journal ≡ entered
         → IsRow s now (moved H.model shared.new (with_tx job place.new (seen_tx tx.new)) now at) at job result shared.new.claims }
@@ -127,6 +131,7 @@ fn go<H: Host>(
     requires count { length shared.old.words ≤ 4096 }
     requires ready { IsTrue H.model.tells → AreReadyFor (seen_tx tx.old) (H.model.contents shared.old.host) }
     ensures count { length shared.new.words ≡ length shared.old.words }
+    ensures begun { begun_of tx.new ≡ begun_of tx.old }
     ensures row { (rules : PlainRules) (now : Now) (at : ℕ) (job : SeenJob) → let s = setting script.now rules H.model.tells in
         IsAt H.model shared.old now at job → job.doing ≡ Active (seen_tx tx.old) → job.place ≡ place.old → length now.journal ≡ entered
         → IsRow s now (moved H.model shared.new (with_tx job place.new (seen_tx tx.new)) now at) at job result shared.new.claims }
@@ -164,13 +169,6 @@ pub fn run<H: Host>(
         IsAt H.model shared.old now at (seen_job job.old) → length now.journal ≡ entered
         → IsRow s now (moved H.model shared.new (seen_job job.new) now at) at (seen_job job.old) result shared.new.claims }
 {
-    let Job {
-        place,
-        activity,
-        ..
-    } = job;
-    let Activity::Active(tx) = activity else {
-        unreachable!()
-    };
+    let Job { place, tx, .. } = job;
     go(alloc, shared, script, entered, place, tx)
 }

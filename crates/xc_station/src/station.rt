@@ -22,9 +22,10 @@ use crate::close::{abort, commit, undo};
 use crate::job::{Activity, Job, Stage};
 use crate::running::run;
 use crate::start::{End, NotStarted, Opening};
+use crate::tx::Tx;
 use std::alloc::Global;
 use std::marker::Model;
-use xc_data::{JobEnd, JobLine, JobList, NoMemory, Private, Turn};
+use xc_data::{JobEnd, JobLine, JobList, NoMemory, Turn};
 use xc_host::{Host, OpenErr};
 use xc_journal::{Journal, Roomy};
 use xc_script::JobState;
@@ -248,10 +249,10 @@ fn opened_jobs(alloc: Global, script: &Script) -> Result<Vec<Job>, NoMemory>
     for block in script.plain().jobs.as_slice() {
         jobs.push(Job {
             block: *block,
-            me: Private::new(),
             place: JobState::new(alloc, script, *block),
             attempts: None,
             activity: Activity::Idle,
+            tx: Tx::new(alloc),
         })?;
     }
     Ok(jobs)

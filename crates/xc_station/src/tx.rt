@@ -1,12 +1,14 @@
-ghost use Rattle.std.specs.Prelude.{◌≡◌, ◌≤◌, ◌+◌, ◌∷◌, ◌++◌, [], ℕ, length, OnOk};
+ghost use Rattle.std.specs.Prelude.{◌≡◌, ◌≤◌, ◌+◌, ◌∷◌, ◌++◌, [], ℕ, length, true, false, OnOk};
 ghost use Rattle.xc_data.specs.Claims.{holding};
 ghost use Rattle.xc_data.specs.declared.entry.Cause.{Cause as PlainCause};
+ghost use Rattle.xc_world.specs.World.{beginning, no_handles};
 ghost use Rattle.xc_story.specs.declared.phase.Phase.TheVariants as PlainPhase;
 ghost use Rattle.xc_story.specs.Rows.{entry_of, new_tx};
-ghost use Rattle.xc_station.specs.Jobs.{outcome_in, seen_tx};
+ghost use Rattle.xc_station.specs.Jobs.{begun_of, outcome_in, seen_tx};
 ghost use Rattle.xc_station.specs.Acting.{HasRoom, HasNoteRoom};
 
 use std::alloc::Global;
+use std::mem;
 use xc_compensate::Stack;
 use xc_data::{Call, Claim, Entry, LateList, NoMemory, Outcome, Private, Reply, Report};
 use xc_journal::Roomy;
@@ -14,7 +16,8 @@ use xc_story::Phase;
 use xc_txmem::WriteSet;
 use xc_wordlocks::Holding;
 
-/// An active transaction, with what its entry will say.
+/// A job's transaction, with what its entry will say. It lies in its job for all of the job's transactions, and with it
+/// the job's handles: no begin and no end copies them.
 #[derive(Drop)]
 pub struct Tx {
     pub number: u32,
@@ -24,6 +27,10 @@ pub struct Tx {
     pub began: u32,
     pub phase: Phase,
     pub me: Private,
+    /// Whether a call may have changed the handles since the begin.
+    pub changed: bool,
+    /// The handles of the begin, where one may have.
+    pub begun: Private,
     pub writes: WriteSet,
     /// What its calls did at the host.
     pub undo: Stack,
@@ -33,16 +40,18 @@ pub struct Tx {
 }
 
 impl Tx {
-    /// A transaction of this private state, which has done nothing yet. It takes no memory.
-    pub fn begin(alloc: Global, number: u32, rank: u32, began: u32, me: &Private) -> Tx
-        ensures { seen_tx result ≡ new_tx number rank began me.now }
+    /// That of a job which has begun none yet, with no handles. It takes no memory.
+    pub fn new(alloc: Global) -> Tx
+        ensures { begun_of result ≡ beginning no_handles }
     {
         Tx {
-            number,
-            rank,
-            began,
+            number: 0,
+            rank: 0,
+            began: 0,
             phase: Phase::Running,
-            me: *me,
+            me: Private::new(),
+            changed: false,
+            begun: Private::new(),
             writes: WriteSet::new(alloc),
             undo: Stack::new(alloc),
             calls: Roomy::new(alloc),
@@ -51,11 +60,52 @@ impl Tx {
         }
     }
 
+    /// Begins the next transaction, with the handles of the last one's end: those of its begin, where it was aborted. It
+    /// has done nothing yet. It takes no memory.
+    pub fn begin(&mut self, alloc: Global, number: u32, rank: u32, began: u32)
+        ensures tx { seen_tx self.new ≡ new_tx number rank began (begun_of self.old) }
+        ensures begun { begun_of self.new ≡ begun_of self.old }
+    {
+        self.number = number;
+        self.rank = rank;
+        self.began = began;
+        self.phase = Phase::Running;
+        if self.changed {
+            self.me = self.begun;
+        }
+        self.changed = false;
+        self.writes = WriteSet::new(alloc);
+        self.undo = Stack::new(alloc);
+        self.calls = Roomy::new(alloc);
+        self.replies = Roomy::new(alloc);
+        self.held = Holding::new(alloc);
+    }
+
+    /// Keeps the handles of the begin, before a call changes one.
+    pub fn keep(&mut self)
+        ensures { self.new ≡ record self.old { changed = true; begun = begun_of self.old } }
+    {
+        if !self.changed {
+            self.begun = self.me;
+            self.changed = true;
+        }
+    }
+
+    /// The next transaction begins with the handles as they are, and with nothing made or stored.
+    pub fn renew(&mut self)
+        ensures { self.new ≡ record self.old { changed = false; me = beginning self.old.me.places } }
+    {
+        self.me.made = 0;
+        self.me.stored = 0;
+        self.changed = false;
+    }
+
     /// Makes room for one call, its reply and its claims.
     pub fn room(&mut self, claims: &[Claim]) -> Result<(), NoMemory>
         requires { length claims.now ≤ 2 }
         ensures ok { OnOk result (HasRoom self.new claims.now) }
         ensures same { seen_tx self.new ≡ seen_tx self.old }
+        ensures begun { begun_of self.new ≡ begun_of self.old }
     {
         self.calls.reserve(1)?;
         self.replies.reserve(1)?;
@@ -67,6 +117,7 @@ impl Tx {
         requires { HasRoom self.old claims.now }
         ensures held { seen_tx self.new ≡ record (seen_tx self.old) { held = holding self.old.held.items claims.now } }
         ensures room { HasNoteRoom self.new }
+        ensures begun { begun_of self.new ≡ begun_of self.old }
     {
         self.held.hold(claims);
     }
@@ -74,10 +125,11 @@ impl Tx {
     /// Notes a call with its reply, into the room for them. It takes no memory.
     pub fn note(&mut self, call: Call, reply: Reply)
         requires room { HasNoteRoom self.old }
-        ensures { seen_tx self.new ≡ record (seen_tx self.old) {
+        ensures noted { seen_tx self.new ≡ record (seen_tx self.old) {
           calls = self.old.calls.items ++ call ∷ [];
           replies = self.old.replies.items ++ reply ∷ [];
         } }
+        ensures begun { begun_of self.new ≡ begun_of self.old }
     {
         self.calls.enter(call);
         self.replies.enter(reply);
@@ -85,22 +137,14 @@ impl Tx {
 
     /// The entry of the job of this number: a commit's, or that of an abort whose records have their ends. It takes no
     /// memory.
-    pub fn close(self, alloc: Global, job: u32) -> Entry
-        requires { (c : PlainCause) → self.phase ≡ PlainPhase.Undoing c → self.undo.pending ≡ [] }
-        ensures { (at : ℕ) → job ≡ at + 1 → result ≡ entry_of (seen_tx self) at (outcome_in self.phase self.undo.ended) }
+    pub fn close(&mut self, alloc: Global, job: u32) -> Entry
+        requires { (c : PlainCause) → self.old.phase ≡ PlainPhase.Undoing c → self.old.undo.pending ≡ [] }
+        ensures entry { (at : ℕ) → job ≡ at + 1
+            → result ≡ entry_of (seen_tx self.old) at (outcome_in self.old.phase self.old.undo.ended) }
+        ensures begun { begun_of self.new ≡ begun_of self.old }
     {
-        let Tx {
-            number,
-            rank,
-            began,
-            phase,
-            undo,
-            calls,
-            replies,
-            held,
-            ..
-        } = self;
-        let outcome = match phase {
+        let undo = mem::replace(&mut self.undo, Stack::new(alloc));
+        let outcome = match self.phase {
             Phase::Undoing(cause) => Outcome::Aborted(Report {
                 cause,
                 records: undo.records(),
@@ -109,14 +153,15 @@ impl Tx {
                 late: LateList::new(alloc),
             },
         };
+        self.writes = WriteSet::new(alloc);
         Entry {
-            tx: number,
+            tx: self.number,
             job,
-            rank,
-            began,
-            calls: calls.into_items(),
-            replies: replies.into_items(),
-            held: held.into_items(),
+            rank: self.rank,
+            began: self.began,
+            calls: mem::replace(&mut self.calls, Roomy::new(alloc)).into_items(),
+            replies: mem::replace(&mut self.replies, Roomy::new(alloc)).into_items(),
+            held: mem::replace(&mut self.held, Holding::new(alloc)).into_items(),
             outcome,
         }
     }

@@ -34,4 +34,4 @@ returns-in-Err-clause-row g c rules now at job here doing place journal =
     let same : IsSamePlace (setting c.args.script.now rules g.H.Host.model.tells) c.args.place.now c.ask.new.self =
     record { begin = record { block = e.same.0; next = e.same.1; begun = e.begun }; walk = e.walk; at = e.at } in
     wants g.H.Host.model _ _ _ _ _ c.ask.new.self c.args.tx.now here (has_tx _ _ _ _ _ doing place same) c.args.shared.now c.want.new.tx c.want.result
-    refl refl refl c.want.ensures.0 c.want.ensures.1
+    refl refl refl c.want.ensures.tx c.want.ensures.answer

@@ -14,7 +14,7 @@ returns-in-Ok-clause-row g c rules now at job here has journal =
     called g.H.Host.model _ _ _ _ _ _ c.args.tx.now here has
     (record { host = c.do_call.new.host; words = c.claim.new.shared.words; claims = c.claim.new.shared.claims }) c.claim.new.tx c.args.call
     c.in_default.ensures.same.1 c.requires.asked c.in_default.ensures.claimed (λ tells. tells) c.do_call.new.place c.claim.new.shared.host c.do_call.new.tx
-    c.note.new.self c.in-Ok.reply (record { begin = e.begin; walk = e.walk; nearer = e.nearer }) c.in_default.ensures.same.0 e.acted c.note.ensures
+    c.note.new.self c.in-Ok.reply (record { begin = e.begin; walk = e.walk; nearer = e.nearer }) c.in_default.ensures.same.0 e.acted c.note.ensures.noted
 
 pub returns-in-Err-do_call-clause-row : goal.returns-in-Err-do_call-clause-row
 returns-in-Err-do_call-clause-row g c rules now at job here has journal =
@@ -22,4 +22,4 @@ returns-in-Err-do_call-clause-row g c rules now at job here has journal =
     starved g.H.Host.model _ _ _ _ _ _ c.args.tx.now here has
     (record { host = c.do_call.new.host; words = c.claim.new.shared.words; claims = c.claim.new.shared.claims }) c.claim.new.tx c.args.call
     c.in_default.ensures.same.1 c.requires.asked c.in_default.ensures.claimed (λ tells. tells) c.do_call.new.place c.claim.new.shared.host c.do_call.new.tx
-    c.want.new.tx e.err_place c.in_default.ensures.same.0 e.acted c.want.ensures.0 c.want.result c.want.ensures.1
+    c.want.new.tx e.err_place c.in_default.ensures.same.0 e.acted c.want.ensures.tx c.want.result c.want.ensures.answer

@@ -10,7 +10,7 @@ use Rattle.xc_wordlocks.specs.Table.{KeepsOthers, mode_of}
 use Rattle.xc_station.specs.declared.calls.Shared.{Shared}
 use Rattle.xc_data.specs.declared.entry.Turn.TheVariants as turn
 use Rattle.xc_station.specs.declared.job.Stage.TheVariants as PlainStage
-use Rattle.xc_station.specs.Jobs.{IsStage, seen_doing, seen_job}
+use Rattle.xc_station.specs.Jobs.{IsStage, doing_of, seen_job}
 use Rattle.xc_station.specs.Stations.{moment, now_of, setting_of}
 use Rattle.xc_station.proofs.Ready.{may_run, may_undo, stands_now, fits_next, fits_failures, has_room, few_words}
 use Rattle.xc_station.proofs.RoomsKept.{rooms_begun, rooms_entered, rooms_running, rooms_still, rooms_undoing, back_none}
@@ -28,7 +28,7 @@ abort-entry-requires-clause-undone g c =
     let s = setting station.opening.script station.rules model.tells in
     let is = lent station.jobs.items at PlainStage.Undone was (subst (λ v. IsStage v.jobs at PlainStage.Undone) (sym c.self.view_is) c.requires)
     c.index_mut.ensures.value in
-    let mine = undone_stage (seen_doing was.activity) is.stage in
+    let mine = undone_stage (doing_of was) is.stage in
     (mine.tx, mine.cause, mine.doing, mine.phase, mine.pending)
 
 pub abort-entry-requires-clause-attempts : goal.abort-entry-requires-clause-attempts
@@ -40,7 +40,7 @@ abort-entry-requires-clause-attempts g c =
     let s = setting station.opening.script station.rules model.tells in
     let is = lent station.jobs.items at PlainStage.Undone was (subst (λ v. IsStage v.jobs at PlainStage.Undone) (sym c.self.view_is) c.requires)
     c.index_mut.ensures.value in
-    let mine = undone_stage (seen_doing was.activity) is.stage in
+    let mine = undone_stage (doing_of was) is.stage in
     let fits : Fits w32 station.rules.attempts = search rules in
     fits_failures model station.shared station.journal.items station.jobs.items at was station.opening.script station.rules station.opening.faults
     station.active
@@ -55,7 +55,7 @@ abort-entry-requires-clause-next g c =
     let s = setting station.opening.script station.rules model.tells in
     let is = lent station.jobs.items at PlainStage.Undone was (subst (λ v. IsStage v.jobs at PlainStage.Undone) (sym c.self.view_is) c.requires)
     c.index_mut.ensures.value in
-    let mine = undone_stage (seen_doing was.activity) is.stage in
+    let mine = undone_stage (doing_of was) is.stage in
     fits_next model station.shared station.journal.items station.jobs.items at was station.opening.script station.rules station.opening.faults station.active
     station.journal.spare station.lines c.self.invariant.0 c.self.invariant.1 PlainStage.Undone mine.tx is mine.doing
 
@@ -68,7 +68,7 @@ enter-requires g c =
     let s = setting station.opening.script station.rules model.tells in
     let is = lent station.jobs.items at PlainStage.Undone was (subst (λ v. IsStage v.jobs at PlainStage.Undone) (sym c.self.view_is) c.requires)
     c.index_mut.ensures.value in
-    let mine = undone_stage (seen_doing was.activity) is.stage in
+    let mine = undone_stage (doing_of was) is.stage in
     (has_room model station.shared station.journal.items station.jobs.items at was station.opening.script station.rules station.opening.faults station.active
     station.journal.spare station.lines c.self.invariant.0 c.self.invariant.1 PlainStage.Undone mine.tx is mine.doing).1
 
@@ -81,7 +81,7 @@ overflow_sub-self g c =
     let s = setting station.opening.script station.rules model.tells in
     let is = lent station.jobs.items at PlainStage.Undone was (subst (λ v. IsStage v.jobs at PlainStage.Undone) (sym c.self.view_is) c.requires)
     c.index_mut.ensures.value in
-    let mine = undone_stage (seen_doing was.activity) is.stage in
+    let mine = undone_stage (doing_of was) is.stage in
     (has_room model station.shared station.journal.items station.jobs.items at was station.opening.script station.rules station.opening.faults station.active
     station.journal.spare station.lines c.self.invariant.0 c.self.invariant.1 PlainStage.Undone mine.tx is mine.doing).0
 
@@ -99,7 +99,7 @@ invariant_of-self g c =
     let turned = undone_turned model station.shared station.journal.items station.jobs.items at was s shared' c.enter.new.self.items c.abort-entry.result job
     (at + 1)
     is c.abort-entry.ensures refl (refl, refl) c.enter.ensures.items in
-    let mine = undone_stage (seen_doing was.activity) is.stage in
+    let mine = undone_stage (doing_of was) is.stage in
     let gave = c.abort-entry.ensures mine.tx mine.cause at mine.doing mine.phase refl in
     let number = ap (λ (e : Entry). e.tx) gave.1 in
     let some = has_room model station.shared station.journal.items station.jobs.items at was station.opening.script station.rules station.opening.faults
