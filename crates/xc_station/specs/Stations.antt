@@ -10,7 +10,7 @@ use Rattle.xc_data.specs.declared.entry.JobLine.{JobLine}
 use Rattle.xc_wordlocks.specs.Table.{Table}
 use Rattle.xc_story.specs.declared.rules.Rules.{Rules}
 use Rattle.xc_story.specs.Setting.{Setting, setting}
-use Rattle.xc_story.specs.Seen.{SeenJob, Now, actives}
+use Rattle.xc_story.specs.Seen.{Now, actives}
 use Rattle.xc_story.specs.Alone.{AreAlone}
 use Rattle.xc_story.specs.Kept.{IsSet, IsKept}
 use Rattle.xc_story.specs.Rows.{IsTurn}
