@@ -65,7 +65,8 @@ impl Host for MemHost {
 
         // Exactly the listed calls fail. Without memory a call was counted, and nothing else.
         ensures fault { is_fault result ≡ is_listed Kind.Create self.old }
-        ensures state { OnOk result (self.new ≡ record (begun Kind.Create self.old) { contents = created self.old.contents name.now num }) }
+        ensures state { OnOk result
+            (self.new ≡ record (begun Kind.Create self.old) { contents = created self.old.contents name.now num }) }
         ensures failed { OnErr result (self.new ≡ begun Kind.Create self.old) }
     {
         if self.fails(Kind::Create) {
