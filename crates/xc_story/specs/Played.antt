@@ -2,6 +2,7 @@
 use Rattle.std.specs.Prelude.{◌≡◌, ℕ, ◌+◌, List, [], ◌++◌, length, map, slice_get, IsTrue}
 use Rattle.xc_data.specs.Claims.{held_of}
 use Rattle.xc_data.specs.declared.claim.Claim.{Claim}
+use Rattle.xc_data.specs.declared.undo.Undo.{Undo}
 use Rattle.xc_data.specs.declared.entry.Cause.TheVariants as cause
 use Rattle.xc_script.specs.declared.ask.Ask.{Ask}
 use Rattle.xc_world.specs.Run.{Ran, asked_of, body, body_fits}
@@ -9,7 +10,7 @@ use Rattle.xc_story.specs.declared.phase.Phase.{Phase}
 use Rattle.xc_story.specs.declared.phase.Phase.TheVariants.{Undoing}
 use Rattle.xc_story.specs.Setting.{Setting}
 use Rattle.xc_story.specs.Progress.{Progress, private_of}
-use Rattle.xc_story.specs.Truth.{IsHeldAt}
+use Rattle.xc_story.specs.Truth.{IsHeldAt, AreRecords}
 use Rattle.xc_story.specs.Told.{asked_of_tx}
 use Rattle.xc_story.specs.Seen.{SeenTx}
 
@@ -17,6 +18,11 @@ use Rattle.xc_story.specs.Seen.{SeenTx}
 abbrev pub HoldsFor : Ran → Ask → Phase → List Claim → Type 0
 HoldsFor ran next (Undoing cause.NoMemory) held = IsHeldAt ran next cause.NoMemory held
 HoldsFor ran next _ held = held ≡ held_of ran.touched
+
+-- its records are those of its calls; where memory was wanting perhaps also one of the next call
+abbrev pub RecordsFor : Ran → ℕ → Ask → Phase → List Undo → Type 0
+RecordsFor ran number next (Undoing cause.NoMemory) records = AreRecords ran number next cause.NoMemory records
+RecordsFor ran number next _ records = records ≡ ran.trail
 
 -- the body of the job in this place, which counts from 0, in the world that the journal left
 abbrev pub ran_behind : Progress → ℕ → SeenTx → Ran
@@ -28,6 +34,7 @@ pub record IsPlayedSoFar (s : Setting) (words : ℕ) (p : Progress) (at : ℕ) (
   pub replies : (ran_behind p at tx).replies ≡ tx.replies
   pub me : (ran_behind p at tx).me ≡ tx.me
   pub late : (ran_behind p at tx).late ≡ []
-  pub trail : (ran_behind p at tx).trail ≡ tx.undo.pending ++ map (λ r. r.0) tx.undo.ended
+  pub records : RecordsFor (ran_behind p at tx) tx.number (asked_of_tx s (slice_get p.jobs at) tx) tx.phase
+      (tx.undo.pending ++ map (λ r. r.0) tx.undo.ended)
   pub holds : HoldsFor (ran_behind p at tx) (asked_of_tx s (slice_get p.jobs at) tx) tx.phase tx.held
   pub count : length (ran_behind p at tx).world.words ≡ words

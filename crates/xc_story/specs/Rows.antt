@@ -6,6 +6,8 @@ use Rattle.std.specs.declared.option.Option.TheVariants.{None, Some}
 use Rattle.xc_data.specs.Claims.{compatible, holding}
 use Rattle.xc_data.specs.Counts.{CountsFault, CountsFaults}
 use Rattle.xc_data.specs.Faults.{is_fault_reply, end_faults}
+use Rattle.xc_data.specs.declared.call.Answer.{Answer}
+use Rattle.xc_data.specs.declared.call.Asked.{Asked}
 use Rattle.xc_data.specs.declared.call.Call.{Call}
 use Rattle.xc_data.specs.declared.call.Call.TheVariants as call
 use Rattle.xc_data.specs.declared.call.Reply.{Reply}
@@ -162,10 +164,17 @@ is_built (call.Store at value) = true
 is_built (call.XOpen name) = true
 is_built (call.XRead h n) = true
 is_built (call.XWriteOvr h bytes) = true
+is_built (call.XWriteSeq h bytes) = true
+is_built (call.XSeek h to) = true
+is_built (call.XLen h) = true
+is_built (call.XClose h) = true
+is_built (call.XCreate name) = true
+is_built (call.XRename from to) = true
 is_built _ = false
 
--- what a call works on beside the host: the private state, the stores that wait, the records
+-- what a call works on beside the host: its transaction's number, the private state, the stores that wait, the records
 pub record Parts : Type 0 where
+  pub number : ℕ
   pub me : Private
   pub stores : List (ℕ × ℕ)
   pub undo : Records
@@ -175,19 +184,19 @@ abbrev pub seen : World → Contents → List (ℕ × ℕ) → World
 seen w contents stores = record (with_contents w contents) { words = overlaid w.words stores }
 
 -- from one world to another a call is the plain machine's, with the answer that its reply records
-pub record Does (from to : World) (number : ℕ) (old new : Parts) (call : Call) (reply : Reply) : Type 0 where
-  pub step : act from old.me number call (answer_of reply) ≡ stays to new.me reply
-  pub fits : IsTrue (fits from old.me number call (answer_of reply))
-  pub records : new.undo.pending ≡ old.undo.pending ++ recorded from old.me number call reply
+pub record Does (from to : World) (old new : Parts) (call : Call) (reply : Reply) : Type 0 where
+  pub step : act from old.me old.number call (answer_of reply) ≡ stays to new.me reply
+  pub fits : IsTrue (fits from old.me old.number call (answer_of reply))
+  pub records : new.undo.pending ≡ old.undo.pending ++ recorded from old.me old.number call reply
 
 -- the same in every world with these words, from these contents of the host to those
 abbrev pub DoesIn : List ℕ → Contents → Contents → Parts → Parts → Call → Reply → Type 0
 DoesIn words was is old new call reply =
-    (w : World) (number : ℕ) → w.words ≡ words → Does (seen w was old.stores) (seen w is new.stores) number old new call reply
+    (w : World) → w.words ≡ words → Does (seen w was old.stores) (seen w is new.stores) old new call reply
 
 -- these parts of a transaction
 abbrev pub parts_of : SeenTx → Parts
-parts_of tx = record { me = tx.me; stores = tx.writes; undo = tx.undo }
+parts_of tx = record { number = tx.number; me = tx.me; stores = tx.writes; undo = tx.undo }
 
 -- the transaction behind a call: noted with its reply, and what it claimed held
 abbrev pub noting : SeenTx → Call → Reply → List Claim → Parts → SeenTx
@@ -266,24 +275,54 @@ pub record TurnsBack (s : Setting) (at : ℕ) (old : Now) (job : SeenJob) (tx : 
   pub same : IsSamePlace s job.place place
   pub behind : new ≡ with_job old at (with_tx job place (record tx { phase = Undoing cause.Asked }))
 
--- what it holds where memory was wanting: no more than before, or also what the asked call claims, which nobody else
--- holds against it
-abbrev pub HoldsWanting : Now → ℕ → SeenTx → Ask → List Claim → Type 0
-HoldsWanting old at tx (ask.Call call) held =
-    (held ≡ tx.held) ⊎ (All (HasNoRival old.jobs at) (claims_at old tx call) × (held ≡ holding tx.held (claims_at old tx call)))
-HoldsWanting old at tx _ held = held ≡ tx.held
+-- from one world to another a call did its part, with this answer, before memory was wanting; these records are left of it
+pub record DoesPart (from to : World) (parts : Parts) (asked : Asked) (left : List Undo) : Type 0 where
+  pub fits : IsTrue (fits from parts.me parts.number asked.call asked.answer)
+  pub world : to ≡ (act from parts.me parts.number asked.call asked.answer).world
+  pub records : left ≡ recorded from parts.me parts.number asked.call (act from parts.me parts.number asked.call asked.answer).reply
 
--- memory is wanting: nothing is noted, and the host is as before
+-- the same in every world with these words, from these contents of the host to those
+abbrev pub DoesPartIn : List ℕ → Contents → Contents → Parts → Asked → List Undo → Type 0
+DoesPartIn words was is parts asked left =
+    (w : World) → w.words ≡ words → DoesPart (seen w was parts.stores) (seen w is parts.stores) parts asked left
+
+-- a call that is asked left these records before memory was wanting: with some answer it did its part
+abbrev pub LeavesPart : Now → Now → Parts → Ask → List Undo → Type 0
+LeavesPart old new parts (ask.Call call) left =
+    (answer : Answer) × DoesPartIn old.words old.contents new.contents parts (record { call = call; answer = answer }) left
+LeavesPart old new parts _ left = ⊥
+
+-- what is at the host where memory was wanting: all as before, or what the asked call left
+abbrev pub IsLeft : Now → Now → Parts → Ask → List Undo → Type 0
+IsLeft old new parts next left = ((left ≡ []) × (new.contents ≡ old.contents)) ⊎ LeavesPart old new parts next left
+
+-- what it holds where memory was wanting: no more than before, if the asked call left nothing; or also what that call
+-- claims, which nobody else holds against it
+abbrev pub HoldsWanting : Now → ℕ → SeenTx → Ask → List Undo → List Claim → Type 0
+HoldsWanting old at tx (ask.Call call) left held =
+    ((left ≡ []) × (held ≡ tx.held))
+    ⊎ (All (HasNoRival old.jobs at) (claims_at old tx call) × (held ≡ holding tx.held (claims_at old tx call)))
+HoldsWanting old at tx _ left held = (left ≡ []) × (held ≡ tx.held)
+
+-- the transaction turns back for want of memory; these records are left of a call that isn't noted
+abbrev pub wanting : SeenTx → List Undo → List Claim → SeenTx
+wanting tx left held =
+    record tx { phase = Undoing cause.NoMemory; undo = record tx.undo { pending = tx.undo.pending ++ left }; held = held }
+
+-- memory is wanting: nothing is noted, and the host is as before but for what the asked call did before, which at most
+-- one record tells
 pub record Wants (s : Setting) (at : ℕ) (old : Now) (job : SeenJob) (tx : SeenTx) (new : Now) : Type 0 where
   pub place : Place
   pub same : IsSamePlace s job.place place
+  pub left : List Undo
+  pub one : length left ≤ 1
   pub held : List Claim
-  pub holds : HoldsWanting old at tx (asked_at s job.place) held
-  pub jobs : new.jobs ≡ slice_set old.jobs at (with_tx job place (record tx { phase = Undoing cause.NoMemory; held = held }))
+  pub holds : HoldsWanting old at tx (asked_at s job.place) left held
+  pub jobs : new.jobs ≡ slice_set old.jobs at (with_tx job place (wanting tx left held))
   pub words : new.words ≡ old.words
   pub journal : new.journal ≡ old.journal
   pub faults : new.faults ≡ old.faults
-  pub contents : IsTrue s.tells → new.contents ≡ old.contents
+  pub contents : IsTrue s.tells → IsLeft old new (parts_of tx) (asked_at s job.place) left
 
 -- by what is asked
 abbrev pub AskedTurn : Setting → ℕ → Now → SeenJob → SeenTx → Ask → Now → Type 0
