@@ -25,4 +25,8 @@ pub use reading::x_read;
 pub use renaming::x_rename;
 
 #[cfg(test)]
+mod append_tests;
+#[cfg(test)]
+mod name_tests;
+#[cfg(test)]
 mod tests;
