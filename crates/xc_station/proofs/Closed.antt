@@ -11,7 +11,7 @@ use Rattle.xc_script.specs.Place.{Place, at_begin}
 use Rattle.xc_world.specs.World.{beginning}
 use Rattle.xc_story.specs.declared.phase.Attempts.{Attempts}
 use Rattle.xc_story.specs.declared.phase.Phase.{Phase}
-use Rattle.xc_story.specs.declared.phase.Phase.TheVariants.{Running, Committing, Undoing}
+use Rattle.xc_story.specs.declared.phase.Phase.TheVariants.{Committing, Undoing}
 use Rattle.xc_story.specs.Seen.{SeenTx, SeenJob, Doing, Idle, Active}
 use Rattle.xc_story.specs.Rows.{behind_abort, behind_commit, entry_of, with_tx}
 use Rattle.xc_station.specs.declared.job.Activity.{Activity}

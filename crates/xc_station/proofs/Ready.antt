@@ -1,7 +1,6 @@
 -- What a turn's function may rely on, between two turns.
 use Rattle.std.proofs.Common.{◌≡◌, ◌≢◌, ℕ, zero, suc, ◌+◌, ◌<◌, ◌≤◌, ◌^◌, List, [], ◌∷◌, length, refl, ap, sym, ◌∙◌, subst, arith, Bool, true, false}
 use Rattle.std.proofs.lemmas.List.Elements.{All-head, All-tail}
-use Rattle.std.proofs.lemmas.Option.{slice_get_within}
 use Rattle.std.specs.Prelude.{All, IsSome, IsTrue, Option, slice_get, slice_set, if◌then◌else◌, nat_le}
 use Rattle.std.specs.List.{fold}
 use Rattle.std.specs.declared.option.Option.TheVariants.{None, Some}
@@ -17,8 +16,8 @@ use Rattle.xc_journal.specs.Room.{Roomy}
 use Rattle.xc_txmem.specs.Overlay.{AreWithin}
 use Rattle.xc_text.specs.declared.script.Block.{Block}
 use Rattle.xc_text.specs.declared.script.Script.{Script}
-use Rattle.xc_text.specs.Scripts.{IsBlock, IsScript}
-use Rattle.xc_script.specs.Ask.{next_body, transactions_of, transactions_at}
+use Rattle.xc_text.specs.Scripts.{IsBlock}
+use Rattle.xc_script.specs.Ask.{transactions_of, transactions_at}
 use Rattle.xc_story.specs.declared.phase.Attempts.{Attempts}
 use Rattle.xc_story.specs.declared.rules.Rules.{Rules}
 use Rattle.xc_story.specs.Setting.{Setting, setting}

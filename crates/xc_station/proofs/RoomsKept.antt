@@ -1,11 +1,10 @@
 -- What a station keeps beside its moment, behind each row.
-use Rattle.std.proofs.Common.{◌≡◌, ◌≢◌, ◌⊎◌, inl, inr, ℕ, ◌+◌, ◌-◌, ◌<◌, ◌≤◌, List, [], ◌∷◌, ◌++◌, length, refl, ap, sym, ◌∙◌, subst, arith}
-use Rattle.std.specs.Prelude.{Option, slice_get, slice_set}
+use Rattle.std.proofs.Common.{◌≡◌, ◌≢◌, inl, inr, ℕ, ◌+◌, ◌-◌, ◌≤◌, List, length, refl, ap, sym, ◌∙◌, subst, arith}
+use Rattle.std.specs.Prelude.{slice_get, slice_set}
 use Rattle.std.specs.declared.option.Option.TheVariants.{None, Some}
 use Rattle.xc_data.specs.declared.entry.Cause.{Cause}
 use Rattle.xc_data.specs.declared.entry.Cause.TheVariants as cause
 use Rattle.xc_data.specs.declared.entry.Entry.{Entry}
-use Rattle.xc_data.specs.declared.entry.JobEnd.{JobEnd}
 use Rattle.xc_data.specs.declared.entry.JobLine.{JobLine}
 use Rattle.xc_data.specs.declared.entry.Turn.{Turn}
 use Rattle.xc_data.specs.declared.entry.Turn.TheVariants as turn
@@ -15,24 +14,10 @@ use Rattle.xc_journal.specs.Room.{Roomy}
 use Rattle.xc_script.specs.declared.ask.Ask.{Ask}
 use Rattle.xc_script.specs.declared.ask.Ask.TheVariants as ask
 use Rattle.xc_script.specs.Place.{Place}
-use Rattle.xc_wordlocks.specs.Table.{Table, KeepsOthers, mode_of}
+use Rattle.xc_wordlocks.specs.Table.{KeepsOthers, mode_of}
 use Rattle.xc_story.specs.Setting.{Setting}
-use Rattle.xc_story.specs.Seen.{SeenTx, SeenJob, Doing, Idle, Active, Starved, Ended, Now, active_in, active_of, actives, begun_count, rank_of, with_job}
-use Rattle.xc_story.specs.Rows.{
-  AskedTurn,
-  Calls,
-  Conflicts,
-  IdleTurn,
-  IsActiveAt,
-  RunningTurn,
-  asked_at,
-  beginning_job,
-  behind_abort,
-  behind_commit,
-  noting,
-  new_tx,
-  with_tx,
-}
+use Rattle.xc_story.specs.Seen.{SeenTx, SeenJob, Active, Ended, Now, active_in, active_of, begun_count, rank_of, with_job}
+use Rattle.xc_story.specs.Rows.{AskedTurn, IdleTurn, RunningTurn, asked_at, beginning_job, behind_abort, new_tx, with_tx}
 use Rattle.xc_story.specs.Told.{AreTold}
 use Rattle.xc_turns.proofs.GivenNumbers.{given_once, given_by_now}
 use Rattle.xc_station.specs.declared.calls.Shared.{Shared}

@@ -1,5 +1,5 @@
 -- What a job does, by the row that its next turn goes by.
-use Rattle.std.proofs.Common.{◌≡◌, ◌≢◌, Bool, true, false, List, [], ◌∷◌, refl, ap, sym, ◌∙◌, ℕ, subst}
+use Rattle.std.proofs.Common.{◌≡◌, Bool, true, false, List, [], ◌∷◌, refl, ap, sym, ◌∙◌, ℕ, subst}
 use Rattle.std.proofs.lemmas.Option.{get_or_from_slice_get}
 use Rattle.std.specs.Prelude.{Option, get_or, if◌then◌else◌, slice_get, ◌==◌, ◌-◌}
 use Rattle.std.specs.declared.option.Option.TheVariants.{None, Some}

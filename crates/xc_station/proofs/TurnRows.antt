@@ -1,6 +1,6 @@
 -- Each row of the table of turns, from one moment of a station to the next.
-use Rattle.std.proofs.Common.{◌≡◌, ◌≢◌, ℕ, ◌+◌, List, [], ◌∷◌, ◌++◌, length, refl, ap, sym, ◌∙◌, subst, Bool}
-use Rattle.std.specs.Prelude.{slice_get, slice_set, IsTrue}
+use Rattle.std.proofs.Common.{◌≡◌, ℕ, ◌+◌, List, [], ◌∷◌, ◌++◌, refl, ap, sym, ◌∙◌, subst}
+use Rattle.std.specs.Prelude.{slice_get, slice_set}
 use Rattle.std.specs.declared.option.Option.TheVariants.{Some}
 use Rattle.xc_data.specs.declared.entry.Cause.{Cause}
 use Rattle.xc_data.specs.declared.entry.Entry.{Entry}
@@ -8,9 +8,7 @@ use Rattle.xc_data.specs.declared.entry.JobEnd.TheVariants as job_end
 use Rattle.xc_data.specs.declared.entry.Outcome.TheVariants.{Committed, Aborted}
 use Rattle.xc_data.specs.declared.entry.Turn.{Turn}
 use Rattle.xc_data.specs.declared.entry.Turn.TheVariants as turn
-use Rattle.xc_data.specs.declared.undo.Undo.{Undo}
-use Rattle.xc_compensate.specs.Records.{AtHost, IsTried, Records}
-use Rattle.xc_host.specs.Contents.{Contents}
+use Rattle.xc_compensate.specs.Records.{IsTried, Records}
 use Rattle.xc_host.specs.Model.{HostModel}
 use Rattle.xc_story.specs.declared.phase.Phase.{Phase}
 use Rattle.xc_story.specs.declared.phase.Phase.TheVariants as phase

@@ -1,5 +1,5 @@
 use Rattle.std.proofs.Common.{◌≡◌, sym, ap, ◌∙◌}
-use Rattle.xc_story.specs.Seen.{SeenJob, SeenTx, Idle}
+use Rattle.xc_story.specs.Seen.{SeenTx, Idle}
 use Rattle.xc_station.specs.Jobs.{seen_job, seen_tx}
 use Rattle.xc_station.proofs.Closed.{its_active, same_cause, abort_behind, abort_entry}
 use Rattle.xc_station.proofs.close.abort.Goals as goal

@@ -1,7 +1,6 @@
-use Rattle.std.proofs.Common.{◌≡◌, ◌≢◌, [], IsTrue, sym, ◌∙◌, subst}
+use Rattle.std.proofs.Common.{◌≢◌, [], IsTrue, sym, subst}
 use Rattle.xc_compensate.specs.Records.{IsTried, NextIsCovered}
 use Rattle.xc_story.specs.Seen.{SeenTx}
-use Rattle.xc_station.specs.Jobs.{seen_tx}
 use Rattle.xc_station.proofs.Closed.{its_active, undo_behind}
 use Rattle.xc_station.proofs.close.undo.Goals as goal
 

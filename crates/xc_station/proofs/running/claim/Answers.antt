@@ -1,7 +1,4 @@
-use Rattle.std.proofs.Common.{ap, ◌∙◌, length}
-use Rattle.xc_data.specs.declared.private.Private.{Private}
-use Rattle.xc_story.specs.Seen.{SeenTx}
-use Rattle.xc_world.specs.Modes.{claims_of}
+use Rattle.std.proofs.Common.{◌∙◌}
 use Rattle.xc_station.proofs.Granted.{granted}
 use Rattle.xc_station.proofs.running.claim.Goals as goal
 

@@ -1,8 +1,8 @@
-use Rattle.std.proofs.Common.{rules, ◌≡◌, refl, sym, subst, ap, ap₂, ◌∙◌, ◌+◌, ◌<◌, ◌≤◌, ◌^◌, arith, Fits, w32}
+use Rattle.std.proofs.Common.{◌≡◌, refl, sym, subst, ap, ◌+◌}
 use Rattle.std.specs.Prelude.{slice_set}
-use Rattle.xc_story.specs.Seen.{active_in, active_of}
+use Rattle.xc_story.specs.Seen.{active_of}
 use Rattle.xc_story.specs.Setting.{setting}
-use Rattle.xc_story.specs.Rows.{IsTurn, behind_commit}
+use Rattle.xc_story.specs.Rows.{IsTurn}
 use Rattle.std.specs.declared.option.Option.TheVariants.{None}
 use Rattle.xc_data.specs.declared.object.Object.{Object}
 use Rattle.xc_data.specs.declared.entry.Entry.{Entry}
@@ -10,13 +10,13 @@ use Rattle.xc_wordlocks.specs.Table.{KeepsOthers, mode_of}
 use Rattle.xc_station.specs.declared.calls.Shared.{Shared}
 use Rattle.xc_data.specs.declared.entry.Turn.TheVariants as turn
 use Rattle.xc_station.specs.declared.job.Stage.TheVariants as PlainStage
-use Rattle.xc_station.specs.Jobs.{IsStage, doing_of, seen_job}
+use Rattle.xc_station.specs.Jobs.{IsStage, doing_of}
 use Rattle.xc_station.specs.Stations.{moment, now_of, setting_of}
-use Rattle.xc_station.proofs.Ready.{may_run, may_undo, stands_now, fits_next, fits_failures, has_room, few_words}
-use Rattle.xc_station.proofs.RoomsKept.{rooms_begun, rooms_entered, rooms_running, rooms_still, rooms_undoing, back_none}
-use Rattle.xc_station.proofs.Stages.{IsThere, lent, idle_stage, running_stage, committing_stage, undoing_stage, undone_stage}
+use Rattle.xc_station.proofs.Ready.{fits_next, has_room}
+use Rattle.xc_station.proofs.RoomsKept.{rooms_entered}
+use Rattle.xc_station.proofs.Stages.{lent, committing_stage}
 use Rattle.xc_station.proofs.Steady.{steady_kept}
-use Rattle.xc_station.proofs.TurnRows.{idle_turned, running_turned, committing_turned, undoing_turned, undone_turned}
+use Rattle.xc_station.proofs.TurnRows.{committing_turned}
 use Rattle.xc_station.proofs.station.Station.committing.Goals as goal
 
 pub commit-entry-requires-clause-committing : goal.commit-entry-requires-clause-committing

@@ -1,18 +1,16 @@
-use Rattle.std.proofs.Common.{rules, ◌≡◌, ◌≢◌, refl, sym, subst, ap, ◌∙◌, ◌+◌, ◌<◌, ◌≤◌, ◌^◌, arith, true, false}
+use Rattle.std.proofs.Common.{◌≡◌, ◌≢◌, refl, sym, subst, ap, ◌∙◌, true, false}
 use Rattle.std.specs.Prelude.{slice_set}
-use Rattle.xc_story.specs.Seen.{active_in, active_of}
+use Rattle.xc_story.specs.Seen.{active_in}
 use Rattle.xc_story.specs.Setting.{setting}
 use Rattle.xc_story.specs.Rows.{IsTurn}
-use Rattle.xc_station.specs.declared.calls.Shared.{Shared}
 use Rattle.xc_data.specs.declared.entry.Turn.TheVariants as turn
 use Rattle.xc_station.specs.declared.job.Stage.TheVariants as PlainStage
-use Rattle.xc_station.specs.Jobs.{IsStage, doing_of, seen_job}
+use Rattle.xc_station.specs.Jobs.{IsStage, doing_of}
 use Rattle.xc_station.specs.Stations.{moment, now_of, setting_of}
-use Rattle.xc_station.proofs.Ready.{may_run, stands_now, few_words}
 use Rattle.xc_station.proofs.RoomsKept.{rooms_idle_went, rooms_idle_ended}
-use Rattle.xc_station.proofs.Stages.{IsThere, lent, idle_stage, running_stage}
+use Rattle.xc_station.proofs.Stages.{lent, idle_stage}
 use Rattle.xc_station.proofs.Steady.{steady_kept}
-use Rattle.xc_station.proofs.TurnRows.{idle_turned, running_turned}
+use Rattle.xc_station.proofs.TurnRows.{idle_turned}
 use Rattle.xc_station.proofs.station.Station.idle.Goals.{in-Went, in_default}
 use Rattle.xc_station.proofs.station.Station.idle.Goals as goal
 

@@ -1,4 +1,4 @@
-use Rattle.std.proofs.Common.{◌≡◌, refl, sym, subst, ap, ◌≤◌, arith}
+use Rattle.std.proofs.Common.{sym, subst, ap, arith}
 use Rattle.std.specs.Prelude.{slice_set}
 use Rattle.xc_story.specs.Seen.{active_in, active_of}
 use Rattle.xc_story.specs.Setting.{setting}
@@ -6,9 +6,8 @@ use Rattle.xc_story.specs.Rows.{IsTurn}
 use Rattle.xc_station.specs.declared.job.Stage.TheVariants as PlainStage
 use Rattle.xc_station.specs.Jobs.{IsStage, doing_of}
 use Rattle.xc_station.specs.Stations.{moment, now_of, setting_of}
-use Rattle.xc_station.proofs.Ready.{may_run}
 use Rattle.xc_station.proofs.RoomsKept.{rooms_still}
-use Rattle.xc_station.proofs.Stages.{IsThere, lent, starved_stage}
+use Rattle.xc_station.proofs.Stages.{lent, starved_stage}
 use Rattle.xc_station.proofs.Steady.{steady_kept}
 use Rattle.xc_station.proofs.TurnRows.{starved_turned}
 use Rattle.xc_station.proofs.station.Station.starved.Goals as goal
