@@ -1,5 +1,6 @@
 -- Entries that stand outside a tree, taken out, put there and put away.
-use Rattle.std.proofs.Common.{◌≡◌, ℕ, zero, suc, Bool, true, false, cond, Option, Some, None, List, [], ◌∷◌, ◌++◌, ◌<◌, length, get_or, refl, ap, sym, ◌∙◌, arith}
+use Rattle.std.proofs.Common.{◌≡◌, ℕ, zero, suc, Bool, true, false, cond, Option, Some, None, List, [], ◌∷◌, ◌++◌, ◌<◌, length, get_or}
+use Rattle.std.proofs.Common.{refl, ap, sym, ◌∙◌, arith}
 use Rattle.std.specs.Prelude.{◌+◌, ◌≤◌, slice_get, is_some, IfSome, IfNone, OnSome, if◌then◌else◌}
 use Rattle.std.specs.declared.cmp.Ordering.{Ordering}
 use Rattle.std.specs.Ordering.{is_eq, eq_by_cmp}
@@ -32,7 +33,8 @@ module _ {K X : Type 0} {R : K → K → Ordering} (o : IsTotalOrder R) (same : 
   parts true x r e = absurd (cc)
   parts false x r e = (refl, e)
 
-  other_at : (es tree : List (K × X)) (k e : K) (x : X) (b : Bool) → is_at (R k) e ≡ b → at es tree e ≡ None → at es tree k ≡ Some x → b ≡ false
+  other_at : (es tree : List (K × X)) (k e : K) (x : X) (b : Bool) → is_at (R k) e ≡ b
+      → at es tree e ≡ None → at es tree k ≡ Some x → b ≡ false
   other_at es tree k e x true is none some = absurd (let p = sym none ∙ ap (at es tree) (sym (tie o same k e is)) ∙ some in cc)
   other_at es tree k e x false is none some = refl
 
@@ -108,7 +110,8 @@ module _ {K X : Type 0} {R : K → K → Ordering} (o : IsTotalOrder R) (same : 
   none_either false r e = e
 
   -- behind an entry that was taken out
-  pub fresh_cut : (es tree : List (K × X)) (i : ℕ) (k : K) (x : X) → AreNew R es tree → slice_get es i ≡ Some (k, x) → AreNew R (list.remove es i) tree
+  pub fresh_cut : (es tree : List (K × X)) (i : ℕ) (k : K) (x : X) → AreNew R es tree → slice_get es i ≡ Some (k, x)
+      → AreNew R (list.remove es i) tree
   fresh_cut [] tree i k x h is = absurd (cc)
   fresh_cut (e ∷ es) tree zero k x h is = h.1
   fresh_cut (e ∷ es) tree (suc i) k x h is = (cut_at es tree i k x h.1 is e.0 ∙ none_either _ _ h.0, fresh_cut es tree i k x h.1 is)
@@ -143,7 +146,8 @@ module _ {K X : Type 0} {R : K → K → Ordering} (o : IsTotalOrder R) (same : 
   twice_at x g false = refl
 
   -- nothing is left where an entry was taken out
-  pub none_left : (es tree : List (K × X)) (i : ℕ) (k : K) (x : X) → AreNew R es tree → slice_get es i ≡ Some (k, x) → at (list.remove es i) tree k ≡ None
+  pub none_left : (es tree : List (K × X)) (i : ℕ) (k : K) (x : X) → AreNew R es tree → slice_get es i ≡ Some (k, x)
+      → at (list.remove es i) tree k ≡ None
   none_left es tree i k x h is = cut_at es tree i k x h is k ∙ ap (λ b. cond b None (at es tree k)) (alike o same k)
 
   -- an entry outside has another value

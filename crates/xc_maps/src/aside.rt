@@ -1,4 +1,5 @@
-ghost use Rattle.std.specs.Prelude.{◌≡◌, ◌<◌, ◌≤◌, ◌+◌, ◌++◌, ℕ, None, Some, IfSome, IfNone, OnSome, cond, length, slice_get, vec_capacity, IsTrue, false};
+ghost use Rattle.std.specs.Prelude.{◌≡◌, ◌<◌, ◌≤◌, ◌+◌, ◌++◌, ℕ, None, Some, IfSome, IfNone, OnSome, IsTrue};
+ghost use Rattle.std.specs.Prelude.{cond, length, slice_get, vec_capacity, false};
 ghost use Rattle.std.specs.List.{remove};
 ghost use Rattle.std.specs.BTreeMap.{is_at};
 ghost use Rattle.std.specs.Map.{lookup};
@@ -46,7 +47,8 @@ pub(crate) fn take<V>(
         ≡ cond (is_at (name_cmp name) q) None (lookup (is_at (name_cmp q)) (moved.old.items ++ entries.old.entries)) }
     ensures fresh { AreNew name_cmp moved.new.items entries.new.entries }
     ensures capacity { vec_capacity moved.new ≡ vec_capacity moved.old }
-    ensures room { OnSome result (length entries.new.entries + length moved.new.items < length entries.old.entries + length moved.old.items) }
+    ensures room { OnSome result
+        (length entries.new.entries + length moved.new.items < length entries.old.entries + length moved.old.items) }
     ensures bound { length entries.new.entries + length moved.new.items ≤ length entries.old.entries + length moved.old.items }
 {
     match take_out(moved, name) {

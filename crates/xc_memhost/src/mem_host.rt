@@ -1,4 +1,5 @@
 ghost use Rattle.std.specs.Prelude.{◌≡◌, ◌≤◌, ◌<◌, ◌+◌, true, length, IfOk, IfSome, OnOk, OnErr, is_some};
+ghost use Rattle.std.specs.FinMap as map;
 ghost use Rattle.xc_data.specs.Counts.{CountsFault};
 ghost use Rattle.xc_host.specs.Cause.{IsCalled};
 ghost use Rattle.xc_host.specs.Contents.{file_in, has_file};
@@ -12,7 +13,7 @@ use crate::faults::{Faults, grained, place_of};
 use crate::objects::Objects;
 use std::alloc::Global;
 use std::marker::Model;
-use xc_data::{Kind, NoMemory, Num};
+use xc_data::{Kind, Name, NoMemory, Num};
 
 /// A host in memory. It tells its contents, and exactly the calls that its prologue lists fail.
 #[derive(Drop)]
@@ -62,6 +63,13 @@ impl MemHost {
         ensures value { IfSome result (λ bytes. bytes.now ≡ file_in self.now.contents file) }
     {
         self.objects.bytes_of(file)
+    }
+
+    /// The file of a name. Looking at it is no call of the host.
+    pub fn named(&self, name: Name) -> Option<Num>
+        ensures { result ≡ map.get self.now.contents.names name }
+    {
+        self.objects.find(name)
     }
 
     // Counts a call, and says whether it fails.

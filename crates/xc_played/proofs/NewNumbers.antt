@@ -9,6 +9,7 @@ use Rattle.xc_story.specs.Seen.{SeenTx, SeenJob, Now, active_of}
 use Rattle.xc_played.specs.Flying.{flown, flown_phase, standing, AreFlying}
 use Rattle.xc_played.proofs.FlownJobs.{flies_there, sound_there}
 
+-- over a running transaction no file at the host has a number that it has still to give
 pub absent_now : (s : Setting) (now : Now) (all : AreFlying s now) (at : ℕ) (job : SeenJob) (tx : SeenTx) → slice_get now.jobs at ≡ Some job
     → active_of job ≡ Some tx → tx.phase ≡ Running → (k : ℕ) → tx.me.made ≤ k → has_file now.contents (record { tx = tx.number; k = k }) ≡ false
 absent_now s now all at job tx there active runs k le =

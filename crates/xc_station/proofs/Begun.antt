@@ -33,7 +33,8 @@ pub all_begun : (now : Now) (entered entries active : ℕ) → HasBegun now entr
 all_begun now entered entries active k len = λ i. (k.entered ∙ sym len) i + k.active i
 
 -- its next transaction begins
-pub begins : (now : Now) (job : SeenJob) (me : Private) (place : Place) (tx : SeenTx) (entered entries active rank : ℕ) → me ≡ job.me → HasBegun now entries active → entered ≡ entries
+pub begins : (now : Now) (job : SeenJob) (me : Private) (place : Place) (tx : SeenTx) (entered entries active rank : ℕ) → me ≡ job.me
+    → HasBegun now entries active → entered ≡ entries
     → place ≡ record job.place { begun = job.place.variables } → rank ≡ rank_of job.attempts (entered + active + 1)
     → tx ≡ new_tx (entered + active + 1) rank entered job.me → record job { me = me; place = place; doing = Active tx } ≡ beginning_job now job
 begins now job me place tx entered entries active rank kept k len placed ranked begun =

@@ -212,7 +212,8 @@ unanswered model c old new behind reply d is brings =
             record {
               fits = does.fits;
               world = ap (λ (ws : List (ℕ × ℕ)). seen w (model.contents new.host) ws) (sym writes) ∙ ap (λ (s : Stepped). s.world) (sym does.step);
-              records = append_cancel_left old.tx.undo.pending d.made (recorded (seen w (model.contents old.host) old.tx.writes) old.tx.me old.tx.number c reply)
+              records = append_cancel_left old.tx.undo.pending d.made
+                  (recorded (seen w (model.contents old.host) old.tx.writes) old.tx.me old.tx.number c reply)
                   (sym (ap (λ (u : Records). u.pending) d.undo) ∙ does.records)
                   ∙ ap (λ (s : Stepped). recorded (seen w (model.contents old.host) old.tx.writes) old.tx.me old.tx.number c s.reply) (sym does.step);
             },

@@ -119,7 +119,8 @@ module _ {H : Type 0} (model : HostModel H) (s : Setting) (shared : Shared H) (n
   -- ---- no claim is granted
   -- no record is left
   without_record : record (seen_tx old) { phase = Undoing cause.NoMemory } ≡ wanting (seen_tx old) [] old.held.items
-  without_record = ap (λ us. record (seen_tx old) { phase = Undoing cause.NoMemory; undo = record old.undo { pending = us } }) (sym (append_nil old.undo.pending))
+  without_record = ap (λ us. record (seen_tx old) { phase = Undoing cause.NoMemory; undo = record old.undo { pending = us } })
+      (sym (append_nil old.undo.pending))
 
   -- memory is wanting before the claims
   pub wants : (behind : Shared H) (new : Tx) (answer : Turn) → behind.host ≡ shared.host → behind.words ≡ shared.words → behind.claims ≡ shared.claims

@@ -1,7 +1,8 @@
 ghost use Rattle.std.specs.Prelude.{◌≡◌, ◌<◌, ℕ, true, false};
 ghost use Rattle.xc_story.specs.Alone.{AreAlone};
 ghost use Rattle.xc_story.specs.Truth.{IsSerial};
-ghost use Rattle.xc_station.specs.Stations.{GoesOn, IsStepOf, KeepsOrigin, IsFrontOf, NobodyLives, TakeRound, TakeRounds, TakeTurns, WorksOn};
+ghost use Rattle.xc_station.specs.Stations.{GoesOn, IsStepOf, KeepsOrigin, IsFrontOf, NobodyLives, TakeRound, TakeRounds, TakeTurns};
+ghost use Rattle.xc_station.specs.Stations.{WorksOn};
 ghost use Rattle.xc_station.specs.Stations.{live_at, now_of, turns_of};
 
 use crate::Station;

@@ -193,4 +193,6 @@ module _ (index : Index) (held : List Claim) (new : Claim) (whole : IsIndex inde
 
   -- and the index says where each object stands still
   pub index_there : (at : ℕ) → IsIndex index (slice_set held at (merged new (get_or held at new)))
-  index_there at = subst (λ (os : List Object). (o : Object) (p : ℕ) → (place_in index o ≡ Some p) ↔ (slice_get os p ≡ Some o)) (sym (objects_set held at new)) whole
+  index_there at =
+      subst (λ (os : List Object). (o : Object) (p : ℕ) → (place_in index o ≡ Some p) ↔ (slice_get os p ≡ Some o))
+      (sym (objects_set held at new)) whole

@@ -65,7 +65,8 @@ impl Host for MemHost {
 
         // Exactly the listed calls fail. Without memory a call was counted, and nothing else.
         ensures fault { is_fault result ≡ is_listed Kind.Create self.old }
-        ensures state { OnOk result (self.new ≡ record (begun Kind.Create self.old) { contents = created self.old.contents name.now num }) }
+        ensures state { OnOk result
+            (self.new ≡ record (begun Kind.Create self.old) { contents = created self.old.contents name.now num }) }
         ensures failed { OnErr result (self.new ≡ begun Kind.Create self.old) }
     {
         if self.fails(Kind::Create) {
@@ -160,7 +161,8 @@ impl Host for MemHost {
 
         // Exactly the listed calls fail.
         ensures fault { is_err result ≡ is_listed Kind.Rename self.old }
-        ensures state { OnOk result (self.new ≡ record (begun Kind.Rename self.old) { contents = renamed self.old.contents from.now to.now }) }
+        ensures state { OnOk result
+            (self.new ≡ record (begun Kind.Rename self.old) { contents = renamed self.old.contents from.now to.now }) }
         ensures failed { OnErr result (self.new ≡ begun Kind.Rename self.old) }
     {
         if self.fails(Kind::Rename) {
@@ -217,7 +219,8 @@ impl Host for MemHost {
 
         // Exactly the listed calls fail.
         ensures fault { is_err result ≡ is_listed Kind.Uncreate self.old }
-        ensures state { OnOk result (self.new ≡ record (begun Kind.Uncreate self.old) { contents = uncreated self.old.contents name.now num }) }
+        ensures state { OnOk result
+            (self.new ≡ record (begun Kind.Uncreate self.old) { contents = uncreated self.old.contents name.now num }) }
         ensures failed { OnErr result (self.new ≡ begun Kind.Uncreate self.old) }
     {
         if self.fails(Kind::Uncreate) {
@@ -235,7 +238,8 @@ impl Host for MemHost {
 
         // As a renaming.
         ensures fault { is_err result ≡ is_listed Kind.NameBack self.old }
-        ensures state { OnOk result (self.new ≡ record (begun Kind.NameBack self.old) { contents = renamed self.old.contents to.now from.now }) }
+        ensures state { OnOk result
+            (self.new ≡ record (begun Kind.NameBack self.old) { contents = renamed self.old.contents to.now from.now }) }
         ensures failed { OnErr result (self.new ≡ begun Kind.NameBack self.old) }
     {
         if self.fails(Kind::NameBack) {

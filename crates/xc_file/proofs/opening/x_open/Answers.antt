@@ -13,4 +13,5 @@ pub returns-clause-call : goal.returns-clause-call
 returns-clause-call g c =
     let next = c.open_at.ensures in
     λ number undo. unrecorded_call g.H.Host.model _ (record { host = c.args.host.now; number = number; me = c.args.me.now; undo = undo }) _ _
-    (ap (λ o. by_much (is_none o)) (sym c.vacant.ensures.value ∙ c.in-Some.is)) next.reply refl (next.acts number) (λ r w. refl) next.contents next.err next.cause
+    (ap (λ o. by_much (is_none o)) (sym c.vacant.ensures.value ∙ c.in-Some.is)) next.reply refl (next.acts number) (λ r w. refl)
+    next.contents next.err next.cause

@@ -17,7 +17,8 @@ returns-in-Some g c =
     let s = ap (λ es. slice_get es c.in-Some.at) (sym c.as_slice.ensures.value) ∙ p.1 in
     let e = c.index.ensures ∙ get_or_from_slice_get c.self.inside.moved.items c.in-Some.at (c.args.name, p.0) c.index.result.now s in
     ap (λ d. Some d.1) e
-    ∙ sym (found_at nat_list_cmp_total exact_bytes c.self.inside.moved.items c.self.inside.entries.entries c.in-Some.at c.args.name p.0 c.self.invariant.fresh s)
+    ∙ sym (found_at nat_list_cmp_total exact_bytes c.self.inside.moved.items c.self.inside.entries.entries c.in-Some.at c.args.name p.0
+    c.self.invariant.fresh s)
     ∙ sym (get-lookup nat_list_cmp_total (c.self.inside.moved.items ++ c.self.inside.entries.entries) c.args.name)
     ∙ ap (λ m. map.get m c.args.name) c.self.view_is
 

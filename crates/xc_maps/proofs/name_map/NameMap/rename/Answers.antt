@@ -30,7 +30,8 @@ returns-in-Some g c = λ x is.
     let some = c.in-Some.ensures.value ∙ sym (get-lookup nat_list_cmp_total (c.self.inside.moved.items ++ c.self.inside.entries.entries) c.args.from)
     ∙ ap (λ m. map.get m c.args.from) c.self.view_is ∙ is in
     let value : c.in-Some.value ≡ x = cc some in
-    inserted nat_list_cmp_total exact_bytes (c.take.new.moved.items ++ c.take.new.entries.entries) (c.push_reserved.new.self.items ++ c.take.new.entries.entries)
+    inserted nat_list_cmp_total exact_bytes (c.take.new.moved.items ++ c.take.new.entries.entries)
+    (c.push_reserved.new.self.items ++ c.take.new.entries.entries)
     c.args.to c.in-Some.value
     (λ q. ap (λ es. lookup (is_at (name_cmp q)) (es ++ c.take.new.entries.entries)) c.push_reserved.ensures.items
     ∙ put_at nat_list_cmp_total exact_bytes c.take.new.moved.items c.take.new.entries.entries c.args.to c.in-Some.value none q)

@@ -13,15 +13,15 @@ pub returns-clause-ok : goal.returns-clause-ok
 returns-clause-ok c =
     on_ok_weaker c.append-done.result
     (λ done.
-      changed_back (λ bytes. bytes ++ c.args.bytes.now) _ _ _ _ _ _ _
-      (sym c.in-Some.is ∙ c.replace.ensures.value) c.replace.ensures.replaced done c.replace-2.ensures.replaced
-      ∙ ap (λ x. appended x c.args.file c.args.bytes.now) c.self.view_is)
+    changed_back (λ bytes. bytes ++ c.args.bytes.now) _ _ _ _ _ _ _
+    (sym c.in-Some.is ∙ c.replace.ensures.value) c.replace.ensures.replaced done c.replace-2.ensures.replaced
+    ∙ ap (λ x. appended x c.args.file c.args.bytes.now) c.self.view_is)
     c.append-done.ensures.ok
 
 pub returns-clause-err : goal.returns-clause-err
 returns-clause-err c =
     on_err_weaker c.append-done.result
     (λ same.
-      same_back _ _ _ _ _ _ _ (sym c.in-Some.is ∙ c.replace.ensures.value) c.replace.ensures.replaced same c.replace-2.ensures.replaced
-      ∙ c.self.view_is)
+    same_back _ _ _ _ _ _ _ (sym c.in-Some.is ∙ c.replace.ensures.value) c.replace.ensures.replaced same c.replace-2.ensures.replaced
+    ∙ c.self.view_is)
     c.append-done.ensures.err
