@@ -10,6 +10,7 @@ pub mod Ready
 pub mod Rivals
 pub mod Rooms
 pub mod RoomsKept
+pub mod RowsCalled
 pub mod RowsRun
 pub mod Runs
 pub mod Stages

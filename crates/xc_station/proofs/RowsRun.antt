@@ -1,4 +1,4 @@
--- Rows of the turn of a job whose transaction runs.
+-- Rows of the turn of a job whose transaction runs, but for calls whose claims are granted.
 use Rattle.std.proofs.Common.{◌≡◌, ◌⊎◌, inl, inr, ℕ, ◌<◌, ◌≤◌, List, [], ◌∷◌, ◌++◌, length, IsTrue, refl, ap, sym, ◌∙◌, subst, arith}
 use Rattle.std.specs.Prelude.{All, Option, IsSome, Err, slice_set}
 use Rattle.std.specs.declared.option.Option.TheVariants.{None, Some}
@@ -53,24 +53,23 @@ as_before now at tx ask.Commit = (refl, refl)
 as_before now at tx ask.Abort = (refl, refl)
 as_before now at tx ask.End = (refl, refl)
 
--- the job stands behind the reply
-pub record IsBehind (s : Setting) (old new : Place) (reply : Reply) : Type 0 where
-  pub begin : IsSameBegin old new
-  pub walk : walk_of s.script new ≡ answered (walk_of s.script old) reply
-  pub nearer : old.at < new.at
+-- ---- what is asked
+-- silent statements lead to what is asked
+pub asked_before : (s : Setting) (job : SeenJob) (place : Place) (tx : SeenTx) (a : Ask) → HasTx s job place tx → asks (walk_of s.script place) ≡ a
+    → asks (walk_of s.script job.place) ≡ a
+asked_before s job place tx a has asked = ap asks (sym has.same.walk) ∙ asked
+
+-- so the turn is that of what is asked
+pub asked_row : (s : Setting) (at : ℕ) (now new : Now) (job : SeenJob) (place : Place) (tx : SeenTx) (a : Ask) → HasTx s job place tx
+    → asks (walk_of s.script place) ≡ a → AskedTurn s at now job tx a new → RunningTurn s at now job tx turn.Went new
+asked_row s at now new job place tx a has asked row =
+    subst (λ b. AskedTurn s at now job tx b new) (sym (asked_before s job place tx a has asked)) row
 
 -- ---- rows
 module _ {H : Type 0} (model : HostModel H) (s : Setting) (shared : Shared H) (now : Now) (at : ℕ) (job : SeenJob) (place : Place) (old : Tx)
     (here : IsAt model shared now at job) (has : HasTx s job place (seen_tx old)) where
   active : IsActiveAt now.jobs at (seen_tx old)
   active = (job, here.stands, ap active_in has.doing)
-
-  asked_before : (a : Ask) → asks (walk_of s.script place) ≡ a → asks (walk_of s.script job.place) ≡ a
-  asked_before a asked = ap asks (sym has.same.walk) ∙ asked
-
-  asked_row : (a : Ask) (new : Now) → asks (walk_of s.script place) ≡ a → AskedTurn s at now job (seen_tx old) a new
-      → RunningTurn s at now job (seen_tx old) turn.Went new
-  asked_row a new asked row = subst (λ b. AskedTurn s at now job (seen_tx old) b new) (sym (asked_before a asked)) row
 
   -- a turn in which nothing is held more
   row_same : (behind : Shared H) (place' : Place) (tx : SeenTx) (answer : Turn) → behind.claims ≡ shared.claims → tx.number ≡ old.number
@@ -88,10 +87,6 @@ module _ {H : Type 0} (model : HostModel H) (s : Setting) (shared : Shared H) (n
       }
 
   -- ---- a claim is met
-  free_now : (call : Call) → All (HasNoRival now.jobs at) (claims_of call old.me (length shared.words))
-      → All (HasNoRival now.jobs at) (claims_of call old.me (length now.words))
-  free_now call free = subst (λ n. All (HasNoRival now.jobs at) (claims_of call old.me n)) (sym (ap length here.words)) free
-
   met_now : (call : Call) (object : Object) (holder : ℕ) → IsFirstMet now.jobs at (claims_of call old.me (length shared.words)) object holder
       → IsFirstMet now.jobs at (claims_of call old.me (length now.words)) object holder
   met_now call object holder met =
@@ -111,7 +106,7 @@ module _ {H : Type 0} (model : HostModel H) (s : Setting) (shared : Shared H) (n
       let undoing = λ (n : ℕ). record (seen_tx old) { phase = Undoing (cause.Conflict r.object r.holder n) } in
       let is : seen_tx new ≡ undoing (length now.journal) = r.undoes ∙ ap undoing (sym journal) in
       row_same behind place (seen_tx new) turn.Went r.same (ap (λ (t : SeenTx). t.number) r.undoes) (ap (λ (t : SeenTx). t.held) r.undoes)
-      (asked_row (ask.Call call) (moved model behind (with_tx job place (seen_tx new)) now at) asked (inr (record {
+      (asked_row s at now (moved model behind (with_tx job place (seen_tx new)) now at) job place (seen_tx old) (ask.Call call) has asked (inr (record {
         object = r.object;
         holder = r.holder;
         met = met_now call r.object r.holder (first_rival now.jobs at (seen_tx old) shared.claims here.table here.single here.apart active
@@ -154,7 +149,7 @@ module _ {H : Type 0} (model : HostModel H) (s : Setting) (shared : Shared H) (n
       → IsRow s now (moved model behind (with_tx job place (seen_tx new)) now at) at job turn.Went behind.claims
   commits behind new host words claims is asked settled =
       row_same behind place (seen_tx new) turn.Went claims (ap (λ (t : SeenTx). t.number) is) (ap (λ (t : SeenTx). t.held) is)
-      (asked_row ask.Commit (moved model behind (with_tx job place (seen_tx new)) now at) asked (record {
+      (asked_row s at now (moved model behind (with_tx job place (seen_tx new)) now at) job place (seen_tx old) ask.Commit has asked (record {
         place = place;
         same = has.same;
         settled = settled;
@@ -173,7 +168,7 @@ module _ {H : Type 0} (model : HostModel H) (s : Setting) (shared : Shared H) (n
       → IsRow s now (moved model behind (with_tx job place (seen_tx new)) now at) at job turn.Went behind.claims
   turns_back behind new host words claims is asked =
       row_same behind place (seen_tx new) turn.Went claims (ap (λ (t : SeenTx). t.number) is) (ap (λ (t : SeenTx). t.held) is)
-      (asked_row ask.Abort (moved model behind (with_tx job place (seen_tx new)) now at) asked (record {
+      (asked_row s at now (moved model behind (with_tx job place (seen_tx new)) now at) job place (seen_tx old) ask.Abort has asked (record {
         place = place;
         same = has.same;
         behind = same_moment behind (with_tx job place (seen_tx new)) host words ∙ ap (λ (t : SeenTx). with_job now at (with_tx job place t)) is;
@@ -187,138 +182,6 @@ module _ {H : Type 0} (model : HostModel H) (s : Setting) (shared : Shared H) (n
   unclaimed behind new call entered turn.Went host words asked journal r = refused behind new call entered host words asked journal r
   unclaimed behind new call entered turn.NoMemory host words asked journal w = wants behind new turn.NoMemory host words w.same w.undoes refl
   unclaimed behind new call entered _ host words asked journal r = absurd r
-
-  -- ---- behind granted claims
-  module _ (behind : Shared H) (mid : Tx) (call : Call) (words : behind.words ≡ shared.words) (asked : asks (walk_of s.script place) ≡ ask.Call call)
-      (g : IsGranted shared.claims behind.claims old mid (claims_of call old.me (length shared.words))) where
-    claims_now : claims_of call old.me (length shared.words) ≡ claims_of call old.me (length now.words)
-    claims_now = ap (λ n. claims_of call old.me n) (sym (ap length here.words))
-
-    granted_free : All (HasNoRival now.jobs at) (claims_of call old.me (length now.words))
-    granted_free = free_now call (none_met now.jobs at (seen_tx old) shared.claims here.table here.single here.apart active
-        (claims_of call old.me (length shared.words)) g.free)
-
-    words_now : behind.words ≡ now.words
-    words_now = words ∙ sym here.words
-
-    row_granted : (place' : Place) (tx : SeenTx) (answer : Turn) → tx.number ≡ old.number
-        → tx.held ≡ holding old.held.items (claims_of call old.me (length shared.words))
-        → RunningTurn s at now job (seen_tx old) answer (moved model behind (with_tx job place' tx) now at)
-        → IsRow s now (moved model behind (with_tx job place' tx) now at) at job answer behind.claims
-    row_granted place' tx answer number held row =
-        let claims = claims_of call old.me (length shared.words) in
-        record {
-          tx = seen_tx old;
-          doing = has.doing;
-          row = row;
-          table = table_behind shared.claims behind.claims now.jobs at job (with_tx job place' tx) (seen_tx old) tx here.table here.single here.stands
-              (ap active_in has.doing) refl number g.others (λ o. g.row o ∙ ap (λ m. claimed m claims o) (here.table.held at (seen_tx old) o active)
-              ∙ claimed-holding old.held.items claims o ∙ ap (λ (h : List Claim). mode_in h o) (sym held));
-        }
-
-    -- memory is wanting behind them: what the call left stays, and what it claimed is held
-    module _ (telling : IsTrue s.tells → IsTrue model.tells) (place' : Place) (from : H) (done new : Tx) (same : place' ≡ place) (host : from ≡ shared.host)
-        (l : LeavesOff model call (acting from behind.words mid) (acting behind.host behind.words done))
-        (is : seen_tx new ≡ record (seen_tx done) { phase = Undoing cause.NoMemory }) where
-      left_as : seen_tx new ≡ wanting (seen_tx old) l.left (holding old.held.items (claims_of call old.me (length now.words)))
-      left_as = is ∙ ap (λ (t : SeenTx). record t { phase = Undoing cause.NoMemory }) l.tx
-          ∙ ap (λ (t : SeenTx). record (leaving t l.left) { phase = Undoing cause.NoMemory }) g.held
-          ∙ ap (λ claims. wanting (seen_tx old) l.left (holding old.held.items claims)) claims_now
-
-      left_now : IsTrue s.tells → IsLeft now (moved model behind (with_tx job place' (seen_tx new)) now at) (parts_of (seen_tx old)) (ask.Call call) l.left
-      left_now tells =
-          let to = model.contents behind.host in
-          let Left : List ℕ → Contents → Parts → Type 0 = λ ws was parts. ((l.left ≡ []) × (to ≡ was))
-          ⊎ ((answer : Answer) × DoesPartIn ws was to parts (record { call = call; answer = answer }) l.left) in
-          subst (λ p. Left now.words now.contents p) (ap parts_of g.held)
-          (subst (λ c. Left now.words c (parts_of (seen_tx mid))) (ap model.contents host ∙ sym here.contents)
-          (subst (λ ws. Left ws (model.contents from) (parts_of (seen_tx mid))) words_now (l.contents (telling tells))))
-
-      pub starved : (answer : Turn) → answer ≡ turn.NoMemory
-          → IsRow s now (moved model behind (with_tx job place' (seen_tx new)) now at) at job answer behind.claims
-      starved answer gives =
-          let next = asked_before (ask.Call call) asked in
-          let held = holding old.held.items (claims_of call old.me (length now.words)) in
-          let moment = moved model behind (with_tx job place' (seen_tx new)) now at in
-          row_granted place' (seen_tx new) answer (ap (λ (t : SeenTx). t.number) left_as)
-          (ap (λ (t : SeenTx). t.held) left_as ∙ ap (holding old.held.items) (sym claims_now))
-          (subst (λ a. RunningTurn s at now job (seen_tx old) a moment) (sym gives) (record {
-            place = place';
-            same = subst (IsSamePlace s job.place) (sym same) has.same;
-            left = l.left;
-            one = l.one;
-            held = held;
-            holds = subst (λ a. HoldsWanting now at (seen_tx old) a l.left held) (sym next) (inr (granted_free, refl));
-            jobs = ap (λ (t : SeenTx). slice_set now.jobs at (with_tx job place' t)) left_as;
-            words = words_now;
-            journal = refl;
-            faults = l.faults ∙ ap model.fault_count host ∙ sym here.faults;
-            contents = λ tells. subst (λ a. IsLeft now moment (parts_of (seen_tx old)) a l.left) (sym next) (left_now tells);
-          }))
-
-    -- the call is done and noted
-    module _ (telling : IsTrue s.tells → IsTrue model.tells) (place' : Place) (from : H) (done new : Tx) (reply : Reply)
-        (stands : IsBehind s place place' reply) (host : from ≡ shared.host)
-        (d : HasDone model call (acting from behind.words mid) (acting behind.host behind.words done) reply)
-        (noted : seen_tx new ≡ record (seen_tx done) { calls = done.calls.items ++ call ∷ []; replies = done.replies.items ++ reply ∷ [] }) where
-      done_as : seen_tx done ≡ with_parts (record (seen_tx old) { held = holding old.held.items (claims_of call old.me (length now.words)) })
-          (parts_of (seen_tx done))
-      done_as = d.tx ∙ ap (λ (t : SeenTx). with_parts t (parts_of (seen_tx done))) g.held
-          ∙ ap (λ claims. with_parts (record (seen_tx old) { held = holding old.held.items claims }) (parts_of (seen_tx done))) claims_now
-
-      noted_as : seen_tx new ≡ noting (seen_tx old) call reply (claims_of call old.me (length now.words)) (parts_of (seen_tx done))
-      noted_as = noted ∙ ap (λ (t : SeenTx). record t { calls = t.calls ++ call ∷ []; replies = t.replies ++ reply ∷ [] }) done_as
-
-      writes_old : mid.writes ≡ old.writes
-      writes_old = ap (λ (t : SeenTx). t.writes) g.held
-
-      spoken_now : IsWordStep (overlaid now.words old.writes) (overlaid now.words done.writes) call reply
-      spoken_now = subst (λ ws. IsWordStep (overlaid now.words ws) (overlaid now.words done.writes) call reply) writes_old
-          (subst (λ ws. IsWordStep (overlaid ws mid.writes) (overlaid ws done.writes) call reply) words_now d.spoken)
-
-      does_now : IsTrue s.tells → DoesIn now.words now.contents (model.contents behind.host) (parts_of (seen_tx old)) (parts_of (seen_tx done)) call reply
-      does_now tells =
-          let to = model.contents behind.host in
-          let parts = parts_of (seen_tx done) in
-          subst (λ (p : Parts). DoesIn now.words now.contents to p parts call reply) (ap parts_of g.held)
-          (subst (λ (c : Contents). DoesIn now.words c to (parts_of (seen_tx mid)) parts call reply) (ap model.contents host ∙ sym here.contents)
-          (subst (λ ws. DoesIn ws (model.contents from) to (parts_of (seen_tx mid)) parts call reply) words_now (d.does (telling tells))))
-
-      calls_now : Calls s at now job (seen_tx old) call (moved model behind (with_tx job place' (seen_tx new)) now at)
-      calls_now =
-          record {
-            free = granted_free;
-            reply = reply;
-            place = place';
-            parts = parts_of (seen_tx done);
-            jobs = ap (λ (t : SeenTx). slice_set now.jobs at (with_tx job place' t)) noted_as;
-            words = words_now;
-            journal = refl;
-            begin = record {
-              block = stands.begin.block ∙ has.same.begin.block;
-              next = stands.begin.next ∙ has.same.begin.next;
-              begun = stands.begin.begun ∙ has.same.begin.begun;
-            };
-            walk = stands.walk ∙ ap (λ w. answered w reply) has.same.walk;
-            nearer = (let far = stands.nearer in let near = has.same.at in omega arith);
-            now = d.now;
-            built = asked_built (walk_of s.script place) call asked;
-            made = d.made;
-            one = d.one;
-            undo = d.undo ∙ ap (λ (t : SeenTx). record t.undo { pending = t.undo.pending ++ d.made }) g.held;
-            stored = d.stored;
-            stores = d.stores ∙ ap (λ ws. ws ++ stored_by (length behind.words) call) writes_old
-                ∙ ap (λ n. old.writes ++ stored_by n call) (ap length words_now);
-            spoken = spoken_now;
-            cause = subst (λ n. CountsFault (is_fault_reply reply) n (model.fault_count behind.host)) (ap model.fault_count host ∙ sym here.faults) d.cause;
-            does = does_now;
-          }
-
-      -- so its turn is that of a call
-      pub called : IsRow s now (moved model behind (with_tx job place' (seen_tx new)) now at) at job turn.Went behind.claims
-      called = row_granted place' (seen_tx new) turn.Went (ap (λ (t : SeenTx). t.number) noted_as)
-          (ap (λ (t : SeenTx). t.held) noted_as ∙ ap (holding old.held.items) (sym claims_now))
-          (asked_row (ask.Call call) (moved model behind (with_tx job place' (seen_tx new)) now at) asked (inl calls_now))
 
 -- ---- what is asked
 -- a transaction at a place that silent statements lead to

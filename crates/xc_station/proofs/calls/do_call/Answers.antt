@@ -1,7 +1,9 @@
-use Rattle.std.proofs.Common.{ap, refl, ◌∙◌, sym}
+use Rattle.std.proofs.Common.{ap, refl, subst, sym}
 use Rattle.std.specs.Prelude.{is_err}
 use Rattle.xc_data.specs.declared.private.Private.{Private}
-use Rattle.xc_station.specs.Acting.{acting}
+use Rattle.xc_story.specs.Seen.{SeenTx}
+use Rattle.xc_station.specs.Acting.{LeavesOff, acting}
+use Rattle.xc_station.specs.Jobs.{seen_tx}
 use Rattle.xc_station.proofs.Doings.{unanswered, unanswered_so, wants_value}
 use Rattle.xc_station.proofs.calls.do_call.Goals as goal
 
@@ -16,5 +18,8 @@ returns-in_err-answer-clause-acted g c =
 
 pub returns-then-is_err-clause-acted : goal.returns-then-is_err-clause-acted
 returns-then-is_err-clause-acted g c =
-    unanswered g.H.Host.model _ _ _ _ _ c.in_ok-reply-2.ensures.acted refl
-    (wants_value c.answer-2.result _ (sym c.if-is_err.ensures.value) c.answer-2.ensures.lasting)
+    let old = λ (t : SeenTx). record (acting c.args.host.now c.args.words.now c.args.tx.now) { tx = t } in
+    let behind = acting c.act-2.new.host c.args.words.now (record c.act-2.new.tx { me = c.keep.new.self.me }) in
+    subst (λ t. LeavesOff g.H.Host.model c.args.call.now (old t) behind) (ap seen_tx c.keep.ensures)
+    (unanswered g.H.Host.model _ _ _ _ _ c.in_ok-reply-2.ensures.acted refl
+    (wants_value c.answer-2.result _ (sym c.if-is_err.ensures.value) c.answer-2.ensures.lasting))

@@ -1,5 +1,6 @@
 use Rattle.std.proofs.Common.{refl}
-use Rattle.xc_station.proofs.RowsRun.{called, starved, unclaimed}
+use Rattle.xc_station.proofs.RowsCalled.{called, starved}
+use Rattle.xc_station.proofs.RowsRun.{unclaimed}
 use Rattle.xc_station.proofs.running.try_call.Goals as goal
 
 pub returns-in-Err-clause-row : goal.returns-in-Err-clause-row
