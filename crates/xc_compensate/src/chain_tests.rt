@@ -173,7 +173,10 @@ fn three_tries_fail_at_three_faults_each(rt: HostRuntime) -> Result<(), Fail> {
 fn a_chain_is_undone_call_by_call(rt: HostRuntime) -> Result<(), Fail> {
     let mut host = host_behind(rt.alloc(), [0, 0, 0])?;
     assert!(rt; ends_so(rt.alloc(), &mut host, 1, [UNDONE; 3])?);
-    assert_eq!(rt; host.log.as_slice(), [Cut(0), NameBack, Uncreate].as_slice());
+    assert_eq!(rt;
+        host.log.as_slice(),
+        [Cut(0), NameBack, Uncreate].as_slice()
+    );
     assert_eq!(rt; left(&mut host)?.0, "none");
     Ok(())
 }

@@ -141,13 +141,19 @@ fn a_closed_handle_is_given_again(rt: HostRuntime) -> Result<(), Fail> {
         assert_eq!(rt; x_close(&mut me, h), Reply::BadHandle);
         assert_eq!(rt; x_seek(&mut me, h, 0), Reply::BadHandle);
         assert_eq!(rt; x_len(&mut host, &me, h), Reply::BadHandle);
-        assert_eq!(rt; x_read(rt.alloc(), &mut host, &mut me, h, 1)?, Reply::BadHandle);
+        assert_eq!(rt;
+            x_read(rt.alloc(), &mut host, &mut me, h, 1)?,
+            Reply::BadHandle
+        );
     }
     assert_eq!(rt; x_close(&mut me, 256), Reply::BadHandle);
     assert_eq!(rt; x_close(&mut me, 65535), Reply::BadHandle);
     assert_eq!(rt; host.log.len(), 0);
     assert_eq!(rt; x_open(&mut host, &mut me, &name(b"a")?)?, Reply::Made(3));
-    assert_eq!(rt; x_create(&mut host, &mut me, &mut undo, 9, &name(b"b")?)?, Reply::Made(200));
+    assert_eq!(rt;
+        x_create(&mut host, &mut me, &mut undo, 9, &name(b"b")?)?,
+        Reply::Made(200)
+    );
     assert_eq!(rt; x_open(&mut host, &mut me, &name(b"b")?)?, Reply::Made(255));
     assert_eq!(rt; x_open(&mut host, &mut me, &name(b"a")?)?, Reply::TooMuch);
     Ok(())

@@ -12,7 +12,12 @@ pub(crate) const NUM: Num = Num { tx: 0, k: 0 };
 
 pub(crate) const ALL: u32 = 100;
 
-pub(crate) fn host_of(alloc: Global, bytes: &[u8], grain: u32, fail: usize) -> Result<TestHost, NoMemory> {
+pub(crate) fn host_of(
+    alloc: Global,
+    bytes: &[u8],
+    grain: u32,
+    fail: usize,
+) -> Result<TestHost, NoMemory> {
     let mut host = TestHost::new(alloc, bytes, bytes.len().min(65536) as u32)?;
     host.grain = grain;
     host.fails = [fail, 0, 0];
