@@ -34,7 +34,7 @@ last_within older u n le others v same = subst (λ w. n ≤ covers w) (same_from
 
 record_covered : (u : Undo) (n : ℕ) → IsRecord u → 1 ≤ n → n ≤ covers u → IsRecord (covered u n)
 record_covered (Bytes file at before after m) n is some within = (some, omega (arith, within, is.1), is.2, is.3)
-record_covered (Tail file from after m) n is some within = is
+record_covered (Tail file from after m) n is some within = (some, omega (arith, within, is.1), is.2)
 record_covered (Made name num) n is some within = is
 record_covered (Moved from to) n is some within = is
 record_covered (NewPipe num) n is some within = is

@@ -1,12 +1,13 @@
 -- The newest record that has no end yet is tried.
-use Rattle.std.proofs.Common.{◌≡◌, ◌≢◌, ℕ, ◌+◌, IsTrue, None, List, [], ◌∷◌, ◌++◌, length, reverse, ap, sym, ◌∙◌, subst}
+use Rattle.std.proofs.Common.{◌≡◌, ◌≢◌, ℕ, ◌+◌, true, IsTrue, None, List, [], ◌∷◌, ◌++◌, length, reverse, ap, sym, ◌∙◌, subst}
 use Rattle.std.proofs.lemmas.List.{reverse-append}
 use Rattle.xc_data.specs.Counts.{CountsFaults}
 use Rattle.xc_data.specs.Faults.{end_faults}
 use Rattle.xc_data.specs.declared.undo.Undo.{Undo}
 use Rattle.xc_data.specs.declared.undo.UndoEnd.{UndoEnd}
-use Rattle.xc_world.specs.Ends.{Ending, blocker, IsLegalEnd}
+use Rattle.xc_world.specs.Ends.{Ending, is_undone, blocker, IsLegalEnd}
 use Rattle.xc_world.specs.Effects.{undone_to, IsCovered}
+use Rattle.xc_host.specs.Cause.{IsCalled}
 use Rattle.xc_host.specs.Contents.{Contents, contents_of, world_of}
 use Rattle.xc_host.specs.Model.{HostModel}
 use Rattle.xc_compensate.specs.Records.{Records, IsTried, NextIsCovered, way_of}
@@ -40,10 +41,11 @@ pub tried_now : {H : Type 0} (model : HostModel H) (tries : ℕ) (old : Records)
     → shown pending ended ≡ old → pending ≡ rest ++ u ∷ [] → field ≡ ended ++ (u, end) ∷ [] → count ≡ length rest → newer ≡ ended
     → IsLegalEnd tries u end (blocker (count + 1 + 1) u (reverse newer)) → CountsFaults (end_faults end) (model.fault_count host) (model.fault_count next)
     → (IsTrue model.tells → model.contents next ≡ contents_of (undone_to (world_of (model.contents host)) u end))
+    → (is_undone end ≡ true → IsCalled (model.calls host) (model.calls next))
     → (blocker (count + 1 + 1) u (reverse newer) ≢ None → next ≡ host)
     → turn ≡ turn_of end
     → (t : IsTried model tries (record { host = host; undo = old }) (record { host = next; undo = shown rest field })) × (turn ≡ turn_of t.end)
-tried_now model tries old pending rest ended field host next u end turn count newer view split grown size there legal faults effect still answer =
+tried_now model tries old pending rest ended field host next u end turn count newer view split grown size there legal faults effect called still answer =
     let sized = subst (λ n. IsLegalEnd tries u end (blocker (n + 1 + 1) u (reverse newer))) size legal in
     let at_end : reverse field ≡ (u, end) ∷ reverse ended = ap reverse grown ∙ reverse-append ended ((u, end) ∷ []) in (
       record {
@@ -56,6 +58,7 @@ tried_now model tries old pending rest ended field host next u end turn count ne
             (subst (λ rs. IsLegalEnd tries u end (blocker (length rest + 1 + 1) u (reverse rs))) there sized);
         faults = faults;
         still = λ way. still (λ none. way (same_way old pending rest ended u count newer view split size there none));
+        called = called;
         effect = effect;
       },
       answer,

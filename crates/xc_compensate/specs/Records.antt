@@ -1,14 +1,16 @@
 -- Stored compensations: the records that a transaction's calls left, and how undoing them ends.
-use Rattle.std.specs.Prelude.{◌≡◌, ◌≢◌, ℕ, ◌+◌, ◌≤◌, ◌<◌, ◌^◌, ◌==◌, Option, IsTrue, List, [], ◌∷◌, ◌++◌, length, if◌then◌else◌}
+use Rattle.std.specs.Prelude.{◌≡◌, ◌≢◌, ℕ, ◌+◌, ◌≤◌, ◌<◌, ◌^◌, ◌==◌, Bool, true, false, Option, IsTrue}
+use Rattle.std.specs.Prelude.{List, [], ◌∷◌, ◌++◌, length, if◌then◌else◌}
 use Rattle.std.specs.List.{All}
 use Rattle.std.specs.declared.option.Option.TheVariants.{None}
 use Rattle.xc_data.specs.Counts.{CountsFaults}
 use Rattle.xc_data.specs.Faults.{end_faults}
 use Rattle.xc_data.specs.declared.undo.Undo.{Undo}
-use Rattle.xc_data.specs.declared.undo.Undo.TheVariants.{Bytes, Tail}
+use Rattle.xc_data.specs.declared.undo.Undo.TheVariants.{Bytes, Tail, Made, Moved}
 use Rattle.xc_data.specs.declared.undo.UndoEnd.{UndoEnd}
-use Rattle.xc_world.specs.Ends.{Ending, blocker, IsLegalEnd}
+use Rattle.xc_world.specs.Ends.{Ending, is_undone, blocker, IsLegalEnd}
 use Rattle.xc_world.specs.Effects.{undone_to, IsCovered}
+use Rattle.xc_host.specs.Cause.{IsCalled}
 use Rattle.xc_host.specs.Contents.{Contents, contents_of, world_of}
 use Rattle.xc_host.specs.Model.{HostModel}
 
@@ -19,11 +21,19 @@ pub record Records : Type 0 where
   -- the newer ones, with their ends
   pub ended : List Ending
 
--- a record that is stored: it covers a front of the new bytes, and has as many old ones. Overwrites are
--- the only kind so far
+-- a record that is stored: it covers a front of the new bytes; an overwrite has as many old ones, and an
+-- append stayed within a file's limit. There are none of pipes and pairs so far
 abbrev pub IsRecord : Undo → Type 0
 IsRecord (Bytes file at before after n) = (1 ≤ n) × (n ≤ length after) × (length before ≡ length after) × (at + length after < 2 ^ 32)
+IsRecord (Tail file from after n) = (1 ≤ n) × (n ≤ length after) × (from + length after ≤ 65536)
+IsRecord (Made name num) = Unit {0}
+IsRecord (Moved from to) = Unit {0}
 IsRecord _ = ⊥
+
+-- whether the host puts a record's bytes back piece by piece; one call undoes each other kind
+abbrev pub is_overwrite : Undo → Bool
+is_overwrite (Bytes file at before after n) = true
+is_overwrite _ = false
 
 -- what the lists and the room behind them keep: each record has room for its end, and numbers are a u32's
 pub record IsStack (records : List Undo) (newest : List Ending) (spare : ℕ) : Type 0 where
@@ -61,7 +71,7 @@ number_behind older = length older + 1
 abbrev pub way_of : List Undo → Undo → Records → Option ℕ
 way_of older u undo = blocker (number_behind older + 1) u undo.ended
 
--- the bytes of the newest record without an end are in its file, if nothing stands in its way
+-- what the newest record without an end tells of is there, if nothing stands in its way
 abbrev pub NextIsCovered : Contents → Records → Type 0
 NextIsCovered c undo = (older : List Undo) (u : Undo) → undo.pending ≡ older ++ u ∷ [] → way_of older u undo ≡ None
     → IsCovered (world_of c) u
@@ -78,5 +88,7 @@ pub record IsTried {H : Type 0} (model : HostModel H) (tries : ℕ) (old new : A
   pub faults : CountsFaults (end_faults end) (model.fault_count old.host) (model.fault_count new.host)
   -- the host isn't called for a blocked one
   pub still : way_of older tried old.undo ≢ None → new.host ≡ old.host
+  -- nothing is called undone that the host wasn't called for
+  pub called : is_undone end ≡ true → IsCalled (model.calls old.host) (model.calls new.host)
   -- it did what the end says
   pub effect : IsTrue model.tells → model.contents new.host ≡ contents_of (undone_to (world_of (model.contents old.host)) tried end)

@@ -1,4 +1,4 @@
-ghost use Rattle.std.specs.Prelude.{◌≡◌, ◌≢◌, ◌≤◌, ◌<◌, ◌+◌, ◌^◌, ℕ, length, take, reverse, IsTrue};
+ghost use Rattle.std.specs.Prelude.{◌≡◌, ◌≢◌, ◌≤◌, ◌<◌, ◌+◌, ◌^◌, ℕ, true, length, take, reverse, IsTrue};
 ghost use Rattle.std.specs.declared.option.Option.TheVariants.{None};
 ghost use Rattle.std.specs.List.{list_any, position};
 ghost use Rattle.xc_data.specs.Counts.{CountsFaults};
@@ -7,9 +7,11 @@ ghost use Rattle.xc_data.specs.Claims.{is_object};
 ghost use Rattle.xc_world.specs.Effects.{undone_to, IsCovered};
 ghost use Rattle.xc_world.specs.Ends.{share_object, is_undone, blocks, blocker, IsLegalEnd};
 ghost use Rattle.xc_host.specs.Contents.{Contents, contents_of, world_of, wrote_front};
+ghost use Rattle.xc_host.specs.Cause.{IsCalled};
 ghost use Rattle.xc_compensate.specs.Records.{IsRecord};
 ghost use Rattle.xc_compensate.specs.Restoring.{IsStep, IsRestoreEnd, FitsIn, done_by};
 
+use crate::taking_back::take_back;
 use std::alloc::Global;
 use xc_data::{Num, Object, Undo, UndoEnd};
 use xc_host::{Host, a_front_grows, a_write_keeps_the_length};
@@ -97,6 +99,7 @@ fn restore_more<H: Host>(
     ensures effect { IsTrue H.model.tells → (was : Contents) → FitsIn was file at bytes.now
         → H.model.contents host.old ≡ wrote_front was file at (take progress.done bytes.now)
         → H.model.contents host.new ≡ wrote_front was file at (take result.done bytes.now) }
+    ensures called { IsCalled (H.model.calls host.old) (H.model.calls host.new) }
     ensures faults { (before : ℕ) → CountsFaults progress.faults before (H.model.fault_count host.old)
         → CountsFaults result.faults before (H.model.fault_count host.new) }
 {
@@ -118,11 +121,13 @@ fn restore_more<H: Host>(
 // was restored before it.
 fn restore_whole<H: Host>(host: &mut H, file: Num, at: u32, bytes: &[u8], tries: u32) -> UndoEnd
     requires tries { 1 ≤ tries }
+    requires some { 0 < length bytes.now }
     requires room { at + length bytes.now < 2 ^ 32 }
     requires fits { IsTrue H.model.tells → FitsIn (H.model.contents host.old) file at bytes.now }
     ensures end { IsRestoreEnd tries (length bytes.now) result }
     ensures effect { IsTrue H.model.tells
         → H.model.contents host.new ≡ wrote_front (H.model.contents host.old) file at (take (done_by (length bytes.now) result) bytes.now) }
+    ensures called { IsCalled (H.model.calls host.old) (H.model.calls host.new) }
     ensures faults { CountsFaults (end_faults result) (H.model.fault_count host.old) (H.model.fault_count host.new) }
 {
     let mut progress = Progress { done: 0, faults: 0 };
@@ -146,6 +151,7 @@ fn undo_one<H: Host>(host: &mut H, undo: &Undo, tries: u32) -> UndoEnd
     requires record { IsRecord undo.now }
     requires covered { IsTrue H.model.tells → IsCovered (world_of (H.model.contents host.old)) undo.now }
     ensures legal { IsLegalEnd tries undo.now result None }
+    ensures called { IsCalled (H.model.calls host.old) (H.model.calls host.new) }
     ensures faults { CountsFaults (end_faults result) (H.model.fault_count host.old) (H.model.fault_count host.new) }
     ensures effect { IsTrue H.model.tells
         → H.model.contents host.new ≡ contents_of (undone_to (world_of (H.model.contents host.old)) undo.now result) }
@@ -158,7 +164,7 @@ fn undo_one<H: Host>(host: &mut H, undo: &Undo, tries: u32) -> UndoEnd
             n,
             ..
         } => restore_whole(host, *file, *at, &before.as_slice()[..*n as usize], tries),
-        _ => unreachable!(),
+        _ => take_back(host, undo, tries),
     }
 }
 
@@ -177,6 +183,7 @@ pub(crate) fn try_one<H: Host>(
     requires covered { IsTrue H.model.tells → blocker (number + 1) undo.now (reverse newest_first.now) ≡ None
         → IsCovered (world_of (H.model.contents host.old)) undo.now }
     ensures legal { IsLegalEnd tries undo.now result (blocker (number + 1) undo.now (reverse newest_first.now)) }
+    ensures called { is_undone result ≡ true → IsCalled (H.model.calls host.old) (H.model.calls host.new) }
     ensures still { blocker (number + 1) undo.now (reverse newest_first.now) ≢ None → host.new ≡ host.old }
     ensures faults { CountsFaults (end_faults result) (H.model.fault_count host.old) (H.model.fault_count host.new) }
     ensures effect { IsTrue H.model.tells

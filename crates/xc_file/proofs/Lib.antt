@@ -1,2 +1,6 @@
 pub mod ReadFronts
+pub mod Appends
+pub mod AppendCalls
+pub mod Refusals
 pub mod FileCalls
+pub mod NameCalls

@@ -1,4 +1,6 @@
 pub mod Calls
 pub mod Reading
 pub mod Writing
+pub mod Naming
+pub mod Appending
 pub mod Checks

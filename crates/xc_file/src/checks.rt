@@ -1,5 +1,7 @@
-ghost use Rattle.std.specs.Prelude.{◌≡◌, ◌≤◌, ◌+◌, false, IfOk, IfErr, OnOk, MatchResult};
+ghost use Rattle.std.specs.Prelude.{◌≡◌, ◌≤◌, ◌+◌, false, is_some, IfSome, IfOk, IfErr, OnOk, MatchResult};
 ghost use Rattle.std.specs.declared.option.Option.TheVariants.{None, Some};
+ghost use Rattle.xc_data.specs.Private.{place_of};
+ghost use Rattle.xc_world.specs.Checks.{is_file};
 ghost use Rattle.xc_world.specs.Late.{is_late};
 ghost use Rattle.xc_file.specs.Checks.{IsOpenAt, refusal_at};
 
@@ -19,6 +21,17 @@ pub(crate) struct OpenFile {
     pub(crate) at: u32,
 }
 
+/// The file at a handle, if one is open there.
+pub(crate) fn file_at(me: &Private, h: u16) -> Option<OpenFile>
+    ensures open { IfSome result (λ file. (file.h ≡ h) × IsOpenAt me.now file) }
+    ensures kind { is_some result ≡ is_file (place_of me.now.places h) }
+{
+    match me.place(h) {
+        Place::File { num, at } => Some(OpenFile { h, num, at }),
+        _ => None,
+    }
+}
+
 /// The file at a handle, for a call of n bytes, or the reply of the check that refuses it.
 pub(crate) fn open_file(me: &Private, h: u16, n: u64) -> Result<OpenFile, Reply>
     requires stored { me.now.stored ≤ 16384 }
@@ -27,7 +40,7 @@ pub(crate) fn open_file(me: &Private, h: u16, n: u64) -> Result<OpenFile, Reply>
     ensures now { IfErr result (λ reply. is_late reply ≡ false) }
     ensures checks { MatchResult result (λ file. refusal_at me.now h n ≡ None) (λ reply. refusal_at me.now h n ≡ Some reply) }
 {
-    let Place::File { num, at } = me.place(h) else {
+    let Some(file) = file_at(me, h) else {
         return Err(Reply::BadHandle);
     };
     if n > MAX_BYTES {
@@ -36,5 +49,5 @@ pub(crate) fn open_file(me: &Private, h: u16, n: u64) -> Result<OpenFile, Reply>
     if me.stored as u64 + n > MAX_STORED {
         return Err(Reply::TooMuch);
     }
-    Ok(OpenFile { h, num, at })
+    Ok(file)
 }

@@ -1,4 +1,4 @@
-ghost use Rattle.std.specs.Prelude.{◌≡◌, ℕ};
+ghost use Rattle.std.specs.Prelude.{◌≡◌, ℕ, Ok};
 ghost use Rattle.std.specs.declared.option.Option.TheVariants.{None, Some};
 ghost use Rattle.xc_data.specs.declared.call.Call.{Call};
 ghost use Rattle.xc_data.specs.declared.call.Answer.{Answer};
@@ -8,7 +8,9 @@ ghost use Rattle.xc_world.specs.World.{World};
 ghost use Rattle.xc_world.specs.Act.{act};
 ghost use Rattle.xc_world.specs.Act.Step.{stays};
 ghost use Rattle.xc_world.specs.Checks.{is_bad_word, is_refused};
-ghost use Rattle.xc_file.specs.Calls.{refusal_of};
+ghost use Rattle.xc_file.specs.Calls.{CallState, IsFileCall, StepsAlone, refusal_of};
+
+use xc_host::Host;
 
 /// A check that refuses a call does so on the plain machine, with the same reply. Where none does, only
 /// a bad word is refused there.
@@ -17,4 +19,10 @@ pub fn a_check_refuses_as_the_plain_machine()
         → act w me tx call answer ≡ stays w me r }
     ensures passed { (me : Private) (call : Call) (words : ℕ) → refusal_of call me ≡ None
         → is_refused call me words ≡ is_bad_word call words }
+{}
+
+/// A call that reaches no host is a call on files over each host, which stays.
+pub fn a_call_without_the_host_is_a_call_on_files<H: Host>()
+    ensures { (call : Call) (state : CallState H) (next : Private) (reply : Reply) → StepsAlone call state.me next reply
+        → IsFileCall H.model call state (record state { me = next }) (Ok reply) }
 {}

@@ -3,17 +3,30 @@
 //! Where the host tells, each reply is the plain machine's.
 #![tactic(auto)]
 
+mod appending;
 mod checks;
+mod creating;
+mod handles;
 mod laws;
+mod moving;
 mod opening;
 mod overwriting;
 mod reading;
+mod renaming;
 mod writing;
 
-pub use laws::a_check_refuses_as_the_plain_machine;
+pub use appending::x_write_seq;
+pub use creating::x_create;
+pub use handles::{x_close, x_len, x_seek};
+pub use laws::{a_call_without_the_host_is_a_call_on_files, a_check_refuses_as_the_plain_machine};
 pub use opening::x_open;
 pub use overwriting::x_write_ovr;
 pub use reading::x_read;
+pub use renaming::x_rename;
 
+#[cfg(test)]
+mod append_tests;
+#[cfg(test)]
+mod name_tests;
 #[cfg(test)]
 mod tests;

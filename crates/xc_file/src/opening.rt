@@ -1,4 +1,4 @@
-ghost use Rattle.std.specs.Prelude.{◌≡◌, ◌<◌, false, Some, IfOk, OnErr, IsTrue};
+ghost use Rattle.std.specs.Prelude.{◌≡◌, ◌<◌, ℕ, false, Some, IfOk, OnErr, IsTrue};
 ghost use Rattle.xc_world.specs.Late.{is_late};
 ghost use Rattle.xc_data.specs.Counts.{CountsFault};
 ghost use Rattle.xc_data.specs.Private.{lowest_vacant};
@@ -13,8 +13,9 @@ use xc_host::{Host, HostErr};
 fn open_at<H: Host>(host: &mut H, me: &mut Private, name: &Name, h: u16) -> Result<Reply, NoMemory>
     requires vacant { lowest_vacant me.old.places ≡ Some h }
     requires handle { h < 256 }
-    ensures acts { IsTrue H.model.tells
-        → IfOk result (Acts (XOpen name.now) (H.model.contents host.old) (H.model.contents host.new) me.old me.new) }
+    ensures acts { (number : ℕ) → IsTrue H.model.tells → IfOk result (Acts (XOpen name.now)
+        (record { contents = H.model.contents host.old; number = number; me = me.old })
+        (record { contents = H.model.contents host.new; number = number; me = me.new })) }
     ensures reply { IfOk result (λ reply. is_check_reply (XOpen name.now) reply ≡ false) }
     ensures contents { IsTrue H.model.tells → H.model.contents host.new ≡ H.model.contents host.old }
     ensures same { (me.new.stored ≡ me.old.stored) × (me.new.made ≡ me.old.made) }
@@ -34,9 +35,9 @@ fn open_at<H: Host>(host: &mut H, me: &mut Private, name: &Name, h: u16) -> Resu
 
 /// Opens a name's file at its begin.
 pub fn x_open<H: Host>(host: &mut H, me: &mut Private, name: &Name) -> Result<Reply, NoMemory>
-    ensures call { (undo : Records) → IsFileCall H.model (XOpen name.now)
-        (record { host = host.old; me = me.old; undo = undo })
-        (record { host = host.new; me = me.new; undo = undo }) result }
+    ensures call { (number : ℕ) (undo : Records) → IsFileCall H.model (XOpen name.now)
+        (record { host = host.old; number = number; me = me.old; undo = undo })
+        (record { host = host.new; number = number; me = me.new; undo = undo }) result }
     ensures contents { IsTrue H.model.tells → H.model.contents host.new ≡ H.model.contents host.old }
     ensures same { (me.new.stored ≡ me.old.stored) × (me.new.made ≡ me.old.made) }
     ensures now { IfOk result (λ reply. is_late reply ≡ false) }

@@ -1,4 +1,4 @@
-ghost use Rattle.std.specs.Prelude.{◌≡◌, ◌<◌, ◌≤◌, ◌+◌, ◌++◌, ◌∷◌, [], ◌^◌, ◌==◌, true};
+ghost use Rattle.std.specs.Prelude.{◌≡◌, ◌<◌, ◌≤◌, ◌+◌, ℕ, ◌++◌, ◌∷◌, [], ◌^◌, ◌==◌, true};
 ghost use Rattle.std.specs.Prelude.{false, length, take, drop, IfOk, IfSome, MatchOption, OnOk, OnErr, IsTrue, if◌then◌else◌};
 ghost use Rattle.xc_world.specs.Late.{is_late};
 ghost use Rattle.xc_data.specs.Counts.{CountsFault};
@@ -11,9 +11,10 @@ ghost use Rattle.xc_host.specs.Cause.{is_fault};
 ghost use Rattle.xc_host.specs.Contents.{file_in, has_file, wrote_front, world_of};
 ghost use Rattle.xc_file.specs.Calls.{Acts, IsFileCall, IsOpenIn, is_check_reply, replies_fault};
 ghost use Rattle.xc_file.specs.Checks.{IsOpenAt};
-ghost use Rattle.xc_file.specs.Writing.{AddsOne, IsInside, Overwrote, moved_on};
+ghost use Rattle.xc_file.specs.Writing.{AddsOne, IsInside, Overwrote};
 
 use crate::checks::{OpenFile, open_file};
+use crate::moving::move_on;
 use crate::reading::read_whole;
 use crate::writing::{Written, write_whole};
 use std::alloc::Global;
@@ -150,18 +151,6 @@ fn done_of(bytes: &Chunk, reply: &Reply) -> u32
     }
 }
 
-// The position of an open file is behind what was done.
-fn move_on(me: &mut Private, file: OpenFile, done: u32)
-    requires open { file.h < 256 }
-    requires room { file.at + done < 2 ^ 32 }
-    ensures { me.new ≡ moved_on me.old file.h file.num file.at done }
-{
-    if done > 0 {
-        let OpenFile { h, num, at } = file;
-        me.set_place(h, Place::File { num, at: at + done });
-    }
-}
-
 // Writes over the next bytes of an open file that the checks let pass.
 fn write_next<H: Host>(
     alloc: Global,
@@ -175,8 +164,9 @@ fn write_next<H: Host>(
     requires few { (length bytes.now ≤ 1024) × (me.old.stored + length bytes.now ≤ 16384) }
     requires there { IsTrue H.model.tells → IsOpenIn (H.model.contents host.old) (File file.num file.at) }
     requires none { undo.old.ended ≡ [] }
-    ensures acts { IsTrue H.model.tells
-        → IfOk result (Acts (XWriteOvr file.h bytes.now) (H.model.contents host.old) (H.model.contents host.new) me.old me.new) }
+    ensures acts { (number : ℕ) → IsTrue H.model.tells → IfOk result (Acts (XWriteOvr file.h bytes.now)
+        (record { contents = H.model.contents host.old; number = number; me = me.old })
+        (record { contents = H.model.contents host.new; number = number; me = me.new })) }
     ensures reply { IfOk result (λ reply. is_check_reply (XWriteOvr file.h bytes.now) reply ≡ false) }
     ensures records { IsTrue H.model.tells → IfOk result (λ reply. undo.new ≡ record {
       pending = undo.old.pending ++ overwrite_record (world_of (H.model.contents host.old)) bytes.now (done_of (length bytes.now) reply)
@@ -186,7 +176,8 @@ fn write_next<H: Host>(
     ensures grows { OnOk result (AddsOne undo.old undo.new) }
     ensures stored { me.new.stored ≤ 16384 }
     ensures made { me.new.made ≡ me.old.made }
-    ensures err { OnErr result ((me.new ≡ me.old) × (undo.new ≡ undo.old)) }
+    ensures err { OnErr result (me.new ≡ me.old) }
+    ensures err_undo { OnErr result (undo.new ≡ undo.old) }
     ensures err_contents { IsTrue H.model.tells → OnErr result (H.model.contents host.new ≡ H.model.contents host.old) }
     ensures cause { CountsFault (replies_fault result) (H.model.fault_count host.old) (H.model.fault_count host.new) }
     ensures now { IfOk result (λ reply. is_late reply ≡ false) }
@@ -213,9 +204,9 @@ pub fn x_write_ovr<H: Host>(
     requires stored { me.old.stored ≤ 16384 }
     requires open { IsTrue H.model.tells → IsOpenIn (H.model.contents host.old) (place_of me.old.places h) }
     requires none { undo.old.ended ≡ [] }
-    ensures call { IsFileCall H.model (XWriteOvr h bytes.now)
-        (record { host = host.old; me = me.old; undo = undo.old })
-        (record { host = host.new; me = me.new; undo = undo.new }) result }
+    ensures call { (number : ℕ) → IsFileCall H.model (XWriteOvr h bytes.now)
+        (record { host = host.old; number = number; me = me.old; undo = undo.old })
+        (record { host = host.new; number = number; me = me.new; undo = undo.new }) result }
     ensures stored { me.new.stored ≤ 16384 }
     ensures made { me.new.made ≡ me.old.made }
     ensures now { IfOk result (λ reply. is_late reply ≡ false) }

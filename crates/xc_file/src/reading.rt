@@ -1,4 +1,4 @@
-ghost use Rattle.std.specs.Prelude.{◌≡◌, ◌<◌, ◌≤◌, ◌+◌, ◌^◌, true, false, length, take, drop, IfOk, OnErr, IsTrue};
+ghost use Rattle.std.specs.Prelude.{◌≡◌, ◌<◌, ◌≤◌, ◌+◌, ◌^◌, ℕ, true, false, length, take, drop, IfOk, OnErr, IsTrue};
 ghost use Rattle.xc_world.specs.Late.{is_late};
 ghost use Rattle.xc_data.specs.Counts.{CountsFault};
 ghost use Rattle.xc_data.specs.Private.{place_of};
@@ -76,8 +76,9 @@ fn read_next<H: Host>(
     requires file { IsOpenAt me.old file }
     requires few { (n ≤ 1024) × (me.old.stored + n ≤ 16384) }
     requires there { IsTrue H.model.tells → IsOpenIn (H.model.contents host.old) (File file.num file.at) }
-    ensures acts { IsTrue H.model.tells
-        → IfOk result (Acts (XRead file.h n) (H.model.contents host.old) (H.model.contents host.new) me.old me.new) }
+    ensures acts { (number : ℕ) → IsTrue H.model.tells → IfOk result (Acts (XRead file.h n)
+        (record { contents = H.model.contents host.old; number = number; me = me.old })
+        (record { contents = H.model.contents host.new; number = number; me = me.new })) }
     ensures reply { IfOk result (λ reply. is_check_reply (XRead file.h n) reply ≡ false) }
     ensures contents { IsTrue H.model.tells → H.model.contents host.new ≡ H.model.contents host.old }
     ensures stored { me.new.stored ≤ 16384 }
@@ -118,9 +119,9 @@ pub fn x_read<H: Host>(
 ) -> Result<Reply, NoMemory>
     requires stored { me.old.stored ≤ 16384 }
     requires open { IsTrue H.model.tells → IsOpenIn (H.model.contents host.old) (place_of me.old.places h) }
-    ensures call { (undo : Records) → IsFileCall H.model (XRead h n)
-        (record { host = host.old; me = me.old; undo = undo })
-        (record { host = host.new; me = me.new; undo = undo }) result }
+    ensures call { (number : ℕ) (undo : Records) → IsFileCall H.model (XRead h n)
+        (record { host = host.old; number = number; me = me.old; undo = undo })
+        (record { host = host.new; number = number; me = me.new; undo = undo }) result }
     ensures contents { IsTrue H.model.tells → H.model.contents host.new ≡ H.model.contents host.old }
     ensures stored { me.new.stored ≤ 16384 }
     ensures made { me.new.made ≡ me.old.made }

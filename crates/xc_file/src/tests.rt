@@ -8,11 +8,16 @@ use xc_compensate::Stack;
 use xc_data::{Chunk, Name, NoMemory, Num, Place, Private, Reply};
 use xc_testhost::{Asked, TestHost};
 
-const NUM: Num = Num { tx: 0, k: 0 };
+pub(crate) const NUM: Num = Num { tx: 0, k: 0 };
 
-const ALL: u32 = 100;
+pub(crate) const ALL: u32 = 100;
 
-fn host_of(alloc: Global, bytes: &[u8], grain: u32, fail: usize) -> Result<TestHost, NoMemory> {
+pub(crate) fn host_of(
+    alloc: Global,
+    bytes: &[u8],
+    grain: u32,
+    fail: usize,
+) -> Result<TestHost, NoMemory> {
     let mut host = TestHost::new(alloc, bytes, bytes.len().min(65536) as u32)?;
     host.grain = grain;
     host.fails = [fail, 0, 0];
@@ -20,7 +25,7 @@ fn host_of(alloc: Global, bytes: &[u8], grain: u32, fail: usize) -> Result<TestH
 }
 
 // The file is open at handle 0.
-fn opened(at: u32, stored: u32) -> Private
+pub(crate) fn opened(at: u32, stored: u32) -> Private
     requires { stored ≤ 16384 }
     ensures { result.stored ≡ stored }
 {
@@ -30,20 +35,21 @@ fn opened(at: u32, stored: u32) -> Private
     me
 }
 
-fn position(me: &Private) -> Option<u32> {
+pub(crate) fn position(me: &Private) -> Option<u32> {
     match me.place(0) {
         Place::File { at, .. } => Some(at),
         _ => None,
     }
 }
 
-fn word(reply: &Reply) -> &'static str {
+pub(crate) fn word(reply: &Reply) -> &'static str {
     match reply {
         Reply::Got(_) => "got",
         Reply::Made(1) => "made at 1",
         Reply::Done => "done",
         Reply::End => "end",
         Reply::NoName => "no name",
+        Reply::Exists => "exists",
         Reply::BadHandle => "bad handle",
         Reply::PastEnd => "past end",
         Reply::TooBig => "too big",

@@ -64,10 +64,6 @@ renamed_file c from to (Some num) = record c { names = map.insert (map.remove c.
 abbrev pub renamed : Contents → List ℕ → List ℕ → Contents
 renamed c from to = renamed_file c from to (map.get c.names from)
 
--- the name goes, and its file stays
-abbrev pub unlinked : Contents → List ℕ → Contents
-unlinked c name = record c { names = map.remove c.names name }
-
 -- ---- the host part of a world
 abbrev pub contents_of : World → Contents
 contents_of w = record { names = w.names; files = w.files; pipes = w.pipes; pairs = w.pairs }

@@ -4,7 +4,8 @@ ghost use Rattle.std.specs.FinMap as map;
 ghost use Rattle.xc_data.specs.Counts.{CountsFault};
 ghost use Rattle.xc_data.specs.Limits.{IsPrologue};
 ghost use Rattle.xc_host.specs.Cause.{is_fault, IsCalled};
-ghost use Rattle.xc_host.specs.Contents.{file_in, has_file, wrote, appended, shortened, created, uncreated, renamed, unlinked, opened, needs_scripted};
+ghost use Rattle.xc_host.specs.Contents.{file_in, has_file, wrote, appended, shortened, created, uncreated, renamed, opened};
+ghost use Rattle.xc_host.specs.Contents.{needs_scripted};
 ghost use Rattle.xc_host.specs.Fronts.{IsFront};
 ghost use Rattle.xc_host.specs.Model.{HostModel};
 
@@ -14,8 +15,8 @@ use xc_data::{Chunk, Name, Num, Prologue};
 /// What the calls of transactions go to. Only its own calls change it.
 ///
 /// A call that fails changes nothing. A count of faults rises exactly where a call answers a fault,
-/// and never falls; a count of calls rises at each call behind the opening. Each host keeps its allocator. For a host that tells, every object that a call
-/// names is there.
+/// and never falls; a count of calls rises at each call behind the opening. Each host keeps its
+/// allocator. For a host that tells, every object that a call names is there.
 pub trait Host: Drop {
     ghost model: { HostModel Self };
 
@@ -96,21 +97,6 @@ pub trait Host: Drop {
         requires absent { IsTrue model.tells → map.get (model.contents self.old).names to.now ≡ None }
         ensures ok { IsTrue model.tells → OnOk result (model.contents self.new ≡ renamed (model.contents self.old) from.now to.now) }
         ensures err { IsTrue model.tells → OnErr result (model.contents self.new ≡ model.contents self.old) }
-        ensures called { IsCalled (model.calls self.old) (model.calls self.new) }
-        ensures cause { CountsFault (is_err result) (model.fault_count self.old) (model.fault_count self.new) };
-
-    /// A name goes; its file stays, also where it has no name any more. It takes no memory.
-    fn unlink(&mut self, name: &Name) -> Result<(), Fault>
-        requires there { IsTrue model.tells → is_some (map.get (model.contents self.old).names name.now) ≡ true }
-        ensures ok { IsTrue model.tells → OnOk result (model.contents self.new ≡ unlinked (model.contents self.old) name.now) }
-        ensures err { IsTrue model.tells → OnErr result (model.contents self.new ≡ model.contents self.old) }
-        ensures called { IsCalled (model.calls self.old) (model.calls self.new) }
-        ensures cause { CountsFault (is_err result) (model.fault_count self.old) (model.fault_count self.new) };
-
-    /// What a file holds is where it outlives the host. It takes no memory.
-    fn sync(&mut self, file: Num) -> Result<(), Fault>
-        requires there { IsTrue model.tells → has_file (model.contents self.old) file ≡ true }
-        ensures stays { IsTrue model.tells → model.contents self.new ≡ model.contents self.old }
         ensures called { IsCalled (model.calls self.old) (model.calls self.new) }
         ensures cause { CountsFault (is_err result) (model.fault_count self.old) (model.fault_count self.new) };
 

@@ -28,6 +28,11 @@ module _ {K X : Type 0} {R : K → K → Ordering} (o : IsTotalOrder R) where
   pub get-lookup : (es : List (K × X)) (q : K) → get (from_entries {R = R} es) q ≡ lookup (is_at (R q)) es
   get-lookup es q = get-from_entries o es q ∙ find-lookup es q
 
+  -- entries that answer alike make one map
+  pub alike_map : CmpEqualImpliesEq R → (es fs : List (K × X)) → ((q : K) → lookup (is_at (R q)) fs ≡ lookup (is_at (R q)) es)
+      → from_entries {R = R} fs ≡ from_entries es
+  alike_map same es fs h = same_map o same _ _ (λ q. get-lookup fs q ∙ h q ∙ sym (get-lookup es q))
+
   turned_at : (es : List (K × X)) (k q : K) (y : Option X)
       → cond (is_at (R k) q) y (lookup (is_at (R q)) es) ≡ cond (eq_by_cmp R q k) y (get (from_entries {R = R} es) q)
   turned_at es k q y = ap (λ b. cond b y (lookup (is_at (R q)) es)) ((eq_by_cmp_equiv o).symm k q) ∙ ap (cond (eq_by_cmp R q k) y) (sym (get-lookup es q))

@@ -2,6 +2,7 @@
 //! maps.
 #![tactic(auto)]
 
+mod aside;
 mod ident_map;
 mod name_map;
 mod num_map;

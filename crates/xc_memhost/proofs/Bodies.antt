@@ -1,5 +1,5 @@
 -- Objects that are opened line by line, and a file that is taken out, changed and put back.
-use Rattle.std.proofs.Common.{◌≡◌, ℕ, List, [], Some, refl, ap, ◌∙◌}
+use Rattle.std.proofs.Common.{◌≡◌, ℕ, List, [], Some, refl, ap, sym, ◌∙◌}
 use Rattle.std.specs.Prelude.{unwrap_or}
 use Rattle.std.specs.FinMap as map
 use Rattle.xc_data.specs.declared.object.Num.{Num}
@@ -7,10 +7,9 @@ use Rattle.xc_data.specs.declared.script.Opened.{Opened}
 use Rattle.xc_data.specs.declared.script.Opened.TheVariants as opened
 use Rattle.xc_maps.specs.Keys.{num_cmp}
 use Rattle.xc_maps.proofs.Maps.{num_total, num_exact}
-use Rattle.xc_maps.proofs.Laws.{insert-insert_same}
-use Rattle.xc_world.specs.Act.Files.{overwritten}
+use Rattle.xc_maps.proofs.Laws.{insert-insert_same, insert-get_same}
 use Rattle.xc_world.specs.Opening.{with_opened}
-use Rattle.xc_host.specs.Contents.{Contents, world_of, contents_of, wrote}
+use Rattle.xc_host.specs.Contents.{Contents, file_in, world_of, contents_of}
 
 -- a line opens nothing but contents
 pub opens_contents : (c : Contents) (num : Num) (o : Opened) → with_opened (world_of c) num o ≡ world_of (contents_of (with_opened (world_of c) num o))
@@ -18,11 +17,20 @@ opens_contents c num (opened.File name bytes) = refl
 opens_contents c num (opened.Pipe bytes) = refl
 opens_contents c num opened.Pair = refl
 
--- a file's body is taken out, written over and put back
-pub written_back : (c : Contents) (file : Num) (at : ℕ) (bytes empty body next : List ℕ) (without with_it : map.FinMap num_cmp (List ℕ))
-    → Some body ≡ map.get c.files file → without ≡ map.insert c.files file empty
-    → next ≡ overwritten at bytes body → with_it ≡ map.insert without file next → record c { files = with_it } ≡ wrote c file at bytes
-written_back c file at bytes empty body next without with_it held taken over put =
+-- a file's body is taken out, changed and put back
+pub changed_back : (f : List ℕ → List ℕ) (c : Contents) (file : Num) (body empty next : List ℕ) (without with_it : map.FinMap num_cmp (List ℕ))
+    → Some body ≡ map.get c.files file → without ≡ map.insert c.files file empty → next ≡ f body → with_it ≡ map.insert without file next
+    → record c { files = with_it } ≡ record c { files = map.insert c.files file (f (file_in c file)) }
+changed_back f c file body empty next without with_it held taken over put =
     ap (λ m. record c { files = m })
     (put ∙ ap (λ m. map.insert m file next) taken ∙ insert-insert_same num_total num_exact c.files file empty next
-    ∙ ap (map.insert c.files file) (over ∙ ap (λ o. overwritten at bytes (unwrap_or o [])) held))
+    ∙ ap (map.insert c.files file) (over ∙ ap (λ o. f (unwrap_or o [])) held))
+
+-- a file's body is taken out and put back as it was
+pub same_back : (c : Contents) (file : Num) (body empty next : List ℕ) (without with_it : map.FinMap num_cmp (List ℕ))
+    → Some body ≡ map.get c.files file → without ≡ map.insert c.files file empty → next ≡ body → with_it ≡ map.insert without file next
+    → record c { files = with_it } ≡ c
+same_back c file body empty next without with_it held taken same put =
+    ap (λ m. record c { files = m })
+    (put ∙ ap (λ m. map.insert m file next) taken ∙ insert-insert_same num_total num_exact c.files file empty next
+    ∙ ap (map.insert c.files file) same ∙ insert-get_same num_total num_exact c.files file body (sym held))

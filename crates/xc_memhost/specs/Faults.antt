@@ -1,5 +1,5 @@
 -- Which calls fail, and how many bytes one call does.
-use Rattle.std.specs.Prelude.{ℕ, ◌||◌, ◌&&◌, Bool, Option, nat_le, min, slice_index, slice_set, if◌then◌else◌}
+use Rattle.std.specs.Prelude.{ℕ, ◌||◌, ◌&&◌, Bool, List, Option, nat_le, min, slice_index, slice_set, if◌then◌else◌}
 use Rattle.std.specs.List.{list_any}
 use Rattle.std.specs.declared.option.Option.TheVariants.{None, Some}
 use Rattle.xc_data.specs.declared.script.FaultLine.{FaultLine}
@@ -23,12 +23,21 @@ abbrev pub called : Kind → HostState → HostState
 called kind s = record s { calls = slice_set s.calls (place_of kind) (next_of kind s); all = next_of_all s }
 
 -- ---- a fault
+-- the number is one of a line's
 abbrev pub is_within : FaultLine → ℕ → Bool
 is_within line n = nat_le line.first n && nat_le n line.last
 
+-- one of the lines, whatever its kind, has the number
+abbrev pub any_within : ℕ → List FaultLine → Bool
+any_within n = list_any (λ line. is_within line n)
+
+-- a line of this kind has the number
+abbrev pub is_line_of : Kind → ℕ → FaultLine → Bool
+is_line_of kind n line = is_kind line.kind kind && is_within line n
+
 -- a line lists call number n of this kind, which is number a of all
 abbrev pub lists : Kind → ℕ → ℕ → FaultLine → Bool
-lists kind n a line = (is_kind line.kind kind && is_within line n) || (is_kind line.kind Any && is_within line a)
+lists kind n a line = is_line_of kind n line || is_line_of Any a line
 
 -- a line lists the next call, if it is of this kind
 abbrev pub is_listed : Kind → HostState → Bool

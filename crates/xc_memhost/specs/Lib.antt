@@ -1,4 +1,6 @@
 pub mod Kinds
 pub mod State
 pub mod Faults
+pub mod Spans
 pub mod Machine
+pub mod Told

@@ -1,24 +1,31 @@
 -- The plain machine of host calls: what each answers, and the state after it.
-use Rattle.std.specs.Prelude.{◌≡◌, ℕ, ◌+◌, ◌<◌, ◌≤◌, true, List, [], ◌∷◌, length, take, drop, if◌then◌else◌}
+use Rattle.std.specs.Prelude.{◌≡◌, ◌⊎◌, ℕ, ◌+◌, ◌<◌, ◌≤◌, true, false, is_some, None, Some, if◌then◌else◌}
+use Rattle.std.specs.Prelude.{List, [], ◌∷◌, length, take, drop}
 use Rattle.std.specs.FinMap as map
 use Rattle.xc_data.specs.declared.object.Num.{Num}
 use Rattle.xc_data.specs.declared.script.Kind.{Kind}
 use Rattle.xc_data.specs.declared.script.Kind.TheVariants as kind
-use Rattle.xc_host.specs.Contents.{Contents, file_in, has_file, wrote}
+use Rattle.xc_host.specs.Contents.{Contents, file_in, has_file, wrote, appended, shortened, created, uncreated, renamed}
 use Rattle.xc_memhost.specs.declared.calls.HostCall.{HostCall}
 use Rattle.xc_memhost.specs.declared.calls.HostCall.TheVariants as call
 use Rattle.xc_memhost.specs.declared.calls.HostAnswer.{HostAnswer}
-use Rattle.xc_memhost.specs.declared.calls.HostAnswer.TheVariants.{Found, Number, Got, Fault}
+use Rattle.xc_memhost.specs.declared.calls.HostAnswer.TheVariants.{Found, Number, Got, Done, Fault}
 use Rattle.xc_memhost.specs.State.{HostState}
 use Rattle.xc_memhost.specs.Faults.{is_listed, begun, grained}
 
 -- the kind of a call
 abbrev pub kind_of : HostCall → Kind
 kind_of (call.Lookup name) = kind.Lookup
+kind_of (call.Create name num) = kind.Create
 kind_of (call.Len file) = kind.Len
 kind_of (call.ReadAt file at n) = kind.ReadAt
 kind_of (call.WriteAt file at bytes) = kind.WriteAt
+kind_of (call.Append file bytes) = kind.Append
+kind_of (call.Rename from to) = kind.Rename
 kind_of (call.Restore file at bytes) = kind.Restore
+kind_of (call.Cut file len) = kind.Cut
+kind_of (call.Uncreate name num) = kind.Uncreate
+kind_of (call.NameBack from to) = kind.NameBack
 
 -- ---- a call that doesn't fail
 -- of n bytes from `at`, those that are there and that one call reads
@@ -33,18 +40,34 @@ written_of s bytes = grained s.grain (length bytes)
 abbrev pub written : HostState → Num → ℕ → List ℕ → Contents
 written s file at bytes = wrote s.contents file at (take (written_of s bytes) bytes)
 
+-- the contents with those bytes behind a file's
+abbrev pub lengthened : HostState → Num → List ℕ → Contents
+lengthened s file bytes = appended s.contents file (take (written_of s bytes) bytes)
+
 -- its answer
 abbrev pub done : HostState → HostCall → HostAnswer
 done s (call.Lookup name) = Found (map.get s.contents.names name)
+done s (call.Create name num) = Done
 done s (call.Len file) = Number (length (file_in s.contents file))
 done s (call.ReadAt file at n) = Got (front_of s file at n)
 done s (call.WriteAt file at bytes) = Number (written_of s bytes)
+done s (call.Append file bytes) = Number (written_of s bytes)
+done s (call.Rename from to) = Done
 done s (call.Restore file at bytes) = Number (written_of s bytes)
+done s (call.Cut file len) = Done
+done s (call.Uncreate name num) = Done
+done s (call.NameBack from to) = Done
 
 -- the contents after it
 abbrev pub changed : HostState → HostCall → Contents
+changed s (call.Create name num) = created s.contents name num
 changed s (call.WriteAt file at bytes) = written s file at bytes
+changed s (call.Append file bytes) = lengthened s file bytes
+changed s (call.Rename from to) = renamed s.contents from to
 changed s (call.Restore file at bytes) = written s file at bytes
+changed s (call.Cut file len) = shortened s.contents file len
+changed s (call.Uncreate name num) = uncreated s.contents name num
+changed s (call.NameBack from to) = renamed s.contents to from
 changed s _ = s.contents
 
 -- ---- any call: a listed one fails and changes nothing but the counts
@@ -67,20 +90,61 @@ abbrev pub after_all : HostState → List HostCall → HostState
 after_all s [] = s
 after_all s (c ∷ cs) = after_all (after s c) cs
 
+-- want of memory stops at a call: it was made, or only counted
+abbrev pub StopsAt : HostState → HostCall → HostState → Type 0
+StopsAt s c now = (now ≡ after s c) ⊎ (now ≡ begun (kind_of c) s)
+
+-- want of memory stops at one of the calls, behind those before it
+abbrev pub Stops : HostState → List HostCall → HostState → Type 0
+Stops s [] now = ⊥
+Stops s (c ∷ cs) now = StopsAt s c now ⊎ Stops (after s c) cs now
+
 -- ---- what a call may ask
+-- a file is made of a new number, under a name that is absent
+pub record MayCreate (c : Contents) (name : List ℕ) (num : Num) : Type 0 where
+  pub absent : map.get c.names name ≡ None
+  pub new : has_file c num ≡ false
+
 -- a write lies inside a file that is there, and isn't empty
 pub record MayWrite (c : Contents) (file : Num) (at : ℕ) (bytes : List ℕ) : Type 0 where
   pub there : has_file c file ≡ true
   pub inside : at + length bytes ≤ length (file_in c file)
   pub some : 0 < length bytes
 
--- a call asks of files that are there
+-- what is appended isn't empty, and a file that is there has place for it
+pub record MayAppend (c : Contents) (file : Num) (bytes : List ℕ) : Type 0 where
+  pub there : has_file c file ≡ true
+  pub fits : length (file_in c file) + length bytes ≤ 65536
+  pub some : 0 < length bytes
+
+-- a name that is there takes another that is absent
+pub record MayRename (c : Contents) (from to : List ℕ) : Type 0 where
+  pub there : is_some (map.get c.names from) ≡ true
+  pub absent : map.get c.names to ≡ None
+
+-- a file that is there is cut inside
+pub record MayCut (c : Contents) (file : Num) (len : ℕ) : Type 0 where
+  pub there : has_file c file ≡ true
+  pub within : len ≤ length (file_in c file)
+
+-- a file that is there goes with its name
+pub record MayUncreate (c : Contents) (name : List ℕ) (num : Num) : Type 0 where
+  pub named : map.get c.names name ≡ Some num
+  pub there : has_file c num ≡ true
+
+-- a call asks of objects that are there, and makes what isn't
 abbrev pub IsAllowed : Contents → HostCall → Type 0
 IsAllowed c (call.Lookup name) = Unit {0}
+IsAllowed c (call.Create name num) = MayCreate c name num
 IsAllowed c (call.Len file) = has_file c file ≡ true
 IsAllowed c (call.ReadAt file at n) = has_file c file ≡ true
 IsAllowed c (call.WriteAt file at bytes) = MayWrite c file at bytes
+IsAllowed c (call.Append file bytes) = MayAppend c file bytes
+IsAllowed c (call.Rename from to) = MayRename c from to
 IsAllowed c (call.Restore file at bytes) = MayWrite c file at bytes
+IsAllowed c (call.Cut file len) = MayCut c file len
+IsAllowed c (call.Uncreate name num) = MayUncreate c name num
+IsAllowed c (call.NameBack from to) = MayRename c to from
 
 -- each call may ask what it asks, in the state that those before it leave
 abbrev pub AreAllowed : HostState → List HostCall → Type 0

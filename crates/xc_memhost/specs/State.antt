@@ -37,7 +37,13 @@ opened_state prologue n = record
 
 -- what contracts see of it
 abbrev pub mem_host_model : HostModel HostState
-mem_host_model = record { tells = true; takes_scripts = true; contents = λ s. s.contents; fault_count = λ s. s.fault_count }
+mem_host_model = record {
+  tells = true;
+  takes_scripts = true;
+  contents = λ s. s.contents;
+  fault_count = λ s. s.fault_count;
+  calls = λ s. s.all;
+}
 
 -- ---- how a proof stores a state
 -- contents

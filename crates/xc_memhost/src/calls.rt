@@ -1,69 +1,118 @@
-ghost use Rattle.std.specs.Prelude.{◌≡◌, ◌≤◌, ℕ, length, take, IfOk, OnOk, OnErr};
-ghost use Rattle.xc_memhost.specs.Machine.{answer, after, answers, after_all, IsAllowed, AreAllowed};
+ghost use Rattle.std.specs.Prelude.{◌≡◌, IfOk, OnOk, OnErr, MatchResult};
+ghost use Rattle.xc_memhost.specs.Faults.{begun};
+ghost use Rattle.xc_memhost.specs.Told.{Tells};
+ghost use Rattle.xc_memhost.specs.Machine.{kind_of, answer, after, answers, after_all, Stops, IsAllowed, AreAllowed};
 
 use crate::MemHost;
 use std::alloc::Global;
 use xc_data::{Chunk, Items, Name, NoMemory, Num};
-use xc_host::{Host, HostErr};
+use xc_host::{Fault, Host, HostErr};
 
 /// A call of a host.
 #[derive(Debug, Drop)]
 pub enum HostCall {
     Lookup(Name),
+    Create { name: Name, num: Num },
     Len(Num),
     ReadAt { file: Num, at: u32, n: u32 },
     WriteAt { file: Num, at: u32, bytes: Chunk },
+    Append { file: Num, bytes: Chunk },
+    Rename { from: Name, to: Name },
     Restore { file: Num, at: u32, bytes: Chunk },
+    Cut { file: Num, len: u32 },
+    Uncreate { name: Name, num: Num },
+    NameBack { from: Name, to: Name },
 }
 
-/// What a call answers. A write and a restoration answer how many bytes they did.
+/// What a call answers. A write, a restoration and an append answer how many bytes they did.
 #[derive(Debug, Drop, PartialEq, Eq)]
 pub enum HostAnswer {
     Found(Option<Num>),
     Number(u32),
     Got(Chunk),
+    Done,
     Fault,
 }
 
 pub type AnswerList = Items<HostAnswer>;
 
+// A fault, or the value.
+fn without_memory<T>(told: Result<T, Fault>) -> Result<T, HostErr>
+    ensures { MatchResult told (λ x. result ≡ Ok x) (λ _. result ≡ Err HostErr.Fault) }
+{
+    match told {
+        Ok(value) => Ok(value),
+        Err(_) => Err(HostErr::Fault),
+    }
+}
+
+fn found(told: Result<Option<Num>, HostErr>) -> Result<HostAnswer, NoMemory>
+    ensures { Tells told result HostAnswer.Found }
+{
+    match told {
+        Ok(num) => Ok(HostAnswer::Found(num)),
+        Err(HostErr::Fault) => Ok(HostAnswer::Fault),
+        Err(HostErr::NoMemory) => Err(NoMemory),
+    }
+}
+
+fn number(told: Result<u32, HostErr>) -> Result<HostAnswer, NoMemory>
+    ensures { Tells told result HostAnswer.Number }
+{
+    match told {
+        Ok(n) => Ok(HostAnswer::Number(n)),
+        Err(HostErr::Fault) => Ok(HostAnswer::Fault),
+        Err(HostErr::NoMemory) => Err(NoMemory),
+    }
+}
+
+fn got(told: Result<Chunk, HostErr>) -> Result<HostAnswer, NoMemory>
+    ensures { Tells told result HostAnswer.Got }
+{
+    match told {
+        Ok(bytes) => Ok(HostAnswer::Got(bytes)),
+        Err(HostErr::Fault) => Ok(HostAnswer::Fault),
+        Err(HostErr::NoMemory) => Err(NoMemory),
+    }
+}
+
+fn done(told: Result<(), HostErr>) -> Result<HostAnswer, NoMemory>
+    ensures { Tells told result (λ _. HostAnswer.Done) }
+{
+    match told {
+        Ok(_) => Ok(HostAnswer::Done),
+        Err(HostErr::Fault) => Ok(HostAnswer::Fault),
+        Err(HostErr::NoMemory) => Err(NoMemory),
+    }
+}
+
 fn ask(host: &mut MemHost, call: &HostCall) -> Result<HostAnswer, NoMemory>
     requires { IsAllowed host.old.contents call.now }
     ensures answer { IfOk result (λ a. a ≡ answer host.old call.now) }
-    ensures state { host.new ≡ after host.old call.now }
+    ensures state { OnOk result (host.new ≡ after host.old call.now) }
+    ensures memory { OnErr result (host.new ≡ begun (kind_of call.now) host.old) }
 {
     match call {
-        HostCall::Lookup(name) => match host.lookup(name) {
-            Ok(found) => Ok(HostAnswer::Found(found)),
-            Err(HostErr::Fault) => Ok(HostAnswer::Fault),
-            Err(HostErr::NoMemory) => Err(NoMemory),
-        },
-        HostCall::Len(file) => match host.len(*file) {
-            Ok(n) => Ok(HostAnswer::Number(n)),
-            Err(_) => Ok(HostAnswer::Fault),
-        },
-        HostCall::ReadAt { file, at, n } => match host.read_at(*file, *at, *n) {
-            Ok(front) => Ok(HostAnswer::Got(front)),
-            Err(HostErr::Fault) => Ok(HostAnswer::Fault),
-            Err(HostErr::NoMemory) => Err(NoMemory),
-        },
+        HostCall::Lookup(name) => found(host.lookup(name)),
+        HostCall::Create { name, num } => done(host.create(name, *num)),
+        HostCall::Len(file) => number(without_memory(host.len(*file))),
+        HostCall::ReadAt { file, at, n } => got(host.read_at(*file, *at, *n)),
         HostCall::WriteAt { file, at, bytes } => {
-            match host.write_at(*file, *at, bytes.as_slice()) {
-                Ok(n) => Ok(HostAnswer::Number(n)),
-                Err(_) => Ok(HostAnswer::Fault),
-            }
+            number(without_memory(host.write_at(*file, *at, bytes.as_slice())))
         }
+        HostCall::Append { file, bytes } => number(host.append(*file, bytes.as_slice())),
+        HostCall::Rename { from, to } => done(without_memory(host.rename(from, to))),
         HostCall::Restore { file, at, bytes } => {
-            match host.restore(*file, *at, bytes.as_slice()) {
-                Ok(n) => Ok(HostAnswer::Number(n)),
-                Err(_) => Ok(HostAnswer::Fault),
-            }
+            number(without_memory(host.restore(*file, *at, bytes.as_slice())))
         }
+        HostCall::Cut { file, len } => done(without_memory(host.cut(*file, *len))),
+        HostCall::Uncreate { name, num } => done(without_memory(host.uncreate(name, *num))),
+        HostCall::NameBack { from, to } => done(without_memory(host.name_back(from, to))),
     }
 }
 
 /// Makes the calls one after another. Their answers and the state afterwards are the plain machine's.
-/// Want of memory leaves the state behind a front of them.
+/// Want of memory stops at one of them, which was made or only counted.
 pub fn run_calls(
     alloc: Global,
     host: &mut MemHost,
@@ -72,7 +121,7 @@ pub fn run_calls(
     requires { AreAllowed host.old calls.now }
     ensures answers { IfOk result (λ list. list ≡ answers host.old calls.now) }
     ensures state { OnOk result (host.new ≡ after_all host.old calls.now) }
-    ensures memory { OnErr result ((k : ℕ) × (k ≤ length calls.now) × (host.new ≡ after_all host.old (take k calls.now))) }
+    ensures memory { OnErr result (Stops host.old calls.now host.new) }
 {
     let mut list = Items::new(alloc);
     for call in calls {

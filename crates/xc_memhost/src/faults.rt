@@ -1,11 +1,17 @@
-ghost use Rattle.std.specs.Prelude.{◌≡◌, ◌<◌, ◌≤◌, IfOk};
+ghost use Rattle.std.specs.Prelude.{◌≡◌, ◌<◌, ◌≤◌, [], IfOk};
 ghost use Rattle.std.specs.List.{list_any};
 ghost use Rattle.xc_data.specs.Limits.{IsGrain};
 ghost use Rattle.xc_memhost.specs.Kinds.{place_of};
-ghost use Rattle.xc_memhost.specs.Faults.{is_within, lists, grained};
+ghost use Rattle.xc_memhost.specs.Faults.{is_line_of, lists, grained};
+ghost use Rattle.xc_memhost.specs.Spans.{IsIndex};
 
+use crate::spans::Spans;
 use std::alloc::Global;
+use std::marker::Model;
 use xc_data::{FaultLine, FaultList, Items, Kind, NoMemory};
+
+// How many kinds there are.
+const KINDS: usize = 25;
 
 // A kind's place in the list of kinds.
 pub(crate) fn place_of(kind: Kind) -> usize
@@ -15,32 +21,75 @@ pub(crate) fn place_of(kind: Kind) -> usize
     kind as usize
 }
 
-fn is_within(line: &FaultLine, number: u64) -> bool
-    ensures { result ≡ is_within line.now number }
-{
-    line.first <= number && number <= line.last
+/// The lines of faults, and for each kind the numbers that they list. Whether a call is listed takes
+/// a binary search, whatever the number of lines.
+#[derive(Drop)]
+pub(crate) struct Faults {
+    lines: FaultList,
+    // By the place of the kind.
+    listed: Vec<Spans>,
 }
 
-fn lists(line: &FaultLine, kind: Kind, number: u64, all: u64) -> bool
-    ensures { result ≡ lists kind number all line.now }
-{
-    (line.kind == kind && is_within(line, number))
-        || (line.kind == Kind::Any && is_within(line, all))
+impl Model for Faults {
+    ghost use Rattle.std.specs.Prelude.{List};
+    ghost use Rattle.xc_data.specs.declared.script.FaultLine.{FaultLine};
+    ghost use Rattle.xc_memhost.specs.Spans.{IsIndex};
+
+    ghost Value = { List FaultLine };
+
+    ghost view = { λ a. a.lines };
+
+    ghost invariant = { λ a. IsIndex a.lines a.listed.items };
 }
 
-// Whether a line lists call `number` of this kind, which is number `all` of all calls.
-pub(crate) fn any_lists(lines: &[FaultLine], kind: Kind, number: u64, all: u64) -> bool
-    ensures { result ≡ list_any (lists kind number all) lines.now }
+// For each kind the numbers that the lines list.
+fn index(alloc: Global, lines: &[FaultLine]) -> Result<Vec<Spans>, NoMemory>
+    ensures { IfOk result (λ listed. IsIndex lines.now listed.items) }
 {
-    lines.iter().any(|line| lists(line, kind, number, all))
+    let mut listed = Vec::new(alloc);
+    for place in 0..KINDS {
+        listed.push(Spans::of(alloc, lines, place)?)?;
+    }
+    Ok(listed)
 }
 
-pub(crate) fn lines_of(alloc: Global, lines: &[FaultLine]) -> Result<FaultList, NoMemory>
-    ensures { IfOk result (λ list. list ≡ lines.now) }
-{
-    let mut list = Vec::new(alloc);
-    list.extend_from_slice(lines)?;
-    Ok(Items::from_vec(list))
+impl Faults {
+    pub(crate) fn none(alloc: Global) -> Faults
+        ensures { result ≡ [] }
+    {
+        Faults {
+            lines: Items::new(alloc),
+            listed: Vec::new(alloc),
+        }
+    }
+
+    pub(crate) fn of(alloc: Global, lines: &[FaultLine]) -> Result<Faults, NoMemory>
+        ensures { IfOk result (λ faults. faults ≡ lines.now) }
+    {
+        let mut list = Vec::new(alloc);
+        list.extend_from_slice(lines)?;
+        Ok(Faults {
+            lines: Items::from_vec(list),
+            listed: index(alloc, lines)?,
+        })
+    }
+
+    // Whether a line of this kind lists the number.
+    fn of_kind(&self, kind: Kind, number: u64) -> bool
+        ensures { result ≡ list_any (is_line_of kind number) self.now }
+    {
+        match self.listed.get(place_of(kind)) {
+            Some(spans) => spans.contains(number),
+            None => false,
+        }
+    }
+
+    /// Whether a line lists call `number` of this kind, which is number `all` of all calls.
+    pub(crate) fn lists(&self, kind: Kind, number: u64, all: u64) -> bool
+        ensures { result ≡ list_any (lists kind number all) self.now }
+    {
+        self.of_kind(kind, number) || self.of_kind(Kind::Any, all)
+    }
 }
 
 // The smaller of the grain and n.

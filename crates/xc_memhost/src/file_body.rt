@@ -1,4 +1,4 @@
-ghost use Rattle.std.specs.Prelude.{◌≡◌, ◌+◌, ◌≤◌, [], length, take, drop, IfOk};
+ghost use Rattle.std.specs.Prelude.{◌≡◌, ◌+◌, ◌++◌, ◌≤◌, [], length, take, drop, IfOk, OnOk, OnErr};
 ghost use Rattle.xc_world.specs.Act.Files.{overwritten};
 
 use std::alloc::Global;
@@ -83,5 +83,21 @@ impl FileBody {
         ensures { self.new ≡ overwritten at bytes.now self.old }
     {
         write_over(self.bytes.as_mut_slice(), at as usize, bytes);
+    }
+
+    // A file that grows step by step takes time by its bytes: its room grows by a factor.
+    pub(crate) fn append(&mut self, bytes: &[u8]) -> Result<(), NoMemory>
+        requires { length self.old + length bytes.now ≤ 65536 }
+        ensures ok { OnOk result (self.new ≡ self.old ++ bytes.now) }
+        ensures err { OnErr result (self.new ≡ self.old) }
+    {
+        Ok(self.bytes.extend_from_slice(bytes)?)
+    }
+
+    // In place, without memory.
+    pub(crate) fn cut(&mut self, len: u32)
+        ensures { self.new ≡ take len self.old }
+    {
+        self.bytes.truncate(len as usize);
     }
 }

@@ -6,6 +6,7 @@ mod faults;
 mod file_body;
 mod mem_host;
 mod objects;
+mod spans;
 #[cfg(test)]
 mod tests;
 

@@ -1,9 +1,11 @@
-ghost use Rattle.std.specs.Prelude.{◌≡◌, ◌+◌, ◌≤◌, true, length, take, drop, All, IfOk, IfSome, OnOk, is_some};
+ghost use Rattle.std.specs.Prelude.{◌≡◌, ◌+◌, ◌≤◌, true, false, length, take, drop, All, is_some, None};
+ghost use Rattle.std.specs.Prelude.{IfOk, IfSome, OnOk, OnErr};
 ghost use Rattle.std.specs.FinMap as map;
 ghost use Rattle.xc_data.specs.Limits.{IsOpenedFit};
 ghost use Rattle.xc_world.specs.Opening.{with_opened};
 ghost use Rattle.xc_world.specs.World.{empty_pair};
 ghost use Rattle.xc_host.specs.Contents.{nothing, opened, file_in, has_file, wrote, world_of, contents_of};
+ghost use Rattle.xc_host.specs.Contents.{appended, shortened, created, uncreated, renamed};
 
 use crate::file_body::FileBody;
 use std::alloc::Global;
@@ -182,5 +184,67 @@ impl Objects {
         };
         body.overwrite(at, bytes);
         self.files.replace(file, body);
+    }
+
+    // It changes nothing that is seen, and makes the next looks for names quick.
+    pub(crate) fn settle(&mut self)
+        ensures { self.new ≡ self.old }
+    {
+        self.names.settle();
+    }
+
+    pub(crate) fn create(&mut self, name: Name, num: Num) -> Result<(), NoMemory>
+        requires absent { map.get self.old.names name ≡ None }
+        requires new { has_file self.old num ≡ false }
+        ensures ok { OnOk result (self.new ≡ created self.old name num) }
+        ensures err { OnErr result (self.new ≡ self.old) }
+    {
+        self.files.insert(num, FileBody::empty(self.alloc))?;
+        if self.names.insert(name, num).is_err() {
+            self.files.remove(num);
+            return Err(NoMemory);
+        }
+        Ok(())
+    }
+
+    pub(crate) fn append(&mut self, file: Num, bytes: &[u8]) -> Result<(), NoMemory>
+        requires there { has_file self.old file ≡ true }
+        requires fits { length (file_in self.old file) + length bytes.now ≤ 65536 }
+        ensures ok { OnOk result (self.new ≡ appended self.old file bytes.now) }
+        ensures err { OnErr result (self.new ≡ self.old) }
+    {
+        let Some(mut body) = self.files.replace(file, FileBody::empty(self.alloc)) else {
+            return Err(NoMemory);
+        };
+        let done = body.append(bytes);
+        self.files.replace(file, body);
+        done
+    }
+
+    // In place, without memory.
+    pub(crate) fn cut(&mut self, file: Num, len: u32)
+        requires { has_file self.old file ≡ true }
+        ensures { self.new ≡ shortened self.old file len }
+    {
+        let Some(mut body) = self.files.replace(file, FileBody::empty(self.alloc)) else {
+            return;
+        };
+        body.cut(len);
+        self.files.replace(file, body);
+    }
+
+    pub(crate) fn rename(&mut self, from: Name, to: Name)
+        requires there { is_some (map.get self.old.names from) ≡ true }
+        requires absent { map.get self.old.names to ≡ None }
+        ensures { self.new ≡ renamed self.old from to }
+    {
+        self.names.rename(from, to);
+    }
+
+    pub(crate) fn uncreate(&mut self, name: Name, num: Num)
+        ensures { self.new ≡ uncreated self.old name num }
+    {
+        self.names.remove(name);
+        self.files.remove(num);
     }
 }

@@ -84,17 +84,15 @@ abbrev late_of : Private → Ask → List LateCall
 late_of me (ask.Call c) = late_call c me
 late_of me _ = []
 
-overwrites_at_once : (me : Private) (t : Bool) (h : ℕ) (bytes : List ℕ) → late_of me (if t then ask.Abort else ask.Call (call.XWriteOvr h bytes)) ≡ []
-overwrites_at_once me true h bytes = refl
-overwrites_at_once me false h bytes = refl
+written_at_once : (me : Private) (t : Bool) (c : Call) → late_call c me ≡ [] → late_of me (if t then ask.Abort else ask.Call c) ≡ []
+written_at_once me true c none = refl
+written_at_once me false c none = none
 
 asked_at_once : (me : Private) (v : Variables) (stored : ℕ) (s : Statement) → late_of me (ask_of v stored s) ≡ []
-asked_at_once me v stored (statement.Load at into) = refl
-asked_at_once me v stored (statement.Store at value) = refl
-asked_at_once me v stored (statement.Open name into) = refl
-asked_at_once me v stored (statement.Read h n into) = refl
 asked_at_once me v stored (statement.Overwrite h items) =
-    overwrites_at_once me (is_over stored (length (data_of v items))) (handle_value v h) (data_of v items)
+    written_at_once me (is_over stored (length (data_of v items))) (call.XWriteOvr (handle_value v h) (data_of v items)) refl
+asked_at_once me v stored (statement.Append h items) =
+    written_at_once me (is_over stored (length (data_of v items))) (call.XWriteSeq (handle_value v h) (data_of v items)) refl
 asked_at_once me v stored _ = refl
 
 body_at_once : (me : Private) (v : Variables) (stored : ℕ) (left : List Statement) → late_of me (asks_of v stored left) ≡ []

@@ -32,6 +32,7 @@ or_abort false c is = is
 
 statement_built : (variables : Variables) (stored : ℕ) (s : Statement) → asks_built (ask_of variables stored s) ≡ true
 statement_built variables stored (statement.Overwrite h items) = or_abort (is_over stored _) (call.XWriteOvr (handle_value variables h) _) refl
+statement_built variables stored (statement.Append h items) = or_abort (is_over stored _) (call.XWriteSeq (handle_value variables h) _) refl
 statement_built variables stored _ = refl
 
 left_built : (variables : Variables) (stored : ℕ) (left : List Statement) → asks_built (asks_of variables stored left) ≡ true

@@ -2,6 +2,7 @@ pub mod AtRest
 pub mod BuiltCalls
 pub mod FlownJobs
 pub mod FlownLists
+pub mod NewNumbers
 pub mod NextLate
 pub mod NextRecord
 pub mod Noted

@@ -163,7 +163,8 @@ ask_of variables stored (statement.Rename from to) = ask.Call (call.XRename from
 ask_of variables stored (statement.Read h n into) = ask.Call (call.XRead (handle_value variables h) (term_value variables n))
 ask_of variables stored (statement.Overwrite h items) =
     unless_over stored (call.XWriteOvr (handle_value variables h) (data_of variables items))
-ask_of variables stored (statement.Append h items) = unless_over stored (call.XWriteSeq (handle_value variables h) (data_of variables items))
+ask_of variables stored (statement.Append h items) =
+    unless_over stored (call.XWriteSeq (handle_value variables h) (data_of variables items))
 ask_of variables stored (statement.Seek h to) = ask.Call (call.XSeek (handle_value variables h) (term_value variables to))
 ask_of variables stored (statement.Length h into) = ask.Call (call.XLen (handle_value variables h))
 ask_of variables stored (statement.Close h) = ask.Call (call.XClose (handle_value variables h))

@@ -5,6 +5,7 @@ use Rattle.std.specs.Result.{is_err}
 use Rattle.xc_data.specs.declared.entry.JobEnd.{JobEnd}
 use Rattle.xc_data.specs.declared.entry.Turn.{Turn}
 use Rattle.xc_data.specs.declared.entry.Turn.TheVariants as turn
+use Rattle.xc_data.specs.declared.private.Private.{Private}
 use Rattle.xc_script.specs.Place.{Place}
 use Rattle.xc_story.specs.Setting.{Setting}
 use Rattle.xc_story.specs.Seen.{SeenTx, SeenJob, Active, Ended, Now, begun_count, rank_of, with_job}
@@ -32,13 +33,14 @@ pub all_begun : (now : Now) (entered entries active : ℕ) → HasBegun now entr
 all_begun now entered entries active k len = λ i. (k.entered ∙ sym len) i + k.active i
 
 -- its next transaction begins
-pub begins : (now : Now) (job : SeenJob) (place : Place) (tx : SeenTx) (entered entries active rank : ℕ) → HasBegun now entries active → entered ≡ entries
+pub begins : (now : Now) (job : SeenJob) (me : Private) (place : Place) (tx : SeenTx) (entered entries active rank : ℕ) → me ≡ job.me
+    → HasBegun now entries active → entered ≡ entries
     → place ≡ record job.place { begun = job.place.variables } → rank ≡ rank_of job.attempts (entered + active + 1)
-    → tx ≡ new_tx (entered + active + 1) rank entered job.me → record job { place = place; doing = Active tx } ≡ beginning_job now job
-begins now job place tx entered entries active rank k len placed ranked begun =
+    → tx ≡ new_tx (entered + active + 1) rank entered job.me → record job { me = me; place = place; doing = Active tx } ≡ beginning_job now job
+begins now job me place tx entered entries active rank kept k len placed ranked begun =
     let number : entered + active + 1 ≡ begun_count now + 1 = ap (λ n. n + 1) (sym (all_begun now entered entries active k len)) in
     let rank' : rank ≡ rank_of job.attempts (begun_count now + 1) = ranked ∙ ap (rank_of job.attempts) number in
     let began = len ∙ sym k.entered in
     let tx' : tx ≡ new_tx (begun_count now + 1) (rank_of job.attempts (begun_count now + 1)) (length now.journal) job.me =
     begun ∙ (λ i. new_tx (number i) (rank' i) (began i) job.me) in
-    λ i. record job { place = placed i; doing = Active (tx' i) }
+    λ i. record job { me = kept i; place = placed i; doing = Active (tx' i) }

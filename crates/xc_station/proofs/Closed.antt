@@ -1,5 +1,6 @@
 -- A transaction that ends, and its job behind it.
-use Rattle.std.proofs.Common.{◌≡◌, ◌+◌, ℕ, [], ap, refl, ◌∙◌}
+use Rattle.std.proofs.Common.{◌≡◌, ◌+◌, ℕ, [], ap, refl, sym, ◌∙◌}
+use Rattle.std.specs.Prelude.{Option}
 use Rattle.std.specs.declared.option.Option.TheVariants.{None}
 use Rattle.xc_data.specs.declared.entry.Cause.{Cause}
 use Rattle.xc_data.specs.declared.entry.Cause.TheVariants as cause
@@ -8,11 +9,16 @@ use Rattle.xc_data.specs.declared.private.Private.{Private}
 use Rattle.xc_compensate.specs.Records.{Records}
 use Rattle.xc_script.specs.Place.{Place, at_begin}
 use Rattle.xc_world.specs.World.{beginning}
+use Rattle.xc_story.specs.declared.phase.Attempts.{Attempts}
 use Rattle.xc_story.specs.declared.phase.Phase.{Phase}
-use Rattle.xc_story.specs.declared.phase.Phase.TheVariants.{Running, Committing, Undoing}
+use Rattle.xc_story.specs.declared.phase.Phase.TheVariants.{Committing, Undoing}
 use Rattle.xc_story.specs.Seen.{SeenTx, SeenJob, Doing, Idle, Active}
 use Rattle.xc_story.specs.Rows.{behind_abort, behind_commit, entry_of, with_tx}
-use Rattle.xc_station.specs.Jobs.{outcome_in}
+use Rattle.xc_station.specs.declared.job.Activity.{Activity}
+use Rattle.xc_station.specs.declared.job.Activity.TheVariants as activity
+use Rattle.xc_station.specs.declared.job.Job.{Job}
+use Rattle.xc_station.specs.declared.tx.Tx.{Tx}
+use Rattle.xc_station.specs.Jobs.{begun_of, doing_of, outcome_in, seen_doing, seen_job, seen_tx}
 
 active_or : SeenTx → Doing → SeenTx
 active_or none (Active tx) = tx
@@ -32,24 +38,51 @@ pub same_cause : (c d : Cause) → Undoing c ≡ Undoing d → c ≡ d
 unfolding cause_or
 same_cause c d is = ap (cause_or c) is
 
+-- the active transaction of a job is the one that lies in it
+its_tx : (t : Tx) (a : Activity) (tx : SeenTx) → seen_doing t a ≡ Active tx → seen_tx t ≡ tx
+its_tx t activity.Active tx is = same_active (seen_tx t) tx is
+its_tx t activity.Idle tx is = cc
+its_tx t activity.Starved tx is = cc
+its_tx t (activity.Ended end) tx is = cc
+
+active_again : (t u : Tx) (a : Activity) (tx : SeenTx) → seen_doing t a ≡ Active tx → seen_doing u a ≡ Active (seen_tx u)
+active_again t u activity.Active tx is = refl
+active_again t u activity.Idle tx is = cc
+active_again t u activity.Starved tx is = cc
+active_again t u (activity.Ended end) tx is = cc
+
+-- of a whole job
+pub its_active : (job : Job) (tx : SeenTx) → doing_of job ≡ Active tx → seen_tx job.tx ≡ tx
+its_active job tx is = its_tx job.tx job.activity tx is
+
+-- so the job is active with it
+pub is_active : (job : Job) (tx : SeenTx) → doing_of job ≡ Active tx → doing_of job ≡ Active (seen_tx job.tx)
+is_active job tx is = active_again job.tx job.tx job.activity tx is
+
+-- a job that stands elsewhere, with its transaction further on
+pub moves_on : (job : Job) (tx : SeenTx) (place : Place) (now : Tx) → doing_of job ≡ Active tx → begun_of now ≡ begun_of job.tx
+    → with_tx (seen_job job) place (seen_tx now) ≡ seen_job (record job { place = place; tx = now })
+moves_on job tx place now is kept =
+    let doing = sym (active_again job.tx now job.activity tx is) in
+    λ i. record (seen_job job) { me = sym kept i; place = place; doing = doing i }
+
 -- a job whose transaction's records changed
-pub undo_behind : (old between : SeenJob) (t tx : SeenTx) (undo : Records) → between ≡ record old { doing = Idle } → t ≡ tx
-    → record between { doing = Active (record t { undo = undo }) } ≡ with_tx old old.place (record tx { undo = undo })
-undo_behind old between t tx undo taken same =
-    ap (λ (job : SeenJob). record job { doing = Active (record t { undo = undo }) }) taken
-    ∙ ap (λ (u : SeenTx). with_tx old old.place (record u { undo = undo })) same
+pub undo_behind : (job : Job) (tx : SeenTx) (undo : Records) → doing_of job ≡ Active tx
+    → seen_job (record job { tx = record job.tx { undo = undo } }) ≡ with_tx (seen_job job) job.place (record tx { undo = undo })
+undo_behind job tx undo is =
+    sym (moves_on job tx job.place (record job.tx { undo = undo }) is refl)
+    ∙ ap (λ (t : SeenTx). with_tx (seen_job job) job.place (record t { undo = undo })) (its_active job tx is)
 
 idle_abort : (job : SeenJob) (tx : SeenTx) (c : Cause) → behind_abort (record job { doing = Idle }) tx c ≡ behind_abort job tx c
 idle_abort job tx cause.Asked = refl
 idle_abort job tx cause.NoMemory = refl
 idle_abort job tx _ = refl
 
--- a job behind an abort, its transaction taken out before
-pub abort_behind : (old between new : SeenJob) (t tx : SeenTx) (b c : Cause) → between ≡ record old { doing = Idle } → t ≡ tx → b ≡ c
-    → new ≡ behind_abort between t b → new ≡ behind_abort old tx c
-abort_behind old between new t tx b c taken same cause gone =
-    gone ∙ ap (λ (job : SeenJob). behind_abort job t b) taken ∙ idle_abort old t b ∙ ap (λ (u : SeenTx). behind_abort old u b) same
-    ∙ ap (behind_abort old tx) cause
+-- a job behind an abort, without its transaction before
+pub abort_behind : (old between new : SeenJob) (tx : SeenTx) (b c : Cause) → between ≡ record old { doing = Idle } → b ≡ c
+    → new ≡ behind_abort between tx b → new ≡ behind_abort old tx c
+abort_behind old between new tx b c taken cause gone =
+    gone ∙ ap (λ (job : SeenJob). behind_abort job tx b) taken ∙ idle_abort old tx b ∙ ap (behind_abort old tx) cause
 
 -- its entry
 pub abort_entry : (t tx : SeenTx) (at : ℕ) (c : Cause) → t ≡ tx → tx.phase ≡ Undoing c
@@ -63,12 +96,10 @@ pub commit_entry : (t tx : SeenTx) (at : ℕ) → t ≡ tx → tx.phase ≡ Comm
 commit_entry t tx at same phase =
     ap (λ (u : SeenTx). entry_of u at (outcome_in u.phase u.undo.ended)) same ∙ ap (λ (p : Phase). entry_of tx at (outcome_in p tx.undo.ended)) phase
 
--- a job behind a commit, its transaction taken out before
-pub commit_behind : (old between : SeenJob) (t tx : SeenTx) (me : Private) (place : Place) → between ≡ record old { doing = Idle } → t ≡ tx
-    → me ≡ beginning t.me.places → place ≡ at_begin (record { block = between.place.block; next = between.place.next + 1; variables = between.place.variables })
-    → record between { me = me; place = place; attempts = None } ≡ behind_commit old tx
-commit_behind old between t tx me place taken same renewed passed =
-    let passed' : place ≡ at_begin (record { block = old.place.block; next = old.place.next + 1; variables = old.place.variables }) =
-    passed ∙ ap (λ (job : SeenJob). at_begin (record { block = job.place.block; next = job.place.next + 1; variables = job.place.variables })) taken in
+-- a job behind a commit
+pub commit_behind : (old : SeenJob) (t tx : SeenTx) (me : Private) (place : Place) (attempts : Option Attempts) → t ≡ tx → me ≡ beginning t.me.places
+    → place ≡ at_begin (record { block = old.place.block; next = old.place.next + 1; variables = old.place.variables })
+    → attempts ≡ None → record old { me = me; place = place; attempts = attempts; doing = Idle } ≡ behind_commit old tx
+commit_behind old t tx me place attempts same renewed passed none =
     let renewed' : me ≡ beginning tx.me.places = renewed ∙ ap (λ (u : SeenTx). beginning u.me.places) same in
-    λ i. record (taken i) { me = renewed' i; place = passed' i; attempts = None }
+    λ i. record old { me = renewed' i; place = passed i; attempts = none i; doing = Idle }

@@ -1,111 +1,228 @@
--- Each call of a transaction is the plain machine's.
-use Rattle.std.specs.Prelude.{Result, Ok, Err, IfOk, OnErr, IsOk, IsErr}
-use Rattle.xc_data.specs.Counts.{CountsFault}
+-- Each call of a transaction is the plain machine's, or leaves its part where memory is wanting.
+use Rattle.std.proofs.Common.{◌≡◌, ◌⊎◌, inl, inr, ℕ, ◌≤◌, Bool, true, false, List, [], ◌∷◌, ◌++◌, length, refl, ap, sym, ◌∙◌, subst, IsTrue, arith}
+use Rattle.std.proofs.lemmas.List.{append_cancel_left}
+use Rattle.std.specs.Prelude.{Result, Ok, Err, IfOk, IsErr, IsOk, OnErr, OnOk, is_err}
 use Rattle.std.specs.declared.option.Option.TheVariants.{None}
+use Rattle.xc_data.specs.Counts.{CountsFault}
 use Rattle.xc_data.specs.Faults.{is_fault_reply}
-use Rattle.xc_data.specs.declared.call.Reply.TheVariants as reply
-use Rattle.xc_script.specs.Ask.{value_in}
-use Rattle.std.proofs.Common.{◌≡◌, ℕ, true, false, List, [], ◌++◌, refl, ap, sym, ◌∙◌, subst, IsTrue}
-use Rattle.xc_data.specs.declared.call.Call.{Call}
 use Rattle.xc_data.specs.declared.call.Answer.{Answer}
 use Rattle.xc_data.specs.declared.call.Answer.TheVariants as answer
+use Rattle.xc_data.specs.declared.call.Call.{Call}
+use Rattle.xc_data.specs.declared.call.Call.TheVariants as call
 use Rattle.xc_data.specs.declared.call.Reply.{Reply}
-use Rattle.xc_data.specs.declared.private.Private.{Private}
-use Rattle.xc_compensate.specs.Records.{Records}
-use Rattle.xc_file.specs.Calls.{CallState, Acts, AreRecorded, IsFileCall, replies_fault, takes_memory_first}
-use Rattle.xc_host.specs.Model.{HostModel}
+use Rattle.xc_data.specs.declared.call.Reply.TheVariants as reply
 use Rattle.xc_data.specs.declared.memory.NoMemory.{NoMemory}
+use Rattle.xc_data.specs.declared.private.Private.{Private}
+use Rattle.xc_data.specs.declared.undo.Undo.{Undo}
+use Rattle.xc_compensate.specs.Records.{Records}
+use Rattle.xc_file.specs.Calls.{CallState, DidPart, IsFileCall, StepsAlone}
+use Rattle.xc_file.proofs.FileCalls.{alone_call}
 use Rattle.xc_host.specs.Contents.{Contents}
+use Rattle.xc_host.specs.Model.{HostModel}
+use Rattle.xc_script.specs.Ask.{value_in}
 use Rattle.xc_txmem.specs.Overlay.{overlaid}
 use Rattle.xc_world.specs.World.{World}
 use Rattle.xc_world.specs.Act.{act}
-use Rattle.xc_world.specs.Act.Step.{stays}
+use Rattle.xc_world.specs.Act.Step.{Stepped, stays}
 use Rattle.xc_world.specs.Fits.{fits, answer_of}
+use Rattle.xc_world.specs.Late.{is_late}
 use Rattle.xc_world.specs.Trail.{recorded}
-use Rattle.xc_story.specs.Rows.{Parts, Does, DoesIn, seen}
-use Rattle.xc_story.specs.WordCalls.{is_word_call, word_reply, words_after}
-use Rattle.xc_station.proofs.WordActs.{append_nil, word-act, word-fine, word-trail}
+use Rattle.xc_story.specs.Rows.{Parts, DoesIn, DoesPartIn, parts_of, seen, stored_by}
+use Rattle.xc_story.specs.Seen.{SeenTx}
+use Rattle.xc_story.specs.WordCalls.{IsWordStep, is_word_call, word_reply, words_after}
+use Rattle.xc_station.specs.Acting.{Acting, HasActed, HasDone, LeavesOff, leaving, with_parts}
+use Rattle.xc_station.proofs.WordActs.{append_nil, still_words, no_stores, no_value, word-act, word-fine, word-quiet, word-trail}
 
--- a call on words does what the plain machine's does
-pub does_words : (w : World) (was : Contents) (number : ℕ) (me : Private) (stores stores' : List (ℕ × ℕ)) (undo : Records) (words : List ℕ) (c : Call)
-    (reply : Reply) → is_word_call c ≡ true → w.words ≡ words
-    → reply ≡ word_reply (overlaid words stores) c → overlaid words stores' ≡ words_after (overlaid words stores) c
-    → Does (seen w was stores) (seen w was stores') number (record { me = me; stores = stores; undo = undo })
-    (record { me = me; stores = stores'; undo = undo }) c reply
-does_words w was number me stores stores' undo words c reply is at gives after =
-    let v = seen w was stores in
-    let gives' : reply ≡ word_reply v.words c = gives ∙ ap (λ ws. word_reply (overlaid ws stores) c) (sym at) in
-    let after' : words_after v.words c ≡ overlaid w.words stores' =
-    ap (λ ws. words_after (overlaid ws stores) c) at ∙ sym after ∙ ap (λ ws. overlaid ws stores') (sym at) in
-    let fine : answer_of reply ≡ answer.Fine = ap answer_of gives' ∙ word-fine v.words c is in
+-- a host with a transaction at it, as calls on files see them
+abbrev pub calling : {H : Type 0} → Acting H → CallState H
+calling a = record { host = a.host; number = a.tx.number; me = a.tx.me; undo = a.tx.undo }
+
+-- ---- a call on files
+module _ {H : Type 0} (model : HostModel H) (c : Call) (old new : Acting H) (other : is_word_call c ≡ false) where
+  -- it is done
+  file_done : (reply : Reply) → IsFileCall model c (calling old) (calling new) (Ok reply) → new.tx ≡ with_parts old.tx (parts_of new.tx)
+      → new.tx.writes ≡ old.tx.writes → new.tx.me.stored ≤ 16384 → is_late reply ≡ false → HasDone model c old new reply
+  file_done reply k frame writes stored now =
+      let over = λ (w : World). record w { words = overlaid w.words old.tx.writes } in
+      record {
+        tx = frame;
+        stores = writes ∙ sym (append_nil old.tx.writes) ∙ ap (λ ws. old.tx.writes ++ ws) (sym (no_stores (length old.words) c other));
+        stored = stored;
+        made = k.made;
+        one = k.one;
+        undo = k.undo;
+        now = now;
+        cause = k.cause;
+        spoken = subst (λ ws. IsWordStep (overlaid old.words old.tx.writes) (overlaid old.words ws) c reply) (sym writes)
+            (still_words (overlaid old.words old.tx.writes) c reply other);
+        does = λ tells w at. record {
+          step = (k.acts tells).step (over w)
+              ∙ ap (λ ws. stays (seen w (model.contents new.host) ws) new.tx.me reply) (sym writes);
+          fits = (k.acts tells).fits (over w);
+          records = ap (λ (u : Records). u.pending) k.undo ∙ ap (λ us. old.tx.undo.pending ++ us) (k.records tells (over w));
+        };
+      }
+
+  -- what it did at the host is a part of it
+  part_left : (left : List Undo) → ((left ≡ []) × (model.contents new.host ≡ model.contents old.host))
+      ⊎ DidPart c (record { contents = model.contents old.host; number = old.tx.number; me = old.tx.me }) (model.contents new.host) left
+      → ((left ≡ []) × (model.contents new.host ≡ model.contents old.host))
+      ⊎ ((a : Answer) × DoesPartIn old.words (model.contents old.host) (model.contents new.host) (parts_of old.tx) (record { call = c; answer = a }) left)
+  part_left left (inl same) = inl same
+  part_left left (inr part) =
+      let over = λ (w : World). record w { words = overlaid w.words old.tx.writes } in
+      inr (part.answer, λ w at. record { fits = part.fits (over w); world = sym (part.world (over w)); records = part.records (over w) })
+
+  -- memory is wanting
+  file_left : (e : NoMemory) → IsFileCall model c (calling old) (calling new) (Err e) → new.tx ≡ with_parts old.tx (parts_of new.tx)
+      → new.tx.writes ≡ old.tx.writes → LeavesOff model c old new
+  file_left e k frame writes =
+      record {
+        left = k.made;
+        one = k.one;
+        tx = frame ∙ (λ i. record old.tx { me = k.memory.me i; writes = writes i; undo = k.undo i });
+        faults = k.cause;
+        contents = λ tells. part_left k.made (k.memory.effect tells);
+      }
+
+  file_answered : (r : Result Reply NoMemory) → IsFileCall model c (calling old) (calling new) r → new.tx ≡ with_parts old.tx (parts_of new.tx)
+      → new.tx.writes ≡ old.tx.writes → new.tx.me.stored ≤ 16384 → IfOk r (λ reply. is_late reply ≡ false) → HasActed model c old new r
+  file_answered (Ok reply) k frame writes stored now = file_done reply k frame writes stored now
+  file_answered (Err e) k frame writes stored now = file_left e k frame writes
+
+-- so it has acted; the transaction and the words are as before but for its private state and its records
+pub file_acted : {H : Type 0} (model : HostModel H) (c d : Call) (old new : Acting H) (r : Result Reply NoMemory) → c ≡ d → is_word_call d ≡ false
+    → IsFileCall model d (calling old) (calling new) r → new.tx ≡ record old.tx { me = new.tx.me; undo = new.tx.undo } → new.tx.me.stored ≤ 16384
+    → IfOk r (λ reply. is_late reply ≡ false) → HasActed model c old new r
+file_acted model c d old new r is other k frame stored now =
+    let writes = ap (λ (t : SeenTx). t.writes) frame in
+    let framed : new.tx ≡ with_parts old.tx (parts_of new.tx) =
+    frame ∙ ap (λ ws. record old.tx { me = new.tx.me; writes = ws; undo = new.tx.undo }) (sym writes) in
+    subst (λ (e : Call). HasActed model e old new r) (sym is) (file_answered model d old new other r k framed writes stored now)
+
+-- a call that reaches no host has acted
+pub alone_acted : {H : Type 0} (model : HostModel H) (c d : Call) (old : Acting H) (next : Private) (reply : Reply) → c ≡ d → is_word_call d ≡ false
+    → StepsAlone d old.tx.me next reply → next.stored ≤ 16384 → is_late reply ≡ false
+    → HasDone model c old (record old { tx = record old.tx { me = next } }) reply
+alone_acted model c d old next reply is other alone stored now =
+    file_acted model c d old (record old { tx = record old.tx { me = next } }) (Ok reply) is other (alone_call model d (calling old) next reply alone) refl
+    stored now
+
+-- ---- a call on words
+-- a transaction that stored
+abbrev pub storing : {H : Type 0} → Acting H → List (ℕ × ℕ) → Acting H
+storing a writes = record a { tx = record a.tx { writes = writes } }
+
+module _ {H : Type 0} (model : HostModel H) (c : Call) (old : Acting H) (writes : List (ℕ × ℕ)) (is : is_word_call c ≡ true) where
+  -- the plain machine does it
+  does_words : (reply : Reply) → reply ≡ word_reply (overlaid old.words old.tx.writes) c
+      → overlaid old.words writes ≡ words_after (overlaid old.words old.tx.writes) c
+      → DoesIn old.words (model.contents old.host) (model.contents old.host) (parts_of old.tx) (parts_of (storing old writes).tx) c reply
+  does_words reply gives after w at =
+      let was = model.contents old.host in
+      let stores = old.tx.writes in
+      let me = old.tx.me in
+      let number = old.tx.number in
+      let v = seen w was stores in
+      let gives' : reply ≡ word_reply v.words c = gives ∙ ap (λ ws. word_reply (overlaid ws stores) c) (sym at) in
+      let after' : words_after v.words c ≡ overlaid w.words writes =
+      ap (λ ws. words_after (overlaid ws stores) c) at ∙ sym after ∙ ap (λ ws. overlaid ws writes) (sym at) in
+      let fine : answer_of reply ≡ answer.Fine = ap answer_of gives' ∙ word-fine v.words c is in
+      record {
+        step = ap (act v me number c) fine ∙ word-act v me number c is ∙ (λ i. stays (record v { words = after' i }) me (sym gives' i));
+        fits = subst (λ (a : Answer). IsTrue (fits v me number c a)) (sym fine) refl;
+        records = sym (append_nil old.tx.undo.pending) ∙ ap (λ us. old.tx.undo.pending ++ us) (sym (word-trail v me number c reply is));
+      }
+
+  word_done : (reply : Reply) → reply ≡ word_reply (overlaid old.words old.tx.writes) c → writes ≡ old.tx.writes ++ stored_by (length old.words) c
+      → overlaid old.words writes ≡ words_after (overlaid old.words old.tx.writes) c → is_late reply ≡ false → old.tx.me.stored ≤ 16384
+      → HasDone model c old (storing old writes) reply
+  word_done reply gives stores after now stored =
+      let quiet = ap is_fault_reply gives ∙ word-quiet (overlaid old.words old.tx.writes) c is in
+      record {
+        tx = refl;
+        stores = stores;
+        stored = stored;
+        made = [];
+        one = omega arith;
+        undo = ap (λ us. record old.tx.undo { pending = us }) (sym (append_nil old.tx.undo.pending));
+        now = now;
+        cause = subst (λ b. CountsFault b (model.fault_count old.host) (model.fault_count old.host)) (sym quiet) refl;
+        spoken = record { words = after; gives = λ _. gives };
+        does = λ tells. does_words reply gives after;
+      }
+
+-- a load has acted
+pub load_acted : {H : Type 0} (model : HostModel H) (c : Call) (at : ℕ) (old : Acting H) (reply : Reply) → c ≡ call.Load at
+    → reply ≡ word_reply (overlaid old.words old.tx.writes) (call.Load at) → is_late reply ≡ false → old.tx.me.stored ≤ 16384 → HasDone model c old old reply
+load_acted model c at old reply is gives now stored =
+    subst (λ d. HasDone model d old old reply) (sym is)
+    (word_done model (call.Load at) old old.tx.writes refl reply gives (sym (append_nil old.tx.writes)) refl now stored)
+
+-- a store has acted
+pub store_acted : {H : Type 0} (model : HostModel H) (c : Call) (at value : ℕ) (old : Acting H) (writes : List (ℕ × ℕ)) (r : Result Reply NoMemory)
+    → c ≡ call.Store at value
+    → IfOk r (λ reply. reply ≡ word_reply (overlaid old.words old.tx.writes) (call.Store at value))
+    → OnOk r (writes ≡ old.tx.writes ++ stored_by (length old.words) (call.Store at value))
+    → OnOk r (overlaid old.words writes ≡ words_after (overlaid old.words old.tx.writes) (call.Store at value))
+    → OnErr r (writes ≡ old.tx.writes) → IfOk r (λ reply. is_late reply ≡ false) → old.tx.me.stored ≤ 16384
+    → HasActed model c old (storing old writes) r
+store_acted model c at value old writes (Ok reply) is gives stores after err now stored =
+    subst (λ d. HasDone model d old (storing old writes) reply) (sym is)
+    (word_done model (call.Store at value) old writes refl reply gives stores after now stored)
+store_acted model c at value old writes (Err e) is gives stores after err now stored =
     record {
-      step = ap (act v me number c) fine ∙ word-act v me number c is ∙ (λ i. stays (record v { words = after' i }) me (sym gives' i));
-      fits = subst (λ (a : Answer). IsTrue (fits v me number c a)) (sym fine) refl;
-      records = sym (append_nil undo.pending) ∙ ap (λ us. undo.pending ++ us) (sym (word-trail v me number c reply is));
+      left = [];
+      one = omega arith;
+      tx = λ i. record old.tx { writes = err i; undo = record old.tx.undo { pending = sym (append_nil old.tx.undo.pending) i } };
+      faults = refl;
+      contents = λ tells. inl (refl, refl);
     }
 
--- a call of the host
-pub does_host : (w : World) (was is : Contents) (number : ℕ) (me next : Private) (stores : List (ℕ × ℕ)) (undo undo' : Records) (c : Call) (reply : Reply)
-    → Acts c was is me next reply → undo'.pending ≡ undo.pending ++ recorded (seen w was stores) me number c reply
-    → Does (seen w was stores) (seen w is stores) number (record { me = me; stores = stores; undo = undo })
-    (record { me = next; stores = stores; undo = undo' }) c reply
-does_host w was is number me next stores undo undo' c reply acts records =
-    let v : World = record w { words = overlaid w.words stores } in
-    record { step = acts.step v number; fits = acts.fits v number; records = records }
-
--- ---- as the calls answer it
-if_both : {A E : Type 0} (r : Result A E) (P Q R : A → Type 0) → ((x : A) → P x → Q x → R x) → IfOk r P → IfOk r Q → IfOk r R
-if_both (Ok x) P Q R f h k = f x h k
-if_both (Err e) P Q R f h k = tt
-
--- a call's private state and records, with these stores
-abbrev pub parts_at : {H : Type 0} → List (ℕ × ℕ) → CallState H → Parts
-parts_at stores state = record { me = state.me; stores = stores; undo = state.undo }
-
--- what a call on files promises, as the call of a transaction needs it
-module _ {H : Type 0} (model : HostModel H) (c d : Call) (is : c ≡ d) (old new : CallState H) (r : Result Reply NoMemory)
-    (k : IsFileCall model d old new r) where
-  -- the plain machine does it
-  pub file_does : (words : List ℕ) (stores : List (ℕ × ℕ)) → IsTrue model.tells
-      → IfOk r (λ reply. DoesIn words (model.contents old.host) (model.contents new.host) (parts_at stores old) (parts_at stores new) c reply)
-  file_does words stores told =
-      let was = model.contents old.host in
-      subst (λ (e : Call). IfOk r (λ reply. DoesIn words was (model.contents new.host) (parts_at stores old) (parts_at stores new) e reply)) (sym is)
-      (if_both r (λ reply. Acts d was (model.contents new.host) old.me new.me reply) (λ reply. AreRecorded was old.me d k.made reply)
-      (λ reply. DoesIn words was (model.contents new.host) (parts_at stores old) (parts_at stores new) d reply)
-      (λ reply acts recorded w number at.
-      does_host w was (model.contents new.host) number old.me new.me stores old.undo new.undo d reply acts
-      (ap (λ (u : Records). u.pending) k.undo ∙ ap (λ us. old.undo.pending ++ us) (recorded (record w { words = overlaid w.words stores }) number)))
-      (k.acts told) (k.records told))
-
--- ---- a reply that brings a value is no fault
+-- ---- memory is wanting for the variable that takes the reply
+-- a reply that brings a value is no fault
 unfaulty : (r : Reply) → (value_in r ≡ None → ⊥) → is_fault_reply r ≡ false
 unfaulty (reply.Fault n) h = absurd (h refl)
 unfaulty _ h = refl
 
-never_ok : {A E : Type 0} (a : Result A E) (e : E) → a ≡ Err e → IsOk a → ⊥
-never_ok (Ok x) e is ok = cc
-never_ok (Err d) e is ok = cc
+-- only a reply that brings a value may want memory
+pub wants_value : {A E : Type 0} (a : Result A E) (r : Reply) → is_err a ≡ true → (value_in r ≡ None → IsOk a) → value_in r ≡ None → ⊥
+wants_value (Ok x) r failed lasting nothing = cc
+wants_value (Err e) r failed lasting nothing = let ok = lasting nothing in cc
 
-failed_quiet : (given : Result Reply NoMemory) (before now : ℕ) → IsErr given → now ≡ before → CountsFault (replies_fault given) before now
-failed_quiet (Ok r) before now failed stays = cc
-failed_quiet (Err e) before now failed stays = stays
+-- the call was done, and the handles are as before it: its part stands as it was left
+pub unanswered : {H : Type 0} (model : HostModel H) (c : Call) (old new behind : Acting H) (reply : Reply) → HasDone model c old new reply
+    → behind ≡ record new { tx = record new.tx { me = old.tx.me } } → (value_in reply ≡ None → ⊥) → LeavesOff model c old behind
+unanswered model c old new behind reply d is brings =
+    let writes : new.tx.writes ≡ old.tx.writes =
+    d.stores ∙ ap (λ ws. old.tx.writes ++ ws) (no_value (length old.words) (overlaid old.words old.tx.writes) c reply d.spoken.gives brings)
+    ∙ append_nil old.tx.writes in
+    let quiet = unfaulty reply brings in
+    let left : new.tx ≡ record old.tx { me = new.tx.me; undo = record old.tx.undo { pending = old.tx.undo.pending ++ d.made } } =
+    d.tx ∙ (λ i. record old.tx { me = new.tx.me; writes = writes i; undo = d.undo i }) in
+    let now : LeavesOff model c old (record new { tx = record new.tx { me = old.tx.me } }) = record {
+      left = d.made;
+      one = d.one;
+      tx = ap (λ (t : SeenTx). record t { me = old.tx.me }) left;
+      faults = subst (λ b. CountsFault b (model.fault_count old.host) (model.fault_count new.host)) quiet d.cause;
+      contents = λ tells. inr (
+        answer_of reply,
+        λ w at.
+            let does = d.does tells w at in
+            record {
+              fits = does.fits;
+              world = ap (λ (ws : List (ℕ × ℕ)). seen w (model.contents new.host) ws) (sym writes) ∙ ap (λ (s : Stepped). s.world) (sym does.step);
+              records = append_cancel_left old.tx.undo.pending d.made
+                  (recorded (seen w (model.contents old.host) old.tx.writes) old.tx.me old.tx.number c reply)
+                  (sym (ap (λ (u : Records). u.pending) d.undo) ∙ does.records)
+                  ∙ ap (λ (s : Stepped). recorded (seen w (model.contents old.host) old.tx.writes) old.tx.me old.tx.number c s.reply) (sym does.step);
+            },
+      );
+    } in
+    subst (λ a. LeavesOff model c old a) (sym is) now
 
--- so without memory to go on behind a reply the count stayed
-pub quiet_behind : {A E : Type 0} (reply : Reply) (a : Result A E) (e : E) (given : Result Reply NoMemory) (before now : ℕ)
-    → a ≡ Err e → (value_in reply ≡ None → IsOk a) → IsErr given
-    → CountsFault (is_fault_reply reply) before now → CountsFault (replies_fault given) before now
-quiet_behind reply a e given before now is lasting failed cause =
-    failed_quiet given before now failed (subst (λ b. CountsFault b before now) (unfaulty reply (λ nothing. never_ok a e is (lasting nothing))) cause)
-
--- without memory a call on files leaves the private state and the records
-pub starved_parts : {H : Type 0} (model : HostModel H) (c : Call) (old new : CallState H) (r : Result Reply NoMemory) → IsFileCall model c old new r
-    → takes_memory_first c ≡ true → (stores : List (ℕ × ℕ)) → OnErr r ((new.me ≡ old.me) × (stores ≡ stores) × (new.undo ≡ old.undo))
-starved_parts model c old new (Ok x) k first stores = tt
-starved_parts model c old new (Err e) k first stores =
-    let none : k.made ≡ [] = k.memory.none first in (
-      k.memory.me,
-      refl,
-      k.undo ∙ ap (λ us. record old.undo { pending = old.undo.pending ++ us }) none ∙ ap (λ us. record old.undo { pending = us })
-          (append_nil old.undo.pending),
-    )
+-- the same of an answer
+pub unanswered_so : {H : Type 0} (model : HostModel H) (c : Call) (old new : Acting H) (r : Result Reply NoMemory) → IsErr r
+    → LeavesOff model c old new → HasActed model c old new r
+unanswered_so model c old new (Ok reply) failed left = cc
+unanswered_so model c old new (Err e) failed left = left

@@ -1,8 +1,8 @@
 -- A station whose jobs have all ended.
-use Rattle.std.proofs.Common.{◌≡◌, ℕ, ◌<◌, List, [], ◌∷◌, length, refl, ap, sym, ◌∙◌, subst, arith, IsTrue}
+use Rattle.std.proofs.Common.{◌≡◌, ℕ, ◌<◌, List, [], ◌∷◌, length, refl, ap, sym, ◌∙◌, subst, arith}
 use Rattle.std.proofs.lemmas.Bool.{ne_eqb}
-use Rattle.std.specs.Prelude.{◌+◌, ◌-◌, ◌==◌, if◌then◌else◌, Bool, false, slice_get, slice_index_or, sum_by, zero, suc}
-use Rattle.std.specs.declared.option.Option.TheVariants.{None, Some}
+use Rattle.std.specs.Prelude.{◌+◌, ◌-◌, ◌==◌, if◌then◌else◌, false, slice_get, slice_index_or, sum_by, zero, suc}
+use Rattle.std.specs.declared.option.Option.TheVariants.{Some}
 use Rattle.xc_data.specs.Counts.{CountsFaults}
 use Rattle.xc_data.specs.Faults.{entry_faults}
 use Rattle.xc_data.specs.declared.entry.JobLine.{JobLine}

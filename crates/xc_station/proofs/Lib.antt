@@ -1,4 +1,3 @@
-pub mod Answered
 pub mod Begun
 pub mod Closed
 pub mod Doings
@@ -11,6 +10,7 @@ pub mod Ready
 pub mod Rivals
 pub mod Rooms
 pub mod RoomsKept
+pub mod RowsCalled
 pub mod RowsRun
 pub mod Runs
 pub mod Stages

@@ -1,9 +1,9 @@
 -- Jobs with another one in one place.
-use Rattle.std.proofs.Common.{◌≡◌, ◌≢◌, ◌⊎◌, inl, inr, ℕ, zero, suc, ◌+◌, ◌<◌, ◌≤◌, List, [], ◌∷◌, length, refl, ap, sym, ◌∙◌, subst, arith}
+use Rattle.std.proofs.Common.{◌≡◌, ◌≢◌, ℕ, zero, suc, ◌+◌, List, [], ◌∷◌, length, refl, ap, sym, ◌∙◌, arith}
 use Rattle.std.specs.Prelude.{Option, map, slice_get, slice_set}
 use Rattle.std.specs.declared.option.Option.TheVariants.{None, Some}
 use Rattle.std.specs.List.{filter_map, cons_option}
-use Rattle.xc_story.specs.Seen.{SeenTx, SeenJob, active_of, actives}
+use Rattle.xc_story.specs.Seen.{SeenTx, SeenJob, active_of}
 use Rattle.xc_story.specs.Rows.{IsActiveAt}
 
 -- ---- one place of a list

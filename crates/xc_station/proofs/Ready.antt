@@ -1,7 +1,6 @@
 -- What a turn's function may rely on, between two turns.
 use Rattle.std.proofs.Common.{◌≡◌, ◌≢◌, ℕ, zero, suc, ◌+◌, ◌<◌, ◌≤◌, ◌^◌, List, [], ◌∷◌, length, refl, ap, sym, ◌∙◌, subst, arith, Bool, true, false}
 use Rattle.std.proofs.lemmas.List.Elements.{All-head, All-tail}
-use Rattle.std.proofs.lemmas.Option.{slice_get_within}
 use Rattle.std.specs.Prelude.{All, IsSome, IsTrue, Option, slice_get, slice_set, if◌then◌else◌, nat_le}
 use Rattle.std.specs.List.{fold}
 use Rattle.std.specs.declared.option.Option.TheVariants.{None, Some}
@@ -17,8 +16,8 @@ use Rattle.xc_journal.specs.Room.{Roomy}
 use Rattle.xc_txmem.specs.Overlay.{AreWithin}
 use Rattle.xc_text.specs.declared.script.Block.{Block}
 use Rattle.xc_text.specs.declared.script.Script.{Script}
-use Rattle.xc_text.specs.Scripts.{IsBlock, IsScript}
-use Rattle.xc_script.specs.Ask.{next_body, transactions_of, transactions_at}
+use Rattle.xc_text.specs.Scripts.{IsBlock}
+use Rattle.xc_script.specs.Ask.{transactions_of, transactions_at}
 use Rattle.xc_story.specs.declared.phase.Attempts.{Attempts}
 use Rattle.xc_story.specs.declared.rules.Rules.{Rules}
 use Rattle.xc_story.specs.Setting.{Setting, setting}
@@ -28,13 +27,14 @@ use Rattle.xc_story.specs.Seen.{SeenTx, SeenJob, Active, Now, active_in, actives
 use Rattle.xc_story.specs.Told.{AreAttempts, IsDoing, IsInPhase, IsUnderway}
 use Rattle.xc_story.specs.Rows.{IsActiveAt}
 use Rattle.xc_turns.proofs.GivenNumbers.{given_once}
+use Rattle.xc_played.proofs.NewNumbers.{absent_now}
 use Rattle.xc_played.proofs.NextRecord.{covered_now}
 use Rattle.xc_played.proofs.OpenFiles.{open_files}
 use Rattle.xc_station.specs.declared.calls.Shared.{Shared}
 use Rattle.xc_station.specs.declared.job.Job.{Job}
 use Rattle.xc_station.specs.declared.job.Stage.{Stage}
 use Rattle.xc_station.specs.declared.job.Stage.TheVariants as stage
-use Rattle.xc_station.specs.Jobs.{seen_doing, seen_job, seen_jobs}
+use Rattle.xc_station.specs.Jobs.{doing_of, seen_job, seen_jobs}
 use Rattle.xc_station.specs.Moments.{AreSingle, CanRun, IsAt}
 use Rattle.xc_station.specs.Stations.{HasRooms, IsSteady, moment}
 use Rattle.xc_station.proofs.Placed.{get_map, length_set}
@@ -148,7 +148,7 @@ module _ {H : Type 0} (model : HostModel H) (shared : Shared H) (journal : List 
       let s = setting script rules model.tells in
       let now = moment model shared journal jobs in
       let there = get_map seen_job jobs at was is.stands in
-      let runs = running_stage (seen_doing was.activity) is.stage in
+      let runs = running_stage (doing_of was) is.stage in
       let t = telling s faults now steady at (seen_job was) runs.tx there runs.doing in
       let active : IsActiveAt now.jobs at runs.tx = (seen_job was, there, ap active_in runs.doing) in
       let spoken = steady.kept.spoken.each at runs.tx active in
@@ -165,7 +165,12 @@ module _ {H : Type 0} (model : HostModel H) (shared : Shared H) (journal : List 
           stored = t.underway.stored;
           none = phase.none;
         };
-        files = λ tells h. open_files s now (steady.flying tells) at (seen_job was) runs.tx there (ap active_in runs.doing) runs.phase h;
+        ready = λ tells.
+            let flying = steady.flying tells in
+            record {
+              files = λ h. open_files s now flying at (seen_job was) runs.tx there (ap active_in runs.doing) runs.phase h;
+              new = absent_now s now flying at (seen_job was) runs.tx there (ap active_in runs.doing) runs.phase runs.tx.me.made (omega arith);
+            };
       }
 
   -- so it stands at this moment
@@ -188,27 +193,28 @@ module _ {H : Type 0} (model : HostModel H) (shared : Shared H) (journal : List 
       let s = setting script rules model.tells in
       let now = moment model shared journal jobs in
       let there = get_map seen_job jobs at was is.stands in
-      let back = undoing_stage (seen_doing was.activity) is.stage in (
+      let back = undoing_stage (doing_of was) is.stage in (
         back.tx,
         back.doing,
         λ none. let lacks : back.newest ∷ back.older ≡ [] = sym back.pending ∙ none in cc lacks,
         λ tells older u pending way.
-            covered_now s now (steady.flying tells) at (seen_job was) back.tx back.cause older u there (ap active_in back.doing) back.phase pending,
+            covered_now s now (steady.flying tells) at (seen_job was) back.tx back.cause older u there (ap active_in back.doing) back.phase pending
+            way,
       )
 
   -- numbers that fit, of a job with an active transaction
-  pub fits_next : (s : Stage) (tx : SeenTx) → IsThere jobs at s was → seen_doing was.activity ≡ Active tx → was.place.next < 2 ^ 32
+  pub fits_next : (s : Stage) (tx : SeenTx) → IsThere jobs at s was → doing_of was ≡ Active tx → was.place.next < 2 ^ 32
   fits_next s tx is does = few_next (setting script rules model.tells) faults (moment model shared journal jobs) steady at (seen_job was) tx
       (get_map seen_job jobs at was is.stands) does
 
   -- and attempts
-  pub fits_failures : (s : Stage) (tx : SeenTx) → IsThere jobs at s was → seen_doing was.activity ≡ Active tx → rules.attempts < 2 ^ 32
+  pub fits_failures : (s : Stage) (tx : SeenTx) → IsThere jobs at s was → doing_of was ≡ Active tx → rules.attempts < 2 ^ 32
       → failures was.attempts + 1 < 2 ^ 32
   fits_failures s tx is does fits =
       let few = few_failures (setting script rules model.tells) faults (moment model shared journal jobs) steady at (seen_job was) tx
       (get_map seen_job jobs at was is.stands) does in omega (arith, few, fits)
 
   -- each active one has its room
-  pub has_room : (s : Stage) (tx : SeenTx) → IsThere jobs at s was → seen_doing was.activity ≡ Active tx → (1 ≤ active) × (1 ≤ spare)
+  pub has_room : (s : Stage) (tx : SeenTx) → IsThere jobs at s was → doing_of was ≡ Active tx → (1 ≤ active) × (1 ≤ spare)
   has_room s tx is does = one_active shared.claims active spare (moment model shared journal jobs) lines at (seen_job was) tx
       (get_map seen_job jobs at was is.stands) (ap active_in does) rooms

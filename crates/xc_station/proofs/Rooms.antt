@@ -1,5 +1,5 @@
 -- What a station keeps beside its moment: the table of claims, and room.
-use Rattle.std.proofs.Common.{◌≡◌, ◌≢◌, ◌⊎◌, inl, inr, ℕ, ◌+◌, ◌<◌, ◌≤◌, List, [], ◌∷◌, length, refl, ap, sym, ◌∙◌, subst, arith}
+use Rattle.std.proofs.Common.{◌≡◌, ◌≢◌, ◌⊎◌, inl, inr, ℕ, ◌+◌, ◌<◌, ◌≤◌, List, [], length, refl, ap, sym, ◌∙◌, subst, arith}
 use Rattle.std.specs.Prelude.{Option, slice_get, slice_set}
 use Rattle.std.specs.declared.option.Option.TheVariants.{None, Some}
 use mathlib.Core.Logic.{dite}
@@ -13,7 +13,7 @@ use Rattle.xc_story.specs.Seen.{SeenTx, SeenJob, Now, Idle, active_of, actives}
 use Rattle.xc_story.specs.Rows.{IsActiveAt}
 use Rattle.xc_station.specs.Moments.{AreSingle, IsTable}
 use Rattle.xc_station.specs.Stations.{HasRooms}
-use Rattle.xc_station.proofs.Placed.{ones, picked_set, length_set, get_set, active_was, active_is, active_here, active_before, active_after}
+use Rattle.xc_station.proofs.Placed.{ones, picked_set, length_set, active_was, active_is, active_here, active_before, active_after}
 
 -- ---- the table
 -- where another holder stands in the table, it is another one's, or the new job's

@@ -1,11 +1,10 @@
 -- What a station keeps beside its moment, behind each row.
-use Rattle.std.proofs.Common.{◌≡◌, ◌≢◌, ◌⊎◌, inl, inr, ℕ, ◌+◌, ◌-◌, ◌<◌, ◌≤◌, List, [], ◌∷◌, ◌++◌, length, refl, ap, sym, ◌∙◌, subst, arith}
-use Rattle.std.specs.Prelude.{Option, slice_get, slice_set}
+use Rattle.std.proofs.Common.{◌≡◌, ◌≢◌, inl, inr, ℕ, ◌+◌, ◌-◌, ◌≤◌, List, length, refl, ap, sym, ◌∙◌, subst, arith}
+use Rattle.std.specs.Prelude.{slice_get, slice_set}
 use Rattle.std.specs.declared.option.Option.TheVariants.{None, Some}
 use Rattle.xc_data.specs.declared.entry.Cause.{Cause}
 use Rattle.xc_data.specs.declared.entry.Cause.TheVariants as cause
 use Rattle.xc_data.specs.declared.entry.Entry.{Entry}
-use Rattle.xc_data.specs.declared.entry.JobEnd.{JobEnd}
 use Rattle.xc_data.specs.declared.entry.JobLine.{JobLine}
 use Rattle.xc_data.specs.declared.entry.Turn.{Turn}
 use Rattle.xc_data.specs.declared.entry.Turn.TheVariants as turn
@@ -15,29 +14,15 @@ use Rattle.xc_journal.specs.Room.{Roomy}
 use Rattle.xc_script.specs.declared.ask.Ask.{Ask}
 use Rattle.xc_script.specs.declared.ask.Ask.TheVariants as ask
 use Rattle.xc_script.specs.Place.{Place}
-use Rattle.xc_wordlocks.specs.Table.{Table, KeepsOthers, mode_of}
+use Rattle.xc_wordlocks.specs.Table.{KeepsOthers, mode_of}
 use Rattle.xc_story.specs.Setting.{Setting}
-use Rattle.xc_story.specs.Seen.{SeenTx, SeenJob, Doing, Idle, Active, Starved, Ended, Now, active_in, active_of, actives, begun_count, rank_of, with_job}
-use Rattle.xc_story.specs.Rows.{
-  AskedTurn,
-  Calls,
-  Conflicts,
-  IdleTurn,
-  IsActiveAt,
-  RunningTurn,
-  asked_at,
-  beginning_job,
-  behind_abort,
-  behind_commit,
-  noting,
-  new_tx,
-  with_tx,
-}
+use Rattle.xc_story.specs.Seen.{SeenTx, SeenJob, Active, Ended, Now, active_in, active_of, begun_count, rank_of, with_job}
+use Rattle.xc_story.specs.Rows.{AskedTurn, IdleTurn, RunningTurn, asked_at, beginning_job, behind_abort, new_tx, with_tx}
 use Rattle.xc_story.specs.Told.{AreTold}
 use Rattle.xc_turns.proofs.GivenNumbers.{given_once, given_by_now}
 use Rattle.xc_station.specs.declared.calls.Shared.{Shared}
 use Rattle.xc_station.specs.declared.job.Job.{Job}
-use Rattle.xc_station.specs.Jobs.{seen_doing, seen_job, seen_jobs}
+use Rattle.xc_station.specs.Jobs.{doing_of, seen_job, seen_jobs}
 use Rattle.xc_station.specs.Moments.{IsRow, moved}
 use Rattle.xc_station.specs.Stations.{HasRooms, moment}
 use Rattle.xc_station.proofs.Placed.{ones, get_map, get_set, map_set}
@@ -95,7 +80,7 @@ module _ {H : Type 0} (model : HostModel H) (shared : Shared H) (journal : List 
   rooms_begun s journal' spare' told none begins room =
       let old = moment model shared journal jobs in
       let number = begun_count old + 1 in
-      let tx : SeenTx = new_tx number (rank_of was.attempts number) (length journal) was.me in
+      let tx : SeenTx = new_tx number (rank_of was.attempts number) (length journal) (seen_job was).me in
       let is : active_of (seen_job job) ≡ Some tx = ap active_of begins in
       rooms_set shared.claims shared.claims active (active + 1) spare spare' old (moment model shared journal' (slice_set jobs at job)) lines at
       (seen_job was) (seen_job job) there (map_set seen_job jobs at job)
@@ -123,8 +108,8 @@ module _ {H : Type 0} (model : HostModel H) (shared : Shared H) (journal : List 
       rooms.room rooms
 
   -- an undoing one goes on
-  pub rooms_undoing : (shared' : Shared H) (tx tx' : SeenTx) → shared'.claims ≡ shared.claims → seen_doing was.activity ≡ Active tx
-      → seen_doing job.activity ≡ Active tx'
+  pub rooms_undoing : (shared' : Shared H) (tx tx' : SeenTx) → shared'.claims ≡ shared.claims → doing_of was ≡ Active tx
+      → doing_of job ≡ Active tx'
       → tx'.number ≡ tx.number → tx'.held ≡ tx.held → HasRooms shared'.claims active spare (moment model shared' journal (slice_set jobs at job)) lines
   rooms_undoing shared' tx tx' same does does' number held =
       rooms_set shared.claims shared'.claims active active spare spare (moment model shared journal jobs) (moment model shared' journal
@@ -140,7 +125,7 @@ module _ {H : Type 0} (model : HostModel H) (shared : Shared H) (journal : List 
   -- one has entered
   pub rooms_entered : (s : Setting) (shared' : Shared H) (journal' : List Entry) (spare' : ℕ) (tx : SeenTx) → AreTold s (length shared.words) journal
       (seen_jobs jobs)
-      → seen_doing was.activity ≡ Active tx → active_of (seen_job job) ≡ None → ((o : Object) → mode_of shared'.claims tx.number o ≡ None)
+      → doing_of was ≡ Active tx → active_of (seen_job job) ≡ None → ((o : Object) → mode_of shared'.claims tx.number o ≡ None)
       → KeepsOthers tx.number shared.claims shared'.claims → 1 ≤ active → spare' + 1 ≡ spare
       → HasRooms shared'.claims (active - 1) spare' (moment model shared' journal' (slice_set jobs at job)) lines
   rooms_entered s shared' journal' spare' tx told does none freed others some less =

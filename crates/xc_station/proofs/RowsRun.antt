@@ -1,31 +1,27 @@
--- Rows of the turn of a job whose transaction runs.
-use Rattle.std.proofs.Common.{◌≡◌, inl, inr, ℕ, ◌<◌, ◌≤◌, Bool, true, false, List, [], ◌∷◌, ◌++◌, length, IsTrue, refl, ap, sym, ◌∙◌, subst, arith}
-use Rattle.std.specs.Prelude.{All, Option, IsSome, Err, slice_set, if◌then◌else◌}
+-- Rows of the turn of a job whose transaction runs, but for calls whose claims are granted.
+use Rattle.std.proofs.Common.{◌≡◌, ◌⊎◌, inl, inr, ℕ, ◌<◌, ◌≤◌, List, [], ◌∷◌, ◌++◌, length, IsTrue, refl, ap, sym, ◌∙◌, subst, arith}
+use Rattle.std.specs.Prelude.{All, Option, IsSome, Err, slice_set}
 use Rattle.std.specs.declared.option.Option.TheVariants.{None, Some}
 use Rattle.xc_data.specs.Claims.{holding}
 use Rattle.xc_data.specs.Counts.{CountsFault}
 use Rattle.xc_data.specs.Faults.{is_fault_reply}
 use Rattle.xc_data.specs.declared.call.Call.{Call}
-use Rattle.xc_data.specs.declared.call.Call.TheVariants as call
+use Rattle.xc_data.specs.declared.call.Answer.{Answer}
 use Rattle.xc_data.specs.declared.call.Reply.{Reply}
 use Rattle.xc_data.specs.declared.claim.Claim.{Claim}
 use Rattle.xc_data.specs.declared.entry.Cause.TheVariants as cause
 use Rattle.xc_data.specs.declared.entry.Turn.{Turn}
 use Rattle.xc_data.specs.declared.entry.Turn.TheVariants as turn
 use Rattle.xc_data.specs.declared.object.Object.{Object}
-use Rattle.xc_data.specs.declared.undo.Undo.{Undo}
 use Rattle.xc_host.specs.Contents.{Contents}
 use Rattle.xc_host.specs.Model.{HostModel}
-use Rattle.xc_journal.specs.Room.{Roomy}
 use Rattle.xc_script.specs.declared.ask.Ask.{Ask}
 use Rattle.xc_script.specs.declared.ask.Ask.TheVariants as ask
 use Rattle.xc_text.specs.declared.script.Script.{Script}
 use Rattle.xc_text.specs.declared.script.Statement.{Statement}
-use Rattle.xc_text.specs.declared.script.Statement.TheVariants.{Load, Store, Open, Read, Overwrite}
-use Rattle.xc_script.specs.Ask.{Variables, Walk, asks, asks_of, ask_of, asks_from, answered, next_body, handle_value, data_of, is_over}
+use Rattle.xc_script.specs.Ask.{Walk, asks, asks_from, answered, next_body}
 use Rattle.xc_script.specs.Place.{Place, job_of, walk_of, IsSettled}
 use Rattle.xc_txmem.specs.Overlay.{overlaid}
-use Rattle.xc_world.specs.Late.{is_late}
 use Rattle.xc_world.specs.Modes.{claims_of}
 use Rattle.xc_wordlocks.specs.Table.{claimed, mode_in}
 use Rattle.xc_wordlocks.proofs.Held.{claimed-holding}
@@ -33,13 +29,16 @@ use Rattle.xc_story.specs.declared.phase.Phase.TheVariants.{Committing, Undoing}
 use Rattle.xc_story.specs.Setting.{Setting}
 use Rattle.xc_story.specs.Seen.{SeenTx, SeenJob, Now, Active, active_in, with_job}
 use Rattle.xc_story.specs.WordCalls.{IsWordStep}
-use Rattle.xc_story.specs.Rows.{AskedTurn, Calls, DoesIn, HasNoRival, HoldsWanting, IsActiveAt, IsFirstMet, IsSameBegin, IsSamePlace, Parts, RunningTurn}
-use Rattle.xc_story.specs.Rows.{is_built, noting, parts_of, stored_by, with_tx}
+use Rattle.xc_story.specs.Rows.{AskedTurn, Calls, DoesIn, DoesPartIn, HasNoRival, HoldsWanting, IsActiveAt, IsFirstMet, IsLeft, IsSameBegin, IsSamePlace}
+use Rattle.xc_story.specs.Rows.{Parts, RunningTurn, noting, parts_of, stored_by, wanting, with_tx}
+use Rattle.xc_played.proofs.BuiltCalls.{asked_built}
 use Rattle.xc_station.specs.declared.calls.Shared.{Shared}
 use Rattle.xc_station.specs.declared.tx.Tx.{Tx}
+use Rattle.xc_station.specs.Acting.{HasDone, LeavesOff, acting, leaving, with_parts}
 use Rattle.xc_station.specs.Jobs.{seen_tx}
 use Rattle.xc_station.specs.Moments.{HasClaimed, HasTx, IsAt, IsGranted, IsRefused, IsRow, IsTable, moved}
 use Rattle.xc_station.proofs.Rivals.{first_rival, none_met, table_behind}
+use Rattle.xc_station.proofs.WordActs.{append_nil}
 
 -- with words and host as before, a moment differs in one job alone
 moved_same : {H : Type 0} (model : HostModel H) (behind : Shared H) (now : Now) (at : ℕ) (job : SeenJob) → behind.words ≡ now.words
@@ -48,73 +47,29 @@ moved_same model behind now at job words contents faults i =
     record { words = words i; contents = contents i; faults = faults i; journal = now.journal; jobs = slice_set now.jobs at job }
 
 -- what is held stays
-as_before : (now : Now) (at : ℕ) (tx : SeenTx) (a : Ask) → HoldsWanting now at tx a tx.held
-as_before now at tx (ask.Call call) = inl refl
-as_before now at tx ask.Commit = refl
-as_before now at tx ask.Abort = refl
-as_before now at tx ask.End = refl
+as_before : (now : Now) (at : ℕ) (tx : SeenTx) (a : Ask) → HoldsWanting now at tx a [] tx.held
+as_before now at tx (ask.Call call) = inl (refl, refl)
+as_before now at tx ask.Commit = (refl, refl)
+as_before now at tx ask.Abort = (refl, refl)
+as_before now at tx ask.End = (refl, refl)
 
--- what a call works on: the host, the job's place, and its transaction
-pub record RunState (H : Type 0) : Type 0 where
-  pub host : H
-  pub place : Place
-  pub tx : Tx
+-- ---- what is asked
+-- silent statements lead to what is asked
+pub asked_before : (s : Setting) (job : SeenJob) (place : Place) (tx : SeenTx) (a : Ask) → HasTx s job place tx → asks (walk_of s.script place) ≡ a
+    → asks (walk_of s.script job.place) ≡ a
+asked_before s job place tx a has asked = ap asks (sym has.same.walk) ∙ asked
 
--- what the asked call did, of the transaction behind its claims
-pub record Acted {H : Type 0} (model : HostModel H) (s : Setting) (words : List ℕ) (from to : RunState H) (call : Call) (reply : Reply) : Type 0 where
-  pub same : (to.tx.number ≡ from.tx.number) × (to.tx.rank ≡ from.tx.rank) × (to.tx.began ≡ from.tx.began) × (to.tx.phase ≡ from.tx.phase)
-  pub notes : (to.tx.calls ≡ from.tx.calls) × (to.tx.replies ≡ from.tx.replies) × (to.tx.held ≡ from.tx.held)
-  pub stores : to.tx.writes ≡ from.tx.writes ++ stored_by (length words) call
-  pub stored : to.tx.me.stored ≤ 16384
-  pub made : (made : List Undo) × (length made ≤ 1) × (to.tx.undo ≡ record from.tx.undo { pending = from.tx.undo.pending ++ made })
-  pub walk : walk_of s.script to.place ≡ answered (walk_of s.script from.place) reply
-  pub now : is_late reply ≡ false
-  pub nearer : from.place.at < to.place.at
-  pub begin : IsSameBegin from.place to.place
-  pub cause : CountsFault (is_fault_reply reply) (model.fault_count from.host) (model.fault_count to.host)
-  pub spoken : IsWordStep (overlaid words from.tx.writes) (overlaid words to.tx.writes) call reply
-  pub does : IsTrue s.tells
-      → DoesIn words (model.contents from.host) (model.contents to.host) (parts_of (seen_tx from.tx)) (parts_of (seen_tx to.tx)) call reply
-
--- ---- what scripts ask
--- what is asked is no call, or one that scripts have
-abbrev IsBuiltAsk : Ask → Type 0
-IsBuiltAsk (ask.Call c) = is_built c ≡ true
-IsBuiltAsk _ = Unit {0}
-
-over_is_built : (b : Bool) (h : ℕ) (bytes : List ℕ) → IsBuiltAsk (if b then ask.Abort else ask.Call (call.XWriteOvr h bytes))
-over_is_built true h bytes = tt
-over_is_built false h bytes = refl
-
-statement_is_built : (variables : Variables) (stored : ℕ) (s : Statement) → IsBuiltAsk (ask_of variables stored s)
-statement_is_built variables stored (Load at into) = refl
-statement_is_built variables stored (Store at value) = refl
-statement_is_built variables stored (Open name into) = refl
-statement_is_built variables stored (Read h n into) = refl
-statement_is_built variables stored (Overwrite h items) =
-    over_is_built (is_over stored (length (data_of variables items))) (handle_value variables h) (data_of variables items)
-statement_is_built variables stored _ = tt
-
-left_is_built : (variables : Variables) (stored : ℕ) (left : List Statement) → IsBuiltAsk (asks_of variables stored left)
-left_is_built variables stored [] = tt
-left_is_built variables stored (s ∷ left) = statement_is_built variables stored s
-
--- scripts ask for these calls alone so far
-asks_built : (walk : Walk) (c : Call) → asks walk ≡ ask.Call c → is_built c ≡ true
-asks_built walk c e = subst IsBuiltAsk e (left_is_built walk.variables walk.stored walk.left)
+-- so the turn is that of what is asked
+pub asked_row : (s : Setting) (at : ℕ) (now new : Now) (job : SeenJob) (place : Place) (tx : SeenTx) (a : Ask) → HasTx s job place tx
+    → asks (walk_of s.script place) ≡ a → AskedTurn s at now job tx a new → RunningTurn s at now job tx turn.Went new
+asked_row s at now new job place tx a has asked row =
+    subst (λ b. AskedTurn s at now job tx b new) (sym (asked_before s job place tx a has asked)) row
 
 -- ---- rows
 module _ {H : Type 0} (model : HostModel H) (s : Setting) (shared : Shared H) (now : Now) (at : ℕ) (job : SeenJob) (place : Place) (old : Tx)
     (here : IsAt model shared now at job) (has : HasTx s job place (seen_tx old)) where
   active : IsActiveAt now.jobs at (seen_tx old)
   active = (job, here.stands, ap active_in has.doing)
-
-  asked_before : (a : Ask) → asks (walk_of s.script place) ≡ a → asks (walk_of s.script job.place) ≡ a
-  asked_before a asked = ap asks (sym has.same.walk) ∙ asked
-
-  asked_row : (a : Ask) (new : Now) → asks (walk_of s.script place) ≡ a → AskedTurn s at now job (seen_tx old) a new
-      → RunningTurn s at now job (seen_tx old) turn.Went new
-  asked_row a new asked row = subst (λ b. AskedTurn s at now job (seen_tx old) b new) (sym (asked_before a asked)) row
 
   -- a turn in which nothing is held more
   row_same : (behind : Shared H) (place' : Place) (tx : SeenTx) (answer : Turn) → behind.claims ≡ shared.claims → tx.number ≡ old.number
@@ -132,10 +87,6 @@ module _ {H : Type 0} (model : HostModel H) (s : Setting) (shared : Shared H) (n
       }
 
   -- ---- a claim is met
-  free_now : (call : Call) → All (HasNoRival now.jobs at) (claims_of call old.me (length shared.words))
-      → All (HasNoRival now.jobs at) (claims_of call old.me (length now.words))
-  free_now call free = subst (λ n. All (HasNoRival now.jobs at) (claims_of call old.me n)) (sym (ap length here.words)) free
-
   met_now : (call : Call) (object : Object) (holder : ℕ) → IsFirstMet now.jobs at (claims_of call old.me (length shared.words)) object holder
       → IsFirstMet now.jobs at (claims_of call old.me (length now.words)) object holder
   met_now call object holder met =
@@ -155,7 +106,7 @@ module _ {H : Type 0} (model : HostModel H) (s : Setting) (shared : Shared H) (n
       let undoing = λ (n : ℕ). record (seen_tx old) { phase = Undoing (cause.Conflict r.object r.holder n) } in
       let is : seen_tx new ≡ undoing (length now.journal) = r.undoes ∙ ap undoing (sym journal) in
       row_same behind place (seen_tx new) turn.Went r.same (ap (λ (t : SeenTx). t.number) r.undoes) (ap (λ (t : SeenTx). t.held) r.undoes)
-      (asked_row (ask.Call call) (moved model behind (with_tx job place (seen_tx new)) now at) asked (inr (record {
+      (asked_row s at now (moved model behind (with_tx job place (seen_tx new)) now at) job place (seen_tx old) (ask.Call call) has asked (inr (record {
         object = r.object;
         holder = r.holder;
         met = met_now call r.object r.holder (first_rival now.jobs at (seen_tx old) shared.claims here.table here.single here.apart active
@@ -166,22 +117,29 @@ module _ {H : Type 0} (model : HostModel H) (s : Setting) (shared : Shared H) (n
       })))
 
   -- ---- no claim is granted
+  -- no record is left
+  without_record : record (seen_tx old) { phase = Undoing cause.NoMemory } ≡ wanting (seen_tx old) [] old.held.items
+  without_record = ap (λ us. record (seen_tx old) { phase = Undoing cause.NoMemory; undo = record old.undo { pending = us } })
+      (sym (append_nil old.undo.pending))
+
   -- memory is wanting before the claims
-  pub wanting : (behind : Shared H) (new : Tx) (answer : Turn) → behind.host ≡ shared.host → behind.words ≡ shared.words → behind.claims ≡ shared.claims
+  pub wants : (behind : Shared H) (new : Tx) (answer : Turn) → behind.host ≡ shared.host → behind.words ≡ shared.words → behind.claims ≡ shared.claims
       → seen_tx new ≡ record (seen_tx old) { phase = Undoing cause.NoMemory } → answer ≡ turn.NoMemory
       → IsRow s now (moved model behind (with_tx job place (seen_tx new)) now at) at job answer behind.claims
-  wanting behind new answer host words claims is gives =
+  wants behind new answer host words claims is gives =
       row_same behind place (seen_tx new) answer claims (ap (λ (t : SeenTx). t.number) is) (ap (λ (t : SeenTx). t.held) is)
       (subst (λ a. RunningTurn s at now job (seen_tx old) a (moved model behind (with_tx job place (seen_tx new)) now at)) (sym gives) (record {
         place = place;
         same = has.same;
+        left = [];
+        one = omega arith;
         held = old.held.items;
         holds = as_before now at (seen_tx old) (asks (walk_of s.script job.place));
-        jobs = ap (λ (t : SeenTx). slice_set now.jobs at (with_tx job place t)) is;
+        jobs = ap (λ (t : SeenTx). slice_set now.jobs at (with_tx job place t)) (is ∙ without_record);
         words = words ∙ sym here.words;
         journal = refl;
         faults = ap model.fault_count host ∙ sym here.faults;
-        contents = λ _. ap model.contents host ∙ sym here.contents;
+        contents = λ _. inl (refl, ap model.contents host ∙ sym here.contents);
       }))
 
   -- ---- the commit, and the abort that is asked
@@ -191,7 +149,7 @@ module _ {H : Type 0} (model : HostModel H) (s : Setting) (shared : Shared H) (n
       → IsRow s now (moved model behind (with_tx job place (seen_tx new)) now at) at job turn.Went behind.claims
   commits behind new host words claims is asked settled =
       row_same behind place (seen_tx new) turn.Went claims (ap (λ (t : SeenTx). t.number) is) (ap (λ (t : SeenTx). t.held) is)
-      (asked_row ask.Commit (moved model behind (with_tx job place (seen_tx new)) now at) asked (record {
+      (asked_row s at now (moved model behind (with_tx job place (seen_tx new)) now at) job place (seen_tx old) ask.Commit has asked (record {
         place = place;
         same = has.same;
         settled = settled;
@@ -210,7 +168,7 @@ module _ {H : Type 0} (model : HostModel H) (s : Setting) (shared : Shared H) (n
       → IsRow s now (moved model behind (with_tx job place (seen_tx new)) now at) at job turn.Went behind.claims
   turns_back behind new host words claims is asked =
       row_same behind place (seen_tx new) turn.Went claims (ap (λ (t : SeenTx). t.number) is) (ap (λ (t : SeenTx). t.held) is)
-      (asked_row ask.Abort (moved model behind (with_tx job place (seen_tx new)) now at) asked (record {
+      (asked_row s at now (moved model behind (with_tx job place (seen_tx new)) now at) job place (seen_tx old) ask.Abort has asked (record {
         place = place;
         same = has.same;
         behind = same_moment behind (with_tx job place (seen_tx new)) host words ∙ ap (λ (t : SeenTx). with_job now at (with_tx job place t)) is;
@@ -222,130 +180,8 @@ module _ {H : Type 0} (model : HostModel H) (s : Setting) (shared : Shared H) (n
       → HasClaimed shared.claims behind.claims old new (claims_of call old.me (length shared.words)) entered (Err answer)
       → IsRow s now (moved model behind (with_tx job place (seen_tx new)) now at) at job answer behind.claims
   unclaimed behind new call entered turn.Went host words asked journal r = refused behind new call entered host words asked journal r
-  unclaimed behind new call entered turn.NoMemory host words asked journal w = wanting behind new turn.NoMemory host words w.same w.undoes refl
+  unclaimed behind new call entered turn.NoMemory host words asked journal w = wants behind new turn.NoMemory host words w.same w.undoes refl
   unclaimed behind new call entered _ host words asked journal r = absurd r
-
-  -- ---- behind granted claims
-  module _ (behind : Shared H) (mid : Tx) (call : Call) (words : behind.words ≡ shared.words) (asked : asks (walk_of s.script place) ≡ ask.Call call)
-      (g : IsGranted shared.claims behind.claims old mid (claims_of call old.me (length shared.words))) where
-    claims_now : claims_of call old.me (length shared.words) ≡ claims_of call old.me (length now.words)
-    claims_now = ap (λ n. claims_of call old.me n) (sym (ap length here.words))
-
-    granted_free : All (HasNoRival now.jobs at) (claims_of call old.me (length now.words))
-    granted_free = free_now call (none_met now.jobs at (seen_tx old) shared.claims here.table here.single here.apart active
-        (claims_of call old.me (length shared.words)) g.free)
-
-    row_granted : (place' : Place) (tx : SeenTx) (answer : Turn) → tx.number ≡ old.number
-        → tx.held ≡ holding old.held.items (claims_of call old.me (length shared.words))
-        → RunningTurn s at now job (seen_tx old) answer (moved model behind (with_tx job place' tx) now at)
-        → IsRow s now (moved model behind (with_tx job place' tx) now at) at job answer behind.claims
-    row_granted place' tx answer number held row =
-        let claims = claims_of call old.me (length shared.words) in
-        record {
-          tx = seen_tx old;
-          doing = has.doing;
-          row = row;
-          table = table_behind shared.claims behind.claims now.jobs at job (with_tx job place' tx) (seen_tx old) tx here.table here.single here.stands
-              (ap active_in has.doing) refl number g.others (λ o. g.row o ∙ ap (λ m. claimed m claims o) (here.table.held at (seen_tx old) o active)
-              ∙ claimed-holding old.held.items claims o ∙ ap (λ (h : List Claim). mode_in h o) (sym held));
-        }
-
-    -- memory is wanting behind them
-    pub starved : (new : Tx) (answer : Turn) → seen_tx new ≡ record (seen_tx mid) { phase = Undoing cause.NoMemory } → answer ≡ turn.NoMemory
-        → model.fault_count behind.host ≡ model.fault_count shared.host → (IsTrue s.tells → model.contents behind.host ≡ model.contents shared.host)
-        → IsRow s now (moved model behind (with_tx job place (seen_tx new)) now at) at job answer behind.claims
-    starved new answer is gives faults contents =
-        let wants = λ (t : SeenTx). record t { phase = Undoing cause.NoMemory } in
-        let held = λ (claims : List Claim). record (seen_tx old) { phase = Undoing cause.NoMemory; held = holding old.held.items claims } in
-        let so : seen_tx new ≡ held (claims_of call old.me (length shared.words)) = is ∙ ap wants g.held in
-        row_granted place (seen_tx new) answer (ap (λ (t : SeenTx). t.number) so) (ap (λ (t : SeenTx). t.held) so)
-        (subst (λ a. RunningTurn s at now job (seen_tx old) a (moved model behind (with_tx job place (seen_tx new)) now at)) (sym gives) (record {
-          place = place;
-          same = has.same;
-          held = holding old.held.items (claims_of call old.me (length now.words));
-          holds = subst (λ a. HoldsWanting now at (seen_tx old) a (holding old.held.items (claims_of call old.me (length now.words))))
-              (sym (asked_before (ask.Call call) asked)) (inr (granted_free, refl));
-          jobs = ap (λ (t : SeenTx). slice_set now.jobs at (with_tx job place t)) (so ∙ ap held claims_now);
-          words = words ∙ sym here.words;
-          journal = refl;
-          faults = faults ∙ sym here.faults;
-          contents = λ tells. contents tells ∙ sym here.contents;
-        }))
-
-    -- the call is done and noted
-    module _ (place' : Place) (from : H) (done new : Tx) (reply : Reply)
-        (a : Acted model s behind.words (record { host = from; place = place; tx = mid }) (record { host = behind.host; place = place'; tx = done }) call reply)
-        (host : from ≡ shared.host) (noted : seen_tx new ≡ record (seen_tx done) {
-          calls = done.calls.items ++ call ∷ [];
-          replies = done.replies.items ++ reply ∷ [];
-        }) where
-      words_now : behind.words ≡ now.words
-      words_now = words ∙ sym here.words
-
-      writes_old : mid.writes ≡ old.writes
-      writes_old = ap (λ (t : SeenTx). t.writes) g.held
-
-      noted_as : seen_tx new ≡ noting (seen_tx old) call reply (claims_of call old.me (length now.words)) (parts_of (seen_tx done))
-      noted_as = noted ∙ (λ i. record {
-        number = (a.same.0 ∙ ap (λ (t : SeenTx). t.number) g.held) i;
-        rank = (a.same.1 ∙ ap (λ (t : SeenTx). t.rank) g.held) i;
-        began = (a.same.2 ∙ ap (λ (t : SeenTx). t.began) g.held) i;
-        phase = (a.same.3 ∙ ap (λ (t : SeenTx). t.phase) g.held) i;
-        me = done.me;
-        writes = done.writes;
-        undo = done.undo;
-        calls = (ap (λ (r : Roomy Call). r.items) a.notes.0 ∙ ap (λ (t : SeenTx). t.calls) g.held) i ++ call ∷ [];
-        replies = (ap (λ (r : Roomy Reply). r.items) a.notes.1 ∙ ap (λ (t : SeenTx). t.replies) g.held) i ++ reply ∷ [];
-        held = (ap (λ (r : Roomy Claim). r.items) a.notes.2 ∙ ap (λ (t : SeenTx). t.held) g.held ∙ ap (holding old.held.items) claims_now) i;
-      })
-
-      spoken_now : IsWordStep (overlaid now.words old.writes) (overlaid now.words done.writes) call reply
-      spoken_now = subst (λ ws. IsWordStep (overlaid now.words ws) (overlaid now.words done.writes) call reply) writes_old
-          (subst (λ ws. IsWordStep (overlaid ws mid.writes) (overlaid ws done.writes) call reply) words_now a.spoken)
-
-      does_now : IsTrue s.tells → DoesIn now.words now.contents (model.contents behind.host) (parts_of (seen_tx old)) (parts_of (seen_tx done)) call reply
-      does_now tells =
-          let to = model.contents behind.host in
-          let parts = parts_of (seen_tx done) in
-          subst (λ (p : Parts). DoesIn now.words now.contents to p parts call reply) (ap parts_of g.held)
-          (subst (λ (c : Contents). DoesIn now.words c to (parts_of (seen_tx mid)) parts call reply) (ap model.contents host ∙ sym here.contents)
-          (subst (λ ws. DoesIn ws (model.contents from) to (parts_of (seen_tx mid)) parts call reply) words_now (a.does tells)))
-
-      calls_now : Calls s at now job (seen_tx old) call (moved model behind (with_tx job place' (seen_tx new)) now at)
-      calls_now =
-          record {
-            free = granted_free;
-            reply = reply;
-            place = place';
-            parts = parts_of (seen_tx done);
-            jobs = ap (λ (t : SeenTx). slice_set now.jobs at (with_tx job place' t)) noted_as;
-            words = words_now;
-            journal = refl;
-            begin = record {
-              block = a.begin.block ∙ has.same.begin.block;
-              next = a.begin.next ∙ has.same.begin.next;
-              begun = a.begin.begun ∙ has.same.begin.begun;
-            };
-            walk = a.walk ∙ ap (λ w. answered w reply) has.same.walk;
-            nearer = (let far = a.nearer in let near = has.same.at in omega arith);
-            now = a.now;
-            built = asks_built (walk_of s.script place) call asked;
-            made = a.made.0;
-            one = a.made.1;
-            undo = a.made.2 ∙ ap (λ (t : SeenTx). record t.undo { pending = t.undo.pending ++ a.made.0 }) g.held;
-            stored = a.stored;
-            stores = a.stores ∙ ap (λ ws. ws ++ stored_by (length behind.words) call) writes_old
-                ∙ ap (λ n. old.writes ++ stored_by n call) (ap length words_now);
-            spoken = spoken_now;
-            cause = subst (λ n. CountsFault (is_fault_reply reply) n (model.fault_count behind.host)) (ap model.fault_count host ∙ sym here.faults) a.cause;
-            does = does_now;
-          }
-
-      -- so its turn is that of a call
-      pub called : IsRow s now (moved model behind (with_tx job place' (seen_tx new)) now at) at job turn.Went behind.claims
-      called = row_granted place' (seen_tx new) turn.Went (ap (λ (t : SeenTx). t.number) noted_as)
-          (ap (λ (t : SeenTx). t.held) noted_as ∙ ap (holding old.held.items) (sym claims_now))
-          (asked_row (ask.Call call) (moved model behind (with_tx job place' (seen_tx new)) now at) asked (inl calls_now))
 
 -- ---- what is asked
 -- a transaction at a place that silent statements lead to

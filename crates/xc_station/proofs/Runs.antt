@@ -4,7 +4,7 @@ use Rattle.std.proofs.Common.{ap, sym, refl, ◌∙◌, subst, arith}
 use Rattle.std.proofs.Math.Decide.{dec_le}
 use Rattle.std.proofs.lemmas.Bool.{ne_eqb}
 use Rattle.std.proofs.lemmas.List.{append-nil, append_assoc, length-map}
-use Rattle.std.proofs.lemmas.Option.{slice_get-map}
+use Rattle.std.proofs.lemmas.Option.{slice_get-map, slice_get_past}
 use Rattle.std.specs.Prelude.{Option, ◌==◌, drop, slice_get, slice_index, slice_set, if◌then◌else◌}
 use Rattle.std.specs.Option.{option_map}
 use Rattle.std.specs.declared.option.Option.TheVariants.{None, Some}
@@ -21,7 +21,7 @@ use Rattle.xc_story.specs.Rows.{IsTurn, IsActiveAt}
 use Rattle.xc_turns.proofs.Orders.{alone_turned, alone_later}
 use Rattle.xc_station.specs.declared.job.Job.{Job}
 use Rattle.xc_station.specs.Jobs.{goes_on, is_live, phase_stage, seen_job, seen_jobs, stage_of}
-use Rattle.xc_station.specs.Stations.{GoesOn, IsNextOf, IsStepOf, KeepsOpening, Seen, TakeTurns, WorksOn, live_at, lives, now_of, setting_of}
+use Rattle.xc_station.specs.Stations.{GoesOn, IsNextOf, IsStepOf, KeepsOpening, Seen, TakeTurns, WorksOn, live_at, lives, now_of, numbers, setting_of, turns_of}
 use Rattle.xc_station.proofs.Leaving.{Leaves, turn_leaves}
 
 -- one run behind another
@@ -173,3 +173,45 @@ pub taken_next : {H : Type 0} (model : HostModel H) (jobs : List ℕ) (k after :
     → TakeTurns model (drop k jobs) now end
 taken_next model jobs k after now next end one low step rest =
     taken_at model jobs k now next end low step (subst (λ n. TakeTurns model (drop n jobs) next end) one rest)
+
+-- ---- rounds
+-- one turn more behind a list of them
+pub taken_more : {H : Type 0} (model : HostModel H) (jobs : List ℕ) (job : ℕ) (old mid new : Seen H) → TakeTurns model jobs old mid
+    → IsStepOf model job mid new (live_at mid.jobs job) → TakeTurns model (jobs ++ job ∷ []) old new
+taken_more {H = H} model [] job old mid new same step = (new, subst (λ (s : Seen H). IsStepOf model job s new (live_at s.jobs job)) same step, refl)
+taken_more model (j ∷ jobs) job old mid new (next, first, rest) step = (next, first, taken_more model jobs job next mid new rest step)
+
+-- the turn of the next number in a round
+pub round_more : {H : Type 0} (model : HostModel H) (job : ℕ) (old mid new : Seen H) → 1 ≤ job → TakeTurns model (numbers (job - 1)) old mid
+    → IsStepOf model job mid new (live_at mid.jobs job) → TakeTurns model (numbers (job + 1 - 1)) old new
+round_more {H = H} model job old mid new positive turns step =
+    let before : ℕ = job - 1 in
+    let this : job ≡ suc before = omega arith in
+    let next : job + 1 - 1 ≡ suc before = omega arith in
+    subst (λ n. TakeTurns model (numbers n) old new) (sym next)
+    (subst (λ n. TakeTurns model (numbers before ++ n ∷ []) old new) this (taken_more model (numbers before) job old mid new turns step))
+
+none_there : (b : Bool) → (if b then false else lives None) ≡ false
+none_there true = refl
+none_there false = refl
+
+-- where all jobs up to the last have ended, nobody lives
+pub all_ended : (jobs : List Job) (end : ℕ) → ((number : ℕ) → number < end → live_at jobs number ≡ false) → length jobs < end → (number : ℕ)
+    → live_at jobs number ≡ false
+all_ended jobs end ended whole number =
+    dite (dec_le end number)
+    (λ above. ap (λ (o : Option Job). if number == 0 then false else lives o) (slice_get_past jobs (number - 1) (omega arith)) ∙ none_there (number == 0))
+    (λ below. ended number (omega arith))
+
+-- a turn behind others leaves fewer
+pub falls_further : {H : Type 0} (model : HostModel H) (more : Bool) (old mid new : Seen H) → (more ≡ true → turns_of model mid < turns_of model old)
+    → (more ≡ false → mid ≡ old) → turns_of model new < turns_of model mid → turns_of model new < turns_of model old
+falls_further model true old mid new falls same fell = let before = falls refl in omega arith
+falls_further model false old mid new falls same fell = subst (λ s. turns_of model new < turns_of model s) (same refl) fell
+
+-- where a job has ended too, all up to it have
+pub ended_further : {H : Type 0} (job : ℕ) (mid new : Seen H) → new ≡ mid → live_at mid.jobs job ≡ false
+    → ((other : ℕ) → other < job → live_at mid.jobs other ≡ false) → (other : ℕ) → other < job + 1 → live_at new.jobs other ≡ false
+ended_further {H = H} job mid new same this before other less =
+    ap (λ (s : Seen H). live_at s.jobs other) same
+    ∙ dite (ℕ_discrete other job) (λ is. ap (live_at mid.jobs) is ∙ this) (λ away. before other (omega arith))

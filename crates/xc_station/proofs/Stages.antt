@@ -1,5 +1,5 @@
 -- What a job does, by the row that its next turn goes by.
-use Rattle.std.proofs.Common.{◌≡◌, ◌≢◌, Bool, true, false, List, [], ◌∷◌, refl, ap, sym, ◌∙◌, ℕ, subst}
+use Rattle.std.proofs.Common.{◌≡◌, Bool, true, false, List, [], ◌∷◌, refl, ap, sym, ◌∙◌, ℕ, subst}
 use Rattle.std.proofs.lemmas.Option.{get_or_from_slice_get}
 use Rattle.std.specs.Prelude.{Option, get_or, if◌then◌else◌, slice_get, ◌==◌, ◌-◌}
 use Rattle.std.specs.declared.option.Option.TheVariants.{None, Some}
@@ -11,13 +11,13 @@ use Rattle.xc_story.specs.Seen.{SeenTx, Doing, Idle, Active, Starved, Ended}
 use Rattle.xc_station.specs.declared.job.Job.{Job}
 use Rattle.xc_station.specs.declared.job.Stage.{Stage}
 use Rattle.xc_station.specs.declared.job.Stage.TheVariants as stage
-use Rattle.xc_station.specs.Jobs.{IsStage, back_stage, goes_on, phase_stage, seen_doing, stage_of}
+use Rattle.xc_station.specs.Jobs.{IsStage, back_stage, goes_on, phase_stage, doing_of, stage_of}
 use Rattle.xc_station.specs.Stations.{live_at, lives}
 
 -- ---- the job there
 pub record IsThere (jobs : List Job) (at : ℕ) (s : Stage) (job : Job) : Type 0 where
   pub stands : slice_get jobs at ≡ Some job
-  pub stage : stage_of (seen_doing job.activity) ≡ s
+  pub stage : stage_of (doing_of job) ≡ s
 
 -- it is the one that is lent there
 pub lent : (jobs : List Job) (at : ℕ) (s : Stage) (job : Job) → IsStage jobs at s → job ≡ get_or jobs at job → IsThere jobs at s job
@@ -139,7 +139,7 @@ undone_stage (Ended end) e = cc e
 
 -- ---- a job that goes on
 live_there : (jobs : List Job) (at : ℕ) (o : Option Job) → slice_get jobs at ≡ o → lives o ≡ true
-    → (job : Job) × (slice_get jobs at ≡ Some job) × (goes_on (stage_of (seen_doing job.activity)) ≡ true)
+    → (job : Job) × (slice_get jobs at ≡ Some job) × (goes_on (stage_of (doing_of job)) ≡ true)
 live_there jobs at None e is = cc is
 live_there jobs at (Some job) e is = (job, e, is)
 
@@ -151,7 +151,7 @@ live_at_some jobs number false is = is
 -- it is there, and hasn't ended
 pub record IsLive (jobs : List Job) (at : ℕ) (job : Job) : Type 0 where
   pub stands : slice_get jobs at ≡ Some job
-  pub lives : goes_on (stage_of (seen_doing job.activity)) ≡ true
+  pub lives : goes_on (stage_of (doing_of job)) ≡ true
 
 -- the one of this number
 pub live_shown : (jobs : List Job) (number : ℕ) (job : Job) → live_at jobs number ≡ true → job ≡ get_or jobs (number - 1) job → IsLive jobs (number - 1) job

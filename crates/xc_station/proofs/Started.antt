@@ -1,25 +1,22 @@
 -- A station before its first turn.
 use Rattle.std.proofs.Common.{◌≡◌, ℕ, ◌≤◌, List, [], ◌∷◌, length, map, refl, ap, sym, ◌∙◌, subst, arith, IsTrue}
 use Rattle.std.proofs.lemmas.List.{length-map}
-use Rattle.std.specs.Prelude.{slice_get, Option, zero, suc}
+use Rattle.std.specs.Prelude.{slice_get, zero, suc}
 use Rattle.std.specs.declared.option.Option.TheVariants.{None, Some}
 use Rattle.xc_data.specs.Limits.{KeepsLimits}
-use Rattle.xc_data.specs.declared.claim.Mode.{Mode}
 use Rattle.xc_data.specs.declared.object.Object.{Object}
 use Rattle.xc_data.specs.declared.entry.JobLine.{JobLine}
 use Rattle.xc_host.specs.Contents.{opened}
 use Rattle.xc_journal.specs.Room.{Roomy}
 use Rattle.xc_text.specs.declared.script.Script.{Script}
 use Rattle.xc_text.specs.Scripts.{IsScript}
-use Rattle.xc_wordlocks.specs.Table.{Table, mode_in, mode_of}
+use Rattle.xc_wordlocks.specs.Table.{Table, mode_of}
 use Rattle.xc_story.specs.Setting.{Setting}
 use Rattle.xc_story.specs.Seen.{SeenTx, SeenJob, Now, active_of, actives}
-use Rattle.xc_story.specs.Rows.{IsActiveAt}
 use Rattle.xc_story.specs.Opened.{IsOpening, opened_job}
 use Rattle.xc_story.specs.Kept.{IsSet, IsKept}
 use Rattle.xc_turns.proofs.StoryStart.{start_kept}
 use Rattle.xc_played.proofs.TurnStart.{start_flies}
-use Rattle.xc_station.specs.Moments.{IsTable}
 use Rattle.xc_station.specs.Stations.{IsSteady, HasRooms}
 
 -- no job is active at its begin

@@ -1,6 +1,6 @@
 -- Each row of the table of turns, from one moment of a station to the next.
-use Rattle.std.proofs.Common.{◌≡◌, ◌≢◌, ℕ, ◌+◌, List, [], ◌∷◌, ◌++◌, length, refl, ap, sym, ◌∙◌, subst, Bool}
-use Rattle.std.specs.Prelude.{slice_get, slice_set, IsTrue}
+use Rattle.std.proofs.Common.{◌≡◌, ℕ, ◌+◌, List, [], ◌∷◌, ◌++◌, refl, ap, sym, ◌∙◌, subst}
+use Rattle.std.specs.Prelude.{slice_get, slice_set}
 use Rattle.std.specs.declared.option.Option.TheVariants.{Some}
 use Rattle.xc_data.specs.declared.entry.Cause.{Cause}
 use Rattle.xc_data.specs.declared.entry.Entry.{Entry}
@@ -8,9 +8,7 @@ use Rattle.xc_data.specs.declared.entry.JobEnd.TheVariants as job_end
 use Rattle.xc_data.specs.declared.entry.Outcome.TheVariants.{Committed, Aborted}
 use Rattle.xc_data.specs.declared.entry.Turn.{Turn}
 use Rattle.xc_data.specs.declared.entry.Turn.TheVariants as turn
-use Rattle.xc_data.specs.declared.undo.Undo.{Undo}
-use Rattle.xc_compensate.specs.Records.{AtHost, IsTried, Records}
-use Rattle.xc_host.specs.Contents.{Contents}
+use Rattle.xc_compensate.specs.Records.{IsTried, Records}
 use Rattle.xc_host.specs.Model.{HostModel}
 use Rattle.xc_story.specs.declared.phase.Phase.{Phase}
 use Rattle.xc_story.specs.declared.phase.Phase.TheVariants as phase
@@ -24,7 +22,7 @@ use Rattle.xc_station.specs.declared.calls.Shared.{Shared}
 use Rattle.xc_station.specs.declared.job.Job.{Job}
 use Rattle.xc_station.specs.declared.job.Stage.{Stage}
 use Rattle.xc_station.specs.declared.job.Stage.TheVariants as stage
-use Rattle.xc_station.specs.Jobs.{seen_doing, seen_job, seen_jobs}
+use Rattle.xc_station.specs.Jobs.{doing_of, seen_job, seen_jobs}
 use Rattle.xc_station.specs.Moments.{IsRow, moved}
 use Rattle.xc_station.specs.Stations.{moment}
 use Rattle.xc_station.proofs.Placed.{get_map, map_set}
@@ -61,7 +59,7 @@ module _ {H : Type 0} (model : HostModel H) (shared : Shared H) (journal : List 
       sym (moment_set job) ∙ ap (λ j. moment model shared j (slice_set jobs at job)) (sym same) in
       subst (λ n. IsTurn s at old answer n) new
       (row_turned s at old (with_job old at (seen_job job)) (seen_job was) Idle answer (seen_there stage.Idle is) (idle_stage
-      (seen_doing was.activity) is.stage) row)
+      (doing_of was) is.stage) row)
 
   -- a starved job's
   pub starved_turned : (s : Setting) (job : Job) (answer : Turn) → IsThere jobs at stage.Starved was
@@ -71,7 +69,7 @@ module _ {H : Type 0} (model : HostModel H) (shared : Shared H) (journal : List 
       let old = moment model shared journal jobs in
       let new = moment model shared journal (slice_set jobs at job) in
       let row : StarvedTurn at old (seen_job was) (turn.Ended job_end.NoMemory) new = moment_set job ∙ ap (with_job old at) ends.0 in
-      row_turned s at old new (seen_job was) Starved answer (seen_there stage.Starved is) (starved_stage (seen_doing was.activity) is.stage)
+      row_turned s at old new (seen_job was) Starved answer (seen_there stage.Starved is) (starved_stage (doing_of was) is.stage)
       (subst (λ a. StarvedTurn at old (seen_job was) a new) (sym ends.1) row)
 
   -- a running job's
@@ -83,7 +81,7 @@ module _ {H : Type 0} (model : HostModel H) (shared : Shared H) (journal : List 
       let old = moment model shared journal jobs in
       let new : moved model shared' (seen_job job) old at ≡ moment model shared' journal (slice_set jobs at job) =
       ap (λ js. record (moment model shared' journal jobs) { jobs = js }) (sym (map_set seen_job jobs at job)) in
-      let mine = running_stage (seen_doing was.activity) is.stage in
+      let mine = running_stage (doing_of was) is.stage in
       let one : mine.tx ≡ row.tx = (let a = mine.doing in let b = row.doing in cc (a, b)) in
       subst (λ n. IsTurn s at old answer n) new
       (phase_turned s at old (moved model shared' (seen_job job) old at) (seen_job was) row.tx phase.Running answer (seen_there stage.Running is) row.doing
@@ -98,7 +96,7 @@ module _ {H : Type 0} (model : HostModel H) (shared : Shared H) (journal : List 
       → IsTurn s at (moment model shared journal jobs) turn.Went (moment model shared' journal' (slice_set jobs at job))
   committing_turned s shared' journal' entry job number is gives counts same entered =
       let old = moment model shared journal jobs in
-      let mine = committing_stage (seen_doing was.activity) is.stage in
+      let mine = committing_stage (doing_of was) is.stage in
       let gave = gives mine.tx at mine.doing counts in
       let row : moment model shared' journal' (slice_set jobs at job) ≡ entering old at (behind_commit (seen_job was) mine.tx) (entry_of mine.tx at
       (Committed [])) =
@@ -122,7 +120,7 @@ module _ {H : Type 0} (model : HostModel H) (shared : Shared H) (journal : List 
       let s = setting script rules model.tells in
       let old = moment model shared journal jobs in
       let new = moment model shared' journal (slice_set jobs at job) in
-      let back = undoing_stage (seen_doing was.activity) is.stage in
+      let back = undoing_stage (doing_of was) is.stage in
       let gave = gives back.tx back.doing in
       let tried = gave.2 in
       let row : Compensates s at old (seen_job was) back.tx new = record {
@@ -150,7 +148,7 @@ module _ {H : Type 0} (model : HostModel H) (shared : Shared H) (journal : List 
   undone_turned s shared' journal' entry job number is gives counts same entered =
       let old = moment model shared journal jobs in
       let new = moment model shared' journal' (slice_set jobs at job) in
-      let back = undone_stage (seen_doing was.activity) is.stage in
+      let back = undone_stage (doing_of was) is.stage in
       let gave = gives back.tx back.cause at back.doing back.phase counts in
       let row : EntersAborted at old (seen_job was) back.tx back.cause new =
       (λ i. record {

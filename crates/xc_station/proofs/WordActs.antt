@@ -1,6 +1,7 @@
 -- Calls on words on the plain machine.
-use Rattle.std.proofs.Common.{◌≡◌, ℕ, Bool, true, false, List, [], ◌∷◌, ◌++◌, length, refl, ap, IsTrue}
+use Rattle.std.proofs.Common.{◌≡◌, ℕ, Bool, true, false, List, [], ◌∷◌, ◌++◌, length, refl, ap, sym, ◌∙◌, IsTrue}
 use Rattle.std.specs.Prelude.{slice_index, slice_set, nat_le, if◌then◌else◌}
+use Rattle.std.specs.declared.option.Option.TheVariants.{None}
 use Rattle.xc_data.specs.declared.call.Call.{Call}
 use Rattle.xc_data.specs.declared.call.Call.TheVariants as call
 use Rattle.xc_data.specs.declared.call.Answer.TheVariants as answer
@@ -12,7 +13,10 @@ use Rattle.xc_world.specs.Act.{act}
 use Rattle.xc_world.specs.Act.Step.{stays}
 use Rattle.xc_world.specs.Fits.{answer_of}
 use Rattle.xc_world.specs.Trail.{recorded}
-use Rattle.xc_story.specs.WordCalls.{is_word_call, word_reply, words_after}
+use Rattle.xc_data.specs.Faults.{is_fault_reply}
+use Rattle.xc_script.specs.Ask.{value_in}
+use Rattle.xc_story.specs.Rows.{stored_by}
+use Rattle.xc_story.specs.WordCalls.{IsWordStep, is_word_call, word_reply, words_after}
 
 -- an empty list behind a list changes nothing
 pub append_nil : {A : Type 0} (xs : List A) → xs ++ [] ≡ xs
@@ -58,3 +62,44 @@ pub word-trail : (w : World) (me : Private) (tx : ℕ) (c : Call) (r : Reply) �
 word-trail w me tx (call.Load at) r is = refl
 word-trail w me tx (call.Store at value) r is = refl
 word-trail w me tx _ r is = cc
+
+quiet_load : (b : Bool) (n : ℕ) → is_fault_reply (if b then reply.BadWord else reply.Number n) ≡ false
+quiet_load true n = refl
+quiet_load false n = refl
+
+quiet_store : (b : Bool) → is_fault_reply (if b then reply.BadWord else reply.Done) ≡ false
+quiet_store true = refl
+quiet_store false = refl
+
+-- nor does its reply tell of one
+pub word-quiet : (words : List ℕ) (c : Call) → is_word_call c ≡ true → is_fault_reply (word_reply words c) ≡ false
+word-quiet words (call.Load at) is = quiet_load (nat_le (length words) at) (slice_index words at)
+word-quiet words (call.Store at value) is = quiet_store (nat_le (length words) at)
+word-quiet words _ is = cc
+
+-- ---- other calls
+-- they store to no word
+pub no_stores : (n : ℕ) (c : Call) → is_word_call c ≡ false → stored_by n c ≡ []
+no_stores n (call.Load at) is = refl
+no_stores n (call.Store at value) is = cc
+no_stores n _ is = refl
+
+still_after : (words : List ℕ) (c : Call) → is_word_call c ≡ false → words_after words c ≡ words
+still_after words (call.Load at) is = refl
+still_after words (call.Store at value) is = cc
+still_after words _ is = refl
+
+-- they leave the words
+pub still_words : (words : List ℕ) (c : Call) (r : Reply) → is_word_call c ≡ false → IsWordStep words words c r
+still_words words c r is =
+    record { words = sym (still_after words c is); gives = λ word. let no : true ≡ false = sym word ∙ is in cc }
+
+store_brings_none : (b : Bool) → value_in (if b then reply.BadWord else reply.Done) ≡ None
+store_brings_none true = refl
+store_brings_none false = refl
+
+-- a call whose reply brings a value stored nothing
+pub no_value : (n : ℕ) (words : List ℕ) (c : Call) (r : Reply) → (is_word_call c ≡ true → r ≡ word_reply words c) → (value_in r ≡ None → ⊥)
+    → stored_by n c ≡ []
+no_value n words (call.Store at value) r gives brings = absurd (brings (ap value_in (gives refl) ∙ store_brings_none (nat_le (length words) at)))
+no_value n words _ r gives brings = refl

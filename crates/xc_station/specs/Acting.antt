@@ -1,13 +1,26 @@
 -- What a call of a running transaction needs, and what it does.
-use Rattle.std.specs.Prelude.{◌≡◌, ℕ, ◌≤◌, []}
+use Rattle.std.specs.Prelude.{◌≡◌, ◌⊎◌, ℕ, ◌≤◌, false, List, [], ◌++◌, length, IsTrue, Result, Ok, Err}
+use Rattle.xc_data.specs.Counts.{CountsFault}
+use Rattle.xc_data.specs.Faults.{is_fault_reply}
 use Rattle.xc_data.specs.Private.{place_of}
-use Rattle.xc_data.specs.declared.private.Private.{Private}
-use Rattle.xc_file.specs.Calls.{IsOpenIn}
+use Rattle.xc_data.specs.declared.call.Answer.{Answer}
+use Rattle.xc_data.specs.declared.call.Call.{Call}
+use Rattle.xc_data.specs.declared.call.Reply.{Reply}
+use Rattle.xc_data.specs.declared.claim.Claim.{Claim}
+use Rattle.xc_data.specs.declared.memory.NoMemory.{NoMemory}
+use Rattle.xc_data.specs.declared.undo.Undo.{Undo}
+use Rattle.xc_file.specs.Calls.{IsNewIn, IsOpenIn}
 use Rattle.xc_host.specs.Contents.{Contents}
-use Rattle.xc_txmem.specs.Overlay.{AreWithin}
+use Rattle.xc_host.specs.Model.{HostModel}
+use Rattle.xc_txmem.specs.Overlay.{AreWithin, overlaid}
+use Rattle.xc_wordlocks.specs.Index.{HasRoomFor}
+use Rattle.xc_world.specs.Late.{is_late}
 use Rattle.xc_story.specs.declared.phase.Phase.TheVariants.{Running}
+use Rattle.xc_story.specs.Rows.{DoesIn, DoesPartIn, Parts, parts_of, stored_by}
 use Rattle.xc_story.specs.Seen.{SeenTx}
+use Rattle.xc_story.specs.WordCalls.{IsWordStep}
 use Rattle.xc_station.specs.declared.tx.Tx.{Tx}
+use Rattle.xc_station.specs.Jobs.{seen_tx}
 
 -- ---- room
 -- for one call and its reply
@@ -15,10 +28,10 @@ pub record HasNoteRoom (tx : Tx) : Type 0 where
   pub calls : 1 ≤ tx.calls.spare
   pub replies : 1 ≤ tx.replies.spare
 
--- and for two claims
-pub record HasRoom (tx : Tx) : Type 0 where
+-- and for its claims
+pub record HasRoom (tx : Tx) (claims : List Claim) : Type 0 where
   pub notes : HasNoteRoom tx
-  pub held : 2 ≤ tx.held.spare
+  pub held : HasRoomFor tx.held claims
 
 -- ---- a transaction that may do its next call on so many words
 pub record MayGo (words : ℕ) (tx : SeenTx) : Type 0 where
@@ -27,6 +40,59 @@ pub record MayGo (words : ℕ) (tx : SeenTx) : Type 0 where
   pub stored : tx.me.stored ≤ 16384
   pub none : tx.undo.ended ≡ []
 
--- each open file is there, within its limit
-abbrev pub AreOpenIn : Contents → Private → Type 0
-AreOpenIn c me = (h : ℕ) → IsOpenIn c (place_of me.places h)
+-- and what the contents of a host have for it: each open file is there, within its limit, and no file has the number of
+-- the next object that it makes
+pub record AreReadyFor (tx : SeenTx) (contents : Contents) : Type 0 where
+  pub files : (h : ℕ) → IsOpenIn contents (place_of tx.me.places h)
+  pub new : IsNewIn contents tx.me tx.number
+
+-- ---- a call
+-- what it works on: a host, the words, and a transaction at them
+pub record Acting (H : Type 0) : Type 0 where
+  pub host : H
+  pub words : List ℕ
+  pub tx : SeenTx
+
+-- the same of the code's transaction
+abbrev pub acting : {H : Type 0} → H → List ℕ → Tx → Acting H
+acting host words tx = record { host = host; words = words; tx = seen_tx tx }
+
+-- the transaction with these parts
+abbrev pub with_parts : SeenTx → Parts → SeenTx
+with_parts tx parts = record tx { me = parts.me; writes = parts.stores; undo = parts.undo }
+
+-- the call was done with this reply, as a row of calls says it: its stores, its records, its part on words, its fault,
+-- and over a host that tells the plain machine's step
+pub record HasDone {H : Type 0} (model : HostModel H) (call : Call) (old new : Acting H) (reply : Reply) : Type 0 where
+  pub tx : new.tx ≡ with_parts old.tx (parts_of new.tx)
+  pub stores : new.tx.writes ≡ old.tx.writes ++ stored_by (length old.words) call
+  pub stored : new.tx.me.stored ≤ 16384
+  pub made : List Undo
+  pub one : length made ≤ 1
+  pub undo : new.tx.undo ≡ record old.tx.undo { pending = old.tx.undo.pending ++ made }
+  pub now : is_late reply ≡ false
+  pub cause : CountsFault (is_fault_reply reply) (model.fault_count old.host) (model.fault_count new.host)
+  pub spoken : IsWordStep (overlaid old.words old.tx.writes) (overlaid old.words new.tx.writes) call reply
+  pub does : IsTrue model.tells
+      → DoesIn old.words (model.contents old.host) (model.contents new.host) (parts_of old.tx) (parts_of new.tx) call reply
+
+-- a transaction with these records behind its own
+abbrev pub leaving : SeenTx → List Undo → SeenTx
+leaving tx left = record tx { undo = record tx.undo { pending = tx.undo.pending ++ left } }
+
+-- memory was wanting: the transaction is as before but for what the call left, at most one record. Over a host that
+-- tells nothing was left and nothing is changed, or with some answer the call did its part
+pub record LeavesOff {H : Type 0} (model : HostModel H) (call : Call) (old new : Acting H) : Type 0 where
+  pub left : List Undo
+  pub one : length left ≤ 1
+  pub tx : new.tx ≡ leaving old.tx left
+  pub faults : model.fault_count new.host ≡ model.fault_count old.host
+  pub contents : IsTrue model.tells
+      → ((left ≡ []) × (model.contents new.host ≡ model.contents old.host))
+      ⊎ ((answer : Answer) × DoesPartIn old.words (model.contents old.host) (model.contents new.host) (parts_of old.tx)
+      (record { call = call; answer = answer }) left)
+
+-- by what the call answers
+abbrev pub HasActed : {H : Type 0} → HostModel H → Call → Acting H → Acting H → Result Reply NoMemory → Type 0
+HasActed model call old new (Ok reply) = HasDone model call old new reply
+HasActed model call old new (Err e) = LeavesOff model call old new

@@ -1,8 +1,9 @@
 -- A job and its active transaction as plain data, and what a turn of the job goes by.
-use Rattle.std.specs.Prelude.{◌≡◌, ℕ, Bool, true, false, List, [], ◌∷◌, map, slice_get}
+use Rattle.std.specs.Prelude.{◌≡◌, ℕ, Bool, true, false, List, [], ◌∷◌, map, slice_get, if◌then◌else◌}
 use Rattle.std.specs.declared.option.Option.TheVariants.{Some}
 use Rattle.xc_data.specs.declared.entry.Outcome.{Outcome}
 use Rattle.xc_data.specs.declared.entry.Outcome.TheVariants.{Committed, Aborted}
+use Rattle.xc_data.specs.declared.private.Private.{Private}
 use Rattle.xc_data.specs.declared.undo.Undo.{Undo}
 use Rattle.xc_world.specs.Ends.{Ending}
 use Rattle.xc_story.specs.declared.phase.Phase.{Phase}
@@ -31,17 +32,25 @@ seen_tx tx =
       held = tx.held.items;
     }
 
+-- the private state of its begin: it was kept where a call may have changed it
+abbrev pub begun_of : Tx → Private
+begun_of tx = if tx.changed then tx.begun else tx.me
+
+-- what a job with this transaction does
+abbrev pub seen_doing : Tx → Activity → Doing
+seen_doing tx activity.Idle = Idle
+seen_doing tx activity.Active = Active (seen_tx tx)
+seen_doing tx activity.Starved = Starved
+seen_doing tx (activity.Ended end) = Ended end
+
 -- what a job does
-abbrev pub seen_doing : Activity → Doing
-seen_doing activity.Idle = Idle
-seen_doing (activity.Active tx) = Active (seen_tx tx)
-seen_doing activity.Starved = Starved
-seen_doing (activity.Ended end) = Ended end
+abbrev pub doing_of : Job → Doing
+doing_of job = seen_doing job.tx job.activity
 
 -- a job
 abbrev pub seen_job : Job → SeenJob
 seen_job job =
-    record { block = job.block; me = job.me; place = job.place; attempts = job.attempts; doing = seen_doing job.activity }
+    record { block = job.block; me = begun_of job.tx; place = job.place; attempts = job.attempts; doing = doing_of job }
 
 -- all jobs
 abbrev pub seen_jobs : List Job → List SeenJob
@@ -82,4 +91,4 @@ is_live job = goes_on (stage_of job.doing)
 
 -- the job in this place is there, and its next turn goes by this
 abbrev pub IsStage : List Job → ℕ → Stage → Type 0
-IsStage jobs at s = (job : Job) × (slice_get jobs at ≡ Some job) × (stage_of (seen_doing job.activity) ≡ s)
+IsStage jobs at s = (job : Job) × (slice_get jobs at ≡ Some job) × (stage_of (doing_of job) ≡ s)

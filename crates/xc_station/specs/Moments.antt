@@ -21,7 +21,7 @@ use Rattle.xc_story.specs.Rows.{IsActiveAt, IsSamePlace, RunningTurn}
 use Rattle.xc_story.specs.Holding.{AreApart}
 use Rattle.xc_station.specs.declared.calls.Shared.{Shared}
 use Rattle.xc_station.specs.declared.tx.Tx.{Tx}
-use Rattle.xc_station.specs.Acting.{AreOpenIn, HasNoteRoom, MayGo}
+use Rattle.xc_station.specs.Acting.{AreReadyFor, HasNoteRoom, MayGo}
 use Rattle.xc_station.specs.Jobs.{seen_tx}
 
 -- the table of claims is what active transactions hold
@@ -107,4 +107,4 @@ pub record CanRun {H : Type 0} (script : Script) (model : HostModel H) (shared :
   pub doing : job.doing ≡ Active tx
   pub left : IsSome (next_body script (job_of job.place))
   pub may : MayGo (length shared.words) tx
-  pub files : IsTrue model.tells → AreOpenIn (model.contents shared.host) tx.me
+  pub ready : IsTrue model.tells → AreReadyFor tx (model.contents shared.host)

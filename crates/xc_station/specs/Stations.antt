@@ -1,5 +1,5 @@
 -- What contracts see of a station, and what is true of it between two turns.
-use Rattle.std.specs.Prelude.{◌≡◌, ◌≢◌, ℕ, ◌==◌, ◌-◌, ◌<◌, ◌≤◌, Bool, true, false, List, [], ◌∷◌, ◌++◌, length, slice_get}
+use Rattle.std.specs.Prelude.{◌≡◌, ◌≢◌, ℕ, zero, suc, ◌==◌, ◌-◌, ◌<◌, ◌≤◌, Bool, true, false, List, [], ◌∷◌, ◌++◌, length, slice_get}
 use Rattle.std.specs.Prelude.{if◌then◌else◌, IsTrue, Option}
 use Rattle.std.specs.declared.option.Option.TheVariants.{None, Some}
 use Rattle.xc_data.specs.declared.entry.Entry.{Entry}
@@ -10,7 +10,7 @@ use Rattle.xc_data.specs.declared.entry.JobLine.{JobLine}
 use Rattle.xc_wordlocks.specs.Table.{Table}
 use Rattle.xc_story.specs.declared.rules.Rules.{Rules}
 use Rattle.xc_story.specs.Setting.{Setting, setting}
-use Rattle.xc_story.specs.Seen.{SeenJob, Now, actives}
+use Rattle.xc_story.specs.Seen.{Now, actives}
 use Rattle.xc_story.specs.Alone.{AreAlone}
 use Rattle.xc_story.specs.Kept.{IsSet, IsKept}
 use Rattle.xc_story.specs.Rows.{IsTurn}
@@ -119,6 +119,21 @@ abbrev pub TakeTurns : {H : Type 0} → HostModel H → List ℕ → Seen H → 
 TakeTurns model [] old new = new ≡ old
 TakeTurns {H = H} model (job ∷ jobs) old new =
     (next : Seen H) × IsStepOf model job old next (live_at old.jobs job) × TakeTurns model jobs next new
+
+-- ---- rounds
+-- the numbers from 1 up to this one
+abbrev pub numbers : ℕ → List ℕ
+numbers zero = []
+numbers (suc n) = numbers n ++ suc n ∷ []
+
+-- one turn of each job that goes on, in rising number; a job that is started meanwhile is among them
+abbrev pub TakeRound : {H : Type 0} → HostModel H → Seen H → Seen H → Type 0
+TakeRound model old new = TakeTurns model (numbers (length new.jobs)) old new
+
+-- so many rounds, one after another
+abbrev pub TakeRounds : {H : Type 0} → HostModel H → ℕ → Seen H → Seen H → Type 0
+TakeRounds model zero old new = new ≡ old
+TakeRounds {H = H} model (suc rounds) old new = (last : Seen H) × TakeRounds model rounds old last × TakeRound model last new
 
 -- how many turns are left
 abbrev pub turns_of : {H : Type 0} → HostModel H → Seen H → ℕ

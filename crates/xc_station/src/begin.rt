@@ -6,7 +6,6 @@ ghost use Rattle.xc_station.specs.Jobs.{seen_job};
 ghost use Rattle.xc_station.specs.Moments.{HasBegun};
 
 use crate::job::{Activity, Job};
-use crate::tx::Tx;
 use std::alloc::Global;
 use xc_data::{JobEnd, Turn};
 use xc_journal::Journal;
@@ -73,6 +72,7 @@ pub fn begin(
     }
     let number = entered as u32 + active + 1;
     let rank = rank_of(&job.attempts, number);
-    job.activity = Activity::Active(Tx::begin(alloc, number, rank, entered as u32, &job.me));
+    job.tx.begin(alloc, number, rank, entered as u32);
+    job.activity = Activity::Active;
     Turn::Went
 }

@@ -1,30 +1,29 @@
-ghost use Rattle.std.specs.Prelude.{◌≡◌, ◌≢◌, ℕ, ◌<◌, ◌≤◌, ◌+◌, ◌^◌, [], IsTrue};
+ghost use Rattle.std.specs.Prelude.{◌≡◌, ◌≢◌, ℕ, ◌<◌, ◌≤◌, ◌+◌, ◌^◌, [], None, IsTrue};
 ghost use Rattle.xc_data.specs.declared.entry.Cause.{Cause as PlainCause};
 ghost use Rattle.xc_data.specs.declared.entry.Outcome.TheVariants.{Committed, Aborted};
+ghost use Rattle.xc_script.specs.Place.{at_begin};
 ghost use Rattle.xc_compensate.specs.Records.{IsTried, NextIsCovered, Records};
 ghost use Rattle.xc_story.specs.declared.phase.Phase.TheVariants as PlainPhase;
 ghost use Rattle.xc_story.specs.Seen.{SeenTx, Active, Idle, failures};
-ghost use Rattle.xc_story.specs.Rows.{attempts_with, behind_abort, behind_commit, entry_of, with_tx};
+ghost use Rattle.xc_story.specs.Rows.{behind_abort, behind_commit, entry_of, with_tx};
 ghost use Rattle.xc_station.specs.Jobs.{seen_job, seen_tx};
 
 use crate::job::{Activity, Job};
 use crate::tx::Tx;
 use std::alloc::Global;
-use std::mem;
 use xc_data::{Cause, Entry};
 use xc_host::Host;
+use xc_script::JobState;
 use xc_story::{Attempts, Phase};
 
-// Takes the active transaction out of its job.
-fn taken(job: &mut Job) -> Tx
-    requires { (tx : SeenTx) × ((seen_job job.old).doing ≡ Active tx) }
-    ensures tx { (seen_job job.old).doing ≡ Active (seen_tx result) }
-    ensures job { seen_job job.new ≡ record (seen_job job.old) { doing = Idle } }
+// Goes on to the next transaction, of which there was no attempt yet.
+fn go_on(place: &mut JobState, attempts: &mut Option<Attempts>)
+    requires { place.old.next < 2 ^ 32 }
+    ensures place { place.new ≡ at_begin (record { block = place.old.block; next = place.old.next + 1; variables = place.old.variables }) }
+    ensures attempts { attempts.new ≡ None }
 {
-    match mem::replace(&mut job.activity, Activity::Idle) {
-        Activity::Active(tx) => tx,
-        _ => unreachable!(),
-    }
+    place.pass();
+    *attempts = None;
 }
 
 /// A committing job behind its last turn, and its entry. The job's number counts from 1.
@@ -34,11 +33,10 @@ pub fn commit(alloc: Global, number: u32, job: &mut Job) -> Entry
     ensures { (tx : SeenTx) (at : ℕ) → (seen_job job.old).doing ≡ Active tx → number ≡ at + 1
         → (seen_job job.new ≡ behind_commit (seen_job job.old) tx) × (result ≡ entry_of tx at (Committed [])) }
 {
-    let tx = taken(job);
-    job.me = tx.me.renewed();
-    job.place.pass();
-    job.attempts = None;
-    tx.close(alloc, number)
+    job.activity = Activity::Idle;
+    go_on(&mut job.place, &mut job.attempts);
+    job.tx.renew();
+    job.tx.close(alloc, number)
 }
 
 /// An undoing job behind a turn in which its newest record without an end was tried.
@@ -50,9 +48,7 @@ pub fn undo<H: Host>(host: &mut H, tries: u32, job: &mut Job)
         × (seen_job job.new ≡ with_tx (seen_job job.old) job.old.place (record tx { undo = undo }))
         × IsTried H.model tries (record { host = host.old; undo = tx.undo }) (record { host = host.new; undo = undo }) }
 {
-    let mut tx = taken(job);
-    tx.undo.undo_next(host, tries);
-    job.activity = Activity::Active(tx);
+    job.tx.undo.undo_next(host, tries);
 }
 
 // Why a transaction undoes.
@@ -66,39 +62,38 @@ fn cause_of(tx: &Tx) -> Cause
     }
 }
 
-// The attempts with one more that ended in a conflict.
-fn one_more(attempts: &Option<Attempts>, tx: &Tx, last: Cause) -> Attempts
+// The attempts with one more that ended in a conflict, of a transaction of this rank.
+fn one_more(attempts: &Option<Attempts>, rank: u32, last: Cause) -> Attempts
     requires { failures attempts.now + 1 < 2 ^ 32 }
-    ensures { result ≡ attempts_with attempts.now (seen_tx tx.now) last }
+    ensures { result ≡ record { first = rank; failed = failures attempts.now + 1; last = last } }
 {
     let failed = match attempts {
         Some(attempts) => attempts.failed,
         None => 0,
     };
     Attempts {
-        first: tx.rank,
+        first: rank,
         failed: failed + 1,
         last,
     }
 }
 
-// Goes to where a job stands behind an abort.
-fn go_back(job: &mut Job, tx: &Tx, cause: Cause)
+// Goes to where a job stands behind an abort of a transaction of this rank.
+fn go_back(job: &mut Job, rank: u32, cause: Cause)
     requires idle { (seen_job job.old).doing ≡ Idle }
     requires next { job.old.place.next < 2 ^ 32 }
     requires attempts { failures job.old.attempts + 1 < 2 ^ 32 }
-    ensures { seen_job job.new ≡ behind_abort (seen_job job.old) (seen_tx tx.now) cause }
+    ensures { (tx : SeenTx) → tx.rank ≡ rank → seen_job job.new ≡ behind_abort (seen_job job.old) tx cause }
 {
     match cause {
         Cause::NoMemory => job.activity = Activity::Starved,
         Cause::Asked => {
             job.place.back();
-            job.place.pass();
-            job.attempts = None;
+            go_on(&mut job.place, &mut job.attempts);
         }
         _ => {
             job.place.back();
-            job.attempts = Some(one_more(&job.attempts, tx, cause));
+            job.attempts = Some(one_more(&job.attempts, rank, cause));
         }
     }
 }
@@ -113,8 +108,10 @@ pub fn abort(alloc: Global, number: u32, job: &mut Job) -> Entry
         → number ≡ at + 1 → (seen_job job.new ≡ behind_abort (seen_job job.old) tx c)
         × (result ≡ entry_of tx at (Aborted (record { cause = c; records = tx.undo.ended }))) }
 {
-    let tx = taken(job);
-    let cause = cause_of(&tx);
-    go_back(job, &tx, cause);
-    tx.close(alloc, number)
+    let cause = cause_of(&job.tx);
+    let rank = job.tx.rank;
+    let entry = job.tx.close(alloc, number);
+    job.activity = Activity::Idle;
+    go_back(job, rank, cause);
+    entry
 }

@@ -1,9 +1,9 @@
 ghost use Rattle.std.specs.Prelude.{◌≡◌};
 ghost use Rattle.xc_story.specs.Seen.{Ended};
-ghost use Rattle.xc_station.specs.Jobs.{is_live, phase_stage, seen_doing, seen_job, stage_of};
+ghost use Rattle.xc_station.specs.Jobs.{doing_of, is_live, phase_stage, seen_job, stage_of};
 
 use crate::tx::Tx;
-use xc_data::{Ident, JobEnd, Private, Turn};
+use xc_data::{Ident, JobEnd, Turn};
 use xc_script::JobState;
 use xc_story::{Attempts, Phase};
 
@@ -12,7 +12,7 @@ use xc_story::{Attempts, Phase};
 pub enum Activity {
     /// It has no active transaction.
     Idle,
-    Active(Tx),
+    Active,
     /// Its last transaction was aborted for want of memory.
     Starved,
     Ended(JobEnd),
@@ -22,12 +22,12 @@ pub enum Activity {
 #[derive(Drop)]
 pub struct Job {
     pub block: Ident,
-    /// Its handles, as its next transaction begins with them, or the active one began.
-    pub me: Private,
     pub place: JobState,
     /// Attempts at its next transaction that met a holder.
     pub attempts: Option<Attempts>,
     pub activity: Activity,
+    /// Its active transaction; while it has none, the handles of the last one's end stay in it for the next.
+    pub tx: Tx,
 }
 
 /// The rows of the table of turns: what a job's next turn goes by.
@@ -62,11 +62,11 @@ fn phase_now(tx: &Tx) -> Stage
 impl Job {
     /// What its next turn goes by.
     pub fn stage(&self) -> Stage
-        ensures { result ≡ stage_of (seen_doing self.now.activity) }
+        ensures { result ≡ stage_of (doing_of self.now) }
     {
-        match &self.activity {
+        match self.activity {
             Activity::Idle => Stage::Idle,
-            Activity::Active(tx) => phase_now(tx),
+            Activity::Active => phase_now(&self.tx),
             Activity::Starved => Stage::Starved,
             Activity::Ended(_) => Stage::Ended,
         }

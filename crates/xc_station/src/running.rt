@@ -9,12 +9,12 @@ ghost use Rattle.xc_story.specs.declared.rules.Rules.{Rules as PlainRules};
 ghost use Rattle.xc_story.specs.Seen.{SeenJob, Now, Active};
 ghost use Rattle.xc_story.specs.Setting.{setting};
 ghost use Rattle.xc_story.specs.Rows.{with_tx};
-ghost use Rattle.xc_station.specs.Acting.{AreOpenIn, MayGo};
-ghost use Rattle.xc_station.specs.Jobs.{seen_job, seen_tx};
+ghost use Rattle.xc_station.specs.Acting.{AreReadyFor, MayGo};
+ghost use Rattle.xc_station.specs.Jobs.{begun_of, seen_job, seen_tx};
 ghost use Rattle.xc_station.specs.Moments.{CanRun, HasClaimed, HasTx, IsAt, IsRow, moved};
 
 use crate::calls::{Shared, do_call};
-use crate::job::{Activity, Job};
+use crate::job::Job;
 use crate::tx::Tx;
 use smallvec::SmallVec;
 use std::alloc::Global;
@@ -37,7 +37,9 @@ fn touched_by(alloc: Global, words: &Words, tx: &Tx, call: &Call) -> SmallVec<Cl
 
 // The transaction undoes for want of memory.
 fn want(tx: &mut Tx) -> Turn
-    ensures { (seen_tx tx.new ≡ record (seen_tx tx.old) { phase = PlainPhase.Undoing PlainCause.NoMemory }) × (result ≡ Turn.NoMemory) }
+    ensures tx { seen_tx tx.new ≡ record (seen_tx tx.old) { phase = PlainPhase.Undoing PlainCause.NoMemory } }
+    ensures begun { begun_of tx.new ≡ begun_of tx.old }
+    ensures answer { result ≡ Turn.NoMemory }
 {
     tx.phase = Phase::Undoing(Cause::NoMemory);
     Turn::NoMemory
@@ -56,14 +58,16 @@ fn claim<H: Host>(
     ensures same { (shared.new.host ≡ shared.old.host) × (shared.new.words ≡ shared.old.words) }
     ensures claimed { HasClaimed shared.old.claims shared.new.claims tx.old tx.new
         (claims_of call.now tx.old.me (length shared.old.words)) entered result }
+    ensures begun { begun_of tx.new ≡ begun_of tx.old }
 {
-    if tx.room().is_err() {
+    let touched = touched_by(alloc, &shared.words, tx, call);
+    let claims = touched.as_slice();
+    if tx.room(claims).is_err() {
         return Err(want(tx));
     }
-    let claims = touched_by(alloc, &shared.words, tx, call);
-    match shared.claims.claim(claims.as_slice(), tx.number) {
+    match shared.claims.claim(claims, tx.number) {
         Ok(()) => {
-            tx.hold(claims.as_slice());
+            tx.hold(claims);
             Ok(())
         }
         Err(ClaimErr::Met { object, holder }) => {
@@ -92,8 +96,9 @@ fn try_call<H: Host>(
     requires settled { IsSettled script.now place.old }
     requires may { MayGo (length shared.old.words) (seen_tx tx.old) }
     requires count { length shared.old.words ≤ 4096 }
-    requires open { IsTrue H.model.tells → AreOpenIn (H.model.contents shared.old.host) tx.old.me }
+    requires ready { IsTrue H.model.tells → AreReadyFor (seen_tx tx.old) (H.model.contents shared.old.host) }
     ensures words { shared.new.words ≡ shared.old.words }
+    ensures begun { begun_of tx.new ≡ begun_of tx.old }
     ensures row { (rules : PlainRules) (now : Now) (at : ℕ) (job : SeenJob) → let s = setting script.now rules H.model.tells in
         IsAt H.model shared.old now at job → HasTx s job place.old (seen_tx tx.old) → length now.journal ≡ entered
         → IsRow s now (moved H.model shared.new (with_tx job place.new (seen_tx tx.new)) now at) at job result shared.new.claims }
@@ -124,8 +129,9 @@ fn go<H: Host>(
     requires left { IsSome (next_body script.now (job_of place.old)) }
     requires may { MayGo (length shared.old.words) (seen_tx tx.old) }
     requires count { length shared.old.words ≤ 4096 }
-    requires open { IsTrue H.model.tells → AreOpenIn (H.model.contents shared.old.host) tx.old.me }
+    requires ready { IsTrue H.model.tells → AreReadyFor (seen_tx tx.old) (H.model.contents shared.old.host) }
     ensures count { length shared.new.words ≡ length shared.old.words }
+    ensures begun { begun_of tx.new ≡ begun_of tx.old }
     ensures row { (rules : PlainRules) (now : Now) (at : ℕ) (job : SeenJob) → let s = setting script.now rules H.model.tells in
         IsAt H.model shared.old now at job → job.doing ≡ Active (seen_tx tx.old) → job.place ≡ place.old → length now.journal ≡ entered
         → IsRow s now (moved H.model shared.new (with_tx job place.new (seen_tx tx.new)) now at) at job result shared.new.claims }
@@ -147,7 +153,8 @@ fn go<H: Host>(
 }
 
 /// The turn of a job whose transaction runs: its next call, the entering of its commit, which writes its stores, or that
-/// of its way back. The journal has so many entries.
+/// of its way back. Where memory is wanting it keeps what it claimed, and the record of what its call had done at the
+/// host. The journal has so many entries.
 pub fn run<H: Host>(
     alloc: Global,
     shared: &mut Shared<H>,
@@ -162,13 +169,6 @@ pub fn run<H: Host>(
         IsAt H.model shared.old now at (seen_job job.old) → length now.journal ≡ entered
         → IsRow s now (moved H.model shared.new (seen_job job.new) now at) at (seen_job job.old) result shared.new.claims }
 {
-    let Job {
-        place,
-        activity,
-        ..
-    } = job;
-    let Activity::Active(tx) = activity else {
-        unreachable!()
-    };
+    let Job { place, tx, .. } = job;
     go(alloc, shared, script, entered, place, tx)
 }

@@ -1,7 +1,8 @@
 ghost use Rattle.std.specs.Prelude.{◌≡◌, ◌<◌, ℕ, true, false};
 ghost use Rattle.xc_story.specs.Alone.{AreAlone};
 ghost use Rattle.xc_story.specs.Truth.{IsSerial};
-ghost use Rattle.xc_station.specs.Stations.{GoesOn, IsStepOf, KeepsOrigin, IsFrontOf, NobodyLives, TakeTurns, WorksOn};
+ghost use Rattle.xc_station.specs.Stations.{GoesOn, IsStepOf, KeepsOrigin, IsFrontOf, NobodyLives, TakeRound, TakeRounds, TakeTurns};
+ghost use Rattle.xc_station.specs.Stations.{WorksOn};
 ghost use Rattle.xc_station.specs.Stations.{live_at, now_of, turns_of};
 
 use crate::Station;
@@ -63,6 +64,7 @@ fn round<H: Host>(station: &mut Station<H>) -> bool
     ensures goes { GoesOn station.old station.new }
     ensures falls { result ≡ true → turns_of H.model station.new < turns_of H.model station.old }
     ensures none { result ≡ false → NobodyLives station.new.jobs }
+    ensures round { TakeRound H.model station.old station.new }
 {
     let mut more = false;
     for job in 1..station.count() + 1 {
@@ -73,10 +75,13 @@ fn round<H: Host>(station: &mut Station<H>) -> bool
     more
 }
 
-/// Rounds of turns, one of each live job, until none is left.
+/// Rounds of turns, in each one of every job that goes on, in rising number, until none does.
 pub fn drain<H: Host>(station: &mut Station<H>)
     ensures origin { KeepsOrigin station.old station.new }
     ensures front { IsFrontOf station.old.journal station.new.journal }
+
+    // Rounds were taken, as many as it needed, and no other turns.
+    ensures rounds { (rounds : ℕ) × TakeRounds H.model rounds station.old station.new }
     ensures ended { NobodyLives station.new.jobs }
 {
     while round(station) {}

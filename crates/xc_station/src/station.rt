@@ -22,9 +22,10 @@ use crate::close::{abort, commit, undo};
 use crate::job::{Activity, Job, Stage};
 use crate::running::run;
 use crate::start::{End, NotStarted, Opening};
+use crate::tx::Tx;
 use std::alloc::Global;
 use std::marker::Model;
-use xc_data::{JobEnd, JobLine, JobList, NoMemory, Private, Turn};
+use xc_data::{JobEnd, JobLine, JobList, NoMemory, Turn};
 use xc_host::{Host, OpenErr};
 use xc_journal::{Journal, Roomy};
 use xc_script::JobState;
@@ -215,7 +216,7 @@ impl<H: Host> Station<H> {
     /// | running, a call is asked, and another holds something against it | it undoes, with Conflict | Went |
     /// | running, the commit is asked | its stores are written | Went |
     /// | running, an abort is asked | it undoes | Went |
-    /// | running, no memory | it undoes | NoMemory |
+    /// | running, no memory | nothing is noted, but what a call had done at the host is recorded; it undoes | NoMemory |
     /// | committing | the Committed entry; its claims end | Went |
     /// | undoing, a record has no end | the newest such record is tried | Went |
     /// | undoing, all have one | the Aborted entry; its claims end | Went |
@@ -248,10 +249,10 @@ fn opened_jobs(alloc: Global, script: &Script) -> Result<Vec<Job>, NoMemory>
     for block in script.plain().jobs.as_slice() {
         jobs.push(Job {
             block: *block,
-            me: Private::new(),
             place: JobState::new(alloc, script, *block),
             attempts: None,
             activity: Activity::Idle,
+            tx: Tx::new(alloc),
         })?;
     }
     Ok(jobs)

@@ -1,20 +1,23 @@
-ghost use Rattle.std.specs.Prelude.{◌≡◌, ◌<◌, ◌≤◌, ◌+◌, ◌∷◌, ◌++◌, [], ℕ, length, map, get_or, slice_set, OnOk};
-ghost use Rattle.std.specs.List.{list_any};
-ghost use Rattle.xc_data.specs.Claims.{holding_one, holding, is_object, merged};
+ghost use Rattle.std.specs.Prelude.{◌≡◌, ◌≤◌, ◌+◌, ◌∷◌, ◌++◌, [], ℕ, length, true, false, OnOk};
+ghost use Rattle.xc_data.specs.Claims.{holding};
 ghost use Rattle.xc_data.specs.declared.entry.Cause.{Cause as PlainCause};
+ghost use Rattle.xc_world.specs.World.{beginning, no_handles};
 ghost use Rattle.xc_story.specs.declared.phase.Phase.TheVariants as PlainPhase;
 ghost use Rattle.xc_story.specs.Rows.{entry_of, new_tx};
-ghost use Rattle.xc_station.specs.Jobs.{outcome_in, seen_tx};
+ghost use Rattle.xc_station.specs.Jobs.{begun_of, outcome_in, seen_tx};
 ghost use Rattle.xc_station.specs.Acting.{HasRoom, HasNoteRoom};
 
 use std::alloc::Global;
+use std::mem;
 use xc_compensate::Stack;
 use xc_data::{Call, Claim, Entry, LateList, NoMemory, Outcome, Private, Reply, Report};
 use xc_journal::Roomy;
 use xc_story::Phase;
 use xc_txmem::WriteSet;
+use xc_wordlocks::Holding;
 
-/// An active transaction, with what its entry will say.
+/// A job's transaction, with what its entry will say. It lies in its job for all of the job's transactions, and with it
+/// the job's handles: no begin and no end copies them.
 #[derive(Drop)]
 pub struct Tx {
     pub number: u32,
@@ -24,61 +27,109 @@ pub struct Tx {
     pub began: u32,
     pub phase: Phase,
     pub me: Private,
+    /// Whether a call may have changed the handles since the begin.
+    pub changed: bool,
+    /// The handles of the begin, where one may have.
+    pub begun: Private,
     pub writes: WriteSet,
     /// What its calls did at the host.
     pub undo: Stack,
     pub calls: Roomy<Call>,
     pub replies: Roomy<Reply>,
-    pub held: Roomy<Claim>,
+    pub held: Holding,
 }
 
 impl Tx {
-    /// A transaction of this private state, which has done nothing yet. It takes no memory.
-    pub fn begin(alloc: Global, number: u32, rank: u32, began: u32, me: &Private) -> Tx
-        ensures { seen_tx result ≡ new_tx number rank began me.now }
+    /// That of a job which has begun none yet, with no handles. It takes no memory.
+    pub fn new(alloc: Global) -> Tx
+        ensures { begun_of result ≡ beginning no_handles }
     {
         Tx {
-            number,
-            rank,
-            began,
+            number: 0,
+            rank: 0,
+            began: 0,
             phase: Phase::Running,
-            me: *me,
+            me: Private::new(),
+            changed: false,
+            begun: Private::new(),
             writes: WriteSet::new(alloc),
             undo: Stack::new(alloc),
             calls: Roomy::new(alloc),
             replies: Roomy::new(alloc),
-            held: Roomy::new(alloc),
+            held: Holding::new(alloc),
         }
     }
 
+    /// Begins the next transaction, with the handles of the last one's end: those of its begin, where it was aborted. It
+    /// has done nothing yet. It takes no memory.
+    pub fn begin(&mut self, alloc: Global, number: u32, rank: u32, began: u32)
+        ensures tx { seen_tx self.new ≡ new_tx number rank began (begun_of self.old) }
+        ensures begun { begun_of self.new ≡ begun_of self.old }
+    {
+        self.number = number;
+        self.rank = rank;
+        self.began = began;
+        self.phase = Phase::Running;
+        if self.changed {
+            self.me = self.begun;
+        }
+        self.changed = false;
+        self.writes = WriteSet::new(alloc);
+        self.undo = Stack::new(alloc);
+        self.calls = Roomy::new(alloc);
+        self.replies = Roomy::new(alloc);
+        self.held = Holding::new(alloc);
+    }
+
+    /// Keeps the handles of the begin, before a call changes one.
+    pub fn keep(&mut self)
+        ensures { self.new ≡ record self.old { changed = true; begun = begun_of self.old } }
+    {
+        if !self.changed {
+            self.begun = self.me;
+            self.changed = true;
+        }
+    }
+
+    /// The next transaction begins with the handles as they are, and with nothing made or stored.
+    pub fn renew(&mut self)
+        ensures { self.new ≡ record self.old { changed = false; me = beginning self.old.me.places } }
+    {
+        self.me.made = 0;
+        self.me.stored = 0;
+        self.changed = false;
+    }
+
     /// Makes room for one call, its reply and its claims.
-    pub fn room(&mut self) -> Result<(), NoMemory>
-        ensures ok { OnOk result (HasRoom self.new) }
+    pub fn room(&mut self, claims: &[Claim]) -> Result<(), NoMemory>
+        requires { length claims.now ≤ 2 }
+        ensures ok { OnOk result (HasRoom self.new claims.now) }
         ensures same { seen_tx self.new ≡ seen_tx self.old }
+        ensures begun { begun_of self.new ≡ begun_of self.old }
     {
         self.calls.reserve(1)?;
         self.replies.reserve(1)?;
-        self.held.reserve(2)?;
-        Ok(())
+        self.held.reserve(claims)
     }
 
     /// Holds what is claimed, into the room for it. It takes no memory.
     pub fn hold(&mut self, claims: &[Claim])
-        requires room { HasRoom self.old }
-        requires few { length claims.now ≤ 2 }
+        requires { HasRoom self.old claims.now }
         ensures held { seen_tx self.new ≡ record (seen_tx self.old) { held = holding self.old.held.items claims.now } }
         ensures room { HasNoteRoom self.new }
+        ensures begun { begun_of self.new ≡ begun_of self.old }
     {
-        hold(&mut self.held, claims);
+        self.held.hold(claims);
     }
 
     /// Notes a call with its reply, into the room for them. It takes no memory.
     pub fn note(&mut self, call: Call, reply: Reply)
         requires room { HasNoteRoom self.old }
-        ensures { seen_tx self.new ≡ record (seen_tx self.old) {
+        ensures noted { seen_tx self.new ≡ record (seen_tx self.old) {
           calls = self.old.calls.items ++ call ∷ [];
           replies = self.old.replies.items ++ reply ∷ [];
         } }
+        ensures begun { begun_of self.new ≡ begun_of self.old }
     {
         self.calls.enter(call);
         self.replies.enter(reply);
@@ -86,22 +137,14 @@ impl Tx {
 
     /// The entry of the job of this number: a commit's, or that of an abort whose records have their ends. It takes no
     /// memory.
-    pub fn close(self, alloc: Global, job: u32) -> Entry
-        requires { (c : PlainCause) → self.phase ≡ PlainPhase.Undoing c → self.undo.pending ≡ [] }
-        ensures { (at : ℕ) → job ≡ at + 1 → result ≡ entry_of (seen_tx self) at (outcome_in self.phase self.undo.ended) }
+    pub fn close(&mut self, alloc: Global, job: u32) -> Entry
+        requires { (c : PlainCause) → self.old.phase ≡ PlainPhase.Undoing c → self.old.undo.pending ≡ [] }
+        ensures entry { (at : ℕ) → job ≡ at + 1
+            → result ≡ entry_of (seen_tx self.old) at (outcome_in self.old.phase self.old.undo.ended) }
+        ensures begun { begun_of self.new ≡ begun_of self.old }
     {
-        let Tx {
-            number,
-            rank,
-            began,
-            phase,
-            undo,
-            calls,
-            replies,
-            held,
-            ..
-        } = self;
-        let outcome = match phase {
+        let undo = mem::replace(&mut self.undo, Stack::new(alloc));
+        let outcome = match self.phase {
             Phase::Undoing(cause) => Outcome::Aborted(Report {
                 cause,
                 records: undo.records(),
@@ -110,67 +153,16 @@ impl Tx {
                 late: LateList::new(alloc),
             },
         };
+        self.writes = WriteSet::new(alloc);
         Entry {
-            tx: number,
+            tx: self.number,
             job,
-            rank,
-            began,
-            calls: calls.into_items(),
-            replies: replies.into_items(),
-            held: held.into_items(),
+            rank: self.rank,
+            began: self.began,
+            calls: mem::replace(&mut self.calls, Roomy::new(alloc)).into_items(),
+            replies: mem::replace(&mut self.replies, Roomy::new(alloc)).into_items(),
+            held: mem::replace(&mut self.held, Holding::new(alloc)).into_items(),
             outcome,
         }
-    }
-}
-
-fn holds(held: &[Claim], new: &Claim) -> bool
-    ensures { result ≡ list_any (λ claim. is_object new.now.object claim.object) held.now }
-{
-    held.iter().any(|claim| new.object == claim.object)
-}
-
-fn merge_at(held: &mut Roomy<Claim>, at: usize, new: &Claim)
-    requires { at < length held.old.items }
-    ensures held { held.new.items ≡ slice_set held.old.items at (merged new.now (get_or held.old.items at new.now)) }
-    ensures spare { held.new.spare ≡ held.old.spare }
-{
-    let Claim { object, mode } = *held.get(at);
-    let mode = if new.object == object {
-        mode.stronger(new.mode)
-    } else {
-        mode
-    };
-    held.set(at, Claim { object, mode });
-}
-
-// Each held claim behind a new one.
-fn merge(held: &mut Roomy<Claim>, new: &Claim)
-    ensures held { held.new.items ≡ map (merged new.now) held.old.items }
-    ensures spare { held.new.spare ≡ held.old.spare }
-{
-    for at in 0..held.len() {
-        merge_at(held, at, new);
-    }
-}
-
-fn hold_one(held: &mut Roomy<Claim>, new: &Claim)
-    requires { 1 ≤ held.old.spare }
-    ensures held { held.new.items ≡ holding_one held.old.items new.now }
-    ensures spare { held.old.spare ≤ held.new.spare + 1 }
-{
-    if holds(held.as_slice(), new) {
-        merge(held, new);
-    } else {
-        held.enter(*new);
-    }
-}
-
-// Holds what is claimed: an object that isn't held yet behind the others.
-fn hold(held: &mut Roomy<Claim>, claims: &[Claim])
-    requires { length claims.now ≤ held.old.spare }
-    ensures { held.new.items ≡ holding held.old.items claims.now }
-{
-    for claim in claims {
-        hold_one(held, claim);
     }
 }

@@ -2,7 +2,7 @@
 use Rattle.std.specs.Prelude.{◌≡◌, ℕ, Bool, true, false, List, [], ◌∷◌, length, nat_le, slice_index, slice_set, if◌then◌else◌}
 use Rattle.std.specs.List.{fold}
 use Rattle.xc_data.specs.declared.call.Call.{Call}
-use Rattle.xc_data.specs.declared.call.Call.TheVariants.{Load, Store, XWriteOvr}
+use Rattle.xc_data.specs.declared.call.Call.TheVariants.{Load, Store}
 use Rattle.xc_data.specs.declared.call.Reply.{Reply}
 use Rattle.xc_data.specs.declared.call.Reply.TheVariants.{Number, Done, BadWord}
 
@@ -38,8 +38,3 @@ AreWordReplies words (call ∷ calls) (reply ∷ replies) =
 pub record IsWordStep (from to : List ℕ) (call : Call) (reply : Reply) : Type 0 where
   pub words : to ≡ words_after from call
   pub gives : is_word_call call ≡ true → reply ≡ word_reply from call
-
--- the call that changes the host
-abbrev pub is_overwrite : Call → Bool
-is_overwrite (XWriteOvr h bytes) = true
-is_overwrite _ = false

@@ -1,28 +1,37 @@
-ghost use Rattle.std.specs.Prelude.{◌≡◌, ◌<◌, ◌≤◌, false, length, IfOk};
+ghost use Rattle.std.specs.Prelude.{◌≡◌, ◌<◌, ◌≤◌, ◌^◌, length, IfOk};
 ghost use Rattle.xc_data.specs.Counts.{CountsFault};
-ghost use Rattle.xc_host.specs.Contents.{nothing};
+ghost use Rattle.xc_host.specs.Cause.{IsCalled};
 
+mod host;
+
+use crate::tails::{Tails, put};
 use std::alloc::Global;
-use xc_data::{Chunk, Name, NoMemory, Num, Prologue};
-use xc_host::{Fault, Host, HostErr, OpenErr};
+use xc_data::{Name, NoMemory, Num};
 
 /// A call of the host, with its place and the length that it asks for.
 #[derive(Clone, Copy, Debug, PartialEq, Eq)]
 pub enum Asked {
     Lookup,
+    Create,
     Len,
     Read(u32, u32),
     Write(u32, usize),
+    Append(usize),
+    Rename,
     Restore(u32, usize),
+    Cut(u32),
+    Uncreate,
+    NameBack,
 }
 
-/// A host that tells nothing and takes no scripts. Its files stand one behind another in the same
-/// bytes; the first is `a`.
+/// A host that tells nothing and takes no scripts. The files that it opens with, those of transaction
+/// 0, stand one behind another in the same bytes; the first is `a`. What is appended stands apart, and
+/// no read or write goes over into it.
 #[derive(Drop)]
 pub struct TestHost {
     alloc: Global,
     pub bytes: Vec<u8>,
-    /// What it says of each file's length.
+    /// What it says of the length of each file that it opens with, without what is appended.
     pub len: u32,
     /// The most bytes that one call reads or writes.
     pub grain: u32,
@@ -30,14 +39,28 @@ pub struct TestHost {
     pub fails: [usize; 3],
     /// Each call that there was.
     pub log: Vec<Asked>,
+    /// The names of files, in no order.
+    pub names: Vec<(Name, Num)>,
+    tails: Tails,
+    calls: u64,
     faults: u64,
 }
 
-// Writes new bytes over those from a place on.
-fn put(bytes: &mut [u8], at: usize, new: &[u8]) {
-    for (place, byte) in bytes.iter_mut().skip(at).zip(new) {
-        *place = *byte;
+// The names at the opening: one.
+fn opening_names(alloc: Global) -> Result<Vec<(Name, Num)>, NoMemory> {
+    let mut names = Vec::new(alloc);
+    if let Some(name) = Name::new(b"a") {
+        names.push((name, Num { tx: 0, k: 0 }))?;
     }
+    Ok(names)
+}
+
+// Up to n bytes from a place on.
+fn part(bytes: &[u8], at: usize, n: usize) -> &[u8]
+    ensures { length result.now ≤ n }
+{
+    let rest = &bytes[at.min(bytes.len())..];
+    &rest[..n.min(rest.len())]
 }
 
 impl TestHost {
@@ -53,13 +76,47 @@ impl TestHost {
             grain: u32::MAX,
             fails: [0; 3],
             log: Vec::new(alloc),
+            names: opening_names(alloc)?,
+            tails: Tails::new(alloc),
+            calls: 0,
             faults: 0,
         })
     }
 
-    // Where a byte of a file stands.
+    // How many bytes of a file stand in the same bytes.
+    fn opened(&self, file: Num) -> u32 {
+        if file.tx == 0 { self.len } else { 0 }
+    }
+
+    // Where a byte of a file that it opens with stands.
     fn place(&self, file: Num, at: u32) -> usize {
         self.len as usize * file.k as usize + at as usize
+    }
+
+    /// The file of a name. It is no call of the host.
+    pub fn named(&self, name: &Name) -> Option<Num> {
+        for entry in &self.names {
+            if entry.0 == *name {
+                return Some(entry.1);
+            }
+        }
+        None
+    }
+
+    /// What was appended to a file. It is no call of the host.
+    pub fn tail(&self, file: Num) -> &[u8] {
+        self.tails.of(file)
+    }
+
+    // Gives the file of a name another name.
+    fn change_name(&mut self, from: &Name, to: &Name)
+        ensures { self.new ≡ record self.old { names = self.new.names } }
+    {
+        for entry in self.names.iter_mut() {
+            if entry.0 == *from {
+                entry.0 = *to;
+            }
+        }
     }
 
     /// Writes over a file's bytes. It is no call of the host.
@@ -72,8 +129,10 @@ impl TestHost {
 
     // Writes down a call, and says whether it fails.
     fn fails(&mut self, call: Asked) -> bool
-        ensures { CountsFault result self.old.faults self.new.faults }
+        ensures called { IsCalled self.old.calls self.new.calls }
+        ensures cause { CountsFault result self.old.faults self.new.faults }
     {
+        self.calls = self.calls.saturating_add(1);
         let written = self.log.push(call);
         if written.is_ok() && !self.fails.contains(&self.log.len()) {
             return false;
@@ -85,67 +144,40 @@ impl TestHost {
     // Writes as many of the bytes as one call does.
     fn write(&mut self, file: Num, at: u32, bytes: &[u8]) -> u32
         requires { 0 < length bytes.now }
+        ensures calls { self.new.calls ≡ self.old.calls }
         ensures faults { self.new.faults ≡ self.old.faults }
         ensures bound { (0 < result) × (result ≤ length bytes.now) }
     {
-        let n = bytes.len().min(self.grain as usize).max(1);
-        self.put(file, at, &bytes[..n]);
+        let opened = self.opened(file);
+        let mut n = self.grained(bytes);
+        if at < opened {
+            n = n.min((opened - at) as usize);
+            self.put(file, at, &bytes[..n]);
+        } else {
+            self.tails.put(file, (at - opened) as usize, &bytes[..n]);
+        }
         n as u32
     }
-}
 
-impl Host for TestHost {
-    ghost model = { record { tells = false; takes_scripts = false; contents = λ _. nothing; fault_count = λ s. s.faults } };
-
-    fn faults(&self) -> u64 {
-        self.faults
+    // How many of the bytes one call does.
+    fn grained(&self, bytes: &[u8]) -> usize
+        requires { 0 < length bytes.now }
+        ensures bound { (0 < result) × (result ≤ length bytes.now) }
+        ensures fits { result < 2 ^ 32 }
+    {
+        bytes.len().min(self.grain as usize).max(1)
     }
 
-    fn open_with(&mut self, prologue: &Prologue) -> Result<(), OpenErr> {
-        if !prologue.objects.is_empty() || !prologue.faults.is_empty() || prologue.grain.is_some() {
-            return Err(OpenErr::NotScripted);
-        }
-        Ok(())
-    }
-
-    fn lookup(&mut self, name: &Name) -> Result<Option<Num>, HostErr> {
-        if self.fails(Asked::Lookup) {
-            return Err(HostErr::Fault);
-        }
-        if name.as_slice() == b"a".as_slice() {
-            Ok(Some(Num { tx: 0, k: 0 }))
+    // Up to n bytes of a file from a place on.
+    fn front(&self, file: Num, at: u32, n: usize) -> &[u8]
+        ensures { length result.now ≤ n }
+    {
+        let opened = self.opened(file);
+        if at < opened {
+            let n = n.min((opened - at) as usize);
+            part(&self.bytes, self.place(file, at), n)
         } else {
-            Ok(None)
+            part(self.tails.of(file), (at - opened) as usize, n)
         }
-    }
-
-    fn len(&mut self, _file: Num) -> Result<u32, Fault> {
-        if self.fails(Asked::Len) {
-            return Err(Fault);
-        }
-        Ok(self.len)
-    }
-
-    fn read_at(&mut self, file: Num, at: u32, n: u32) -> Result<Chunk, HostErr> {
-        if self.fails(Asked::Read(at, n)) {
-            return Err(HostErr::Fault);
-        }
-        let from = self.bytes.len().min(self.place(file, at));
-        let to = self.bytes.len().min(from + n.min(self.grain) as usize);
-        Ok(Chunk::new(self.alloc, &self.bytes[from..to])?)
-    }
-
-    fn write_at(&mut self, file: Num, at: u32, bytes: &[u8]) -> Result<u32, Fault> {
-        if self.fails(Asked::Write(at, bytes.len())) {
-            return Err(Fault);
-        }
-        Ok(self.write(file, at, bytes))
-    }
-
-    fn restore(&mut self, file: Num, at: u32, bytes: &[u8]) -> Result<u32, Fault> {
-        if self.fails(Asked::Restore(at, bytes.len())) {
-            return Err(Fault);
-        }
-        Ok(self.write(file, at, bytes))
     }
 }

@@ -3,10 +3,15 @@ ghost use Rattle.xc_host.specs.Contents.{has_file};
 
 use crate::{Asked, TestHost};
 use std::test::Fail;
-use xc_data::Num;
+use xc_data::{Name, NoMemory, Num};
 use xc_host::Host;
 
+const FIRST: Num = Num { tx: 0, k: 0 };
+
 const FILE: Num = Num { tx: 0, k: 1 };
+
+// A file that a call makes.
+const MADE: Num = Num { tx: 3, k: 0 };
 
 // Whether a length comes and a read fails, and is counted.
 fn reads_fail<H: Host>(host: &mut H, file: Num) -> bool
@@ -50,5 +55,54 @@ fn a_call_does_a_grain(rt: HostRuntime) -> Result<(), Fail> {
     assert_eq!(rt; text, b"EL".as_slice());
     assert_eq!(rt; host.restore(FILE, 1, b"ell"), Ok(2));
     assert_eq!(rt; host.bytes.as_slice(), b"helloHelLO".as_slice());
+    Ok(())
+}
+
+fn name(bytes: &[u8]) -> Result<Name, NoMemory> {
+    Name::new(bytes).ok_or(NoMemory)
+}
+
+#[test]
+fn names_are_made_renamed_and_removed(rt: HostRuntime) -> Result<(), Fail> {
+    let mut host = TestHost::new(rt.alloc(), b"hello", 5)?;
+    let (a, b, c) = (name(b"a")?, name(b"b")?, name(b"c")?);
+    assert_eq!(rt; host.create(&b, MADE), Ok(()));
+    assert_eq!(rt; host.lookup(&b), Ok(Some(MADE)));
+    assert_eq!(rt; host.rename(&b, &c), Ok(()));
+    assert_eq!(rt; (host.named(&b), host.named(&c)), (None, Some(MADE)));
+    assert_eq!(rt; host.name_back(&b, &c), Ok(()));
+    assert_eq!(rt; (host.named(&b), host.named(&c)), (Some(MADE), None));
+    assert_eq!(rt; host.uncreate(&b, MADE), Ok(()));
+    assert_eq!(rt; (host.named(&a), host.named(&b)), (Some(FIRST), None));
+    assert_eq!(rt;
+        host.log.as_slice(),
+        [
+            Asked::Create,
+            Asked::Lookup,
+            Asked::Rename,
+            Asked::NameBack,
+            Asked::Uncreate
+        ]
+        .as_slice()
+    );
+    Ok(())
+}
+
+#[test]
+fn files_grow_and_are_cut(rt: HostRuntime) -> Result<(), Fail> {
+    let mut host = TestHost::new(rt.alloc(), b"hello", 5)?;
+    host.grain = 3;
+    host.fails = [4, 7, 0];
+    assert_eq!(rt; host.append(FIRST, b"wide"), Ok(3));
+    assert_eq!(rt; host.append(FIRST, b"er"), Ok(2));
+    assert_eq!(rt; host.len(FIRST), Ok(10));
+    assert_eq!(rt; host.append(FIRST, b"!").is_err(), true);
+    assert_eq!(rt; host.write_at(FIRST, 4, b"OW"), Ok(1));
+    assert_eq!(rt; host.restore(FIRST, 5, b"W"), Ok(1));
+    assert_eq!(rt; host.cut(FIRST, 5).is_err(), true);
+    assert_eq!(rt; host.tail(FIRST), b"Wider".as_slice());
+    assert_eq!(rt; host.cut(FIRST, 6), Ok(()));
+    assert_eq!(rt; host.bytes.as_slice(), b"hellO".as_slice());
+    assert_eq!(rt; host.tail(FIRST), b"W".as_slice());
     Ok(())
 }

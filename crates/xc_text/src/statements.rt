@@ -2,8 +2,9 @@
 
 ghost use Rattle.std.specs.Prelude.{◌≡◌, ◌∷◌, [], map};
 ghost use Rattle.xc_text.specs.Answers.{Gives, both as together};
-ghost use Rattle.xc_text.specs.Statements.{bare as bare_said, target as target_said, term_into as term_into_said, load_line as load_said, store_line as store_said};
-ghost use Rattle.xc_text.specs.Statements.{let_line as let_said, abort_line as abort_said, statement_line as statement_said};
+ghost use Rattle.xc_text.specs.Statements.{bare as bare_said, target as target_said, term_into as term_into_said};
+ghost use Rattle.xc_text.specs.Statements.{load_line as load_said, store_line as store_said, let_line as let_said};
+ghost use Rattle.xc_text.specs.Statements.{abort_line as abort_said, statement_line as statement_said};
 ghost use Rattle.xc_text.specs.Terms.{term as term_of_token, test as test_of_token};
 ghost use Rattle.xc_text.specs.Views.{lexeme};
 

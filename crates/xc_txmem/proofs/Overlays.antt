@@ -1,7 +1,10 @@
 -- A word under stores is what they leave at its place.
-use Rattle.std.proofs.Common.{◌≡◌, ℕ, ◌<◌, List, [], ◌∷◌, ◌++◌, zero, suc, length, refl, ap, sym, ◌∙◌, arith}
+use Rattle.std.proofs.Common.{◌≡◌, ℕ, ◌<◌, List, [], ◌∷◌, ◌++◌, zero, suc, length, Some, refl, ap, sym, ◌∙◌, arith}
 use Rattle.std.specs.Prelude.{slice_index, slice_set, ◌==◌, if◌then◌else◌}
-use Rattle.xc_txmem.specs.Overlay.{overlaid, left_at}
+use Rattle.std.specs.BTreeMap.{BTreeMap, Updates}
+use Rattle.std.specs.Ordering.{nat_cmp}
+use Rattle.std.proofs.lemmas.Grind.{common_steps}
+use Rattle.xc_txmem.specs.Overlay.{overlaid, left_at, IsNewest}
 
 -- one store at one place
 index-set : (words : List ℕ) (place at value : ℕ) → at < length words
@@ -35,3 +38,17 @@ pub overlay_adds : (words : List ℕ) (stores : List (ℕ × ℕ)) (place value 
     → overlaid words (stores ++ (place, value) ∷ []) ≡ slice_set (overlaid words stores) place value
 overlay_adds words [] place value = refl
 overlay_adds words ((at, v) ∷ stores) place value = overlay_adds (slice_set words at v) stores place value
+
+-- and what that leaves at a place
+pub left_adds : (at value : ℕ) (stores : List (ℕ × ℕ)) (place stored : ℕ)
+    → left_at at value (stores ++ (place, stored) ∷ []) ≡ (if place == at then stored else left_at at value stores)
+left_adds at value [] place stored = refl
+left_adds at value ((p, v) ∷ stores) place stored = left_adds at (if p == at then v else value) stores place stored
+
+-- a map with the newest values has them still with one store more
+pub newest_adds : (was now : BTreeMap ℕ ℕ) (stores : List (ℕ × ℕ)) (place stored : ℕ)
+    → IsNewest was stores → Updates nat_cmp was now place (Some stored) → IsNewest now (stores ++ (place, stored) ∷ [])
+newest_adds was now stores place stored holds updates = λ at value.
+    let one : left_at at value (stores ++ (place, stored) ∷ []) ≡ (if place == at then stored else left_at at value stores)
+    = left_adds at value stores place stored in
+    grind (arith, common_steps, one, holds at value, updates.0 at)

@@ -1,4 +1,5 @@
-ghost use Rattle.std.specs.Prelude.{◌≡◌, ◌<◌, length, slice_index, slice_set, IfOk};
+ghost use Rattle.std.specs.Prelude.{◌≡◌, ◌<◌, ℕ, List, length, slice_index, slice_set, IfOk};
+ghost use Rattle.xc_txmem.specs.Overlay.{overlaid};
 
 use std::alloc::Global;
 use std::marker::Model;
@@ -27,8 +28,10 @@ impl Words {
         })
     }
 
+    /// How many words there are, with stores laid over them or without.
     pub fn count(&self) -> usize
-        ensures { result ≡ length self.now }
+        ensures value { result ≡ length self.now }
+        ensures overlaid { (stores : List (ℕ × ℕ)) → length (overlaid self.now stores) ≡ result }
     {
         self.values.len()
     }

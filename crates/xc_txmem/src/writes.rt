@@ -1,8 +1,9 @@
-ghost use Rattle.std.specs.Prelude.{◌≡◌, ◌<◌, ◌++◌, ◌∷◌, [], length, slice_index, OnOk, OnErr};
-ghost use Rattle.xc_txmem.specs.Overlay.{overlaid, left_at, AreWithin};
+ghost use Rattle.std.specs.Prelude.{◌≡◌, ◌<◌, ◌++◌, ◌∷◌, [], ℕ, List, length, slice_index, slice_set, OnOk, OnErr};
+ghost use Rattle.xc_txmem.specs.Overlay.{overlaid, AreWithin};
 
 use crate::Words;
 use std::alloc::Global;
+use std::collections::BTreeMap;
 use std::marker::Model;
 use xc_data::NoMemory;
 
@@ -10,58 +11,62 @@ use xc_data::NoMemory;
 /// they are applied.
 #[derive(Drop)]
 pub struct WriteSet {
+    // Oldest first.
     stores: Vec<(usize, u64)>,
+    // What they leave at each place that they store to.
+    newest: BTreeMap<usize, u64>,
 }
 
 impl Model for WriteSet {
     ghost use Rattle.std.specs.Prelude.{List, ℕ};
+    ghost use Rattle.xc_txmem.specs.Overlay.{IsNewest};
 
     ghost Value = { List (ℕ × ℕ) };
 
     ghost view = { λ w. w.stores.items };
-}
 
-// What the stores leave at a place that had this value.
-fn latest(stores: &[(usize, u64)], at: usize, value: u64) -> u64
-    ensures { result ≡ left_at at value stores.now }
-{
-    let mut latest = value;
-    for (place, stored) in stores {
-        if *place == at {
-            latest = *stored;
-        }
-    }
-    latest
+    ghost invariant = { λ w. IsNewest w.newest w.stores.items };
 }
 
 impl WriteSet {
+    /// It takes no memory.
     pub fn new(alloc: Global) -> WriteSet
         ensures { result ≡ [] }
     {
         WriteSet {
             stores: Vec::new(alloc),
+            newest: BTreeMap::new(alloc),
         }
     }
 
-    /// A word as the transaction sees it.
+    /// A word as the transaction sees it. It is found by one look-up, however many stores there are.
     pub fn load(&self, words: &Words, at: usize) -> u64
         requires { at < length words.now }
         ensures { result ≡ slice_index (overlaid words.now self.now) at }
     {
-        latest(self.stores.as_slice(), at, words.get(at))
+        match self.newest.get(&at) {
+            Some(value) => *value,
+            None => words.get(at),
+        }
     }
 
+    /// All memory is taken before anything is changed.
     pub fn store(&mut self, at: usize, value: u64) -> Result<(), NoMemory>
         ensures ok { OnOk result (self.new ≡ self.old ++ (at, value) ∷ []) }
+        ensures over { OnOk result ((words : List ℕ) → overlaid words self.new ≡ slice_set (overlaid words self.old) at value) }
         ensures err { OnErr result (self.new ≡ self.old) }
     {
-        Ok(self.stores.push((at, value))?)
+        self.stores.reserve(1)?;
+        self.newest.insert(at, value)?;
+        self.stores.push_reserved((at, value));
+        Ok(())
     }
 
     /// Writes the stores into the words. It takes no memory.
     pub fn apply(&self, words: &mut Words)
         requires { AreWithin (length words.old) self.now }
-        ensures { words.new ≡ overlaid words.old self.now }
+        ensures words { words.new ≡ overlaid words.old self.now }
+        ensures count { length words.new ≡ length words.old }
     {
         for (at, value) in self.stores.as_slice() {
             words.set(*at, *value);

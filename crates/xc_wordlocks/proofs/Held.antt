@@ -35,7 +35,8 @@ mode_in-has (h ∷ hs) o =
 with_new : Claim → Option Mode → Option Mode
 with_new c m = option_map (λ was. stronger was c.mode) m
 
-merged_object : (c h : Claim) (b : Bool) → is_object c.object h.object ≡ b → (merged c h).object ≡ h.object
+-- a merged claim is on the same object
+pub merged_object : (c h : Claim) (b : Bool) → is_object c.object h.object ≡ b → (merged c h).object ≡ h.object
 merged_object c h true e = ap (λ (b : Bool). (if b then record h { mode = stronger h.mode c.mode } else h).object) e
 merged_object c h false e = ap (λ (b : Bool). (if b then record h { mode = stronger h.mode c.mode } else h).object) e
 

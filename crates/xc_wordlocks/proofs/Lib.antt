@@ -5,3 +5,4 @@ pub mod Claimed
 pub mod Places
 pub mod Whole
 pub mod Held
+pub mod Indexed

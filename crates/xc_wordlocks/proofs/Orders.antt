@@ -16,10 +16,9 @@ use Rattle.xc_wordlocks.specs.declared.key.Key.{Key}
 use Rattle.xc_wordlocks.specs.declared.key.Key.TheVariants as key
 use Rattle.xc_wordlocks.specs.declared.key.Holder.{Holder}
 use Rattle.xc_wordlocks.specs.contracts.key.KeyPartialEq.TheImpl as key_eq
-use Rattle.xc_wordlocks.specs.contracts.key.KeyOrd.TheImpl as key_ord
 use Rattle.xc_wordlocks.specs.contracts.key.KeyOrd.TheImpl.Laws as key_laws
 use Rattle.xc_wordlocks.specs.contracts.key.HolderOrd.TheImpl.Laws as holder_laws
-use Rattle.xc_wordlocks.specs.Keys.{key_of, holder, holder_cmp}
+use Rattle.xc_wordlocks.specs.Keys.{key_of, key_cmp, holder, holder_cmp}
 
 -- ---- objects
 same_num : (n m : Num) → is_object (object.File n) (object.File m) ≡ true → n ≡ m
@@ -94,10 +93,6 @@ holder-object_of h = ap (λ (k : Key). record { object = k; tx = h.tx }) (key_of
 -- the order of holders is total
 pub holder_total : IsTotalOrder holder_cmp
 holder_total = holder_laws.total-law
-
--- the order of keys
-abbrev pub key_cmp : Key → Key → Ordering
-key_cmp = key_ord.ghosts.cmp
 
 -- the order of keys is total
 pub key_total : IsTotalOrder key_cmp

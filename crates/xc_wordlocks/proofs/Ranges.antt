@@ -13,10 +13,10 @@ use Rattle.xc_data.specs.declared.claim.Mode.{Mode}
 use Rattle.xc_maps.proofs.Maps.{get-lookup}
 use Rattle.xc_wordlocks.specs.declared.key.Key.{Key}
 use Rattle.xc_wordlocks.specs.declared.key.Holder.{Holder}
-use Rattle.xc_wordlocks.specs.Keys.{holder_cmp}
+use Rattle.xc_wordlocks.specs.Keys.{holder_cmp, key_cmp}
 use Rattle.xc_wordlocks.specs.Table.{Table}
 use Rattle.xc_wordlocks.specs.Others.{IsFirstFrom}
-use Rattle.xc_wordlocks.proofs.Orders.{holder_total, key_cmp, key_total, key_exact}
+use Rattle.xc_wordlocks.proofs.Orders.{holder_total, key_total, key_exact}
 
 -- a transaction at a key
 abbrev pub at : Key → ℕ → Holder

@@ -10,6 +10,7 @@ use Rattle.xc_wordlocks.specs.declared.key.Key.{Key}
 use Rattle.xc_wordlocks.specs.declared.key.Key.TheVariants as key
 use Rattle.xc_wordlocks.specs.declared.key.Holder.{Holder}
 use Rattle.xc_wordlocks.specs.contracts.key.Holder as holder_row
+use Rattle.xc_wordlocks.specs.contracts.key.KeyOrd.TheImpl as key_ord
 use Rattle.xc_wordlocks.specs.contracts.key.HolderOrd.TheImpl as holder_ord
 
 -- an object's key
@@ -24,6 +25,10 @@ key_of object.Jobs = key.Jobs
 -- a transaction as the holder of an object
 abbrev pub holder : Object → ℕ → Holder
 holder o n = record { object = key_of o; tx = n }
+
+-- the order of keys
+abbrev pub key_cmp : Key → Key → Ordering
+key_cmp = key_ord.ghosts.cmp
 
 -- by object, and then by transaction
 abbrev pub holder_cmp : Holder → Holder → Ordering

@@ -1,6 +1,7 @@
+pub mod Index
 pub mod Keys
-pub mod Table
 pub mod Met
 pub mod Others
-pub mod Rows
 pub mod Placing
+pub mod Rows
+pub mod Table

@@ -3,6 +3,8 @@
 
 mod claims;
 mod holders;
+mod holding;
+mod index;
 mod key;
 mod law;
 mod placing;
@@ -12,6 +14,7 @@ mod rows;
 mod tests;
 
 pub use claims::Claims;
+pub use holding::Holding;
 pub use law::{
     a_held_list_has_one_mode_for_each_object, a_member_s_mode_is_the_mode_in_a_list,
     a_mode_in_a_list_is_a_member_s, a_row_follows_the_held_list,

@@ -1,4 +1,4 @@
-use Rattle.xc_file.proofs.FileCalls.{refused_acts, passed_checks}
+use Rattle.xc_file.proofs.Refusals.{refused_acts, passed_checks}
 use Rattle.xc_file.proofs.laws.a_check_refuses_as_the_plain_machine.Goals as goal
 
 pub returns-clause-refused : goal.returns-clause-refused

@@ -1,13 +1,16 @@
 use Rattle.std.proofs.Common.{refl}
-use Rattle.xc_file.proofs.FileCalls.{refused_call, read_call}
+use Rattle.xc_data.specs.declared.call.Call.TheVariants.{XRead}
+use Rattle.xc_file.proofs.FileCalls.{refused_call, unrecorded_call, at_handle}
 use Rattle.xc_file.proofs.reading.x_read.Goals as goal
 
 pub returns-in-Err-clause-call : goal.returns-in-Err-clause-call
-returns-in-Err-clause-call g c = λ undo. refused_call g.H.Host.model _
-    (record { host = c.args.host.now; me = c.args.me.now; undo = undo }) _ c.in-Err.ensures.checks (λ w tx. refl)
+returns-in-Err-clause-call g c = λ number undo. refused_call g.H.Host.model _
+    (record { host = c.args.host.now; number = number; me = c.args.me.now; undo = undo }) _ c.in-Err.ensures.checks (λ w. refl)
 
 pub returns-clause-call : goal.returns-clause-call
 returns-clause-call g c =
     let next = c.read_next.ensures in
-    λ undo. read_call g.H.Host.model c.args.h c.in-Ok.file.h c.args.n c.args.host.now _ c.args.me.now _ undo _ c.in-Ok.ensures.open.0 c.in-Ok.ensures.checks
-    next.reply next.acts next.contents next.err next.cause
+    λ number undo. at_handle g.H.Host.model (λ h. XRead h c.args.n) _ _
+    (record { host = c.args.host.now; number = number; me = c.args.me.now; undo = undo }) _ _
+    c.in-Ok.ensures.open.0 c.in-Ok.ensures.checks
+    (λ free. unrecorded_call g.H.Host.model _ _ _ _ free next.reply refl (next.acts number) (λ r w. refl) next.contents next.err next.cause)

@@ -31,5 +31,6 @@ pub returns-clause-row : goal.returns-clause-row
 returns-clause-row c tells now at begun =
     let placed = where_ok c.begin.result (sym c.is_err-else-is_err.ensures.value ∙ c.if-is_err-2.false) c.begin.ensures.ok in (
       c.in_default.ensures tells now (all_begun now _ _ _ begun c.len-entered.ensures),
-      ap (with_job now at) (begins now (seen_job c.args.job.now) _ _ _ _ _ _ begun c.len-entered.ensures placed c.rank_of-rank.ensures c.begin-2.ensures),
+      ap (with_job now at) (begins now (seen_job c.args.job.now) _ _ _ _ _ _ _ c.begin-2.ensures.begun begun c.len-entered.ensures placed
+          c.rank_of-rank.ensures c.begin-2.ensures.tx),
     )

@@ -1,34 +1,60 @@
-use Rattle.std.proofs.Common.{refl}
-use Rattle.xc_station.proofs.Doings.{file_does, starved_parts}
-use Rattle.xc_station.proofs.Answered.{still_answer}
+use Rattle.std.proofs.Common.{arith, refl}
+use Rattle.xc_station.specs.Acting.{acting}
+use Rattle.xc_station.proofs.Doings.{alone_acted, file_acted, load_acted, store_acted}
 use Rattle.xc_station.proofs.calls.act.Goals as goal
 
-pub returns-in-XOpen-clause-does : goal.returns-in-XOpen-clause-does
-returns-in-XOpen-clause-does g c = file_does g.H.Host.model _ _ c.in-XOpen.is _ _ _ (c.x_open.ensures.call c.args.undo.now) c.args.words.now c.args.writes.now
+pub returns-in-Load-clause-acted : goal.returns-in-Load-clause-acted
+returns-in-Load-clause-acted g c = load_acted g.H.Host.model _ _ _ _ c.in-Load.is c.load.ensures.reply c.load.ensures.now c.requires.may.stored
 
-pub returns-in-XRead-clause-does : goal.returns-in-XRead-clause-does
-returns-in-XRead-clause-does g c = file_does g.H.Host.model _ _ c.in-XRead.is _ _ _ (c.x_read.ensures.call c.args.undo.now) c.args.words.now c.args.writes.now
+pub returns-in-Store-clause-acted : goal.returns-in-Store-clause-acted
+returns-in-Store-clause-acted g c =
+    let e = c.store.ensures in
+    store_acted g.H.Host.model _ _ _ _ _ _ c.in-Store.is e.reply e.stores e.words e.err e.now c.requires.may.stored
 
-pub returns-in-XWriteOvr-clause-does : goal.returns-in-XWriteOvr-clause-does
-returns-in-XWriteOvr-clause-does g c = file_does g.H.Host.model _ _ c.in-XWriteOvr.is _ _ _ c.x_write_ovr.ensures.call c.args.words.now c.args.writes.now
+pub returns-in-XOpen-clause-acted : goal.returns-in-XOpen-clause-acted
+returns-in-XOpen-clause-acted g c =
+    let e = c.x_open.ensures in
+    file_acted g.H.Host.model _ _ _ _ _ c.in-XOpen.is refl (e.call c.args.tx.now.number c.args.tx.now.undo) refl
+    (omega (arith, e.same.0, c.requires.may.stored)) e.now
 
-pub returns-in-XOpen-clause-cause : goal.returns-in-XOpen-clause-cause
-returns-in-XOpen-clause-cause g c = (c.x_open.ensures.call c.args.undo.now).cause
+pub returns-in-XCreate-clause-acted : goal.returns-in-XCreate-clause-acted
+returns-in-XCreate-clause-acted g c =
+    let e = c.x_create.ensures in
+    file_acted g.H.Host.model _ _ _ _ _ c.in-XCreate.is refl e.call refl (omega (arith, e.stored, c.requires.may.stored)) e.now
 
-pub returns-in-XRead-clause-cause : goal.returns-in-XRead-clause-cause
-returns-in-XRead-clause-cause g c = (c.x_read.ensures.call c.args.undo.now).cause
+pub returns-in-XRead-clause-acted : goal.returns-in-XRead-clause-acted
+returns-in-XRead-clause-acted g c =
+    let e = c.x_read.ensures in
+    file_acted g.H.Host.model _ _ _ _ _ c.in-XRead.is refl (e.call c.args.tx.now.number c.args.tx.now.undo) refl e.stored e.now
 
-pub returns-in-XOpen-clause-spoken : goal.returns-in-XOpen-clause-spoken
-returns-in-XOpen-clause-spoken g c = still_answer _ _ _ _ c.in-XOpen.is refl refl
+pub returns-in-XWriteOvr-clause-acted : goal.returns-in-XWriteOvr-clause-acted
+returns-in-XWriteOvr-clause-acted g c =
+    let e = c.x_write_ovr.ensures in
+    file_acted g.H.Host.model _ _ _ _ _ c.in-XWriteOvr.is refl (e.call c.args.tx.now.number) refl e.stored e.now
 
-pub returns-in-XRead-clause-spoken : goal.returns-in-XRead-clause-spoken
-returns-in-XRead-clause-spoken g c = still_answer _ _ _ _ c.in-XRead.is refl refl
+pub returns-in-XSeek-clause-acted : goal.returns-in-XSeek-clause-acted
+returns-in-XSeek-clause-acted g c =
+    let e = c.x_seek.ensures in
+    alone_acted g.H.Host.model _ _ _ _ _ c.in-XSeek.is refl e.call (omega (arith, e.same.0, c.requires.may.stored)) e.now
 
-pub returns-in-XWriteOvr-clause-spoken : goal.returns-in-XWriteOvr-clause-spoken
-returns-in-XWriteOvr-clause-spoken g c = still_answer _ _ _ _ c.in-XWriteOvr.is refl refl
+pub returns-in-XClose-clause-acted : goal.returns-in-XClose-clause-acted
+returns-in-XClose-clause-acted g c =
+    let e = c.x_close.ensures in
+    alone_acted g.H.Host.model _ _ _ _ _ c.in-XClose.is refl e.call (omega (arith, e.same.0, c.requires.may.stored)) e.now
 
-pub returns-in-XOpen-clause-err : goal.returns-in-XOpen-clause-err
-returns-in-XOpen-clause-err g c = starved_parts g.H.Host.model _ _ _ _ (c.x_open.ensures.call c.args.undo.now) refl c.args.writes.now
+pub returns-in-XLen-clause-acted : goal.returns-in-XLen-clause-acted
+returns-in-XLen-clause-acted g c =
+    let e = c.x_len.ensures in
+    let old = acting c.args.host.now c.args.words.now c.args.tx.now in
+    file_acted g.H.Host.model _ _ old (record old { host = c.x_len.new.host }) _ c.in-XLen.is refl (e.call c.args.tx.now.number c.args.tx.now.undo) refl
+    c.requires.may.stored e.now
 
-pub returns-in-XRead-clause-err : goal.returns-in-XRead-clause-err
-returns-in-XRead-clause-err g c = starved_parts g.H.Host.model _ _ _ _ (c.x_read.ensures.call c.args.undo.now) refl c.args.writes.now
+pub returns-in-XRename-clause-acted : goal.returns-in-XRename-clause-acted
+returns-in-XRename-clause-acted g c =
+    let e = c.x_rename.ensures in
+    file_acted g.H.Host.model _ _ _ _ _ c.in-XRename.is refl (e.call c.args.tx.now.number c.args.tx.now.me) refl c.requires.may.stored e.now
+
+pub returns-in-XWriteSeq-clause-acted : goal.returns-in-XWriteSeq-clause-acted
+returns-in-XWriteSeq-clause-acted g c =
+    let e = c.x_write_seq.ensures in
+    file_acted g.H.Host.model _ _ _ _ _ c.in-XWriteSeq.is refl (e.call c.args.tx.now.number) refl e.stored e.now

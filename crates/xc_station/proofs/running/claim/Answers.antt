@@ -1,15 +1,9 @@
-use Rattle.std.proofs.Common.{ap, ◌∙◌, length}
-use Rattle.xc_data.specs.declared.private.Private.{Private}
-use Rattle.xc_story.specs.Seen.{SeenTx}
-use Rattle.xc_world.specs.Modes.{claims_of}
+use Rattle.std.proofs.Common.{◌∙◌}
 use Rattle.xc_station.proofs.Granted.{granted}
 use Rattle.xc_station.proofs.running.claim.Goals as goal
 
 pub returns-in-Ok-clause-claimed : goal.returns-in-Ok-clause-claimed
 returns-in-Ok-clause-claimed g c =
-    let words = length c.args.shared.now.words in
-    let me = ap (λ (t : SeenTx). t.me) c.room.ensures.same in
-    let are = c.touched_by-claims.ensures ∙ ap (λ (p : Private). claims_of c.args.call.now p words) me in
+    let are = c.as_slice-claims.ensures ∙ c.touched_by-touched.ensures in
     let e = c.in-Ok.ensures in
-    granted _ _ _ c.room.new.self _ _ _ _ c.room.ensures.same (c.as_slice.ensures ∙ are) (c.as_slice-in-Ok.ensures ∙ are) e.unmet e.held e.others
-    c.hold.ensures.held c.hold.ensures.room
+    granted _ _ _ c.room.new.self _ _ _ c.room.ensures.same are e.unmet e.held e.others c.hold.ensures.held c.hold.ensures.room

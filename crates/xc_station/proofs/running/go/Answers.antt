@@ -1,14 +1,13 @@
-use Rattle.std.proofs.Common.{ap, ◌∙◌, length, refl}
+use Rattle.std.proofs.Common.{◌∙◌, refl}
 use Rattle.xc_data.specs.declared.entry.Cause.TheVariants as cause
 use Rattle.xc_story.specs.declared.phase.Phase.TheVariants.{Committing, Undoing}
 use Rattle.xc_story.specs.Rows.{IsSamePlace}
 use Rattle.xc_story.specs.Setting.{setting}
-use Rattle.xc_txmem.proofs.Overlays.{overlay_count}
-use Rattle.xc_station.proofs.RowsRun.{asked_walk, commits, has_tx, turns_back, wanting}
+use Rattle.xc_station.proofs.RowsRun.{asked_walk, commits, has_tx, turns_back, wants}
 use Rattle.xc_station.proofs.running.go.Goals as goal
 
 pub returns-in-Ok-Commit-clause-count : goal.returns-in-Ok-Commit-clause-count
-returns-in-Ok-Commit-clause-count g c = ap length c.apply.ensures ∙ overlay_count c.args.shared.now.words c.args.tx.now.writes
+returns-in-Ok-Commit-clause-count g c = c.apply.ensures.count
 
 pub returns-in-Ok-Commit-clause-row : goal.returns-in-Ok-Commit-clause-row
 returns-in-Ok-Commit-clause-row g c rules now at job here doing place journal =
@@ -17,7 +16,7 @@ returns-in-Ok-Commit-clause-row g c rules now at job here doing place journal =
     record { begin = record { block = e.same.0; next = e.same.1; begun = e.begun }; walk = e.walk; at = e.at } in
     commits g.H.Host.model _ _ _ _ _ c.ask.new.self c.args.tx.now here (has_tx _ _ _ _ _ doing place same)
     (record { host = c.args.shared.now.host; words = c.apply.new.words; claims = c.args.shared.now.claims }) (record c.args.tx.now { phase = Committing })
-    refl c.apply.ensures refl refl
+    refl c.apply.ensures.words refl refl
     (asked_walk c.args.script.now c.args.place.now c.ask.new.self _ c.requires.left e.walk e.value ∙ c.in-Ok-Commit.field-0-is) e.settled
 
 pub returns-in-Ok-Abort-clause-row : goal.returns-in-Ok-Abort-clause-row
@@ -34,5 +33,5 @@ returns-in-Err-clause-row g c rules now at job here doing place journal =
     let e = c.in-Err.ensures in
     let same : IsSamePlace (setting c.args.script.now rules g.H.Host.model.tells) c.args.place.now c.ask.new.self =
     record { begin = record { block = e.same.0; next = e.same.1; begun = e.begun }; walk = e.walk; at = e.at } in
-    wanting g.H.Host.model _ _ _ _ _ c.ask.new.self c.args.tx.now here (has_tx _ _ _ _ _ doing place same) c.args.shared.now c.want.new.tx c.want.result
-    refl refl refl c.want.ensures.0 c.want.ensures.1
+    wants g.H.Host.model _ _ _ _ _ c.ask.new.self c.args.tx.now here (has_tx _ _ _ _ _ doing place same) c.args.shared.now c.want.new.tx c.want.result
+    refl refl refl c.want.ensures.tx c.want.ensures.answer

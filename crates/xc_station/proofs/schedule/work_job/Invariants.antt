@@ -1,4 +1,3 @@
-use Rattle.std.proofs.Common.{ℕ}
 use Rattle.xc_station.specs.Stations.{GoesOn, WorksOn, turns_of}
 use Rattle.xc_station.proofs.schedule.work_job.Given as goal
 

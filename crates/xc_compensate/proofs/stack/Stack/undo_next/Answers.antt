@@ -14,4 +14,4 @@ returns-clause-tried g c =
     c.len.result c.as_slice.result.now
     c.self.view_is c.in-Some.ensures.items c.enter.ensures.items
     (c.len.ensures ∙ c.pop.new.self.ok.0) c.as_slice.ensures c.try_one-end.ensures.legal c.try_one-end.ensures.faults
-    c.try_one-end.ensures.effect c.try_one-end.ensures.still c.turn_of.ensures
+    c.try_one-end.ensures.effect c.try_one-end.ensures.called c.try_one-end.ensures.still c.turn_of.ensures

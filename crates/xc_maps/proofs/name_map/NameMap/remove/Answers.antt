@@ -1,21 +1,23 @@
-use Rattle.std.proofs.Common.{ap, sym, ◌∙◌}
+use Rattle.std.proofs.Common.{◌++◌, ap, sym, ◌∙◌}
+use Rattle.std.specs.FinMap as map
 use Rattle.std.specs.Cmp.Lexicographic.{nat_list_cmp_total}
 use Rattle.std.proofs.lemmas.Map.Lookups.{exact_bytes}
-use Rattle.std.specs.FinMap as map
 use Rattle.xc_maps.proofs.Maps.{get-lookup, removed, undone}
 use Rattle.xc_maps.proofs.name_map.NameMap.remove.Goals as goal
 
 pub returns-clause-value : goal.returns-clause-value
 returns-clause-value g c =
-    c.remove.ensures.value ∙ sym (get-lookup nat_list_cmp_total c.self.inside.entries.entries c.args.name)
+    c.take.ensures.value ∙ sym (get-lookup nat_list_cmp_total (c.self.inside.moved.items ++ c.self.inside.entries.entries) c.args.name)
     ∙ ap (λ m. map.get m c.args.name) c.self.view_is
 
 pub returns-clause-removed : goal.returns-clause-removed
 returns-clause-removed g c =
-    removed nat_list_cmp_total exact_bytes c.self.inside.entries.entries c.remove.new.self.entries c.args.name c.remove.ensures.updates.0
+    removed nat_list_cmp_total exact_bytes (c.self.inside.moved.items ++ c.self.inside.entries.entries) (c.take.new.moved.items ++ c.take.new.entries.entries)
+    c.args.name c.take.ensures.taken
     ∙ ap (λ m. map.remove m c.args.name) c.self.view_is
 
 pub returns-clause-undone : goal.returns-clause-undone
 returns-clause-undone g c m x none e =
-    removed nat_list_cmp_total exact_bytes c.self.inside.entries.entries c.remove.new.self.entries c.args.name c.remove.ensures.updates.0
+    removed nat_list_cmp_total exact_bytes (c.self.inside.moved.items ++ c.self.inside.entries.entries) (c.take.new.moved.items ++ c.take.new.entries.entries)
+    c.args.name c.take.ensures.taken
     ∙ ap (λ m. map.remove m c.args.name) (c.self.view_is ∙ e) ∙ undone nat_list_cmp_total exact_bytes m c.args.name x none

@@ -1,8 +1,9 @@
 use Rattle.std.proofs.Common.{ap, sym, ◌∙◌, is_some}
 use Rattle.std.specs.FinMap as map
 use Rattle.xc_host.specs.Contents.{wrote}
+use Rattle.xc_world.specs.Act.Files.{overwritten}
 use Rattle.xc_world.proofs.SoundParts.{there_put}
-use Rattle.xc_memhost.proofs.Bodies.{written_back}
+use Rattle.xc_memhost.proofs.Bodies.{changed_back}
 use Rattle.xc_memhost.proofs.objects.Objects.overwrite.Goals as goal
 
 pub replace-requires-2 : goal.replace-requires-2
@@ -10,6 +11,6 @@ replace-requires-2 c = record { there = ap (λ m. is_some (map.get m c.args.file
 
 pub returns : goal.returns
 returns c =
-    written_back _ _ c.args.at c.args.bytes.now _ _ _ _ _
+    changed_back (overwritten c.args.at c.args.bytes.now) _ _ _ _ _ _ _
     (sym c.in-Some.is ∙ c.replace.ensures.value) c.replace.ensures.replaced c.overwrite.ensures c.replace-2.ensures.replaced
     ∙ ap (λ x. wrote x c.args.file c.args.at c.args.bytes.now) c.self.view_is

@@ -1,8 +1,8 @@
-use Rattle.std.proofs.Common.{rules, ◌≡◌, refl, sym, subst, ap, ap₂, ◌∙◌, ◌+◌, ◌<◌, ◌≤◌, ◌^◌, arith, Fits, w32}
+use Rattle.std.proofs.Common.{◌≡◌, refl, sym, subst, ap, ◌+◌}
 use Rattle.std.specs.Prelude.{slice_set}
-use Rattle.xc_story.specs.Seen.{active_in, active_of}
+use Rattle.xc_story.specs.Seen.{active_of}
 use Rattle.xc_story.specs.Setting.{setting}
-use Rattle.xc_story.specs.Rows.{IsTurn, behind_commit}
+use Rattle.xc_story.specs.Rows.{IsTurn}
 use Rattle.std.specs.declared.option.Option.TheVariants.{None}
 use Rattle.xc_data.specs.declared.object.Object.{Object}
 use Rattle.xc_data.specs.declared.entry.Entry.{Entry}
@@ -10,13 +10,13 @@ use Rattle.xc_wordlocks.specs.Table.{KeepsOthers, mode_of}
 use Rattle.xc_station.specs.declared.calls.Shared.{Shared}
 use Rattle.xc_data.specs.declared.entry.Turn.TheVariants as turn
 use Rattle.xc_station.specs.declared.job.Stage.TheVariants as PlainStage
-use Rattle.xc_station.specs.Jobs.{IsStage, seen_doing, seen_job}
+use Rattle.xc_station.specs.Jobs.{IsStage, doing_of}
 use Rattle.xc_station.specs.Stations.{moment, now_of, setting_of}
-use Rattle.xc_station.proofs.Ready.{may_run, may_undo, stands_now, fits_next, fits_failures, has_room, few_words}
-use Rattle.xc_station.proofs.RoomsKept.{rooms_begun, rooms_entered, rooms_running, rooms_still, rooms_undoing, back_none}
-use Rattle.xc_station.proofs.Stages.{IsThere, lent, idle_stage, running_stage, committing_stage, undoing_stage, undone_stage}
+use Rattle.xc_station.proofs.Ready.{fits_next, has_room}
+use Rattle.xc_station.proofs.RoomsKept.{rooms_entered}
+use Rattle.xc_station.proofs.Stages.{lent, committing_stage}
 use Rattle.xc_station.proofs.Steady.{steady_kept}
-use Rattle.xc_station.proofs.TurnRows.{idle_turned, running_turned, committing_turned, undoing_turned, undone_turned}
+use Rattle.xc_station.proofs.TurnRows.{committing_turned}
 use Rattle.xc_station.proofs.station.Station.committing.Goals as goal
 
 pub commit-entry-requires-clause-committing : goal.commit-entry-requires-clause-committing
@@ -28,7 +28,7 @@ commit-entry-requires-clause-committing g c =
     let s = setting station.opening.script station.rules model.tells in
     let is = lent station.jobs.items at PlainStage.Committing was (subst (λ v. IsStage v.jobs at PlainStage.Committing) (sym c.self.view_is) c.requires)
     c.index_mut.ensures.value in
-    let mine = committing_stage (seen_doing was.activity) is.stage in
+    let mine = committing_stage (doing_of was) is.stage in
     (mine.tx, mine.doing, mine.phase)
 
 pub commit-entry-requires-clause-next : goal.commit-entry-requires-clause-next
@@ -40,7 +40,7 @@ commit-entry-requires-clause-next g c =
     let s = setting station.opening.script station.rules model.tells in
     let is = lent station.jobs.items at PlainStage.Committing was (subst (λ v. IsStage v.jobs at PlainStage.Committing) (sym c.self.view_is) c.requires)
     c.index_mut.ensures.value in
-    let mine = committing_stage (seen_doing was.activity) is.stage in
+    let mine = committing_stage (doing_of was) is.stage in
     fits_next model station.shared station.journal.items station.jobs.items at was station.opening.script station.rules station.opening.faults station.active
     station.journal.spare station.lines c.self.invariant.0 c.self.invariant.1 PlainStage.Committing mine.tx is mine.doing
 
@@ -53,7 +53,7 @@ enter-requires g c =
     let s = setting station.opening.script station.rules model.tells in
     let is = lent station.jobs.items at PlainStage.Committing was (subst (λ v. IsStage v.jobs at PlainStage.Committing) (sym c.self.view_is) c.requires)
     c.index_mut.ensures.value in
-    let mine = committing_stage (seen_doing was.activity) is.stage in
+    let mine = committing_stage (doing_of was) is.stage in
     (has_room model station.shared station.journal.items station.jobs.items at was station.opening.script station.rules station.opening.faults station.active
     station.journal.spare station.lines c.self.invariant.0 c.self.invariant.1 PlainStage.Committing mine.tx is mine.doing).1
 
@@ -66,7 +66,7 @@ overflow_sub-self g c =
     let s = setting station.opening.script station.rules model.tells in
     let is = lent station.jobs.items at PlainStage.Committing was (subst (λ v. IsStage v.jobs at PlainStage.Committing) (sym c.self.view_is) c.requires)
     c.index_mut.ensures.value in
-    let mine = committing_stage (seen_doing was.activity) is.stage in
+    let mine = committing_stage (doing_of was) is.stage in
     (has_room model station.shared station.journal.items station.jobs.items at was station.opening.script station.rules station.opening.faults station.active
     station.journal.spare station.lines c.self.invariant.0 c.self.invariant.1 PlainStage.Committing mine.tx is mine.doing).0
 
@@ -84,7 +84,7 @@ invariant_of-self g c =
     let turned = committing_turned model station.shared station.journal.items station.jobs.items at was s shared' c.enter.new.self.items
     c.commit-entry.result job (at + 1)
     is c.commit-entry.ensures refl (refl, refl) c.enter.ensures.items in
-    let mine = committing_stage (seen_doing was.activity) is.stage in
+    let mine = committing_stage (doing_of was) is.stage in
     let gave = c.commit-entry.ensures mine.tx at mine.doing refl in
     let number = ap (λ (e : Entry). e.tx) gave.1 in
     let some = has_room model station.shared station.journal.items station.jobs.items at was station.opening.script station.rules station.opening.faults

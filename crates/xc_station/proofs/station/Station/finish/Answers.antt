@@ -1,5 +1,5 @@
 use Rattle.std.proofs.Common.{◌≡◌, ◌<◌, ap, sym, ◌∙◌, subst, length}
-use Rattle.std.specs.Prelude.{List, sum_by, slice_index_or, false}
+use Rattle.std.specs.Prelude.{List, sum_by, slice_index_or}
 use Rattle.xc_data.specs.Counts.{CountsFaults}
 use Rattle.xc_data.specs.Faults.{entry_faults}
 use Rattle.xc_story.specs.Ending.{IsTrueEnd}

@@ -1,20 +1,25 @@
-use Rattle.std.proofs.Common.{rules, ◌≡◌, ◌≢◌, refl, sym, subst, ap, ◌∙◌, ◌+◌, ◌<◌, ◌≤◌, ◌^◌, arith, true, false}
+use Rattle.std.proofs.Common.{◌≡◌, ◌≢◌, refl, sym, subst, ap, ◌∙◌, true, false}
 use Rattle.std.specs.Prelude.{slice_set}
-use Rattle.xc_story.specs.Seen.{active_in, active_of}
+use Rattle.xc_story.specs.Seen.{active_in}
 use Rattle.xc_story.specs.Setting.{setting}
 use Rattle.xc_story.specs.Rows.{IsTurn}
-use Rattle.xc_station.specs.declared.calls.Shared.{Shared}
 use Rattle.xc_data.specs.declared.entry.Turn.TheVariants as turn
 use Rattle.xc_station.specs.declared.job.Stage.TheVariants as PlainStage
-use Rattle.xc_station.specs.Jobs.{IsStage, seen_doing, seen_job}
+use Rattle.xc_station.specs.Jobs.{IsStage, doing_of}
 use Rattle.xc_station.specs.Stations.{moment, now_of, setting_of}
-use Rattle.xc_station.proofs.Ready.{may_run, stands_now, few_words}
 use Rattle.xc_station.proofs.RoomsKept.{rooms_idle_went, rooms_idle_ended}
-use Rattle.xc_station.proofs.Stages.{IsThere, lent, idle_stage, running_stage}
+use Rattle.xc_station.proofs.Stages.{lent, idle_stage}
 use Rattle.xc_station.proofs.Steady.{steady_kept}
-use Rattle.xc_station.proofs.TurnRows.{idle_turned, running_turned}
+use Rattle.xc_station.proofs.TurnRows.{idle_turned}
 use Rattle.xc_station.proofs.station.Station.idle.Goals.{in-Went, in_default}
 use Rattle.xc_station.proofs.station.Station.idle.Goals as goal
+
+pub begin-turn-requires-clause-idle : goal.begin-turn-requires-clause-idle
+begin-turn-requires-clause-idle g c =
+    let was = c.index_mut.result.now in
+    let is = lent c.self.inside.jobs.items c.args.at PlainStage.Idle was
+    (subst (λ v. IsStage v.jobs c.args.at PlainStage.Idle) (sym c.self.view_is) c.requires) c.index_mut.ensures.value in
+    idle_stage (doing_of was) is.stage
 
 pub invariant_of-self : goal.invariant_of-self
 invariant_of-self g c =
@@ -38,7 +43,7 @@ invariant_of-self g c =
       steady_kept s station.opening.faults at _ _ c.begin-turn.result c.self.invariant.0 turned,
       rooms_idle_went model station.shared station.journal.items station.jobs.items at was job station.active station.journal.spare station.lines is.stands
           c.self.invariant.1 s journal.items journal.spare c.begin-turn.result c.self.invariant.0.kept.told (ap active_in (idle_stage
-          (seen_doing was.activity) is.stage)) row
+          (doing_of was) is.stage)) row
           went (c.begin-turn.ensures.room.0 went),
     )
 
@@ -63,7 +68,7 @@ invariant_of-self-else-matches g c =
     ] in (
       steady_kept s station.opening.faults at _ _ c.begin-turn.result c.self.invariant.0 turned,
       rooms_idle_ended model station.shared station.journal.items station.jobs.items at was job station.active station.journal.spare station.lines is.stands
-          c.self.invariant.1 s journal.items journal.spare c.begin-turn.result (ap active_in (idle_stage (seen_doing was.activity) is.stage)) row
+          c.self.invariant.1 s journal.items journal.spare c.begin-turn.result (ap active_in (idle_stage (doing_of was) is.stage)) row
           ended c.begin-turn.ensures.room.1,
     )
 

@@ -1,18 +1,15 @@
-use Rattle.std.proofs.Common.{rules, ◌≡◌, refl, sym, subst, ap, ◌∙◌, ◌+◌, ◌<◌, ◌≤◌, ◌^◌, arith, inl, inr}
+use Rattle.std.proofs.Common.{sym, subst}
 use Rattle.std.specs.Prelude.{slice_set}
-use Rattle.xc_story.specs.Seen.{active_in, active_of}
 use Rattle.xc_story.specs.Setting.{setting}
 use Rattle.xc_story.specs.Rows.{IsTurn}
-use Rattle.xc_station.specs.declared.calls.Shared.{Shared}
-use Rattle.xc_data.specs.declared.entry.Turn.TheVariants as turn
 use Rattle.xc_station.specs.declared.job.Stage.TheVariants as PlainStage
-use Rattle.xc_station.specs.Jobs.{IsStage, seen_doing, seen_job}
+use Rattle.xc_station.specs.Jobs.{IsStage}
 use Rattle.xc_station.specs.Stations.{moment, now_of, setting_of}
 use Rattle.xc_station.proofs.Ready.{may_run, stands_now, few_words}
-use Rattle.xc_station.proofs.RoomsKept.{rooms_begun, rooms_running, rooms_still}
-use Rattle.xc_station.proofs.Stages.{IsThere, lent, idle_stage, running_stage}
+use Rattle.xc_station.proofs.RoomsKept.{rooms_running}
+use Rattle.xc_station.proofs.Stages.{lent}
 use Rattle.xc_station.proofs.Steady.{steady_kept}
-use Rattle.xc_station.proofs.TurnRows.{idle_turned, running_turned}
+use Rattle.xc_station.proofs.TurnRows.{running_turned}
 use Rattle.xc_station.proofs.station.Station.running.Goals as goal
 
 pub run-requires-clause-running : goal.run-requires-clause-running

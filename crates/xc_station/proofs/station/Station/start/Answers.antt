@@ -1,4 +1,4 @@
-use Rattle.std.proofs.Common.{ap, sym, ◌∙◌, subst, ◌≤◌, length}
+use Rattle.std.proofs.Common.{ap, sym, ◌∙◌, subst, ◌≤◌}
 use Rattle.std.proofs.lemmas.List.{length-map}
 use Rattle.xc_data.specs.declared.script.Script0.{Script0}
 use Rattle.xc_host.specs.Contents.{opened}

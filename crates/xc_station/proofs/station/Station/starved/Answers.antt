@@ -1,14 +1,13 @@
-use Rattle.std.proofs.Common.{◌≡◌, refl, sym, subst, ap, ◌≤◌, arith}
+use Rattle.std.proofs.Common.{sym, subst, ap, arith}
 use Rattle.std.specs.Prelude.{slice_set}
 use Rattle.xc_story.specs.Seen.{active_in, active_of}
 use Rattle.xc_story.specs.Setting.{setting}
 use Rattle.xc_story.specs.Rows.{IsTurn}
 use Rattle.xc_station.specs.declared.job.Stage.TheVariants as PlainStage
-use Rattle.xc_station.specs.Jobs.{IsStage, seen_doing}
+use Rattle.xc_station.specs.Jobs.{IsStage, doing_of}
 use Rattle.xc_station.specs.Stations.{moment, now_of, setting_of}
-use Rattle.xc_station.proofs.Ready.{may_run}
 use Rattle.xc_station.proofs.RoomsKept.{rooms_still}
-use Rattle.xc_station.proofs.Stages.{IsThere, lent, starved_stage}
+use Rattle.xc_station.proofs.Stages.{lent, starved_stage}
 use Rattle.xc_station.proofs.Steady.{steady_kept}
 use Rattle.xc_station.proofs.TurnRows.{starved_turned}
 use Rattle.xc_station.proofs.station.Station.starved.Goals as goal
@@ -26,7 +25,7 @@ invariant_of-self g c =
     let turned = starved_turned model station.shared station.journal.items station.jobs.items at was s job c.end.result is c.end.ensures in (
       steady_kept s station.opening.faults at _ _ c.end.result c.self.invariant.0 turned,
       rooms_still model station.shared station.journal.items station.jobs.items at was job station.active station.journal.spare station.lines is.stands
-          c.self.invariant.1 station.journal.items station.journal.spare (ap active_in (starved_stage (seen_doing was.activity) is.stage))
+          c.self.invariant.1 station.journal.items station.journal.spare (ap active_in (starved_stage (doing_of was) is.stage))
           (ap active_of c.end.ensures.0)
           (omega arith),
     )

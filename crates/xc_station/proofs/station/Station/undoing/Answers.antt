@@ -1,18 +1,17 @@
-use Rattle.std.proofs.Common.{rules, ◌≡◌, refl, sym, subst, ap, ap₂, ◌∙◌, ◌+◌, ◌<◌, ◌≤◌, ◌^◌, arith, Fits, w32}
+use Rattle.std.proofs.Common.{refl, sym, subst, ap}
 use Rattle.std.specs.Prelude.{slice_set}
-use Rattle.xc_story.specs.Seen.{active_in, active_of}
 use Rattle.xc_story.specs.Setting.{setting}
-use Rattle.xc_story.specs.Rows.{IsTurn, behind_commit}
+use Rattle.xc_story.specs.Rows.{IsTurn}
 use Rattle.xc_station.specs.declared.calls.Shared.{Shared}
 use Rattle.xc_data.specs.declared.entry.Turn.TheVariants as turn
 use Rattle.xc_station.specs.declared.job.Stage.TheVariants as PlainStage
-use Rattle.xc_station.specs.Jobs.{IsStage, seen_doing, seen_job}
+use Rattle.xc_station.specs.Jobs.{IsStage, doing_of}
 use Rattle.xc_station.specs.Stations.{moment, now_of, setting_of}
-use Rattle.xc_station.proofs.Ready.{may_run, may_undo, stands_now, fits_next, fits_failures, has_room, few_words}
-use Rattle.xc_station.proofs.RoomsKept.{rooms_begun, rooms_entered, rooms_running, rooms_still, rooms_undoing, back_none}
-use Rattle.xc_station.proofs.Stages.{IsThere, lent, idle_stage, running_stage, committing_stage, undoing_stage, undone_stage}
+use Rattle.xc_station.proofs.Ready.{may_undo}
+use Rattle.xc_station.proofs.RoomsKept.{rooms_undoing}
+use Rattle.xc_station.proofs.Stages.{lent, undoing_stage}
 use Rattle.xc_station.proofs.Steady.{steady_kept}
-use Rattle.xc_station.proofs.TurnRows.{idle_turned, running_turned, committing_turned, undoing_turned, undone_turned}
+use Rattle.xc_station.proofs.TurnRows.{undoing_turned}
 use Rattle.xc_station.proofs.station.Station.undoing.Goals as goal
 
 pub undo-requires-clause-undoing : goal.undo-requires-clause-undoing
@@ -40,7 +39,7 @@ invariant_of-self g c =
     let job = c.undo.new.job in
     let turned = undoing_turned model station.shared station.journal.items station.jobs.items at was station.opening.script station.rules shared' job is
     c.undo.ensures refl in
-    let back = undoing_stage (seen_doing was.activity) is.stage in
+    let back = undoing_stage (doing_of was) is.stage in
     let gave = c.undo.ensures back.tx back.doing in (
       steady_kept s station.opening.faults at _ _ turn.Went c.self.invariant.0 turned,
       rooms_undoing model station.shared station.journal.items station.jobs.items at was job station.active station.journal.spare station.lines is.stands

@@ -8,4 +8,5 @@ invariant-loop-at l =
     record {
       rest : overlaid l.words (drop l.at-index l.self) ≡ overlaid l.fn.words l.self;
       within : AreWithin (length l.words) (drop l.at-index l.self);
+      count : length l.words ≡ length l.fn.words;
     }

@@ -1,0 +1,115 @@
+-- An append, as its contract has it; where memory is wanting, it did its part.
+use Rattle.std.proofs.Common.{◌≡◌, ℕ, ◌<◌, ◌≤◌, ◌+◌, ◌++◌, Bool, true, false, IsTrue, None, Ok, Err, List, [], ◌∷◌, length}
+use Rattle.std.proofs.Common.{ap, sym, ◌∙◌, inr, arith, if◌then◌else◌}
+use Rattle.std.proofs.lemmas.Grind.{common_steps}
+use Rattle.std.specs.Prelude.{Result, IfOk, OnOk, OnErr, ◌==◌}
+use Rattle.xc_data.specs.Counts.{CountsFault}
+use Rattle.xc_data.specs.declared.memory.NoMemory.{NoMemory}
+use Rattle.xc_data.specs.declared.object.Num.{Num}
+use Rattle.xc_data.specs.declared.call.Call.{Call}
+use Rattle.xc_data.specs.declared.call.Call.TheVariants.{XWriteSeq}
+use Rattle.xc_data.specs.declared.call.Reply.{Reply}
+use Rattle.xc_data.specs.declared.call.Reply.TheVariants.{Fault}
+use Rattle.xc_data.specs.declared.call.Answer.TheVariants as answer
+use Rattle.xc_data.specs.declared.private.Place.TheVariants.{File}
+use Rattle.xc_data.specs.declared.private.Private.{Private}
+use Rattle.xc_data.specs.declared.undo.Undo.{Undo}
+use Rattle.xc_data.specs.declared.undo.Undo.TheVariants.{Tail}
+use Rattle.xc_data.specs.Private.{place_of}
+use Rattle.xc_world.specs.World.{World}
+use Rattle.xc_world.specs.Act.{act}
+use Rattle.xc_world.specs.Act.Step.{stays, storing}
+use Rattle.xc_world.specs.Ends.{Ending}
+use Rattle.xc_world.specs.Fits.{fits, answer_of}
+use Rattle.xc_world.specs.Trail.{recorded, append_record, done_of}
+use Rattle.xc_host.specs.Contents.{Contents, file_in, with_contents, world_of}
+use Rattle.xc_host.specs.Model.{HostModel}
+use Rattle.xc_compensate.specs.Records.{Records}
+use Rattle.xc_file.specs.Appending.{Appends, StopsShort, tail}
+use Rattle.xc_file.specs.Calls.{CallState, Moment, moment_of, Acts, AreRecorded, DidPart, IsFileCall}
+use Rattle.xc_file.specs.Calls.{refusal_of, is_check_reply, replies_fault}
+use Rattle.xc_file.specs.Writing.{AddsOne, moved_on}
+use Rattle.xc_file.proofs.FileCalls.{moment, passed, same_made}
+
+-- the state behind an append of n of the bytes
+abbrev behind : Contents → Private → ℕ → Num → List ℕ → ℕ → Private
+behind was me h num bytes n = storing (moved_on me h num (length (file_in was num)) n) (length bytes)
+
+front_step : (was is : Contents) (number : ℕ) (me : Private) (h : ℕ) (num : Num) (at : ℕ) (bytes : List ℕ) (n : ℕ) (w : World)
+    → length bytes ≤ 1024 → me.stored + length bytes ≤ 16384 → place_of me.places h ≡ File num at → 0 < length bytes
+    → Appends was is num bytes (Fault n)
+    → act (with_contents w was) me number (XWriteSeq h bytes) (answer.Fault n) ≡ stays (with_contents w is) (behind was me h num bytes n) (Fault n)
+front_step was is number me h num at bytes n w big much there some did = grind (arith, common_steps)
+
+front_fits : (was is : Contents) (number : ℕ) (me : Private) (h : ℕ) (num : Num) (at : ℕ) (bytes : List ℕ) (n : ℕ) (w : World)
+    → length bytes ≤ 1024 → me.stored + length bytes ≤ 16384 → place_of me.places h ≡ File num at → 0 < length bytes
+    → Appends was is num bytes (Fault n) → IsTrue (fits (with_contents w was) me number (XWriteSeq h bytes) (answer.Fault n))
+front_fits was is number me h num at bytes n w big much there some did = grind (arith, common_steps)
+
+-- a call that the plain machine does with a reply did its part
+part_of : (call : Call) (was is : Moment) (made : List Undo) (r : Reply) → Acts call was is r → AreRecorded call was made r → DidPart call was is.contents made
+part_of call was is made r acts records = record {
+  answer = answer_of r;
+  fits = acts.fits;
+  world = λ w. ap (λ s. s.world) (acts.step w);
+  records = λ w. records w ∙ ap (recorded (with_contents w was.contents) was.me was.number call) (sym (ap (λ s. s.reply) (acts.step w)));
+}
+
+-- what a front did is a part
+front_part : (was is : Contents) (number : ℕ) (me : Private) (h : ℕ) (num : Num) (at : ℕ) (bytes : List ℕ) (from n : ℕ)
+    → (length bytes ≤ 1024) × (me.stored + length bytes ≤ 16384) → place_of me.places h ≡ File num at → 0 < length bytes
+    → Appends was is num bytes (Fault n) → from ≡ length (file_in was num)
+    → DidPart (XWriteSeq h bytes) (moment was number me) is (tail num from bytes n)
+front_part was is number me h num at bytes from n (big, much) there some did end =
+    part_of (XWriteSeq h bytes) (moment was number me) (moment is number (behind was me h num bytes n)) (tail num from bytes n) (Fault n)
+    (record {
+      step = λ w. front_step was is number me h num at bytes n w big much there some did;
+      fits = λ w. front_fits was is number me h num at bytes n w big much there some did;
+    })
+    (λ w. ap (λ k. tail num k bytes n) end ∙ ap (append_record (with_contents w was) bytes n) (sym there))
+
+one_at_most : (b : Bool) (u : Undo) → length (if b then [] else u ∷ []) ≤ 1
+one_at_most true u = omega arith
+one_at_most false u = omega arith
+
+-- an append that the checks let pass
+pub append_call : {H : Type 0} (model : HostModel H) (h : ℕ) (bytes : List ℕ) (num : Num) (at : ℕ) (old new : CallState H) (result : Result Reply NoMemory)
+    → refusal_of (XWriteSeq h bytes) old.me ≡ None → (length bytes ≤ 1024) × (old.me.stored + length bytes ≤ 16384)
+    → place_of old.me.places h ≡ File num at → old.undo.ended ≡ [] → IfOk result (λ r. is_check_reply (XWriteSeq h bytes) r ≡ false)
+    → (IsTrue model.tells → IfOk result (Acts (XWriteSeq h bytes) (moment_of model old) (moment_of model new)))
+    → (IsTrue model.tells → IfOk result (λ r. new.undo
+    ≡ record { pending = old.undo.pending ++ append_record (world_of (model.contents old.host)) bytes (done_of (length bytes) r) (File num at); ended = [] }))
+    → OnOk result (AddsOne old.undo new.undo) → OnErr result (new.me ≡ old.me)
+    → OnErr result (StopsShort model num bytes (record { host = old.host; undo = old.undo }) (record { host = new.host; undo = new.undo }))
+    → OnErr result (0 < length bytes)
+    → CountsFault (replies_fault result) (model.fault_count old.host) (model.fault_count new.host)
+    → IsFileCall model (XWriteSeq h bytes) old new result
+append_call model h bytes num at old new (Ok r) free few there none reply acts records adds err stops some cause =
+    let kind = append_record (world_of (model.contents old.host)) bytes (done_of (length bytes) r) in
+    record {
+      checked = passed (XWriteSeq h bytes) old new (Ok r) free reply;
+      made = adds.made;
+      one = adds.one;
+      undo = adds.undo;
+      acts = acts;
+      records = λ t w. same_made old.undo new.undo adds.made (kind (File num at)) adds.undo (records t) ∙ ap kind (sym there);
+      cause = cause;
+      memory = tt;
+    }
+append_call model h bytes num at old new (Err e) free few there none reply acts records adds err stops some cause =
+    let made = tail num stops.from bytes stops.done in
+    record {
+      checked = passed (XWriteSeq h bytes) old new (Err e) free tt;
+      made = made;
+      one = one_at_most (stops.done == 0) (Tail num stops.from bytes stops.done);
+      undo = stops.undo ∙ ap (λ (rs : List Ending). let u : Records = record { pending = old.undo.pending ++ made; ended = rs } in u) (sym none);
+      acts = λ _. tt;
+      records = λ _. tt;
+      cause = cause;
+      memory = record {
+        me = err;
+        effect = λ t. inr (front_part (model.contents old.host) (model.contents new.host) old.number old.me h num at bytes stops.from stops.done few there some
+            (stops.told t) (stops.end t));
+        none = λ first. cc;
+      };
+    }

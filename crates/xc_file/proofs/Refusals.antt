@@ -1,0 +1,114 @@
+-- What the private checks say of a call, and what they leave of one that they refuse.
+use Rattle.std.proofs.Common.{◌≡◌, ℕ, ◌||◌, Bool, true, false, Option, Some, None}
+use Rattle.std.proofs.Common.{List, [], length, refl, ap, sym, ◌∙◌, subst, if◌then◌else◌}
+use Rattle.std.specs.Prelude.{MatchOption, unwrap_or, not}
+use Rattle.xc_data.specs.declared.call.Call.{Call}
+use Rattle.xc_data.specs.declared.call.Call.TheVariants as call
+use Rattle.xc_data.specs.declared.call.Answer.{Answer}
+use Rattle.xc_data.specs.declared.call.Answer.TheVariants.{Fine}
+use Rattle.xc_data.specs.declared.call.Reply.{Reply}
+use Rattle.xc_data.specs.declared.call.Reply.TheVariants as reply
+use Rattle.xc_data.specs.declared.private.Place.{Place}
+use Rattle.xc_data.specs.declared.private.Place.TheVariants as place
+use Rattle.xc_data.specs.declared.private.Private.{Private}
+use Rattle.xc_data.specs.Faults.{is_fault_reply}
+use Rattle.xc_data.specs.Private.{place_of}
+use Rattle.xc_world.specs.World.{World}
+use Rattle.xc_world.specs.Act.{act, done}
+use Rattle.xc_world.specs.Act.Step.{Stepped, stays, counted}
+use Rattle.xc_world.specs.Checks.{is_bad_handle, is_too_big, is_too_much, is_bad_word, is_refused}
+use Rattle.xc_world.specs.Fits.{answer_of}
+use Rattle.xc_world.specs.Trail.{overwrite_record, append_record, done_of}
+use Rattle.xc_host.specs.Contents.{with_contents}
+use Rattle.xc_file.specs.Calls.{Moment, AreRecorded}
+use Rattle.xc_file.specs.Calls.{refusal_of}
+
+-- the first of three checks that refuses
+abbrev first : Bool → Bool → Bool → Option Reply
+first bad big much =
+    if bad then Some reply.BadHandle
+    else if big then Some reply.TooBig
+    else if much then Some reply.TooMuch
+    else None
+
+none_some : {T : Type 0} (x : T) → None ≡ Some x → ⊥
+none_some x e = subst (λ o. MatchOption o (Unit {0}) (λ _. ⊥)) e tt
+
+stays_so : (bad big much : Bool) (w : World) (me : Private) (other : Stepped) (r : Reply) → first bad big much ≡ Some r
+    → (if bad then stays w me reply.BadHandle else if big then stays w me reply.TooBig else if much then stays w me reply.TooMuch else other) ≡ stays w me r
+stays_so true big much w me other r e = ap (λ o. stays w me (unwrap_or o r)) e
+stays_so false true much w me other r e = ap (λ o. stays w me (unwrap_or o r)) e
+stays_so false false true w me other r e = ap (λ o. stays w me (unwrap_or o r)) e
+stays_so false false false w me other r e = absurd (none_some r e)
+
+-- a refused call leaves the plain machine as it was, with this reply
+pub refused_acts : (w : World) (me : Private) (tx : ℕ) (call : Call) (answer : Answer) (r : Reply) → refusal_of call me ≡ Some r
+    → act w me tx call answer ≡ stays w me r
+refused_acts w me tx call answer r e =
+    stays_so (is_bad_handle call me) (is_too_big call) (is_too_much call me) w me
+    (if is_bad_word call (length w.words) then stays w me reply.BadWord else counted call (done w me tx call answer)) r e
+
+none_of : (bad big much word : Bool) → first bad big much ≡ None → (bad || big || much || word) ≡ word
+none_of true big much word e = absurd (none_some reply.BadHandle (sym e))
+none_of false true much word e = absurd (none_some reply.TooBig (sym e))
+none_of false false true word e = absurd (none_some reply.TooMuch (sym e))
+none_of false false false word e = refl
+
+-- where none of them refuses a call, the plain machine's checks refuse a bad word alone
+pub passed_checks : (me : Private) (call : Call) (words : ℕ) → refusal_of call me ≡ None → is_refused call me words ≡ is_bad_word call words
+passed_checks me call words e = none_of (is_bad_handle call me) (is_too_big call) (is_too_much call me) (is_bad_word call words) e
+
+-- a reply of a check is fine, no fault, and leaves no record
+pub record IsPlain (r : Reply) : Type 0 where
+  pub answer : answer_of r ≡ Fine
+  pub fault : is_fault_reply r ≡ false
+  pub done : (all : ℕ) → done_of all r ≡ 0
+
+-- the first of the checks that refuses gives such a reply
+pub plain_first : (bad big much : Bool) (r : Reply) → first bad big much ≡ Some r → IsPlain r
+plain_first true big much r e = subst (λ o. IsPlain (unwrap_or o r)) e (record { answer = refl; fault = refl; done = λ _. refl })
+plain_first false true much r e = subst (λ o. IsPlain (unwrap_or o r)) e (record { answer = refl; fault = refl; done = λ _. refl })
+plain_first false false true r e = subst (λ o. IsPlain (unwrap_or o r)) e (record { answer = refl; fault = refl; done = λ _. refl })
+plain_first false false false r e = absurd (none_some r e)
+
+-- an overwrite of nothing leaves no record
+nothing_done : (w : World) (bytes : List ℕ) (p : Place) → overwrite_record w bytes 0 p ≡ []
+nothing_done w bytes (place.File num at) = refl
+nothing_done w bytes place.Vacant = refl
+nothing_done w bytes (place.Pipe num) = refl
+nothing_done w bytes (place.Pair num side) = refl
+
+-- an append of nothing leaves no record
+nothing_appended : (w : World) (bytes : List ℕ) (p : Place) → append_record w bytes 0 p ≡ []
+nothing_appended w bytes (place.File num at) = refl
+nothing_appended w bytes place.Vacant = refl
+nothing_appended w bytes (place.Pipe num) = refl
+nothing_appended w bytes (place.Pair num side) = refl
+
+-- a write of either kind that is refused did nothing
+refused_done : (call : Call) (me : Private) (all : ℕ) (r : Reply) → refusal_of call me ≡ Some r → done_of all r ≡ 0
+refused_done call me all r e = (plain_first (is_bad_handle call me) (is_too_big call) (is_too_much call me) r e).done all
+
+-- a refused overwrite leaves no record
+pub refused_overwrite : (was : Moment) (h : ℕ) (bytes : List ℕ) (r : Reply) → refusal_of (call.XWriteOvr h bytes) was.me ≡ Some r
+    → AreRecorded (call.XWriteOvr h bytes) was [] r
+refused_overwrite was h bytes r e =
+    let p = place_of was.me.places h in
+    λ w. sym (ap (λ n. overwrite_record (with_contents w was.contents) bytes n p) (refused_done (call.XWriteOvr h bytes) was.me (length bytes) r e)
+    ∙ nothing_done (with_contents w was.contents) bytes p)
+
+-- a refused append leaves no record
+pub refused_append : (was : Moment) (h : ℕ) (bytes : List ℕ) (r : Reply) → refusal_of (call.XWriteSeq h bytes) was.me ≡ Some r
+    → AreRecorded (call.XWriteSeq h bytes) was [] r
+refused_append was h bytes r e =
+    let p = place_of was.me.places h in
+    λ w. sym (ap (λ n. append_record (with_contents w was.contents) bytes n p) (refused_done (call.XWriteSeq h bytes) was.me (length bytes) r e)
+    ∙ nothing_appended (with_contents w was.contents) bytes p)
+
+-- what a check of a limit says
+abbrev pub by_much : Bool → Option Reply
+by_much is_much = if is_much then Some reply.TooMuch else None
+
+-- what the checks say of a call that needs an open file, by whether it is one
+abbrev pub by_kind : Bool → Option Reply
+by_kind is_open = if not is_open then Some reply.BadHandle else None

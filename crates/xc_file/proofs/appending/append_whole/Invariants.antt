@@ -1,0 +1,18 @@
+use Rattle.std.proofs.Common.{◌≡◌, ◌+◌, ◌-◌, ◌≤◌, true, length, take, IsTrue}
+use Rattle.xc_host.specs.Contents.{file_in, has_file, appended_front}
+use Rattle.xc_file.proofs.appending.append_whole.Given as goal
+
+-- a front is appended so far, and no fault came
+abbrev pub invariant-loop-done : goal.invariant-loop-done
+invariant-loop-done g l =
+    let model = g.H.Host.model in
+    record {
+      room : l.done ≤ length l.bytes;
+      there : IsTrue model.tells → has_file (model.contents l.host) l.file ≡ true;
+      behind : IsTrue model.tells → length (file_in (model.contents l.host) l.file) + length l.bytes ≤ 65536 + l.done;
+      told : IsTrue model.tells → model.contents l.host ≡ appended_front (model.contents l.fn.host) l.file (take l.done l.bytes);
+      faults : model.fault_count l.host ≡ model.fault_count l.fn.host;
+    }
+
+abbrev pub decreases-loop-done : goal.decreases-loop-done
+decreases-loop-done g l = length l.bytes - l.done

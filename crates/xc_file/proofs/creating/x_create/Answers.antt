@@ -1,0 +1,41 @@
+use Rattle.std.proofs.Common.{refl, ap, sym, ◌∙◌, ◌||◌, true}
+use Rattle.std.proofs.lemmas.Bool.{le-leb, lt-leb}
+use Rattle.std.specs.Prelude.{is_none}
+use Rattle.xc_data.specs.Private.{lowest_vacant}
+use Rattle.xc_data.specs.declared.call.Call.TheVariants.{XCreate}
+use Rattle.xc_world.specs.Checks.{has_made_all}
+use Rattle.xc_world.specs.Trail.{create_record}
+use Rattle.xc_file.proofs.FileCalls.{refused_call, recorded_call}
+use Rattle.xc_file.proofs.Refusals.{by_much}
+use Rattle.xc_file.proofs.NameCalls.{much_none, created_acts}
+use Rattle.xc_file.proofs.creating.x_create.Goals as goal
+
+pub returns-then-me-ge-MAX_MADE-clause-call : goal.returns-then-me-ge-MAX_MADE-clause-call
+returns-then-me-ge-MAX_MADE-clause-call g c =
+    let me = c.args.me.now in
+    refused_call g.H.Host.model _ (record { host = c.args.host.now; number = c.args.tx; me = me; undo = c.args.undo.now }) _
+    (ap (λ b. by_much (b || is_none (lowest_vacant me.places))) (le-leb 16 me.made c.if-me-ge-MAX_MADE.true)) (λ w. refl)
+
+pub returns-in_default-clause-call : goal.returns-in_default-clause-call
+returns-in_default-clause-call g c =
+    let me = c.args.me.now in
+    refused_call g.H.Host.model _ (record { host = c.args.host.now; number = c.args.tx; me = me; undo = c.args.undo.now }) _
+    (ap (λ o. by_much (has_made_all me || is_none o)) (sym c.vacant.ensures.value ∙ c.in_default.is)
+    ∙ ap (λ b. by_much (b || true)) (lt-leb 16 me.made c.if-me-ge-MAX_MADE.false)) (λ w. refl)
+
+pub returns-clause-call : goal.returns-clause-call
+returns-clause-call g c =
+    let model = g.H.Host.model in
+    let me = c.args.me.now in
+    let name = c.args.name.now in
+    let few = c.if-me-ge-MAX_MADE.false in
+    let vacant = sym c.vacant.ensures.value ∙ c.in-Some.is in
+    let next = c.create_at.ensures in
+    recorded_call model (XCreate name) (create_record me c.args.tx name)
+    (record { host = c.args.host.now; number = c.args.tx; me = me; undo = c.args.undo.now })
+    (record { host = c.create_at.new.host; number = c.args.tx; me = c.create_at.new.me; undo = c.create_at.new.undo }) c.create_at.result
+    (ap by_much (much_none (has_made_all me) (lowest_vacant me.places) c.in-Some.h (lt-leb 16 me.made few) vacant)) next.reply
+    (λ t. created_acts (model.contents c.args.host.now) (model.contents c.create_at.new.host) c.args.tx me c.create_at.new.me name c.in-Some.h
+    c.create_at.result few vacant next.made next.me (next.told t))
+    (λ t. next.records) (λ r w. refl) next.grows
+    next.err next.err_undo next.err_contents next.cause

@@ -1,0 +1,34 @@
+-- What an append does.
+use Rattle.std.specs.Prelude.{◌≡◌, ◌⊎◌, ℕ, ◌+◌, ◌<◌, ◌≤◌, ◌==◌, IsTrue, List, [], ◌∷◌, ◌++◌, length, take, if◌then◌else◌}
+use Rattle.xc_data.specs.declared.object.Num.{Num}
+use Rattle.xc_data.specs.declared.call.Reply.{Reply}
+use Rattle.xc_data.specs.declared.call.Reply.TheVariants.{Done, TooBig, Fault}
+use Rattle.xc_data.specs.declared.undo.Undo.{Undo}
+use Rattle.xc_data.specs.declared.undo.Undo.TheVariants.{Tail}
+use Rattle.xc_host.specs.Contents.{Contents, file_in, appended_front}
+use Rattle.xc_host.specs.Model.{HostModel}
+use Rattle.xc_compensate.specs.Records.{AtHost}
+
+-- a file has room for more bytes
+abbrev pub HasRoom : Contents → Num → List ℕ → Type 0
+HasRoom c file bytes = length (file_in c file) + length bytes ≤ 65536
+
+-- what an append with this reply did: without room nothing, else all the bytes, or with a fault a front
+abbrev pub Appends : Contents → Contents → Num → List ℕ → Reply → Type 0
+Appends was is file bytes TooBig = (is ≡ was) × (65536 < length (file_in was file) + length bytes)
+Appends was is file bytes Done = (is ≡ appended_front was file bytes) × HasRoom was file bytes
+Appends was is file bytes (Fault n) = (is ≡ appended_front was file (take n bytes))
+    × ((n ≡ 0) ⊎ ((n < length bytes) × HasRoom was file bytes))
+Appends was is file bytes _ = ⊥
+
+-- the record of n bytes that were appended to a file of `from` bytes; none where n is 0
+abbrev pub tail : Num → ℕ → List ℕ → ℕ → List Undo
+tail file from bytes n = if n == 0 then [] else Tail file from bytes n ∷ []
+
+-- an append that wanted memory behind a front, which a record tells of
+pub record StopsShort {H : Type 0} (model : HostModel H) (file : Num) (bytes : List ℕ) (old new : AtHost H) : Type 0 where
+  pub from : ℕ
+  pub done : ℕ
+  pub undo : new.undo ≡ record { pending = old.undo.pending ++ tail file from bytes done; ended = [] }
+  pub end : IsTrue model.tells → from ≡ length (file_in (model.contents old.host) file)
+  pub told : IsTrue model.tells → Appends (model.contents old.host) (model.contents new.host) file bytes (Fault done)

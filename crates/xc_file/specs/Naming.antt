@@ -1,0 +1,45 @@
+-- What calls on names do, where the host tells.
+use Rattle.std.specs.Prelude.{◌≡◌, ℕ, true, is_some, List}
+use Rattle.std.specs.declared.option.Option.TheVariants.{None}
+use Rattle.std.specs.FinMap as map
+use Rattle.xc_data.specs.declared.object.Num.{Num}
+use Rattle.xc_data.specs.declared.call.Reply.{Reply}
+use Rattle.xc_data.specs.declared.call.Reply.TheVariants.{Made, Done, NoName, Exists, Fault}
+use Rattle.xc_data.specs.declared.private.Place.TheVariants.{File}
+use Rattle.xc_data.specs.declared.private.Private.{Private}
+use Rattle.xc_data.specs.Private.{with_place}
+use Rattle.xc_world.specs.Act.Names.{making}
+use Rattle.xc_host.specs.Contents.{Contents, created, renamed}
+
+-- a name has a file
+abbrev pub IsNamed : Contents → List ℕ → Type 0
+IsNamed c name = is_some (map.get c.names name) ≡ true
+
+-- a name has none
+abbrev pub IsAbsent : Contents → List ℕ → Type 0
+IsAbsent c name = map.get c.names name ≡ None
+
+-- what a create of a file of this number did with this reply: the file is made under an absent name, or nothing changed
+abbrev pub Creates : Contents → Contents → List ℕ → Num → Reply → Type 0
+Creates was is name num (Made h) = (is ≡ created was name num) × IsAbsent was name
+Creates was is name num Exists = (is ≡ was) × IsNamed was name
+Creates was is name num (Fault n) = (is ≡ was) × (n ≡ 0)
+Creates was is name num _ = ⊥
+
+-- what a rename with this reply did: the file has the other name, or nothing changed
+abbrev pub Renames : Contents → Contents → List ℕ → List ℕ → Reply → Type 0
+Renames was is from to Done = (is ≡ renamed was from to) × IsNamed was from × IsAbsent was to
+Renames was is from to NoName = (is ≡ was) × IsAbsent was from
+Renames was is from to Exists = (is ≡ was) × IsNamed was from × IsNamed was to
+Renames was is from to (Fault n) = (is ≡ was) × (n ≡ 0)
+Renames was is from to _ = ⊥
+
+-- a new file's handle is this one
+abbrev pub IsMadeAt : ℕ → Reply → Type 0
+IsMadeAt h (Made k) = k ≡ h
+IsMadeAt h _ = Unit {0}
+
+-- where a file was made, it stands at its handle, and one object more is made
+abbrev pub with_made : Private → ℕ → Num → Reply → Private
+with_made me h num (Made k) = making (with_place me h (File num 0))
+with_made me h num _ = me

@@ -1,0 +1,237 @@
+ghost use Rattle.std.specs.Prelude.{◌≡◌, ◌<◌, ◌≤◌, ◌+◌, ℕ, ◌++◌, [], ◌^◌, true, false};
+ghost use Rattle.std.specs.Prelude.{length, take, IfOk, IfSome, MatchOption, OnOk, OnErr, IsTrue, is_err};
+ghost use Rattle.xc_world.specs.Late.{is_late};
+ghost use Rattle.xc_data.specs.Counts.{CountsFault};
+ghost use Rattle.xc_data.specs.Private.{place_of};
+ghost use Rattle.xc_data.specs.declared.call.Call.TheVariants.{XWriteSeq};
+ghost use Rattle.xc_data.specs.declared.private.Place.TheVariants.{File};
+ghost use Rattle.xc_world.specs.Trail.{append_record, done_of};
+ghost use Rattle.xc_host.specs.Cause.{is_fault};
+ghost use Rattle.xc_host.specs.Contents.{file_in, has_file, appended_front, world_of};
+ghost use Rattle.xc_file.specs.Appending.{Appends, HasRoom, StopsShort, tail};
+ghost use Rattle.xc_file.specs.Calls.{Acts, IsFileCall, IsOpenIn, is_check_reply, replies_fault};
+ghost use Rattle.xc_file.specs.Checks.{IsOpenAt};
+ghost use Rattle.xc_file.specs.Writing.{AddsOne, moved_on};
+
+use crate::checks::{OpenFile, open_file};
+use crate::moving::move_on;
+use xc_compensate::Stack;
+use xc_data::{Chunk, NoMemory, Num, Private, Reply, Undo};
+use xc_host::{Fault, Host, HostErr};
+
+/// The most bytes that a file has.
+const MAX_FILE: u64 = 65536;
+
+/// How many bytes are appended, and what stopped the append there.
+#[derive(Clone, Copy)]
+struct Appended {
+    done: u32,
+    end: Result<(), HostErr>,
+}
+
+// The length of a file that has room for n bytes more.
+fn end_of<H: Host>(host: &mut H, file: Num, n: u32) -> Result<Option<u32>, Fault>
+    requires there { IsTrue H.model.tells → has_file (H.model.contents host.old) file ≡ true }
+    ensures room { IfOk result (λ found. IfSome found (λ from. from + n ≤ 65536)) }
+    ensures value { IsTrue H.model.tells → IfOk result (λ found. MatchOption found
+        (65536 < length (file_in (H.model.contents host.old) file) + n)
+        (λ from. from ≡ length (file_in (H.model.contents host.old) file))) }
+    ensures contents { IsTrue H.model.tells → H.model.contents host.new ≡ H.model.contents host.old }
+    ensures cause { CountsFault (is_err result) (H.model.fault_count host.old) (H.model.fault_count host.new) }
+{
+    let len = host.len(file)?;
+    if len as u64 + n as u64 > MAX_FILE {
+        return Ok(None);
+    }
+    Ok(Some(len))
+}
+
+// Appends until all is appended or an append fails.
+fn append_whole<H: Host>(host: &mut H, file: Num, bytes: &[u8]) -> Appended
+    requires few { length bytes.now < 2 ^ 32 }
+    requires there { IsTrue H.model.tells → has_file (H.model.contents host.old) file ≡ true }
+    requires room { IsTrue H.model.tells → HasRoom (H.model.contents host.old) file bytes.now }
+    ensures whole { OnOk result.end (result.done ≡ length bytes.now) }
+    ensures short { OnErr result.end (result.done < length bytes.now) }
+    ensures contents { IsTrue H.model.tells
+        → H.model.contents host.new ≡ appended_front (H.model.contents host.old) file (take result.done bytes.now) }
+    ensures cause { CountsFault (is_fault result.end) (H.model.fault_count host.old) (H.model.fault_count host.new) }
+{
+    let mut done: u32 = 0;
+    while (done as usize) < bytes.len() {
+        match host.append(file, &bytes[done as usize..]) {
+            Ok(count) => done += count,
+            Err(error) => {
+                return Appended {
+                    done,
+                    end: Err(error),
+                };
+            }
+        }
+    }
+    Appended { done, end: Ok(()) }
+}
+
+// Pushes the record of an append that does all the bytes.
+fn push_tail(undo: &mut Stack, file: Num, from: u32, bytes: &Chunk) -> Result<(), NoMemory>
+    requires some { 0 < length bytes.now }
+    requires room { from + length bytes.now ≤ 65536 }
+    requires none { undo.old.ended ≡ [] }
+    ensures ok { OnOk result (undo.new
+        ≡ record { pending = undo.old.pending ++ tail file from bytes.now (length bytes.now); ended = [] }) }
+    ensures err { OnErr result (undo.new ≡ undo.old) }
+{
+    let after = bytes.share()?;
+    let n = bytes.len() as u32;
+    undo.push(Undo::Tail {
+        file,
+        from,
+        after,
+        n,
+    })
+}
+
+// Appends to a file of `from` bytes. The record of it is there before.
+fn append_recorded<H: Host>(
+    host: &mut H,
+    undo: &mut Stack,
+    file: Num,
+    from: u32,
+    bytes: &Chunk,
+) -> Appended
+    requires some { 0 < length bytes.now }
+    requires room { from + length bytes.now ≤ 65536 }
+    requires there { IsTrue H.model.tells → has_file (H.model.contents host.old) file ≡ true }
+    requires end { IsTrue H.model.tells → from ≡ length (file_in (H.model.contents host.old) file) }
+    requires none { undo.old.ended ≡ [] }
+    ensures whole { OnOk result.end (result.done ≡ length bytes.now) }
+    ensures short { OnErr result.end (result.done < length bytes.now) }
+    ensures contents { IsTrue H.model.tells
+        → H.model.contents host.new ≡ appended_front (H.model.contents host.old) file (take result.done bytes.now) }
+    ensures records { undo.new
+        ≡ record { pending = undo.old.pending ++ tail file from bytes.now result.done; ended = [] } }
+    ensures cause { CountsFault (is_fault result.end) (H.model.fault_count host.old) (H.model.fault_count host.new) }
+{
+    if push_tail(undo, file, from, bytes).is_err() {
+        return Appended {
+            done: 0,
+            end: Err(HostErr::NoMemory),
+        };
+    }
+    let appended = append_whole(host, file, bytes.as_slice());
+    if appended.end.is_err() {
+        undo.trim(appended.done);
+    }
+    appended
+}
+
+// Appends bytes, and moves the position behind what was done.
+fn append<H: Host>(
+    host: &mut H,
+    me: &mut Private,
+    undo: &mut Stack,
+    file: OpenFile,
+    bytes: &Chunk,
+) -> Result<Reply, NoMemory>
+    requires some { 0 < length bytes.now }
+    requires most { length bytes.now ≤ 1024 }
+    requires handle { file.h < 256 }
+    requires there { IsTrue H.model.tells → has_file (H.model.contents host.old) file.num ≡ true }
+    requires none { undo.old.ended ≡ [] }
+    ensures told { IsTrue H.model.tells
+        → IfOk result (Appends (H.model.contents host.old) (H.model.contents host.new) file.num bytes.now) }
+    ensures reply { IfOk result (λ reply. is_check_reply (XWriteSeq file.h bytes.now) reply ≡ false) }
+    ensures me { IsTrue H.model.tells → IfOk result (λ reply. me.new ≡ moved_on me.old file.h file.num
+        (length (file_in (H.model.contents host.old) file.num)) (done_of (length bytes.now) reply)) }
+    ensures same { (me.new.stored ≡ me.old.stored) × (me.new.made ≡ me.old.made) }
+    ensures records { IsTrue H.model.tells → IfOk result (λ reply. undo.new ≡ record {
+      pending = undo.old.pending ++ append_record (world_of (H.model.contents host.old)) bytes.now (done_of (length bytes.now) reply)
+          (File file.num file.at);
+      ended = [];
+    }) }
+    ensures grows { OnOk result (AddsOne undo.old undo.new) }
+    ensures err { OnErr result (me.new ≡ me.old) }
+    ensures stops { OnErr result (StopsShort H.model file.num bytes.now
+        (record { host = host.old; undo = undo.old }) (record { host = host.new; undo = undo.new })) }
+    ensures cause { CountsFault (replies_fault result) (H.model.fault_count host.old) (H.model.fault_count host.new) }
+    ensures now { IfOk result (λ reply. is_late reply ≡ false) }
+{
+    let from = match end_of(host, file.num, bytes.len() as u32) {
+        Ok(Some(from)) => from,
+        Ok(None) => return Ok(Reply::TooBig),
+        Err(_) => return Ok(Reply::Fault(0)),
+    };
+    let appended = append_recorded(host, undo, file.num, from, bytes);
+    let reply = match appended.end {
+        Ok(()) => Reply::Done,
+        Err(HostErr::Fault) => Reply::Fault(appended.done),
+        Err(HostErr::NoMemory) => return Err(NoMemory),
+    };
+    move_on(me, OpenFile { at: from, ..file }, appended.done);
+    Ok(reply)
+}
+
+// Appends bytes to an open file that the checks let pass.
+fn append_next<H: Host>(
+    host: &mut H,
+    me: &mut Private,
+    undo: &mut Stack,
+    file: OpenFile,
+    bytes: &Chunk,
+) -> Result<Reply, NoMemory>
+    requires file { IsOpenAt me.old file }
+    requires few { (length bytes.now ≤ 1024) × (me.old.stored + length bytes.now ≤ 16384) }
+    requires there { IsTrue H.model.tells → IsOpenIn (H.model.contents host.old) (File file.num file.at) }
+    requires none { undo.old.ended ≡ [] }
+    ensures acts { (number : ℕ) → IsTrue H.model.tells → IfOk result (Acts (XWriteSeq file.h bytes.now)
+        (record { contents = H.model.contents host.old; number = number; me = me.old })
+        (record { contents = H.model.contents host.new; number = number; me = me.new })) }
+    ensures reply { IfOk result (λ reply. is_check_reply (XWriteSeq file.h bytes.now) reply ≡ false) }
+    ensures records { IsTrue H.model.tells → IfOk result (λ reply. undo.new ≡ record {
+      pending = undo.old.pending ++ append_record (world_of (H.model.contents host.old)) bytes.now (done_of (length bytes.now) reply)
+          (File file.num file.at);
+      ended = [];
+    }) }
+    ensures grows { OnOk result (AddsOne undo.old undo.new) }
+    ensures stored { me.new.stored ≤ 16384 }
+    ensures made { me.new.made ≡ me.old.made }
+    ensures err { OnErr result (me.new ≡ me.old) }
+    ensures stops { OnErr result (StopsShort H.model file.num bytes.now
+        (record { host = host.old; undo = undo.old }) (record { host = host.new; undo = undo.new })) }
+    ensures some { OnErr result (0 < length bytes.now) }
+    ensures cause { CountsFault (replies_fault result) (H.model.fault_count host.old) (H.model.fault_count host.new) }
+    ensures now { IfOk result (λ reply. is_late reply ≡ false) }
+{
+    if bytes.is_empty() {
+        return Ok(Reply::Done);
+    }
+    let reply = append(host, me, undo, file, bytes)?;
+    me.stored += bytes.len() as u32;
+    Ok(reply)
+}
+
+/// Appends bytes to an open file, whose position is then its end. The record is pushed before the
+/// host's append, and covers what was done; memory may be wanting behind a front.
+pub fn x_write_seq<H: Host>(
+    host: &mut H,
+    me: &mut Private,
+    undo: &mut Stack,
+    h: u16,
+    bytes: &Chunk,
+) -> Result<Reply, NoMemory>
+    requires stored { me.old.stored ≤ 16384 }
+    requires open { IsTrue H.model.tells → IsOpenIn (H.model.contents host.old) (place_of me.old.places h) }
+    requires none { undo.old.ended ≡ [] }
+    ensures call { (number : ℕ) → IsFileCall H.model (XWriteSeq h bytes.now)
+        (record { host = host.old; number = number; me = me.old; undo = undo.old })
+        (record { host = host.new; number = number; me = me.new; undo = undo.new }) result }
+    ensures stored { me.new.stored ≤ 16384 }
+    ensures made { me.new.made ≡ me.old.made }
+    ensures now { IfOk result (λ reply. is_late reply ≡ false) }
+{
+    let file = match open_file(me, h, bytes.len() as u64) {
+        Ok(file) => file,
+        Err(reply) => return Ok(reply),
+    };
+    append_next(host, me, undo, file, bytes)
+}

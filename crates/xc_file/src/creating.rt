@@ -1,0 +1,147 @@
+ghost use Rattle.std.specs.Prelude.{◌≡◌, ◌≤◌, ◌<◌, ◌++◌, [], Some, false, IfOk, OnOk, OnErr, IsTrue};
+ghost use Rattle.xc_world.specs.Late.{is_late};
+ghost use Rattle.xc_world.specs.Trail.{create_record};
+ghost use Rattle.xc_world.specs.Act.Names.{next_num};
+ghost use Rattle.xc_data.specs.Counts.{CountsFault};
+ghost use Rattle.xc_data.specs.declared.call.Call.TheVariants.{XCreate};
+ghost use Rattle.xc_file.specs.Calls.{IsFileCall, IsNewIn, is_check_reply, replies_fault};
+ghost use Rattle.xc_file.specs.Naming.{IsAbsent, IsMadeAt, Creates, with_made};
+ghost use Rattle.xc_file.specs.Writing.{AddsOne};
+
+use xc_compensate::Stack;
+use xc_data::{Name, NoMemory, Num, Place, Private, Reply, Undo};
+use xc_host::{Host, HostErr};
+
+/// The most objects that a transaction makes.
+const MAX_MADE: u16 = 16;
+
+// Makes a file under a name that is absent. The record of it is there before.
+fn create_recorded<H: Host>(
+    host: &mut H,
+    me: &Private,
+    undo: &mut Stack,
+    tx: u32,
+    name: &Name,
+    h: u16,
+) -> Result<Reply, NoMemory>
+    requires absent { IsTrue H.model.tells → IsAbsent (H.model.contents host.old) name.now }
+    requires new { IsTrue H.model.tells → IsNewIn (H.model.contents host.old) me.now tx }
+    requires none { undo.old.ended ≡ [] }
+    ensures made { IfOk result (λ reply. IsMadeAt h reply) }
+    ensures reply { IfOk result (λ reply. is_check_reply (XCreate name.now) reply ≡ false) }
+    ensures told { IsTrue H.model.tells
+        → IfOk result (Creates (H.model.contents host.old) (H.model.contents host.new) name.now (next_num me.now tx)) }
+    ensures records { IfOk result (λ reply. undo.new
+        ≡ record { pending = undo.old.pending ++ create_record me.now tx name.now reply; ended = [] }) }
+    ensures grows { OnOk result (AddsOne undo.old undo.new) }
+    ensures err_undo { OnErr result (undo.new ≡ undo.old) }
+    ensures err_contents { IsTrue H.model.tells → OnErr result (H.model.contents host.new ≡ H.model.contents host.old) }
+    ensures cause { CountsFault (replies_fault result) (H.model.fault_count host.old) (H.model.fault_count host.new) }
+    ensures now { IfOk result (λ reply. is_late reply ≡ false) }
+{
+    let num = Num { tx, k: me.made };
+    undo.push(Undo::Made { name: *name, num })?;
+    let created = host.create(name, num);
+    if created.is_err() {
+        undo.trim(0);
+    }
+    match created {
+        Ok(()) => Ok(Reply::Made(h)),
+        Err(HostErr::Fault) => Ok(Reply::Fault(0)),
+        Err(HostErr::NoMemory) => Err(NoMemory),
+    }
+}
+
+// Makes a file under a name, unless the name is there.
+fn create<H: Host>(
+    host: &mut H,
+    me: &Private,
+    undo: &mut Stack,
+    tx: u32,
+    name: &Name,
+    h: u16,
+) -> Result<Reply, NoMemory>
+    requires new { IsTrue H.model.tells → IsNewIn (H.model.contents host.old) me.now tx }
+    requires none { undo.old.ended ≡ [] }
+    ensures made { IfOk result (λ reply. IsMadeAt h reply) }
+    ensures reply { IfOk result (λ reply. is_check_reply (XCreate name.now) reply ≡ false) }
+    ensures told { IsTrue H.model.tells
+        → IfOk result (Creates (H.model.contents host.old) (H.model.contents host.new) name.now (next_num me.now tx)) }
+    ensures records { IfOk result (λ reply. undo.new
+        ≡ record { pending = undo.old.pending ++ create_record me.now tx name.now reply; ended = [] }) }
+    ensures grows { OnOk result (AddsOne undo.old undo.new) }
+    ensures err_undo { OnErr result (undo.new ≡ undo.old) }
+    ensures err_contents { IsTrue H.model.tells → OnErr result (H.model.contents host.new ≡ H.model.contents host.old) }
+    ensures cause { CountsFault (replies_fault result) (H.model.fault_count host.old) (H.model.fault_count host.new) }
+    ensures now { IfOk result (λ reply. is_late reply ≡ false) }
+{
+    match host.lookup(name) {
+        Ok(None) => create_recorded(host, me, undo, tx, name, h),
+        Ok(Some(_)) => Ok(Reply::Exists),
+        Err(HostErr::Fault) => Ok(Reply::Fault(0)),
+        Err(HostErr::NoMemory) => Err(NoMemory),
+    }
+}
+
+// Makes a file under a name, at a vacant handle.
+fn create_at<H: Host>(
+    host: &mut H,
+    me: &mut Private,
+    undo: &mut Stack,
+    tx: u32,
+    name: &Name,
+    h: u16,
+) -> Result<Reply, NoMemory>
+    requires few { me.old.made < 16 }
+    requires handle { h < 256 }
+    requires new { IsTrue H.model.tells → IsNewIn (H.model.contents host.old) me.old tx }
+    requires none { undo.old.ended ≡ [] }
+    ensures made { IfOk result (λ reply. IsMadeAt h reply) }
+    ensures me { IfOk result (λ reply. me.new ≡ with_made me.old h (next_num me.old tx) reply) }
+    ensures err { OnErr result (me.new ≡ me.old) }
+    ensures reply { IfOk result (λ reply. is_check_reply (XCreate name.now) reply ≡ false) }
+    ensures told { IsTrue H.model.tells
+        → IfOk result (Creates (H.model.contents host.old) (H.model.contents host.new) name.now (next_num me.old tx)) }
+    ensures records { IfOk result (λ reply. undo.new
+        ≡ record { pending = undo.old.pending ++ create_record me.old tx name.now reply; ended = [] }) }
+    ensures grows { OnOk result (AddsOne undo.old undo.new) }
+    ensures err_undo { OnErr result (undo.new ≡ undo.old) }
+    ensures err_contents { IsTrue H.model.tells → OnErr result (H.model.contents host.new ≡ H.model.contents host.old) }
+    ensures cause { CountsFault (replies_fault result) (H.model.fault_count host.old) (H.model.fault_count host.new) }
+    ensures now { IfOk result (λ reply. is_late reply ≡ false) }
+{
+    let num = Num { tx, k: me.made };
+    let reply = create(host, me, undo, tx, name, h)?;
+    if let Reply::Made(_) = reply {
+        me.set_place(h, Place::File { num, at: 0 });
+        me.made += 1;
+    }
+    Ok(reply)
+}
+
+/// Makes an empty file under a name that must be absent, and opens it. Its record is pushed before the
+/// host's create.
+pub fn x_create<H: Host>(
+    host: &mut H,
+    me: &mut Private,
+    undo: &mut Stack,
+    tx: u32,
+    name: &Name,
+) -> Result<Reply, NoMemory>
+    requires new { IsTrue H.model.tells → IsNewIn (H.model.contents host.old) me.old tx }
+    requires none { undo.old.ended ≡ [] }
+    ensures call { IsFileCall H.model (XCreate name.now)
+        (record { host = host.old; number = tx; me = me.old; undo = undo.old })
+        (record { host = host.new; number = tx; me = me.new; undo = undo.new }) result }
+    ensures stored { me.new.stored ≡ me.old.stored }
+    ensures made { me.old.made ≤ 16 → me.new.made ≤ 16 }
+    ensures now { IfOk result (λ reply. is_late reply ≡ false) }
+{
+    if me.made >= MAX_MADE {
+        return Ok(Reply::TooMuch);
+    }
+    let Some(h) = me.vacant() else {
+        return Ok(Reply::TooMuch);
+    };
+    create_at(host, me, undo, tx, name, h)
+}

@@ -1,0 +1,80 @@
+ghost use Rattle.std.specs.Prelude.{◌≡◌, ℕ, true, false, Ok, IsTrue};
+ghost use Rattle.xc_world.specs.Late.{is_late};
+ghost use Rattle.xc_data.specs.Counts.{CountsFault};
+ghost use Rattle.xc_data.specs.Faults.{is_fault_reply};
+ghost use Rattle.xc_data.specs.Private.{place_of};
+ghost use Rattle.xc_data.specs.declared.call.Call.TheVariants.{XSeek, XLen, XClose};
+ghost use Rattle.xc_host.specs.Contents.{has_file};
+ghost use Rattle.xc_compensate.specs.Records.{Records};
+ghost use Rattle.xc_file.specs.Calls.{Acts, IsFileCall, IsOpenIn, StepsAlone, is_check_reply};
+ghost use Rattle.xc_file.specs.Checks.{IsOpenAt};
+
+use crate::checks::{OpenFile, file_at};
+use xc_data::{Place, Private, Reply};
+use xc_host::Host;
+
+/// The furthest position of an open file, which is also the most bytes that a file has.
+const MAX_POSITION: u64 = 65536;
+
+/// Sets the position of an open file, also past the file's end.
+pub fn x_seek(me: &mut Private, h: u16, to: u64) -> Reply
+    ensures call { StepsAlone (XSeek h to) me.old me.new result }
+    ensures same { (me.new.stored ≡ me.old.stored) × (me.new.made ≡ me.old.made) }
+    ensures now { is_late result ≡ false }
+{
+    let Place::File { num, .. } = me.place(h) else {
+        return Reply::BadHandle;
+    };
+    if to > MAX_POSITION {
+        return Reply::TooBig;
+    }
+    let at = to as u32;
+    me.set_place(h, Place::File { num, at });
+    Reply::Done
+}
+
+/// Gives up a handle. What stood at it is left as it is.
+pub fn x_close(me: &mut Private, h: u16) -> Reply
+    ensures call { StepsAlone (XClose h) me.old me.new result }
+    ensures same { (me.new.stored ≡ me.old.stored) × (me.new.made ≡ me.old.made) }
+    ensures now { is_late result ≡ false }
+{
+    if me.place(h).is_vacant() {
+        return Reply::BadHandle;
+    }
+    me.set_place(h, Place::Vacant);
+    Reply::Done
+}
+
+// Asks the host for an open file's length.
+fn len_of<H: Host>(host: &mut H, me: &Private, file: OpenFile) -> Reply
+    requires file { IsOpenAt me.now file }
+    requires there { IsTrue H.model.tells → has_file (H.model.contents host.old) file.num ≡ true }
+    ensures acts { (number : ℕ) → IsTrue H.model.tells → Acts (XLen file.h)
+        (record { contents = H.model.contents host.old; number = number; me = me.now })
+        (record { contents = H.model.contents host.new; number = number; me = me.now }) result }
+    ensures reply { is_check_reply (XLen file.h) result ≡ false }
+    ensures contents { IsTrue H.model.tells → H.model.contents host.new ≡ H.model.contents host.old }
+    ensures cause { CountsFault (is_fault_reply result) (H.model.fault_count host.old) (H.model.fault_count host.new) }
+    ensures now { is_late result ≡ false }
+{
+    match host.len(file.num) {
+        Ok(n) => Reply::Number(n as u64),
+        Err(_) => Reply::Fault(0),
+    }
+}
+
+/// Tells an open file's length. It takes no memory.
+pub fn x_len<H: Host>(host: &mut H, me: &Private, h: u16) -> Reply
+    requires open { IsTrue H.model.tells → IsOpenIn (H.model.contents host.old) (place_of me.now.places h) }
+    ensures call { (number : ℕ) (undo : Records) → IsFileCall H.model (XLen h)
+        (record { host = host.old; number = number; me = me.now; undo = undo })
+        (record { host = host.new; number = number; me = me.now; undo = undo }) (Ok result) }
+    ensures contents { IsTrue H.model.tells → H.model.contents host.new ≡ H.model.contents host.old }
+    ensures now { is_late result ≡ false }
+{
+    let Some(file) = file_at(me, h) else {
+        return Reply::BadHandle;
+    };
+    len_of(host, me, file)
+}

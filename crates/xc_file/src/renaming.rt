@@ -1,0 +1,95 @@
+ghost use Rattle.std.specs.Prelude.{◌≡◌, ℕ, ◌++◌, [], false, IfOk, OnOk, OnErr, IsTrue};
+ghost use Rattle.xc_world.specs.Late.{is_late};
+ghost use Rattle.xc_world.specs.Trail.{rename_record};
+ghost use Rattle.xc_data.specs.Counts.{CountsFault};
+ghost use Rattle.xc_data.specs.declared.call.Call.TheVariants.{XRename};
+ghost use Rattle.xc_data.specs.declared.private.Private.{Private};
+ghost use Rattle.xc_file.specs.Calls.{IsFileCall, is_check_reply, replies_fault};
+ghost use Rattle.xc_file.specs.Naming.{IsNamed, IsAbsent, Renames};
+ghost use Rattle.xc_file.specs.Writing.{AddsOne};
+
+use xc_compensate::Stack;
+use xc_data::{Name, NoMemory, Reply, Undo};
+use xc_host::{Host, HostErr};
+
+// Gives a file another name, which is absent. The record of it is there before.
+fn rename_recorded<H: Host>(
+    host: &mut H,
+    undo: &mut Stack,
+    from: &Name,
+    to: &Name,
+) -> Result<Reply, NoMemory>
+    requires there { IsTrue H.model.tells → IsNamed (H.model.contents host.old) from.now }
+    requires absent { IsTrue H.model.tells → IsAbsent (H.model.contents host.old) to.now }
+    requires none { undo.old.ended ≡ [] }
+    ensures reply { IfOk result (λ reply. is_check_reply (XRename from.now to.now) reply ≡ false) }
+    ensures told { IsTrue H.model.tells
+        → IfOk result (Renames (H.model.contents host.old) (H.model.contents host.new) from.now to.now) }
+    ensures records { IfOk result (λ reply. undo.new
+        ≡ record { pending = undo.old.pending ++ rename_record from.now to.now reply; ended = [] }) }
+    ensures grows { OnOk result (AddsOne undo.old undo.new) }
+    ensures err { OnErr result (undo.new ≡ undo.old) }
+    ensures err_contents { IsTrue H.model.tells → OnErr result (H.model.contents host.new ≡ H.model.contents host.old) }
+    ensures cause { CountsFault (replies_fault result) (H.model.fault_count host.old) (H.model.fault_count host.new) }
+    ensures now { IfOk result (λ reply. is_late reply ≡ false) }
+{
+    let record = Undo::Moved {
+        from: *from,
+        to: *to,
+    };
+    undo.push(record)?;
+    if host.rename(from, to).is_err() {
+        undo.trim(0);
+        return Ok(Reply::Fault(0));
+    }
+    Ok(Reply::Done)
+}
+
+// Gives a name's file another that is absent.
+fn rename<H: Host>(
+    host: &mut H,
+    undo: &mut Stack,
+    from: &Name,
+    to: &Name,
+) -> Result<Reply, NoMemory>
+    requires none { undo.old.ended ≡ [] }
+    ensures reply { IfOk result (λ reply. is_check_reply (XRename from.now to.now) reply ≡ false) }
+    ensures told { IsTrue H.model.tells
+        → IfOk result (Renames (H.model.contents host.old) (H.model.contents host.new) from.now to.now) }
+    ensures records { IfOk result (λ reply. undo.new
+        ≡ record { pending = undo.old.pending ++ rename_record from.now to.now reply; ended = [] }) }
+    ensures grows { OnOk result (AddsOne undo.old undo.new) }
+    ensures err { OnErr result (undo.new ≡ undo.old) }
+    ensures err_contents { IsTrue H.model.tells → OnErr result (H.model.contents host.new ≡ H.model.contents host.old) }
+    ensures cause { CountsFault (replies_fault result) (H.model.fault_count host.old) (H.model.fault_count host.new) }
+    ensures now { IfOk result (λ reply. is_late reply ≡ false) }
+{
+    match host.lookup(from) {
+        Ok(Some(_)) => {}
+        Ok(None) => return Ok(Reply::NoName),
+        Err(HostErr::Fault) => return Ok(Reply::Fault(0)),
+        Err(HostErr::NoMemory) => return Err(NoMemory),
+    }
+    match host.lookup(to) {
+        Ok(None) => rename_recorded(host, undo, from, to),
+        Ok(Some(_)) => Ok(Reply::Exists),
+        Err(HostErr::Fault) => Ok(Reply::Fault(0)),
+        Err(HostErr::NoMemory) => Err(NoMemory),
+    }
+}
+
+/// Gives a name's file another name, which must be absent. Its record is pushed before the host's rename.
+pub fn x_rename<H: Host>(
+    host: &mut H,
+    undo: &mut Stack,
+    from: &Name,
+    to: &Name,
+) -> Result<Reply, NoMemory>
+    requires none { undo.old.ended ≡ [] }
+    ensures call { (number : ℕ) (me : Private) → IsFileCall H.model (XRename from.now to.now)
+        (record { host = host.old; number = number; me = me; undo = undo.old })
+        (record { host = host.new; number = number; me = me; undo = undo.new }) result }
+    ensures now { IfOk result (λ reply. is_late reply ≡ false) }
+{
+    rename(host, undo, from, to)
+}

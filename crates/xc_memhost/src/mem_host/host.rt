@@ -1,0 +1,251 @@
+ghost use Rattle.std.specs.Prelude.{◌≡◌, ◌≤◌, ◌<◌, ◌+◌, true, false, length, take, is_some, None, Some};
+ghost use Rattle.std.specs.Prelude.{IfOk, OnOk, OnErr, IsErrOf, is_err};
+ghost use Rattle.std.specs.FinMap as map;
+ghost use Rattle.xc_data.specs.Counts.{CountsFault};
+ghost use Rattle.xc_data.specs.Limits.{IsPrologue};
+ghost use Rattle.xc_host.specs.Cause.{is_fault, IsCalled};
+ghost use Rattle.xc_host.specs.Contents.{file_in, has_file, wrote, appended, shortened, created, uncreated, renamed};
+ghost use Rattle.xc_host.specs.Fronts.{IsFront};
+ghost use Rattle.xc_memhost.specs.State.{opened_state, mem_host_model};
+ghost use Rattle.xc_memhost.specs.Faults.{is_listed, begun};
+ghost use Rattle.xc_memhost.specs.Machine.{front_of, written_of, written, lengthened};
+
+use super::MemHost;
+use crate::faults::{Faults, grained};
+use crate::objects::Objects;
+use xc_data::{Chunk, Kind, Name, Num, Prologue};
+use xc_host::{Fault, Host, HostErr, OpenErr};
+
+impl Host for MemHost {
+    ghost model = { mem_host_model };
+
+    fn faults(&self) -> u64 {
+        self.faults
+    }
+
+    fn open_with(&mut self, prologue: &Prologue) -> Result<(), OpenErr>
+        requires { IsPrologue prologue.now }
+        // All counts of calls begin anew.
+        ensures state { OnOk result (self.new ≡ opened_state prologue.now self.old.fault_count) }
+        ensures unchanged { OnErr result (self.new ≡ self.old) }
+        ensures refused { IsErrOf result OpenErr.NotScripted → ⊥ }
+    {
+        let objects = Objects::of(self.alloc, prologue.objects.as_slice())?;
+        let lines = Faults::of(self.alloc, prologue.faults.as_slice())?;
+        self.objects = objects;
+        self.lines = lines;
+        self.grain = prologue.grain;
+        self.calls = [0; 25];
+        self.all = 0;
+        Ok(())
+    }
+
+    fn lookup(&mut self, name: &Name) -> Result<Option<Num>, HostErr>
+        ensures value { IfOk result (λ found. found ≡ map.get self.old.contents.names name.now) }
+        ensures called { IsCalled self.old.all self.new.all }
+        ensures cause { CountsFault (is_fault result) self.old.fault_count self.new.fault_count }
+
+        // Exactly the listed calls fail, and none wants memory.
+        ensures fault { is_fault result ≡ is_listed Kind.Lookup self.old }
+        ensures answers { is_err result ≡ is_listed Kind.Lookup self.old }
+        ensures state { self.new ≡ begun Kind.Lookup self.old }
+    {
+        if self.fails(Kind::Lookup) {
+            return Err(HostErr::Fault);
+        }
+        self.objects.settle();
+        Ok(self.objects.find(*name))
+    }
+
+    fn create(&mut self, name: &Name, num: Num) -> Result<(), HostErr>
+        requires absent { map.get self.old.contents.names name.now ≡ None }
+        requires new { has_file self.old.contents num ≡ false }
+        ensures called { IsCalled self.old.all self.new.all }
+        ensures cause { CountsFault (is_fault result) self.old.fault_count self.new.fault_count }
+
+        // Exactly the listed calls fail. Without memory a call was counted, and nothing else.
+        ensures fault { is_fault result ≡ is_listed Kind.Create self.old }
+        ensures state { OnOk result
+            (self.new ≡ record (begun Kind.Create self.old) { contents = created self.old.contents name.now num }) }
+        ensures failed { OnErr result (self.new ≡ begun Kind.Create self.old) }
+    {
+        if self.fails(Kind::Create) {
+            return Err(HostErr::Fault);
+        }
+        Ok(self.objects.create(*name, num)?)
+    }
+
+    fn len(&mut self, file: Num) -> Result<u32, Fault>
+        requires there { has_file self.old.contents file ≡ true }
+        ensures value { IfOk result (λ n. n ≡ length (file_in self.old.contents file)) }
+        ensures called { IsCalled self.old.all self.new.all }
+        ensures cause { CountsFault (is_err result) self.old.fault_count self.new.fault_count }
+
+        // Exactly the listed calls fail.
+        ensures fault { is_err result ≡ is_listed Kind.Len self.old }
+        ensures state { self.new ≡ begun Kind.Len self.old }
+    {
+        if self.fails(Kind::Len) {
+            return Err(Fault);
+        }
+        Ok(self.objects.len(file))
+    }
+
+    fn read_at(&mut self, file: Num, at: u32, n: u32) -> Result<Chunk, HostErr>
+        requires there { has_file self.old.contents file ≡ true }
+        ensures bound { IfOk result (λ front. length front ≤ n) }
+        ensures value { IfOk result (λ front. IsFront (file_in self.old.contents file) at n front) }
+        ensures called { IsCalled self.old.all self.new.all }
+        ensures cause { CountsFault (is_fault result) self.old.fault_count self.new.fault_count }
+
+        // Exactly the listed calls fail, and a read gives exactly so many bytes.
+        ensures fault { is_fault result ≡ is_listed Kind.ReadAt self.old }
+        ensures front { IfOk result (λ front. front ≡ front_of self.old file at n) }
+        ensures state { self.new ≡ begun Kind.ReadAt self.old }
+    {
+        if self.fails(Kind::ReadAt) {
+            return Err(HostErr::Fault);
+        }
+        let n = grained(self.grain, n);
+        Ok(Chunk::new(self.alloc, self.objects.front(file, at, n))?)
+    }
+
+    fn write_at(&mut self, file: Num, at: u32, bytes: &[u8]) -> Result<u32, Fault>
+        requires there { has_file self.old.contents file ≡ true }
+        requires inside { at + length bytes.now ≤ length (file_in self.old.contents file) }
+        requires some { 0 < length bytes.now }
+        ensures bound { IfOk result (λ n. (0 < n) × (n ≤ length bytes.now)) }
+        ensures ok { IfOk result (λ n. self.new.contents ≡ wrote self.old.contents file at (take n bytes.now)) }
+        ensures called { IsCalled self.old.all self.new.all }
+        ensures cause { CountsFault (is_err result) self.old.fault_count self.new.fault_count }
+
+        // Exactly the listed calls fail, and a write does exactly so many bytes.
+        ensures fault { is_err result ≡ is_listed Kind.WriteAt self.old }
+        ensures size { IfOk result (λ n. n ≡ written_of self.old bytes.now) }
+        ensures state { OnOk result (self.new ≡ record (begun Kind.WriteAt self.old) { contents = written self.old file at bytes.now }) }
+        ensures failed { OnErr result (self.new ≡ begun Kind.WriteAt self.old) }
+    {
+        if self.fails(Kind::WriteAt) {
+            return Err(Fault);
+        }
+        Ok(self.write(file, at, bytes))
+    }
+
+    fn append(&mut self, file: Num, bytes: &[u8]) -> Result<u32, HostErr>
+        requires there { has_file self.old.contents file ≡ true }
+        requires fits { length (file_in self.old.contents file) + length bytes.now ≤ 65536 }
+        requires some { 0 < length bytes.now }
+        ensures bound { IfOk result (λ n. (0 < n) × (n ≤ length bytes.now)) }
+        ensures ok { IfOk result (λ n. self.new.contents ≡ appended self.old.contents file (take n bytes.now)) }
+        ensures called { IsCalled self.old.all self.new.all }
+        ensures cause { CountsFault (is_fault result) self.old.fault_count self.new.fault_count }
+
+        // Exactly the listed calls fail, and one does exactly so many bytes. Without memory a call was
+        // counted, and nothing else.
+        ensures fault { is_fault result ≡ is_listed Kind.Append self.old }
+        ensures size { IfOk result (λ n. n ≡ written_of self.old bytes.now) }
+        ensures state { OnOk result (self.new ≡ record (begun Kind.Append self.old) { contents = lengthened self.old file bytes.now }) }
+        ensures failed { OnErr result (self.new ≡ begun Kind.Append self.old) }
+    {
+        if self.fails(Kind::Append) {
+            return Err(HostErr::Fault);
+        }
+        Ok(self.lengthen(file, bytes)?)
+    }
+
+    fn rename(&mut self, from: &Name, to: &Name) -> Result<(), Fault>
+        requires there { is_some (map.get self.old.contents.names from.now) ≡ true }
+        requires absent { map.get self.old.contents.names to.now ≡ None }
+        ensures called { IsCalled self.old.all self.new.all }
+        ensures cause { CountsFault (is_err result) self.old.fault_count self.new.fault_count }
+
+        // Exactly the listed calls fail.
+        ensures fault { is_err result ≡ is_listed Kind.Rename self.old }
+        ensures state { OnOk result
+            (self.new ≡ record (begun Kind.Rename self.old) { contents = renamed self.old.contents from.now to.now }) }
+        ensures failed { OnErr result (self.new ≡ begun Kind.Rename self.old) }
+    {
+        if self.fails(Kind::Rename) {
+            return Err(Fault);
+        }
+        self.objects.rename(*from, *to);
+        Ok(())
+    }
+
+    fn restore(&mut self, file: Num, at: u32, bytes: &[u8]) -> Result<u32, Fault>
+        requires there { has_file self.old.contents file ≡ true }
+        requires inside { at + length bytes.now ≤ length (file_in self.old.contents file) }
+        requires some { 0 < length bytes.now }
+        ensures bound { IfOk result (λ n. (0 < n) × (n ≤ length bytes.now)) }
+        ensures ok { IfOk result (λ n. self.new.contents ≡ wrote self.old.contents file at (take n bytes.now)) }
+        ensures called { IsCalled self.old.all self.new.all }
+        ensures cause { CountsFault (is_err result) self.old.fault_count self.new.fault_count }
+
+        // As a write.
+        ensures fault { is_err result ≡ is_listed Kind.Restore self.old }
+        ensures size { IfOk result (λ n. n ≡ written_of self.old bytes.now) }
+        ensures state { OnOk result (self.new ≡ record (begun Kind.Restore self.old) { contents = written self.old file at bytes.now }) }
+        ensures failed { OnErr result (self.new ≡ begun Kind.Restore self.old) }
+    {
+        if self.fails(Kind::Restore) {
+            return Err(Fault);
+        }
+        Ok(self.write(file, at, bytes))
+    }
+
+    fn cut(&mut self, file: Num, len: u32) -> Result<(), Fault>
+        requires there { has_file self.old.contents file ≡ true }
+        requires within { len ≤ length (file_in self.old.contents file) }
+        ensures called { IsCalled self.old.all self.new.all }
+        ensures cause { CountsFault (is_err result) self.old.fault_count self.new.fault_count }
+
+        // Exactly the listed calls fail.
+        ensures fault { is_err result ≡ is_listed Kind.Cut self.old }
+        ensures state { OnOk result (self.new ≡ record (begun Kind.Cut self.old) { contents = shortened self.old.contents file len }) }
+        ensures failed { OnErr result (self.new ≡ begun Kind.Cut self.old) }
+    {
+        if self.fails(Kind::Cut) {
+            return Err(Fault);
+        }
+        self.objects.cut(file, len);
+        Ok(())
+    }
+
+    fn uncreate(&mut self, name: &Name, num: Num) -> Result<(), Fault>
+        requires named { map.get self.old.contents.names name.now ≡ Some num }
+        requires there { has_file self.old.contents num ≡ true }
+        ensures called { IsCalled self.old.all self.new.all }
+        ensures cause { CountsFault (is_err result) self.old.fault_count self.new.fault_count }
+
+        // Exactly the listed calls fail.
+        ensures fault { is_err result ≡ is_listed Kind.Uncreate self.old }
+        ensures state { OnOk result
+            (self.new ≡ record (begun Kind.Uncreate self.old) { contents = uncreated self.old.contents name.now num }) }
+        ensures failed { OnErr result (self.new ≡ begun Kind.Uncreate self.old) }
+    {
+        if self.fails(Kind::Uncreate) {
+            return Err(Fault);
+        }
+        self.objects.uncreate(*name, num);
+        Ok(())
+    }
+
+    fn name_back(&mut self, from: &Name, to: &Name) -> Result<(), Fault>
+        requires there { is_some (map.get self.old.contents.names to.now) ≡ true }
+        requires absent { map.get self.old.contents.names from.now ≡ None }
+        ensures called { IsCalled self.old.all self.new.all }
+        ensures cause { CountsFault (is_err result) self.old.fault_count self.new.fault_count }
+
+        // As a renaming.
+        ensures fault { is_err result ≡ is_listed Kind.NameBack self.old }
+        ensures state { OnOk result
+            (self.new ≡ record (begun Kind.NameBack self.old) { contents = renamed self.old.contents to.now from.now }) }
+        ensures failed { OnErr result (self.new ≡ begun Kind.NameBack self.old) }
+    {
+        if self.fails(Kind::NameBack) {
+            return Err(Fault);
+        }
+        self.objects.rename(*to, *from);
+        Ok(())
+    }
+}

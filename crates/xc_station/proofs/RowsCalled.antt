@@ -1,0 +1,185 @@
+-- Rows of the turn of a job whose transaction runs, of a call whose claims are granted: it is done, or memory is wanting.
+use Rattle.std.proofs.Common.{◌≡◌, ◌⊎◌, inl, inr, ℕ, ◌<◌, ◌≤◌, List, [], ◌∷◌, ◌++◌, length, IsTrue, refl, ap, sym, ◌∙◌, subst, arith}
+use Rattle.std.specs.Prelude.{All, Option, IsSome, Err, slice_set}
+use Rattle.std.specs.declared.option.Option.TheVariants.{None, Some}
+use Rattle.xc_data.specs.Claims.{holding}
+use Rattle.xc_data.specs.Counts.{CountsFault}
+use Rattle.xc_data.specs.Faults.{is_fault_reply}
+use Rattle.xc_data.specs.declared.call.Call.{Call}
+use Rattle.xc_data.specs.declared.call.Answer.{Answer}
+use Rattle.xc_data.specs.declared.call.Reply.{Reply}
+use Rattle.xc_data.specs.declared.claim.Claim.{Claim}
+use Rattle.xc_data.specs.declared.entry.Cause.TheVariants as cause
+use Rattle.xc_data.specs.declared.entry.Turn.{Turn}
+use Rattle.xc_data.specs.declared.entry.Turn.TheVariants as turn
+use Rattle.xc_data.specs.declared.object.Object.{Object}
+use Rattle.xc_host.specs.Contents.{Contents}
+use Rattle.xc_host.specs.Model.{HostModel}
+use Rattle.xc_script.specs.declared.ask.Ask.{Ask}
+use Rattle.xc_script.specs.declared.ask.Ask.TheVariants as ask
+use Rattle.xc_text.specs.declared.script.Script.{Script}
+use Rattle.xc_text.specs.declared.script.Statement.{Statement}
+use Rattle.xc_script.specs.Ask.{Walk, asks, asks_from, answered, next_body}
+use Rattle.xc_script.specs.Place.{Place, job_of, walk_of, IsSettled}
+use Rattle.xc_txmem.specs.Overlay.{overlaid}
+use Rattle.xc_world.specs.Modes.{claims_of}
+use Rattle.xc_wordlocks.specs.Table.{claimed, mode_in}
+use Rattle.xc_wordlocks.proofs.Held.{claimed-holding}
+use Rattle.xc_story.specs.declared.phase.Phase.TheVariants.{Committing, Undoing}
+use Rattle.xc_story.specs.Setting.{Setting}
+use Rattle.xc_story.specs.Seen.{SeenTx, SeenJob, Now, Active, active_in, with_job}
+use Rattle.xc_story.specs.WordCalls.{IsWordStep}
+use Rattle.xc_story.specs.Rows.{AskedTurn, Calls, DoesIn, DoesPartIn, HasNoRival, HoldsWanting, IsActiveAt, IsFirstMet, IsLeft, IsSameBegin, IsSamePlace}
+use Rattle.xc_story.specs.Rows.{Parts, RunningTurn, noting, parts_of, stored_by, wanting, with_tx}
+use Rattle.xc_played.proofs.BuiltCalls.{asked_built}
+use Rattle.xc_station.specs.declared.calls.Shared.{Shared}
+use Rattle.xc_station.specs.declared.tx.Tx.{Tx}
+use Rattle.xc_station.specs.Acting.{HasDone, LeavesOff, acting, leaving, with_parts}
+use Rattle.xc_station.specs.Jobs.{seen_tx}
+use Rattle.xc_station.specs.Moments.{HasClaimed, HasTx, IsAt, IsGranted, IsRefused, IsRow, IsTable, moved}
+use Rattle.xc_station.proofs.RowsRun.{asked_before, asked_row}
+use Rattle.xc_station.proofs.Rivals.{first_rival, none_met, table_behind}
+use Rattle.xc_station.proofs.WordActs.{append_nil}
+
+-- the job stands behind the reply
+pub record IsBehind (s : Setting) (old new : Place) (reply : Reply) : Type 0 where
+  pub begin : IsSameBegin old new
+  pub walk : walk_of s.script new ≡ answered (walk_of s.script old) reply
+  pub nearer : old.at < new.at
+
+-- ---- behind granted claims
+module _ {H : Type 0} (model : HostModel H) (s : Setting) (shared : Shared H) (now : Now) (at : ℕ) (job : SeenJob) (place : Place) (old : Tx)
+    (here : IsAt model shared now at job) (has : HasTx s job place (seen_tx old)) (behind : Shared H) (mid : Tx) (call : Call)
+    (words : behind.words ≡ shared.words) (asked : asks (walk_of s.script place) ≡ ask.Call call)
+    (g : IsGranted shared.claims behind.claims old mid (claims_of call old.me (length shared.words))) where
+  active : IsActiveAt now.jobs at (seen_tx old)
+  active = (job, here.stands, ap active_in has.doing)
+
+  claims_now : claims_of call old.me (length shared.words) ≡ claims_of call old.me (length now.words)
+  claims_now = ap (λ n. claims_of call old.me n) (sym (ap length here.words))
+
+  granted_free : All (HasNoRival now.jobs at) (claims_of call old.me (length now.words))
+  granted_free = subst (All (HasNoRival now.jobs at)) claims_now (none_met now.jobs at (seen_tx old) shared.claims here.table here.single here.apart active
+      (claims_of call old.me (length shared.words)) g.free)
+
+  words_now : behind.words ≡ now.words
+  words_now = words ∙ sym here.words
+
+  row_granted : (place' : Place) (tx : SeenTx) (answer : Turn) → tx.number ≡ old.number
+      → tx.held ≡ holding old.held.items (claims_of call old.me (length shared.words))
+      → RunningTurn s at now job (seen_tx old) answer (moved model behind (with_tx job place' tx) now at)
+      → IsRow s now (moved model behind (with_tx job place' tx) now at) at job answer behind.claims
+  row_granted place' tx answer number held row =
+      let claims = claims_of call old.me (length shared.words) in
+      record {
+        tx = seen_tx old;
+        doing = has.doing;
+        row = row;
+        table = table_behind shared.claims behind.claims now.jobs at job (with_tx job place' tx) (seen_tx old) tx here.table here.single here.stands
+            (ap active_in has.doing) refl number g.others (λ o. g.row o ∙ ap (λ m. claimed m claims o) (here.table.held at (seen_tx old) o active)
+            ∙ claimed-holding old.held.items claims o ∙ ap (λ (h : List Claim). mode_in h o) (sym held));
+      }
+
+  -- memory is wanting behind them: what the call left stays, and what it claimed is held
+  module _ (telling : IsTrue s.tells → IsTrue model.tells) (place' : Place) (from : H) (done new : Tx) (same : place' ≡ place) (host : from ≡ shared.host)
+      (l : LeavesOff model call (acting from behind.words mid) (acting behind.host behind.words done))
+      (is : seen_tx new ≡ record (seen_tx done) { phase = Undoing cause.NoMemory }) where
+    left_as : seen_tx new ≡ wanting (seen_tx old) l.left (holding old.held.items (claims_of call old.me (length now.words)))
+    left_as = is ∙ ap (λ (t : SeenTx). record t { phase = Undoing cause.NoMemory }) l.tx
+        ∙ ap (λ (t : SeenTx). record (leaving t l.left) { phase = Undoing cause.NoMemory }) g.held
+        ∙ ap (λ claims. wanting (seen_tx old) l.left (holding old.held.items claims)) claims_now
+
+    left_now : IsTrue s.tells → IsLeft now (moved model behind (with_tx job place' (seen_tx new)) now at) (parts_of (seen_tx old)) (ask.Call call) l.left
+    left_now tells =
+        let to = model.contents behind.host in
+        let Left : List ℕ → Contents → Parts → Type 0 = λ ws was parts. ((l.left ≡ []) × (to ≡ was))
+        ⊎ ((answer : Answer) × DoesPartIn ws was to parts (record { call = call; answer = answer }) l.left) in
+        subst (λ p. Left now.words now.contents p) (ap parts_of g.held)
+        (subst (λ c. Left now.words c (parts_of (seen_tx mid))) (ap model.contents host ∙ sym here.contents)
+        (subst (λ ws. Left ws (model.contents from) (parts_of (seen_tx mid))) words_now (l.contents (telling tells))))
+
+    pub starved : (answer : Turn) → answer ≡ turn.NoMemory
+        → IsRow s now (moved model behind (with_tx job place' (seen_tx new)) now at) at job answer behind.claims
+    starved answer gives =
+        let next = asked_before s job place (seen_tx old) (ask.Call call) has asked in
+        let held = holding old.held.items (claims_of call old.me (length now.words)) in
+        let moment = moved model behind (with_tx job place' (seen_tx new)) now at in
+        row_granted place' (seen_tx new) answer (ap (λ (t : SeenTx). t.number) left_as)
+        (ap (λ (t : SeenTx). t.held) left_as ∙ ap (holding old.held.items) (sym claims_now))
+        (subst (λ a. RunningTurn s at now job (seen_tx old) a moment) (sym gives) (record {
+          place = place';
+          same = subst (IsSamePlace s job.place) (sym same) has.same;
+          left = l.left;
+          one = l.one;
+          held = held;
+          holds = subst (λ a. HoldsWanting now at (seen_tx old) a l.left held) (sym next) (inr (granted_free, refl));
+          jobs = ap (λ (t : SeenTx). slice_set now.jobs at (with_tx job place' t)) left_as;
+          words = words_now;
+          journal = refl;
+          faults = l.faults ∙ ap model.fault_count host ∙ sym here.faults;
+          contents = λ tells. subst (λ a. IsLeft now moment (parts_of (seen_tx old)) a l.left) (sym next) (left_now tells);
+        }))
+
+  -- the call is done and noted
+  module _ (telling : IsTrue s.tells → IsTrue model.tells) (place' : Place) (from : H) (done new : Tx) (reply : Reply)
+      (stands : IsBehind s place place' reply) (host : from ≡ shared.host)
+      (d : HasDone model call (acting from behind.words mid) (acting behind.host behind.words done) reply)
+      (noted : seen_tx new ≡ record (seen_tx done) { calls = done.calls.items ++ call ∷ []; replies = done.replies.items ++ reply ∷ [] }) where
+    done_as : seen_tx done ≡ with_parts (record (seen_tx old) { held = holding old.held.items (claims_of call old.me (length now.words)) })
+        (parts_of (seen_tx done))
+    done_as = d.tx ∙ ap (λ (t : SeenTx). with_parts t (parts_of (seen_tx done))) g.held
+        ∙ ap (λ claims. with_parts (record (seen_tx old) { held = holding old.held.items claims }) (parts_of (seen_tx done))) claims_now
+
+    noted_as : seen_tx new ≡ noting (seen_tx old) call reply (claims_of call old.me (length now.words)) (parts_of (seen_tx done))
+    noted_as = noted ∙ ap (λ (t : SeenTx). record t { calls = t.calls ++ call ∷ []; replies = t.replies ++ reply ∷ [] }) done_as
+
+    writes_old : mid.writes ≡ old.writes
+    writes_old = ap (λ (t : SeenTx). t.writes) g.held
+
+    spoken_now : IsWordStep (overlaid now.words old.writes) (overlaid now.words done.writes) call reply
+    spoken_now = subst (λ ws. IsWordStep (overlaid now.words ws) (overlaid now.words done.writes) call reply) writes_old
+        (subst (λ ws. IsWordStep (overlaid ws mid.writes) (overlaid ws done.writes) call reply) words_now d.spoken)
+
+    does_now : IsTrue s.tells → DoesIn now.words now.contents (model.contents behind.host) (parts_of (seen_tx old)) (parts_of (seen_tx done)) call reply
+    does_now tells =
+        let to = model.contents behind.host in
+        let parts = parts_of (seen_tx done) in
+        subst (λ (p : Parts). DoesIn now.words now.contents to p parts call reply) (ap parts_of g.held)
+        (subst (λ (c : Contents). DoesIn now.words c to (parts_of (seen_tx mid)) parts call reply) (ap model.contents host ∙ sym here.contents)
+        (subst (λ ws. DoesIn ws (model.contents from) to (parts_of (seen_tx mid)) parts call reply) words_now (d.does (telling tells))))
+
+    calls_now : Calls s at now job (seen_tx old) call (moved model behind (with_tx job place' (seen_tx new)) now at)
+    calls_now =
+        record {
+          free = granted_free;
+          reply = reply;
+          place = place';
+          parts = parts_of (seen_tx done);
+          jobs = ap (λ (t : SeenTx). slice_set now.jobs at (with_tx job place' t)) noted_as;
+          words = words_now;
+          journal = refl;
+          begin = record {
+            block = stands.begin.block ∙ has.same.begin.block;
+            next = stands.begin.next ∙ has.same.begin.next;
+            begun = stands.begin.begun ∙ has.same.begin.begun;
+          };
+          walk = stands.walk ∙ ap (λ w. answered w reply) has.same.walk;
+          nearer = (let far = stands.nearer in let near = has.same.at in omega arith);
+          now = d.now;
+          built = asked_built (walk_of s.script place) call asked;
+          made = d.made;
+          one = d.one;
+          undo = d.undo ∙ ap (λ (t : SeenTx). record t.undo { pending = t.undo.pending ++ d.made }) g.held;
+          stored = d.stored;
+          stores = d.stores ∙ ap (λ ws. ws ++ stored_by (length behind.words) call) writes_old
+              ∙ ap (λ n. old.writes ++ stored_by n call) (ap length words_now);
+          spoken = spoken_now;
+          cause = subst (λ n. CountsFault (is_fault_reply reply) n (model.fault_count behind.host)) (ap model.fault_count host ∙ sym here.faults) d.cause;
+          does = does_now;
+        }
+
+    -- so its turn is that of a call
+    pub called : IsRow s now (moved model behind (with_tx job place' (seen_tx new)) now at) at job turn.Went behind.claims
+    called = row_granted place' (seen_tx new) turn.Went (ap (λ (t : SeenTx). t.number) noted_as)
+        (ap (λ (t : SeenTx). t.held) noted_as ∙ ap (holding old.held.items) (sym claims_now))
+        (asked_row s at now (moved model behind (with_tx job place' (seen_tx new)) now at) job place (seen_tx old) (ask.Call call) has asked (inl calls_now))

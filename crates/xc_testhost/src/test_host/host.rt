@@ -1,0 +1,109 @@
+ghost use Rattle.std.specs.Prelude.{false};
+ghost use Rattle.xc_host.specs.Contents.{nothing};
+
+use super::{Asked, TestHost};
+use xc_data::{Chunk, Name, Num, Prologue};
+use xc_host::{Fault, Host, HostErr, OpenErr};
+
+impl Host for TestHost {
+    ghost model = { record
+        { tells = false; takes_scripts = false; contents = λ _. nothing; fault_count = λ s. s.faults; calls = λ s. s.calls } };
+
+    fn faults(&self) -> u64 {
+        self.faults
+    }
+
+    fn open_with(&mut self, prologue: &Prologue) -> Result<(), OpenErr> {
+        if !prologue.objects.is_empty() || !prologue.faults.is_empty() || prologue.grain.is_some() {
+            return Err(OpenErr::NotScripted);
+        }
+        Ok(())
+    }
+
+    fn lookup(&mut self, name: &Name) -> Result<Option<Num>, HostErr> {
+        if self.fails(Asked::Lookup) {
+            return Err(HostErr::Fault);
+        }
+        Ok(self.named(name))
+    }
+
+    fn create(&mut self, name: &Name, num: Num) -> Result<(), HostErr> {
+        if self.fails(Asked::Create) {
+            return Err(HostErr::Fault);
+        }
+        Ok(self.names.push((*name, num))?)
+    }
+
+    fn len(&mut self, file: Num) -> Result<u32, Fault> {
+        if self.fails(Asked::Len) {
+            return Err(Fault);
+        }
+        let len = self.opened(file) as usize + self.tail(file).len();
+        Ok(len.min(u32::MAX as usize) as u32)
+    }
+
+    fn read_at(&mut self, file: Num, at: u32, n: u32) -> Result<Chunk, HostErr> {
+        if self.fails(Asked::Read(at, n)) {
+            return Err(HostErr::Fault);
+        }
+        let n = n.min(self.grain) as usize;
+        Ok(Chunk::new(self.alloc, self.front(file, at, n))?)
+    }
+
+    fn write_at(&mut self, file: Num, at: u32, bytes: &[u8]) -> Result<u32, Fault> {
+        if self.fails(Asked::Write(at, bytes.len())) {
+            return Err(Fault);
+        }
+        Ok(self.write(file, at, bytes))
+    }
+
+    fn append(&mut self, file: Num, bytes: &[u8]) -> Result<u32, HostErr> {
+        if self.fails(Asked::Append(bytes.len())) {
+            return Err(HostErr::Fault);
+        }
+        let n = self.grained(bytes);
+        self.tails.append(file, &bytes[..n])?;
+        Ok(n as u32)
+    }
+
+    fn rename(&mut self, from: &Name, to: &Name) -> Result<(), Fault> {
+        if self.fails(Asked::Rename) {
+            return Err(Fault);
+        }
+        self.change_name(from, to);
+        Ok(())
+    }
+
+    fn restore(&mut self, file: Num, at: u32, bytes: &[u8]) -> Result<u32, Fault> {
+        if self.fails(Asked::Restore(at, bytes.len())) {
+            return Err(Fault);
+        }
+        Ok(self.write(file, at, bytes))
+    }
+
+    fn cut(&mut self, file: Num, len: u32) -> Result<(), Fault> {
+        if self.fails(Asked::Cut(len)) {
+            return Err(Fault);
+        }
+        let opened = self.opened(file);
+        self.tails.cut(file, len.saturating_sub(opened) as usize);
+        Ok(())
+    }
+
+    fn uncreate(&mut self, name: &Name, num: Num) -> Result<(), Fault> {
+        if self.fails(Asked::Uncreate) {
+            return Err(Fault);
+        }
+        self.names.retain(|entry| entry.0 != *name);
+        self.tails.remove(num);
+        Ok(())
+    }
+
+    fn name_back(&mut self, from: &Name, to: &Name) -> Result<(), Fault> {
+        if self.fails(Asked::NameBack) {
+            return Err(Fault);
+        }
+        self.change_name(to, from);
+        Ok(())
+    }
+}
