@@ -2,6 +2,7 @@
 use Rattle.std.proofs.Common.{◌≡◌, inl, inr, ℕ, List, [], ◌∷◌, ap, sym, ◌∙◌}
 use Rattle.std.proofs.lemmas.List.{append-nil}
 use Rattle.std.specs.Prelude.{slice_set}
+use Rattle.xc_data.specs.declared.call.LateCall.{LateCall}
 use Rattle.xc_data.specs.declared.entry.Cause.{Cause}
 use Rattle.xc_data.specs.declared.entry.Entry.{Entry}
 use Rattle.xc_data.specs.declared.entry.JobEnd.TheVariants as job_end
@@ -14,8 +15,8 @@ use Rattle.xc_script.specs.declared.ask.Ask.TheVariants as ask
 use Rattle.xc_story.specs.declared.phase.Phase.{Phase}
 use Rattle.xc_story.specs.declared.phase.Phase.TheVariants.{Running, Committing, Undoing}
 use Rattle.xc_story.specs.Setting.{Setting}
-use Rattle.xc_story.specs.Seen.{SeenTx, SeenJob, Doing, Idle, Active, Starved, Ended, Now, entering, with_job}
-use Rattle.xc_story.specs.Rows.{IsTurn, TurnOf, IdleTurn, ActiveTurn, RunningTurn, AskedTurn, CommittingTurn, UndoingTurn, BackTurn, StarvedTurn}
+use Rattle.xc_story.specs.Seen.{SeenTx, SeenJob, Doing, Idle, Active, Starved, Ended, Now, entering, late_left, with_job}
+use Rattle.xc_story.specs.Rows.{IsTurn, TurnOf, IdleTurn, ActiveTurn, RunningTurn, AskedTurn, CommittingTurn, LateTurn, UndoingTurn, BackTurn, StarvedTurn}
 use Rattle.xc_story.specs.Rows.{asked_at, behind_abort, behind_commit, beginning_job, entry_of, with_tx}
 use Rattle.xc_station.specs.Stations.{IsFrontOf}
 
@@ -59,8 +60,12 @@ module _ (s : Setting) (at : ℕ) (old : Now) (job : SeenJob) (new : Now) where
     running_leaves turn.NoMemory row = still _ row.jobs row.journal
     running_leaves _ row = absurd row
 
-    committing_leaves : (answer : Turn) → CommittingTurn at old job tx answer new → Leaves at old new
-    committing_leaves turn.Went row = enters (behind_commit job tx) (entry_of tx at (Committed [])) row
+    late_leaves : (late : List LateCall) → LateTurn s at old job tx late new → Leaves at old new
+    late_leaves [] row = enters (behind_commit job tx) (entry_of tx at (Committed tx.ends)) row
+    late_leaves (call ∷ late) row = still _ row.jobs row.journal
+
+    committing_leaves : (answer : Turn) → CommittingTurn s at old job tx answer new → Leaves at old new
+    committing_leaves turn.Went row = late_leaves (late_left tx) row
     committing_leaves _ row = absurd row
 
     back_leaves : (c : Cause) (pending : List Undo) → BackTurn s at old job tx c pending new → Leaves at old new

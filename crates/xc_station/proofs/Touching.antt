@@ -4,7 +4,7 @@ use Rattle.std.proofs.lemmas.List.{length-map}
 use Rattle.std.specs.Prelude.{map, nat_eq, if◌then◌else◌}
 use Rattle.std.specs.Cmp.Lexicographic.{pointwise}
 use Rattle.xc_data.specs.declared.call.Call.{Call}
-use Rattle.xc_data.specs.declared.call.Call.TheVariants.{Load, Store, XOpen, XCreate, XRead, XWriteOvr, XWriteSeq, XSeek, XLen, XRename, XClose}
+use Rattle.xc_data.specs.declared.call.Call.TheVariants.{Load, Store, XOpen, XCreate, XRead, XWriteOvr, XWriteSeq, XSeek, XLen, XRename, XClose, XUnlink, XSync}
 use Rattle.xc_data.specs.declared.object.Object.{Object}
 use Rattle.xc_data.specs.declared.object.Object.TheVariants as object
 use Rattle.xc_data.specs.declared.private.Place.{Place}
@@ -54,6 +54,9 @@ few_touched (XLen h) me words is = few_if (is_refused (XLen h) me words) (object
 few_touched (XRename from to) me words is =
     few_if (is_refused (XRename from to) me words) (objects_of_call (XRename from to) me) (few_names (pointwise nat_eq from to) from to)
 few_touched (XClose h) me words is = few_if (is_refused (XClose h) me words) (objects_of_call (XClose h) me) (omega arith)
+few_touched (XUnlink name slot) me words is = few_if (is_refused (XUnlink name slot) me words) (objects_of_call (XUnlink name slot) me) (omega arith)
+few_touched (XSync h slot) me words is =
+    few_if (is_refused (XSync h slot) me words) (objects_of_call (XSync h slot) me) (few_at (place_of me.places h))
 few_touched _ me words is = cc
 
 -- and claims as many

@@ -16,15 +16,16 @@ use Rattle.xc_story.specs.declared.rules.Rules.{Rules}
 use Rattle.xc_story.specs.Setting.{Setting, setting}
 use Rattle.xc_story.specs.Seen.{SeenTx, SeenJob, Doing, Idle, Active, Starved, Ended, Now, with_job, entering}
 use Rattle.xc_text.specs.declared.script.Script.{Script}
-use Rattle.xc_story.specs.Rows.{IsTurn, TurnOf, ActiveTurn, BackTurn, Compensates, EntersAborted, IdleTurn, StarvedTurn}
+use Rattle.xc_story.specs.Rows.{IsTurn, TurnOf, ActiveTurn, BackTurn, CommittingTurn, Compensates, EntersAborted, IdleTurn, StarvedTurn}
 use Rattle.xc_story.specs.Rows.{behind_abort, behind_commit, entry_of, with_tx}
 use Rattle.xc_station.specs.declared.calls.Shared.{Shared}
 use Rattle.xc_station.specs.declared.job.Job.{Job}
 use Rattle.xc_station.specs.declared.job.Stage.{Stage}
 use Rattle.xc_station.specs.declared.job.Stage.TheVariants as stage
-use Rattle.xc_station.specs.Jobs.{doing_of, seen_job, seen_jobs}
+use Rattle.xc_station.specs.Jobs.{doing_of, seen_job, seen_jobs, seen_tx}
 use Rattle.xc_station.specs.Moments.{IsRow, moved}
 use Rattle.xc_station.specs.Stations.{moment}
+use Rattle.xc_station.proofs.Closed.{its_active}
 use Rattle.xc_station.proofs.Placed.{get_map, map_set}
 use Rattle.xc_station.proofs.Stages.{IsThere, idle_stage, starved_stage, running_stage, committing_stage, undoing_stage, undone_stage}
 
@@ -39,6 +40,15 @@ pub phase_turned : (s : Setting) (at : ℕ) (old new : Now) (job : SeenJob) (tx 
     → job.doing ≡ Active tx → tx.phase ≡ p → ActiveTurn s at old job tx p answer new → IsTurn s at old answer new
 phase_turned s at old new job tx p answer there does in' row =
     row_turned s at old new job (Active tx) answer there does (subst (λ q. ActiveTurn s at old job tx q answer new) (sym in') row)
+
+-- a transaction that the code has keeps no call for the commit, so it enters at once
+entered_at_once : (s : Setting) (at : ℕ) (old new : Now) (job : Job) (tx : SeenTx) → doing_of job ≡ Active tx
+    → new ≡ entering old at (behind_commit (seen_job job) tx) (entry_of tx at (Committed []))
+    → CommittingTurn s at old (seen_job job) tx turn.Went new
+entered_at_once s at old new job tx does row =
+    let same : seen_tx job.tx ≡ tx = its_active job tx does in
+    subst (λ (t : SeenTx). CommittingTurn s at old (seen_job job) t turn.Went new) same
+    (subst (λ (t : SeenTx). new ≡ entering old at (behind_commit (seen_job job) t) (entry_of t at (Committed []))) (sym same) row)
 
 -- ---- at the moments of a station
 module _ {H : Type 0} (model : HostModel H) (shared : Shared H) (journal : List Entry) (jobs : List Job) (at : ℕ) (was : Job) where
@@ -108,7 +118,8 @@ module _ {H : Type 0} (model : HostModel H) (shared : Shared H) (journal : List 
         jobs = (map_set seen_job jobs at job ∙ ap (slice_set (seen_jobs jobs) at) gave.0) i;
       }) in
       phase_turned s at old (moment model shared' journal' (slice_set jobs at job)) (seen_job was) mine.tx phase.Committing turn.Went
-      (seen_there stage.Committing is) mine.doing mine.phase row
+      (seen_there stage.Committing is) mine.doing mine.phase
+      (entered_at_once s at old (moment model shared' journal' (slice_set jobs at job)) was mine.tx mine.doing row)
 
   -- an undoing job's, where a record has no end
   pub undoing_turned : (script : Script) (rules : Rules) (shared' : Shared H) (job : Job) → IsThere jobs at stage.Undoing was

@@ -16,7 +16,7 @@ use Rattle.xc_station.specs.declared.job.Activity.TheVariants as activity
 use Rattle.xc_station.specs.declared.job.Stage.{Stage}
 use Rattle.xc_station.specs.declared.job.Stage.TheVariants as stage
 
--- a transaction, without the room behind its lists
+-- a transaction, without the room behind its lists; no script has a call yet that is kept for the commit
 abbrev pub seen_tx : Tx → SeenTx
 seen_tx tx =
     record {
@@ -30,6 +30,8 @@ seen_tx tx =
       calls = tx.calls.items;
       replies = tx.replies.items;
       held = tx.held.items;
+      late = [];
+      ends = [];
     }
 
 -- the private state of its begin: it was kept where a call may have changed it

@@ -6,6 +6,7 @@ ghost use Rattle.xc_script.specs.Place.{walk_of, IsSettled};
 ghost use Rattle.xc_txmem.specs.Overlay.{overlaid, AreWithin};
 ghost use Rattle.xc_world.specs.Late.{is_late};
 ghost use Rattle.xc_story.specs.WordCalls.{is_word_call, word_reply, words_after};
+ghost use Rattle.xc_story.specs.LateCalls.{waits};
 ghost use Rattle.xc_story.specs.Rows.{IsSameBegin, is_built, stored_by};
 ghost use Rattle.xc_station.specs.Acting.{AreReadyFor, HasActed, MayGo, acting};
 ghost use Rattle.xc_station.specs.Jobs.{begun_of, seen_tx};
@@ -67,6 +68,7 @@ fn act<H: Host>(
     call: &Call,
 ) -> Result<Reply, NoMemory>
     requires built { is_built call.now ≡ true }
+    requires now { waits call.now ≡ false }
     requires may { MayGo (length words.now) (seen_tx tx.old) }
     requires ready { IsTrue H.model.tells → AreReadyFor (seen_tx tx.old) (H.model.contents host.old) }
     ensures begun { (tx.new.changed ≡ tx.old.changed) × (tx.new.begun ≡ tx.old.begun) }
