@@ -11,6 +11,7 @@ use Rattle.xc_data.specs.declared.call.Call.TheVariants as call
 use Rattle.xc_data.specs.declared.call.Reply.{Reply}
 use Rattle.xc_data.specs.declared.call.Reply.TheVariants as reply
 use Rattle.xc_maps.specs.Keys.{name_cmp}
+use Rattle.xc_failure.specs.Slots.{Slots, unset, slot_number}
 use Rattle.xc_world.specs.Checks.{bytes_of}
 use Rattle.xc_text.specs.declared.script.Script.{Script}
 use Rattle.xc_text.specs.declared.script.Block.{Block}
@@ -29,9 +30,14 @@ use Rattle.xc_script.specs.declared.ask.Ask.TheVariants as ask
 use Rattle.xc_script.specs.declared.value.Value.{Value}
 use Rattle.xc_script.specs.declared.value.Value.TheVariants as value
 
--- the variables that hold a number, bytes or a handle
-abbrev pub Variables : Type 0
-Variables = map.FinMap name_cmp Value
+-- what the variables hold that hold a number, bytes or a handle
+abbrev pub Values : Type 0
+Values = map.FinMap name_cmp Value
+
+-- what a job knows: the values of its variables, and its slots
+pub record Variables : Type 0 where
+  pub values : Values
+  pub slots : Slots
 
 -- ---- values: what a variable counts as where it holds nothing, or something else
 -- as a number: 0
@@ -51,16 +57,17 @@ held_handle _ = 65535
 
 -- what a variable counts as where bytes are wanted
 abbrev pub bytes_value : Variables → List ℕ → List ℕ
-bytes_value variables v = held_bytes (map.get variables v)
+bytes_value variables v = held_bytes (map.get variables.values v)
 
 -- what a variable counts as where a handle is wanted
 abbrev pub handle_value : Variables → List ℕ → ℕ
-handle_value variables v = held_handle (map.get variables v)
+handle_value variables v = held_handle (map.get variables.values v)
 
--- a number is itself, and a variable what it counts as
+-- a number is itself, and a variable and a slot what they count as
 abbrev pub term_value : Variables → Term → ℕ
 term_value variables (term.Number n) = n
-term_value variables (term.Variable v) = held_number (map.get variables v)
+term_value variables (term.Variable v) = held_number (map.get variables.values v)
+term_value variables (term.Slot s) = slot_number (map.get variables.slots s)
 
 -- sums and differences are taken modulo 2^64
 abbrev pub expression_value : Variables → Expression → ℕ
@@ -131,9 +138,14 @@ is_silent variables refused (statement.AbortIf left test right) = not (holds tes
 is_silent variables refused statement.Require = not refused
 is_silent variables refused _ = false
 
+-- the variables with one of them set to a value, or without it where there is none
+abbrev pub set_to : Variables → List ℕ → Option Value → Variables
+set_to variables v (Some value) = record variables { values = map.insert variables.values v value }
+set_to variables v None = record variables { values = map.remove variables.values v }
+
 -- the variables behind a silent statement: a `let` sets one
 abbrev pub set_by : Variables → Statement → Variables
-set_by variables (statement.Let into e) = map.insert variables into (value.Number (expression_value variables e))
+set_by variables (statement.Let into e) = set_to variables into (Some (value.Number (expression_value variables e)))
 set_by variables _ = variables
 
 -- a transaction before these statements: the silent ones in front are passed, one after another
@@ -168,6 +180,8 @@ ask_of variables stored (statement.Append h items) =
 ask_of variables stored (statement.Seek h to) = ask.Call (call.XSeek (handle_value variables h) (term_value variables to))
 ask_of variables stored (statement.Length h into) = ask.Call (call.XLen (handle_value variables h))
 ask_of variables stored (statement.Close h) = ask.Call (call.XClose (handle_value variables h))
+ask_of variables stored (statement.Unlink name slot) = ask.Call (call.XUnlink name slot)
+ask_of variables stored (statement.Sync h slot) = ask.Call (call.XSync (handle_value variables h) slot)
 ask_of variables stored _ = ask.Abort
 
 -- the transaction asks what its next statement does, and behind the last one the commit
@@ -185,11 +199,6 @@ value_in (reply.Number n) = Some (value.Number n)
 value_in (reply.Got bytes) = Some (value.Bytes bytes)
 value_in (reply.Made h) = Some (value.Handle h)
 value_in _ = None
-
--- the variables with one of them set to a value, or without it where there is none
-abbrev pub set_to : Variables → List ℕ → Option Value → Variables
-set_to variables v (Some value) = map.insert variables v value
-set_to variables v None = map.remove variables v
 
 -- a variable takes what the reply has for it, and loses its own where that is nothing
 abbrev pub bound_to : Variables → List ℕ → Reply → Variables
@@ -272,9 +281,13 @@ abbrev pub passed : Script → Job → List Reply → Job
 passed script job replies =
     record { block = job.block; next = job.next + 1; variables = (all_answered (walk_from script job) replies).variables }
 
--- a job that begins its block, with no variable set
-abbrev pub fresh_job : ℕ → Job
-fresh_job block = record { block = block; next = 0; variables = map.empty }
+-- no variable holds anything, and each of the script's slots is unset
+abbrev pub no_variables : Script → Variables
+no_variables script = record { values = map.empty; slots = unset script.slots }
+
+-- a job that begins its block, with nothing set
+abbrev pub fresh_job : Script → ℕ → Job
+fresh_job script block = record { block = block; next = 0; variables = no_variables script }
 
 -- the place of the block of this name in the script
 abbrev pub block_place : Script → List ℕ → ℕ

@@ -5,13 +5,14 @@ use Rattle.std.specs.declared.option.Option.TheVariants.{None}
 use Rattle.std.specs.Coded.{Coded, code_by, coded×, coded⊎, coded_ℕ, coded_bool}
 use Rattle.std.specs.FinMap as map
 use Rattle.xc_maps.specs.Keys.{coded_name}
+use Rattle.xc_failure.specs.Slots.{Slots, coded_slots}
 use Rattle.xc_text.specs.declared.script.Script.{Script}
 use Rattle.xc_text.specs.declared.script.Statement.{Statement}
 use Rattle.xc_script.specs.declared.ask.Ask.{Ask}
 use Rattle.xc_script.specs.declared.ask.Ask.TheVariants as ask
 use Rattle.xc_script.specs.declared.value.Value.{Value}
 use Rattle.xc_script.specs.declared.value.Value.TheVariants as value
-use Rattle.xc_script.specs.Ask.{Variables, Walk, Job, settled, asks, next_body, target_of}
+use Rattle.xc_script.specs.Ask.{Variables, Values, Walk, Job, settled, asks, next_body, target_of}
 
 -- the block, the transaction and the statement in it; what the transaction has stored, and whether its last
 -- call was refused; the variables there, and those at the transaction's begin
@@ -46,9 +47,11 @@ same_parts (value.Handle h) = refl
 abbrev pub coded_value : Coded Value
 coded_value = code_by (ℕ ⊎ (List ℕ ⊎ ℕ)) (coded⊎ coded_ℕ (coded⊎ coded_name coded_ℕ)) parts_of of_parts same_parts
 
--- the variables' code, that of their map
+-- the variables' code, that of their maps
 abbrev pub coded_variables : Coded Variables
-coded_variables = map.code coded_name coded_value
+coded_variables =
+    code_by (Values × Slots) (coded× (map.code coded_name coded_value) coded_slots)
+    (λ v. (v.values, v.slots)) (λ p. record { values = p.0; slots = p.1 }) (λ _. refl)
 
 -- a place's code, that of its fields as a tuple
 abbrev pub coded_place : Coded Place
@@ -85,10 +88,14 @@ pub record IsSettled (script : Script) (place : Place) : Type 0 where
   pub variables : place.variables ≡ (walk_of script place).variables
   pub left : left_at script place ≡ (walk_of script place).left
 
--- a job before its next transaction: none has begun, so no variables are kept for an abort
+-- nothing is kept for an abort
+abbrev pub nothing_kept : Variables
+nothing_kept = record { values = map.empty; slots = map.empty }
+
+-- a job before its next transaction: none has begun
 abbrev pub at_begin : Job → Place
 at_begin job =
-    record { block = job.block; next = job.next; at = 0; stored = 0; refused = false; variables = job.variables; begun = map.empty }
+    record { block = job.block; next = job.next; at = 0; stored = 0; refused = false; variables = job.variables; begun = nothing_kept }
 
 -- the transaction asks a call
 abbrev pub is_call : Ask → Bool

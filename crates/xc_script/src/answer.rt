@@ -42,13 +42,8 @@ pub fn bind(variables: &mut Variables, target: Option<Ident>, reply: &Reply) -> 
     let Some(name) = target else {
         return Ok(());
     };
-    match value_in(reply)? {
-        Some(value) => variables.insert(name, value),
-        None => {
-            variables.remove(name);
-            Ok(())
-        }
-    }
+    let value = value_in(reply)?;
+    variables.set(name, value)
 }
 
 /// A call that replies so counts as refused.

@@ -1,5 +1,5 @@
 ghost use Rattle.std.specs.Prelude.{◌≡◌, ◌≤◌, length, IfOk, Some, None, if◌then◌else◌};
-ghost use Rattle.xc_data.specs.declared.call.Call.TheVariants.{Store, XClose, XRead, XSeek, XWriteOvr, XWriteSeq};
+ghost use Rattle.xc_data.specs.declared.call.Call.TheVariants.{Store, XClose, XRead, XSeek, XSync, XWriteOvr, XWriteSeq};
 ghost use Rattle.xc_script.specs.Ask.{is_over, unless_over, data_of, handle_value, term_value, expression_value};
 ghost use Rattle.xc_script.specs.Ask.{ask_of, carried_by};
 
@@ -120,6 +120,13 @@ fn close(variables: &Variables, handle: Ident) -> Call
     Call::XClose { h }
 }
 
+fn sync(variables: &Variables, handle: Ident, slot: Option<Ident>) -> Call
+    ensures { result ≡ XSync (handle_value variables.now handle) slot }
+{
+    let h = handle_in(variables, handle);
+    Call::XSync { h, slot }
+}
+
 /// What a statement asks that isn't silent, behind so many stored bytes.
 pub fn ask_of(
     alloc: Global,
@@ -148,6 +155,11 @@ pub fn ask_of(
             h: handle_in(variables, *handle),
         })),
         Statement::Close { handle } => Ok(Ask::Call(close(variables, *handle))),
+        Statement::Unlink { name, slot } => Ok(Ask::Call(Call::XUnlink {
+            name: *name,
+            slot: *slot,
+        })),
+        Statement::Sync { handle, slot } => Ok(Ask::Call(sync(variables, *handle, *slot))),
         _ => Ok(Ask::Abort),
     }
 }

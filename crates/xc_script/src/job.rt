@@ -2,18 +2,19 @@ ghost use Rattle.std.specs.Prelude.{◌≡◌, ◌≤◌, ◌<◌, is_some, ◌+
 ghost use Rattle.std.specs.Option.{option_copied};
 ghost use Rattle.std.specs.Cmp.Lexicographic.{pointwise};
 ghost use Rattle.xc_script.specs.Ask.{asks_from, answered, next_body, transactions_at, fresh_job, block_place, value_in};
+ghost use Rattle.xc_script.specs.Slots.{kept_of, with_ends};
 ghost use Rattle.xc_script.specs.Place.{Place, job_of, walk_of, at_begin, IsSettled, IsAskedCall, target_at};
 
 use crate::Ask;
 use crate::answer::{bind, refuses, stored_after, target_of};
 use crate::ask::{ask_of, carried};
+use crate::ends::set_ends;
 use crate::silent::settle;
 use crate::value::Variables;
 use std::alloc::Global;
 use std::marker::Model;
 use std::mem;
-use xc_data::{Ident, NoMemory, Reply};
-use xc_maps::IdentMap;
+use xc_data::{Call, Ident, LateEnd, NoMemory, Reply};
 use xc_text::{Block, Script, Statement};
 
 /// A job's place in its block, and its variables.
@@ -89,20 +90,21 @@ fn body_at(script: &Script, block: usize, next: usize) -> Option<&[Statement]>
 }
 
 impl JobState {
-    /// A job at the begin of its block, with no variable set. Its block is one of the script's.
-    pub fn new(alloc: Global, script: &Script, block: Ident) -> JobState
-        ensures { result ≡ at_begin (fresh_job (block_place script.now block)) }
+    /// A job at the begin of its block, with no variable and no slot set. Its block is one of the script's. Room for the
+    /// ends of late calls is made here, for all of the script's slots.
+    pub fn new(alloc: Global, script: &Script, block: Ident) -> Result<JobState, NoMemory>
+        ensures { IfOk result (λ job. job ≡ at_begin (fresh_job script.now (block_place script.now block))) }
     {
-        JobState {
+        Ok(JobState {
             alloc,
             block: place_of(script, block),
             next: 0,
             at: 0,
             stored: 0,
             refused: false,
-            variables: IdentMap::new(alloc),
-            begun: IdentMap::new(alloc),
-        }
+            variables: Variables::unset(alloc, script.slots.as_slice())?,
+            begun: Variables::nothing(alloc),
+        })
     }
 
     /// Keeps the variables for an abort. Their bytes are shared.
@@ -183,6 +185,13 @@ impl JobState {
         self.rewind();
     }
 
+    /// The slots of the calls that were kept for a commit take their ends, in order. It takes no memory.
+    pub fn set_ends(&mut self, calls: &[Call], replies: &[Reply], ends: &[LateEnd])
+        ensures { self.new ≡ record self.old { variables = with_ends self.old.variables (kept_of calls.now replies.now) ends.now } }
+    {
+        set_ends(&mut self.variables, calls, replies, ends);
+    }
+
     // Stands before its transaction, with the variables as they are.
     fn rewind(&mut self)
         ensures { self.new ≡ at_begin (job_of self.old) }
@@ -190,7 +199,7 @@ impl JobState {
         self.at = 0;
         self.stored = 0;
         self.refused = false;
-        self.begun = IdentMap::new(self.alloc);
+        self.begun = Variables::nothing(self.alloc);
     }
 }
 

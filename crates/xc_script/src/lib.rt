@@ -4,6 +4,7 @@
 mod answer;
 mod ask;
 mod data;
+mod ends;
 mod job;
 mod reading;
 mod silent;

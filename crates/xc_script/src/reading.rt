@@ -25,7 +25,7 @@ pub fn handle_in(variables: &Variables, name: Ident) -> u16
     }
 }
 
-/// A variable without a number counts as 0.
+/// A variable without a number counts as 0, and so does a slot that is unset.
 pub fn value_of(variables: &Variables, term: Term) -> u64
     ensures { result ≡ term_value variables.now term }
 {
@@ -35,6 +35,7 @@ pub fn value_of(variables: &Variables, term: Term) -> u64
             Some(Value::Number(n)) => *n,
             _ => 0,
         },
+        Term::Slot(name) => variables.slot(name),
     }
 }
 

@@ -46,7 +46,7 @@ fn set(variables: &mut Variables, statement: &Statement) -> Result<(), NoMemory>
         return Ok(());
     };
     let number = expression_of(variables, *value);
-    variables.insert(*into, Value::Number(number))
+    variables.set(*into, Some(Value::Number(number)))
 }
 
 /// Passes the silent statements that come next. Without memory it has passed some of them.

@@ -41,6 +41,7 @@ script_of s = record {
     jobs = s.jobs;
   };
   blocks = s.blocks;
+  slots = [];
 }
 
 -- a script ends behind its prologue or behind a block

@@ -7,14 +7,14 @@ use Rattle.xc_data.specs.declared.script.Kind.{Kind}
 use Rattle.xc_data.specs.declared.script.Opened.{Opened}
 use Rattle.xc_data.specs.declared.script.Opened.TheVariants.{File}
 use Rattle.xc_text.specs.declared.script.Term.{Term}
-use Rattle.xc_text.specs.declared.script.Term.TheVariants.{Number, Variable}
+use Rattle.xc_text.specs.declared.script.Term.TheVariants.{Number, Variable, Slot}
 use Rattle.xc_text.specs.declared.script.Expression.{Expression}
 use Rattle.xc_text.specs.declared.script.Expression.TheVariants.{Term as OneTerm, Sum, Difference}
 use Rattle.xc_text.specs.declared.script.Item.{Item}
 use Rattle.xc_text.specs.declared.script.Item.TheVariants as item
 use Rattle.xc_text.specs.declared.script.Statement.{Statement}
 use Rattle.xc_text.specs.declared.script.Statement.TheVariants.{Load, Store, Open, Create, Rename, Read, Overwrite, Append}
-use Rattle.xc_text.specs.declared.script.Statement.TheVariants.{Seek, Length, Close, Let, Abort, AbortIf, Require}
+use Rattle.xc_text.specs.declared.script.Statement.TheVariants.{Seek, Length, Close, Unlink, Sync, Let, Abort, AbortIf, Require}
 use Rattle.xc_text.specs.declared.line.Line.{Line}
 use Rattle.xc_text.specs.declared.line.Line.TheVariants as line
 use Rattle.xc_text.specs.declared.line.Section.TheVariants.{Between, Block, Transaction}
@@ -47,6 +47,7 @@ with_name names name = if is_among name names then names else names ++ name ∷ 
 abbrev pub with_term : List (List ℕ) → Term → List (List ℕ)
 with_term names (Number n) = names
 with_term names (Variable name) = with_name names name
+with_term names (Slot name) = names
 
 -- the names with an expression's variables
 abbrev pub with_expression : List (List ℕ) → Expression → List (List ℕ)
@@ -83,6 +84,8 @@ with_statement names (Append handle items) = with_data (with_name names handle) 
 with_statement names (Seek handle to) = with_term (with_name names handle) to
 with_statement names (Length handle into) = with_target (with_name names handle) into
 with_statement names (Close handle) = with_name names handle
+with_statement names (Unlink file slot) = names
+with_statement names (Sync handle slot) = with_name names handle
 with_statement names (Let into value) = with_expression (with_name names into) value
 with_statement names Abort = names
 with_statement names (AbortIf left test right) = with_term (with_term names left) right

@@ -53,6 +53,8 @@ fn push_statement(body: &mut Body, statement: Statement) -> Result<(), NoMemory>
         Statement::Seek { handle, to } => body.push(Statement::Seek { handle, to }),
         Statement::Length { handle, into } => body.push(Statement::Length { handle, into }),
         Statement::Close { handle } => body.push(Statement::Close { handle }),
+        Statement::Unlink { name, slot } => body.push(Statement::Unlink { name, slot }),
+        Statement::Sync { handle, slot } => body.push(Statement::Sync { handle, slot }),
         Statement::Let { into, value } => body.push(Statement::Let { into, value }),
         Statement::Abort => body.push(Statement::Abort),
         Statement::AbortIf { left, test, right } => body.push(Statement::AbortIf {

@@ -120,6 +120,7 @@ impl Draft {
                 jobs: self.jobs.into_names(),
             },
             blocks: self.blocks,
+            slots: Items::new(alloc),
         }
     }
 

@@ -25,7 +25,7 @@ fn add_term(names: &mut IdentList, term: &Term) -> Result<(), NoMemory>
     ensures { OnOk result (names.new ≡ with_term names.old term.now) }
 {
     match term {
-        Term::Number(_) => Ok(()),
+        Term::Number(_) | Term::Slot(_) => Ok(()),
         Term::Variable(name) => add_name(names, *name),
     }
 }
@@ -129,6 +129,8 @@ pub fn add_statement(names: &mut IdentList, statement: &Statement) -> Result<(),
         Statement::Seek { handle, to } => add_handle_and_term(names, handle, to),
         Statement::Length { handle, into } => add_handle_into(names, handle, into),
         Statement::Close { handle } => add_name(names, *handle),
+        Statement::Unlink { .. } => Ok(()),
+        Statement::Sync { handle, .. } => add_name(names, *handle),
         Statement::Let { into, value } => {
             add_name(names, *into)?;
             add_expression(names, value)

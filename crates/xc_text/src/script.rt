@@ -1,12 +1,13 @@
 ghost use Rattle.std.specs.Prelude.{◌≡◌};
 
-use xc_data::{Chunk, Ident, Items, Name, Script0};
+use xc_data::{Chunk, Ident, IdentList, Items, Name, Script0};
 
-/// A number, or the number in a variable.
+/// A number, the number in a variable, or one that tells how the last late call with a slot ended.
 #[derive(Clone, Copy, Debug, PartialEq)]
 pub enum Term {
     Number(u64),
     Variable(Ident),
+    Slot(Ident),
 }
 
 /// A term, a sum or a difference of two, taken modulo 2^64.
@@ -97,6 +98,16 @@ pub enum Statement {
     Close {
         handle: Ident,
     },
+    /// Takes a file's name away at the commit. A slot takes the end where one is named.
+    Unlink {
+        name: Name,
+        slot: Option<Ident>,
+    },
+    /// Keeps for good, at the commit, what was written to the file whose handle is in a variable.
+    Sync {
+        handle: Ident,
+        slot: Option<Ident>,
+    },
     /// A variable takes a number.
     Let {
         into: Ident,
@@ -130,6 +141,8 @@ pub struct Script {
     pub plain: Script0,
     /// The blocks in the order of the script.
     pub blocks: Items<Block>,
+    /// The names of its slots, each once.
+    pub slots: IdentList,
 }
 
 impl Script {

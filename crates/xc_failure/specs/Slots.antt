@@ -1,0 +1,78 @@
+-- Slots: how the last late call with each of them ended.
+use mathlib.Core.Logic.{inl, inr}
+use Rattle.std.specs.Prelude.{◌≡◌, ◌⊎◌, ℕ, Bool, true, false, List, [], ◌∷◌, is_some, refl, Option, if◌then◌else◌}
+use Rattle.std.specs.Coded.{Coded, code_by, coded×, coded⊎, coded_ℕ, coded_bool}
+use Rattle.std.specs.declared.option.Option.TheVariants.{None, Some}
+use Rattle.std.specs.FinMap as map
+use Rattle.xc_data.specs.declared.call.LateEnd.{LateEnd}
+use Rattle.xc_data.specs.declared.call.LateEnd.TheVariants as end
+use Rattle.xc_maps.specs.Keys.{name_cmp, coded_name}
+
+-- the slots of a job by their names; an unset one is as one that was done
+abbrev pub Slots : Type 0
+Slots = map.FinMap name_cmp LateEnd
+
+-- these slots, each unset
+abbrev pub unset : List (List ℕ) → Slots
+unset [] = map.empty
+unset (name ∷ names) = map.insert (unset names) name end.Done
+
+-- a slot takes an end; nothing is changed where no such slot is there
+abbrev pub with_slot : Slots → List ℕ → LateEnd → Slots
+with_slot slots name e = if is_some (map.get slots name) then map.insert slots name e else slots
+
+-- an end as a number
+abbrev pub end_number : LateEnd → ℕ
+end_number end.Done = 0
+end_number (end.Full n) = 1
+end_number end.NoName = 2
+end_number end.NoScript = 3
+end_number (end.Fault n) = 4
+end_number (end.NoMemory n) = 5
+end_number end.Shut = 6
+
+-- what a slot counts as: 0 where it is unset
+abbrev pub slot_number : Option LateEnd → ℕ
+slot_number None = 0
+slot_number (Some e) = end_number e
+
+-- ---- codes of ends and of slots
+-- the parts of an end: two truth values where it has no number, else the number by its kind
+abbrev pub end_parts : LateEnd → (Bool × Bool) ⊎ (ℕ ⊎ (ℕ ⊎ ℕ))
+end_parts end.Done = inl (false, false)
+end_parts end.NoName = inl (false, true)
+end_parts end.NoScript = inl (true, false)
+end_parts end.Shut = inl (true, true)
+end_parts (end.Full n) = inr (inl n)
+end_parts (end.Fault n) = inr (inr (inl n))
+end_parts (end.NoMemory n) = inr (inr (inr n))
+
+-- the end of these parts
+abbrev pub of_end_parts : (Bool × Bool) ⊎ (ℕ ⊎ (ℕ ⊎ ℕ)) → LateEnd
+of_end_parts (inl (false, false)) = end.Done
+of_end_parts (inl (false, true)) = end.NoName
+of_end_parts (inl (true, false)) = end.NoScript
+of_end_parts (inl (true, true)) = end.Shut
+of_end_parts (inr (inl n)) = end.Full n
+of_end_parts (inr (inr (inl n))) = end.Fault n
+of_end_parts (inr (inr (inr n))) = end.NoMemory n
+
+-- an end is that of its parts
+abbrev pub same_end : (e : LateEnd) → of_end_parts (end_parts e) ≡ e
+same_end end.Done = refl
+same_end end.NoName = refl
+same_end end.NoScript = refl
+same_end end.Shut = refl
+same_end (end.Full n) = refl
+same_end (end.Fault n) = refl
+same_end (end.NoMemory n) = refl
+
+-- an end's code, that of its parts
+abbrev pub coded_end : Coded LateEnd
+coded_end =
+    code_by ((Bool × Bool) ⊎ (ℕ ⊎ (ℕ ⊎ ℕ))) (coded⊎ (coded× coded_bool coded_bool) (coded⊎ coded_ℕ (coded⊎ coded_ℕ coded_ℕ)))
+    end_parts of_end_parts same_end
+
+-- the slots' code, that of their map
+abbrev pub coded_slots : Coded Slots
+coded_slots = map.code coded_name coded_end
