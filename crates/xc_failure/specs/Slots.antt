@@ -1,9 +1,10 @@
 -- Slots: how the last late call with each of them ended.
 use mathlib.Core.Logic.{inl, inr}
-use Rattle.std.specs.Prelude.{◌≡◌, ◌⊎◌, ℕ, Bool, true, false, List, [], ◌∷◌, is_some, refl, Option, if◌then◌else◌}
+use Rattle.std.specs.Prelude.{◌≡◌, ◌⊎◌, ℕ, Bool, true, false, List, is_some, refl, Option, if◌then◌else◌}
 use Rattle.std.specs.Coded.{Coded, code_by, coded×, coded⊎, coded_ℕ, coded_bool}
 use Rattle.std.specs.declared.option.Option.TheVariants.{None, Some}
 use Rattle.std.specs.FinMap as map
+use Rattle.std.specs.List.{fold}
 use Rattle.xc_data.specs.declared.call.LateEnd.{LateEnd}
 use Rattle.xc_data.specs.declared.call.LateEnd.TheVariants as end
 use Rattle.xc_maps.specs.Keys.{name_cmp, coded_name}
@@ -14,8 +15,7 @@ Slots = map.FinMap name_cmp LateEnd
 
 -- these slots, each unset
 abbrev pub unset : List (List ℕ) → Slots
-unset [] = map.empty
-unset (name ∷ names) = map.insert (unset names) name end.Done
+unset names = fold (λ (slots : Slots) (name : List ℕ). map.insert slots name end.Done) map.empty names
 
 -- a slot takes an end; nothing is changed where no such slot is there
 abbrev pub with_slot : Slots → List ℕ → LateEnd → Slots

@@ -53,11 +53,11 @@ impl Slots {
     pub fn unset(alloc: Global, names: &[Ident]) -> Result<Slots, NoMemory>
         ensures { IfOk result (λ slots. slots ≡ unset names.now) }
     {
-        let mut slots = Slots::new(alloc);
-        for name in names.iter().rev() {
-            slots.ends.insert(*name, LateEnd::Done)?;
+        let mut ends = IdentMap::new(alloc);
+        for name in names {
+            ends.insert(*name, LateEnd::Done)?;
         }
-        Ok(slots)
+        Ok(Slots { ends })
     }
 
     /// A slot takes an end; a name that isn't among the slots is passed over. It takes no memory.

@@ -19,7 +19,8 @@ use Rattle.xc_data.specs.declared.entry.Outcome.TheVariants.{Committed, Aborted}
 use Rattle.xc_print.specs.Text.{text}
 use Rattle.xc_script.specs.Ask.{fresh_job, block_place, next_body, passed, transactions_at, walk_from}
 use Rattle.xc_story.specs.Ending.{IsEnd, AreEnds, Final, IsTrueEnd, is_done, all_done, is_settled_or_tried_again, transactions_of_jobs}
-use Rattle.xc_story.specs.Progress.{Following, Progress, untried, opening_progress, progress_of, private_of, kept_of, started_blocks, started_job}
+use Rattle.xc_script.specs.Slots.{kept_of}
+use Rattle.xc_story.specs.Progress.{Following, Progress, untried, opening_progress, progress_of, private_of, started_blocks, started_job, committed_job}
 use Rattle.xc_story.specs.Progress.{following_abort, after_entry, after_following, after_outcome, following_of}
 use Rattle.xc_story.specs.Setting.{Setting}
 use Rattle.xc_story.specs.Truth.{AreTrue, AreInOrder, IsEntry, IsPlayedOutcome, IsSerial, is_alone, is_asked, is_settled, is_tried_again, all_settled, next_of}

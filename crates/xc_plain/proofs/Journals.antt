@@ -10,7 +10,8 @@ use Rattle.xc_data.specs.declared.entry.Entry.{Entry}
 use Rattle.xc_data.specs.declared.entry.Outcome.{Outcome}
 use Rattle.xc_data.specs.declared.entry.Outcome.TheVariants.{Committed, Aborted}
 use Rattle.xc_script.specs.Ask.{Job, passed, next_body}
-use Rattle.xc_story.specs.Progress.{Following, Progress, untried, kept_of, started_blocks, started_job}
+use Rattle.xc_script.specs.Slots.{kept_of}
+use Rattle.xc_story.specs.Progress.{Following, Progress, untried, started_blocks, started_job, committed_job}
 use Rattle.xc_story.specs.Progress.{following_abort, after_following, after_outcome, following_of, after_entry}
 use Rattle.xc_story.specs.Setting.{Setting}
 use Rattle.xc_story.specs.Truth.{AreTrue, AreInOrder, JobsRise, is_settled, all_settled}

@@ -1,6 +1,6 @@
 -- The calls that scripts have so far: no other is asked, they take no data, and their records tell all that they do.
 use Rattle.std.proofs.Common.{◌≡◌, Bool, true, false, ℕ, List, [], ◌∷◌, refl, ap, ◌∙◌, subst}
-use Rattle.std.specs.Prelude.{not, if◌then◌else◌}
+use Rattle.std.specs.Prelude.{if◌then◌else◌}
 use Rattle.xc_data.specs.declared.call.Answer.{Answer}
 use Rattle.xc_data.specs.declared.call.Call.{Call}
 use Rattle.xc_data.specs.declared.call.Call.TheVariants as call
@@ -20,7 +20,6 @@ use Rattle.xc_world.specs.Run.{taken_by}
 use Rattle.xc_world.specs.Trail.{recorded}
 use Rattle.xc_world.proofs.EffectsCalls.{act-leads}
 use Rattle.xc_story.specs.Rows.{is_built}
-use Rattle.xc_story.specs.LateCalls.{waits}
 
 -- ---- no other is asked
 abbrev asks_built : Ask → Bool
@@ -43,35 +42,6 @@ left_built variables stored (s ∷ left) = statement_built variables stored s
 -- what a transaction is asked on its way
 pub asked_built : (walk : Walk) (c : Call) → asks walk ≡ ask.Call c → is_built c ≡ true
 asked_built walk c e = subst (λ a. asks_built a ≡ true) e (left_built walk.variables walk.stored walk.left)
-
--- ---- none is kept for the commit
-abbrev asks_at_once : Ask → Bool
-asks_at_once (ask.Call call) = not (waits call)
-asks_at_once _ = true
-
-or_abort_at_once : (b : Bool) (c : Call) → waits c ≡ false → asks_at_once (if b then ask.Abort else ask.Call c) ≡ true
-or_abort_at_once true c is = refl
-or_abort_at_once false c is = ap not is
-
-statement_at_once : (variables : Variables) (stored : ℕ) (s : Statement) → asks_at_once (ask_of variables stored s) ≡ true
-statement_at_once variables stored (statement.Overwrite h items) =
-    or_abort_at_once (is_over stored _) (call.XWriteOvr (handle_value variables h) _) refl
-statement_at_once variables stored (statement.Append h items) =
-    or_abort_at_once (is_over stored _) (call.XWriteSeq (handle_value variables h) _) refl
-statement_at_once variables stored _ = refl
-
-left_at_once : (variables : Variables) (stored : ℕ) (left : List Statement) → asks_at_once (asks_of variables stored left) ≡ true
-left_at_once variables stored [] = refl
-left_at_once variables stored (s ∷ left) = statement_at_once variables stored s
-
-not_true : (b : Bool) → not b ≡ true → b ≡ false
-not_true true e = cc
-not_true false e = refl
-
--- what a transaction is asked on its way
-pub asked_at_once : (walk : Walk) (c : Call) → asks walk ≡ ask.Call c → waits c ≡ false
-asked_at_once walk c e =
-    not_true (waits c) (subst (λ a. asks_at_once a ≡ true) e (left_at_once walk.variables walk.stored walk.left))
 
 -- ---- what they do
 -- they take no data

@@ -12,10 +12,9 @@ use Rattle.xc_data.specs.declared.entry.Outcome.TheVariants.{Committed, Aborted}
 use Rattle.xc_data.specs.declared.private.Private.{Private}
 use Rattle.xc_data.specs.declared.private.Place.{Place as Handle}
 use Rattle.xc_text.specs.declared.script.Script.{Script}
-use Rattle.xc_script.specs.Ask.{passed}
 use Rattle.xc_world.specs.World.{beginning, no_handles}
 use Rattle.xc_world.specs.Run.{asked_of, body, run}
-use Rattle.xc_story.specs.Progress.{Following, Progress, untried, private_of, started_job}
+use Rattle.xc_story.specs.Progress.{Following, Progress, untried, private_of, committed_job, started_job}
 use Rattle.xc_story.specs.Progress.{following_abort, after_outcome, after_following, words_left, after_entry, opening_progress, progress_of}
 use Rattle.xc_story.specs.Seen.{SeenTx, SeenJob}
 use Rattle.xc_story.specs.Rows.{entry_of, is_built}
@@ -61,7 +60,7 @@ module _ (script : Script) (p : Progress) (f : Following) (jobs : List SeenJob) 
   committed = entry_of tx at (Committed tx.ends)
 
   abbrev behind : Following
-  behind = untried f.block (passed script f.job tx.replies) (p.entered + 1)
+  behind = untried f.block (committed_job script f.job tx.calls tx.replies tx.ends) (p.entered + 1)
 
   -- the world is its run's
   pub commit_world : (us : List Asked) → (after_entry script p committed).state.world ≡ world_after_commit p.state.world (flown job.me us tx)
@@ -81,7 +80,7 @@ module _ (script : Script) (p : Progress) (f : Following) (jobs : List SeenJob) 
   -- the other jobs stay
   pub commit_followings : list_all is_built tx.calls ≡ true → (j : ℕ) → j ≢ at → slice_get (after_entry script p committed).jobs j ≡ slice_get p.jobs j
   commit_followings built j ne =
-      let to = started_job script (passed script f.job tx.replies) (p.entered + 1) in
+      let to = started_job script (committed_job script f.job tx.calls tx.replies tx.ends) (p.entered + 1) in
       ap (λ (q : Progress). slice_get q.jobs j) (led_by (Committed tx.ends))
       ∙ (λ i. slice_get (slice_set p.jobs (at + 1 - 1) behind ++ map to (kept_starts tx.calls tx.replies tx.ends built i)) j)
       ∙ ap (λ l. slice_get l j) (append-nil (slice_set p.jobs (at + 1 - 1) behind)) ∙ others_follow behind j ne

@@ -27,7 +27,10 @@ fn is_late(reply: &Reply) -> bool
 pub fn set_ends(variables: &mut Variables, calls: &[Call], replies: &[Reply], ends: &[LateEnd])
     ensures { variables.new ≡ with_ends variables.old (kept_of calls.now replies.now) ends.now }
 {
-    let ([call, calls @ ..], [reply, replies @ ..]) = (calls, replies) else {
+    let [call, calls @ ..] = calls else {
+        return;
+    };
+    let [reply, replies @ ..] = replies else {
         return;
     };
     if !is_late(reply) {

@@ -1,7 +1,9 @@
 -- How jobs end, and what a whole run ends in.
 use Rattle.std.specs.Prelude.{◌≡◌, ℕ, ◌+◌, ◌<◌, ◌≤◌, Bool, true, false, ◌||◌, List, [], ◌∷◌, ◌++◌, length, map, count_by, IsSome, IsTrue}
-use Rattle.std.specs.List.{list_all}
+use Rattle.std.specs.List.{list_all, list_any}
 use Rattle.std.specs.declared.option.Option.TheVariants.{None}
+use Rattle.xc_data.specs.declared.call.LateEnd.{LateEnd}
+use Rattle.xc_data.specs.declared.call.LateEnd.TheVariants as late_end
 use Rattle.xc_data.specs.declared.entry.Cause.{Cause}
 use Rattle.xc_data.specs.declared.entry.Outcome.{Outcome}
 use Rattle.xc_data.specs.declared.entry.Outcome.TheVariants.{Committed, Aborted}
@@ -49,6 +51,20 @@ is_done _ = false
 -- no job ended but by its last transaction
 abbrev pub all_done : List JobLine → Bool
 all_done lines = list_all (λ (line : JobLine). is_done line.end) lines
+
+-- a late call ended for want of memory
+abbrev pub is_memory_end : LateEnd → Bool
+is_memory_end (late_end.NoMemory n) = true
+is_memory_end _ = false
+
+-- some late call of a transaction did
+abbrev pub has_memory_end : Outcome → Bool
+has_memory_end (Committed late) = list_any is_memory_end late
+has_memory_end (Aborted report) = false
+
+-- some late call of some transaction did
+abbrev pub some_late_starved : List Entry → Bool
+some_late_starved entries = list_any (λ (e : Entry). has_memory_end e.outcome) entries
 
 -- how many transactions the started jobs have
 abbrev pub transactions_of_jobs : Script → List Following → ℕ

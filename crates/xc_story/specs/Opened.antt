@@ -13,7 +13,7 @@ opened_job script block =
     record {
       block = block;
       me = beginning no_handles;
-      place = at_begin (fresh_job (block_place script block));
+      place = at_begin (fresh_job script (block_place script block));
       attempts = None;
       doing = Idle;
     }

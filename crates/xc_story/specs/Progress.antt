@@ -16,9 +16,9 @@ use Rattle.xc_data.specs.declared.entry.Outcome.TheVariants.{Committed, Aborted}
 use Rattle.xc_data.specs.declared.entry.Entry.{Entry}
 use Rattle.xc_data.specs.declared.private.Private.{Private}
 use Rattle.xc_text.specs.declared.script.Script.{Script}
-use Rattle.xc_script.specs.Ask.{Job, passed, fresh_job, block_place}
+use Rattle.xc_script.specs.Ask.{Job, Variables, no_variables, passed, fresh_job, block_place}
+use Rattle.xc_script.specs.Slots.{kept_of, with_ends}
 use Rattle.xc_world.specs.World.{State, beginning, no_handles}
-use Rattle.xc_world.specs.Late.{is_late}
 use Rattle.xc_world.specs.Run.{Ran, Run, body, run, asked_of}
 use Rattle.xc_world.specs.Ends.{remains, with_remains}
 use Rattle.xc_world.specs.Opening.{opening_state}
@@ -56,7 +56,7 @@ abbrev pub opening_progress : Script → Progress
 opening_progress script =
     record {
       state = opening_state script.plain;
-      jobs = map (λ name. untried name (fresh_job (block_place script name)) 0) script.plain.jobs;
+      jobs = map (λ name. untried name (fresh_job script (block_place script name)) 0) script.plain.jobs;
       entered = 0;
       words = script.plain.words;
     }
@@ -75,12 +75,6 @@ abbrev pub run_of : State → Entry → List LateEnd → Run
 run_of state e late = run state.world (private_of state e.job) e.tx (asked_of e.calls e.replies) late
 
 -- ---- the jobs that an entry starts
--- the calls that were kept for the commit, by their recorded replies
-abbrev pub kept_of : List Call → List Reply → List Call
-kept_of [] replies = []
-kept_of (call ∷ calls) [] = []
-kept_of (call ∷ calls) (reply ∷ replies) = if is_late reply then call ∷ kept_of calls replies else kept_of calls replies
-
 -- the block that a kept call with its end started
 abbrev pub started_by : Call → LateEnd → List (List ℕ)
 started_by (XThreadCreate block slot) end.Done = block ∷ []
@@ -93,7 +87,7 @@ started_blocks (c ∷ calls) [] = []
 started_blocks (c ∷ calls) (e ∷ ends) = started_by c e ++ started_blocks calls ends
 
 -- ---- after a commit: the whole run's world, the job's handles at its end, and the jobs it started
--- with copies of these handles and of its variables
+-- with copies of these handles and of its variables, and with all slots unset
 abbrev pub with_job : List Following → ℕ → Following → List Following
 with_job jobs job f = slice_set jobs (job - 1) f
 
@@ -105,16 +99,25 @@ committed_state state job run blocks =
       handles = slice_set state.handles (job - 1) run.body.me.places ++ replicate (length blocks) run.body.me.places;
     }
 
+-- the variables of a starter, with all slots unset
+abbrev pub handed_on : Script → Variables → Variables
+handed_on script variables = record (no_variables script) { values = variables.values }
+
 -- the job of a block that was started
 abbrev pub started_job : Script → Job → ℕ → List ℕ → Following
 started_job script starter since block =
-    untried block (record { block = block_place script block; next = 0; variables = starter.variables }) since
+    untried block (record { block = block_place script block; next = 0; variables = handed_on script starter.variables }) since
+
+-- the job behind a commit: at its next transaction, where the slots of the kept calls have taken their ends
+abbrev pub committed_job : Script → Job → List Call → List Reply → List LateEnd → Job
+committed_job script job calls replies late =
+    let behind = passed script job replies in record behind { variables = with_ends behind.variables (kept_of calls replies) late }
 
 -- what a committed entry of a job leads to
 abbrev pub after_commit : Script → Progress → Following → Entry → List LateEnd → Progress
 after_commit script p f e late =
     let blocks = started_blocks (kept_of e.calls e.replies) late in
-    let job = passed script f.job e.replies in
+    let job = committed_job script f.job e.calls e.replies late in
     record {
       state = committed_state p.state e.job (run_of p.state e late) blocks;
       jobs = with_job p.jobs e.job (untried f.block job (p.entered + 1)) ++ map (started_job script job (p.entered + 1)) blocks;

@@ -35,6 +35,7 @@ use Rattle.xc_script.specs.declared.ask.Ask.{Ask}
 use Rattle.xc_script.specs.declared.ask.Ask.TheVariants as ask
 use Rattle.xc_script.specs.Ask.{asks, answered, next_body}
 use Rattle.xc_script.specs.Place.{Place, at_begin, job_of, walk_of, IsSettled}
+use Rattle.xc_script.specs.Slots.{kept_of, with_ends}
 use Rattle.xc_txmem.specs.Overlay.{overlaid}
 use Rattle.xc_world.specs.World.{World, beginning}
 use Rattle.xc_world.specs.Act.{act}
@@ -385,13 +386,18 @@ pub record EndsLate (s : Setting) (at : ℕ) (old : Now) (job : SeenJob) (tx : S
   pub does : IsTrue s.tells → DoesLate old.contents new.contents call end
 
 -- ---- entries
--- behind a commit a job is at its next transaction, with the variables and the handles of this one's end
+-- behind a commit a job is at its next transaction, with the variables and the handles of this one's end, and where the
+-- slots of its kept calls have taken their ends
 abbrev pub behind_commit : SeenJob → SeenTx → SeenJob
 behind_commit job tx =
     record {
       block = job.block;
       me = beginning tx.me.places;
-      place = at_begin (record { block = job.place.block; next = job.place.next + 1; variables = job.place.variables });
+      place = at_begin (record {
+        block = job.place.block;
+        next = job.place.next + 1;
+        variables = with_ends job.place.variables (kept_of tx.calls tx.replies) tx.ends;
+      });
       attempts = None;
       doing = Idle;
     }

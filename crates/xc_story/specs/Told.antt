@@ -19,7 +19,8 @@ use Rattle.xc_story.specs.declared.phase.Phase.{Phase}
 use Rattle.xc_story.specs.declared.phase.Phase.TheVariants.{Running, Committing, Undoing}
 use Rattle.xc_story.specs.Setting.{Setting}
 use Rattle.xc_story.specs.Grounds.{Part, AreGrounded}
-use Rattle.xc_story.specs.Progress.{Following, kept_of, opening_progress, progress_of}
+use Rattle.xc_script.specs.Slots.{kept_of}
+use Rattle.xc_story.specs.Progress.{Following, opening_progress, progress_of}
 use Rattle.xc_story.specs.Truth.{AsksEach, AreTrue, IsCauseOf, counting, next_of, parts_of}
 use Rattle.xc_story.specs.Ending.{IsEnd}
 use Rattle.xc_story.specs.Rows.{is_built}

@@ -31,8 +31,10 @@ use Rattle.xc_world.specs.Trail.{recorded}
 use Rattle.xc_story.specs.Setting.{Setting}
 use Rattle.xc_story.specs.Grounds.{Part, AreGrounded}
 use Rattle.xc_story.specs.WordCalls.{AreWordReplies}
+use Rattle.xc_script.specs.Slots.{kept_of}
 use Rattle.xc_story.specs.Progress.{Following, Progress, opening_progress, private_of}
-use Rattle.xc_story.specs.Progress.{body_of, run_of, kept_of, following_of, after_entry}
+use Rattle.xc_script.specs.Slots.{kept_of}
+use Rattle.xc_story.specs.Progress.{body_of, run_of, following_of, after_entry}
 
 -- ---- an entry's part in its job's story
 -- each call is the one that is asked behind the replies before it

@@ -15,9 +15,10 @@ use Rattle.xc_data.specs.declared.entry.JobLine.{JobLine}
 use Rattle.xc_data.specs.declared.entry.Outcome.{Outcome}
 use Rattle.xc_data.specs.declared.entry.Outcome.TheVariants.{Committed, Aborted}
 use Rattle.xc_text.specs.declared.script.Script.{Script}
-use Rattle.xc_script.specs.Ask.{Job, fresh_job, block_place, next_body, passed, transactions_at}
+use Rattle.xc_script.specs.Ask.{Job, fresh_job, block_place, next_body, transactions_at}
 use Rattle.xc_story.specs.Setting.{Setting}
-use Rattle.xc_story.specs.Progress.{Following, Progress, untried, opening_progress, progress_of, kept_of, started_blocks, started_job, following_abort}
+use Rattle.xc_script.specs.Slots.{kept_of}
+use Rattle.xc_story.specs.Progress.{Following, Progress, untried, opening_progress, progress_of, started_blocks, started_job, following_abort, committed_job}
 use Rattle.xc_story.specs.Progress.{after_entry, after_following, after_outcome, following_of, with_job}
 use Rattle.xc_story.specs.Truth.{AreTrue, is_asked, is_settled, is_tried_again}
 use Rattle.xc_story.specs.Ending.{AreEnds, IsEnd, IsComplete, all_done, is_done, is_settled_or_tried_again, transactions_of_jobs}
@@ -87,7 +88,7 @@ cause_passes p f e (cause.Revoked object by at) started =
 outcome_passes : (script : Script) (p : Progress) (f : Following) (e : Entry) (o : Outcome) → following_of p e ≡ Some f
     → passed_by (after_outcome script p f e o).jobs ≡ passed_by p.jobs + one_if (is_settled o)
 outcome_passes script p f e (Committed late) started =
-    let job : Job = passed script f.job e.replies in
+    let job : Job = committed_job script f.job e.calls e.replies late in
     let mine : Following = untried f.block job (p.entered + 1) in
     let blocks : List (List ℕ) = started_blocks (kept_of e.calls e.replies) late in
     let both = sum_by-append (λ (g : Following). g.job.next) (with_job p.jobs e.job mine) (map (started_job script job (p.entered + 1)) blocks) in
@@ -130,7 +131,7 @@ cause_within script p f e (cause.Revoked object by at) less each =
 outcome_within : (script : Script) (p : Progress) (f : Following) (e : Entry) (o : Outcome) → f.job.next < length (transactions_at script f.job.block)
     → AllByRecursion (IsWithin script) p.jobs → AllByRecursion (IsWithin script) (after_outcome script p f e o).jobs
 outcome_within script p f e (Committed late) less each =
-    let job : Job = passed script f.job e.replies in
+    let job : Job = committed_job script f.job e.calls e.replies late in
     let mine : Following = untried f.block job (p.entered + 1) in
     let blocks : List (List ℕ) = started_blocks (kept_of e.calls e.replies) late in
     each_append (IsWithin script) (with_job p.jobs e.job mine) (map (started_job script job (p.entered + 1)) blocks)
@@ -167,7 +168,7 @@ cause_goes p f e (cause.Revoked object by at) started goes each =
 outcome_goes : (script : Script) (p : Progress) (f : Following) (e : Entry) (o : Outcome) → following_of p e ≡ Some f → GoesOn f
     → AllByRecursion GoesOn (after_outcome script p f e o).jobs → AllByRecursion GoesOn p.jobs × (is_settled_or_tried_again o ≡ true)
 outcome_goes script p f e (Committed late) started goes each =
-    let job : Job = passed script f.job e.replies in
+    let job : Job = committed_job script f.job e.calls e.replies late in
     let mine : Following = untried f.block job (p.entered + 1) in
     let blocks : List (List ℕ) = started_blocks (kept_of e.calls e.replies) late in (
       each_unset GoesOn p.jobs (e.job - 1) f mine started goes
@@ -217,7 +218,7 @@ pub complete : (s : Setting) (entries : List Entry) (lines : List JobLine) → A
     → AreEnds s (length entries) (progress_of s.script entries).jobs lines → all_done lines ≡ true → IsComplete s.script entries
 complete s entries lines are ends done =
     let start : Progress = opening_progress s.script in
-    let opened : List ℕ → Following = λ name. untried name (fresh_job (block_place s.script name)) 0 in
+    let opened : List ℕ → Following = λ name. untried name (fresh_job s.script (block_place s.script name)) 0 in
     let none : passed_by start.jobs ≡ 0 = passed_none opened s.script.plain.jobs (λ name. refl) in
     let first : AllByRecursion (IsWithin s.script) start.jobs = each_map (IsWithin s.script) opened s.script.plain.jobs (λ name. omega arith) in
     let jobs : List Following = (progress_of s.script entries).jobs in

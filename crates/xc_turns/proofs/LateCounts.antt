@@ -18,7 +18,7 @@ use Rattle.xc_world.specs.World.{World}
 use Rattle.xc_world.specs.Checks.{is_bad_handle, is_file, is_pipe, is_pair}
 use Rattle.xc_world.specs.Act.Step.{Stepped, stays}
 use Rattle.xc_world.specs.Late.{is_late, kept_call, late_call, sync_of, write_pipe_of, shutdown_of, send_of}
-use Rattle.xc_story.specs.Progress.{kept_of}
+use Rattle.xc_script.specs.Slots.{kept_of}
 use Rattle.xc_story.specs.LateCalls.{waits}
 use Rattle.xc_story.specs.Rows.{IsReplyInTime, is_built}
 

@@ -6,8 +6,9 @@ use Rattle.std.proofs.lemmas.List.Sorted.{length_permutation}
 use Rattle.xc_data.specs.declared.entry.Cause.{Cause}
 use Rattle.xc_data.specs.declared.entry.Cause.TheVariants as cause
 use Rattle.xc_data.specs.declared.entry.Entry.{Entry}
-use Rattle.xc_script.specs.Ask.{Job, Walk}
+use Rattle.xc_script.specs.Ask.{Job, Variables, Walk}
 use Rattle.xc_script.specs.Place.{at_begin}
+use Rattle.xc_script.specs.Slots.{kept_of, with_ends}
 use Rattle.xc_story.specs.declared.phase.Attempts.{Attempts}
 use Rattle.xc_story.specs.declared.phase.Phase.TheVariants.{Committing}
 use Rattle.xc_story.specs.Setting.{Setting}
@@ -67,9 +68,10 @@ committed_told s begun entered led f job tx active commits count told =
     let under : IsUnderway s f job.place tx = subst (IsDoing s begun f job) active told.doing in
     let committing : IsCommitting s f job.place tx = subst (IsInPhase s f job.place tx) commits under.phase in
     let g = gone_on s.script led f tx in
-    let passed_job : Job = record { block = job.place.block; next = job.place.next + 1; variables = job.place.variables } in
+    let ended : Variables → Variables = λ v. with_ends v (kept_of tx.calls tx.replies) tx.ends in
+    let passed_job : Job = record { block = job.place.block; next = job.place.next + 1; variables = ended job.place.variables } in
     let same : passed_job ≡ g.job = same_job passed_job g.job under.standing.block (ap (λ n. n + 1) under.standing.next)
-    (committing.settled.variables ∙ ap (λ (w : Walk). w.variables) committing.ahead) in
+    (ap ended (committing.settled.variables ∙ ap (λ (w : Walk). w.variables) committing.ahead)) in
     record {
       block = told.block;
       fresh = refl;

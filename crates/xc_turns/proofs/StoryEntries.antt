@@ -14,7 +14,7 @@ use Rattle.xc_data.specs.declared.entry.Outcome.TheVariants.{Committed, Aborted}
 use Rattle.xc_data.specs.declared.undo.Undo.{Undo}
 use Rattle.xc_text.specs.declared.script.Script.{Script}
 use Rattle.xc_script.specs.declared.ask.Ask.{Ask}
-use Rattle.xc_script.specs.Ask.{asks, passed}
+use Rattle.xc_script.specs.Ask.{asks}
 use Rattle.xc_script.specs.Place.{Place}
 use Rattle.xc_world.specs.Ends.{AreLegal, Ending}
 use Rattle.xc_world.specs.Run.{Ran, late_asked_of, lates, lates_fit}
@@ -23,7 +23,7 @@ use Rattle.xc_story.specs.declared.phase.Phase.TheVariants.{Committing, Undoing}
 use Rattle.xc_story.specs.Setting.{Setting}
 use Rattle.xc_story.specs.WordCalls.{AreWordReplies}
 use Rattle.xc_story.specs.Progress.{Following, Progress, after_entry, after_following, following_abort, following_of}
-use Rattle.xc_story.specs.Progress.{started_job, untried}
+use Rattle.xc_story.specs.Progress.{committed_job, started_job, untried}
 use Rattle.xc_story.specs.Truth.{AreRecords, IsHeldAt, IsPlayed, IsTrueEntry, is_tried_again, next_of}
 use Rattle.xc_story.specs.Seen.{SeenTx, late_left}
 use Rattle.xc_story.specs.Rows.{entry_of, is_built}
@@ -87,7 +87,7 @@ commit_true s words p f at place tx got commits none under began said played =
 
 -- the job behind its commit
 abbrev pub gone_on : Script → ℕ → Following → SeenTx → Following
-gone_on script entered f tx = untried f.block (passed script f.job tx.replies) (entered + 1)
+gone_on script entered f tx = untried f.block (committed_job script f.job tx.calls tx.replies tx.ends) (entered + 1)
 
 -- it goes on in its place behind a commit
 pub commit_leads : (script : Script) (p : Progress) (f : Following) (at : ℕ) (tx : SeenTx) → slice_get p.jobs at ≡ Some f
@@ -95,7 +95,7 @@ pub commit_leads : (script : Script) (p : Progress) (f : Following) (at : ℕ) (
 commit_leads script p f at tx got built =
     let e = entry_of tx at (Committed tx.ends) in
     let g = gone_on script p.entered f tx in
-    let more = started_job script (passed script f.job tx.replies) (p.entered + 1) in
+    let more = started_job script (committed_job script f.job tx.calls tx.replies tx.ends) (p.entered + 1) in
     ap (λ o. (after_following script p e o).jobs) (entry_following p at tx (Committed tx.ends) f got)
     ∙ ap (λ bs. slice_set p.jobs (at + 1 - 1) g ++ map more bs) (kept_starts tx.calls tx.replies tx.ends built)
     ∙ append-nil (slice_set p.jobs (at + 1 - 1) g) ∙ ap (λ i. slice_set p.jobs i g) (place_of_number at)

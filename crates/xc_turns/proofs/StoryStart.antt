@@ -21,7 +21,7 @@ use Rattle.xc_turns.proofs.Jobs.{none_active, opened_rests}
 
 -- a job of a script that hasn't begun
 abbrev opened_following : Script → List ℕ → Following
-opened_following script name = untried name (fresh_job (block_place script name)) 0
+opened_following script name = untried name (fresh_job script (block_place script name)) 0
 
 -- its jobs before their first transactions
 abbrev opened_jobs : Script → List (List ℕ) → List SeenJob
