@@ -55,6 +55,10 @@ created c name num = record c { names = map.insert c.names name num; files = map
 abbrev pub uncreated : Contents → List ℕ → Num → Contents
 uncreated c name num = record c { names = map.remove c.names name; files = map.remove c.files num }
 
+-- a name goes; its file stays
+abbrev pub unnamed : Contents → List ℕ → Contents
+unnamed c name = record c { names = map.remove c.names name }
+
 -- a name's file has another name alone; nothing is changed where there is none
 abbrev pub renamed_file : Contents → List ℕ → List ℕ → Option Num → Contents
 renamed_file c from to None = c

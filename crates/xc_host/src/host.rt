@@ -5,7 +5,7 @@ ghost use Rattle.xc_data.specs.Counts.{CountsFault};
 ghost use Rattle.xc_data.specs.Limits.{IsPrologue};
 ghost use Rattle.xc_host.specs.Cause.{is_fault, IsCalled};
 ghost use Rattle.xc_host.specs.Contents.{file_in, has_file, wrote, appended, shortened, created, uncreated, renamed, opened};
-ghost use Rattle.xc_host.specs.Contents.{needs_scripted};
+ghost use Rattle.xc_host.specs.Contents.{unnamed, needs_scripted};
 ghost use Rattle.xc_host.specs.Fronts.{IsFront};
 ghost use Rattle.xc_host.specs.Model.{HostModel};
 
@@ -97,6 +97,21 @@ pub trait Host: Drop {
         requires absent { IsTrue model.tells → map.get (model.contents self.old).names to.now ≡ None }
         ensures ok { IsTrue model.tells → OnOk result (model.contents self.new ≡ renamed (model.contents self.old) from.now to.now) }
         ensures err { IsTrue model.tells → OnErr result (model.contents self.new ≡ model.contents self.old) }
+        ensures called { IsCalled (model.calls self.old) (model.calls self.new) }
+        ensures cause { CountsFault (is_err result) (model.fault_count self.old) (model.fault_count self.new) };
+
+    /// The name goes, and its file stays. It takes no memory.
+    fn unlink(&mut self, name: &Name) -> Result<(), Fault>
+        requires there { IsTrue model.tells → is_some (map.get (model.contents self.old).names name.now) ≡ true }
+        ensures ok { IsTrue model.tells → OnOk result (model.contents self.new ≡ unnamed (model.contents self.old) name.now) }
+        ensures err { IsTrue model.tells → OnErr result (model.contents self.new ≡ model.contents self.old) }
+        ensures called { IsCalled (model.calls self.old) (model.calls self.new) }
+        ensures cause { CountsFault (is_err result) (model.fault_count self.old) (model.fault_count self.new) };
+
+    /// All that was written to a file is kept for good. It takes no memory.
+    fn sync(&mut self, file: Num) -> Result<(), Fault>
+        requires there { IsTrue model.tells → has_file (model.contents self.old) file ≡ true }
+        ensures stays { IsTrue model.tells → model.contents self.new ≡ model.contents self.old }
         ensures called { IsCalled (model.calls self.old) (model.calls self.new) }
         ensures cause { CountsFault (is_err result) (model.fault_count self.old) (model.fault_count self.new) };
 

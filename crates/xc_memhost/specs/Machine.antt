@@ -5,7 +5,7 @@ use Rattle.std.specs.FinMap as map
 use Rattle.xc_data.specs.declared.object.Num.{Num}
 use Rattle.xc_data.specs.declared.script.Kind.{Kind}
 use Rattle.xc_data.specs.declared.script.Kind.TheVariants as kind
-use Rattle.xc_host.specs.Contents.{Contents, file_in, has_file, wrote, appended, shortened, created, uncreated, renamed}
+use Rattle.xc_host.specs.Contents.{Contents, file_in, has_file, wrote, appended, shortened, created, uncreated, renamed, unnamed}
 use Rattle.xc_memhost.specs.declared.calls.HostCall.{HostCall}
 use Rattle.xc_memhost.specs.declared.calls.HostCall.TheVariants as call
 use Rattle.xc_memhost.specs.declared.calls.HostAnswer.{HostAnswer}
@@ -22,6 +22,8 @@ kind_of (call.ReadAt file at n) = kind.ReadAt
 kind_of (call.WriteAt file at bytes) = kind.WriteAt
 kind_of (call.Append file bytes) = kind.Append
 kind_of (call.Rename from to) = kind.Rename
+kind_of (call.Unlink name) = kind.Unlink
+kind_of (call.Sync file) = kind.Sync
 kind_of (call.Restore file at bytes) = kind.Restore
 kind_of (call.Cut file len) = kind.Cut
 kind_of (call.Uncreate name num) = kind.Uncreate
@@ -53,6 +55,8 @@ done s (call.ReadAt file at n) = Got (front_of s file at n)
 done s (call.WriteAt file at bytes) = Number (written_of s bytes)
 done s (call.Append file bytes) = Number (written_of s bytes)
 done s (call.Rename from to) = Done
+done s (call.Unlink name) = Done
+done s (call.Sync file) = Done
 done s (call.Restore file at bytes) = Number (written_of s bytes)
 done s (call.Cut file len) = Done
 done s (call.Uncreate name num) = Done
@@ -64,6 +68,7 @@ changed s (call.Create name num) = created s.contents name num
 changed s (call.WriteAt file at bytes) = written s file at bytes
 changed s (call.Append file bytes) = lengthened s file bytes
 changed s (call.Rename from to) = renamed s.contents from to
+changed s (call.Unlink name) = unnamed s.contents name
 changed s (call.Restore file at bytes) = written s file at bytes
 changed s (call.Cut file len) = shortened s.contents file len
 changed s (call.Uncreate name num) = uncreated s.contents name num
@@ -141,6 +146,8 @@ IsAllowed c (call.ReadAt file at n) = has_file c file ≡ true
 IsAllowed c (call.WriteAt file at bytes) = MayWrite c file at bytes
 IsAllowed c (call.Append file bytes) = MayAppend c file bytes
 IsAllowed c (call.Rename from to) = MayRename c from to
+IsAllowed c (call.Unlink name) = is_some (map.get c.names name) ≡ true
+IsAllowed c (call.Sync file) = has_file c file ≡ true
 IsAllowed c (call.Restore file at bytes) = MayWrite c file at bytes
 IsAllowed c (call.Cut file len) = MayCut c file len
 IsAllowed c (call.Uncreate name num) = MayUncreate c name num

@@ -18,6 +18,8 @@ pub enum HostCall {
     WriteAt { file: Num, at: u32, bytes: Chunk },
     Append { file: Num, bytes: Chunk },
     Rename { from: Name, to: Name },
+    Unlink(Name),
+    Sync(Num),
     Restore { file: Num, at: u32, bytes: Chunk },
     Cut { file: Num, len: u32 },
     Uncreate { name: Name, num: Num },
@@ -102,6 +104,8 @@ fn ask(host: &mut MemHost, call: &HostCall) -> Result<HostAnswer, NoMemory>
         }
         HostCall::Append { file, bytes } => number(host.append(*file, bytes.as_slice())),
         HostCall::Rename { from, to } => done(without_memory(host.rename(from, to))),
+        HostCall::Unlink(name) => done(without_memory(host.unlink(name))),
+        HostCall::Sync(file) => done(without_memory(host.sync(*file))),
         HostCall::Restore { file, at, bytes } => {
             number(without_memory(host.restore(*file, *at, bytes.as_slice())))
         }

@@ -6,6 +6,8 @@ mod faults;
 mod file_body;
 mod mem_host;
 mod objects;
+mod pair_body;
+mod pipe_body;
 mod spans;
 #[cfg(test)]
 mod tests;

@@ -3,50 +3,16 @@ ghost use Rattle.std.specs.Prelude.{IfOk, IfSome, OnOk, OnErr};
 ghost use Rattle.std.specs.FinMap as map;
 ghost use Rattle.xc_data.specs.Limits.{IsOpenedFit};
 ghost use Rattle.xc_world.specs.Opening.{with_opened};
-ghost use Rattle.xc_world.specs.World.{empty_pair};
 ghost use Rattle.xc_host.specs.Contents.{nothing, opened, file_in, has_file, wrote, world_of, contents_of};
-ghost use Rattle.xc_host.specs.Contents.{appended, shortened, created, uncreated, renamed};
+ghost use Rattle.xc_host.specs.Contents.{appended, shortened, created, uncreated, renamed, unnamed};
 
 use crate::file_body::FileBody;
+use crate::pair_body::PairBody;
+use crate::pipe_body::PipeBody;
 use std::alloc::Global;
 use std::marker::Model;
-use xc_data::{Chunk, Items, Name, NoMemory, Num, Opened, Text};
+use xc_data::{Name, NoMemory, Num, Opened};
 use xc_maps::{NameMap, NumMap};
-
-/// A pipe's bytes, and whether it is shut.
-#[derive(Drop)]
-pub(crate) struct PipeBody {
-    held: Text,
-    shut: bool,
-}
-
-impl Model for PipeBody {
-    ghost use Rattle.xc_world.specs.World.{Pipe, coded_pipe};
-
-    ghost Value = { Pipe };
-
-    ghost coded = { coded_pipe };
-
-    ghost view = { λ a. record { held = a.held; shut = a.shut } };
-}
-
-/// A pair's messages that wait for side 0 and for side 1, and whether it is shut.
-#[derive(Drop)]
-pub(crate) struct PairBody {
-    first: Items<Chunk>,
-    second: Items<Chunk>,
-    shut: bool,
-}
-
-impl Model for PairBody {
-    ghost use Rattle.xc_world.specs.World.{Pair, coded_pair};
-
-    ghost Value = { Pair };
-
-    ghost coded = { coded_pair };
-
-    ghost view = { λ a. record { first = a.first; second = a.second; shut = a.shut } };
-}
 
 /// The names, files, pipes and pairs.
 #[derive(Drop)]
@@ -67,26 +33,6 @@ impl Model for Objects {
     ghost coded = { coded_contents };
 
     ghost view = { λ a. record { names = a.names; files = a.files; pipes = a.pipes; pairs = a.pairs } };
-}
-
-fn text_of(alloc: Global, bytes: &[u8]) -> Result<Text, NoMemory>
-    ensures { IfOk result (λ text. text ≡ bytes.now) }
-{
-    let mut text = Vec::new(alloc);
-    text.extend_from_slice(bytes)?;
-    Ok(Items::from_vec(text))
-}
-
-impl PairBody {
-    fn empty(alloc: Global) -> PairBody
-        ensures { result ≡ empty_pair }
-    {
-        PairBody {
-            first: Items::new(alloc),
-            second: Items::new(alloc),
-            shut: false,
-        }
-    }
 }
 
 impl Objects {
@@ -113,8 +59,8 @@ impl Objects {
                 self.files.insert(num, file)
             }
             Opened::Pipe { bytes } => {
-                let held = text_of(self.alloc, bytes.as_slice())?;
-                self.pipes.insert(num, PipeBody { held, shut: false })
+                let pipe = PipeBody::of(self.alloc, bytes.as_slice())?;
+                self.pipes.insert(num, pipe)
             }
             Opened::Pair => self.pairs.insert(num, PairBody::empty(self.alloc)),
         }
@@ -239,6 +185,13 @@ impl Objects {
         ensures { self.new ≡ renamed self.old from to }
     {
         self.names.rename(from, to);
+    }
+
+    // The file stays.
+    pub(crate) fn unlink(&mut self, name: Name)
+        ensures { self.new ≡ unnamed self.old name }
+    {
+        self.names.remove(name);
     }
 
     pub(crate) fn uncreate(&mut self, name: Name, num: Num)

@@ -18,6 +18,8 @@ pub enum Asked {
     Write(u32, usize),
     Append(usize),
     Rename,
+    Unlink,
+    Sync,
     Restore(u32, usize),
     Cut(u32),
     Uncreate,
@@ -37,6 +39,8 @@ pub struct TestHost {
     pub grain: u32,
     /// The calls that fail, counted from 1.
     pub fails: [usize; 3],
+    /// Whether each look for a name wants memory.
+    pub starves: bool,
     /// Each call that there was.
     pub log: Vec<Asked>,
     /// The names of files, in no order.
@@ -75,6 +79,7 @@ impl TestHost {
             len,
             grain: u32::MAX,
             fails: [0; 3],
+            starves: false,
             log: Vec::new(alloc),
             names: opening_names(alloc)?,
             tails: Tails::new(alloc),

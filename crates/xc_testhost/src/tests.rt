@@ -4,7 +4,7 @@ ghost use Rattle.xc_host.specs.Contents.{has_file};
 use crate::{Asked, TestHost};
 use std::test::Fail;
 use xc_data::{Name, NoMemory, Num};
-use xc_host::Host;
+use xc_host::{Host, HostErr};
 
 const FIRST: Num = Num { tx: 0, k: 0 };
 
@@ -104,5 +104,40 @@ fn files_grow_and_are_cut(rt: HostRuntime) -> Result<(), Fail> {
     assert_eq!(rt; host.cut(FIRST, 6), Ok(()));
     assert_eq!(rt; host.bytes.as_slice(), b"hellO".as_slice());
     assert_eq!(rt; host.tail(FIRST), b"W".as_slice());
+    Ok(())
+}
+
+// A file whose name is gone is still read by its number.
+#[test]
+fn a_name_goes_and_its_file_stays(rt: HostRuntime) -> Result<(), Fail> {
+    let mut host = TestHost::new(rt.alloc(), b"hello", 5)?;
+    host.fails = [1, 3, 0];
+    let a = name(b"a")?;
+    assert_eq!(rt; host.unlink(&a).is_err(), true);
+    assert_eq!(rt; host.unlink(&a), Ok(()));
+    assert_eq!(rt; host.sync(FIRST).is_err(), true);
+    assert_eq!(rt; host.sync(FIRST), Ok(()));
+    assert_eq!(rt; (host.named(&a), host.len(FIRST)), (None, Ok(5)));
+    assert_eq!(rt;
+        host.log.as_slice(),
+        [
+            Asked::Unlink,
+            Asked::Unlink,
+            Asked::Sync,
+            Asked::Sync,
+            Asked::Len
+        ]
+        .as_slice()
+    );
+    Ok(())
+}
+
+#[test]
+fn a_starved_look_wants_memory(rt: HostRuntime) -> Result<(), Fail> {
+    let mut host = TestHost::new(rt.alloc(), b"hello", 5)?;
+    host.starves = true;
+    assert_eq!(rt; host.lookup(&name(b"a")?), Err(HostErr::NoMemory));
+    assert_eq!(rt; host.log.as_slice(), [Asked::Lookup].as_slice());
+    assert_eq!(rt; host.faults(), 0);
     Ok(())
 }

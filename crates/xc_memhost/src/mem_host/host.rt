@@ -4,7 +4,7 @@ ghost use Rattle.std.specs.FinMap as map;
 ghost use Rattle.xc_data.specs.Counts.{CountsFault};
 ghost use Rattle.xc_data.specs.Limits.{IsPrologue};
 ghost use Rattle.xc_host.specs.Cause.{is_fault, IsCalled};
-ghost use Rattle.xc_host.specs.Contents.{file_in, has_file, wrote, appended, shortened, created, uncreated, renamed};
+ghost use Rattle.xc_host.specs.Contents.{file_in, has_file, wrote, appended, shortened, created, uncreated, renamed, unnamed};
 ghost use Rattle.xc_host.specs.Fronts.{IsFront};
 ghost use Rattle.xc_memhost.specs.State.{opened_state, mem_host_model};
 ghost use Rattle.xc_memhost.specs.Faults.{is_listed, begun};
@@ -169,6 +169,38 @@ impl Host for MemHost {
             return Err(Fault);
         }
         self.objects.rename(*from, *to);
+        Ok(())
+    }
+
+    fn unlink(&mut self, name: &Name) -> Result<(), Fault>
+        requires there { is_some (map.get self.old.contents.names name.now) ≡ true }
+        ensures called { IsCalled self.old.all self.new.all }
+        ensures cause { CountsFault (is_err result) self.old.fault_count self.new.fault_count }
+
+        // Exactly the listed calls fail.
+        ensures fault { is_err result ≡ is_listed Kind.Unlink self.old }
+        ensures state { OnOk result (self.new ≡ record (begun Kind.Unlink self.old) { contents = unnamed self.old.contents name.now }) }
+        ensures failed { OnErr result (self.new ≡ begun Kind.Unlink self.old) }
+    {
+        if self.fails(Kind::Unlink) {
+            return Err(Fault);
+        }
+        self.objects.unlink(*name);
+        Ok(())
+    }
+
+    fn sync(&mut self, file: Num) -> Result<(), Fault>
+        requires there { has_file self.old.contents file ≡ true }
+        ensures called { IsCalled self.old.all self.new.all }
+        ensures cause { CountsFault (is_err result) self.old.fault_count self.new.fault_count }
+
+        // Exactly the listed calls fail, and none changes more than the counts.
+        ensures fault { is_err result ≡ is_listed Kind.Sync self.old }
+        ensures state { self.new ≡ begun Kind.Sync self.old }
+    {
+        if self.fails(Kind::Sync) {
+            return Err(Fault);
+        }
         Ok(())
     }
 

@@ -110,6 +110,8 @@ pub(super) fn may_ask(host: &MemHost, call: &HostCall) -> bool
         HostCall::WriteAt { file, at, bytes } => may_write(host, *file, *at, bytes),
         HostCall::Append { file, bytes } => may_append(host, *file, bytes),
         HostCall::Rename { from, to } => may_rename(host, *from, *to),
+        HostCall::Unlink(name) => host.named(*name).is_some(),
+        HostCall::Sync(file) => host.bytes_of(*file).is_some(),
         HostCall::Restore { file, at, bytes } => may_write(host, *file, *at, bytes),
         HostCall::Cut { file, len } => may_cut(host, *file, *len),
         HostCall::Uncreate { name, num } => may_uncreate(host, *name, *num),

@@ -24,6 +24,9 @@ impl Host for TestHost {
         if self.fails(Asked::Lookup) {
             return Err(HostErr::Fault);
         }
+        if self.starves {
+            return Err(HostErr::NoMemory);
+        }
         Ok(self.named(name))
     }
 
@@ -71,6 +74,21 @@ impl Host for TestHost {
             return Err(Fault);
         }
         self.change_name(from, to);
+        Ok(())
+    }
+
+    fn unlink(&mut self, name: &Name) -> Result<(), Fault> {
+        if self.fails(Asked::Unlink) {
+            return Err(Fault);
+        }
+        self.names.retain(|entry| entry.0 != *name);
+        Ok(())
+    }
+
+    fn sync(&mut self, _file: Num) -> Result<(), Fault> {
+        if self.fails(Asked::Sync) {
+            return Err(Fault);
+        }
         Ok(())
     }
 

@@ -1,0 +1,42 @@
+-- The first late call that has no end yet, and how it ends.
+use Rattle.std.proofs.Common.{◌≡◌, ℕ, zero, suc, Some, IsTrue, List, [], ◌∷◌, ◌++◌, length, drop, ap, sym, ◌∙◌, subst}
+use Rattle.std.specs.List.{slice_get}
+use Rattle.xc_data.specs.Counts.{CountsFault}
+use Rattle.xc_data.specs.Faults.{is_fault_end}
+use Rattle.xc_data.specs.declared.call.LateCall.{LateCall}
+use Rattle.xc_data.specs.declared.call.LateEnd.{LateEnd}
+use Rattle.xc_host.specs.Cause.{IsCalled}
+use Rattle.xc_host.specs.Model.{HostModel}
+use Rattle.xc_deferred.specs.Does.{DoesLate, EndsNext}
+use Rattle.xc_deferred.specs.Queue.{Queue, left}
+
+abbrev of : List LateCall → List LateEnd → Queue
+of calls ends = record { calls = calls; ends = ends }
+
+drop_at : (calls : List LateCall) (n : ℕ) (call : LateCall) → slice_get calls n ≡ Some call → drop n calls ≡ call ∷ drop (suc n) calls
+drop_at [] n call there = cc
+drop_at (c ∷ cs) zero call there = cc
+drop_at (c ∷ cs) (suc n) call there = drop_at cs n call there
+
+-- the first call that is left stands in the place behind the ends
+pub left_at : (q : Queue) (calls : List LateCall) (ends : List LateEnd) (n : ℕ) (call : LateCall) → of calls ends ≡ q → n ≡ length ends
+    → slice_get calls n ≡ Some call → left q ≡ call ∷ drop (suc n) calls
+left_at q calls ends n call view size there = sym (ap left view) ∙ ap (λ k. drop k calls) (sym size) ∙ drop_at calls n call there
+
+-- the first call that is left was done, and its end stands behind the others
+pub ends_next : {H : Type 0} (model : HostModel H) (was is : H) (q : Queue) (calls : List LateCall) (ends now : List LateEnd) (n : ℕ) (done : LateCall)
+    (end : LateEnd) → of calls ends ≡ q → n ≡ length ends → slice_get calls n ≡ Some done → now ≡ ends ++ end ∷ []
+    → CountsFault (is_fault_end end) (model.fault_count was) (model.fault_count is) → IsCalled (model.calls was) (model.calls is)
+    → (IsTrue model.tells → DoesLate (model.contents was) (model.contents is) done end)
+    → (call : LateCall) (others : List LateCall) → left q ≡ call ∷ others
+    → EndsNext model call (record { host = was; late = q }) (record { host = is; late = of calls now })
+ends_next model was is q calls ends now n done end view size there noted cause called does call others first =
+    let next : left q ≡ done ∷ drop (suc n) calls = left_at q calls ends n done view size there in
+    let same : done ≡ call = cc in
+    record {
+      end = end;
+      noted = ap (of calls) noted ∙ ap (λ (p : Queue). record p { ends = p.ends ++ end ∷ [] }) view;
+      cause = cause;
+      called = called;
+      does = λ t. subst (λ c. DoesLate (model.contents was) (model.contents is) c end) same (does t);
+    }

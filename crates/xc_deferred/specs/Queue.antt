@@ -1,0 +1,28 @@
+-- Late calls that are kept for the commit of their transaction.
+use Rattle.std.specs.Prelude.{◌≡◌, ℕ, ◌+◌, ◌≤◌, Bool, true, false, List, length, drop}
+use Rattle.std.specs.List.{All}
+use Rattle.xc_data.specs.declared.call.LateCall.{LateCall}
+use Rattle.xc_data.specs.declared.call.LateCall.TheVariants.{Unlink, Sync}
+use Rattle.xc_data.specs.declared.call.LateEnd.{LateEnd}
+
+-- a transaction's calls that are kept for the commit, each on the object that was fixed at the call, and the ends of the
+-- first of them
+pub record Queue : Type 0 where
+  pub calls : List LateCall
+  pub ends : List LateEnd
+
+-- those that have no end yet
+abbrev pub left : Queue → List LateCall
+left q = drop (length q.ends) q.calls
+
+-- late calls of the kinds that are built: unlink and sync
+abbrev pub is_late_built : LateCall → Bool
+is_late_built (Unlink name) = true
+is_late_built (Sync num) = true
+is_late_built _ = false
+
+-- what the lists and the room behind them keep: each call without an end has room for it
+pub record IsQueue (calls : List LateCall) (ends : List LateEnd) (spare : ℕ) : Type 0 where
+  pub within : length ends ≤ length calls
+  pub room : length calls ≤ length ends + spare
+  pub built : All (λ call. is_late_built call ≡ true) calls

@@ -1,0 +1,59 @@
+ghost use Rattle.std.specs.Prelude.{◌≡◌, true, IsTrue};
+ghost use Rattle.xc_data.specs.Counts.{CountsFault};
+ghost use Rattle.xc_data.specs.Faults.{is_fault_end};
+ghost use Rattle.xc_data.specs.declared.call.LateCall.TheVariants.{Unlink, Sync};
+ghost use Rattle.xc_host.specs.Cause.{IsCalled};
+ghost use Rattle.xc_host.specs.Contents.{has_file};
+ghost use Rattle.xc_deferred.specs.Does.{DoesLate, IsThereFor};
+ghost use Rattle.xc_deferred.specs.Queue.{is_late_built};
+
+use xc_data::{LateCall, LateEnd, Name, Num};
+use xc_host::{Host, HostErr};
+
+// The host removes no name that is absent, so it is asked for the name first.
+fn unlink<H: Host>(host: &mut H, name: &Name) -> LateEnd
+    ensures called { IsCalled (H.model.calls host.old) (H.model.calls host.new) }
+    ensures cause { CountsFault (is_fault_end result) (H.model.fault_count host.old) (H.model.fault_count host.new) }
+    ensures does { IsTrue H.model.tells
+        → DoesLate (H.model.contents host.old) (H.model.contents host.new) (Unlink name.now) result }
+{
+    match host.lookup(name) {
+        Ok(Some(_)) => {}
+        Ok(None) => return LateEnd::NoName,
+        Err(HostErr::Fault) => return LateEnd::Fault(0),
+        Err(HostErr::NoMemory) => return LateEnd::NoMemory(0),
+    }
+    match host.unlink(name) {
+        Ok(_) => LateEnd::Done,
+        Err(_) => LateEnd::Fault(0),
+    }
+}
+
+fn sync<H: Host>(host: &mut H, file: Num) -> LateEnd
+    requires there { IsTrue H.model.tells → has_file (H.model.contents host.old) file ≡ true }
+    ensures called { IsCalled (H.model.calls host.old) (H.model.calls host.new) }
+    ensures cause { CountsFault (is_fault_end result) (H.model.fault_count host.old) (H.model.fault_count host.new) }
+    ensures does { IsTrue H.model.tells
+        → DoesLate (H.model.contents host.old) (H.model.contents host.new) (Sync file) result }
+{
+    match host.sync(file) {
+        Ok(_) => LateEnd::Done,
+        Err(_) => LateEnd::Fault(0),
+    }
+}
+
+/// Does a late call, and answers how it ended.
+pub(crate) fn do_late<H: Host>(host: &mut H, call: &LateCall) -> LateEnd
+    requires built { is_late_built call.now ≡ true }
+    requires there { IsTrue H.model.tells → IsThereFor (H.model.contents host.old) call.now }
+    ensures called { IsCalled (H.model.calls host.old) (H.model.calls host.new) }
+    ensures cause { CountsFault (is_fault_end result) (H.model.fault_count host.old) (H.model.fault_count host.new) }
+    ensures does { IsTrue H.model.tells
+        → DoesLate (H.model.contents host.old) (H.model.contents host.new) call.now result }
+{
+    match call {
+        LateCall::Unlink(name) => unlink(host, name),
+        LateCall::Sync(file) => sync(host, *file),
+        _ => unreachable!(),
+    }
+}

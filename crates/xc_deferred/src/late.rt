@@ -1,0 +1,86 @@
+ghost use Rattle.std.specs.Prelude.{◌≡◌, ◌<◌, ◌++◌, ◌∷◌, [], List, true, length, MatchBool, OnOk, OnErr, IsTrue};
+ghost use Rattle.xc_data.specs.declared.call.LateCall.{LateCall as PlainCall};
+ghost use Rattle.xc_deferred.specs.Does.{EndsNext, IsThereFor};
+ghost use Rattle.xc_deferred.specs.Queue.{is_late_built, left};
+
+use crate::doing::do_late;
+use std::alloc::Global;
+use std::marker::Model;
+use xc_data::{LateCall, LateEnd, LateList, NoMemory};
+use xc_host::Host;
+use xc_journal::Roomy;
+
+/// A transaction's calls that are kept for its commit, in the order in which they were made, with the ends
+/// of those that are done.
+///
+/// Room for each call's end is made with the call, so that a commit takes no memory of its own.
+#[derive(Drop)]
+pub struct Late {
+    calls: Roomy<LateCall>,
+    ends: Roomy<LateEnd>,
+}
+
+impl Model for Late {
+    ghost use Rattle.xc_deferred.specs.Queue.{Queue, IsQueue};
+
+    ghost Value = { Queue };
+
+    ghost view = { λ a. record { calls = a.calls.items; ends = a.ends.items } };
+
+    ghost invariant = { λ a. IsQueue a.calls.items a.ends.items a.ends.spare };
+}
+
+impl Late {
+    /// It takes no memory.
+    pub fn new(alloc: Global) -> Late
+        ensures { result ≡ record { calls = []; ends = [] } }
+    {
+        Late {
+            calls: Roomy::new(alloc),
+            ends: Roomy::new(alloc),
+        }
+    }
+
+    /// Keeps a call behind the others.
+    pub fn push(&mut self, call: LateCall) -> Result<(), NoMemory>
+        requires built { is_late_built call ≡ true }
+        ensures ok { OnOk result (self.new ≡ record self.old { calls = self.old.calls ++ call ∷ [] }) }
+        ensures err { OnErr result (self.new ≡ self.old) }
+    {
+        let waiting = self.calls.len() - self.ends.len();
+        // never reached in memory
+        if waiting >= u32::MAX as usize {
+            return Err(NoMemory);
+        }
+        self.ends.reserve(waiting as u32 + 1)?;
+        self.calls.reserve(1)?;
+        self.calls.enter(call);
+        Ok(())
+    }
+
+    /// Whether a call has no end yet.
+    pub fn has_left(&self) -> bool
+        ensures { MatchBool result (0 < length (left self.now)) (left self.now ≡ []) }
+    {
+        self.ends.len() < self.calls.len()
+    }
+
+    /// Does the first call that has no end yet, and notes how it ended. It takes no memory of its own.
+    pub fn do_one<H: Host>(&mut self, host: &mut H)
+        requires left { 0 < length (left self.old) }
+        requires there { IsTrue H.model.tells → (call : PlainCall) (calls : List PlainCall) → left self.old ≡ call ∷ calls
+            → IsThereFor (H.model.contents host.old) call }
+        ensures { (call : PlainCall) (calls : List PlainCall) → left self.old ≡ call ∷ calls
+            → EndsNext H.model call (record { host = host.old; late = self.old }) (record { host = host.new; late = self.new }) }
+    {
+        let end = do_late(host, self.calls.get(self.ends.len()));
+        self.ends.enter(end);
+    }
+
+    /// The ends of the calls that are done, in the order in which the calls were made. It takes no memory.
+    pub fn into_ends(self) -> LateList
+        ensures { result ≡ self.ends }
+    {
+        self.ends.into_items()
+    }
+}

@@ -1,0 +1,7 @@
+//! The calls of a transaction that are kept for its commit, and are done at the host then.
+#![tactic(auto)]
+
+mod doing;
+mod late;
+
+pub use late::Late;
