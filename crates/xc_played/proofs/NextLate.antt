@@ -12,7 +12,7 @@ use Rattle.xc_story.specs.Setting.{Setting}
 use Rattle.xc_story.specs.Seen.{SeenTx, SeenJob, Now, active_of, late_left}
 use Rattle.xc_flight.proofs.LateReady.{next_ready}
 use Rattle.xc_played.specs.Flying.{flown, flown_phase, standing, world_now, AreFlying}
-use Rattle.xc_played.specs.LateCalls.{IsThereFor}
+use Rattle.xc_deferred.specs.Does.{IsThereFor}
 use Rattle.xc_played.proofs.FlownJobs.{flies_there, sound_there}
 
 -- it stands behind those that have an end

@@ -17,7 +17,8 @@ use Rattle.xc_story.specs.Setting.{Setting}
 use Rattle.xc_story.specs.Progress.{Progress}
 use Rattle.xc_story.specs.Played.{HoldsFor}
 use Rattle.xc_story.specs.Seen.{SeenTx, SeenJob, Active, active_in, late_left}
-use Rattle.xc_story.specs.Rows.{DoesLate, with_tx}
+use Rattle.xc_deferred.specs.Does.{DoesLate}
+use Rattle.xc_story.specs.Rows.{with_tx}
 use Rattle.xc_flight.specs.Active.{Tx}
 use Rattle.xc_flight.specs.Standing.{Standing, InFlight, IsActive, turned}
 use Rattle.xc_flight.specs.Turns.{IsDoneLate, with_end}

@@ -16,7 +16,7 @@ ghost use Rattle.xc_story.specs.Kept.{AreLinesOf};
 ghost use Rattle.xc_story.specs.Ending.{IsFinalState};
 ghost use Rattle.xc_story.specs.Played.{IsPlayedSoFar};
 ghost use Rattle.xc_played.specs.Flying.{AreFlying, state_of};
-ghost use Rattle.xc_played.specs.LateCalls.{IsThereFor};
+ghost use Rattle.xc_deferred.specs.Does.{IsThereFor};
 
 /// What an active transaction noted is what the plain machine's body gives in the world that the journal left.
 pub fn what_is_noted_was_played()

@@ -29,6 +29,7 @@ use Rattle.xc_data.specs.declared.private.Private.{Private}
 use Rattle.xc_data.specs.declared.undo.Undo.{Undo}
 use Rattle.xc_data.specs.declared.undo.UndoEnd.{UndoEnd}
 use Rattle.xc_compensate.specs.Records.{Records, way_of}
+use Rattle.xc_deferred.specs.Does.{DoesLate}
 use Rattle.xc_host.specs.Contents.{Contents, contents_of, with_contents, world_of}
 use Rattle.xc_text.specs.declared.script.Statement.{Statement}
 use Rattle.xc_script.specs.declared.ask.Ask.{Ask}
@@ -42,8 +43,8 @@ use Rattle.xc_world.specs.Act.{act}
 use Rattle.xc_world.specs.Act.Step.{stays}
 use Rattle.xc_world.specs.Ends.{IsLegalEnd}
 use Rattle.xc_world.specs.Effects.{undone_to}
-use Rattle.xc_world.specs.Fits.{fits, late_fits, answer_of, late_answer_of}
-use Rattle.xc_world.specs.Late.{is_late, kept_call, late, ends}
+use Rattle.xc_world.specs.Fits.{fits, answer_of}
+use Rattle.xc_world.specs.Late.{is_late, kept_call}
 use Rattle.xc_world.specs.Modes.{claims_of}
 use Rattle.xc_world.specs.Trail.{recorded}
 use Rattle.xc_story.specs.declared.phase.Attempts.{Attempts}
@@ -369,11 +370,6 @@ entry_of tx at outcome =
     }
 
 -- ---- late calls
--- from these contents of the host to those a late call is the plain machine's, with the answer that its end tells of
-pub record DoesLate (was is : Contents) (call : LateCall) (end : LateEnd) : Type 0 where
-  pub fits : IsTrue (late_fits (world_of was) call (late_answer_of end))
-  pub step : (w : World) → late (with_contents w was) call (late_answer_of end) ≡ ends (with_contents w is) end
-
 -- the next late call is done, in the order in which they were made, under the claims of its transaction
 pub record EndsLate (s : Setting) (at : ℕ) (old : Now) (job : SeenJob) (tx : SeenTx) (call : LateCall) (new : Now) : Type 0 where
   pub end : LateEnd
