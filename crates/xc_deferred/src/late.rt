@@ -77,6 +77,13 @@ impl Late {
         self.ends.enter(end);
     }
 
+    /// The ends of the calls that are done.
+    pub fn ends(&self) -> &[LateEnd]
+        ensures { result.now ≡ self.now.ends }
+    {
+        self.ends.as_slice()
+    }
+
     /// The ends of the calls that are done, in the order in which the calls were made. It takes no memory.
     pub fn into_ends(self) -> LateList
         ensures { result ≡ self.ends }

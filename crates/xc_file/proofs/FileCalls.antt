@@ -6,7 +6,6 @@ use Rattle.std.specs.Prelude.{MatchOption, IfOk, OnOk, OnErr, Result}
 use Rattle.xc_data.specs.Counts.{CountsFault}
 use Rattle.xc_data.specs.declared.memory.NoMemory.{NoMemory}
 use Rattle.xc_data.specs.declared.call.Call.{Call}
-use Rattle.xc_data.specs.declared.call.Call.TheVariants as call
 use Rattle.xc_data.specs.declared.call.Answer.TheVariants.{Fine}
 use Rattle.xc_data.specs.declared.call.Reply.{Reply}
 use Rattle.xc_data.specs.declared.call.Reply.TheVariants as reply

@@ -4,3 +4,4 @@ pub mod Writing
 pub mod Naming
 pub mod Appending
 pub mod Checks
+pub mod Kept

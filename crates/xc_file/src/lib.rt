@@ -6,6 +6,7 @@
 mod appending;
 mod checks;
 mod creating;
+mod deferring;
 mod handles;
 mod laws;
 mod moving;
@@ -17,6 +18,7 @@ mod writing;
 
 pub use appending::x_write_seq;
 pub use creating::x_create;
+pub use deferring::{x_sync, x_unlink};
 pub use handles::{x_close, x_len, x_seek};
 pub use laws::{a_call_without_the_host_is_a_call_on_files, a_check_refuses_as_the_plain_machine};
 pub use opening::x_open;

@@ -7,7 +7,9 @@ use Rattle.xc_data.specs.declared.entry.Cause.TheVariants as cause
 use Rattle.xc_data.specs.declared.entry.Outcome.TheVariants.{Committed, Aborted}
 use Rattle.xc_data.specs.declared.private.Private.{Private}
 use Rattle.xc_compensate.specs.Records.{Records}
+use Rattle.xc_deferred.specs.Queue.{Queue}
 use Rattle.xc_script.specs.Place.{Place, at_begin}
+use Rattle.xc_script.specs.Slots.{kept_of, with_ends}
 use Rattle.xc_world.specs.World.{beginning}
 use Rattle.xc_story.specs.declared.phase.Attempts.{Attempts}
 use Rattle.xc_story.specs.declared.phase.Phase.{Phase}
@@ -73,6 +75,14 @@ undo_behind job tx undo is =
     sym (moves_on job tx job.place (record job.tx { undo = undo }) is refl)
     ∙ ap (λ (t : SeenTx). with_tx (seen_job job) job.place (record t { undo = undo })) (its_active job tx is)
 
+-- a job whose late calls went on
+pub late_behind : (job : Job) (tx : SeenTx) (late : Queue) → doing_of job ≡ Active tx
+    → seen_job (record job { tx = record job.tx { late = late } })
+    ≡ with_tx (seen_job job) job.place (record tx { late = late.calls; ends = late.ends })
+late_behind job tx late is =
+    sym (moves_on job tx job.place (record job.tx { late = late }) is refl)
+    ∙ ap (λ (t : SeenTx). with_tx (seen_job job) job.place (record t { late = late.calls; ends = late.ends })) (its_active job tx is)
+
 idle_abort : (job : SeenJob) (tx : SeenTx) (c : Cause) → behind_abort (record job { doing = Idle }) tx c ≡ behind_abort job tx c
 idle_abort job tx cause.Asked = refl
 idle_abort job tx cause.NoMemory = refl
@@ -86,20 +96,29 @@ abort_behind old between new tx b c taken cause gone =
 
 -- its entry
 pub abort_entry : (t tx : SeenTx) (at : ℕ) (c : Cause) → t ≡ tx → tx.phase ≡ Undoing c
-    → entry_of t at (outcome_in t.phase t.undo.ended) ≡ entry_of tx at (Aborted (record { cause = c; records = tx.undo.ended }))
+    → entry_of t at (outcome_in t.phase t.undo.ended t.ends) ≡ entry_of tx at (Aborted (record { cause = c; records = tx.undo.ended }))
 abort_entry t tx at c same phase =
-    ap (λ (u : SeenTx). entry_of u at (outcome_in u.phase u.undo.ended)) same ∙ ap (λ (p : Phase). entry_of tx at (outcome_in p tx.undo.ended)) phase
+    ap (λ (u : SeenTx). entry_of u at (outcome_in u.phase u.undo.ended u.ends)) same ∙ ap (λ (p : Phase). entry_of tx at (outcome_in p tx.undo.ended tx.ends)) phase
 
 -- and that of a commit
 pub commit_entry : (t tx : SeenTx) (at : ℕ) → t ≡ tx → tx.phase ≡ Committing
-    → entry_of t at (outcome_in t.phase t.undo.ended) ≡ entry_of tx at (Committed [])
+    → entry_of t at (outcome_in t.phase t.undo.ended t.ends) ≡ entry_of tx at (Committed tx.ends)
 commit_entry t tx at same phase =
-    ap (λ (u : SeenTx). entry_of u at (outcome_in u.phase u.undo.ended)) same ∙ ap (λ (p : Phase). entry_of tx at (outcome_in p tx.undo.ended)) phase
+    ap (λ (u : SeenTx). entry_of u at (outcome_in u.phase u.undo.ended u.ends)) same ∙ ap (λ (p : Phase). entry_of tx at (outcome_in p tx.undo.ended tx.ends)) phase
 
 -- a job behind a commit
 pub commit_behind : (old : SeenJob) (t tx : SeenTx) (me : Private) (place : Place) (attempts : Option Attempts) → t ≡ tx → me ≡ beginning t.me.places
-    → place ≡ at_begin (record { block = old.place.block; next = old.place.next + 1; variables = old.place.variables })
+    → place ≡ at_begin (record {
+      block = old.place.block;
+      next = old.place.next + 1;
+      variables = with_ends old.place.variables (kept_of t.calls t.replies) t.ends;
+    })
     → attempts ≡ None → record old { me = me; place = place; attempts = attempts; doing = Idle } ≡ behind_commit old tx
 commit_behind old t tx me place attempts same renewed passed none =
     let renewed' : me ≡ beginning tx.me.places = renewed ∙ ap (λ (u : SeenTx). beginning u.me.places) same in
-    λ i. record old { me = renewed' i; place = passed i; attempts = none i; doing = Idle }
+    let passed' = passed ∙ ap (λ (u : SeenTx). at_begin (record {
+      block = old.place.block;
+      next = old.place.next + 1;
+      variables = with_ends old.place.variables (kept_of u.calls u.replies) u.ends;
+    })) same in
+    λ i. record old { me = renewed' i; place = passed' i; attempts = none i; doing = Idle }

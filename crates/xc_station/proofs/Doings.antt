@@ -9,13 +9,16 @@ use Rattle.xc_data.specs.declared.call.Answer.{Answer}
 use Rattle.xc_data.specs.declared.call.Answer.TheVariants as answer
 use Rattle.xc_data.specs.declared.call.Call.{Call}
 use Rattle.xc_data.specs.declared.call.Call.TheVariants as call
+use Rattle.xc_data.specs.declared.call.LateCall.{LateCall}
 use Rattle.xc_data.specs.declared.call.Reply.{Reply}
 use Rattle.xc_data.specs.declared.call.Reply.TheVariants as reply
 use Rattle.xc_data.specs.declared.memory.NoMemory.{NoMemory}
 use Rattle.xc_data.specs.declared.private.Private.{Private}
 use Rattle.xc_data.specs.declared.undo.Undo.{Undo}
 use Rattle.xc_compensate.specs.Records.{Records}
+use Rattle.xc_deferred.specs.Queue.{Queue}
 use Rattle.xc_file.specs.Calls.{CallState, DidPart, IsFileCall, StepsAlone}
+use Rattle.xc_file.specs.Kept.{IsKept}
 use Rattle.xc_file.proofs.FileCalls.{alone_call}
 use Rattle.xc_host.specs.Contents.{Contents}
 use Rattle.xc_host.specs.Model.{HostModel}
@@ -25,9 +28,10 @@ use Rattle.xc_world.specs.World.{World}
 use Rattle.xc_world.specs.Act.{act}
 use Rattle.xc_world.specs.Act.Step.{Stepped, stays}
 use Rattle.xc_world.specs.Fits.{fits, answer_of}
-use Rattle.xc_world.specs.Late.{is_late}
+use Rattle.xc_world.specs.Late.{is_late, kept_call}
 use Rattle.xc_world.specs.Trail.{recorded}
-use Rattle.xc_story.specs.Rows.{Parts, DoesIn, DoesPartIn, parts_of, seen, stored_by}
+use Rattle.xc_story.specs.Rows.{Parts, DoesIn, DoesPartIn, IsReplyInTime, parts_of, seen, stored_by}
+use Rattle.xc_story.specs.LateCalls.{waits}
 use Rattle.xc_story.specs.Seen.{SeenTx}
 use Rattle.xc_story.specs.WordCalls.{IsWordStep, is_word_call, word_reply, words_after}
 use Rattle.xc_station.specs.Acting.{Acting, HasActed, HasDone, LeavesOff, leaving, with_parts}
@@ -37,12 +41,33 @@ use Rattle.xc_station.proofs.WordActs.{append_nil, still_words, no_stores, no_va
 abbrev pub calling : {H : Type 0} → Acting H → CallState H
 calling a = record { host = a.host; number = a.tx.number; me = a.tx.me; undo = a.tx.undo }
 
+-- ---- calls that are done now
+-- one that replies now isn't kept for the commit
+none_kept : (c : Call) (me : Private) (r : Reply) → is_late r ≡ false → kept_call c me r ≡ []
+none_kept c me reply.Late e = cc e
+none_kept c me _ e = refl
+
+-- so no late call comes behind the others
+pub none_behind : (late : List LateCall) (c : Call) (me : Private) (r : Reply) → is_late r ≡ false → late ≡ late ++ kept_call c me r
+none_behind late c me r now = sym (append_nil late) ∙ ap (λ calls. late ++ calls) (sym (none_kept c me r now))
+
+-- it is done in its time
+in_time_now : (c : Call) (me : Private) (number : ℕ) (r : Reply) → waits c ≡ false → is_late r ≡ false → IsReplyInTime me number c r
+in_time_now c me number r at_once now = record { kept = λ waiting. absurd (cc (at_once, waiting)); now = λ _. now }
+
+-- the transaction with these parts alone
+abbrev framed : SeenTx → Parts → SeenTx
+framed tx parts = record tx { me = parts.me; writes = parts.stores; undo = parts.undo }
+
+framed_now : (tx : SeenTx) (parts : Parts) (c : Call) (r : Reply) → is_late r ≡ false → framed tx parts ≡ with_parts tx c r parts
+framed_now tx parts c r now = ap (λ calls. record (framed tx parts) { late = calls }) (none_behind tx.late c tx.me r now)
+
 -- ---- a call on files
 module _ {H : Type 0} (model : HostModel H) (c : Call) (old new : Acting H) (other : is_word_call c ≡ false) where
   -- it is done
-  file_done : (reply : Reply) → IsFileCall model c (calling old) (calling new) (Ok reply) → new.tx ≡ with_parts old.tx (parts_of new.tx)
-      → new.tx.writes ≡ old.tx.writes → new.tx.me.stored ≤ 16384 → is_late reply ≡ false → HasDone model c old new reply
-  file_done reply k frame writes stored now =
+  file_done : (reply : Reply) → IsFileCall model c (calling old) (calling new) (Ok reply) → new.tx ≡ with_parts old.tx c reply (parts_of new.tx)
+      → new.tx.writes ≡ old.tx.writes → new.tx.me.stored ≤ 16384 → IsReplyInTime old.tx.me old.tx.number c reply → HasDone model c old new reply
+  file_done reply k frame writes stored in_time =
       let over = λ (w : World). record w { words = overlaid w.words old.tx.writes } in
       record {
         tx = frame;
@@ -51,7 +76,7 @@ module _ {H : Type 0} (model : HostModel H) (c : Call) (old new : Acting H) (oth
         made = k.made;
         one = k.one;
         undo = k.undo;
-        now = now;
+        in_time = in_time;
         cause = k.cause;
         spoken = subst (λ ws. IsWordStep (overlaid old.words old.tx.writes) (overlaid old.words ws) c reply) (sym writes)
             (still_words (overlaid old.words old.tx.writes) c reply other);
@@ -74,7 +99,7 @@ module _ {H : Type 0} (model : HostModel H) (c : Call) (old new : Acting H) (oth
       inr (part.answer, λ w at. record { fits = part.fits (over w); world = sym (part.world (over w)); records = part.records (over w) })
 
   -- memory is wanting
-  file_left : (e : NoMemory) → IsFileCall model c (calling old) (calling new) (Err e) → new.tx ≡ with_parts old.tx (parts_of new.tx)
+  file_left : (e : NoMemory) → IsFileCall model c (calling old) (calling new) (Err e) → new.tx ≡ framed old.tx (parts_of new.tx)
       → new.tx.writes ≡ old.tx.writes → LeavesOff model c old new
   file_left e k frame writes =
       record {
@@ -85,30 +110,68 @@ module _ {H : Type 0} (model : HostModel H) (c : Call) (old new : Acting H) (oth
         contents = λ tells. part_left k.made (k.memory.effect tells);
       }
 
-  file_answered : (r : Result Reply NoMemory) → IsFileCall model c (calling old) (calling new) r → new.tx ≡ with_parts old.tx (parts_of new.tx)
-      → new.tx.writes ≡ old.tx.writes → new.tx.me.stored ≤ 16384 → IfOk r (λ reply. is_late reply ≡ false) → HasActed model c old new r
-  file_answered (Ok reply) k frame writes stored now = file_done reply k frame writes stored now
-  file_answered (Err e) k frame writes stored now = file_left e k frame writes
+  file_answered : (r : Result Reply NoMemory) → IsFileCall model c (calling old) (calling new) r → new.tx ≡ framed old.tx (parts_of new.tx)
+      → new.tx.writes ≡ old.tx.writes → new.tx.me.stored ≤ 16384 → waits c ≡ false → IfOk r (λ reply. is_late reply ≡ false)
+      → HasActed model c old new r
+  file_answered (Ok reply) k frame writes stored at_once now =
+      file_done reply k (frame ∙ framed_now old.tx (parts_of new.tx) c reply now) writes stored
+      (in_time_now c old.tx.me old.tx.number reply at_once now)
+  file_answered (Err e) k frame writes stored at_once now = file_left e k frame writes
 
 -- so it has acted; the transaction and the words are as before but for its private state and its records
 pub file_acted : {H : Type 0} (model : HostModel H) (c d : Call) (old new : Acting H) (r : Result Reply NoMemory) → c ≡ d → is_word_call d ≡ false
-    → IsFileCall model d (calling old) (calling new) r → new.tx ≡ record old.tx { me = new.tx.me; undo = new.tx.undo } → new.tx.me.stored ≤ 16384
+    → waits d ≡ false → IsFileCall model d (calling old) (calling new) r → new.tx ≡ record old.tx { me = new.tx.me; undo = new.tx.undo } → new.tx.me.stored ≤ 16384
     → IfOk r (λ reply. is_late reply ≡ false) → HasActed model c old new r
-file_acted model c d old new r is other k frame stored now =
+file_acted model c d old new r is other at_once k frame stored now =
     let writes = ap (λ (t : SeenTx). t.writes) frame in
-    let framed : new.tx ≡ with_parts old.tx (parts_of new.tx) =
+    let whole : new.tx ≡ framed old.tx (parts_of new.tx) =
     frame ∙ ap (λ ws. record old.tx { me = new.tx.me; writes = ws; undo = new.tx.undo }) (sym writes) in
-    subst (λ (e : Call). HasActed model e old new r) (sym is) (file_answered model d old new other r k framed writes stored now)
+    subst (λ (e : Call). HasActed model e old new r) (sym is) (file_answered model d old new other r k whole writes stored at_once now)
 
 -- a call that reaches no host has acted
 pub alone_acted : {H : Type 0} (model : HostModel H) (c d : Call) (old : Acting H) (next : Private) (reply : Reply) → c ≡ d → is_word_call d ≡ false
-    → StepsAlone d old.tx.me next reply → next.stored ≤ 16384 → is_late reply ≡ false
+    → waits d ≡ false → StepsAlone d old.tx.me next reply → next.stored ≤ 16384 → is_late reply ≡ false
     → HasDone model c old (record old { tx = record old.tx { me = next } }) reply
-alone_acted model c d old next reply is other alone stored now =
-    file_acted model c d old (record old { tx = record old.tx { me = next } }) (Ok reply) is other (alone_call model d (calling old) next reply alone) refl
-    stored now
+alone_acted model c d old next reply is other at_once alone stored now =
+    file_acted model c d old (record old { tx = record old.tx { me = next } }) (Ok reply) is other at_once
+    (alone_call model d (calling old) next reply alone) refl stored now
+
+-- ---- a call that is kept for the commit
+-- a transaction's late calls
+abbrev pub queue_of : SeenTx → Queue
+queue_of tx = record { calls = tx.late; ends = tx.ends }
+
+-- a transaction with others
+abbrev pub queueing : {H : Type 0} → Acting H → Queue → Acting H
+queueing a queue = record a { tx = record a.tx { late = queue.calls; ends = queue.ends } }
+
+-- it has acted: the host is as it was
+pub kept_acted : {H : Type 0} (model : HostModel H) (c d : Call) (old : Acting H) (queue : Queue) (r : Result Reply NoMemory) → c ≡ d
+    → is_word_call d ≡ false → waits d ≡ true → IfOk r (λ reply. IsKept d old.tx.me (queue_of old.tx) queue reply)
+    → OnErr r (queue ≡ queue_of old.tx) → old.tx.me.stored ≤ 16384 → HasActed model c old (queueing old queue) r
+kept_acted model c d old queue (Ok reply) is other waiting kept err stored =
+    subst (λ (e : Call). HasDone model e old (queueing old queue) reply) (sym is)
+    (file_done model d old (queueing old queue) other reply (alone_call model d (calling old) old.tx.me reply kept.alone)
+    (ap (λ (q : Queue). (queueing old q).tx) kept.left) refl stored (record {
+      kept = λ _ w. ap (λ (s : Stepped). s.reply) (sym (kept.alone.step w old.tx.number));
+      now = λ at_once. absurd (cc (at_once, waiting));
+    }))
+kept_acted model c d old queue (Err e) is other waiting kept err stored =
+    record {
+      left = [];
+      one = omega arith;
+      tx = λ i. record (queueing old (err i)).tx { undo = record old.tx.undo { pending = sym (append_nil old.tx.undo.pending) i } };
+      faults = refl;
+      contents = λ tells. inl (refl, refl);
+    }
 
 -- ---- a call on words
+-- it isn't kept for the commit
+word_at_once : (c : Call) → is_word_call c ≡ true → waits c ≡ false
+word_at_once (call.Load at) is = refl
+word_at_once (call.Store at value) is = refl
+word_at_once _ is = cc
+
 -- a transaction that stored
 abbrev pub storing : {H : Type 0} → Acting H → List (ℕ × ℕ) → Acting H
 storing a writes = record a { tx = record a.tx { writes = writes } }
@@ -138,15 +201,16 @@ module _ {H : Type 0} (model : HostModel H) (c : Call) (old : Acting H) (writes 
       → overlaid old.words writes ≡ words_after (overlaid old.words old.tx.writes) c → is_late reply ≡ false → old.tx.me.stored ≤ 16384
       → HasDone model c old (storing old writes) reply
   word_done reply gives stores after now stored =
+      let at_once = word_at_once c is in
       let quiet = ap is_fault_reply gives ∙ word-quiet (overlaid old.words old.tx.writes) c is in
       record {
-        tx = refl;
+        tx = framed_now old.tx (parts_of (storing old writes).tx) c reply now;
         stores = stores;
         stored = stored;
         made = [];
         one = omega arith;
         undo = ap (λ us. record old.tx.undo { pending = us }) (sym (append_nil old.tx.undo.pending));
-        now = now;
+        in_time = in_time_now c old.tx.me old.tx.number reply at_once now;
         cause = subst (λ b. CountsFault b (model.fault_count old.host) (model.fault_count old.host)) (sym quiet) refl;
         spoken = record { words = after; gives = λ _. gives };
         does = λ tells. does_words reply gives after;
@@ -180,7 +244,11 @@ store_acted model c at value old writes (Err e) is gives stores after err now st
     }
 
 -- ---- memory is wanting for the variable that takes the reply
--- a reply that brings a value is no fault
+-- a reply that brings a value is no fault, and no call was kept
+unkept : (r : Reply) → (value_in r ≡ None → ⊥) → is_late r ≡ false
+unkept reply.Late h = absurd (h refl)
+unkept _ h = refl
+
 unfaulty : (r : Reply) → (value_in r ≡ None → ⊥) → is_fault_reply r ≡ false
 unfaulty (reply.Fault n) h = absurd (h refl)
 unfaulty _ h = refl
@@ -199,7 +267,8 @@ unanswered model c old new behind reply d is brings =
     ∙ append_nil old.tx.writes in
     let quiet = unfaulty reply brings in
     let left : new.tx ≡ record old.tx { me = new.tx.me; undo = record old.tx.undo { pending = old.tx.undo.pending ++ d.made } } =
-    d.tx ∙ (λ i. record old.tx { me = new.tx.me; writes = writes i; undo = d.undo i }) in
+    d.tx ∙ sym (framed_now old.tx (parts_of new.tx) c reply (unkept reply brings))
+    ∙ (λ i. record old.tx { me = new.tx.me; writes = writes i; undo = d.undo i }) in
     let now : LeavesOff model c old (record new { tx = record new.tx { me = old.tx.me } }) = record {
       left = d.made;
       one = d.one;

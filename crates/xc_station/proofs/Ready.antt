@@ -6,6 +6,8 @@ use Rattle.std.specs.List.{fold}
 use Rattle.std.specs.declared.option.Option.TheVariants.{None, Some}
 use Rattle.xc_data.specs.declared.call.Call.{Call}
 use Rattle.xc_data.specs.declared.call.Call.TheVariants.{Store}
+use Rattle.xc_data.specs.declared.call.LateCall.{LateCall}
+use Rattle.xc_deferred.specs.Does.{IsThereFor}
 use Rattle.xc_data.specs.declared.entry.Entry.{Entry}
 use Rattle.xc_data.specs.declared.entry.Outcome.{Outcome}
 use Rattle.xc_data.specs.declared.entry.Outcome.TheVariants.{Committed, Aborted}
@@ -23,11 +25,12 @@ use Rattle.xc_story.specs.declared.rules.Rules.{Rules}
 use Rattle.xc_story.specs.Setting.{Setting, setting}
 use Rattle.xc_story.specs.WordCalls.{words_after, words_behind}
 use Rattle.xc_story.specs.Progress.{Following, Progress, after_entry, opening_progress, progress_of, words_left}
-use Rattle.xc_story.specs.Seen.{SeenTx, SeenJob, Active, Now, active_in, actives, failures}
+use Rattle.xc_story.specs.Seen.{SeenTx, SeenJob, Active, Now, active_in, actives, failures, late_left}
 use Rattle.xc_story.specs.Told.{AreAttempts, IsDoing, IsInPhase, IsUnderway}
 use Rattle.xc_story.specs.Rows.{IsActiveAt}
 use Rattle.xc_turns.proofs.GivenNumbers.{given_once}
 use Rattle.xc_played.proofs.NewNumbers.{absent_now}
+use Rattle.xc_played.proofs.NextLate.{late_there}
 use Rattle.xc_played.proofs.NextRecord.{covered_now}
 use Rattle.xc_played.proofs.OpenFiles.{open_files}
 use Rattle.xc_station.specs.declared.calls.Shared.{Shared}
@@ -39,7 +42,7 @@ use Rattle.xc_station.specs.Moments.{AreSingle, CanRun, IsAt}
 use Rattle.xc_station.specs.Stations.{HasRooms, IsSteady, moment}
 use Rattle.xc_station.proofs.Placed.{get_map, length_set}
 use Rattle.xc_station.proofs.Rooms.{one_active}
-use Rattle.xc_station.proofs.Stages.{IsThere, running_stage, undoing_stage}
+use Rattle.xc_station.proofs.Stages.{IsThere, committing_stage, running_stage, undoing_stage}
 
 -- ---- the job's story
 get_beside : {A B : Type 0} (xs : List A) (ys : List B) (i : ℕ) (y : B) → length xs ≡ length ys → slice_get ys i ≡ Some y
@@ -200,6 +203,21 @@ module _ {H : Type 0} (model : HostModel H) (shared : Shared H) (journal : List 
         λ tells older u pending way.
             covered_now s now (steady.flying tells) at (seen_job was) back.tx back.cause older u there (ap active_in back.doing) back.phase pending
             way,
+      )
+
+  -- the next late call of a committing one finds its object
+  pub may_end_late : IsThere jobs at stage.Committing was → (tx : SeenTx) × ((seen_job was).doing ≡ Active tx) × (0 < length (late_left tx))
+      × (IsTrue model.tells → (call : LateCall) (calls : List LateCall) → late_left tx ≡ call ∷ calls → IsThereFor (model.contents shared.host) call)
+  may_end_late is =
+      let s = setting script rules model.tells in
+      let now = moment model shared journal jobs in
+      let there = get_map seen_job jobs at was is.stands in
+      let mine = committing_stage (doing_of was) is.stage in (
+        mine.tx,
+        mine.doing,
+        omega (arith, ap length mine.left),
+        λ tells call calls left.
+            late_there s now (steady.flying tells) at (seen_job was) mine.tx call calls there (ap active_in mine.doing) mine.phase left,
       )
 
   -- numbers that fit, of a job with an active transaction

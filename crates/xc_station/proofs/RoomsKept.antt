@@ -107,11 +107,11 @@ module _ {H : Type 0} (model : HostModel H) (shared : Shared H) (journal : List 
       let b : ones (active_of (seen_job job)) ≡ 1 = ap (λ j. ones (active_of j)) one in omega (arith, a, b))
       rooms.room rooms
 
-  -- an undoing one goes on
-  pub rooms_undoing : (shared' : Shared H) (tx tx' : SeenTx) → shared'.claims ≡ shared.claims → doing_of was ≡ Active tx
+  -- a committing or an undoing one goes on
+  pub rooms_going : (shared' : Shared H) (tx tx' : SeenTx) → shared'.claims ≡ shared.claims → doing_of was ≡ Active tx
       → doing_of job ≡ Active tx'
       → tx'.number ≡ tx.number → tx'.held ≡ tx.held → HasRooms shared'.claims active spare (moment model shared' journal (slice_set jobs at job)) lines
-  rooms_undoing shared' tx tx' same does does' number held =
+  rooms_going shared' tx tx' same does does' number held =
       rooms_set shared.claims shared'.claims active active spare spare (moment model shared journal jobs) (moment model shared' journal
       (slice_set jobs at job)) lines at
       (seen_job was) (seen_job job) there (map_set seen_job jobs at job)

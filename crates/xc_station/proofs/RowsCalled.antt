@@ -7,9 +7,7 @@ use Rattle.xc_data.specs.Counts.{CountsFault}
 use Rattle.xc_data.specs.Faults.{is_fault_reply}
 use Rattle.xc_data.specs.declared.call.Call.{Call}
 use Rattle.xc_data.specs.declared.call.Answer.{Answer}
-use Rattle.xc_data.specs.declared.call.LateCall.{LateCall}
 use Rattle.xc_data.specs.declared.call.Reply.{Reply}
-use Rattle.xc_data.specs.declared.call.Reply.TheVariants as reply
 use Rattle.xc_data.specs.declared.private.Private.{Private}
 use Rattle.xc_data.specs.declared.claim.Claim.{Claim}
 use Rattle.xc_data.specs.declared.entry.Cause.TheVariants as cause
@@ -25,7 +23,6 @@ use Rattle.xc_text.specs.declared.script.Statement.{Statement}
 use Rattle.xc_script.specs.Ask.{Walk, asks, asks_from, answered, next_body}
 use Rattle.xc_script.specs.Place.{Place, job_of, walk_of, IsSettled}
 use Rattle.xc_txmem.specs.Overlay.{overlaid}
-use Rattle.xc_world.specs.Late.{is_late, kept_call}
 use Rattle.xc_world.specs.Modes.{claims_of}
 use Rattle.xc_wordlocks.specs.Table.{claimed, mode_in}
 use Rattle.xc_wordlocks.proofs.Held.{claimed-holding}
@@ -33,10 +30,9 @@ use Rattle.xc_story.specs.declared.phase.Phase.TheVariants.{Committing, Undoing}
 use Rattle.xc_story.specs.Setting.{Setting}
 use Rattle.xc_story.specs.Seen.{SeenTx, SeenJob, Now, Active, active_in, with_job}
 use Rattle.xc_story.specs.WordCalls.{IsWordStep}
-use Rattle.xc_story.specs.Rows.{AskedTurn, Calls, DoesIn, DoesPartIn, HasNoRival, HoldsWanting, IsActiveAt, IsFirstMet, IsLeft, IsSameBegin, IsSamePlace}
+use Rattle.xc_story.specs.Rows.{AskedTurn, Calls, DoesIn, DoesPartIn, HasNoRival, HoldsWanting, IsActiveAt, IsFirstMet, IsLeft, IsSameBegin, IsSamePlace, IsReplyInTime}
 use Rattle.xc_story.specs.Rows.{Parts, RunningTurn, noting, parts_of, stored_by, wanting, with_tx}
-use Rattle.xc_story.specs.LateCalls.{waits}
-use Rattle.xc_played.proofs.BuiltCalls.{asked_at_once, asked_built}
+use Rattle.xc_played.proofs.BuiltCalls.{asked_built}
 use Rattle.xc_station.specs.declared.calls.Shared.{Shared}
 use Rattle.xc_station.specs.declared.tx.Tx.{Tx}
 use Rattle.xc_station.specs.Acting.{HasDone, LeavesOff, acting, leaving, with_parts}
@@ -51,11 +47,6 @@ pub record IsBehind (s : Setting) (old new : Place) (reply : Reply) : Type 0 whe
   pub begin : IsSameBegin old new
   pub walk : walk_of s.script new ≡ answered (walk_of s.script old) reply
   pub nearer : old.at < new.at
-
--- a call that replies now isn't kept for the commit
-none_kept : (c : Call) (me : Private) (r : Reply) → is_late r ≡ false → kept_call c me r ≡ []
-none_kept c me reply.Late e = cc e
-none_kept c me _ e = refl
 
 -- ---- behind granted claims
 module _ {H : Type 0} (model : HostModel H) (s : Setting) (shared : Shared H) (now : Now) (at : ℕ) (job : SeenJob) (place : Place) (old : Tx)
@@ -136,15 +127,12 @@ module _ {H : Type 0} (model : HostModel H) (s : Setting) (shared : Shared H) (n
       (d : HasDone model call (acting from behind.words mid) (acting behind.host behind.words done) reply)
       (noted : seen_tx new ≡ record (seen_tx done) { calls = done.calls.items ++ call ∷ []; replies = done.replies.items ++ reply ∷ [] }) where
     done_as : seen_tx done ≡ with_parts (record (seen_tx old) { held = holding old.held.items (claims_of call old.me (length now.words)) })
-        (parts_of (seen_tx done))
-    done_as = d.tx ∙ ap (λ (t : SeenTx). with_parts t (parts_of (seen_tx done))) g.held
-        ∙ ap (λ claims. with_parts (record (seen_tx old) { held = holding old.held.items claims }) (parts_of (seen_tx done))) claims_now
+        call reply (parts_of (seen_tx done))
+    done_as = d.tx ∙ ap (λ (t : SeenTx). with_parts t call reply (parts_of (seen_tx done))) g.held
+        ∙ ap (λ claims. with_parts (record (seen_tx old) { held = holding old.held.items claims }) call reply (parts_of (seen_tx done))) claims_now
 
     noted_as : seen_tx new ≡ noting (seen_tx old) call reply (claims_of call old.me (length now.words)) (parts_of (seen_tx done))
     noted_as = noted ∙ ap (λ (t : SeenTx). record t { calls = t.calls ++ call ∷ []; replies = t.replies ++ reply ∷ [] }) done_as
-        ∙ ap (λ (late : List LateCall).
-        record (noting (seen_tx old) call reply (claims_of call old.me (length now.words)) (parts_of (seen_tx done))) { late = late })
-        (sym (none_kept call old.me reply d.now))
 
     writes_old : mid.writes ≡ old.writes
     writes_old = ap (λ (t : SeenTx). t.writes) g.held
@@ -160,9 +148,6 @@ module _ {H : Type 0} (model : HostModel H) (s : Setting) (shared : Shared H) (n
         subst (λ (p : Parts). DoesIn now.words now.contents to p parts call reply) (ap parts_of g.held)
         (subst (λ (c : Contents). DoesIn now.words c to (parts_of (seen_tx mid)) parts call reply) (ap model.contents host ∙ sym here.contents)
         (subst (λ ws. DoesIn ws (model.contents from) to (parts_of (seen_tx mid)) parts call reply) words_now (d.does (telling tells))))
-
-    at_once : waits call ≡ false
-    at_once = asked_at_once (walk_of s.script place) call asked
 
     calls_now : Calls s at now job (seen_tx old) call (moved model behind (with_tx job place' (seen_tx new)) now at)
     calls_now =
@@ -181,7 +166,7 @@ module _ {H : Type 0} (model : HostModel H) (s : Setting) (shared : Shared H) (n
           };
           walk = stands.walk ∙ ap (λ w. answered w reply) has.same.walk;
           nearer = (let far = stands.nearer in let near = has.same.at in omega arith);
-          in_time = record { kept = λ waits_for. absurd (cc (at_once, waits_for)); now = λ _. d.now };
+          in_time = subst (λ (t : SeenTx). IsReplyInTime t.me t.number call reply) g.held d.in_time;
           built = asked_built (walk_of s.script place) call asked;
           made = d.made;
           one = d.one;

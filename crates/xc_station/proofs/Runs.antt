@@ -16,11 +16,12 @@ use Rattle.xc_host.specs.Model.{HostModel}
 use Rattle.xc_story.specs.declared.phase.Phase.{Phase}
 use Rattle.xc_story.specs.declared.phase.Phase.TheVariants.{Running, Committing, Undoing}
 use Rattle.xc_story.specs.Alone.{AreAlone}
-use Rattle.xc_story.specs.Seen.{SeenTx, SeenJob, Doing, Active, Now, active_in}
+use Rattle.xc_data.specs.declared.call.LateCall.{LateCall}
+use Rattle.xc_story.specs.Seen.{SeenTx, SeenJob, Doing, Active, Now, active_in, late_left}
 use Rattle.xc_story.specs.Rows.{IsTurn, IsActiveAt}
 use Rattle.xc_turns.proofs.Orders.{alone_turned, alone_later}
 use Rattle.xc_station.specs.declared.job.Job.{Job}
-use Rattle.xc_station.specs.Jobs.{goes_on, is_live, phase_stage, seen_job, seen_jobs, stage_of}
+use Rattle.xc_station.specs.Jobs.{back_stage, goes_on, is_live, late_stage, phase_stage, seen_job, seen_jobs, stage_of}
 use Rattle.xc_station.specs.Stations.{GoesOn, IsNextOf, IsStepOf, KeepsOpening, Seen, TakeTurns, WorksOn, live_at, lives, now_of, numbers, setting_of, turns_of}
 use Rattle.xc_station.proofs.Leaving.{Leaves, turn_leaves}
 
@@ -99,14 +100,21 @@ module _ {H : Type 0} (model : HostModel H) (job : ℕ) (old new : Seen H) (answ
       }
 
 -- ---- one job behind another
-phase_goes : (pending : List Undo) (phase : Phase) → goes_on (phase_stage pending phase) ≡ true
-phase_goes pending Running = refl
-phase_goes pending Committing = refl
-phase_goes [] (Undoing c) = refl
-phase_goes (u ∷ pending) (Undoing c) = refl
+late_goes : (late : List LateCall) → goes_on (late_stage late) ≡ true
+late_goes [] = refl
+late_goes (c ∷ late) = refl
+
+back_goes : (pending : List Undo) → goes_on (back_stage pending) ≡ true
+back_goes [] = refl
+back_goes (u ∷ pending) = refl
+
+phase_goes : (tx : SeenTx) (phase : Phase) → goes_on (phase_stage tx phase) ≡ true
+phase_goes tx Running = refl
+phase_goes tx Committing = late_goes (late_left tx)
+phase_goes tx (Undoing c) = back_goes tx.undo.pending
 
 active_goes : (d : Doing) (tx : SeenTx) → active_in d ≡ Some tx → goes_on (stage_of d) ≡ true
-active_goes (Active t) tx active = phase_goes t.undo.pending t.phase
+active_goes (Active t) tx active = phase_goes t t.phase
 active_goes _ tx active = cc
 
 by_place : (jobs : List Job) (at : ℕ) → live_at jobs (at + 1) ≡ lives (slice_get jobs at)

@@ -3,15 +3,16 @@ use Rattle.std.proofs.Common.{◌≡◌, Bool, true, false, List, [], ◌∷◌,
 use Rattle.std.proofs.lemmas.Option.{get_or_from_slice_get}
 use Rattle.std.specs.Prelude.{Option, get_or, if◌then◌else◌, slice_get, ◌==◌, ◌-◌}
 use Rattle.std.specs.declared.option.Option.TheVariants.{None, Some}
+use Rattle.xc_data.specs.declared.call.LateCall.{LateCall}
 use Rattle.xc_data.specs.declared.entry.Cause.{Cause}
 use Rattle.xc_data.specs.declared.undo.Undo.{Undo}
 use Rattle.xc_story.specs.declared.phase.Phase.{Phase}
 use Rattle.xc_story.specs.declared.phase.Phase.TheVariants as phase
-use Rattle.xc_story.specs.Seen.{SeenTx, Doing, Idle, Active, Starved, Ended}
+use Rattle.xc_story.specs.Seen.{SeenTx, Doing, Idle, Active, Starved, Ended, late_left}
 use Rattle.xc_station.specs.declared.job.Job.{Job}
 use Rattle.xc_station.specs.declared.job.Stage.{Stage}
 use Rattle.xc_station.specs.declared.job.Stage.TheVariants as stage
-use Rattle.xc_station.specs.Jobs.{IsStage, back_stage, goes_on, phase_stage, doing_of, stage_of}
+use Rattle.xc_station.specs.Jobs.{IsStage, back_stage, goes_on, late_stage, phase_stage, doing_of, stage_of}
 use Rattle.xc_station.specs.Stations.{live_at, lives}
 
 -- ---- the job there
@@ -25,6 +26,17 @@ lent jobs at s job is value =
     let same : is.0 ≡ job = sym (get_or_from_slice_get jobs at is.0 job is.1) ∙ sym value in
     subst (IsThere jobs at s) same (record { stands = is.1; stage = is.2 })
 
+-- ---- stages by phases
+abbrev is_late_stage : Stage → Bool
+is_late_stage stage.Committing = true
+is_late_stage stage.Committed = true
+is_late_stage _ = false
+
+abbrev is_back_stage : Stage → Bool
+is_back_stage stage.Undoing = true
+is_back_stage stage.Undone = true
+is_back_stage _ = false
+
 -- ---- a job with an active transaction
 abbrev is_active : Stage → Bool
 is_active stage.Idle = false
@@ -36,14 +48,18 @@ back_active : (pending : List Undo) → is_active (back_stage pending) ≡ true
 back_active [] = refl
 back_active (u ∷ us) = refl
 
-phase_active : (pending : List Undo) (p : Phase) → is_active (phase_stage pending p) ≡ true
-phase_active pending phase.Running = refl
-phase_active pending phase.Committing = refl
-phase_active pending (phase.Undoing c) = back_active pending
+late_active : (late : List LateCall) → is_active (late_stage late) ≡ true
+late_active [] = refl
+late_active (c ∷ cs) = refl
+
+phase_active : (tx : SeenTx) (p : Phase) → is_active (phase_stage tx p) ≡ true
+phase_active tx phase.Running = refl
+phase_active tx phase.Committing = late_active (late_left tx)
+phase_active tx (phase.Undoing c) = back_active tx.undo.pending
 
 -- its stage is none of the others
 not_active : (tx : SeenTx) (s : Stage) → is_active s ≡ false → stage_of (Active tx) ≡ s → ⊥
-not_active tx s is e = let no : true ≡ false = sym (phase_active tx.undo.pending tx.phase) ∙ ap is_active e ∙ is in cc no
+not_active tx s is e = let no : true ≡ false = sym (phase_active tx tx.phase) ∙ ap is_active e ∙ is in cc no
 
 -- ---- the stages
 pub idle_stage : (d : Doing) → stage_of d ≡ stage.Idle → d ≡ Idle
@@ -65,31 +81,76 @@ pub record IsInPhase (d : Doing) (p : Phase) : Type 0 where
   pub doing : d ≡ Active tx
   pub phase : tx.phase ≡ p
 
-running_phase : (pending : List Undo) (p : Phase) → phase_stage pending p ≡ stage.Running → p ≡ phase.Running
-running_phase pending phase.Running e = refl
-running_phase pending phase.Committing e = cc e
-running_phase [] (phase.Undoing c) e = cc e
-running_phase (u ∷ us) (phase.Undoing c) e = cc e
+-- a stage of a committing transaction is no other
+late_not : (late : List LateCall) (t : Stage) → is_late_stage t ≡ false → late_stage late ≡ t → ⊥
+late_not [] t no e = let not : true ≡ false = ap is_late_stage e ∙ no in cc not
+late_not (c ∷ cs) t no e = let not : true ≡ false = ap is_late_stage e ∙ no in cc not
+
+back_not : (pending : List Undo) (t : Stage) → is_back_stage t ≡ false → back_stage pending ≡ t → ⊥
+back_not [] t no e = let not : true ≡ false = ap is_back_stage e ∙ no in cc not
+back_not (u ∷ us) t no e = let not : true ≡ false = ap is_back_stage e ∙ no in cc not
+
+running_phase : (tx : SeenTx) (p : Phase) → phase_stage tx p ≡ stage.Running → p ≡ phase.Running
+running_phase tx phase.Running e = refl
+running_phase tx phase.Committing e = absurd (late_not (late_left tx) stage.Running refl e)
+running_phase tx (phase.Undoing c) e = absurd (back_not tx.undo.pending stage.Running refl e)
 
 -- it runs
 pub running_stage : (d : Doing) → stage_of d ≡ stage.Running → IsInPhase d phase.Running
 running_stage Idle e = cc e
-running_stage (Active tx) e = record { tx = tx; doing = refl; phase = running_phase tx.undo.pending tx.phase e }
+running_stage (Active tx) e = record { tx = tx; doing = refl; phase = running_phase tx tx.phase e }
 running_stage Starved e = cc e
 running_stage (Ended end) e = cc e
 
-committing_phase : (pending : List Undo) (p : Phase) → phase_stage pending p ≡ stage.Committing → p ≡ phase.Committing
-committing_phase pending phase.Running e = cc e
-committing_phase pending phase.Committing e = refl
-committing_phase [] (phase.Undoing c) e = cc e
-committing_phase (u ∷ us) (phase.Undoing c) e = cc e
+-- it commits, and a late call has no end
+pub record IsLating (d : Doing) : Type 0 where
+  pub tx : SeenTx
+  pub doing : d ≡ Active tx
+  pub phase : tx.phase ≡ phase.Committing
+  pub next : LateCall
+  pub later : List LateCall
+  pub left : late_left tx ≡ next ∷ later
 
--- it commits
-pub committing_stage : (d : Doing) → stage_of d ≡ stage.Committing → IsInPhase d phase.Committing
+committing_left : (tx : SeenTx) (late : List LateCall) → tx.phase ≡ phase.Committing → late_left tx ≡ late → late_stage late ≡ stage.Committing
+    → IsLating (Active tx)
+committing_left tx [] commits left e = cc e
+committing_left tx (c ∷ cs) commits left e = record { tx = tx; doing = refl; phase = commits; next = c; later = cs; left = left }
+
+committing_phase : (tx : SeenTx) (p : Phase) → tx.phase ≡ p → phase_stage tx p ≡ stage.Committing → IsLating (Active tx)
+committing_phase tx phase.Running in' e = cc e
+committing_phase tx phase.Committing in' e = committing_left tx (late_left tx) in' refl e
+committing_phase tx (phase.Undoing c) in' e = absurd (back_not tx.undo.pending stage.Committing refl e)
+
+-- its next turn does the first such call
+pub committing_stage : (d : Doing) → stage_of d ≡ stage.Committing → IsLating d
 committing_stage Idle e = cc e
-committing_stage (Active tx) e = record { tx = tx; doing = refl; phase = committing_phase tx.undo.pending tx.phase e }
+committing_stage (Active tx) e = committing_phase tx tx.phase refl e
 committing_stage Starved e = cc e
 committing_stage (Ended end) e = cc e
+
+-- it commits, and each late call has its end
+pub record IsCommitted (d : Doing) : Type 0 where
+  pub tx : SeenTx
+  pub doing : d ≡ Active tx
+  pub phase : tx.phase ≡ phase.Committing
+  pub left : late_left tx ≡ []
+
+committed_left : (tx : SeenTx) (late : List LateCall) → tx.phase ≡ phase.Committing → late_left tx ≡ late → late_stage late ≡ stage.Committed
+    → IsCommitted (Active tx)
+committed_left tx [] commits left e = record { tx = tx; doing = refl; phase = commits; left = left }
+committed_left tx (c ∷ cs) commits left e = cc e
+
+committed_phase : (tx : SeenTx) (p : Phase) → tx.phase ≡ p → phase_stage tx p ≡ stage.Committed → IsCommitted (Active tx)
+committed_phase tx phase.Running in' e = cc e
+committed_phase tx phase.Committing in' e = committed_left tx (late_left tx) in' refl e
+committed_phase tx (phase.Undoing c) in' e = absurd (back_not tx.undo.pending stage.Committed refl e)
+
+-- its next turn enters it
+pub committed_stage : (d : Doing) → stage_of d ≡ stage.Committed → IsCommitted d
+committed_stage Idle e = cc e
+committed_stage (Active tx) e = committed_phase tx tx.phase refl e
+committed_stage Starved e = cc e
+committed_stage (Ended end) e = cc e
 
 -- it undoes, and a record has no end
 pub record IsBack (d : Doing) : Type 0 where
@@ -101,17 +162,20 @@ pub record IsBack (d : Doing) : Type 0 where
   pub older : List Undo
   pub pending : tx.undo.pending ≡ newest ∷ older
 
-undoing_phase : (tx : SeenTx) (pending : List Undo) (p : Phase) → tx.undo.pending ≡ pending → tx.phase ≡ p → phase_stage pending p ≡ stage.Undoing → IsBack
-    (Active tx)
-undoing_phase tx pending phase.Running left in' e = cc e
-undoing_phase tx pending phase.Committing left in' e = cc e
-undoing_phase tx [] (phase.Undoing c) left in' e = cc e
-undoing_phase tx (u ∷ us) (phase.Undoing c) left in' e = record { tx = tx; cause = c; doing = refl; phase = in'; newest = u; older = us; pending = left }
+undoing_left : (tx : SeenTx) (c : Cause) (pending : List Undo) → tx.phase ≡ phase.Undoing c → tx.undo.pending ≡ pending
+    → back_stage pending ≡ stage.Undoing → IsBack (Active tx)
+undoing_left tx c [] in' left e = cc e
+undoing_left tx c (u ∷ us) in' left e = record { tx = tx; cause = c; doing = refl; phase = in'; newest = u; older = us; pending = left }
+
+undoing_phase : (tx : SeenTx) (p : Phase) → tx.phase ≡ p → phase_stage tx p ≡ stage.Undoing → IsBack (Active tx)
+undoing_phase tx phase.Running in' e = cc e
+undoing_phase tx phase.Committing in' e = absurd (late_not (late_left tx) stage.Undoing refl e)
+undoing_phase tx (phase.Undoing c) in' e = undoing_left tx c tx.undo.pending in' refl e
 
 -- its next turn tries the newest
 pub undoing_stage : (d : Doing) → stage_of d ≡ stage.Undoing → IsBack d
 undoing_stage Idle e = cc e
-undoing_stage (Active tx) e = undoing_phase tx tx.undo.pending tx.phase refl refl e
+undoing_stage (Active tx) e = undoing_phase tx tx.phase refl e
 undoing_stage Starved e = cc e
 undoing_stage (Ended end) e = cc e
 
@@ -123,17 +187,20 @@ pub record IsUndone (d : Doing) : Type 0 where
   pub phase : tx.phase ≡ phase.Undoing cause
   pub pending : tx.undo.pending ≡ []
 
-undone_phase : (tx : SeenTx) (pending : List Undo) (p : Phase) → tx.undo.pending ≡ pending → tx.phase ≡ p → phase_stage pending p ≡ stage.Undone → IsUndone
-    (Active tx)
-undone_phase tx pending phase.Running left in' e = cc e
-undone_phase tx pending phase.Committing left in' e = cc e
-undone_phase tx [] (phase.Undoing c) left in' e = record { tx = tx; cause = c; doing = refl; phase = in'; pending = left }
-undone_phase tx (u ∷ us) (phase.Undoing c) left in' e = cc e
+undone_left : (tx : SeenTx) (c : Cause) (pending : List Undo) → tx.phase ≡ phase.Undoing c → tx.undo.pending ≡ pending
+    → back_stage pending ≡ stage.Undone → IsUndone (Active tx)
+undone_left tx c [] in' left e = record { tx = tx; cause = c; doing = refl; phase = in'; pending = left }
+undone_left tx c (u ∷ us) in' left e = cc e
+
+undone_phase : (tx : SeenTx) (p : Phase) → tx.phase ≡ p → phase_stage tx p ≡ stage.Undone → IsUndone (Active tx)
+undone_phase tx phase.Running in' e = cc e
+undone_phase tx phase.Committing in' e = absurd (late_not (late_left tx) stage.Undone refl e)
+undone_phase tx (phase.Undoing c) in' e = undone_left tx c tx.undo.pending in' refl e
 
 -- its next turn enters it
 pub undone_stage : (d : Doing) → stage_of d ≡ stage.Undone → IsUndone d
 undone_stage Idle e = cc e
-undone_stage (Active tx) e = undone_phase tx tx.undo.pending tx.phase refl refl e
+undone_stage (Active tx) e = undone_phase tx tx.phase refl e
 undone_stage Starved e = cc e
 undone_stage (Ended end) e = cc e
 

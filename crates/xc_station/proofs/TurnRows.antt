@@ -1,7 +1,8 @@
 -- Each row of the table of turns, from one moment of a station to the next.
-use Rattle.std.proofs.Common.{◌≡◌, ℕ, ◌+◌, List, [], ◌∷◌, ◌++◌, refl, ap, sym, ◌∙◌, subst}
+use Rattle.std.proofs.Common.{◌≡◌, ℕ, ◌+◌, List, [], ◌∷◌, ◌++◌, refl, ap, sym, ◌∙◌, subst, IsTrue}
 use Rattle.std.specs.Prelude.{slice_get, slice_set}
 use Rattle.std.specs.declared.option.Option.TheVariants.{Some}
+use Rattle.xc_data.specs.declared.call.LateCall.{LateCall}
 use Rattle.xc_data.specs.declared.entry.Cause.{Cause}
 use Rattle.xc_data.specs.declared.entry.Entry.{Entry}
 use Rattle.xc_data.specs.declared.entry.JobEnd.TheVariants as job_end
@@ -9,14 +10,16 @@ use Rattle.xc_data.specs.declared.entry.Outcome.TheVariants.{Committed, Aborted}
 use Rattle.xc_data.specs.declared.entry.Turn.{Turn}
 use Rattle.xc_data.specs.declared.entry.Turn.TheVariants as turn
 use Rattle.xc_compensate.specs.Records.{IsTried, Records}
+use Rattle.xc_deferred.specs.Does.{EndsNext}
+use Rattle.xc_deferred.specs.Queue.{Queue}
 use Rattle.xc_host.specs.Model.{HostModel}
 use Rattle.xc_story.specs.declared.phase.Phase.{Phase}
 use Rattle.xc_story.specs.declared.phase.Phase.TheVariants as phase
 use Rattle.xc_story.specs.declared.rules.Rules.{Rules}
 use Rattle.xc_story.specs.Setting.{Setting, setting}
-use Rattle.xc_story.specs.Seen.{SeenTx, SeenJob, Doing, Idle, Active, Starved, Ended, Now, with_job, entering}
+use Rattle.xc_story.specs.Seen.{SeenTx, SeenJob, Doing, Idle, Active, Starved, Ended, Now, late_left, with_job, entering}
 use Rattle.xc_text.specs.declared.script.Script.{Script}
-use Rattle.xc_story.specs.Rows.{IsTurn, TurnOf, ActiveTurn, BackTurn, CommittingTurn, Compensates, EntersAborted, IdleTurn, StarvedTurn}
+use Rattle.xc_story.specs.Rows.{IsTurn, TurnOf, ActiveTurn, BackTurn, Compensates, EndsLate, EntersAborted, EntersCommitted, IdleTurn, LateTurn, StarvedTurn}
 use Rattle.xc_story.specs.Rows.{behind_abort, behind_commit, entry_of, with_tx}
 use Rattle.xc_station.specs.declared.calls.Shared.{Shared}
 use Rattle.xc_station.specs.declared.job.Job.{Job}
@@ -27,7 +30,7 @@ use Rattle.xc_station.specs.Moments.{IsRow, moved}
 use Rattle.xc_station.specs.Stations.{moment}
 use Rattle.xc_station.proofs.Closed.{its_active}
 use Rattle.xc_station.proofs.Placed.{get_map, map_set}
-use Rattle.xc_station.proofs.Stages.{IsThere, idle_stage, starved_stage, running_stage, committing_stage, undoing_stage, undone_stage}
+use Rattle.xc_station.proofs.Stages.{IsThere, idle_stage, starved_stage, running_stage, committing_stage, committed_stage, undoing_stage, undone_stage}
 
 -- ---- a row of what the job in this place does
 pub row_turned : (s : Setting) (at : ℕ) (old new : Now) (job : SeenJob) (d : Doing) (answer : Turn) → slice_get old.jobs at ≡ Some job → job.doing ≡ d
@@ -40,15 +43,6 @@ pub phase_turned : (s : Setting) (at : ℕ) (old new : Now) (job : SeenJob) (tx 
     → job.doing ≡ Active tx → tx.phase ≡ p → ActiveTurn s at old job tx p answer new → IsTurn s at old answer new
 phase_turned s at old new job tx p answer there does in' row =
     row_turned s at old new job (Active tx) answer there does (subst (λ q. ActiveTurn s at old job tx q answer new) (sym in') row)
-
--- a transaction that the code has keeps no call for the commit, so it enters at once
-entered_at_once : (s : Setting) (at : ℕ) (old new : Now) (job : Job) (tx : SeenTx) → doing_of job ≡ Active tx
-    → new ≡ entering old at (behind_commit (seen_job job) tx) (entry_of tx at (Committed []))
-    → CommittingTurn s at old (seen_job job) tx turn.Went new
-entered_at_once s at old new job tx does row =
-    let same : seen_tx job.tx ≡ tx = its_active job tx does in
-    subst (λ (t : SeenTx). CommittingTurn s at old (seen_job job) t turn.Went new) same
-    (subst (λ (t : SeenTx). new ≡ entering old at (behind_commit (seen_job job) t) (entry_of t at (Committed []))) (sym same) row)
 
 -- ---- at the moments of a station
 module _ {H : Type 0} (model : HostModel H) (shared : Shared H) (journal : List Entry) (jobs : List Job) (at : ℕ) (was : Job) where
@@ -97,19 +91,45 @@ module _ {H : Type 0} (model : HostModel H) (shared : Shared H) (journal : List 
       (phase_turned s at old (moved model shared' (seen_job job) old at) (seen_job was) row.tx phase.Running answer (seen_there stage.Running is) row.doing
       (ap (λ (t : SeenTx). t.phase) (sym one) ∙ mine.phase) row.row)
 
-  -- a committing job's
-  pub committing_turned : (s : Setting) (shared' : Shared H) (journal' : List Entry) (entry : Entry) (job : Job) (number : ℕ)
-      → IsThere jobs at stage.Committing was
+  -- a committing job's, where a late call has no end
+  pub committing_turned : (s : Setting) (shared' : Shared H) (job : Job) → (IsTrue s.tells → IsTrue model.tells) → IsThere jobs at stage.Committing was
+      → ((tx : SeenTx) (call : LateCall) (calls : List LateCall) → (seen_job was).doing ≡ Active tx → late_left tx ≡ call ∷ calls
+      → (late : Queue) × (seen_job job ≡ with_tx (seen_job was) was.place (record tx { late = late.calls; ends = late.ends }))
+      × EndsNext model call (record { host = shared.host; late = record { calls = tx.late; ends = tx.ends } })
+      (record { host = shared'.host; late = late }))
+      → shared'.words ≡ shared.words
+      → IsTurn s at (moment model shared journal jobs) turn.Went (moment model shared' journal (slice_set jobs at job))
+  committing_turned s shared' job telling is gives words =
+      let old = moment model shared journal jobs in
+      let new = moment model shared' journal (slice_set jobs at job) in
+      let mine = committing_stage (doing_of was) is.stage in
+      let gave = gives mine.tx mine.next mine.later mine.doing mine.left in
+      let ends = gave.2 in
+      let row : EndsLate s at old (seen_job was) mine.tx mine.next new = record {
+        end = ends.end;
+        jobs = map_set seen_job jobs at job ∙ ap (slice_set (seen_jobs jobs) at)
+            (gave.1 ∙ ap (λ (late : Queue). with_tx (seen_job was) was.place (record mine.tx { late = late.calls; ends = late.ends })) ends.noted);
+        words = words;
+        journal = refl;
+        cause = ends.cause;
+        does = λ tells. ends.does (telling tells);
+      } in
+      phase_turned s at old new (seen_job was) mine.tx phase.Committing turn.Went (seen_there stage.Committing is) mine.doing mine.phase
+      (subst (λ left. LateTurn s at old (seen_job was) mine.tx left new) (sym mine.left) row)
+
+  -- a committing job's, where each has one
+  pub committed_turned : (s : Setting) (shared' : Shared H) (journal' : List Entry) (entry : Entry) (job : Job) (number : ℕ)
+      → IsThere jobs at stage.Committed was
       → ((tx : SeenTx) (at : ℕ) → (seen_job was).doing ≡ Active tx → number ≡ at + 1
-      → (seen_job job ≡ behind_commit (seen_job was) tx) × (entry ≡ entry_of tx at (Committed [])))
+      → (seen_job job ≡ behind_commit (seen_job was) tx) × (entry ≡ entry_of tx at (Committed tx.ends)))
       → number ≡ at + 1 → (shared'.host ≡ shared.host) × (shared'.words ≡ shared.words) → journal' ≡ journal ++ entry ∷ []
       → IsTurn s at (moment model shared journal jobs) turn.Went (moment model shared' journal' (slice_set jobs at job))
-  committing_turned s shared' journal' entry job number is gives counts same entered =
+  committed_turned s shared' journal' entry job number is gives counts same entered =
       let old = moment model shared journal jobs in
-      let mine = committing_stage (doing_of was) is.stage in
+      let new = moment model shared' journal' (slice_set jobs at job) in
+      let mine = committed_stage (doing_of was) is.stage in
       let gave = gives mine.tx at mine.doing counts in
-      let row : moment model shared' journal' (slice_set jobs at job) ≡ entering old at (behind_commit (seen_job was) mine.tx) (entry_of mine.tx at
-      (Committed [])) =
+      let row : EntersCommitted at old (seen_job was) mine.tx new =
       (λ i. record {
         words = same.1 i;
         contents = model.contents (same.0 i);
@@ -117,9 +137,8 @@ module _ {H : Type 0} (model : HostModel H) (shared : Shared H) (journal : List 
         journal = (entered ∙ ap (λ e. journal ++ e ∷ []) gave.1) i;
         jobs = (map_set seen_job jobs at job ∙ ap (slice_set (seen_jobs jobs) at) gave.0) i;
       }) in
-      phase_turned s at old (moment model shared' journal' (slice_set jobs at job)) (seen_job was) mine.tx phase.Committing turn.Went
-      (seen_there stage.Committing is) mine.doing mine.phase
-      (entered_at_once s at old (moment model shared' journal' (slice_set jobs at job)) was mine.tx mine.doing row)
+      phase_turned s at old new (seen_job was) mine.tx phase.Committing turn.Went (seen_there stage.Committed is) mine.doing mine.phase
+      (subst (λ left. LateTurn s at old (seen_job was) mine.tx left new) (sym mine.left) row)
 
   -- an undoing job's, where a record has no end
   pub undoing_turned : (script : Script) (rules : Rules) (shared' : Shared H) (job : Job) → IsThere jobs at stage.Undoing was

@@ -14,9 +14,9 @@ use Rattle.xc_host.specs.Contents.{Contents}
 use Rattle.xc_host.specs.Model.{HostModel}
 use Rattle.xc_txmem.specs.Overlay.{AreWithin, overlaid}
 use Rattle.xc_wordlocks.specs.Index.{HasRoomFor}
-use Rattle.xc_world.specs.Late.{is_late}
+use Rattle.xc_world.specs.Late.{kept_call}
 use Rattle.xc_story.specs.declared.phase.Phase.TheVariants.{Running}
-use Rattle.xc_story.specs.Rows.{DoesIn, DoesPartIn, Parts, parts_of, stored_by}
+use Rattle.xc_story.specs.Rows.{DoesIn, DoesPartIn, IsReplyInTime, Parts, parts_of, stored_by}
 use Rattle.xc_story.specs.Seen.{SeenTx}
 use Rattle.xc_story.specs.WordCalls.{IsWordStep}
 use Rattle.xc_station.specs.declared.tx.Tx.{Tx}
@@ -57,20 +57,21 @@ pub record Acting (H : Type 0) : Type 0 where
 abbrev pub acting : {H : Type 0} → H → List ℕ → Tx → Acting H
 acting host words tx = record { host = host; words = words; tx = seen_tx tx }
 
--- the transaction with these parts
-abbrev pub with_parts : SeenTx → Parts → SeenTx
-with_parts tx parts = record tx { me = parts.me; writes = parts.stores; undo = parts.undo }
+-- the transaction with these parts, behind a call that got this reply: its late call is kept where that is late
+abbrev pub with_parts : SeenTx → Call → Reply → Parts → SeenTx
+with_parts tx call reply parts =
+    record tx { me = parts.me; writes = parts.stores; undo = parts.undo; late = tx.late ++ kept_call call tx.me reply }
 
 -- the call was done with this reply, as a row of calls says it: its stores, its records, its part on words, its fault,
--- and over a host that tells the plain machine's step
+-- whether it is kept for the commit, and over a host that tells the plain machine's step
 pub record HasDone {H : Type 0} (model : HostModel H) (call : Call) (old new : Acting H) (reply : Reply) : Type 0 where
-  pub tx : new.tx ≡ with_parts old.tx (parts_of new.tx)
+  pub tx : new.tx ≡ with_parts old.tx call reply (parts_of new.tx)
   pub stores : new.tx.writes ≡ old.tx.writes ++ stored_by (length old.words) call
   pub stored : new.tx.me.stored ≤ 16384
   pub made : List Undo
   pub one : length made ≤ 1
   pub undo : new.tx.undo ≡ record old.tx.undo { pending = old.tx.undo.pending ++ made }
-  pub now : is_late reply ≡ false
+  pub in_time : IsReplyInTime old.tx.me old.tx.number call reply
   pub cause : CountsFault (is_fault_reply reply) (model.fault_count old.host) (model.fault_count new.host)
   pub spoken : IsWordStep (overlaid old.words old.tx.writes) (overlaid old.words new.tx.writes) call reply
   pub does : IsTrue model.tells

@@ -1,6 +1,8 @@
 -- A job and its active transaction as plain data, and what a turn of the job goes by.
 use Rattle.std.specs.Prelude.{◌≡◌, ℕ, Bool, true, false, List, [], ◌∷◌, map, slice_get, if◌then◌else◌}
 use Rattle.std.specs.declared.option.Option.TheVariants.{Some}
+use Rattle.xc_data.specs.declared.call.LateCall.{LateCall}
+use Rattle.xc_data.specs.declared.call.LateEnd.{LateEnd}
 use Rattle.xc_data.specs.declared.entry.Outcome.{Outcome}
 use Rattle.xc_data.specs.declared.entry.Outcome.TheVariants.{Committed, Aborted}
 use Rattle.xc_data.specs.declared.private.Private.{Private}
@@ -8,7 +10,7 @@ use Rattle.xc_data.specs.declared.undo.Undo.{Undo}
 use Rattle.xc_world.specs.Ends.{Ending}
 use Rattle.xc_story.specs.declared.phase.Phase.{Phase}
 use Rattle.xc_story.specs.declared.phase.Phase.TheVariants as phase
-use Rattle.xc_story.specs.Seen.{SeenTx, SeenJob, Doing, Idle, Active, Starved, Ended}
+use Rattle.xc_story.specs.Seen.{SeenTx, SeenJob, Doing, Idle, Active, Starved, Ended, late_left}
 use Rattle.xc_station.specs.declared.tx.Tx.{Tx}
 use Rattle.xc_station.specs.declared.job.Job.{Job}
 use Rattle.xc_station.specs.declared.job.Activity.{Activity}
@@ -16,7 +18,7 @@ use Rattle.xc_station.specs.declared.job.Activity.TheVariants as activity
 use Rattle.xc_station.specs.declared.job.Stage.{Stage}
 use Rattle.xc_station.specs.declared.job.Stage.TheVariants as stage
 
--- a transaction, without the room behind its lists; no script has a call yet that is kept for the commit
+-- a transaction, without the room behind its lists
 abbrev pub seen_tx : Tx → SeenTx
 seen_tx tx =
     record {
@@ -30,8 +32,8 @@ seen_tx tx =
       calls = tx.calls.items;
       replies = tx.replies.items;
       held = tx.held.items;
-      late = [];
-      ends = [];
+      late = tx.late.calls;
+      ends = tx.late.ends;
     }
 
 -- the private state of its begin: it was kept where a call may have changed it
@@ -58,10 +60,10 @@ seen_job job =
 abbrev pub seen_jobs : List Job → List SeenJob
 seen_jobs jobs = map seen_job jobs
 
--- the outcome of a transaction that ends in this phase, with the ends of its records
-abbrev pub outcome_in : Phase → List Ending → Outcome
-outcome_in (phase.Undoing c) records = Aborted (record { cause = c; records = records })
-outcome_in _ records = Committed []
+-- the outcome of a transaction that ends in this phase, with the ends of its records and of its late calls
+abbrev pub outcome_in : Phase → List Ending → List LateEnd → Outcome
+outcome_in (phase.Undoing c) records ends = Aborted (record { cause = c; records = records })
+outcome_in _ records ends = Committed ends
 
 -- ---- the rows of the table of turns
 -- an undoing transaction, by its records that have no end yet
@@ -69,16 +71,21 @@ abbrev pub back_stage : List Undo → Stage
 back_stage [] = stage.Undone
 back_stage (u ∷ us) = stage.Undoing
 
+-- a committing transaction, by its late calls that have no end yet
+abbrev pub late_stage : List LateCall → Stage
+late_stage [] = stage.Committed
+late_stage (c ∷ cs) = stage.Committing
+
 -- a transaction, by its phase
-abbrev pub phase_stage : List Undo → Phase → Stage
-phase_stage pending phase.Running = stage.Running
-phase_stage pending phase.Committing = stage.Committing
-phase_stage pending (phase.Undoing c) = back_stage pending
+abbrev pub phase_stage : SeenTx → Phase → Stage
+phase_stage tx phase.Running = stage.Running
+phase_stage tx phase.Committing = late_stage (late_left tx)
+phase_stage tx (phase.Undoing c) = back_stage tx.undo.pending
 
 -- a job, by what it does
 abbrev pub stage_of : Doing → Stage
 stage_of Idle = stage.Idle
-stage_of (Active tx) = phase_stage tx.undo.pending tx.phase
+stage_of (Active tx) = phase_stage tx tx.phase
 stage_of Starved = stage.Starved
 stage_of (Ended end) = stage.Ended
 

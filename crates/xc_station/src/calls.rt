@@ -6,7 +6,6 @@ ghost use Rattle.xc_script.specs.Place.{walk_of, IsSettled};
 ghost use Rattle.xc_txmem.specs.Overlay.{overlaid, AreWithin};
 ghost use Rattle.xc_world.specs.Late.{is_late};
 ghost use Rattle.xc_story.specs.WordCalls.{is_word_call, word_reply, words_after};
-ghost use Rattle.xc_story.specs.LateCalls.{waits};
 ghost use Rattle.xc_story.specs.Rows.{IsSameBegin, is_built, stored_by};
 ghost use Rattle.xc_station.specs.Acting.{AreReadyFor, HasActed, MayGo, acting};
 ghost use Rattle.xc_station.specs.Jobs.{begun_of, seen_tx};
@@ -15,7 +14,8 @@ use crate::tx::Tx;
 use std::alloc::Global;
 use xc_data::{Call, NoMemory, Reply};
 use xc_file::{
-    x_close, x_create, x_len, x_open, x_read, x_rename, x_seek, x_write_ovr, x_write_seq,
+    x_close, x_create, x_len, x_open, x_read, x_rename, x_seek, x_sync, x_unlink, x_write_ovr,
+    x_write_seq,
 };
 use xc_host::Host;
 use xc_script::JobState;
@@ -68,7 +68,6 @@ fn act<H: Host>(
     call: &Call,
 ) -> Result<Reply, NoMemory>
     requires built { is_built call.now ≡ true }
-    requires now { waits call.now ≡ false }
     requires may { MayGo (length words.now) (seen_tx tx.old) }
     requires ready { IsTrue H.model.tells → AreReadyFor (seen_tx tx.old) (H.model.contents host.old) }
     ensures begun { (tx.new.changed ≡ tx.old.changed) × (tx.new.begun ≡ tx.old.begun) }
@@ -81,6 +80,7 @@ fn act<H: Host>(
         me,
         writes,
         undo,
+        late,
         ..
     } = tx;
     match call {
@@ -95,6 +95,8 @@ fn act<H: Host>(
         Call::XLen { h } => Ok(x_len(host, me, *h)),
         Call::XClose { h } => Ok(x_close(me, *h)),
         Call::XRename { from, to } => x_rename(host, undo, from, to),
+        Call::XUnlink { name, .. } => x_unlink(late, name),
+        Call::XSync { h, .. } => x_sync(late, me, *h),
         _ => unreachable!(),
     }
 }

@@ -1,10 +1,13 @@
-ghost use Rattle.std.specs.Prelude.{◌≡◌, ◌≢◌, ℕ, ◌<◌, ◌≤◌, ◌+◌, ◌^◌, [], None, IsTrue};
+ghost use Rattle.std.specs.Prelude.{◌≡◌, ◌≢◌, ℕ, ◌<◌, ◌≤◌, ◌+◌, ◌^◌, List, [], ◌∷◌, length, None, IsTrue};
+ghost use Rattle.xc_data.specs.declared.call.LateCall.{LateCall as PlainCall};
 ghost use Rattle.xc_data.specs.declared.entry.Cause.{Cause as PlainCause};
 ghost use Rattle.xc_data.specs.declared.entry.Outcome.TheVariants.{Committed, Aborted};
+ghost use Rattle.xc_deferred.specs.Does.{EndsNext, IsThereFor};
+ghost use Rattle.xc_deferred.specs.Queue.{Queue};
 ghost use Rattle.xc_script.specs.Place.{at_begin};
 ghost use Rattle.xc_compensate.specs.Records.{IsTried, NextIsCovered, Records};
 ghost use Rattle.xc_story.specs.declared.phase.Phase.TheVariants as PlainPhase;
-ghost use Rattle.xc_story.specs.Seen.{SeenTx, Active, Idle, failures};
+ghost use Rattle.xc_story.specs.Seen.{SeenTx, Active, Idle, failures, late_left};
 ghost use Rattle.xc_story.specs.Rows.{behind_abort, behind_commit, entry_of, with_tx};
 ghost use Rattle.xc_station.specs.Jobs.{seen_job, seen_tx};
 
@@ -26,14 +29,29 @@ fn go_on(place: &mut JobState, attempts: &mut Option<Attempts>)
     *attempts = None;
 }
 
-/// A committing job behind its last turn, and its entry. The job's number counts from 1.
+/// A committing job behind a turn in which its next late call was done.
+pub fn end_late<H: Host>(host: &mut H, job: &mut Job)
+    requires committing { (tx : SeenTx) × ((seen_job job.old).doing ≡ Active tx) × (0 < length (late_left tx))
+        × (IsTrue H.model.tells → (call : PlainCall) (calls : List PlainCall) → late_left tx ≡ call ∷ calls
+        → IsThereFor (H.model.contents host.old) call) }
+    ensures { (tx : SeenTx) (call : PlainCall) (calls : List PlainCall) → (seen_job job.old).doing ≡ Active tx → late_left tx ≡ call ∷ calls
+        → (late : Queue) × (seen_job job.new ≡ with_tx (seen_job job.old) job.old.place (record tx { late = late.calls; ends = late.ends }))
+        × EndsNext H.model call (record { host = host.old; late = record { calls = tx.late; ends = tx.ends } }) (record { host = host.new; late = late }) }
+{
+    job.tx.late.do_one(host);
+}
+
+/// A committed job behind its last turn, and its entry: its slots have taken the ends of its late calls. The job's number
+/// counts from 1.
 pub fn commit(alloc: Global, number: u32, job: &mut Job) -> Entry
     requires committing { (tx : SeenTx) × ((seen_job job.old).doing ≡ Active tx) × (tx.phase ≡ PlainPhase.Committing) }
     requires next { job.old.place.next < 2 ^ 32 }
     ensures { (tx : SeenTx) (at : ℕ) → (seen_job job.old).doing ≡ Active tx → number ≡ at + 1
-        → (seen_job job.new ≡ behind_commit (seen_job job.old) tx) × (result ≡ entry_of tx at (Committed [])) }
+        → (seen_job job.new ≡ behind_commit (seen_job job.old) tx) × (result ≡ entry_of tx at (Committed tx.ends)) }
 {
     job.activity = Activity::Idle;
+    let Tx { calls, replies, late, .. } = &job.tx;
+    job.place.set_ends(calls.as_slice(), replies.as_slice(), late.ends());
     go_on(&mut job.place, &mut job.attempts);
     job.tx.renew();
     job.tx.close(alloc, number)

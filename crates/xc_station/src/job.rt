@@ -1,6 +1,6 @@
 ghost use Rattle.std.specs.Prelude.{◌≡◌};
 ghost use Rattle.xc_story.specs.Seen.{Ended};
-ghost use Rattle.xc_station.specs.Jobs.{doing_of, is_live, phase_stage, seen_job, stage_of};
+ghost use Rattle.xc_station.specs.Jobs.{doing_of, is_live, phase_stage, seen_job, seen_tx, stage_of};
 
 use crate::tx::Tx;
 use xc_data::{Ident, JobEnd, Turn};
@@ -35,7 +35,10 @@ pub struct Job {
 pub enum Stage {
     Idle,
     Running,
+    /// A late call has no end yet.
     Committing,
+    /// Every late call has its end.
+    Committed,
     /// A record has no end yet.
     Undoing,
     /// Every record has its end.
@@ -45,11 +48,16 @@ pub enum Stage {
 }
 
 fn phase_now(tx: &Tx) -> Stage
-    ensures { result ≡ phase_stage tx.now.undo.pending tx.now.phase }
+    ensures { result ≡ phase_stage (seen_tx tx.now) tx.now.phase }
 {
     match tx.phase {
         Phase::Running => Stage::Running,
-        Phase::Committing => Stage::Committing,
+        Phase::Committing => {
+            if tx.late.has_left() {
+                return Stage::Committing;
+            }
+            Stage::Committed
+        }
         Phase::Undoing(_) => {
             if tx.undo.is_undone() {
                 return Stage::Undone;

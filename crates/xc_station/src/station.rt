@@ -18,7 +18,7 @@ ghost use Rattle.xc_station.specs.Stations.{IsNextOf, KeepsOpening, NobodyLives,
 
 use crate::begin::begin;
 use crate::calls::Shared;
-use crate::close::{abort, commit, undo};
+use crate::close::{abort, commit, end_late, undo};
 use crate::job::{Activity, Job, Stage};
 use crate::running::run;
 use crate::start::{End, NotStarted, Opening};
@@ -153,9 +153,19 @@ impl<H: Host> Station<H> {
         )
     }
 
-    // The entry of a committing transaction, into the room that was made at its begin. Its claims end.
+    // Does the next late call of a committing transaction, under its claims.
     fn committing(&mut self, at: usize) -> Turn
         requires { IsStage self.old.jobs at PlainStage.Committing }
+        ensures same { KeepsOpening self.old self.new }
+        ensures row { IsTurn (setting_of H.model self.old) at (now_of H.model self.old) result (now_of H.model self.new) }
+    {
+        end_late(&mut self.shared.host, &mut self.jobs[at]);
+        Turn::Went
+    }
+
+    // The entry of a committed transaction, into the room that was made at its begin. Its claims end.
+    fn committed(&mut self, at: usize) -> Turn
+        requires { IsStage self.old.jobs at PlainStage.Committed }
         ensures same { KeepsOpening self.old self.new }
         ensures row { IsTurn (setting_of H.model self.old) at (now_of H.model self.old) result (now_of H.model self.new) }
     {
@@ -217,7 +227,8 @@ impl<H: Host> Station<H> {
     /// | running, the commit is asked | its stores are written | Went |
     /// | running, an abort is asked | it undoes | Went |
     /// | running, no memory | nothing is noted, but what a call had done at the host is recorded; it undoes | NoMemory |
-    /// | committing | the Committed entry; its claims end | Went |
+    /// | committing, a late call has no end | the first such call is done | Went |
+    /// | committing, all have one | the Committed entry, with its slots set; its claims end | Went |
     /// | undoing, a record has no end | the newest such record is tried | Went |
     /// | undoing, all have one | the Aborted entry; its claims end | Went |
     /// | starved by want of memory | it ends | Ended(NoMemory) |
@@ -233,6 +244,7 @@ impl<H: Host> Station<H> {
             Stage::Idle => self.idle(at),
             Stage::Running => self.running(at),
             Stage::Committing => self.committing(at),
+            Stage::Committed => self.committed(at),
             Stage::Undoing => self.undoing(at),
             Stage::Undone => self.undone(at),
             Stage::Starved => self.starved(at),
@@ -249,7 +261,7 @@ fn opened_jobs(alloc: Global, script: &Script) -> Result<Vec<Job>, NoMemory>
     for block in script.plain().jobs.as_slice() {
         jobs.push(Job {
             block: *block,
-            place: JobState::new(alloc, script, *block),
+            place: JobState::new(alloc, script, *block)?,
             attempts: None,
             activity: Activity::Idle,
             tx: Tx::new(alloc),

@@ -1,6 +1,8 @@
 ghost use Rattle.std.specs.Prelude.{◌≡◌, ◌≤◌, ◌+◌, ◌∷◌, ◌++◌, [], ℕ, length, true, false, OnOk};
 ghost use Rattle.xc_data.specs.Claims.{holding};
+ghost use Rattle.xc_compensate.specs.Records.{Records};
 ghost use Rattle.xc_data.specs.declared.entry.Cause.{Cause as PlainCause};
+ghost use Rattle.xc_deferred.specs.Queue.{Queue};
 ghost use Rattle.xc_world.specs.World.{beginning, no_handles};
 ghost use Rattle.xc_story.specs.declared.phase.Phase.TheVariants as PlainPhase;
 ghost use Rattle.xc_story.specs.Rows.{entry_of, new_tx};
@@ -10,7 +12,8 @@ ghost use Rattle.xc_station.specs.Acting.{HasRoom, HasNoteRoom};
 use std::alloc::Global;
 use std::mem;
 use xc_compensate::Stack;
-use xc_data::{Call, Claim, Entry, LateList, NoMemory, Outcome, Private, Reply, Report};
+use xc_data::{Call, Claim, Entry, NoMemory, Outcome, Private, Reply, Report};
+use xc_deferred::Late;
 use xc_journal::Roomy;
 use xc_story::Phase;
 use xc_txmem::WriteSet;
@@ -34,6 +37,8 @@ pub struct Tx {
     pub writes: WriteSet,
     /// What its calls did at the host.
     pub undo: Stack,
+    /// What it keeps for its commit, and how that ended.
+    pub late: Late,
     pub calls: Roomy<Call>,
     pub replies: Roomy<Reply>,
     pub held: Holding,
@@ -54,6 +59,7 @@ impl Tx {
             begun: Private::new(),
             writes: WriteSet::new(alloc),
             undo: Stack::new(alloc),
+            late: Late::new(alloc),
             calls: Roomy::new(alloc),
             replies: Roomy::new(alloc),
             held: Holding::new(alloc),
@@ -76,6 +82,7 @@ impl Tx {
         self.changed = false;
         self.writes = WriteSet::new(alloc);
         self.undo = Stack::new(alloc);
+        self.late = Late::new(alloc);
         self.calls = Roomy::new(alloc);
         self.replies = Roomy::new(alloc);
         self.held = Holding::new(alloc);
@@ -135,24 +142,34 @@ impl Tx {
         self.replies.enter(reply);
     }
 
-    /// The entry of the job of this number: a commit's, or that of an abort whose records have their ends. It takes no
-    /// memory.
-    pub fn close(&mut self, alloc: Global, job: u32) -> Entry
+    // The outcome, with the ends of its records or of its late calls.
+    fn outcome(&mut self, alloc: Global) -> Outcome
         requires { (c : PlainCause) → self.old.phase ≡ PlainPhase.Undoing c → self.old.undo.pending ≡ [] }
-        ensures entry { (at : ℕ) → job ≡ at + 1
-            → result ≡ entry_of (seen_tx self.old) at (outcome_in self.old.phase self.old.undo.ended) }
-        ensures begun { begun_of self.new ≡ begun_of self.old }
+        ensures outcome { result ≡ outcome_in self.old.phase self.old.undo.ended self.old.late.ends }
+        ensures same { (undo : Records) (late : Queue) → record self.new { undo = undo; late = late } ≡ record self.old { undo = undo; late = late } }
     {
         let undo = mem::replace(&mut self.undo, Stack::new(alloc));
-        let outcome = match self.phase {
+        let late = mem::replace(&mut self.late, Late::new(alloc));
+        match self.phase {
             Phase::Undoing(cause) => Outcome::Aborted(Report {
                 cause,
                 records: undo.records(),
             }),
             _ => Outcome::Committed {
-                late: LateList::new(alloc),
+                late: late.into_ends(),
             },
-        };
+        }
+    }
+
+    /// The entry of the job of this number: a commit's, or that of an abort whose records have their ends. It takes no
+    /// memory.
+    pub fn close(&mut self, alloc: Global, job: u32) -> Entry
+        requires { (c : PlainCause) → self.old.phase ≡ PlainPhase.Undoing c → self.old.undo.pending ≡ [] }
+        ensures entry { (at : ℕ) → job ≡ at + 1
+            → result ≡ entry_of (seen_tx self.old) at (outcome_in self.old.phase self.old.undo.ended self.old.late.ends) }
+        ensures begun { begun_of self.new ≡ begun_of self.old }
+    {
+        let outcome = self.outcome(alloc);
         self.writes = WriteSet::new(alloc);
         Entry {
             tx: self.number,

@@ -15,6 +15,6 @@ returns c tx at is number =
     let phase : tx.phase ≡ Committing = subst (λ (t : SeenTx). t.phase ≡ Committing) as-required required.2 in (
       commit_behind (seen_job c.args.job.now) _ _ _ _ _ same (c.close.ensures.begun ∙ ap begun_of c.renew.ensures)
           c.go_on.ensures.place c.go_on.ensures.attempts,
-      c.close.ensures.entry at number ∙ ap (λ (t : Tx). entry_of (seen_tx t) at (outcome_in t.phase t.undo.ended)) c.renew.ensures
+      c.close.ensures.entry at number ∙ ap (λ (t : Tx). entry_of (seen_tx t) at (outcome_in t.phase t.undo.ended t.late.ends)) c.renew.ensures
           ∙ commit_entry (seen_tx c.args.job.now.tx) tx at same phase,
     )

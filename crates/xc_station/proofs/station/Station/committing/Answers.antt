@@ -1,26 +1,21 @@
-use Rattle.std.proofs.Common.{◌≡◌, refl, sym, subst, ap, ◌+◌}
+use Rattle.std.proofs.Common.{refl, sym, subst, ap}
 use Rattle.std.specs.Prelude.{slice_set}
-use Rattle.xc_story.specs.Seen.{active_of}
 use Rattle.xc_story.specs.Setting.{setting}
 use Rattle.xc_story.specs.Rows.{IsTurn}
-use Rattle.std.specs.declared.option.Option.TheVariants.{None}
-use Rattle.xc_data.specs.declared.object.Object.{Object}
-use Rattle.xc_data.specs.declared.entry.Entry.{Entry}
-use Rattle.xc_wordlocks.specs.Table.{KeepsOthers, mode_of}
 use Rattle.xc_station.specs.declared.calls.Shared.{Shared}
 use Rattle.xc_data.specs.declared.entry.Turn.TheVariants as turn
 use Rattle.xc_station.specs.declared.job.Stage.TheVariants as PlainStage
 use Rattle.xc_station.specs.Jobs.{IsStage, doing_of}
 use Rattle.xc_station.specs.Stations.{moment, now_of, setting_of}
-use Rattle.xc_station.proofs.Ready.{fits_next, has_room}
-use Rattle.xc_station.proofs.RoomsKept.{rooms_entered}
+use Rattle.xc_station.proofs.Ready.{may_end_late}
+use Rattle.xc_station.proofs.RoomsKept.{rooms_going}
 use Rattle.xc_station.proofs.Stages.{lent, committing_stage}
 use Rattle.xc_station.proofs.Steady.{steady_kept}
 use Rattle.xc_station.proofs.TurnRows.{committing_turned}
 use Rattle.xc_station.proofs.station.Station.committing.Goals as goal
 
-pub commit-entry-requires-clause-committing : goal.commit-entry-requires-clause-committing
-commit-entry-requires-clause-committing g c =
+pub end_late-requires-clause-committing : goal.end_late-requires-clause-committing
+end_late-requires-clause-committing g c =
     let was = c.index_mut.result.now in
     let station = c.self.inside in
     let model = g.H.Host.model in
@@ -28,47 +23,8 @@ commit-entry-requires-clause-committing g c =
     let s = setting station.opening.script station.rules model.tells in
     let is = lent station.jobs.items at PlainStage.Committing was (subst (λ v. IsStage v.jobs at PlainStage.Committing) (sym c.self.view_is) c.requires)
     c.index_mut.ensures.value in
-    let mine = committing_stage (doing_of was) is.stage in
-    (mine.tx, mine.doing, mine.phase)
-
-pub commit-entry-requires-clause-next : goal.commit-entry-requires-clause-next
-commit-entry-requires-clause-next g c =
-    let was = c.index_mut.result.now in
-    let station = c.self.inside in
-    let model = g.H.Host.model in
-    let at = c.args.at in
-    let s = setting station.opening.script station.rules model.tells in
-    let is = lent station.jobs.items at PlainStage.Committing was (subst (λ v. IsStage v.jobs at PlainStage.Committing) (sym c.self.view_is) c.requires)
-    c.index_mut.ensures.value in
-    let mine = committing_stage (doing_of was) is.stage in
-    fits_next model station.shared station.journal.items station.jobs.items at was station.opening.script station.rules station.opening.faults station.active
-    station.journal.spare station.lines c.self.invariant.0 c.self.invariant.1 PlainStage.Committing mine.tx is mine.doing
-
-pub enter-requires : goal.enter-requires
-enter-requires g c =
-    let was = c.index_mut.result.now in
-    let station = c.self.inside in
-    let model = g.H.Host.model in
-    let at = c.args.at in
-    let s = setting station.opening.script station.rules model.tells in
-    let is = lent station.jobs.items at PlainStage.Committing was (subst (λ v. IsStage v.jobs at PlainStage.Committing) (sym c.self.view_is) c.requires)
-    c.index_mut.ensures.value in
-    let mine = committing_stage (doing_of was) is.stage in
-    (has_room model station.shared station.journal.items station.jobs.items at was station.opening.script station.rules station.opening.faults station.active
-    station.journal.spare station.lines c.self.invariant.0 c.self.invariant.1 PlainStage.Committing mine.tx is mine.doing).1
-
-pub overflow_sub-self : goal.overflow_sub-self
-overflow_sub-self g c =
-    let was = c.index_mut.result.now in
-    let station = c.self.inside in
-    let model = g.H.Host.model in
-    let at = c.args.at in
-    let s = setting station.opening.script station.rules model.tells in
-    let is = lent station.jobs.items at PlainStage.Committing was (subst (λ v. IsStage v.jobs at PlainStage.Committing) (sym c.self.view_is) c.requires)
-    c.index_mut.ensures.value in
-    let mine = committing_stage (doing_of was) is.stage in
-    (has_room model station.shared station.journal.items station.jobs.items at was station.opening.script station.rules station.opening.faults station.active
-    station.journal.spare station.lines c.self.invariant.0 c.self.invariant.1 PlainStage.Committing mine.tx is mine.doing).0
+    may_end_late model station.shared station.journal.items station.jobs.items at was station.opening.script station.rules station.opening.faults station.active
+    station.journal.spare station.lines c.self.invariant.0 c.self.invariant.1 is
 
 pub invariant_of-self : goal.invariant_of-self
 invariant_of-self g c =
@@ -79,23 +35,15 @@ invariant_of-self g c =
     let s = setting station.opening.script station.rules model.tells in
     let is = lent station.jobs.items at PlainStage.Committing was (subst (λ v. IsStage v.jobs at PlainStage.Committing) (sym c.self.view_is) c.requires)
     c.index_mut.ensures.value in
-    let shared' : Shared g.row.H.Denot = record { host = station.shared.host; words = station.shared.words; claims = c.release_all.new.self } in
-    let job = c.commit-entry.new.job in
-    let turned = committing_turned model station.shared station.journal.items station.jobs.items at was s shared' c.enter.new.self.items
-    c.commit-entry.result job (at + 1)
-    is c.commit-entry.ensures refl (refl, refl) c.enter.ensures.items in
+    let shared' : Shared g.row.H.Denot = record { host = c.end_late.new.host; words = station.shared.words; claims = station.shared.claims } in
+    let job = c.end_late.new.job in
+    let turned = committing_turned model station.shared station.journal.items station.jobs.items at was s shared' job (λ tells. tells) is
+    c.end_late.ensures refl in
     let mine = committing_stage (doing_of was) is.stage in
-    let gave = c.commit-entry.ensures mine.tx at mine.doing refl in
-    let number = ap (λ (e : Entry). e.tx) gave.1 in
-    let some = has_room model station.shared station.journal.items station.jobs.items at was station.opening.script station.rules station.opening.faults
-    station.active
-    station.journal.spare station.lines c.self.invariant.0 c.self.invariant.1 PlainStage.Committing mine.tx is mine.doing in (
+    let gave = c.end_late.ensures mine.tx mine.next mine.later mine.doing mine.left in (
       steady_kept s station.opening.faults at _ _ turn.Went c.self.invariant.0 turned,
-      rooms_entered model station.shared station.journal.items station.jobs.items at was job station.active station.journal.spare station.lines is.stands
-          c.self.invariant.1 s shared' c.enter.new.self.items c.enter.new.self.spare mine.tx c.self.invariant.0.kept.told mine.doing
-          (ap active_of gave.0)
-          (subst (λ n. (o : Object) → mode_of c.release_all.new.self n o ≡ None) number c.release_all.ensures.released)
-          (subst (λ n. KeepsOthers n station.shared.claims c.release_all.new.self) number c.release_all.ensures.others) some.0 c.enter.ensures.spare,
+      rooms_going model station.shared station.journal.items station.jobs.items at was job station.active station.journal.spare station.lines is.stands
+          c.self.invariant.1 shared' mine.tx (record mine.tx { late = gave.0.calls; ends = gave.0.ends }) refl mine.doing (ap (λ j. j.doing) gave.1) refl refl,
     )
 
 pub returns-clause-row : goal.returns-clause-row
@@ -107,10 +55,9 @@ returns-clause-row g c =
     let s = setting station.opening.script station.rules model.tells in
     let is = lent station.jobs.items at PlainStage.Committing was (subst (λ v. IsStage v.jobs at PlainStage.Committing) (sym c.self.view_is) c.requires)
     c.index_mut.ensures.value in
-    let shared' : Shared g.row.H.Denot = record { host = station.shared.host; words = station.shared.words; claims = c.release_all.new.self } in
-    let job = c.commit-entry.new.job in
-    let turned = committing_turned model station.shared station.journal.items station.jobs.items at was s shared' c.enter.new.self.items
-    c.commit-entry.result job (at + 1)
-    is c.commit-entry.ensures refl (refl, refl) c.enter.ensures.items in
-    subst (λ v. IsTurn (setting_of model v) at (now_of model v) turn.Went (moment model shared' c.enter.new.self.items (slice_set station.jobs.items at job)))
+    let shared' : Shared g.row.H.Denot = record { host = c.end_late.new.host; words = station.shared.words; claims = station.shared.claims } in
+    let job = c.end_late.new.job in
+    let turned = committing_turned model station.shared station.journal.items station.jobs.items at was s shared' job (λ tells. tells) is
+    c.end_late.ensures refl in
+    subst (λ v. IsTurn (setting_of model v) at (now_of model v) turn.Went (moment model shared' station.journal.items (slice_set station.jobs.items at job)))
     c.self.view_is turned

@@ -29,6 +29,17 @@ committing-requires g c =
           ∙ c.in-Committing.is,
     )
 
+pub committed-requires : goal.committed-requires
+committed-requires g c =
+    let jobs = c.self.inside.jobs.items in
+    let live = live_shown jobs c.args.job c.index.result.now (subst (λ v. live_at v.jobs c.args.job ≡ true) (sym c.self.view_is) c.requires) c.index.ensures in
+    subst (λ v. IsStage v.jobs (c.args.job - 1) PlainStage.Committed) c.self.view_is (
+      c.index.result.now,
+      live.stands,
+      sym c.stage.ensures
+          ∙ c.in-Committed.is,
+    )
+
 pub undoing-requires : goal.undoing-requires
 undoing-requires g c =
     let jobs = c.self.inside.jobs.items in
@@ -64,6 +75,10 @@ returns-in-Running-clause-falls g c = fewer_left g.H.Host.model c.args.self.now 
 pub returns-in-Committing-clause-falls : goal.returns-in-Committing-clause-falls
 returns-in-Committing-clause-falls g c = fewer_left g.H.Host.model c.args.self.now c.committing.new.self
     (c.args.job - 1) _ c.committing.ensures.same c.committing.ensures.row
+
+pub returns-in-Committed-clause-falls : goal.returns-in-Committed-clause-falls
+returns-in-Committed-clause-falls g c = fewer_left g.H.Host.model c.args.self.now c.committed.new.self
+    (c.args.job - 1) _ c.committed.ensures.same c.committed.ensures.row
 
 pub returns-in-Undoing-clause-falls : goal.returns-in-Undoing-clause-falls
 returns-in-Undoing-clause-falls g c = fewer_left g.H.Host.model c.args.self.now c.undoing.new.self

@@ -8,7 +8,7 @@ use Rattle.xc_station.specs.declared.job.Stage.TheVariants as PlainStage
 use Rattle.xc_station.specs.Jobs.{IsStage, doing_of}
 use Rattle.xc_station.specs.Stations.{moment, now_of, setting_of}
 use Rattle.xc_station.proofs.Ready.{may_undo}
-use Rattle.xc_station.proofs.RoomsKept.{rooms_undoing}
+use Rattle.xc_station.proofs.RoomsKept.{rooms_going}
 use Rattle.xc_station.proofs.Stages.{lent, undoing_stage}
 use Rattle.xc_station.proofs.Steady.{steady_kept}
 use Rattle.xc_station.proofs.TurnRows.{undoing_turned}
@@ -42,7 +42,7 @@ invariant_of-self g c =
     let back = undoing_stage (doing_of was) is.stage in
     let gave = c.undo.ensures back.tx back.doing in (
       steady_kept s station.opening.faults at _ _ turn.Went c.self.invariant.0 turned,
-      rooms_undoing model station.shared station.journal.items station.jobs.items at was job station.active station.journal.spare station.lines is.stands
+      rooms_going model station.shared station.journal.items station.jobs.items at was job station.active station.journal.spare station.lines is.stands
           c.self.invariant.1 shared' back.tx (record back.tx { undo = gave.0 }) refl back.doing (ap (λ j. j.doing) gave.1) refl refl,
     )
 

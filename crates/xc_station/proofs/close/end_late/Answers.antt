@@ -1,0 +1,29 @@
+use Rattle.std.proofs.Common.{◌≡◌, ◌<◌, ◌∷◌, List, IsTrue, length, ap, sym, ◌∙◌, subst}
+use Rattle.xc_data.specs.declared.call.LateCall.{LateCall}
+use Rattle.xc_deferred.specs.Does.{EndsNext, IsThereFor}
+use Rattle.xc_deferred.specs.Queue.{Queue}
+use Rattle.xc_story.specs.Seen.{SeenTx, late_left}
+use Rattle.xc_station.proofs.Closed.{its_active, late_behind}
+use Rattle.xc_station.proofs.close.end_late.Goals as goal
+
+pub do_one-requires-clause-left : goal.do_one-requires-clause-left
+do_one-requires-clause-left g c =
+    let required = c.requires.committing in
+    subst (λ (t : SeenTx). 0 < length (late_left t)) (sym (its_active c.args.job.now required.0 required.1)) required.2
+
+pub do_one-requires-clause-there : goal.do_one-requires-clause-there
+do_one-requires-clause-there g c =
+    let required = c.requires.committing in
+    subst (λ (t : SeenTx). IsTrue g.H.Host.model.tells → (call : LateCall) (calls : List LateCall) → late_left t ≡ call ∷ calls
+    → IsThereFor (g.H.Host.model.contents c.args.host.now) call) (sym (its_active c.args.job.now required.0 required.1)) required.3
+
+pub returns : goal.returns
+returns g c tx call calls is left =
+    let job = c.args.job.now in
+    let same = its_active job tx is in
+    let queue : SeenTx → Queue = λ t. record { calls = t.late; ends = t.ends } in (
+      c.do_one.new.self,
+      late_behind job tx c.do_one.new.self is,
+      subst (λ (t : SeenTx). EndsNext g.H.Host.model call (record { host = c.args.host.now; late = queue t })
+          (record { host = c.do_one.new.host; late = c.do_one.new.self })) same (c.do_one.ensures call calls (ap late_left same ∙ left)),
+    )
