@@ -135,6 +135,13 @@ fn add_data(names: &mut Names, items: &[Item]) -> Result<(), NoMemory>
     Ok(())
 }
 
+fn add_stored(names: &mut Names, at: &Term, value: &Expression) -> Result<(), NoMemory>
+    ensures { OnOk result (names.new ≡ with_expression (with_term names.old at.now) value.now) }
+{
+    add_term(names, at)?;
+    add_expression(names, value)
+}
+
 fn add_term_into(names: &mut Names, term: &Term, into: &Option<Ident>) -> Result<(), NoMemory>
     ensures { OnOk result (names.new ≡ with_target (with_term names.old term.now) into.now) }
 {
@@ -156,6 +163,13 @@ fn add_handle_into(names: &mut Names, handle: &Ident, into: &Option<Ident>) -> R
     add_target(names, into)
 }
 
+fn add_synced(names: &mut Names, handle: &Ident, slot: &Option<Ident>) -> Result<(), NoMemory>
+    ensures { OnOk result (names.new ≡ with_ending (with_variable names.old handle.now) slot.now) }
+{
+    add_variable(names, *handle)?;
+    add_ending(names, slot)
+}
+
 fn add_written(names: &mut Names, handle: &Ident, data: &Data) -> Result<(), NoMemory>
     ensures { OnOk result (names.new ≡ with_data (with_variable names.old handle.now) data.now) }
 {
@@ -169,12 +183,8 @@ pub fn add_statement(names: &mut Names, statement: &Statement) -> Result<(), NoM
 {
     match statement {
         Statement::Load { at, into } => add_term_into(names, at, into),
-        Statement::Store { at, value } => {
-            add_term(names, at)?;
-            add_expression(names, value)
-        }
-        Statement::Open { into, .. } => add_target(names, into),
-        Statement::Create { into, .. } => add_target(names, into),
+        Statement::Store { at, value } => add_stored(names, at, value),
+        Statement::Open { into, .. } | Statement::Create { into, .. } => add_target(names, into),
         Statement::Read { handle, n, into } => {
             add_variable(names, *handle)?;
             add_term_into(names, n, into)
@@ -186,10 +196,7 @@ pub fn add_statement(names: &mut Names, statement: &Statement) -> Result<(), NoM
         Statement::Length { handle, into } => add_handle_into(names, handle, into),
         Statement::Close { handle } => add_variable(names, *handle),
         Statement::Unlink { slot, .. } => add_ending(names, slot),
-        Statement::Sync { handle, slot } => {
-            add_variable(names, *handle)?;
-            add_ending(names, slot)
-        }
+        Statement::Sync { handle, slot } => add_synced(names, handle, slot),
         Statement::Let { into, value } => {
             add_variable(names, *into)?;
             add_expression(names, value)
