@@ -19,6 +19,7 @@ use Rattle.xc_script.specs.Ask.{bound, target_of, stored_after, refuses, handle_
 use Rattle.xc_script.specs.declared.ask.Ask.{Ask}
 use Rattle.xc_script.specs.declared.ask.Ask.TheVariants as ask
 use Rattle.xc_story.specs.Rows.{is_built}
+use Rattle.xc_story.proofs.AskedCalls.{asked_built}
 use Rattle.xc_story.specs.Truth.{AsksEach}
 use Rattle.xc_text.specs.declared.script.Statement.{Statement}
 use Rattle.xc_text.specs.declared.script.Statement.TheVariants as statement
@@ -81,32 +82,12 @@ none_replied w me tx more (ask.Call c) e = cc
 none_replied w me tx more _ e = refl
 
 -- ---- no call of a script starts a job
-abbrev asks_built : Ask → Bool
-asks_built (ask.Call c) = is_built c
-asks_built _ = true
-
-built_unless_over : (over : Bool) (c : Call) → is_built c ≡ true → asks_built (if over then ask.Abort else ask.Call c) ≡ true
-built_unless_over true c built = refl
-built_unless_over false c built = built
-
-statement_built : (v : Variables) (stored : ℕ) (s : Statement) → asks_built (ask_of v stored s) ≡ true
-statement_built v stored (statement.Overwrite h items) =
-    built_unless_over (is_over stored (length (data_of v items))) (call.XWriteOvr (handle_value v h) (data_of v items)) refl
-statement_built v stored (statement.Append h items) =
-    built_unless_over (is_over stored (length (data_of v items))) (call.XWriteSeq (handle_value v h) (data_of v items)) refl
-statement_built v stored _ = refl
-
-body_built : (v : Variables) (stored : ℕ) (left : List Statement) → asks_built (asks_of v stored left) ≡ true
-body_built v stored [] = refl
-body_built v stored (s ∷ rest) = statement_built v stored s
-
 -- a body's calls are those that scripts have so far
 pub each_built : (walk : Walk) (calls : List Call) (replies : List Reply) → AsksEach walk calls replies → list_all is_built calls ≡ true
 each_built walk [] replies asked = refl
 each_built walk (c ∷ calls) [] asked = absurd asked
 each_built walk (c ∷ calls) (r ∷ replies) asked =
-    let one : is_built c ≡ true = sym (ap asks_built asked.0) ∙ body_built walk.variables walk.stored walk.left in
-    and_from (is_built c) (list_all is_built calls) one (each_built (answered walk r) calls replies asked.1)
+    and_from (is_built c) (list_all is_built calls) (asked_built walk c asked.0) (each_built (answered walk r) calls replies asked.1)
 
 -- ---- calls with their replies
 -- the replies of a body that goes on are those so far, and those of the body behind
