@@ -10,7 +10,7 @@ use Rattle.xc_data.specs.declared.entry.JobLine.{JobLine}
 use Rattle.xc_settings.specs.declared.chosen.Chosen.{Chosen}
 use Rattle.xc_settings.specs.Options.{settings_of}
 use Rattle.xc_story.specs.Setting.{Setting, setting}
-use Rattle.xc_story.specs.Ending.{IsEnd, AreEnds, is_done, all_done}
+use Rattle.xc_story.specs.Ending.{IsEnd, AreEnds, is_done, all_done, some_late_starved}
 use Rattle.xc_story.specs.Progress.{Following, progress_of}
 use Rattle.std.specs.Io.KnownBytes.{Consumes, IsAtEnd}
 use Rattle.xc_station.specs.declared.start.End.{End}
@@ -23,7 +23,7 @@ use Rattle.xc_edge.specs.Streams.{AppendsWhole}
 use Rattle.xc_edge.specs.Told.{Told}
 use Rattle.xc_host.specs.Model.{HostModel}
 use Rattle.xc_app.specs.Headline.{IsRead, IsRefusal, is_refused_by, IsUnscripted, AreScript, IsCaused, IsDone, IsDue, IsRun, IsDoneWith, IsSaidPlainly}
-use Rattle.xc_app.specs.Headline.{is_memory, is_starved, is_given_up, gives_up}
+use Rattle.xc_app.specs.Headline.{is_memory, is_starved, starves, is_given_up, gives_up}
 use Rattle.xc_app.specs.Outcomes.{IsOfBytes}
 
 take_all : (n : ℕ) (bytes : List ℕ) → length bytes ≤ n → take n bytes ≡ bytes
@@ -148,6 +148,11 @@ all_done_of s entries (f ∷ jobs) (line ∷ lines) h e d =
     let left = or_false (gives_up line) (list_any gives_up lines) d in
     ap (λ b. b && all_done lines) (done_end s entries f line.end h.0.end parts.0 left.0) ∙ all_done_of s entries jobs lines h.1 parts.1 left.1
 
+-- where memory wasn't wanting, no job starved, and no late call did
+none_starved : {H : Type 0} (end : End H) → starves end ≡ false
+    → (list_any is_starved end.jobs ≡ false) × (some_late_starved end.journal.items ≡ false)
+none_starved end h = or_false (list_any is_starved end.jobs) (some_late_starved end.journal.items) h
+
 -- a run whose whole text is due, without a job that starved or gave up, is done
 pub done_with : {H : Type 0} (model : HostModel H) (words : List (List ℕ)) (old new : Told) (host : H) (s : Status) (o : Option (End H)) (due : List ℕ)
     → IsDue s o due → IfSome o (IsRun model words old new host) → IsDoneWith s o
@@ -156,13 +161,13 @@ done_with model words old new host status.Done (Some end) due h (chosen, chose, 
     let whole = run.whole in
     let s = setting end.opening.script chosen.rules model.tells in
     whole.complete
-    (all_done_of s (length end.journal.items) (progress_of end.opening.script end.journal.items).jobs end.jobs whole.ends h.1 h.3)
+    (all_done_of s (length end.journal.items) (progress_of end.opening.script end.journal.items).jobs end.jobs whole.ends (none_starved end h.1).0 h.3)
 done_with model words old new host status.Left None due h run = h
 done_with model words old new host status.Left (Some end) due h (chosen, chose, bytes, came, (read, run)) = λ none.
     let whole = run.whole in
     let s = setting end.opening.script chosen.rules model.tells in
     whole.complete
-    (all_done_of s (length end.journal.items) (progress_of end.opening.script end.journal.items).jobs end.jobs whole.ends h.1 none)
+    (all_done_of s (length end.journal.items) (progress_of end.opening.script end.journal.items).jobs end.jobs whole.ends (none_starved end h.1).0 none)
 done_with model words old new host status.GaveUp o due h run = tt
 done_with model words old new host (status.Refused line why) o due h run = tt
 done_with model words old new host status.Usage o due h run = tt
@@ -184,8 +189,9 @@ plainly model words old new host status.Done (Some end) due before after h (by, 
     let one : by ≡ chosen = same_choice by chosen (settings_of words) chose again in
     let whole = run.whole in
     let s = setting end.opening.script by.rules model.tells in
-    let done = all_done_of s (length end.journal.items) (progress_of end.opening.script end.journal.items).jobs end.jobs whole.ends h.1 h.3 in
-    let plain = run.plain (ap (λ (c : Chosen). c.schedule) one ∙ none) tells faults done in
+    let fed = none_starved end h.1 in
+    let done = all_done_of s (length end.journal.items) (progress_of end.opening.script end.journal.items).jobs end.jobs whole.ends fed.0 h.3 in
+    let plain = run.plain (ap (λ (c : Chosen). c.schedule) one ∙ none) tells faults fed.1 done in
     subst (AppendsWhole before after) (h.0 ∙ plain) wrote
 plainly model words old new host (status.Refused line why) o due before after h run wrote tells is = cc is
 plainly model words old new host status.Usage o due before after h run wrote tells is = cc is

@@ -1,5 +1,5 @@
 -- What a run promises, in the words of the plain machine alone.
-use Rattle.std.specs.Prelude.{◌≡◌, ℕ, ◌⊎◌, ◌&&◌, Bool, true, false, not, nat_lt, List, take, sum_by, IsSome, IsTrue, Option, Ok, Err}
+use Rattle.std.specs.Prelude.{◌≡◌, ℕ, ◌⊎◌, ◌&&◌, ◌||◌, Bool, true, false, not, nat_lt, List, take, sum_by, IsSome, IsTrue, Option, Ok, Err}
 use Rattle.std.specs.declared.option.Option.TheVariants.{None, Some}
 use Rattle.std.specs.List.{list_any}
 use Rattle.xc_data.specs.declared.entry.JobEnd.{JobEnd}
@@ -16,7 +16,7 @@ use Rattle.xc_print.specs.Totals.{totals_of}
 use Rattle.xc_station.specs.declared.start.End.{End}
 use Rattle.xc_settings.specs.declared.chosen.Chosen.{Chosen}
 use Rattle.xc_settings.specs.Options.{settings_of}
-use Rattle.xc_story.specs.Ending.{Final, IsTrueEnd, IsComplete, all_done}
+use Rattle.xc_story.specs.Ending.{Final, IsTrueEnd, IsComplete, all_done, some_late_starved}
 use Rattle.xc_story.specs.Setting.{setting}
 use Rattle.xc_story.specs.Truth.{IsSerial}
 use Rattle.xc_text.specs.declared.why.Why.{Why}
@@ -71,9 +71,10 @@ pub record IsRunOver {H : Type 0} (model : HostModel H) (chosen : Chosen) (host 
   pub serial : chosen.schedule ≡ None → IsSerial end.journal.items
   -- the host's count rose by the recorded faults, and stayed where none is recorded
   pub counted : CountsFaults (sum_by entry_faults end.journal.items) (model.fault_count host) (model.fault_count end.host)
-  -- with no schedule, where the host tells, no fault is recorded and each job was done, the text is that of the script alone
-  pub plain : chosen.schedule ≡ None → IsTrue model.tells → sum_by entry_faults end.journal.items ≡ 0 → all_done end.jobs ≡ true
-      → end_text end ≡ plain_text end.opening.script
+  -- with no schedule, where the host tells, no fault is recorded, no late call wanted memory and each job was done, the text
+  -- is that of the script alone
+  pub plain : chosen.schedule ≡ None → IsTrue model.tells → sum_by entry_faults end.journal.items ≡ 0
+      → some_late_starved end.journal.items ≡ false → all_done end.jobs ≡ true → end_text end ≡ plain_text end.opening.script
 
 -- the bytes are a script, and this is the end of its run
 abbrev pub IsRunOf : {H : Type 0} → HostModel H → List ℕ → Chosen → H → End H → Type 0
@@ -101,9 +102,9 @@ is_memory _ = false
 abbrev pub is_starved : JobLine → Bool
 is_starved line = is_memory line.end
 
--- some job ended for want of memory
+-- some job ended for want of memory, or some late call did
 abbrev pub starves : {H : Type 0} → End H → Bool
-starves end = list_any is_starved end.jobs
+starves end = list_any is_starved end.jobs || some_late_starved end.journal.items
 
 -- a job gave up, or found the journal full
 abbrev pub is_given_up : JobEnd → Bool

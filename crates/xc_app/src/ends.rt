@@ -1,8 +1,10 @@
 ghost use Rattle.std.specs.Prelude.{◌≡◌, ◌≤◌, length, if◌then◌else◌};
+ghost use Rattle.std.specs.List.{list_any};
+ghost use Rattle.xc_story.specs.Ending.{is_memory_end, has_memory_end, some_late_starved};
 ghost use Rattle.xc_app.specs.Headline.{starves, is_starved, gave_up, gives_up, leaves_effects};
 
 use crate::Status;
-use xc_data::{JobEnd, JobLine};
+use xc_data::{Entry, JobEnd, JobLine, LateEnd, Outcome};
 use xc_print::Totals;
 use xc_station::End;
 
@@ -18,10 +20,37 @@ fn is_given_up(job: &JobLine) -> bool
     matches!(job.end, JobEnd::GaveUp(_) | JobEnd::JournalFull)
 }
 
+fn some_job_starved(jobs: &[JobLine]) -> bool
+    ensures { result ≡ list_any is_starved jobs.now }
+{
+    jobs.iter().any(|job| is_starved(job))
+}
+
+fn some_memory_end(ends: &[LateEnd]) -> bool
+    ensures { result ≡ list_any is_memory_end ends.now }
+{
+    ends.iter().any(|end| matches!(end, LateEnd::NoMemory(_)))
+}
+
+fn has_memory_end(entry: &Entry) -> bool
+    ensures { result ≡ has_memory_end entry.now.outcome }
+{
+    match &entry.outcome {
+        Outcome::Committed { late } => some_memory_end(late.as_slice()),
+        Outcome::Aborted(_) => false,
+    }
+}
+
+fn some_late_starved(entries: &[Entry]) -> bool
+    ensures { result ≡ some_late_starved entries.now }
+{
+    entries.iter().any(|entry| has_memory_end(entry))
+}
+
 fn starves<H>(end: &End<H>) -> bool
     ensures { result ≡ starves end.now }
 {
-    end.jobs.as_slice().iter().any(|job| is_starved(job))
+    some_job_starved(end.jobs.as_slice()) || some_late_starved(end.journal.as_slice())
 }
 
 fn gave_up<H>(end: &End<H>) -> bool

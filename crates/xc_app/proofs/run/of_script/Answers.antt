@@ -21,9 +21,9 @@ returns-in-Ok-clause-run g c =
       whole = search rules;
       serial = alone;
       counted = search rules;
-      plain = λ chose tells none done.
+      plain = λ chose tells none starved done.
           plain_end (setting left.opening.script c.args.chosen.now.rules model.tells) left.journal.items (final_of model left) (search rules) (alone chose)
-          tells c.requires.rules.1 none done;
+          tells c.requires.rules.1 none starved done;
     } in
     subst (λ (o : Option (End g.row.H.Denot)). IfSome o (λ end. (end.opening.script ≡ c.args.script) × IsRunOver model c.args.chosen.now c.args.host end))
     (sym c.of_end.ensures.end.0) (search rules, run)
