@@ -7,12 +7,19 @@ use crate::value::Variables;
 use crate::{Ask, JobState};
 use std::alloc::Global;
 use std::test::Fail;
-use xc_data::{Call, Chunk, Ident, Items, Name, NoMemory, Reply};
+use xc_data::{Call, Chunk, Ident, Items, LateEnd, Name, NoMemory, Reply};
 use xc_text::{Data, Item, Script, Statement, Term, parse};
 
 fn ident(name: &[u8]) -> Result<Ident, NoMemory> {
     match Ident::new(name) {
         Some(ident) => Ok(ident),
+        None => Err(NoMemory),
+    }
+}
+
+fn name(name: &[u8]) -> Result<Name, NoMemory> {
+    match Name::new(name) {
+        Some(name) => Ok(name),
         None => Err(NoMemory),
     }
 }
@@ -40,7 +47,7 @@ fn data(alloc: Global, texts: &[&[u8]]) -> Result<Data, NoMemory> {
 
 // A number n, the greatest one m, bytes b and a handle h; u is unset.
 fn variables(alloc: Global) -> Result<Variables, NoMemory> {
-    let mut variables = Variables::new(alloc);
+    let mut variables = Variables::nothing(alloc);
     bind(&mut variables, Some(ident(b"n")?), &Reply::Number(42))?;
     bind(&mut variables, Some(ident(b"m")?), &Reply::Number(u64::MAX))?;
     bind(&mut variables, Some(ident(b"b")?), &got(alloc, b"hi")?)?;
@@ -161,7 +168,7 @@ tx\nabort\ncommit\nend\n";
 // The handle of each overwrite that is asked, and whether a transaction is left then.
 fn handles(alloc: Global) -> Result<([Option<u16>; 3], bool), Fail> {
     let script = parse(alloc, OPENS.as_bytes())?;
-    let mut job = JobState::new(alloc, &script, ident(b"main")?);
+    let mut job = JobState::new(alloc, &script, ident(b"main")?)?;
     let back = play(&mut job, &script, &Reply::Made(3), true)?;
     let on = play(&mut job, &script, &Reply::Made(4), false)?;
     let unset = play(&mut job, &script, &Reply::NoName, false)?;
@@ -189,7 +196,7 @@ fn script_of(alloc: Global, lines: &str) -> Result<Script, Fail> {
 // What is asked behind these replies.
 fn asked(alloc: Global, lines: &str, replies: &[Reply]) -> Result<Ask, Fail> {
     let script = script_of(alloc, lines)?;
-    let mut job = JobState::new(alloc, &script, ident(b"main")?);
+    let mut job = JobState::new(alloc, &script, ident(b"main")?)?;
     for reply in replies {
         answer(&mut job, &script, reply)?;
     }
@@ -341,7 +348,7 @@ fn the_last_call_is_required(rt: HostRuntime) -> Result<(), Fail> {
 // What is asked first behind a transaction of these lines whose only call was refused.
 fn asked_next(alloc: Global, lines: &str, abort: bool) -> Result<Ask, Fail> {
     let script = script_of(alloc, lines)?;
-    let mut job = JobState::new(alloc, &script, ident(b"main")?);
+    let mut job = JobState::new(alloc, &script, ident(b"main")?)?;
     job.begin()?;
     answer(&mut job, &script, &Reply::BadWord)?;
     let _end = job.ask(&script)?;
@@ -359,5 +366,37 @@ fn the_next_transaction(rt: HostRuntime) -> Result<(), Fail> {
     assert_eq!(rt; asked_next(rt.alloc(), last, true)?, store(1, 0));
     let first = "let x 5\nload x -> x\nlet x x + 1\nabort if x = 1\nlet x 9\n";
     assert_eq!(rt; asked_next(rt.alloc(), first, true)?, store(1, 0));
+    Ok(())
+}
+
+// What `?s` counts as behind a commit of a sync and of an unlink into s, the first of which was kept, and which ended so.
+fn slot_behind(alloc: Global, first: Reply, ends: &[LateEnd]) -> Result<Ask, Fail> {
+    let script = script_of(alloc, "x_sync h slot s\nx_unlink a slot s\nlet x ?s\n")?;
+    let mut job = JobState::new(alloc, &script, ident(b"main")?)?;
+    let unlink = Call::XUnlink {
+        name: name(b"a")?,
+        slot: Some(ident(b"s")?),
+    };
+    let sync = Call::XSync {
+        h: 0,
+        slot: Some(ident(b"s")?),
+    };
+    job.set_ends(&[sync, unlink], &[first, Reply::Late], ends);
+    job.begin()?;
+    answer(&mut job, &script, &Reply::Late)?;
+    answer(&mut job, &script, &Reply::Late)?;
+    let _end = job.ask(&script)?;
+    job.pass();
+    Ok(job.ask(&script)?)
+}
+
+#[test]
+fn slots_take_the_ends_of_kept_calls(rt: HostRuntime) -> Result<(), Fail> {
+    let alloc = rt.alloc();
+    let (fault, absent) = (LateEnd::Fault(0), LateEnd::NoName);
+    assert_eq!(rt; slot_behind(alloc, Reply::Late, &[])?, store(1, 0));
+    assert_eq!(rt; slot_behind(alloc, Reply::Late, &[fault])?, store(1, 4));
+    assert_eq!(rt; slot_behind(alloc, Reply::Late, &[fault, absent])?, store(1, 2));
+    assert_eq!(rt; slot_behind(alloc, Reply::BadHandle, &[absent])?, store(1, 2));
     Ok(())
 }

@@ -29,7 +29,7 @@ use Rattle.xc_text.specs.Literals.{is_within, contents, only_literals}
 use Rattle.xc_text.specs.Said.{Said, opening}
 use Rattle.xc_text.specs.Sections.{block_in, transaction_in, is_outside}
 use Rattle.xc_text.specs.Scripts.{names_of, IsBlock, IsFileLine, IsOneCall, IsScript, at_line, prologue_of, script_of, closed, read_from, parse_of}
-use Rattle.xc_text.specs.Steps.{is_call, is_file_of, has_few_calls, is_among, sized_by, valued_by, added, faulted, grained}
+use Rattle.xc_text.specs.Steps.{are_few, is_call, is_file_of, has_few_calls, is_among, sized_by, valued_by, added, faulted, grained}
 use Rattle.xc_text.specs.Steps.{filed, started, begun, stated, committed, ended_block, after, after_any}
 use Rattle.xc_text.specs.Steps.{after_tokens, after_bytes, with_statement}
 use Rattle.xc_text.specs.Statements.{bare, statement_line}
@@ -78,6 +78,7 @@ pub record IsSound (s : Said) : Type 0 where
   pub body : IsBody s.body
   pub opening : IsOpening (prologue_of s)
   pub each_block : All IsBlock s.blocks
+  pub few_slots : length s.names.slots ≤ 256
 
 abbrev Keeps : Result Said Why → Type 0
 Keeps answer = IfOk answer IsSound
@@ -107,6 +108,7 @@ opening-keeps =
       body = omega arith;
       opening = record { few = omega arith; fit = All-nil IsOpenedFit; each = All-nil IsFileLine; faults = All-nil IsOneCall; grain = tt };
       each_block = All-nil IsBlock;
+      few_slots = omega arith;
     }
 
 sized-keeps : (r : Said) (n : ℕ) → IsSound r → Keeps (sized_by r n)
@@ -125,6 +127,7 @@ sized-keeps r n k =
       body = k.body;
       opening = k.opening;
       each_block = k.each_block;
+      few_slots = k.few_slots;
     }))
 
 valued-keeps : (r : Said) (at value : ℕ) → IsSound r → Keeps (valued_by r at value)
@@ -141,6 +144,7 @@ valued-keeps r at value k =
       body = k.body;
       opening = k.opening;
       each_block = k.each_block;
+      few_slots = k.few_slots;
     })
 
 -- what follows of an answer of which P holds
@@ -174,6 +178,7 @@ added-keeps r file (Some bytes) few k =
         grain = k.opening.grain;
       };
       each_block = k.each_block;
+      few_slots = k.few_slots;
     })
 
 filed-keeps : (r : Said) (file : List ℕ) (bytes : Option (List ℕ)) → IfSome bytes (λ bs. length bs ≤ 65536) → IsSound r → Keeps (filed r file bytes)
@@ -200,6 +205,7 @@ faulted-keeps r kind n k =
         grain = k.opening.grain;
       };
       each_block = k.each_block;
+      few_slots = k.few_slots;
     })
 
 grained-keeps : (r : Said) (n : ℕ) → IsSound r → Keeps (grained r n)
@@ -224,11 +230,12 @@ grained-keeps r n k =
         grain = (ltb-false _ _ parts.0, ltb-false _ _ parts.1);
       };
       each_block = k.each_block;
+      few_slots = k.few_slots;
     }))
 
 stated-keeps : (s : Said) (statement : Statement) → IsSound s → Keeps (stated s statement)
 stated-keeps s statement k =
-    cond_both (has_few_calls s.body statement && nat_le (length (with_statement s.names statement)) 256) _ _ Keeps (λ few.
+    cond_both (has_few_calls s.body statement && are_few (with_statement s.names statement)) _ _ Keeps (λ few.
     record {
       some_words = k.some_words;
       few_words = k.few_words;
@@ -240,6 +247,7 @@ stated-keeps s statement k =
       body = leb-true _ _ (and_parts _ _ few).0;
       opening = k.opening;
       each_block = k.each_block;
+      few_slots = leb-true _ _ (and_parts _ _ (and_parts _ _ few).1).1;
     }) (λ _. tt)
 
 begun-keeps : (r : Said) (p : Section) → r.section ≡ p → IsSound r → Keeps (begun r (block_in p))
@@ -259,6 +267,7 @@ begun-keeps r (Block name) e k =
       body = k.body;
       opening = k.opening;
       each_block = k.each_block;
+      few_slots = k.few_slots;
     })
 
 committed-keeps : (r : Said) (p : Section) → r.section ≡ p → IsSound r → Keeps (committed r (transaction_in p))
@@ -277,6 +286,7 @@ committed-keeps r (Transaction name) e k =
       body = omega arith;
       opening = k.opening;
       each_block = k.each_block;
+      few_slots = k.few_slots;
     }
 
 ended-keeps : (r : Said) (p : Section) → r.section ≡ p → IsSound r → Keeps (ended_block r (block_in p))
@@ -295,6 +305,7 @@ ended-keeps r (Block name) e k =
       body = k.body;
       opening = k.opening;
       each_block = All-push IsBlock r.blocks _ k.each_block (record { transactions = count_at r (Block name) e k; calls = k.calls });
+      few_slots = k.few_slots;
     }
 
 -- a line that may stand in a section: a block begins outside of the others, and a file isn't too long
@@ -331,6 +342,7 @@ started-keeps r name outside k =
       body = k.body;
       opening = k.opening;
       each_block = k.each_block;
+      few_slots = k.few_slots;
     }))
 
 after-keeps : (r : Said) (says : Line) → IsFitLine r.section says → IsSound r → Keeps (after r says)
@@ -493,6 +505,7 @@ script_of-keeps r outside k =
       files = k.opening.each;
       faults = k.opening.faults;
       each_block = k.each_block;
+      few_slots = k.few_slots;
     }
 
 at_line-keeps : {A : Type 0} (P : A → Type 0) (n : ℕ) (a : Result A Why) → IfOk a P → IfOk (at_line n a) P

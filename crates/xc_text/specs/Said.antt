@@ -7,10 +7,19 @@ use Rattle.xc_text.specs.declared.script.Statement.{Statement}
 use Rattle.xc_text.specs.declared.line.Section.{Section}
 use Rattle.xc_text.specs.declared.line.Section.TheVariants.{Prologue}
 
+-- the names of the variables, and those of the slots, each once; a name may stand in both
+pub record Names : Type 0 where
+  pub variables : List (List ℕ)
+  pub slots : List (List ℕ)
+
+-- no variable, and no slot
+abbrev pub no_names : Names
+no_names = record { variables = []; slots = [] }
+
 -- the section that the next line stands in; the words, and whether a `words` and a `word` line came; the objects, the
--- faults and the grain of the prologue; the variables' names, each once; the names of the blocks that have begun; the
--- blocks that have ended, of the one under way the transactions that have ended, and of the transaction under way the
--- statements
+-- faults and the grain of the prologue; the names of the variables and of the slots; the names of the blocks that have
+-- begun; the blocks that have ended, of the one under way the transactions that have ended, and of the transaction under
+-- way the statements
 pub record Said : Type 0 where
   pub section : Section
   pub words : List ℕ
@@ -19,7 +28,7 @@ pub record Said : Type 0 where
   pub objects : List Opened
   pub faults : List FaultLine
   pub grain : Option ℕ
-  pub names : List (List ℕ)
+  pub names : Names
   pub jobs : List (List ℕ)
   pub blocks : List Block
   pub transactions : List (List Statement)
@@ -35,7 +44,7 @@ opening = record {
   objects = [];
   faults = [];
   grain = None;
-  names = [];
+  names = no_names;
   jobs = [];
   blocks = [];
   transactions = [];

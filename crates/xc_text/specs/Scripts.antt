@@ -41,7 +41,7 @@ script_of s = record {
     jobs = s.jobs;
   };
   blocks = s.blocks;
-  slots = [];
+  slots = s.names.slots;
 }
 
 -- a script ends behind its prologue or behind a block
@@ -84,3 +84,4 @@ pub record IsScript (s : Script) : Type 0 where
   pub files : All IsFileLine s.plain.prologue.objects
   pub faults : All IsOneCall s.plain.prologue.faults
   pub each_block : All IsBlock s.blocks
+  pub few_slots : length s.slots ≤ 256

@@ -5,7 +5,7 @@ use Rattle.xc_text.specs.declared.script.Expression.{Expression}
 use Rattle.xc_text.specs.declared.script.Item.{Item}
 use Rattle.xc_text.specs.declared.script.Statement.{Statement}
 use Rattle.xc_text.specs.declared.script.Statement.TheVariants.{Load, Store, Open, Create, Rename, Read, Overwrite, Append}
-use Rattle.xc_text.specs.declared.script.Statement.TheVariants.{Seek, Length, Close, Let, Abort, AbortIf, Require}
+use Rattle.xc_text.specs.declared.script.Statement.TheVariants.{Seek, Length, Close, Unlink, Sync, Let, Abort, AbortIf, Require}
 use Rattle.xc_text.specs.declared.script.Test.{Test}
 use Rattle.xc_text.specs.declared.why.Why.{Why}
 use Rattle.xc_text.specs.declared.why.Why.TheVariants.{UnknownLine, BadForm}
@@ -24,6 +24,12 @@ abbrev pub target : List Lexeme → Result (Option (List ℕ)) Why
 target [] = Ok None
 target (arrow ∷ v ∷ []) = if is_sign arrow (codes "->") then seen Some (ident v) else Err BadForm
 target _ = Err BadForm
+
+-- nothing, or `slot S`
+abbrev pub slot_ending : List Lexeme → Result (Option (List ℕ)) Why
+slot_ending [] = Ok None
+slot_ending (word ∷ s ∷ []) = if is_sign word (codes "slot") then seen Some (ident s) else Err BadForm
+slot_ending _ = Err BadForm
 
 -- `T`, `T -> V`
 abbrev pub term_into : List Lexeme → Result (Term × Option (List ℕ)) Why
@@ -57,6 +63,11 @@ abbrev pub rename_line : List Lexeme → Result Statement Why
 rename_line (a ∷ b ∷ []) = seen (λ (p : List ℕ × List ℕ). Rename p.0 p.1) (both (name a) (name b))
 rename_line _ = Err BadForm
 
+-- `x_unlink NAME`, `x_unlink NAME slot S`
+abbrev pub unlink_line : List Lexeme → Result Statement Why
+unlink_line [] = Err BadForm
+unlink_line (n ∷ behind) = seen (λ (p : List ℕ × Option (List ℕ)). Unlink p.0 p.1) (both (name n) (slot_ending behind))
+
 -- `x_read H T`, `x_read H T -> V`
 abbrev pub read_line : List Lexeme → Result Statement Why
 read_line [] = Err BadForm
@@ -76,6 +87,11 @@ length_line (h ∷ into) = seen (λ (p : List ℕ × Option (List ℕ)). Length 
 abbrev pub close_line : List Lexeme → Result Statement Why
 close_line (h ∷ []) = seen Close (ident h)
 close_line _ = Err BadForm
+
+-- `x_sync H`, `x_sync H slot S`
+abbrev pub sync_line : List Lexeme → Result Statement Why
+sync_line [] = Err BadForm
+sync_line (h ∷ behind) = seen (λ (p : List ℕ × Option (List ℕ)). Sync p.0 p.1) (both (ident h) (slot_ending behind))
 
 -- `H D`
 abbrev pub written : List Lexeme → Result (List ℕ × List Item) Why
@@ -113,6 +129,7 @@ handle_call_line word rest =
     else if spells word (codes "x_seek") then seek_line rest
     else if spells word (codes "x_len") then length_line rest
     else if spells word (codes "x_close") then close_line rest
+    else if spells word (codes "x_sync") then sync_line rest
     else Err UnknownLine
 
 -- a call on files
@@ -121,6 +138,7 @@ file_call_line word rest =
     if spells word (codes "x_open") then open_line rest
     else if spells word (codes "x_create") then create_line rest
     else if spells word (codes "x_rename") then rename_line rest
+    else if spells word (codes "x_unlink") then unlink_line rest
     else handle_call_line word rest
 
 -- a statement

@@ -23,7 +23,7 @@ use Rattle.xc_text.specs.declared.why.Why.TheVariants.{BadByte, UnknownLine, Bad
 use Rattle.xc_text.specs.Answers.{and_then}
 use Rattle.xc_text.specs.Grammar.{line_of}
 use Rattle.xc_text.specs.Lines.{is_line_byte}
-use Rattle.xc_text.specs.Said.{Said}
+use Rattle.xc_text.specs.Said.{Names, Said}
 use Rattle.xc_text.specs.Sections.{block_in, transaction_in}
 use Rattle.xc_text.specs.Tokens.{Lexeme, tokens_of}
 
@@ -43,50 +43,63 @@ is_among name names = list_any (λ other. pointwise nat_eq other name) names
 abbrev pub with_name : List (List ℕ) → List ℕ → List (List ℕ)
 with_name names name = if is_among name names then names else names ++ name ∷ []
 
--- the names with a term's variable
-abbrev pub with_term : List (List ℕ) → Term → List (List ℕ)
-with_term names (Number n) = names
-with_term names (Variable name) = with_name names name
-with_term names (Slot name) = names
+-- the names with one more variable
+abbrev pub with_variable : Names → List ℕ → Names
+with_variable names name = record names { variables = with_name names.variables name }
 
--- the names with an expression's variables
-abbrev pub with_expression : List (List ℕ) → Expression → List (List ℕ)
+-- the names with one more slot
+abbrev pub with_slot : Names → List ℕ → Names
+with_slot names name = record names { slots = with_name names.slots name }
+
+-- the names with a term's variable or slot
+abbrev pub with_term : Names → Term → Names
+with_term names (Number n) = names
+with_term names (Variable name) = with_variable names name
+with_term names (Slot name) = with_slot names name
+
+-- the names with those of an expression
+abbrev pub with_expression : Names → Expression → Names
 with_expression names (OneTerm a) = with_term names a
 with_expression names (Sum a b) = with_term (with_term names a) b
 with_expression names (Difference a b) = with_term (with_term names a) b
 
 -- the names with the variable that a reply goes to
-abbrev pub with_target : List (List ℕ) → Option (List ℕ) → List (List ℕ)
-with_target names (Some name) = with_name names name
+abbrev pub with_target : Names → Option (List ℕ) → Names
+with_target names (Some name) = with_variable names name
 with_target names None = names
 
--- the names with an item's variable
-abbrev pub with_item : List (List ℕ) → Item → List (List ℕ)
+-- the names with the slot that the end of a late call goes to
+abbrev pub with_ending : Names → Option (List ℕ) → Names
+with_ending names (Some name) = with_slot names name
+with_ending names None = names
+
+-- the names with an item's variable or slot
+abbrev pub with_item : Names → Item → Names
 with_item names (item.Literal bytes) = names
-with_item names (item.Bytes name) = with_name names name
+with_item names (item.Bytes name) = with_variable names name
 with_item names (item.Digits t) = with_term names t
 
--- the names with the variables of data
-abbrev pub with_data : List (List ℕ) → List Item → List (List ℕ)
+-- the names with those of data
+abbrev pub with_data : Names → List Item → Names
 with_data names [] = names
 with_data names (i ∷ items) = with_data (with_item names i) items
 
--- the names with the variables of a statement, read or written
-abbrev pub with_statement : List (List ℕ) → Statement → List (List ℕ)
+-- the names with those of a statement, read or written
+abbrev pub with_statement : Names → Statement → Names
 with_statement names (Load at into) = with_target (with_term names at) into
 with_statement names (Store at value) = with_expression (with_term names at) value
 with_statement names (Open file into) = with_target names into
 with_statement names (Create file into) = with_target names into
 with_statement names (Rename from to) = names
-with_statement names (Read handle n into) = with_target (with_term (with_name names handle) n) into
-with_statement names (Overwrite handle items) = with_data (with_name names handle) items
-with_statement names (Append handle items) = with_data (with_name names handle) items
-with_statement names (Seek handle to) = with_term (with_name names handle) to
-with_statement names (Length handle into) = with_target (with_name names handle) into
-with_statement names (Close handle) = with_name names handle
-with_statement names (Unlink file slot) = names
-with_statement names (Sync handle slot) = with_name names handle
-with_statement names (Let into value) = with_expression (with_name names into) value
+with_statement names (Read handle n into) = with_target (with_term (with_variable names handle) n) into
+with_statement names (Overwrite handle items) = with_data (with_variable names handle) items
+with_statement names (Append handle items) = with_data (with_variable names handle) items
+with_statement names (Seek handle to) = with_term (with_variable names handle) to
+with_statement names (Length handle into) = with_target (with_variable names handle) into
+with_statement names (Close handle) = with_variable names handle
+with_statement names (Unlink file slot) = with_ending names slot
+with_statement names (Sync handle slot) = with_ending (with_variable names handle) slot
+with_statement names (Let into value) = with_expression (with_variable names into) value
 with_statement names Abort = names
 with_statement names (AbortIf left test right) = with_term (with_term names left) right
 with_statement names Require = names
@@ -151,10 +164,14 @@ begun s None = Err UnknownLine
 abbrev pub has_few_calls : List Statement → Statement → Bool
 has_few_calls body statement = nat_le (count_by is_call (body ++ statement ∷ [])) 256
 
--- at most 256 variables in a script
+-- at most 256 variables, and at most 256 slots
+abbrev pub are_few : Names → Bool
+are_few names = nat_le (length names.variables) 256 && nat_le (length names.slots) 256
+
+-- a statement more, where the calls of its transaction and the names of the script stay few
 abbrev pub stated : Said → Statement → Result Said Why
 stated s statement =
-    if has_few_calls s.body statement && nat_le (length (with_statement s.names statement)) 256 then
+    if has_few_calls s.body statement && are_few (with_statement s.names statement) then
     Ok (record s { names = with_statement s.names statement; body = s.body ++ statement ∷ [] })
     else Err TooMany
 

@@ -1,9 +1,9 @@
 -- Numbers, names, identifiers, terms and expressions in a line.
-use Rattle.std.specs.Prelude.{ℕ, Bool, false, List, [], ◌∷◌, nat_eq, codes, ok_or, Result, Ok, Err, if◌then◌else◌}
+use Rattle.std.specs.Prelude.{ℕ, ◌==◌, Bool, false, List, [], ◌∷◌, nat_eq, codes, ok_or, Result, Ok, Err, if◌then◌else◌}
 use Rattle.std.specs.Cmp.Lexicographic.{pointwise}
 use Rattle.xc_data.specs.Spelling.{is_ident, is_name}
 use Rattle.xc_text.specs.declared.script.Term.{Term}
-use Rattle.xc_text.specs.declared.script.Term.TheVariants.{Number, Variable}
+use Rattle.xc_text.specs.declared.script.Term.TheVariants.{Number, Variable, Slot}
 use Rattle.xc_text.specs.declared.script.Expression.{Expression}
 use Rattle.xc_text.specs.declared.script.Expression.TheVariants.{Term as OneTerm, Sum, Difference}
 use Rattle.xc_text.specs.declared.script.Test.{Test}
@@ -50,14 +50,14 @@ abbrev pub name : Lexeme → Result (List ℕ) Why
 name (Word word) = name_in word
 name (Literal meant times) = Err BadForm
 
--- the first byte is a digit
-abbrev pub begins_with_digit : List ℕ → Bool
-begins_with_digit [] = false
-begins_with_digit (b ∷ bs) = is_digit b
-
--- a word in a term's place is meant as a number where it begins with a digit, and else as a variable
+-- a word in a term's place is meant as a number where it begins with a digit, as a slot where it begins with `?`, and
+-- else as a variable
 abbrev pub term_in : List ℕ → Result Term Why
-term_in word = if begins_with_digit word then seen Number (number_in word) else seen Variable (ident_in word)
+term_in [] = seen Variable (ident_in [])
+term_in (b ∷ rest) =
+    if is_digit b then seen Number (number_in (b ∷ rest))
+    else if b == 63 then seen Slot (ident_in rest)
+    else seen Variable (ident_in (b ∷ rest))
 
 -- what stands in a term's place
 abbrev pub term : Lexeme → Result Term Why

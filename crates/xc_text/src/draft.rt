@@ -9,17 +9,17 @@ use crate::block_names::BlockNames;
 use crate::counted::Counted;
 use crate::files::Files;
 use crate::grammar::line_of;
-use crate::limits::{FIRST_WORDS, MOST_BLOCKS, MOST_NAMES, MOST_TRANSACTIONS};
+use crate::limits::{FIRST_WORDS, MOST_BLOCKS, MOST_TRANSACTIONS};
 use crate::line::{Line, Section};
 use crate::lines::are_line_bytes;
-use crate::names::add_statement;
+use crate::names::{Names, add_statement};
 use crate::script::{Block, Body, Script, Statement};
 use crate::token::tokens;
 use crate::why::{Stop, Why};
 use std::alloc::Global;
 use std::marker::Model;
 use std::mem;
-use xc_data::{FaultList, Ident, IdentList, Items, NoMemory, Prologue, Script0, WordList};
+use xc_data::{FaultList, Ident, Items, NoMemory, Prologue, Script0, WordList};
 
 mod opening;
 
@@ -35,8 +35,7 @@ pub struct Draft {
     files: Files,
     faults: FaultList,
     grain: Option<u32>,
-    /// The variables' names, each once.
-    names: IdentList,
+    names: Names,
     /// The names of all blocks, also of the one under way.
     jobs: BlockNames,
     /// The blocks that have ended.
@@ -88,7 +87,7 @@ impl Draft {
             files: Files::new(alloc),
             faults: Items::new(alloc),
             grain: None,
-            names: Items::new(alloc),
+            names: Names::new(alloc),
             jobs: BlockNames::new(alloc),
             blocks: Items::new(alloc),
             transactions: Items::new(alloc),
@@ -120,7 +119,7 @@ impl Draft {
                 jobs: self.jobs.into_names(),
             },
             blocks: self.blocks,
-            slots: Items::new(alloc),
+            slots: self.names.slots,
         }
     }
 
@@ -158,7 +157,7 @@ impl Draft {
             return Err(Stop::Refused(Why::TooMany));
         }
         add_statement(&mut self.names, &statement)?;
-        if self.names.len() > MOST_NAMES {
+        if !self.names.are_few() {
             return Err(Stop::Refused(Why::TooMany));
         }
         self.body.push(statement)?;

@@ -6,13 +6,14 @@ ghost use Rattle.xc_text.specs.Statements.{name_into as name_into_said, open_lin
 ghost use Rattle.xc_text.specs.Statements.{rename_line as rename_said, read_line as read_said, written as written_said};
 ghost use Rattle.xc_text.specs.Statements.{overwrite_line as overwrite_said, append_line as append_said, seek_line as seek_said};
 ghost use Rattle.xc_text.specs.Statements.{length_line as length_said, close_line as close_said, target as target_said};
+ghost use Rattle.xc_text.specs.Statements.{unlink_line as unlink_said, sync_line as sync_said};
 ghost use Rattle.xc_text.specs.Statements.{handle_call_line as handle_call_said, file_call_line as file_call_said};
 ghost use Rattle.xc_text.specs.Views.{lexeme};
 
 use crate::pieces::{check_data, data};
 use crate::reason::{beside, both};
 use crate::script::{Data, Statement};
-use crate::statements::{target, term_into};
+use crate::statements::{slot_ending, target, term_into};
 use crate::term::{ident, name, spells, term};
 use crate::token::Token;
 use crate::why::{Stop, Why};
@@ -51,6 +52,18 @@ fn rename_line(tokens: &[Token]) -> Result<Statement, Why>
             Ok(Statement::Rename { from, to })
         }
         _ => Err(Why::BadForm),
+    }
+}
+
+fn unlink_line(tokens: &[Token]) -> Result<Statement, Why>
+    ensures { result ≡ unlink_said (map lexeme tokens.now) }
+{
+    match tokens {
+        [] => Err(Why::BadForm),
+        [file, behind @ ..] => {
+            let (name, slot) = both(name(file), slot_ending(behind))?;
+            Ok(Statement::Unlink { name, slot })
+        }
     }
 }
 
@@ -128,6 +141,18 @@ fn close_line(tokens: &[Token]) -> Result<Statement, Why>
     }
 }
 
+fn sync_line(tokens: &[Token]) -> Result<Statement, Why>
+    ensures { result ≡ sync_said (map lexeme tokens.now) }
+{
+    match tokens {
+        [] => Err(Why::BadForm),
+        [handle, behind @ ..] => {
+            let (handle, slot) = both(ident(handle), slot_ending(behind))?;
+            Ok(Statement::Sync { handle, slot })
+        }
+    }
+}
+
 fn handle_call_line(alloc: Global, word: &[u8], rest: &[Token]) -> Result<Statement, Stop>
     ensures { Gives (λ statement. statement) result (handle_call_said word.now (map lexeme rest.now)) }
 {
@@ -149,6 +174,9 @@ fn handle_call_line(alloc: Global, word: &[u8], rest: &[Token]) -> Result<Statem
     if spells(word, b"x_close") {
         return Ok(close_line(rest)?);
     }
+    if spells(word, b"x_sync") {
+        return Ok(sync_line(rest)?);
+    }
     Err(Stop::Refused(Why::UnknownLine))
 }
 
@@ -164,6 +192,9 @@ pub fn file_call_line(alloc: Global, word: &[u8], rest: &[Token]) -> Result<Stat
     }
     if spells(word, b"x_rename") {
         return Ok(rename_line(rest)?);
+    }
+    if spells(word, b"x_unlink") {
+        return Ok(unlink_line(rest)?);
     }
     handle_call_line(alloc, word, rest)
 }

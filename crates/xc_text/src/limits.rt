@@ -18,7 +18,7 @@ pub const MOST_BLOCKS: usize = 1000;
 pub const MOST_TRANSACTIONS: usize = 1000;
 /// A transaction's calls.
 pub const MOST_CALLS: u32 = 256;
-/// A script's variables.
+/// A script's variables, and its slots.
 pub const MOST_NAMES: usize = 256;
 /// The parts of the data of a write.
 pub const MOST_ITEMS: usize = 16;

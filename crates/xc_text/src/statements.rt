@@ -3,6 +3,7 @@
 ghost use Rattle.std.specs.Prelude.{◌≡◌, ◌∷◌, [], map};
 ghost use Rattle.xc_text.specs.Answers.{Gives, both as together};
 ghost use Rattle.xc_text.specs.Statements.{bare as bare_said, target as target_said, term_into as term_into_said};
+ghost use Rattle.xc_text.specs.Statements.{slot_ending as slot_ending_said};
 ghost use Rattle.xc_text.specs.Statements.{load_line as load_said, store_line as store_said, let_line as let_said};
 ghost use Rattle.xc_text.specs.Statements.{abort_line as abort_said, statement_line as statement_said};
 ghost use Rattle.xc_text.specs.Terms.{term as term_of_token, test as test_of_token};
@@ -43,6 +44,26 @@ pub fn target(tokens: &[Token]) -> Result<Option<Ident>, Why>
     match tokens {
         [] => Ok(None),
         [arrow, into] => target_in(arrow, into),
+        _ => Err(Why::BadForm),
+    }
+}
+
+fn slot_in(word: &Token, slot: &Token) -> Result<Option<Ident>, Why>
+    ensures { result ≡ slot_ending_said (lexeme word.now ∷ lexeme slot.now ∷ []) }
+{
+    if !is_sign(word, b"slot") {
+        return Err(Why::BadForm);
+    }
+    Ok(Some(ident(slot)?))
+}
+
+/// The slot that takes the end of a late call, where the end of a line names one.
+pub fn slot_ending(tokens: &[Token]) -> Result<Option<Ident>, Why>
+    ensures { result ≡ slot_ending_said (map lexeme tokens.now) }
+{
+    match tokens {
+        [] => Ok(None),
+        [word, slot] => slot_in(word, slot),
         _ => Err(Why::BadForm),
     }
 }

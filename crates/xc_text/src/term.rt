@@ -1,7 +1,7 @@
 ghost use Rattle.std.specs.Prelude.{◌≡◌, ◌∷◌, [], map};
 ghost use Rattle.xc_text.specs.Terms.{spells as is_spelled, is_sign as is_sign_of, number as number_of_token, number_in};
 ghost use Rattle.xc_text.specs.Terms.{ident as ident_of_token, ident_in, name as name_of_token, name_in, term as term_of_token, term_in};
-ghost use Rattle.xc_text.specs.Terms.{begins_with_digit as has_digit_first, test as test_of_token, test_in, expression_of};
+ghost use Rattle.xc_text.specs.Terms.{test as test_of_token, test_in, expression_of};
 ghost use Rattle.xc_text.specs.Views.{lexeme};
 
 use crate::number::{is_digit_byte, number as spelled_number};
@@ -86,23 +86,15 @@ pub fn name(token: &Token) -> Result<Name, Why>
     }
 }
 
-fn begins_with_digit(word: &[u8]) -> bool
-    ensures { result ≡ has_digit_first word.now }
-{
-    match word {
-        [] => false,
-        [first, ..] => is_digit_byte(*first),
-    }
-}
-
 /// What a word in the place of a term means.
 pub fn term_word(word: &[u8]) -> Result<Term, Why>
     ensures { result ≡ term_in word.now }
 {
-    if begins_with_digit(word) {
-        return Ok(Term::Number(number_word(word)?));
+    match word {
+        [first, ..] if is_digit_byte(*first) => Ok(Term::Number(number_word(word)?)),
+        [b'?', slot @ ..] => Ok(Term::Slot(ident_word(slot)?)),
+        _ => Ok(Term::Variable(ident_word(word)?)),
     }
-    Ok(Term::Variable(ident_word(word)?))
 }
 
 /// What stands in the place of a term.
