@@ -1,7 +1,9 @@
 -- The calls of a transaction that met no fault are those that are asked on the plain machine.
-use Rattle.std.proofs.Common.{◌≡◌, ℕ, ◌+◌, ◌≤◌, Bool, true, false, List, [], ◌∷◌, ◌++◌, length, zero, suc, cond, refl, ap, ap₂, sym, ◌∙◌, subst, arith}
+use Rattle.std.proofs.Common.{◌≡◌, ℕ, ◌+◌, ◌≤◌, Bool, true, false, List, [], ◌∷◌, ◌++◌, length, zero, suc, cond, refl, ap, sym, ◌∙◌, subst, arith}
 use Rattle.std.proofs.Common.{append_assoc}
 use Rattle.std.specs.Prelude.{map, count_by, sum_by, if◌then◌else◌}
+use Rattle.std.specs.List.{list_all}
+use Rattle.std.proofs.lemmas.Bool.{and_from}
 use Rattle.std.proofs.lemmas.List.{append-nil}
 use Rattle.std.proofs.lemmas.List.Sums.{sum_by-cons}
 use Rattle.xc_data.specs.Faults.{is_fault_reply}
@@ -9,7 +11,6 @@ use Rattle.xc_data.specs.declared.call.Answer.TheVariants as answer
 use Rattle.xc_data.specs.declared.call.Asked.{Asked}
 use Rattle.xc_data.specs.declared.call.Call.{Call}
 use Rattle.xc_data.specs.declared.call.Call.TheVariants as call
-use Rattle.xc_data.specs.declared.call.LateCall.{LateCall}
 use Rattle.xc_data.specs.declared.call.Reply.{Reply}
 use Rattle.xc_data.specs.declared.call.Reply.TheVariants as reply
 use Rattle.xc_data.specs.declared.private.Private.{Private}
@@ -17,13 +18,14 @@ use Rattle.xc_script.specs.Ask.{Variables, Walk, is_over, is_silent, set_by, set
 use Rattle.xc_script.specs.Ask.{bound, target_of, stored_after, refuses, handle_value, data_of}
 use Rattle.xc_script.specs.declared.ask.Ask.{Ask}
 use Rattle.xc_script.specs.declared.ask.Ask.TheVariants as ask
+use Rattle.xc_story.specs.Rows.{is_built}
+use Rattle.xc_story.proofs.AskedCalls.{asked_built}
 use Rattle.xc_story.specs.Truth.{AsksEach}
 use Rattle.xc_text.specs.declared.script.Statement.{Statement}
 use Rattle.xc_text.specs.declared.script.Statement.TheVariants as statement
 use Rattle.xc_world.specs.Act.{act}
 use Rattle.xc_world.specs.Checks.{bytes_of}
 use Rattle.xc_world.specs.Fits.{answer_of}
-use Rattle.xc_world.specs.Late.{late_call, kept_call}
 use Rattle.xc_world.specs.Run.{Ran, begins, step, goes_on, body, asked_of}
 use Rattle.xc_world.specs.World.{World}
 use Rattle.xc_plain.specs.Plain.{Replied, replied, calls_from}
@@ -79,48 +81,13 @@ none_replied : (w : World) (me : Private) (tx : ℕ) (more : World → Private �
 none_replied w me tx more (ask.Call c) e = cc
 none_replied w me tx more _ e = refl
 
--- ---- no call of a script is kept for the commit
-abbrev late_of : Private → Ask → List LateCall
-late_of me (ask.Call c) = late_call c me
-late_of me _ = []
-
-written_at_once : (me : Private) (t : Bool) (c : Call) → late_call c me ≡ [] → late_of me (if t then ask.Abort else ask.Call c) ≡ []
-written_at_once me true c none = refl
-written_at_once me false c none = none
-
-asked_at_once : (me : Private) (v : Variables) (stored : ℕ) (s : Statement) → late_of me (ask_of v stored s) ≡ []
-asked_at_once me v stored (statement.Overwrite h items) =
-    written_at_once me (is_over stored (length (data_of v items))) (call.XWriteOvr (handle_value v h) (data_of v items)) refl
-asked_at_once me v stored (statement.Append h items) =
-    written_at_once me (is_over stored (length (data_of v items))) (call.XWriteSeq (handle_value v h) (data_of v items)) refl
-asked_at_once me v stored _ = refl
-
-body_at_once : (me : Private) (v : Variables) (stored : ℕ) (left : List Statement) → late_of me (asks_of v stored left) ≡ []
-body_at_once me v stored [] = refl
-body_at_once me v stored (s ∷ rest) = asked_at_once me v stored s
-
-none_kept : (c : Call) (me : Private) (r : Reply) → late_call c me ≡ [] → kept_call c me r ≡ []
-none_kept c me reply.Late e = e
-none_kept c me _ e = refl
-
-both_empty : (a b : List LateCall) → a ≡ [] → b ≡ [] → a ++ b ≡ []
-both_empty a b ea eb = ap₂ (λ (x y : List LateCall). x ++ y) ea eb
-
-none_late_behind : (tx : ℕ) (ran : Ran) (walk : Walk) (calls : List Call) (replies : List Reply) → ran.late ≡ [] → AsksEach walk calls replies
-    → (goes_on tx ran (asked_of calls replies)).late ≡ []
-none_late_behind tx ran walk [] replies none asked = none
-none_late_behind tx ran walk (c ∷ calls) [] none asked = absurd asked
-none_late_behind tx ran walk (c ∷ calls) (r ∷ replies) none asked =
-    let one : Asked = record { call = c; answer = answer_of r } in
-    let s = act ran.world ran.me tx c (answer_of r) in
-    let late : late_call c ran.me ≡ [] = sym (ap (late_of ran.me) asked.0) ∙ body_at_once ran.me walk.variables walk.stored walk.left in
-    none_late_behind tx (step tx ran one) (answered walk r) calls replies
-    (both_empty ran.late (kept_call c ran.me s.reply) none (none_kept c ran.me s.reply late)) asked.1
-
--- a script's calls are done at once: none is kept for the commit
-pub none_late : (w : World) (me : Private) (tx : ℕ) (walk : Walk) (calls : List Call) (replies : List Reply) → AsksEach walk calls replies
-    → (body w me tx (asked_of calls replies)).late ≡ []
-none_late w me tx walk calls replies asked = none_late_behind tx (begins w me) walk calls replies refl asked
+-- ---- no call of a script starts a job
+-- a body's calls are those that scripts have so far
+pub each_built : (walk : Walk) (calls : List Call) (replies : List Reply) → AsksEach walk calls replies → list_all is_built calls ≡ true
+each_built walk [] replies asked = refl
+each_built walk (c ∷ calls) [] asked = absurd asked
+each_built walk (c ∷ calls) (r ∷ replies) asked =
+    and_from (is_built c) (list_all is_built calls) (asked_built walk c asked.0) (each_built (answered walk r) calls replies asked.1)
 
 -- ---- calls with their replies
 -- the replies of a body that goes on are those so far, and those of the body behind

@@ -2,10 +2,15 @@
 use Rattle.std.proofs.Common.{◌≡◌, ℕ, ◌+◌, ◌≤◌, true, false, List, [], ◌∷◌, length, refl, ap, ap₂, sym, ◌∙◌, subst, arith}
 use Rattle.std.specs.Prelude.{map, count_by, sum_by, IsTrue, unwrap_or}
 use Rattle.std.specs.declared.option.Option.TheVariants.{None, Some}
+use Rattle.std.specs.List.{list_any}
+use Rattle.std.proofs.lemmas.Bool.{or_parts}
 use Rattle.xc_data.specs.Claims.{held_of}
-use Rattle.xc_data.specs.Faults.{is_fault_reply, undo_faults, outcome_faults, entry_faults}
+use Rattle.xc_data.specs.Faults.{is_fault_reply, is_fault_end, undo_faults, outcome_faults, entry_faults}
 use Rattle.xc_data.specs.declared.call.Call.{Call}
+use Rattle.xc_data.specs.declared.call.LateAnswer.TheVariants as late_answer
+use Rattle.xc_data.specs.declared.call.LateCall.{LateCall}
 use Rattle.xc_data.specs.declared.call.LateEnd.{LateEnd}
+use Rattle.xc_data.specs.declared.call.LateEnd.TheVariants as late_end
 use Rattle.xc_data.specs.declared.call.Reply.{Reply}
 use Rattle.xc_data.specs.declared.entry.Cause.{Cause}
 use Rattle.xc_data.specs.declared.entry.Cause.TheVariants as cause
@@ -17,14 +22,16 @@ use Rattle.xc_data.specs.declared.undo.UndoEnd.TheVariants.{Undone, Failed, Bloc
 use Rattle.xc_script.specs.Ask.{all_answered, asks, walk_from}
 use Rattle.xc_script.specs.declared.ask.Ask.{Ask}
 use Rattle.xc_script.specs.declared.ask.Ask.TheVariants as ask
+use Rattle.xc_story.specs.Ending.{has_memory_end, is_memory_end}
 use Rattle.xc_story.specs.Progress.{Following, Progress, private_of, body_of, run_of}
 use Rattle.xc_story.specs.Setting.{Setting}
 use Rattle.xc_story.specs.Truth.{IsEntry, IsAskedFor, IsHeld, IsHeldAt, IsPlayedOutcome, IsCauseOf, AreRecords, is_asked, is_settled, next_of}
 use Rattle.xc_text.specs.declared.script.Script.{Script}
 use Rattle.xc_world.specs.Ends.{Ending, AreLegal, blocker}
+use Rattle.xc_world.specs.Fits.{late_answer_of}
 use Rattle.xc_world.specs.Run.{body, run, lates, asked_of, late_asked_of}
 use Rattle.xc_plain.specs.Plain.{Replied, calls_from, outcome_of, entry_at}
-use Rattle.xc_plain.proofs.Calls.{no_sum, asks_call, none_late, pairs, same_calls, calls_of_pairs, replies_of_pairs}
+use Rattle.xc_plain.proofs.Calls.{no_count, no_sum, asks_call, pairs, same_calls, calls_of_pairs, replies_of_pairs}
 
 -- ---- the compensations of an aborted transaction
 -- records, each undone without a fault
@@ -73,18 +80,31 @@ held_same p e next (Committed late) settled held = held
 held_same p e next (Aborted report) settled held =
     subst (λ c. IsHeldAt (body_of p.state e) next c e.held) (asked_is report.cause settled) held
 
--- where no late call was kept no end comes
-pub no_ends : (p : Progress) (e : Entry) (late : List LateEnd) → (body_of p.state e).late ≡ [] → (run_of p.state e late).late.ends ≡ late → late ≡ []
-no_ends p e late none ends = sym ends ∙ ap (λ l. (lates (body_of p.state e).world (late_asked_of l late)).ends) none
+fine_end : (end : LateEnd) → is_fault_end end ≡ false → is_memory_end end ≡ false → late_answer_of end ≡ late_answer.Fine
+fine_end (late_end.Fault n) met starved = cc
+fine_end (late_end.NoMemory n) met starved = cc
+fine_end _ met starved = refl
+
+-- where no late call met a fault or wanted memory, the host did its part of each
+fine_asked : (calls : List LateCall) (ends : List LateEnd) → count_by is_fault_end ends ≡ 0 → list_any is_memory_end ends ≡ false
+    → late_asked_of calls ends ≡ late_asked_of calls []
+fine_asked [] ends faults starved = refl
+fine_asked (c ∷ calls) [] faults starved = refl
+fine_asked (c ∷ calls) (end ∷ ends) faults starved =
+    let met = no_count is_fault_end end ends faults in
+    let wanted = or_parts (is_memory_end end) (list_any is_memory_end ends) starved in
+    ap₂ (λ answer rest. (c, answer) ∷ rest) (fine_end end met.0 wanted.0) (fine_asked calls ends met.1 wanted.1)
 
 -- its outcome is the plain machine's
-same_outcome : (tries : ℕ) (p : Progress) (e : Entry) (next : Ask) (o : Outcome) → 1 ≤ tries → (body_of p.state e).late ≡ []
-    → IsAskedFor tries e next o → IsPlayedOutcome p next e o → outcome_faults o ≡ 0 → is_settled o ≡ true
+same_outcome : (tries : ℕ) (p : Progress) (e : Entry) (next : Ask) (o : Outcome) → 1 ≤ tries → IsAskedFor tries e next o
+    → IsPlayedOutcome p next e o → outcome_faults o ≡ 0 → has_memory_end o ≡ false → is_settled o ≡ true
     → o ≡ outcome_of (run_of p.state e []) next
-same_outcome tries p e next (Committed late) some none asked played faults settled =
-    let plain : (run_of p.state e []).late.ends ≡ [] = ap (λ l. (lates (body_of p.state e).world (late_asked_of l [])).ends) none in
-    ap Committed (no_ends p e late none played.ends ∙ sym plain) ∙ sym (ap (outcome_of (run_of p.state e [])) asked.0)
-same_outcome tries p e next (Aborted report) some none asked played faults settled =
+same_outcome tries p e next (Committed late) some asked played faults starved settled =
+    let ran = body_of p.state e in
+    let fine : (run_of p.state e late).late.ends ≡ (run_of p.state e []).late.ends =
+    ap (λ l. (lates ran.world l).ends) (fine_asked ran.late late faults starved) in
+    ap Committed (sym played.ends ∙ fine) ∙ sym (ap (outcome_of (run_of p.state e [])) asked.0)
+same_outcome tries p e next (Aborted report) some asked played faults starved settled =
     let why = asked_is report.cause settled in
     let aborts : next ≡ ask.Abort = subst (λ c. IsCauseOf c next) why asked.0 in
     let trail : map (λ (r : Ending). r.0) report.records ≡ (body_of p.state e).trail =
@@ -113,19 +133,18 @@ entry_of script place p job f calls replies =
 sum_parts : (a b : ℕ) → a + b ≡ 0 → (a ≡ 0) × (b ≡ 0)
 sum_parts a b h = (omega arith, omega arith)
 
--- an entry that was settled without a fault is the plain machine's
+-- an entry that was settled without a fault, where no late call wanted memory, is the plain machine's
 pub same_entry : (s : Setting) (p : Progress) (f : Following) (e : Entry) (place : ℕ) → IsEntry s p f e → IsTrue s.tells
-    → 1 ≤ s.rules.undo_tries → e.tx ≡ place + 1 → e.began ≡ place → f.first ≡ None → entry_faults e ≡ 0 → is_settled e.outcome ≡ true
-    → e ≡ entry_at s.script place p e.job f
-same_entry s p f e place told tells tries tx began first faults settled =
+    → 1 ≤ s.rules.undo_tries → e.tx ≡ place + 1 → e.began ≡ place → f.first ≡ None → entry_faults e ≡ 0
+    → has_memory_end e.outcome ≡ false → is_settled e.outcome ≡ true → e ≡ entry_at s.script place p e.job f
+same_entry s p f e place told tells tries tx began first faults starved settled =
     let story = told.story in
     let played = told.played tells in
     let next = next_of s.script f e.replies in
     let walk = walk_from s.script f.job in
     let me = private_of p.state e.job in
     let parts = sum_parts (count_by is_fault_reply e.replies) (outcome_faults e.outcome) faults in
-    let late = none_late p.state.world me e.tx walk e.calls e.replies story.calls in
-    let outcome = same_outcome s.rules.undo_tries p e next e.outcome tries late story.asked played.outcome parts.1 settled in
+    let outcome = same_outcome s.rules.undo_tries p e next e.outcome tries story.asked played.outcome parts.1 starved settled in
     let held = held_same p e next e.outcome settled played.held in
     let rank : e.rank ≡ place + 1 = story.rank ∙ ap (λ o. unwrap_or o e.tx) first ∙ tx in
     let at = λ (n : ℕ). run p.state.world me n (asked_of e.calls e.replies) [] in

@@ -1,14 +1,26 @@
--- The text of a script of two jobs, computed.
-use Rattle.std.proofs.Common.{◌≡◌, ℕ, [], ◌∷◌, ◌++◌, refl}
+-- The texts of a script of two jobs, and of one with a late call, computed.
+use Rattle.std.proofs.Common.{◌≡◌, ℕ, List, [], ◌∷◌, ◌++◌, refl, ap, ◌∙◌}
 use Rattle.std.specs.Prelude.{codes}
 use Rattle.std.specs.Fmt.{digits}
 use Rattle.std.specs.declared.option.Option.TheVariants.{None}
+use Rattle.std.specs.FinMap as map
+use Rattle.xc_data.specs.Claims.{claim}
+use Rattle.xc_data.specs.declared.call.Call.TheVariants as call
+use Rattle.xc_data.specs.declared.call.LateEnd.TheVariants as late_end
+use Rattle.xc_data.specs.declared.call.Reply.TheVariants as reply
+use Rattle.xc_data.specs.declared.claim.Mode.TheVariants.{Exclusive}
+use Rattle.xc_data.specs.declared.entry.Entry.{Entry}
+use Rattle.xc_data.specs.declared.entry.Outcome.TheVariants.{Committed}
+use Rattle.xc_data.specs.declared.object.Object.TheVariants as object
+use Rattle.xc_print.specs.Text.{text}
+use Rattle.xc_story.specs.Progress.{progress_of}
 use Rattle.xc_text.specs.declared.script.Expression.TheVariants as expression
 use Rattle.xc_text.specs.declared.script.Script.{Script}
 use Rattle.xc_text.specs.declared.script.Statement.{Statement}
 use Rattle.xc_text.specs.declared.script.Statement.TheVariants as statement
 use Rattle.xc_text.specs.declared.script.Term.TheVariants as term
-use Rattle.xc_plain.specs.Plain.{plain_text}
+use Rattle.xc_world.specs.Opening.{opening}
+use Rattle.xc_plain.specs.Plain.{plain_journal, done_lines, plain_text}
 
 abbrev loads : Statement
 loads = statement.Load (term.Number 0) None
@@ -34,6 +46,7 @@ two_jobs =
           }
           ∷ record { name = codes "next"; transactions = (loads ∷ []) ∷ [] }
           ∷ [];
+      slots = [];
     }
 
 -- its text is the reference's
@@ -55,3 +68,58 @@ pub text_of_two_jobs :
     ++ codes "total 2 committed, 1 aborted, 0 faults, 0 remains\n"
 unfolding digits
 text_of_two_jobs = refl
+
+-- a file's name is to be taken away where no file is
+abbrev unlinks : Script
+unlinks =
+    record {
+      plain =
+          record {
+            words = [];
+            prologue = record { objects = []; faults = []; grain = None };
+            bodies = [];
+            jobs = codes "main" ∷ [];
+          };
+      blocks = record { name = codes "main"; transactions = (statement.Unlink (codes "a") None ∷ []) ∷ [] } ∷ [];
+      slots = [];
+    }
+
+no_name : map.get (opening unlinks.plain).names (codes "a") ≡ None
+no_name = map.get-empty _ (codes "a")
+
+-- its one entry: the late call finds no name
+abbrev its_entry : Entry
+its_entry =
+    record {
+      tx = 1;
+      job = 1;
+      rank = 1;
+      began = 0;
+      calls = call.XUnlink (codes "a") None ∷ [];
+      replies = reply.Late ∷ [];
+      held = claim Exclusive (object.Name (codes "a")) ∷ [];
+      outcome = Committed (late_end.NoName ∷ []);
+    }
+
+its_journal : plain_journal unlinks ≡ its_entry ∷ []
+its_journal = rw no_name refl
+
+abbrev text_with : List Entry → List ℕ
+text_with journal = let state = (progress_of unlinks journal).state in text journal (done_lines state) state.world.words
+
+abbrev its_text : List ℕ
+its_text =
+    codes "commit t1 job 1 rank 1 began 0\n"
+    ++ codes "  x_unlink a = late\n"
+    ++ codes "  late 1 = no name\n"
+    ++ codes "  held name a\n"
+    ++ codes "job 1 main done\n"
+    ++ codes "total 1 committed, 0 aborted, 0 faults, 0 remains\n"
+
+text_of_its_entry : text_with (its_entry ∷ []) ≡ its_text
+unfolding digits
+text_of_its_entry = rw no_name refl
+
+-- its text: the call is kept for the commit, and then it finds no name
+pub text_of_unlinks : plain_text unlinks ≡ its_text
+text_of_unlinks = ap text_with its_journal ∙ text_of_its_entry

@@ -8,8 +8,6 @@ use Rattle.std.proofs.lemmas.Bool.{and_parts, and_from}
 use Rattle.std.proofs.lemmas.List.{append-nil}
 use Rattle.std.proofs.lemmas.List.Sums.{sum_by-cons}
 use Rattle.xc_data.specs.Faults.{entry_faults}
-use Rattle.xc_data.specs.declared.call.Call.{Call}
-use Rattle.xc_data.specs.declared.call.LateEnd.{LateEnd}
 use Rattle.xc_data.specs.declared.entry.Entry.{Entry}
 use Rattle.xc_data.specs.declared.entry.JobEnd.{JobEnd}
 use Rattle.xc_data.specs.declared.entry.JobEnd.TheVariants as job_end
@@ -17,17 +15,19 @@ use Rattle.xc_data.specs.declared.entry.JobLine.{JobLine}
 use Rattle.xc_data.specs.declared.entry.Outcome.{Outcome}
 use Rattle.xc_data.specs.declared.entry.Outcome.TheVariants.{Committed, Aborted}
 use Rattle.xc_print.specs.Text.{text}
-use Rattle.xc_script.specs.Ask.{fresh_job, block_place, next_body, passed, transactions_at, walk_from}
-use Rattle.xc_story.specs.Ending.{IsEnd, AreEnds, Final, IsTrueEnd, is_done, all_done, is_settled_or_tried_again, transactions_of_jobs}
-use Rattle.xc_script.specs.Slots.{kept_of}
-use Rattle.xc_story.specs.Progress.{Following, Progress, untried, opening_progress, progress_of, private_of, started_blocks, started_job, committed_job}
+use Rattle.xc_script.specs.Ask.{fresh_job, block_place, next_body, transactions_at, walk_from}
+use Rattle.xc_story.specs.Ending.{IsEnd, AreEnds, Final, IsTrueEnd, is_done, all_done, is_settled_or_tried_again}
+use Rattle.xc_story.specs.Ending.{some_late_starved, transactions_of_jobs}
+use Rattle.xc_story.specs.Progress.{Following, Progress, untried, opening_progress, progress_of, started_job, committed_job}
 use Rattle.xc_story.specs.Progress.{following_abort, after_entry, after_following, after_outcome, following_of}
+use Rattle.xc_story.specs.Rows.{is_built}
 use Rattle.xc_story.specs.Setting.{Setting}
-use Rattle.xc_story.specs.Truth.{AreTrue, AreInOrder, IsEntry, IsPlayedOutcome, IsSerial, is_alone, is_asked, is_settled, is_tried_again, all_settled, next_of}
+use Rattle.xc_story.specs.Truth.{AreTrue, AreInOrder, IsSerial, is_alone, is_asked, is_settled, is_tried_again, all_settled}
+use Rattle.xc_story.proofs.KeptCalls.{kept_starts}
 use Rattle.xc_text.specs.declared.script.Script.{Script}
 use Rattle.xc_plain.specs.Plain.{plain_journal, plain_text, done_lines}
-use Rattle.xc_plain.proofs.Calls.{none_late}
-use Rattle.xc_plain.proofs.Entries.{asked_is, no_ends}
+use Rattle.xc_plain.proofs.Calls.{each_built}
+use Rattle.xc_plain.proofs.Entries.{asked_is}
 use Rattle.xc_plain.proofs.Journals.{AreUntried, AreOver, are_next, rise, same_journal}
 
 -- ---- where no attempt is tried again each entry is settled
@@ -68,44 +68,32 @@ transactions_set script (h ∷ jobs) zero f g e same =
 transactions_set script (h ∷ jobs) (suc k) f g e same =
     ap (λ n. length (transactions_at script h.job.block) + n) (transactions_set script jobs k f g e same)
 
-none_started : (calls : List Call) → started_blocks calls [] ≡ []
-none_started [] = refl
-none_started (c ∷ calls) = refl
-
 -- a settled entry starts no job
 outcome_keeps : (script : Script) (p : Progress) (f : Following) (e : Entry) (o : Outcome) → following_of p e ≡ Some f
-    → ((late : List LateEnd) → o ≡ Committed late → late ≡ []) → is_settled o ≡ true
+    → list_all is_built e.calls ≡ true → is_settled o ≡ true
     → transactions_of_jobs script (after_outcome script p f e o).jobs ≡ transactions_of_jobs script p.jobs
-outcome_keeps script p f e (Committed late) started none settled =
-    let mine : Following = untried f.block (passed script f.job e.replies) (p.entered + 1) in
+outcome_keeps script p f e (Committed late) started built settled =
+    let job = committed_job script f.job e.calls e.replies late in
+    let mine : Following = untried f.block job (p.entered + 1) in
     let jobs = slice_set p.jobs (e.job - 1) mine in
-    let kept = kept_of e.calls e.replies in
-    let blocks : started_blocks kept late ≡ [] = ap (started_blocks kept) (none late refl) ∙ none_started kept in
-    let more = λ (bs : List (List ℕ)). jobs ++ map (started_job script (passed script f.job e.replies) (p.entered + 1)) bs in
-    ap (λ bs. transactions_of_jobs script (more bs)) blocks ∙ ap (transactions_of_jobs script) (append-nil jobs)
+    let more = λ (bs : List (List ℕ)). jobs ++ map (started_job script job (p.entered + 1)) bs in
+    ap (λ bs. transactions_of_jobs script (more bs)) (kept_starts e.calls e.replies late built) ∙ ap (transactions_of_jobs script) (append-nil jobs)
     ∙ transactions_set script p.jobs (e.job - 1) f mine started refl
-outcome_keeps script p f e (Aborted report) started none settled =
+outcome_keeps script p f e (Aborted report) started built settled =
     transactions_set script p.jobs (e.job - 1) f (following_abort p.entered f e report.cause) started
     (subst (λ c. (following_abort p.entered f e c).job.block ≡ f.job.block) (sym (asked_is report.cause settled)) refl)
 
-none_kept_late : (s : Setting) (p : Progress) (f : Following) (e : Entry) (late : List LateEnd) → IsEntry s p f e → IsTrue s.tells
-    → e.outcome ≡ Committed late → late ≡ []
-none_kept_late s p f e late told tells ends =
-    let played = subst (IsPlayedOutcome p (next_of s.script f e.replies) e) ends (told.played tells).outcome in
-    no_ends p e late (none_late p.state.world (private_of p.state e.job) e.tx (walk_from s.script f.job) e.calls e.replies told.story.calls)
-    played.ends
-
 -- entries that were settled leave the jobs as many
-jobs_keep : (s : Setting) (p : Progress) (entries : List Entry) → AreTrue s p entries → IsTrue s.tells → all_settled entries ≡ true
+jobs_keep : (s : Setting) (p : Progress) (entries : List Entry) → AreTrue s p entries → all_settled entries ≡ true
     → transactions_of_jobs s.script (fold (after_entry s.script) p entries).jobs ≡ transactions_of_jobs s.script p.jobs
-jobs_keep s p [] told tells settled = refl
-jobs_keep s p (e ∷ entries) told tells settled =
+jobs_keep s p [] told settled = refl
+jobs_keep s p (e ∷ entries) told settled =
     let one = told.0 in
     let f = one.following in
     let both = and_parts (is_settled e.outcome) (all_settled entries) settled in
-    let here =
-    outcome_keeps s.script p f e e.outcome one.started (λ late ends. none_kept_late s p f e late one.entry tells ends) both.0 in
-    jobs_keep s (after_entry s.script p e) entries told.1 tells both.1
+    let built = each_built (walk_from s.script f.job) e.calls e.replies one.entry.story.calls in
+    let here = outcome_keeps s.script p f e e.outcome one.started built both.0 in
+    jobs_keep s (after_entry s.script p e) entries told.1 both.1
     ∙ ap (λ o. transactions_of_jobs s.script (after_following s.script p e o).jobs) one.started ∙ here
 
 -- ---- the jobs' ends
@@ -133,15 +121,17 @@ lines_of (line ∷ lines) done =
     let here : line ≡ record { block = line.block; end = job_end.Done } = λ i. record { block = line.block; end = end i } in
     ap₂ (λ (l : JobLine) (ls : List JobLine). l ∷ ls) here (lines_of lines parts.1)
 
-untried_opening : (script : Script) (names : List (List ℕ)) → AreUntried (map (λ name. untried name (fresh_job (block_place script name)) 0) names)
+untried_opening : (script : Script) (names : List (List ℕ))
+    → AreUntried (map (λ name. untried name (fresh_job script (block_place script name)) 0) names)
 untried_opening script [] = tt
 untried_opening script (name ∷ names) = (refl, untried_opening script names)
 
 -- ---- the text
 -- the journal is the plain one
 same_entries : (s : Setting) (entries : List Entry) (final : Final) → IsTrueEnd s entries final → IsSerial entries → IsTrue s.tells
-    → 1 ≤ s.rules.undo_tries → sum_by entry_faults entries ≡ 0 → all_done final.lines ≡ true → entries ≡ plain_journal s.script
-same_entries s entries final whole serial tells tries faults done =
+    → 1 ≤ s.rules.undo_tries → sum_by entry_faults entries ≡ 0 → some_late_starved entries ≡ false → all_done final.lines ≡ true
+    → entries ≡ plain_journal s.script
+same_entries s entries final whole serial tells tries faults starved done =
     let opening = opening_progress s.script in
     let told = whole.journal.entries in
     let complete = whole.complete done in
@@ -149,16 +139,17 @@ same_entries s entries final whole serial tells tries faults done =
     let over = ends_over s (length entries) (progress_of s.script entries).jobs final.lines whole.ends done in
     let next = are_next s opening entries told (rise entries serial.jobs) over in
     let many : length entries ≡ transactions_of_jobs s.script opening.jobs =
-    sym (count_settled entries settled) ∙ complete.count ∙ jobs_keep s opening entries told tells settled in
-    same_journal s opening 0 (transactions_of_jobs s.script opening.jobs) entries told tells tries serial.order faults settled
+    sym (count_settled entries settled) ∙ complete.count ∙ jobs_keep s opening entries told settled in
+    same_journal s opening 0 (transactions_of_jobs s.script opening.jobs) entries told tells tries serial.order faults starved settled
     (untried_opening s.script s.script.plain.jobs) (omega (arith, many)) next
 
--- the text of a run whose jobs ran one after another, each to its end, where no call met a fault, is the plain one
+-- the text of a run whose jobs ran one after another, each to its end, where no call met a fault and no late call wanted
+-- memory, is the plain one
 pub plain_end : (s : Setting) (entries : List Entry) (final : Final) → IsTrueEnd s entries final → IsSerial entries → IsTrue s.tells
-    → 1 ≤ s.rules.undo_tries → sum_by entry_faults entries ≡ 0 → all_done final.lines ≡ true
+    → 1 ≤ s.rules.undo_tries → sum_by entry_faults entries ≡ 0 → some_late_starved entries ≡ false → all_done final.lines ≡ true
     → text entries final.lines final.words ≡ plain_text s.script
-plain_end s entries final whole serial tells tries faults done =
-    let same = same_entries s entries final whole serial tells tries faults done in
+plain_end s entries final whole serial tells tries faults starved done =
+    let same = same_entries s entries final whole serial tells tries faults starved done in
     let state = (progress_of s.script entries).state in
     let ended = whole.state tells in
     let lines : final.lines ≡ done_lines state =

@@ -1,16 +1,18 @@
--- A journal of settled entries without faults, each of the first job that has a transaction left, is the plain one.
+-- A journal of settled entries without faults, each of the first job that has a transaction left, is the plain one. No late
+-- call wanted memory.
 use Rattle.std.proofs.Common.{◌≡◌, ℕ, ◌+◌, ◌<◌, ◌≤◌, Bool, true, false, List, [], ◌∷◌, ◌++◌, length, zero, suc, cond, refl, ap, sym, ◌∙◌, subst, arith}
 use Rattle.std.specs.Prelude.{◌-◌, slice_get, slice_set, map, Option, sum_by, is_some, IsTrue, unwrap_or}
 use Rattle.std.specs.declared.option.Option.TheVariants.{None, Some}
 use Rattle.std.specs.List.{position_from, fold}
-use Rattle.std.proofs.lemmas.Bool.{and_parts}
+use Rattle.std.proofs.lemmas.Bool.{and_parts, or_parts}
 use Rattle.std.proofs.lemmas.Iterator.Adapters.{position_from-zero}
 use Rattle.xc_data.specs.Faults.{entry_faults}
 use Rattle.xc_data.specs.declared.entry.Entry.{Entry}
 use Rattle.xc_data.specs.declared.entry.Outcome.{Outcome}
 use Rattle.xc_data.specs.declared.entry.Outcome.TheVariants.{Committed, Aborted}
-use Rattle.xc_script.specs.Ask.{Job, passed, next_body}
+use Rattle.xc_script.specs.Ask.{Job, next_body}
 use Rattle.xc_script.specs.Slots.{kept_of}
+use Rattle.xc_story.specs.Ending.{has_memory_end, some_late_starved}
 use Rattle.xc_story.specs.Progress.{Following, Progress, untried, started_blocks, started_job, committed_job}
 use Rattle.xc_story.specs.Progress.{following_abort, after_following, after_outcome, following_of, after_entry}
 use Rattle.xc_story.specs.Setting.{Setting}
@@ -48,7 +50,7 @@ untried_outcome : (script : Script) (p : Progress) (f : Following) (e : Entry) (
     → AreUntried (after_outcome script p f e o).jobs
 untried_outcome script p f e (Committed late) settled all =
     untried_append _ _ (untried_set p.jobs (e.job - 1) _ refl all)
-    (untried_started script (passed script f.job e.replies) (p.entered + 1) (started_blocks (kept_of e.calls e.replies) late))
+    (untried_started script (committed_job script f.job e.calls e.replies late) (p.entered + 1) (started_blocks (kept_of e.calls e.replies) late))
 untried_outcome script p f e (Aborted report) settled all =
     untried_set p.jobs (e.job - 1) (following_abort p.entered f e report.cause)
     (subst (λ c. (following_abort p.entered f e c).first ≡ None) (sym (asked_is report.cause settled)) refl) all
@@ -66,24 +68,25 @@ AreNext script p (e ∷ entries) = (next_place script p.jobs ≡ Some (e.job - 1
 
 -- such a journal is the plain one
 pub same_journal : (s : Setting) (p : Progress) (place n : ℕ) (entries : List Entry) → AreTrue s p entries → IsTrue s.tells → 1 ≤ s.rules.undo_tries
-    → AreInOrder place entries → sum_by entry_faults entries ≡ 0 → all_settled entries ≡ true → AreUntried p.jobs → length entries ≤ n
-    → AreNext s.script p entries → entries ≡ plain_from n s.script place p
-same_journal s p place zero [] told tells tries order faults settled all le next = refl
-same_journal s p place (suc n) [] told tells tries order faults settled all le next =
+    → AreInOrder place entries → sum_by entry_faults entries ≡ 0 → some_late_starved entries ≡ false → all_settled entries ≡ true
+    → AreUntried p.jobs → length entries ≤ n → AreNext s.script p entries → entries ≡ plain_from n s.script place p
+same_journal s p place zero [] told tells tries order faults starved settled all le next = refl
+same_journal s p place (suc n) [] told tells tries order faults starved settled all le next =
     sym (ap (journal_with s.script place p (λ (after : Progress). plain_from n s.script (place + 1) after)) next)
-same_journal s p place zero (e ∷ entries) told tells tries order faults settled all le next = absurd (omega arith)
-same_journal s p place (suc n) (e ∷ entries) told tells tries order faults settled all le next =
+same_journal s p place zero (e ∷ entries) told tells tries order faults starved settled all le next = absurd (omega arith)
+same_journal s p place (suc n) (e ∷ entries) told tells tries order faults starved settled all le next =
     let one = told.0 in
     let f = one.following in
     let none = no_sum entry_faults e entries faults in
+    let wanted = or_parts (has_memory_end e.outcome) (some_late_starved entries) starved in
     let ended = and_parts (is_settled e.outcome) (all_settled entries) settled in
     let more = λ (after : Progress). plain_from n s.script (place + 1) after in
     let first = untried_get p.jobs (e.job - 1) f all one.started in
-    let same = same_entry s p f e place one.entry tells tries order.0 order.1 first none.0 ended.0 in
+    let same = same_entry s p f e place one.entry tells tries order.0 order.1 first none.0 wanted.0 ended.0 in
     let from = one.numbered in
     let job : e.job ≡ e.job - 1 + 1 = omega arith in
     let same' : e ≡ entry_at s.script place p (e.job - 1 + 1) f = same ∙ ap (λ j. entry_at s.script place p j f) job in
-    let later = same_journal s (after_entry s.script p e) (place + 1) n entries told.1 tells tries order.3 none.1 ended.1
+    let later = same_journal s (after_entry s.script p e) (place + 1) n entries told.1 tells tries order.3 none.1 wanted.1 ended.1
     (untried_after s.script p f e one.started ended.0 all) (omega arith) next.1 in
     ap (λ l. e ∷ l) later ∙ ap (λ x. x ∷ more (after_entry s.script p x)) same'
     ∙ sym (ap (journal_at s.script place p more (e.job - 1)) one.started) ∙ sym (ap (journal_with s.script place p more) next.0)
@@ -122,7 +125,7 @@ get_append (x ∷ a) b (suc i) f e = get_append a b i f e
 outcome_leaves : (script : Script) (p : Progress) (f : Following) (e : Entry) (o : Outcome) (i : ℕ) (g : Following) → i < e.job - 1
     → slice_get p.jobs i ≡ Some g → slice_get (after_outcome script p f e o).jobs i ≡ Some g
 outcome_leaves script p f e (Committed late) i g lt has =
-    get_append _ _ i g (get_set p.jobs (e.job - 1) i (untried f.block (passed script f.job e.replies) (p.entered + 1)) g lt has)
+    get_append _ _ i g (get_set p.jobs (e.job - 1) i (untried f.block (committed_job script f.job e.calls e.replies late) (p.entered + 1)) g lt has)
 outcome_leaves script p f e (Aborted report) i g lt has = get_set p.jobs (e.job - 1) i (following_abort p.entered f e report.cause) g lt has
 
 following_leaves : (script : Script) (p : Progress) (e : Entry) (o : Option Following) (i : ℕ) (g : Following) → i < e.job - 1

@@ -34,7 +34,8 @@ use Rattle.xc_flight.proofs.Claiming.{back_held, claimed, covers_through, merged
 use Rattle.xc_flight.proofs.Together.{call_granted, two_turns}
 use Rattle.xc_flight.proofs.Undoing.{turns_back, wants}
 use Rattle.xc_played.specs.Flying.{IsUnnoted, flown, flown_phase, ran_at}
-use Rattle.xc_played.proofs.BuiltCalls.{asked_built, built-taken, unrecorded}
+use Rattle.xc_story.proofs.AskedCalls.{asked_built}
+use Rattle.xc_played.proofs.BuiltCalls.{built-taken, unrecorded}
 use Rattle.xc_played.proofs.FlownLists.{flown_there, none_unnoted}
 use Rattle.xc_played.proofs.TurnBack.{back_keeps}
 use Rattle.xc_played.proofs.TurnCalls.{holding-more}

@@ -32,7 +32,7 @@ use Rattle.xc_story.specs.Seen.{SeenTx, SeenJob, Now, Active, active_in, with_jo
 use Rattle.xc_story.specs.WordCalls.{IsWordStep}
 use Rattle.xc_story.specs.Rows.{AskedTurn, Calls, DoesIn, DoesPartIn, HasNoRival, HoldsWanting, IsActiveAt, IsFirstMet, IsLeft, IsSameBegin, IsSamePlace, IsReplyInTime}
 use Rattle.xc_story.specs.Rows.{Parts, RunningTurn, noting, parts_of, stored_by, wanting, with_tx}
-use Rattle.xc_played.proofs.BuiltCalls.{asked_built}
+use Rattle.xc_story.proofs.AskedCalls.{asked_built}
 use Rattle.xc_station.specs.declared.calls.Shared.{Shared}
 use Rattle.xc_station.specs.declared.tx.Tx.{Tx}
 use Rattle.xc_station.specs.Acting.{HasDone, LeavesOff, acting, leaving, with_parts}

@@ -1,1 +1,2 @@
+pub mod AskedCalls
 pub mod KeptCalls
