@@ -83,12 +83,12 @@ pub record IsInPhase (d : Doing) (p : Phase) : Type 0 where
 
 -- a stage of a committing transaction is no other
 late_not : (late : List LateCall) (t : Stage) → is_late_stage t ≡ false → late_stage late ≡ t → ⊥
-late_not [] t no e = let not : true ≡ false = ap is_late_stage e ∙ no in cc not
-late_not (c ∷ cs) t no e = let not : true ≡ false = ap is_late_stage e ∙ no in cc not
+late_not [] t other e = let both : true ≡ false = ap is_late_stage e ∙ other in cc both
+late_not (c ∷ cs) t other e = let both : true ≡ false = ap is_late_stage e ∙ other in cc both
 
 back_not : (pending : List Undo) (t : Stage) → is_back_stage t ≡ false → back_stage pending ≡ t → ⊥
-back_not [] t no e = let not : true ≡ false = ap is_back_stage e ∙ no in cc not
-back_not (u ∷ us) t no e = let not : true ≡ false = ap is_back_stage e ∙ no in cc not
+back_not [] t other e = let both : true ≡ false = ap is_back_stage e ∙ other in cc both
+back_not (u ∷ us) t other e = let both : true ≡ false = ap is_back_stage e ∙ other in cc both
 
 running_phase : (tx : SeenTx) (p : Phase) → phase_stage tx p ≡ stage.Running → p ≡ phase.Running
 running_phase tx phase.Running e = refl

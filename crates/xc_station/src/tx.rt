@@ -1,8 +1,6 @@
 ghost use Rattle.std.specs.Prelude.{◌≡◌, ◌≤◌, ◌+◌, ◌∷◌, ◌++◌, [], ℕ, length, true, false, OnOk};
 ghost use Rattle.xc_data.specs.Claims.{holding};
-ghost use Rattle.xc_compensate.specs.Records.{Records};
 ghost use Rattle.xc_data.specs.declared.entry.Cause.{Cause as PlainCause};
-ghost use Rattle.xc_deferred.specs.Queue.{Queue};
 ghost use Rattle.xc_world.specs.World.{beginning, no_handles};
 ghost use Rattle.xc_story.specs.declared.phase.Phase.TheVariants as PlainPhase;
 ghost use Rattle.xc_story.specs.Rows.{entry_of, new_tx};
@@ -42,6 +40,22 @@ pub struct Tx {
     pub calls: Roomy<Call>,
     pub replies: Roomy<Reply>,
     pub held: Holding,
+}
+
+// The outcome of a transaction that ends in this phase, with the ends of its records or of its late calls.
+fn outcome_of(phase: &Phase, undo: Stack, late: Late) -> Outcome
+    requires { (c : PlainCause) → phase.now ≡ PlainPhase.Undoing c → undo.pending ≡ [] }
+    ensures { result ≡ outcome_in phase.now undo.ended late.ends }
+{
+    match phase {
+        Phase::Undoing(cause) => Outcome::Aborted(Report {
+            cause: *cause,
+            records: undo.records(),
+        }),
+        _ => Outcome::Committed {
+            late: late.into_ends(),
+        },
+    }
 }
 
 impl Tx {
@@ -142,25 +156,6 @@ impl Tx {
         self.replies.enter(reply);
     }
 
-    // The outcome, with the ends of its records or of its late calls.
-    fn outcome(&mut self, alloc: Global) -> Outcome
-        requires { (c : PlainCause) → self.old.phase ≡ PlainPhase.Undoing c → self.old.undo.pending ≡ [] }
-        ensures outcome { result ≡ outcome_in self.old.phase self.old.undo.ended self.old.late.ends }
-        ensures same { (undo : Records) (late : Queue) → record self.new { undo = undo; late = late } ≡ record self.old { undo = undo; late = late } }
-    {
-        let undo = mem::replace(&mut self.undo, Stack::new(alloc));
-        let late = mem::replace(&mut self.late, Late::new(alloc));
-        match self.phase {
-            Phase::Undoing(cause) => Outcome::Aborted(Report {
-                cause,
-                records: undo.records(),
-            }),
-            _ => Outcome::Committed {
-                late: late.into_ends(),
-            },
-        }
-    }
-
     /// The entry of the job of this number: a commit's, or that of an abort whose records have their ends. It takes no
     /// memory.
     pub fn close(&mut self, alloc: Global, job: u32) -> Entry
@@ -169,7 +164,9 @@ impl Tx {
             → result ≡ entry_of (seen_tx self.old) at (outcome_in self.old.phase self.old.undo.ended self.old.late.ends) }
         ensures begun { begun_of self.new ≡ begun_of self.old }
     {
-        let outcome = self.outcome(alloc);
+        let undo = mem::replace(&mut self.undo, Stack::new(alloc));
+        let late = mem::replace(&mut self.late, Late::new(alloc));
+        let outcome = outcome_of(&self.phase, undo, late);
         self.writes = WriteSet::new(alloc);
         Entry {
             tx: self.number,

@@ -14,8 +14,8 @@ use Rattle.xc_station.proofs.Steady.{steady_kept}
 use Rattle.xc_station.proofs.TurnRows.{committing_turned}
 use Rattle.xc_station.proofs.station.Station.committing.Goals as goal
 
-pub end_late-requires-clause-committing : goal.end_late-requires-clause-committing
-end_late-requires-clause-committing g c =
+pub end_late-requires : goal.end_late-requires
+end_late-requires g c =
     let was = c.index_mut.result.now in
     let station = c.self.inside in
     let model = g.H.Host.model in
