@@ -3,5 +3,7 @@
 
 mod doing;
 mod late;
+#[cfg(test)]
+mod tests;
 
 pub use late::Late;
