@@ -300,7 +300,13 @@ fn slots_take_the_ends_of_kept_calls(rt: HostRuntime) -> Result<(), Fail> {
     let (fault, absent) = (LateEnd::Fault(0), LateEnd::NoName);
     assert_eq!(rt; slot_behind(alloc, Reply::Late, &[])?, store(1, 0));
     assert_eq!(rt; slot_behind(alloc, Reply::Late, &[fault])?, store(1, 4));
-    assert_eq!(rt; slot_behind(alloc, Reply::Late, &[fault, absent])?, store(1, 2));
-    assert_eq!(rt; slot_behind(alloc, Reply::BadHandle, &[absent])?, store(1, 2));
+    assert_eq!(rt;
+        slot_behind(alloc, Reply::Late, &[fault, absent])?,
+        store(1, 2)
+    );
+    assert_eq!(rt;
+        slot_behind(alloc, Reply::BadHandle, &[absent])?,
+        store(1, 2)
+    );
     Ok(())
 }

@@ -50,8 +50,14 @@ pub fn commit(alloc: Global, number: u32, job: &mut Job) -> Entry
         → (seen_job job.new ≡ behind_commit (seen_job job.old) tx) × (result ≡ entry_of tx at (Committed tx.ends)) }
 {
     job.activity = Activity::Idle;
-    let Tx { calls, replies, late, .. } = &job.tx;
-    job.place.set_ends(calls.as_slice(), replies.as_slice(), late.ends());
+    let Tx {
+        calls,
+        replies,
+        late,
+        ..
+    } = &job.tx;
+    job.place
+        .set_ends(calls.as_slice(), replies.as_slice(), late.ends());
     go_on(&mut job.place, &mut job.attempts);
     job.tx.renew();
     job.tx.close(alloc, number)
