@@ -29,6 +29,8 @@ pub use renaming::x_rename;
 #[cfg(test)]
 mod append_tests;
 #[cfg(test)]
+mod late_tests;
+#[cfg(test)]
 mod name_tests;
 #[cfg(test)]
 mod tests;

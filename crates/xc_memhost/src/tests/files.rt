@@ -17,6 +17,8 @@ enum Asked {
     Read,
     Append(&'static [u8]),
     Rename(&'static [u8], &'static [u8]),
+    Unlink(&'static [u8]),
+    Sync,
     Cut(u32),
     Uncreate(&'static [u8]),
     NameBack(&'static [u8], &'static [u8]),
@@ -51,6 +53,19 @@ const RENAMED: [(Asked, Told); 17] = [
     (Asked::Uncreate(b"b"), Told::Done),
     (Asked::Lookup(b"b"), Told::Absent),
     (Asked::Create(b"b"), Told::Done),
+];
+
+// A file whose name is gone is still there by its number, and the name is free.
+const UNLINKED: [(Asked, Told); 9] = [
+    (Asked::Create(b"b"), Told::Done),
+    (Asked::Append(b"h"), Told::Number(1)),
+    (Asked::Sync, Told::Done),
+    (Asked::Unlink(b"b"), Told::Done),
+    (Asked::Lookup(b"b"), Told::Absent),
+    (Asked::Read, Told::Got(b"h")),
+    (Asked::Append(b"i"), Told::Number(1)),
+    (Asked::Sync, Told::Done),
+    (Asked::Len, Told::Number(2)),
 ];
 
 // At grain 1, at 2 and at 3, and where there is none.
@@ -111,6 +126,8 @@ fn call_of(alloc: Global, asked: Asked) -> Result<HostCall, NoMemory> {
             from: name(from)?,
             to: name(to)?,
         },
+        Asked::Unlink(text) => HostCall::Unlink(name(text)?),
+        Asked::Sync => HostCall::Sync(MADE),
         Asked::Cut(len) => HostCall::Cut { file: MADE, len },
         Asked::Uncreate(text) => HostCall::Uncreate {
             name: name(text)?,
@@ -172,6 +189,7 @@ fn calls_on_names_and_ends(rt: HostRuntime) -> Result<(), Fail> {
     for grain in 1..4 {
         assert!(rt; plays_each(alloc, &RENAMED, Some(grain))?, "grain {grain}");
     }
+    assert!(rt; plays_each(alloc, &UNLINKED, None)?);
     assert!(rt; plays_each(alloc, &GROWN_BY_1, Some(1))?);
     assert!(rt; plays_each(alloc, &GROWN_BY_2, Some(2))?);
     assert!(rt; plays_each(alloc, &GROWN_BY_3, Some(3))?);

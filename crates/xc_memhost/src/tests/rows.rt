@@ -185,6 +185,27 @@ fn failed_writes(alloc: Global) -> Result<Row, NoMemory> {
     })
 }
 
+// The first unlink fails, and the second sync. The file stays when its name is gone.
+fn failed_late_calls(alloc: Global) -> Result<Row, NoMemory> {
+    let steps = vec![in alloc;
+        (HostCall::Sync(FILE), HostAnswer::Done),
+        (HostCall::Unlink(name(b"a")?), HostAnswer::Fault),
+        (HostCall::Sync(FILE), HostAnswer::Fault),
+        (look_up(b"a")?, HostAnswer::Found(Some(FILE))),
+        (HostCall::Unlink(name(b"a")?), HostAnswer::Done),
+        (HostCall::Sync(FILE), HostAnswer::Done),
+        (look_up(b"a")?, HostAnswer::Found(None)),
+        (read(0, 6), got(alloc, b"abcdef")?),
+    ]?;
+    Ok(Row {
+        lines: vec![in alloc; line(Kind::Sync, 2, 2), line(Kind::Unlink, 1, 1)]?,
+        grain: None,
+        steps,
+        left: b"abcdef",
+        faults: 2,
+    })
+}
+
 #[test]
 fn worked_rows(rt: HostRuntime) -> Result<(), Fail> {
     let alloc = rt.alloc();
@@ -197,6 +218,7 @@ fn worked_rows(rt: HostRuntime) -> Result<(), Fail> {
         ("faults by any", faults_by_any(alloc)?),
         ("faults that overlap", faults_that_overlap(alloc)?),
         ("failed writes", failed_writes(alloc)?),
+        ("failed late calls", failed_late_calls(alloc)?),
     ]?;
     for (row, told) in rows {
         assert!(rt; plays_row(alloc, told)?, "{row}");
