@@ -1,6 +1,4 @@
-ghost use Rattle.std.specs.Prelude.{◌≤◌};
-
-use crate::tests::{ALL, NUM, host_of, opened, position, word};
+use crate::tests::{ALL, NUM, host_of, opened, position};
 use crate::x_write_seq;
 use Asked::{Append, Len};
 use std::alloc::Global;
@@ -62,59 +60,6 @@ fn an_append_stops_at_its_first_fault(rt: HostRuntime) -> Result<(), Fail> {
             let so = appends_so(rt.alloc(), grain, calls, fail, *done)?;
             assert!(rt; so, "grain {grain}, fault {fail}");
         }
-    }
-    Ok(())
-}
-
-// n bytes of one letter.
-fn letters(alloc: Global, n: usize) -> Result<Vec<u8>, NoMemory>
-    requires { n ≤ 65536 }
-{
-    let mut bytes = Vec::new(alloc);
-    bytes.resize(n, 120)?;
-    Ok(bytes)
-}
-
-// An append of n bytes at a handle, where a file of so many bytes is open at handle 0: the reply, the host's
-// calls, and what is stored then.
-fn appended(
-    alloc: Global,
-    len: usize,
-    h: u16,
-    stored: u32,
-    n: usize,
-) -> Result<(&'static str, usize, u32), NoMemory>
-    requires len { len ≤ 65536 }
-    requires stored { stored ≤ 16384 }
-    requires n { n ≤ 65536 }
-{
-    let mut host = host_of(alloc, &letters(alloc, len)?, 1024, 0)?;
-    let mut me = opened(0, stored);
-    let mut undo = Stack::new(alloc);
-    let bytes = Chunk::from_vec(letters(alloc, n)?)?;
-    let reply = x_write_seq(&mut host, &mut me, &mut undo, h, &bytes)?;
-    Ok((word(&reply), host.log.len(), me.stored))
-}
-
-#[test]
-fn what_decides_an_append(rt: HostRuntime) -> Result<(), Fail> {
-    // the file's length, the handle, what is stored, the bytes, and what comes of it
-    for (len, h, stored, n, replied) in [
-        (4, 1, 16384, 1025, ("bad handle", 0, 16384)),
-        (4, 0, 16384, 1025, ("too big", 0, 16384)),
-        (4, 0, 16384, 1, ("too much", 0, 16384)),
-        (4, 0, 16384, 0, ("done", 0, 16384)),
-        (4, 0, 15360, 1024, ("done", 2, 16384)),
-        (65536, 0, 0, 0, ("done", 0, 0)),
-        (65536, 0, 0, 1, ("too big", 1, 1)),
-        (65536, 0, 16383, 1, ("too big", 1, 16384)),
-        (65535, 0, 0, 1, ("done", 2, 1)),
-        (65535, 0, 0, 2, ("too big", 1, 2)),
-        (64512, 0, 0, 1024, ("done", 2, 1024)),
-        (64513, 0, 0, 1024, ("too big", 1, 1024)),
-    ] {
-        let so = appended(rt.alloc(), len, h, stored, n)?;
-        assert_eq!(rt; so, replied, "{n} bytes behind {len}");
     }
     Ok(())
 }

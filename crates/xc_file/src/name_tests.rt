@@ -1,10 +1,10 @@
-use crate::tests::{ALL, NUM, host_of, opened, position, word};
-use crate::{x_close, x_create, x_len, x_rename, x_seek};
+use crate::tests::{ALL, NUM, host_of, opened, word};
+use crate::{x_create, x_rename};
 use Asked::{Create, Lookup, Rename};
 use std::alloc::Global;
 use std::test::Fail;
 use xc_compensate::Stack;
-use xc_data::{Name, NoMemory, Place, Private, Reply};
+use xc_data::{Name, NoMemory, Place, Private};
 use xc_testhost::Asked;
 
 fn name(bytes: &[u8]) -> Result<Name, NoMemory> {
@@ -95,46 +95,5 @@ fn a_file_is_renamed(rt: HostRuntime) -> Result<(), Fail> {
         let replied = renamed(rt.alloc(), from, to, fail)?;
         assert_eq!(rt; replied, so, "fault {fail}");
     }
-    Ok(())
-}
-
-// ---- handles
-#[test]
-fn a_position_is_set(rt: HostRuntime) -> Result<(), Fail> {
-    for (h, to, reply, at) in [
-        (1, 65537, "bad handle", 3),
-        (0, 65537, "too big", 3),
-        (0, u64::MAX, "too big", 3),
-        (0, 65536, "done", 65536),
-        (0, 0, "done", 0),
-    ] {
-        let mut me = opened(3, 16384);
-        assert_eq!(rt; word(&x_seek(&mut me, h, to)), reply, "to {to}");
-        assert_eq!(rt; position(&me), Some(at), "to {to}");
-    }
-    Ok(())
-}
-
-#[test]
-fn a_length_is_told(rt: HostRuntime) -> Result<(), Fail> {
-    for (h, fail, reply, calls) in [
-        (1, 0, Reply::BadHandle, 0),
-        (0, 0, Reply::Number(5), 1),
-        (0, 1, Reply::Fault(0), 1),
-    ] {
-        let mut host = host_of(rt.alloc(), b"hello", ALL, fail)?;
-        assert_eq!(rt; x_len(&mut host, &opened(3, 0), h), reply);
-        assert_eq!(rt; host.log.len(), calls);
-    }
-    Ok(())
-}
-
-// A closed handle is no open one any more.
-#[test]
-fn a_closed_handle_is_bad(rt: HostRuntime) -> Result<(), Fail> {
-    let mut me = with_handles(false);
-    assert_eq!(rt; x_close(&mut me, 0), Reply::Done);
-    assert_eq!(rt; x_close(&mut me, 0), Reply::BadHandle);
-    assert_eq!(rt; x_seek(&mut me, 0, 0), Reply::BadHandle);
     Ok(())
 }

@@ -226,48 +226,6 @@ fn a_name_is_opened(rt: HostRuntime) -> Result<(), Fail> {
     Ok(())
 }
 
-// A read and an overwrite of so many bytes at a handle, where a file of four bytes is open at handle 0.
-fn both(
-    alloc: Global,
-    host: &mut TestHost,
-    mut me: Private,
-    h: u16,
-    n: usize,
-) -> Result<(&'static str, &'static str), NoMemory>
-    requires stored { me.stored ≤ 16384 }
-    requires n { n ≤ 65536 }
-{
-    let mut other = me;
-    let read = x_read(alloc, host, &mut me, h, n as u64)?;
-    let mut bytes = Vec::new(alloc);
-    bytes.resize(n, 120)?;
-    let bytes = Chunk::from_vec(bytes)?;
-    let mut undo = Stack::new(alloc);
-    let written = x_write_ovr(alloc, host, &mut other, &mut undo, h, &bytes)?;
-    Ok((word(&read), word(&written)))
-}
-
-#[test]
-fn what_decides_first(rt: HostRuntime) -> Result<(), Fail> {
-    // the handle, the position, what is stored, the bytes, both replies, the host's calls of both
-    for (h, at, stored, n, read, written, calls) in [
-        (1, 0, 16384, 1025, "bad handle", "bad handle", 0),
-        (0, 0, 16384, 1025, "too big", "too big", 0),
-        (0, 0, 16384, 1, "too much", "too much", 0),
-        (0, 0, 16384, 0, "got", "done", 0),
-        (0, 4, 15360, 1024, "end", "past end", 2),
-        (0, 3, 0, 1, "got", "done", 4),
-        (0, 3, 0, 2, "got", "past end", 3),
-        (0, u32::MAX, 0, 1, "end", "past end", 1),
-    ] {
-        let mut host = host_of(rt.alloc(), b"four", ALL, 0)?;
-        let replies = both(rt.alloc(), &mut host, opened(at, stored), h, n)?;
-        assert_eq!(rt; replies, (read, written), "at {at}, {n} bytes");
-        assert_eq!(rt; host.log.len(), calls, "at {at}, {n} bytes");
-    }
-    Ok(())
-}
-
 // A host that says too much of the file's length.
 #[test]
 fn old_bytes_that_are_not_there(rt: HostRuntime) -> Result<(), Fail> {
@@ -283,40 +241,5 @@ fn old_bytes_that_are_not_there(rt: HostRuntime) -> Result<(), Fail> {
         [Len, Read(0, 9), Read(4, 5), Read(5, 4)].as_slice()
     );
     assert_eq!(rt; host.bytes.as_slice(), b"hello".as_slice());
-    Ok(())
-}
-
-// ---- a long file
-// Reads a file in pieces of 1,024, each by a transaction of its own, and answers the last reply.
-fn read_in_pieces(
-    alloc: Global,
-    host: &mut TestHost,
-    text: &mut Vec<u8>,
-) -> Result<&'static str, NoMemory> {
-    let mut at = 0;
-    for _ in 0..100 {
-        let mut me = opened(at, 0);
-        let reply = x_read(alloc, host, &mut me, 0, 1024)?;
-        let Reply::Got(bytes) = &reply else {
-            return Ok(word(&reply));
-        };
-        text.extend_from_slice(bytes.as_slice())?;
-        at = position(&me).unwrap_or(0);
-    }
-    Ok("too long")
-}
-
-#[test]
-fn a_long_file_is_read_in_pieces(rt: HostRuntime) -> Result<(), Fail> {
-    let mut bytes = Vec::new(rt.alloc());
-    for i in 0..65536u32 {
-        bytes.push((i % 251) as u8)?;
-    }
-    let mut host = host_of(rt.alloc(), &bytes, 300, 0)?;
-    let mut text = Vec::new(rt.alloc());
-    assert_eq!(rt; read_in_pieces(rt.alloc(), &mut host, &mut text)?, "end");
-    assert!(rt; text == bytes);
-    // four reads for each of 64 pieces, and one that finds the end
-    assert_eq!(rt; host.log.len(), 257);
     Ok(())
 }

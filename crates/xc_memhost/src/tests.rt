@@ -1,5 +1,4 @@
 mod allowed;
-mod files;
 mod rows;
 
 use crate::{HostAnswer, HostCall, MemHost, run_calls};

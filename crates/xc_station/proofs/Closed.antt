@@ -20,7 +20,7 @@ use Rattle.xc_station.specs.declared.job.Activity.{Activity}
 use Rattle.xc_station.specs.declared.job.Activity.TheVariants as activity
 use Rattle.xc_station.specs.declared.job.Job.{Job}
 use Rattle.xc_station.specs.declared.tx.Tx.{Tx}
-use Rattle.xc_station.specs.Jobs.{begun_of, doing_of, outcome_in, seen_doing, seen_job, seen_tx}
+use Rattle.xc_station.specs.Jobs.{begun_of, doing_of, outcome_in, seen_doing, seen_job, seen_tx, with_queue}
 
 active_or : SeenTx → Doing → SeenTx
 active_or none (Active tx) = tx
@@ -76,12 +76,11 @@ undo_behind job tx undo is =
     ∙ ap (λ (t : SeenTx). with_tx (seen_job job) job.place (record t { undo = undo })) (its_active job tx is)
 
 -- a job whose late calls went on
-pub late_behind : (job : Job) (tx : SeenTx) (late : Queue) → doing_of job ≡ Active tx
-    → seen_job (record job { tx = record job.tx { late = late } })
-    ≡ with_tx (seen_job job) job.place (record tx { late = late.calls; ends = late.ends })
-late_behind job tx late is =
-    sym (moves_on job tx job.place (record job.tx { late = late }) is refl)
-    ∙ ap (λ (t : SeenTx). with_tx (seen_job job) job.place (record t { late = late.calls; ends = late.ends })) (its_active job tx is)
+pub late_behind : (job : Job) (tx : SeenTx) (queue : Queue) → doing_of job ≡ Active tx
+    → seen_job (record job { tx = record job.tx { late = queue } }) ≡ with_tx (seen_job job) job.place (with_queue tx queue)
+late_behind job tx queue is =
+    sym (moves_on job tx job.place (record job.tx { late = queue }) is refl)
+    ∙ ap (λ (t : SeenTx). with_tx (seen_job job) job.place (with_queue t queue)) (its_active job tx is)
 
 idle_abort : (job : SeenJob) (tx : SeenTx) (c : Cause) → behind_abort (record job { doing = Idle }) tx c ≡ behind_abort job tx c
 idle_abort job tx cause.Asked = refl
@@ -98,13 +97,15 @@ abort_behind old between new tx b c taken cause gone =
 pub abort_entry : (t tx : SeenTx) (at : ℕ) (c : Cause) → t ≡ tx → tx.phase ≡ Undoing c
     → entry_of t at (outcome_in t.phase t.undo.ended t.ends) ≡ entry_of tx at (Aborted (record { cause = c; records = tx.undo.ended }))
 abort_entry t tx at c same phase =
-    ap (λ (u : SeenTx). entry_of u at (outcome_in u.phase u.undo.ended u.ends)) same ∙ ap (λ (p : Phase). entry_of tx at (outcome_in p tx.undo.ended tx.ends)) phase
+    ap (λ (u : SeenTx). entry_of u at (outcome_in u.phase u.undo.ended u.ends)) same
+    ∙ ap (λ (p : Phase). entry_of tx at (outcome_in p tx.undo.ended tx.ends)) phase
 
 -- and that of a commit
 pub commit_entry : (t tx : SeenTx) (at : ℕ) → t ≡ tx → tx.phase ≡ Committing
     → entry_of t at (outcome_in t.phase t.undo.ended t.ends) ≡ entry_of tx at (Committed tx.ends)
 commit_entry t tx at same phase =
-    ap (λ (u : SeenTx). entry_of u at (outcome_in u.phase u.undo.ended u.ends)) same ∙ ap (λ (p : Phase). entry_of tx at (outcome_in p tx.undo.ended tx.ends)) phase
+    ap (λ (u : SeenTx). entry_of u at (outcome_in u.phase u.undo.ended u.ends)) same
+    ∙ ap (λ (p : Phase). entry_of tx at (outcome_in p tx.undo.ended tx.ends)) phase
 
 -- a job behind a commit
 pub commit_behind : (old : SeenJob) (t tx : SeenTx) (me : Private) (place : Place) (attempts : Option Attempts) → t ≡ tx → me ≡ beginning t.me.places

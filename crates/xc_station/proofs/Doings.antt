@@ -35,6 +35,7 @@ use Rattle.xc_story.specs.LateCalls.{waits}
 use Rattle.xc_story.specs.Seen.{SeenTx}
 use Rattle.xc_story.specs.WordCalls.{IsWordStep, is_word_call, word_reply, words_after}
 use Rattle.xc_station.specs.Acting.{Acting, HasActed, HasDone, LeavesOff, leaving, with_parts}
+use Rattle.xc_station.specs.Jobs.{queue_of, with_queue}
 use Rattle.xc_station.proofs.WordActs.{append_nil, still_words, no_stores, no_value, word-act, word-fine, word-quiet, word-trail}
 
 -- a host with a transaction at it, as calls on files see them
@@ -120,8 +121,8 @@ module _ {H : Type 0} (model : HostModel H) (c : Call) (old new : Acting H) (oth
 
 -- so it has acted; the transaction and the words are as before but for its private state and its records
 pub file_acted : {H : Type 0} (model : HostModel H) (c d : Call) (old new : Acting H) (r : Result Reply NoMemory) → c ≡ d → is_word_call d ≡ false
-    → waits d ≡ false → IsFileCall model d (calling old) (calling new) r → new.tx ≡ record old.tx { me = new.tx.me; undo = new.tx.undo } → new.tx.me.stored ≤ 16384
-    → IfOk r (λ reply. is_late reply ≡ false) → HasActed model c old new r
+    → waits d ≡ false → IsFileCall model d (calling old) (calling new) r → new.tx ≡ record old.tx { me = new.tx.me; undo = new.tx.undo }
+    → new.tx.me.stored ≤ 16384 → IfOk r (λ reply. is_late reply ≡ false) → HasActed model c old new r
 file_acted model c d old new r is other at_once k frame stored now =
     let writes = ap (λ (t : SeenTx). t.writes) frame in
     let whole : new.tx ≡ framed old.tx (parts_of new.tx) =
@@ -137,13 +138,9 @@ alone_acted model c d old next reply is other at_once alone stored now =
     (alone_call model d (calling old) next reply alone) refl stored now
 
 -- ---- a call that is kept for the commit
--- a transaction's late calls
-abbrev pub queue_of : SeenTx → Queue
-queue_of tx = record { calls = tx.late; ends = tx.ends }
-
--- a transaction with others
+-- a transaction at a host with other late calls
 abbrev pub queueing : {H : Type 0} → Acting H → Queue → Acting H
-queueing a queue = record a { tx = record a.tx { late = queue.calls; ends = queue.ends } }
+queueing a queue = record a { tx = with_queue a.tx queue }
 
 -- it has acted: the host is as it was
 pub kept_acted : {H : Type 0} (model : HostModel H) (c d : Call) (old : Acting H) (queue : Queue) (r : Result Reply NoMemory) → c ≡ d

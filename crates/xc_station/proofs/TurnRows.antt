@@ -25,7 +25,7 @@ use Rattle.xc_station.specs.declared.calls.Shared.{Shared}
 use Rattle.xc_station.specs.declared.job.Job.{Job}
 use Rattle.xc_station.specs.declared.job.Stage.{Stage}
 use Rattle.xc_station.specs.declared.job.Stage.TheVariants as stage
-use Rattle.xc_station.specs.Jobs.{doing_of, seen_job, seen_jobs, seen_tx}
+use Rattle.xc_station.specs.Jobs.{doing_of, queue_of, seen_job, seen_jobs, with_queue}
 use Rattle.xc_station.specs.Moments.{IsRow, moved}
 use Rattle.xc_station.specs.Stations.{moment}
 use Rattle.xc_station.proofs.Closed.{its_active}
@@ -94,9 +94,8 @@ module _ {H : Type 0} (model : HostModel H) (shared : Shared H) (journal : List 
   -- a committing job's, where a late call has no end
   pub committing_turned : (s : Setting) (shared' : Shared H) (job : Job) → (IsTrue s.tells → IsTrue model.tells) → IsThere jobs at stage.Committing was
       → ((tx : SeenTx) (call : LateCall) (calls : List LateCall) → (seen_job was).doing ≡ Active tx → late_left tx ≡ call ∷ calls
-      → (late : Queue) × (seen_job job ≡ with_tx (seen_job was) was.place (record tx { late = late.calls; ends = late.ends }))
-      × EndsNext model call (record { host = shared.host; late = record { calls = tx.late; ends = tx.ends } })
-      (record { host = shared'.host; late = late }))
+      → (queue : Queue) × (seen_job job ≡ with_tx (seen_job was) was.place (with_queue tx queue))
+      × EndsNext model call (record { host = shared.host; late = queue_of tx }) (record { host = shared'.host; late = queue }))
       → shared'.words ≡ shared.words
       → IsTurn s at (moment model shared journal jobs) turn.Went (moment model shared' journal (slice_set jobs at job))
   committing_turned s shared' job telling is gives words =
@@ -108,7 +107,7 @@ module _ {H : Type 0} (model : HostModel H) (shared : Shared H) (journal : List 
       let row : EndsLate s at old (seen_job was) mine.tx mine.next new = record {
         end = ends.end;
         jobs = map_set seen_job jobs at job ∙ ap (slice_set (seen_jobs jobs) at)
-            (gave.1 ∙ ap (λ (late : Queue). with_tx (seen_job was) was.place (record mine.tx { late = late.calls; ends = late.ends })) ends.noted);
+            (gave.1 ∙ ap (λ (queue : Queue). with_tx (seen_job was) was.place (with_queue mine.tx queue)) ends.noted);
         words = words;
         journal = refl;
         cause = ends.cause;

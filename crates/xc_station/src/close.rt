@@ -9,7 +9,7 @@ ghost use Rattle.xc_compensate.specs.Records.{IsTried, NextIsCovered, Records};
 ghost use Rattle.xc_story.specs.declared.phase.Phase.TheVariants as PlainPhase;
 ghost use Rattle.xc_story.specs.Seen.{SeenTx, Active, Idle, failures, late_left};
 ghost use Rattle.xc_story.specs.Rows.{behind_abort, behind_commit, entry_of, with_tx};
-ghost use Rattle.xc_station.specs.Jobs.{seen_job, seen_tx};
+ghost use Rattle.xc_station.specs.Jobs.{queue_of, seen_job, seen_tx, with_queue};
 
 use crate::job::{Activity, Job};
 use crate::tx::Tx;
@@ -35,8 +35,8 @@ pub fn end_late<H: Host>(host: &mut H, job: &mut Job)
         × (IsTrue H.model.tells → (call : PlainCall) (calls : List PlainCall) → late_left tx ≡ call ∷ calls
         → IsThereFor (H.model.contents host.old) call) }
     ensures { (tx : SeenTx) (call : PlainCall) (calls : List PlainCall) → (seen_job job.old).doing ≡ Active tx → late_left tx ≡ call ∷ calls
-        → (late : Queue) × (seen_job job.new ≡ with_tx (seen_job job.old) job.old.place (record tx { late = late.calls; ends = late.ends }))
-        × EndsNext H.model call (record { host = host.old; late = record { calls = tx.late; ends = tx.ends } }) (record { host = host.new; late = late }) }
+        → (queue : Queue) × (seen_job job.new ≡ with_tx (seen_job job.old) job.old.place (with_queue tx queue))
+        × EndsNext H.model call (record { host = host.old; late = queue_of tx }) (record { host = host.new; late = queue }) }
 {
     job.tx.late.do_one(host);
 }

@@ -76,24 +76,18 @@ fn without_grain(alloc: Global) -> Result<Row, NoMemory> {
     })
 }
 
-// Each read, write and restoration asks for four bytes at place 1.
-fn with_grain(
-    alloc: Global,
-    grain: u32,
-    front: &[u8],
-    left: &'static [u8],
-) -> Result<Row, NoMemory> {
+// Each read, write and restoration asks for four bytes or two, and does one.
+fn with_grain(alloc: Global) -> Result<Row, NoMemory> {
     let steps = vec![in alloc;
-        (read(1, 4), got(alloc, front)?),
-        (write(alloc, 1, b"WXYZ")?, HostAnswer::Number(grain)),
-        (restore(alloc, 2, b"12")?, HostAnswer::Number(grain.min(2))),
-        (HostCall::Len(FILE), HostAnswer::Number(6)),
+        (read(1, 4), got(alloc, b"b")?),
+        (write(alloc, 1, b"WXYZ")?, HostAnswer::Number(1)),
+        (restore(alloc, 2, b"12")?, HostAnswer::Number(1)),
     ]?;
     Ok(Row {
         lines: Vec::new(alloc),
-        grain: Some(grain),
+        grain: Some(1),
         steps,
-        left,
+        left: b"aW1def",
         faults: 0,
     })
 }
@@ -113,74 +107,6 @@ fn faults_of_a_kind(alloc: Global) -> Result<Row, NoMemory> {
         grain: None,
         steps,
         left: b"abcdef",
-        faults: 2,
-    })
-}
-
-// The second of all calls fails, and so does the first length. The fourth call is listed twice.
-fn faults_by_any(alloc: Global) -> Result<Row, NoMemory> {
-    let steps = vec![in alloc;
-        (HostCall::Len(FILE), HostAnswer::Fault),
-        (look_up(b"a")?, HostAnswer::Fault),
-        (look_up(b"a")?, HostAnswer::Found(Some(FILE))),
-        (HostCall::Len(FILE), HostAnswer::Fault),
-        (HostCall::Len(FILE), HostAnswer::Number(6)),
-    ]?;
-    let lines = vec![in alloc;
-        line(Kind::Any, 2, 2),
-        line(Kind::Len, 1, 2),
-        line(Kind::Any, 4, 4),
-    ]?;
-    Ok(Row {
-        lines,
-        grain: None,
-        steps,
-        left: b"abcdef",
-        faults: 3,
-    })
-}
-
-// Lines that overlap, in no order, and one of no number.
-fn faults_that_overlap(alloc: Global) -> Result<Row, NoMemory> {
-    let steps = vec![in alloc;
-        (HostCall::Len(FILE), HostAnswer::Fault),
-        (HostCall::Len(FILE), HostAnswer::Fault),
-        (HostCall::Len(FILE), HostAnswer::Number(6)),
-        (HostCall::Len(FILE), HostAnswer::Fault),
-        (HostCall::Len(FILE), HostAnswer::Fault),
-        (HostCall::Len(FILE), HostAnswer::Fault),
-        (HostCall::Len(FILE), HostAnswer::Number(6)),
-    ]?;
-    let lines = vec![in alloc;
-        line(Kind::Len, 5, 6),
-        line(Kind::Len, 1, 2),
-        line(Kind::Len, 7, 4),
-        line(Kind::Len, 4, 6),
-        line(Kind::Len, 2, 2),
-        line(Kind::Len, 5, 5),
-    ]?;
-    Ok(Row {
-        lines,
-        grain: None,
-        steps,
-        left: b"abcdef",
-        faults: 5,
-    })
-}
-
-fn failed_writes(alloc: Global) -> Result<Row, NoMemory> {
-    let steps = vec![in alloc;
-        (write(alloc, 0, b"XY")?, HostAnswer::Fault),
-        (restore(alloc, 3, b"Z")?, HostAnswer::Fault),
-        (read(0, 6), got(alloc, b"abcdef")?),
-        (write(alloc, 4, b"XY")?, HostAnswer::Number(2)),
-        (restore(alloc, 4, b"e")?, HostAnswer::Number(1)),
-    ]?;
-    Ok(Row {
-        lines: vec![in alloc; line(Kind::WriteAt, 1, 1), line(Kind::Restore, 1, 1)]?,
-        grain: None,
-        steps,
-        left: b"abcdeY",
         faults: 2,
     })
 }
@@ -211,13 +137,8 @@ fn worked_rows(rt: HostRuntime) -> Result<(), Fail> {
     let alloc = rt.alloc();
     let rows = vec![in alloc;
         ("no grain", without_grain(alloc)?),
-        ("grain 1", with_grain(alloc, 1, b"b", b"aW1def")?),
-        ("grain 2", with_grain(alloc, 2, b"bc", b"aW12ef")?),
-        ("grain 3", with_grain(alloc, 3, b"bcd", b"aW12ef")?),
+        ("grain 1", with_grain(alloc)?),
         ("faults of a kind", faults_of_a_kind(alloc)?),
-        ("faults by any", faults_by_any(alloc)?),
-        ("faults that overlap", faults_that_overlap(alloc)?),
-        ("failed writes", failed_writes(alloc)?),
         ("failed late calls", failed_late_calls(alloc)?),
     ]?;
     for (row, told) in rows {

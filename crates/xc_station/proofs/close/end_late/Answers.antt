@@ -1,8 +1,8 @@
 use Rattle.std.proofs.Common.{◌≡◌, ◌<◌, ◌∷◌, List, IsTrue, length, ap, sym, ◌∙◌, subst}
 use Rattle.xc_data.specs.declared.call.LateCall.{LateCall}
 use Rattle.xc_deferred.specs.Does.{EndsNext, IsThereFor}
-use Rattle.xc_deferred.specs.Queue.{Queue}
 use Rattle.xc_story.specs.Seen.{SeenTx, late_left}
+use Rattle.xc_station.specs.Jobs.{queue_of}
 use Rattle.xc_station.proofs.Closed.{its_active, late_behind}
 use Rattle.xc_station.proofs.close.end_late.Goals as goal
 
@@ -20,10 +20,9 @@ do_one-requires-clause-there g c =
 pub returns : goal.returns
 returns g c tx call calls is left =
     let job = c.args.job.now in
-    let same = its_active job tx is in
-    let queue : SeenTx → Queue = λ t. record { calls = t.late; ends = t.ends } in (
+    let same = its_active job tx is in (
       c.do_one.new.self,
       late_behind job tx c.do_one.new.self is,
-      subst (λ (t : SeenTx). EndsNext g.H.Host.model call (record { host = c.args.host.now; late = queue t })
+      subst (λ (t : SeenTx). EndsNext g.H.Host.model call (record { host = c.args.host.now; late = queue_of t })
           (record { host = c.do_one.new.host; late = c.do_one.new.self })) same (c.do_one.ensures call calls (ap late_left same ∙ left)),
     )

@@ -5,7 +5,7 @@ use Rattle.xc_story.specs.Rows.{IsTurn}
 use Rattle.xc_station.specs.declared.calls.Shared.{Shared}
 use Rattle.xc_data.specs.declared.entry.Turn.TheVariants as turn
 use Rattle.xc_station.specs.declared.job.Stage.TheVariants as PlainStage
-use Rattle.xc_station.specs.Jobs.{IsStage, doing_of}
+use Rattle.xc_station.specs.Jobs.{IsStage, doing_of, with_queue}
 use Rattle.xc_station.specs.Stations.{moment, now_of, setting_of}
 use Rattle.xc_station.proofs.Ready.{may_end_late}
 use Rattle.xc_station.proofs.RoomsKept.{rooms_going}
@@ -23,8 +23,10 @@ end_late-requires g c =
     let s = setting station.opening.script station.rules model.tells in
     let is = lent station.jobs.items at PlainStage.Committing was (subst (λ v. IsStage v.jobs at PlainStage.Committing) (sym c.self.view_is) c.requires)
     c.index_mut.ensures.value in
-    may_end_late model station.shared station.journal.items station.jobs.items at was station.opening.script station.rules station.opening.faults station.active
-    station.journal.spare station.lines c.self.invariant.0 c.self.invariant.1 is
+    record {
+      committing = may_end_late model station.shared station.journal.items station.jobs.items at was station.opening.script station.rules
+          station.opening.faults station.active station.journal.spare station.lines c.self.invariant.0 c.self.invariant.1 is;
+    }
 
 pub invariant_of-self : goal.invariant_of-self
 invariant_of-self g c =
@@ -43,7 +45,7 @@ invariant_of-self g c =
     let gave = c.end_late.ensures mine.tx mine.next mine.later mine.doing mine.left in (
       steady_kept s station.opening.faults at _ _ turn.Went c.self.invariant.0 turned,
       rooms_going model station.shared station.journal.items station.jobs.items at was job station.active station.journal.spare station.lines is.stands
-          c.self.invariant.1 shared' mine.tx (record mine.tx { late = gave.0.calls; ends = gave.0.ends }) refl mine.doing (ap (λ j. j.doing) gave.1) refl refl,
+          c.self.invariant.1 shared' mine.tx (with_queue mine.tx gave.0) refl mine.doing (ap (λ j. j.doing) gave.1) refl refl,
     )
 
 pub returns-clause-row : goal.returns-clause-row
