@@ -14,8 +14,8 @@ use Rattle.xc_data.specs.declared.call.Call.TheVariants as call
 use Rattle.xc_data.specs.declared.call.Reply.{Reply}
 use Rattle.xc_data.specs.declared.call.Reply.TheVariants as reply
 use Rattle.xc_data.specs.declared.private.Private.{Private}
-use Rattle.xc_script.specs.Ask.{Variables, Walk, is_over, is_silent, set_by, settled, ask_of, asks_of, asks, answered, all_answered, behind_ask}
-use Rattle.xc_script.specs.Ask.{bound, target_of, stored_after, refuses, handle_value, data_of}
+use Rattle.xc_script.specs.Ask.{Variables, Walk, is_silent, set_by, settled, asks_of, asks, answered, all_answered, behind_ask}
+use Rattle.xc_script.specs.Ask.{bound, target_of, stored_after, refuses}
 use Rattle.xc_script.specs.declared.ask.Ask.{Ask}
 use Rattle.xc_script.specs.declared.ask.Ask.TheVariants as ask
 use Rattle.xc_story.specs.Rows.{is_built}

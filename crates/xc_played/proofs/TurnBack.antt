@@ -31,7 +31,7 @@ use Rattle.xc_story.specs.Played.{HoldsFor}
 use Rattle.xc_story.specs.Told.{asked_of_tx}
 use Rattle.xc_story.specs.Seen.{SeenTx, SeenJob, Active, active_in}
 use Rattle.xc_story.specs.Rows.{with_tx}
-use Rattle.xc_flight.specs.Active.{Tx, HoldTheSame}
+use Rattle.xc_flight.specs.Active.{Tx}
 use Rattle.xc_flight.specs.Active as flight
 use Rattle.xc_flight.specs.Standing.{Standing, InFlight, IsActive, turned}
 use Rattle.xc_flight.proofs.Calling.{is_running}

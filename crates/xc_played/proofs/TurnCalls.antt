@@ -34,7 +34,7 @@ use Rattle.xc_story.specs.Truth.{AsksEach}
 use Rattle.xc_story.specs.declared.phase.Phase.TheVariants.{Running}
 use Rattle.xc_story.specs.Seen.{SeenTx, SeenJob, Active, active_in}
 use Rattle.xc_story.specs.Rows.{HasNoRival, Parts, Does, is_built, noting, parts_of, stored_by, with_tx, seen}
-use Rattle.xc_flight.specs.Active.{Tx, Own, Covers, HoldTheSame}
+use Rattle.xc_flight.specs.Active.{Tx, Own, HoldTheSame}
 use Rattle.xc_flight.specs.Active as flight
 use Rattle.xc_flight.specs.Flight.{IsRunning, IsPhase}
 use Rattle.xc_flight.specs.Standing.{Standing, InFlight, IsActive, turned}

@@ -1,5 +1,5 @@
 -- Each call of a transaction is the plain machine's, or leaves its part where memory is wanting.
-use Rattle.std.proofs.Common.{◌≡◌, ◌⊎◌, inl, inr, ℕ, ◌≤◌, Bool, true, false, List, [], ◌∷◌, ◌++◌, length, refl, ap, sym, ◌∙◌, subst, IsTrue, arith}
+use Rattle.std.proofs.Common.{◌≡◌, ◌⊎◌, inl, inr, ℕ, ◌≤◌, true, false, List, [], ◌∷◌, ◌++◌, length, refl, ap, sym, ◌∙◌, subst, IsTrue, arith}
 use Rattle.std.proofs.lemmas.List.{append_cancel_left}
 use Rattle.std.specs.Prelude.{Result, Ok, Err, IfOk, IsErr, IsOk, OnErr, OnOk, is_err}
 use Rattle.std.specs.declared.option.Option.TheVariants.{None}
@@ -20,7 +20,6 @@ use Rattle.xc_deferred.specs.Queue.{Queue}
 use Rattle.xc_file.specs.Calls.{CallState, DidPart, IsFileCall, StepsAlone}
 use Rattle.xc_file.specs.Kept.{IsKept}
 use Rattle.xc_file.proofs.FileCalls.{alone_call}
-use Rattle.xc_host.specs.Contents.{Contents}
 use Rattle.xc_host.specs.Model.{HostModel}
 use Rattle.xc_script.specs.Ask.{value_in}
 use Rattle.xc_txmem.specs.Overlay.{overlaid}
@@ -34,7 +33,7 @@ use Rattle.xc_story.specs.Rows.{Parts, DoesIn, DoesPartIn, IsReplyInTime, parts_
 use Rattle.xc_story.specs.LateCalls.{waits}
 use Rattle.xc_story.specs.Seen.{SeenTx}
 use Rattle.xc_story.specs.WordCalls.{IsWordStep, is_word_call, word_reply, words_after}
-use Rattle.xc_station.specs.Acting.{Acting, HasActed, HasDone, LeavesOff, leaving, with_parts}
+use Rattle.xc_station.specs.Acting.{Acting, HasActed, HasDone, LeavesOff, with_parts}
 use Rattle.xc_station.specs.Jobs.{queue_of, with_queue}
 use Rattle.xc_station.proofs.WordActs.{append_nil, still_words, no_stores, no_value, word-act, word-fine, word-quiet, word-trail}
 

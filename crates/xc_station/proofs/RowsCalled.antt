@@ -1,46 +1,39 @@
 -- Rows of the turn of a job whose transaction runs, of a call whose claims are granted: it is done, or memory is wanting.
 use Rattle.std.proofs.Common.{◌≡◌, ◌⊎◌, inl, inr, ℕ, ◌<◌, ◌≤◌, List, [], ◌∷◌, ◌++◌, length, IsTrue, refl, ap, sym, ◌∙◌, subst, arith}
-use Rattle.std.specs.Prelude.{false, All, Option, IsSome, Err, slice_set}
-use Rattle.std.specs.declared.option.Option.TheVariants.{None, Some}
+use Rattle.std.specs.Prelude.{All, slice_set}
 use Rattle.xc_data.specs.Claims.{holding}
 use Rattle.xc_data.specs.Counts.{CountsFault}
 use Rattle.xc_data.specs.Faults.{is_fault_reply}
 use Rattle.xc_data.specs.declared.call.Call.{Call}
 use Rattle.xc_data.specs.declared.call.Answer.{Answer}
 use Rattle.xc_data.specs.declared.call.Reply.{Reply}
-use Rattle.xc_data.specs.declared.private.Private.{Private}
 use Rattle.xc_data.specs.declared.claim.Claim.{Claim}
 use Rattle.xc_data.specs.declared.entry.Cause.TheVariants as cause
 use Rattle.xc_data.specs.declared.entry.Turn.{Turn}
 use Rattle.xc_data.specs.declared.entry.Turn.TheVariants as turn
-use Rattle.xc_data.specs.declared.object.Object.{Object}
 use Rattle.xc_host.specs.Contents.{Contents}
 use Rattle.xc_host.specs.Model.{HostModel}
-use Rattle.xc_script.specs.declared.ask.Ask.{Ask}
 use Rattle.xc_script.specs.declared.ask.Ask.TheVariants as ask
-use Rattle.xc_text.specs.declared.script.Script.{Script}
-use Rattle.xc_text.specs.declared.script.Statement.{Statement}
-use Rattle.xc_script.specs.Ask.{Walk, asks, asks_from, answered, next_body}
-use Rattle.xc_script.specs.Place.{Place, job_of, walk_of, IsSettled}
+use Rattle.xc_script.specs.Ask.{asks, answered}
+use Rattle.xc_script.specs.Place.{Place, walk_of}
 use Rattle.xc_txmem.specs.Overlay.{overlaid}
 use Rattle.xc_world.specs.Modes.{claims_of}
 use Rattle.xc_wordlocks.specs.Table.{claimed, mode_in}
 use Rattle.xc_wordlocks.proofs.Held.{claimed-holding}
-use Rattle.xc_story.specs.declared.phase.Phase.TheVariants.{Committing, Undoing}
+use Rattle.xc_story.specs.declared.phase.Phase.TheVariants.{Undoing}
 use Rattle.xc_story.specs.Setting.{Setting}
-use Rattle.xc_story.specs.Seen.{SeenTx, SeenJob, Now, Active, active_in, with_job}
+use Rattle.xc_story.specs.Seen.{SeenTx, SeenJob, Now, active_in}
 use Rattle.xc_story.specs.WordCalls.{IsWordStep}
-use Rattle.xc_story.specs.Rows.{AskedTurn, Calls, DoesIn, DoesPartIn, HasNoRival, HoldsWanting, IsActiveAt, IsFirstMet, IsLeft, IsSameBegin}
+use Rattle.xc_story.specs.Rows.{Calls, DoesIn, DoesPartIn, HasNoRival, HoldsWanting, IsActiveAt, IsLeft, IsSameBegin}
 use Rattle.xc_story.specs.Rows.{IsSamePlace, IsReplyInTime, Parts, RunningTurn, noting, parts_of, stored_by, wanting, with_tx}
 use Rattle.xc_story.proofs.AskedCalls.{asked_built}
 use Rattle.xc_station.specs.declared.calls.Shared.{Shared}
 use Rattle.xc_station.specs.declared.tx.Tx.{Tx}
 use Rattle.xc_station.specs.Acting.{HasDone, LeavesOff, acting, leaving, with_parts}
 use Rattle.xc_station.specs.Jobs.{seen_tx}
-use Rattle.xc_station.specs.Moments.{HasClaimed, HasTx, IsAt, IsGranted, IsRefused, IsRow, IsTable, moved}
+use Rattle.xc_station.specs.Moments.{HasTx, IsAt, IsGranted, IsRow, moved}
 use Rattle.xc_station.proofs.RowsRun.{asked_before, asked_row}
-use Rattle.xc_station.proofs.Rivals.{first_rival, none_met, table_behind}
-use Rattle.xc_station.proofs.WordActs.{append_nil}
+use Rattle.xc_station.proofs.Rivals.{none_met, table_behind}
 
 -- the job stands behind the reply
 pub record IsBehind (s : Setting) (old new : Place) (reply : Reply) : Type 0 where

@@ -1,43 +1,33 @@
 -- Rows of the turn of a job whose transaction runs, but for calls whose claims are granted.
-use Rattle.std.proofs.Common.{◌≡◌, ◌⊎◌, inl, inr, ℕ, ◌<◌, ◌≤◌, List, [], ◌∷◌, ◌++◌, length, IsTrue, refl, ap, sym, ◌∙◌, subst, arith}
-use Rattle.std.specs.Prelude.{All, Option, IsSome, Err, slice_set}
+use Rattle.std.proofs.Common.{◌≡◌, ◌⊎◌, inl, inr, ℕ, ◌<◌, ◌≤◌, List, [], ◌∷◌, ◌++◌, length, refl, ap, sym, ◌∙◌, subst, arith}
+use Rattle.std.specs.Prelude.{Option, IsSome, Err, slice_set}
 use Rattle.std.specs.declared.option.Option.TheVariants.{None, Some}
-use Rattle.xc_data.specs.Claims.{holding}
-use Rattle.xc_data.specs.Counts.{CountsFault}
-use Rattle.xc_data.specs.Faults.{is_fault_reply}
 use Rattle.xc_data.specs.declared.call.Call.{Call}
-use Rattle.xc_data.specs.declared.call.Answer.{Answer}
-use Rattle.xc_data.specs.declared.call.Reply.{Reply}
 use Rattle.xc_data.specs.declared.claim.Claim.{Claim}
 use Rattle.xc_data.specs.declared.entry.Cause.TheVariants as cause
 use Rattle.xc_data.specs.declared.entry.Turn.{Turn}
 use Rattle.xc_data.specs.declared.entry.Turn.TheVariants as turn
 use Rattle.xc_data.specs.declared.object.Object.{Object}
-use Rattle.xc_host.specs.Contents.{Contents}
 use Rattle.xc_host.specs.Model.{HostModel}
 use Rattle.xc_script.specs.declared.ask.Ask.{Ask}
 use Rattle.xc_script.specs.declared.ask.Ask.TheVariants as ask
 use Rattle.xc_text.specs.declared.script.Script.{Script}
 use Rattle.xc_text.specs.declared.script.Statement.{Statement}
-use Rattle.xc_script.specs.Ask.{Walk, asks, asks_from, answered, next_body}
+use Rattle.xc_script.specs.Ask.{Walk, asks, asks_from, next_body}
 use Rattle.xc_script.specs.Place.{Place, job_of, walk_of, IsSettled}
 use Rattle.xc_txmem.specs.Overlay.{overlaid}
 use Rattle.xc_world.specs.Modes.{claims_of}
-use Rattle.xc_wordlocks.specs.Table.{claimed, mode_in}
-use Rattle.xc_wordlocks.proofs.Held.{claimed-holding}
+use Rattle.xc_wordlocks.specs.Table.{mode_in}
 use Rattle.xc_story.specs.declared.phase.Phase.TheVariants.{Committing, Undoing}
 use Rattle.xc_story.specs.Setting.{Setting}
 use Rattle.xc_story.specs.Seen.{SeenTx, SeenJob, Now, Active, active_in, with_job}
-use Rattle.xc_story.specs.WordCalls.{IsWordStep}
-use Rattle.xc_story.specs.Rows.{AskedTurn, Calls, DoesIn, DoesPartIn, HasNoRival, HoldsWanting, IsActiveAt, IsFirstMet, IsLeft, IsSameBegin, IsSamePlace}
-use Rattle.xc_story.specs.Rows.{Parts, RunningTurn, noting, parts_of, stored_by, wanting, with_tx}
-use Rattle.xc_story.proofs.AskedCalls.{asked_built}
+use Rattle.xc_story.specs.Rows.{AskedTurn, HoldsWanting, IsActiveAt, IsFirstMet, IsSamePlace}
+use Rattle.xc_story.specs.Rows.{RunningTurn, wanting, with_tx}
 use Rattle.xc_station.specs.declared.calls.Shared.{Shared}
 use Rattle.xc_station.specs.declared.tx.Tx.{Tx}
-use Rattle.xc_station.specs.Acting.{HasDone, LeavesOff, acting, leaving, with_parts}
 use Rattle.xc_station.specs.Jobs.{seen_tx}
-use Rattle.xc_station.specs.Moments.{HasClaimed, HasTx, IsAt, IsGranted, IsRefused, IsRow, IsTable, moved}
-use Rattle.xc_station.proofs.Rivals.{first_rival, none_met, table_behind}
+use Rattle.xc_station.specs.Moments.{HasClaimed, HasTx, IsAt, IsRefused, IsRow, IsTable, moved}
+use Rattle.xc_station.proofs.Rivals.{first_rival, table_behind}
 use Rattle.xc_station.proofs.WordActs.{append_nil}
 
 -- with words and host as before, a moment differs in one job alone

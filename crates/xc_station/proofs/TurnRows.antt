@@ -17,7 +17,7 @@ use Rattle.xc_story.specs.declared.phase.Phase.{Phase}
 use Rattle.xc_story.specs.declared.phase.Phase.TheVariants as phase
 use Rattle.xc_story.specs.declared.rules.Rules.{Rules}
 use Rattle.xc_story.specs.Setting.{Setting, setting}
-use Rattle.xc_story.specs.Seen.{SeenTx, SeenJob, Doing, Idle, Active, Starved, Ended, Now, late_left, with_job, entering}
+use Rattle.xc_story.specs.Seen.{SeenTx, SeenJob, Doing, Idle, Active, Starved, Ended, Now, late_left, with_job}
 use Rattle.xc_text.specs.declared.script.Script.{Script}
 use Rattle.xc_story.specs.Rows.{IsTurn, TurnOf, ActiveTurn, BackTurn, Compensates, EndsLate, EntersAborted, EntersCommitted, IdleTurn, LateTurn, StarvedTurn}
 use Rattle.xc_story.specs.Rows.{behind_abort, behind_commit, entry_of, with_tx}
@@ -28,7 +28,6 @@ use Rattle.xc_station.specs.declared.job.Stage.TheVariants as stage
 use Rattle.xc_station.specs.Jobs.{doing_of, queue_of, seen_job, seen_jobs, with_queue}
 use Rattle.xc_station.specs.Moments.{IsRow, moved}
 use Rattle.xc_station.specs.Stations.{moment}
-use Rattle.xc_station.proofs.Closed.{its_active}
 use Rattle.xc_station.proofs.Placed.{get_map, map_set}
 use Rattle.xc_station.proofs.Stages.{IsThere, idle_stage, starved_stage, running_stage, committing_stage, committed_stage, undoing_stage, undone_stage}
 

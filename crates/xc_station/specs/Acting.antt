@@ -1,5 +1,5 @@
 -- What a call of a running transaction needs, and what it does.
-use Rattle.std.specs.Prelude.{◌≡◌, ◌⊎◌, ℕ, ◌≤◌, false, List, [], ◌++◌, length, IsTrue, Result, Ok, Err}
+use Rattle.std.specs.Prelude.{◌≡◌, ◌⊎◌, ℕ, ◌≤◌, List, [], ◌++◌, length, IsTrue, Result, Ok, Err}
 use Rattle.xc_data.specs.Counts.{CountsFault}
 use Rattle.xc_data.specs.Faults.{is_fault_reply}
 use Rattle.xc_data.specs.Private.{place_of}

@@ -9,7 +9,7 @@ ghost use Rattle.xc_compensate.specs.Records.{IsTried, NextIsCovered, Records};
 ghost use Rattle.xc_story.specs.declared.phase.Phase.TheVariants as PlainPhase;
 ghost use Rattle.xc_story.specs.Seen.{SeenTx, Active, Idle, failures, late_left};
 ghost use Rattle.xc_story.specs.Rows.{behind_abort, behind_commit, entry_of, with_tx};
-ghost use Rattle.xc_station.specs.Jobs.{queue_of, seen_job, seen_tx, with_queue};
+ghost use Rattle.xc_station.specs.Jobs.{queue_of, seen_job, with_queue};
 
 use crate::job::{Activity, Job};
 use crate::tx::Tx;

@@ -1,4 +1,3 @@
-use Rattle.std.proofs.Common.{refl}
 use Rattle.xc_station.proofs.RowsCalled.{called, starved}
 use Rattle.xc_station.proofs.RowsRun.{unclaimed}
 use Rattle.xc_station.proofs.running.try_call.Goals as goal
