@@ -1,5 +1,4 @@
-# One job unlinks the file that it opened, and the name once more; the slot tells at its end whether there was one. The other
-# job makes a file of that name, between the two or not, and appends to it.
+# The first job unlinks the file that it opened. The other one finds the name taken, or makes a new file of it, and appends.
 file a "0"
 job removing
 tx
@@ -7,11 +6,10 @@ x_open a -> f
 x_unlink a slot s
 commit
 tx
-x_unlink a slot s
-commit
-tx
+store 0 ?s + 1
 x_read f 9 -> d
-store 0 ?s
+x_open a -> g
+x_read g 9 -> e
 commit
 end
 job making
