@@ -7,19 +7,12 @@ use crate::value::Variables;
 use crate::{Ask, JobState};
 use std::alloc::Global;
 use std::test::Fail;
-use xc_data::{Call, Chunk, Ident, Items, LateEnd, Name, NoMemory, Reply};
+use xc_data::{Call, Chunk, Ident, Items, Name, NoMemory, Reply};
 use xc_text::{Data, Item, Script, Statement, Term, parse};
 
 fn ident(name: &[u8]) -> Result<Ident, NoMemory> {
     match Ident::new(name) {
         Some(ident) => Ok(ident),
-        None => Err(NoMemory),
-    }
-}
-
-fn name(name: &[u8]) -> Result<Name, NoMemory> {
-    match Name::new(name) {
-        Some(name) => Ok(name),
         None => Err(NoMemory),
     }
 }
@@ -270,43 +263,5 @@ fn the_next_transaction(rt: HostRuntime) -> Result<(), Fail> {
     assert_eq!(rt; asked_next(rt.alloc(), last, true)?, store(1, 0));
     let first = "let x 5\nload x -> x\nlet x x + 1\nabort if x = 1\nlet x 9\n";
     assert_eq!(rt; asked_next(rt.alloc(), first, true)?, store(1, 0));
-    Ok(())
-}
-
-// What `?s` counts as behind a commit of a sync and of an unlink into s, the first of which was kept, and which ended so.
-fn slot_behind(alloc: Global, first: Reply, ends: &[LateEnd]) -> Result<Ask, Fail> {
-    let script = script_of(alloc, "x_sync h slot s\nx_unlink a slot s\nlet x ?s\n")?;
-    let mut job = JobState::new(alloc, &script, ident(b"main")?)?;
-    let unlink = Call::XUnlink {
-        name: name(b"a")?,
-        slot: Some(ident(b"s")?),
-    };
-    let sync = Call::XSync {
-        h: 0,
-        slot: Some(ident(b"s")?),
-    };
-    job.set_ends(&[sync, unlink], &[first, Reply::Late], ends);
-    job.begin()?;
-    answer(&mut job, &script, &Reply::Late)?;
-    answer(&mut job, &script, &Reply::Late)?;
-    let _end = job.ask(&script)?;
-    job.pass();
-    Ok(job.ask(&script)?)
-}
-
-#[test]
-fn slots_take_the_ends_of_kept_calls(rt: HostRuntime) -> Result<(), Fail> {
-    let alloc = rt.alloc();
-    let (fault, absent) = (LateEnd::Fault(0), LateEnd::NoName);
-    assert_eq!(rt; slot_behind(alloc, Reply::Late, &[])?, store(1, 0));
-    assert_eq!(rt; slot_behind(alloc, Reply::Late, &[fault])?, store(1, 4));
-    assert_eq!(rt;
-        slot_behind(alloc, Reply::Late, &[fault, absent])?,
-        store(1, 2)
-    );
-    assert_eq!(rt;
-        slot_behind(alloc, Reply::BadHandle, &[absent])?,
-        store(1, 2)
-    );
     Ok(())
 }
