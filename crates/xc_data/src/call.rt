@@ -1,4 +1,4 @@
-use crate::{Chunk, Ident, Name, Num, Object};
+use crate::{Boxed, Chunk, Ident, Name, Num, Object};
 
 /// A call as a transaction makes it. A handle is the number of a place of the job's; 65,535 stands
 /// for a variable that holds no handle.
@@ -12,10 +12,10 @@ pub enum Call {
         value: u64,
     },
     XOpen {
-        name: Name,
+        name: Boxed<Name>,
     },
     XCreate {
-        name: Name,
+        name: Boxed<Name>,
     },
     XRead {
         h: u16,
@@ -37,8 +37,8 @@ pub enum Call {
         h: u16,
     },
     XRename {
-        from: Name,
-        to: Name,
+        from: Boxed<Name>,
+        to: Boxed<Name>,
     },
     XClose {
         h: u16,
@@ -53,30 +53,30 @@ pub enum Call {
         h: u16,
     },
     XUnlink {
-        name: Name,
-        slot: Option<Ident>,
+        name: Boxed<Name>,
+        slot: Option<Boxed<Ident>>,
     },
     XSync {
         h: u16,
-        slot: Option<Ident>,
+        slot: Option<Boxed<Ident>>,
     },
     XWritePipe {
         h: u16,
         bytes: Chunk,
-        slot: Option<Ident>,
+        slot: Option<Boxed<Ident>>,
     },
     XShutdown {
         h: u16,
-        slot: Option<Ident>,
+        slot: Option<Boxed<Ident>>,
     },
     XSendmsg {
         h: u16,
         bytes: Chunk,
-        slot: Option<Ident>,
+        slot: Option<Boxed<Ident>>,
     },
     XThreadCreate {
-        body: Ident,
-        slot: Option<Ident>,
+        body: Boxed<Ident>,
+        slot: Option<Boxed<Ident>>,
     },
 }
 

@@ -1,9 +1,10 @@
 //! Plain data of the runtime: names, objects, calls and replies, entries of the journal, prologues.
 //!
 //! Nothing here acts. Contracts see the list types as lists, a `Name`, an `Ident` and a `Chunk` as
-//! their bytes, and every other type as it stands.
+//! their bytes, a `Boxed` value as the value, and every other type as it stands.
 #![tactic(auto)]
 
+mod boxed;
 mod call;
 mod chunk;
 mod claim;
@@ -19,6 +20,7 @@ mod script;
 mod tests;
 mod undo;
 
+pub use boxed::Boxed;
 pub use call::{Answer, Asked, Call, LateAnswer, LateCall, LateEnd, Reply};
 pub use chunk::Chunk;
 pub use claim::{Claim, Mode};

@@ -7,7 +7,7 @@ ghost use Rattle.xc_print.specs.Calls.{slot_text, call_text};
 use crate::bytes::push_bytes;
 use crate::objects::push_handle;
 use crate::page::Page;
-use xc_data::{Call, Chunk, Ident, NoMemory};
+use xc_data::{Boxed, Call, Chunk, Ident, NoMemory};
 
 fn push_named(out: &mut Page, before: &str, name: &[u8]) -> Result<(), NoMemory>
     ensures { OnOk result (out.new ≡ out.old ++ (before.now ++ name.now)) }
@@ -38,12 +38,12 @@ fn push_written(out: &mut Page, before: &str, h: u16, bytes: &Chunk) -> Result<(
     push_bytes(out, bytes.as_slice())
 }
 
-fn push_slot(out: &mut Page, slot: &Option<Ident>) -> Result<(), NoMemory>
+fn push_slot(out: &mut Page, slot: &Option<Boxed<Ident>>) -> Result<(), NoMemory>
     ensures { OnOk result (out.new ≡ out.old ++ slot_text slot.now) }
 {
     match slot {
         None => Ok(()),
-        Some(slot) => push_named(out, " slot ", slot.as_slice()),
+        Some(slot) => push_named(out, " slot ", slot.value().as_slice()),
     }
 }
 
@@ -51,7 +51,7 @@ fn push_named_late(
     out: &mut Page,
     before: &str,
     name: &[u8],
-    slot: &Option<Ident>,
+    slot: &Option<Boxed<Ident>>,
 ) -> Result<(), NoMemory>
     ensures { OnOk result (out.new ≡ out.old ++ (before.now ++ name.now ++ slot_text slot.now)) }
 {
@@ -63,7 +63,7 @@ fn push_handled_late(
     out: &mut Page,
     before: &str,
     h: u16,
-    slot: &Option<Ident>,
+    slot: &Option<Boxed<Ident>>,
 ) -> Result<(), NoMemory>
     ensures { OnOk result (out.new ≡ out.old ++ (before.now ++ handle_text h ++ slot_text slot.now)) }
 {
@@ -76,7 +76,7 @@ fn push_written_late(
     before: &str,
     h: u16,
     bytes: &Chunk,
-    slot: &Option<Ident>,
+    slot: &Option<Boxed<Ident>>,
 ) -> Result<(), NoMemory>
     ensures { OnOk result (out.new ≡ out.old ++ (before.now ++ handle_text h ++ codes " " ++ bytes_text bytes.now ++ slot_text slot.now)) }
 {
@@ -90,23 +90,23 @@ pub fn push_call(out: &mut Page, call: &Call) -> Result<(), NoMemory>
     match call {
         Call::Load { at } => write!(out, "load {at}"),
         Call::Store { at, value } => write!(out, "store {at} {value}"),
-        Call::XOpen { name } => push_named(out, "x_open ", name.as_slice()),
-        Call::XCreate { name } => push_named(out, "x_create ", name.as_slice()),
+        Call::XOpen { name } => push_named(out, "x_open ", name.value().as_slice()),
+        Call::XCreate { name } => push_named(out, "x_create ", name.value().as_slice()),
         Call::XRead { h, n } => push_numbered(out, "x_read ", *h, *n),
         Call::XWriteOvr { h, bytes } => push_written(out, "x_write_ovr ", *h, bytes),
         Call::XWriteSeq { h, bytes } => push_written(out, "x_write_seq ", *h, bytes),
         Call::XSeek { h, to } => push_numbered(out, "x_seek ", *h, *to),
         Call::XLen { h } => push_handled(out, "x_len ", *h),
         Call::XRename { from, to } => {
-            push_named(out, "x_rename ", from.as_slice())?;
-            push_named(out, " ", to.as_slice())
+            push_named(out, "x_rename ", from.value().as_slice())?;
+            push_named(out, " ", to.value().as_slice())
         }
         Call::XClose { h } => push_handled(out, "x_close ", *h),
         Call::XPipe => write!(out, "x_pipe"),
         Call::XReadPipe { h, n } => push_numbered(out, "x_read_pipe ", *h, *n),
         Call::XPair => write!(out, "x_pair"),
         Call::XRecvmsg { h } => push_handled(out, "x_recvmsg ", *h),
-        Call::XUnlink { name, slot } => push_named_late(out, "x_unlink ", name.as_slice(), slot),
+        Call::XUnlink { name, slot } => push_named_late(out, "x_unlink ", name.value().as_slice(), slot),
         Call::XSync { h, slot } => push_handled_late(out, "x_sync ", *h, slot),
         Call::XWritePipe { h, bytes, slot } => {
             push_written_late(out, "x_write_pipe ", *h, bytes, slot)
@@ -116,7 +116,7 @@ pub fn push_call(out: &mut Page, call: &Call) -> Result<(), NoMemory>
             push_written_late(out, "x_sendmsg ", *h, bytes, slot)
         }
         Call::XThreadCreate { body, slot } => {
-            push_named_late(out, "x_thread_create ", body.as_slice(), slot)
+            push_named_late(out, "x_thread_create ", body.value().as_slice(), slot)
         }
     }
 }

@@ -2,7 +2,7 @@ ghost use Rattle.std.specs.Prelude.{◌≡◌, ◌≤◌, ◌+◌, ◌<◌, ◌^
 ghost use Rattle.xc_script.specs.Ask.{bytes_got, fails_check, stored_after, value_in, target_of, bound, refuses};
 
 use crate::value::{Value, Variables};
-use xc_data::{Ident, NoMemory, Reply};
+use xc_data::{Boxed, Ident, NoMemory, Reply};
 use xc_text::Statement;
 
 // What a reply leaves in a variable. Bytes are shared.
@@ -23,11 +23,11 @@ pub fn target_of(statement: &Statement) -> Option<Ident>
     ensures { result ≡ target_of statement.now }
 {
     match statement {
-        Statement::Load { into, .. } => *into,
-        Statement::Open { into, .. } => *into,
-        Statement::Create { into, .. } => *into,
-        Statement::Length { into, .. } => *into,
-        Statement::Read { into, .. } => *into,
+        Statement::Load { into, .. } => Boxed::optional_value(into),
+        Statement::Open { into, .. } => Boxed::optional_value(into),
+        Statement::Create { into, .. } => Boxed::optional_value(into),
+        Statement::Length { into, .. } => Boxed::optional_value(into),
+        Statement::Read { into, .. } => Boxed::optional_value(into),
         _ => None,
     }
 }

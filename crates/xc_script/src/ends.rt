@@ -3,16 +3,16 @@ ghost use Rattle.xc_script.specs.Slots.{kept_of, slot_of, with_ends};
 ghost use Rattle.xc_world.specs.Late.{is_late};
 
 use crate::value::Variables;
-use xc_data::{Call, Ident, LateEnd, Reply};
+use xc_data::{Boxed, Call, Ident, LateEnd, Reply};
 
 // The slot that takes how a call ends.
 fn slot_of(call: &Call) -> Option<Ident>
     ensures { result ≡ slot_of call.now }
 {
     match call {
-        Call::XUnlink { slot, .. } | Call::XSync { slot, .. } => *slot,
-        Call::XWritePipe { slot, .. } | Call::XShutdown { slot, .. } => *slot,
-        Call::XSendmsg { slot, .. } | Call::XThreadCreate { slot, .. } => *slot,
+        Call::XUnlink { slot, .. } | Call::XSync { slot, .. } => Boxed::optional_value(slot),
+        Call::XWritePipe { slot, .. } | Call::XShutdown { slot, .. } => Boxed::optional_value(slot),
+        Call::XSendmsg { slot, .. } | Call::XThreadCreate { slot, .. } => Boxed::optional_value(slot),
         _ => None,
     }
 }

@@ -28,8 +28,8 @@ fn is_silent(variables: &Variables, refused: bool, statement: &Statement) -> boo
         Statement::AbortIf { left, test, right } => {
             !holds(
                 *test,
-                value_of(variables, *left),
-                value_of(variables, *right),
+                value_of(variables, left.term()),
+                value_of(variables, right.term()),
             )
         }
         Statement::Require => !refused,
@@ -45,8 +45,8 @@ fn set(variables: &mut Variables, statement: &Statement) -> Result<(), NoMemory>
     let Statement::Let { into, value } = statement else {
         return Ok(());
     };
-    let number = expression_of(variables, *value);
-    variables.set(*into, Some(Value::Number(number)))
+    let number = expression_of(variables, value.expression());
+    variables.set(*into.value(), Some(Value::Number(number)))
 }
 
 /// Passes the silent statements that come next. Without memory it has passed some of them.

@@ -10,6 +10,7 @@ ghost use Rattle.xc_text.specs.Statements.{unlink_line as unlink_said, sync_line
 ghost use Rattle.xc_text.specs.Statements.{handle_call_line as handle_call_said, file_call_line as file_call_said};
 ghost use Rattle.xc_text.specs.Views.{lexeme};
 
+use crate::kept::KeptTerm;
 use crate::pieces::{check_data, data};
 use crate::reason::{beside, both};
 use crate::script::{Data, Statement};
@@ -18,7 +19,7 @@ use crate::term::{ident, name, spells, term};
 use crate::token::Token;
 use crate::why::{Stop, Why};
 use std::alloc::Global;
-use xc_data::{Ident, Name};
+use xc_data::{Boxed, Ident, Name};
 
 fn name_into(tokens: &[Token]) -> Result<(Name, Option<Ident>), Why>
     ensures { result ≡ name_into_said (map lexeme tokens.now) }
@@ -29,57 +30,73 @@ fn name_into(tokens: &[Token]) -> Result<(Name, Option<Ident>), Why>
     }
 }
 
-fn open_line(tokens: &[Token]) -> Result<Statement, Why>
-    ensures { result ≡ open_said (map lexeme tokens.now) }
+fn open_line(alloc: Global, tokens: &[Token]) -> Result<Statement, Stop>
+    ensures { Gives (λ statement. statement) result (open_said (map lexeme tokens.now)) }
 {
     let (name, into) = name_into(tokens)?;
-    Ok(Statement::Open { name, into })
+    Ok(Statement::Open {
+        name: Boxed::new(alloc, name)?,
+        into: Boxed::new_optional(alloc, into)?,
+    })
 }
 
-fn create_line(tokens: &[Token]) -> Result<Statement, Why>
-    ensures { result ≡ create_said (map lexeme tokens.now) }
+fn create_line(alloc: Global, tokens: &[Token]) -> Result<Statement, Stop>
+    ensures { Gives (λ statement. statement) result (create_said (map lexeme tokens.now)) }
 {
     let (name, into) = name_into(tokens)?;
-    Ok(Statement::Create { name, into })
+    Ok(Statement::Create {
+        name: Boxed::new(alloc, name)?,
+        into: Boxed::new_optional(alloc, into)?,
+    })
 }
 
-fn rename_line(tokens: &[Token]) -> Result<Statement, Why>
-    ensures { result ≡ rename_said (map lexeme tokens.now) }
+fn rename_line(alloc: Global, tokens: &[Token]) -> Result<Statement, Stop>
+    ensures { Gives (λ statement. statement) result (rename_said (map lexeme tokens.now)) }
 {
     match tokens {
         [from, to] => {
             let (from, to) = both(name(from), name(to))?;
-            Ok(Statement::Rename { from, to })
+            Ok(Statement::Rename {
+                from: Boxed::new(alloc, from)?,
+                to: Boxed::new(alloc, to)?,
+            })
         }
-        _ => Err(Why::BadForm),
+        _ => Err(Stop::Refused(Why::BadForm)),
     }
 }
 
-fn unlink_line(tokens: &[Token]) -> Result<Statement, Why>
-    ensures { result ≡ unlink_said (map lexeme tokens.now) }
+fn unlink_line(alloc: Global, tokens: &[Token]) -> Result<Statement, Stop>
+    ensures { Gives (λ statement. statement) result (unlink_said (map lexeme tokens.now)) }
 {
     match tokens {
-        [] => Err(Why::BadForm),
+        [] => Err(Stop::Refused(Why::BadForm)),
         [file, behind @ ..] => {
             let (name, slot) = both(name(file), slot_ending(behind))?;
-            Ok(Statement::Unlink { name, slot })
+            Ok(Statement::Unlink {
+                name: Boxed::new(alloc, name)?,
+                slot: Boxed::new_optional(alloc, slot)?,
+            })
         }
     }
 }
 
-fn read_line(tokens: &[Token]) -> Result<Statement, Why>
-    ensures { result ≡ read_said (map lexeme tokens.now) }
+fn read_line(alloc: Global, tokens: &[Token]) -> Result<Statement, Stop>
+    ensures { Gives (λ statement. statement) result (read_said (map lexeme tokens.now)) }
 {
     match tokens {
-        [] => Err(Why::BadForm),
+        [] => Err(Stop::Refused(Why::BadForm)),
         [handle, behind @ ..] => {
             let (handle, (n, into)) = both(ident(handle), term_into(behind))?;
-            Ok(Statement::Read { handle, n, into })
+            Ok(Statement::Read {
+                handle: Boxed::new(alloc, handle)?,
+                n: KeptTerm::new(alloc, n)?,
+                into: Boxed::new_optional(alloc, into)?,
+            })
         }
     }
 }
 
-fn written(alloc: Global, tokens: &[Token]) -> Result<(Ident, Data), Stop>
+fn written(alloc: Global, tokens: &[Token]) -> Result<(Boxed<Ident>, Data), Stop>
     ensures { Gives (λ written. written) result (written_said (map lexeme tokens.now)) }
 {
     match tokens {
@@ -87,7 +104,7 @@ fn written(alloc: Global, tokens: &[Token]) -> Result<(Ident, Data), Stop>
         [handle, items @ ..] => {
             let handle = beside(ident(handle), check_data(items))?;
             let data = data(alloc, items)?;
-            Ok((handle, data))
+            Ok((Boxed::new(alloc, handle)?, data))
         }
     }
 }
@@ -106,49 +123,58 @@ fn append_line(alloc: Global, tokens: &[Token]) -> Result<Statement, Stop>
     Ok(Statement::Append { handle, data })
 }
 
-fn seek_line(tokens: &[Token]) -> Result<Statement, Why>
-    ensures { result ≡ seek_said (map lexeme tokens.now) }
+fn seek_line(alloc: Global, tokens: &[Token]) -> Result<Statement, Stop>
+    ensures { Gives (λ statement. statement) result (seek_said (map lexeme tokens.now)) }
 {
     match tokens {
         [handle, to] => {
             let (handle, to) = both(ident(handle), term(to))?;
-            Ok(Statement::Seek { handle, to })
+            Ok(Statement::Seek {
+                handle: Boxed::new(alloc, handle)?,
+                to: KeptTerm::new(alloc, to)?,
+            })
         }
-        _ => Err(Why::BadForm),
+        _ => Err(Stop::Refused(Why::BadForm)),
     }
 }
 
-fn length_line(tokens: &[Token]) -> Result<Statement, Why>
-    ensures { result ≡ length_said (map lexeme tokens.now) }
+fn length_line(alloc: Global, tokens: &[Token]) -> Result<Statement, Stop>
+    ensures { Gives (λ statement. statement) result (length_said (map lexeme tokens.now)) }
 {
     match tokens {
-        [] => Err(Why::BadForm),
+        [] => Err(Stop::Refused(Why::BadForm)),
         [handle, behind @ ..] => {
             let (handle, into) = both(ident(handle), target(behind))?;
-            Ok(Statement::Length { handle, into })
+            Ok(Statement::Length {
+                handle: Boxed::new(alloc, handle)?,
+                into: Boxed::new_optional(alloc, into)?,
+            })
         }
     }
 }
 
-fn close_line(tokens: &[Token]) -> Result<Statement, Why>
-    ensures { result ≡ close_said (map lexeme tokens.now) }
+fn close_line(alloc: Global, tokens: &[Token]) -> Result<Statement, Stop>
+    ensures { Gives (λ statement. statement) result (close_said (map lexeme tokens.now)) }
 {
     match tokens {
         [handle] => Ok(Statement::Close {
-            handle: ident(handle)?,
+            handle: Boxed::new(alloc, ident(handle)?)?,
         }),
-        _ => Err(Why::BadForm),
+        _ => Err(Stop::Refused(Why::BadForm)),
     }
 }
 
-fn sync_line(tokens: &[Token]) -> Result<Statement, Why>
-    ensures { result ≡ sync_said (map lexeme tokens.now) }
+fn sync_line(alloc: Global, tokens: &[Token]) -> Result<Statement, Stop>
+    ensures { Gives (λ statement. statement) result (sync_said (map lexeme tokens.now)) }
 {
     match tokens {
-        [] => Err(Why::BadForm),
+        [] => Err(Stop::Refused(Why::BadForm)),
         [handle, behind @ ..] => {
             let (handle, slot) = both(ident(handle), slot_ending(behind))?;
-            Ok(Statement::Sync { handle, slot })
+            Ok(Statement::Sync {
+                handle: Boxed::new(alloc, handle)?,
+                slot: Boxed::new_optional(alloc, slot)?,
+            })
         }
     }
 }
@@ -157,7 +183,7 @@ fn handle_call_line(alloc: Global, word: &[u8], rest: &[Token]) -> Result<Statem
     ensures { Gives (λ statement. statement) result (handle_call_said word.now (map lexeme rest.now)) }
 {
     if spells(word, b"x_read") {
-        return Ok(read_line(rest)?);
+        return read_line(alloc, rest);
     }
     if spells(word, b"x_write_ovr") {
         return overwrite_line(alloc, rest);
@@ -166,16 +192,16 @@ fn handle_call_line(alloc: Global, word: &[u8], rest: &[Token]) -> Result<Statem
         return append_line(alloc, rest);
     }
     if spells(word, b"x_seek") {
-        return Ok(seek_line(rest)?);
+        return seek_line(alloc, rest);
     }
     if spells(word, b"x_len") {
-        return Ok(length_line(rest)?);
+        return length_line(alloc, rest);
     }
     if spells(word, b"x_close") {
-        return Ok(close_line(rest)?);
+        return close_line(alloc, rest);
     }
     if spells(word, b"x_sync") {
-        return Ok(sync_line(rest)?);
+        return sync_line(alloc, rest);
     }
     Err(Stop::Refused(Why::UnknownLine))
 }
@@ -185,16 +211,16 @@ pub fn file_call_line(alloc: Global, word: &[u8], rest: &[Token]) -> Result<Stat
     ensures { Gives (λ statement. statement) result (file_call_said word.now (map lexeme rest.now)) }
 {
     if spells(word, b"x_open") {
-        return Ok(open_line(rest)?);
+        return open_line(alloc, rest);
     }
     if spells(word, b"x_create") {
-        return Ok(create_line(rest)?);
+        return create_line(alloc, rest);
     }
     if spells(word, b"x_rename") {
-        return Ok(rename_line(rest)?);
+        return rename_line(alloc, rest);
     }
     if spells(word, b"x_unlink") {
-        return Ok(unlink_line(rest)?);
+        return unlink_line(alloc, rest);
     }
     handle_call_line(alloc, word, rest)
 }

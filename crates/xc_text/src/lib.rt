@@ -10,6 +10,7 @@ mod draft;
 mod file_calls;
 mod files;
 mod grammar;
+mod kept;
 mod kinds;
 mod limits;
 mod line;
@@ -26,6 +27,7 @@ mod term;
 mod token;
 mod why;
 
+pub use kept::{KeptExpression, KeptTerm};
 pub use parser::parse;
 pub use script::{Block, Body, Data, Expression, Item, Script, Statement, Term, Test};
 pub use why::{ParseErr, Why};

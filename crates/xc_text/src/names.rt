@@ -5,11 +5,12 @@ ghost use Rattle.xc_text.specs.Said.{no_names};
 ghost use Rattle.xc_text.specs.Steps.{are_few, is_among, with_name, with_variable, with_slot, with_term, with_expression, with_target};
 ghost use Rattle.xc_text.specs.Steps.{with_ending, with_item, with_data, with_statement};
 
+use crate::kept::{KeptExpression, KeptTerm};
 use crate::limits::MOST_NAMES;
 use crate::script::{Data, Expression, Item, Statement, Term};
 use std::alloc::Global;
 use std::marker::Model;
-use xc_data::{Ident, IdentList, Items, NoMemory};
+use xc_data::{Boxed, Ident, IdentList, Items, NoMemory};
 
 /// The names of a script's variables and of its slots, each once.
 #[derive(Drop)]
@@ -98,20 +99,20 @@ fn add_expression(names: &mut Names, value: &Expression) -> Result<(), NoMemory>
     }
 }
 
-fn add_target(names: &mut Names, into: &Option<Ident>) -> Result<(), NoMemory>
+fn add_target(names: &mut Names, into: &Option<Boxed<Ident>>) -> Result<(), NoMemory>
     ensures { OnOk result (names.new ≡ with_target names.old into.now) }
 {
     match into {
-        Some(name) => add_variable(names, *name),
+        Some(name) => add_variable(names, *name.value()),
         None => Ok(()),
     }
 }
 
-fn add_ending(names: &mut Names, slot: &Option<Ident>) -> Result<(), NoMemory>
+fn add_ending(names: &mut Names, slot: &Option<Boxed<Ident>>) -> Result<(), NoMemory>
     ensures { OnOk result (names.new ≡ with_ending names.old slot.now) }
 {
     match slot {
-        Some(name) => add_slot(names, *name),
+        Some(name) => add_slot(names, *name.value()),
         None => Ok(()),
     }
 }
@@ -135,35 +136,35 @@ fn add_data(names: &mut Names, items: &[Item]) -> Result<(), NoMemory>
     Ok(())
 }
 
-fn add_stored(names: &mut Names, at: &Term, value: &Expression) -> Result<(), NoMemory>
+fn add_stored(names: &mut Names, at: &KeptTerm, value: &KeptExpression) -> Result<(), NoMemory>
     ensures { OnOk result (names.new ≡ with_expression (with_term names.old at.now) value.now) }
 {
-    add_term(names, at)?;
-    add_expression(names, value)
+    add_term(names, &at.term())?;
+    add_expression(names, &value.expression())
 }
 
-fn add_term_into(names: &mut Names, term: &Term, into: &Option<Ident>) -> Result<(), NoMemory>
+fn add_term_into(names: &mut Names, term: &KeptTerm, into: &Option<Boxed<Ident>>) -> Result<(), NoMemory>
     ensures { OnOk result (names.new ≡ with_target (with_term names.old term.now) into.now) }
 {
-    add_term(names, term)?;
+    add_term(names, &term.term())?;
     add_target(names, into)
 }
 
-fn add_handle_and_term(names: &mut Names, handle: &Ident, term: &Term) -> Result<(), NoMemory>
+fn add_handle_and_term(names: &mut Names, handle: &Ident, term: &KeptTerm) -> Result<(), NoMemory>
     ensures { OnOk result (names.new ≡ with_term (with_variable names.old handle.now) term.now) }
 {
     add_variable(names, *handle)?;
-    add_term(names, term)
+    add_term(names, &term.term())
 }
 
-fn add_handle_into(names: &mut Names, handle: &Ident, into: &Option<Ident>) -> Result<(), NoMemory>
+fn add_handle_into(names: &mut Names, handle: &Ident, into: &Option<Boxed<Ident>>) -> Result<(), NoMemory>
     ensures { OnOk result (names.new ≡ with_target (with_variable names.old handle.now) into.now) }
 {
     add_variable(names, *handle)?;
     add_target(names, into)
 }
 
-fn add_synced(names: &mut Names, handle: &Ident, slot: &Option<Ident>) -> Result<(), NoMemory>
+fn add_synced(names: &mut Names, handle: &Ident, slot: &Option<Boxed<Ident>>) -> Result<(), NoMemory>
     ensures { OnOk result (names.new ≡ with_ending (with_variable names.old handle.now) slot.now) }
 {
     add_variable(names, *handle)?;
@@ -186,22 +187,22 @@ pub fn add_statement(names: &mut Names, statement: &Statement) -> Result<(), NoM
         Statement::Store { at, value } => add_stored(names, at, value),
         Statement::Open { into, .. } | Statement::Create { into, .. } => add_target(names, into),
         Statement::Read { handle, n, into } => {
-            add_variable(names, *handle)?;
+            add_variable(names, *handle.value())?;
             add_term_into(names, n, into)
         }
         Statement::Overwrite { handle, data } | Statement::Append { handle, data } => {
-            add_written(names, handle, data)
+            add_written(names, handle.value(), data)
         }
-        Statement::Seek { handle, to } => add_handle_and_term(names, handle, to),
-        Statement::Length { handle, into } => add_handle_into(names, handle, into),
-        Statement::Close { handle } => add_variable(names, *handle),
+        Statement::Seek { handle, to } => add_handle_and_term(names, handle.value(), to),
+        Statement::Length { handle, into } => add_handle_into(names, handle.value(), into),
+        Statement::Close { handle } => add_variable(names, *handle.value()),
         Statement::Unlink { slot, .. } => add_ending(names, slot),
-        Statement::Sync { handle, slot } => add_synced(names, handle, slot),
+        Statement::Sync { handle, slot } => add_synced(names, handle.value(), slot),
         Statement::Let { into, value } => {
-            add_variable(names, *into)?;
-            add_expression(names, value)
+            add_variable(names, *into.value())?;
+            add_expression(names, &value.expression())
         }
-        Statement::AbortIf { left, right, .. } => add_terms(names, left, right),
+        Statement::AbortIf { left, right, .. } => add_terms(names, &left.term(), &right.term()),
         Statement::Rename { .. } | Statement::Abort | Statement::Require => Ok(()),
     }
 }

@@ -1,6 +1,7 @@
 ghost use Rattle.std.specs.Prelude.{◌≡◌};
 
-use xc_data::{Chunk, Ident, IdentList, Items, Name, Script0};
+use crate::kept::{KeptExpression, KeptTerm};
+use xc_data::{Boxed, Chunk, Ident, IdentList, Items, Name, Script0};
 
 /// A number, the number in a variable, or one that tells how the last late call with a slot ended.
 #[derive(Clone, Copy, Debug, PartialEq)]
@@ -30,7 +31,7 @@ pub enum Test {
 }
 
 /// A part of the bytes that a call writes.
-#[derive(Debug, Drop, PartialEq)]
+#[derive(Debug, Drop)]
 pub enum Item {
     /// A literal with its repeat.
     Literal(Chunk),
@@ -45,81 +46,81 @@ pub type Data = Items<Item>;
 
 /// A line of a transaction between its `tx` and its `commit`. A variable takes what a call replies
 /// where one is named.
-#[derive(Debug, Drop, PartialEq)]
+#[derive(Debug, Drop)]
 pub enum Statement {
     Load {
-        at: Term,
-        into: Option<Ident>,
+        at: KeptTerm,
+        into: Option<Boxed<Ident>>,
     },
     Store {
-        at: Term,
-        value: Expression,
+        at: KeptTerm,
+        value: KeptExpression,
     },
     Open {
-        name: Name,
-        into: Option<Ident>,
+        name: Boxed<Name>,
+        into: Option<Boxed<Ident>>,
     },
     /// Makes an empty file.
     Create {
-        name: Name,
-        into: Option<Ident>,
+        name: Boxed<Name>,
+        into: Option<Boxed<Ident>>,
     },
     Rename {
-        from: Name,
-        to: Name,
+        from: Boxed<Name>,
+        to: Boxed<Name>,
     },
     /// Reads up to n bytes through the handle in a variable.
     Read {
-        handle: Ident,
-        n: Term,
-        into: Option<Ident>,
+        handle: Boxed<Ident>,
+        n: KeptTerm,
+        into: Option<Boxed<Ident>>,
     },
     /// Writes over a file's bytes through the handle in a variable.
     Overwrite {
-        handle: Ident,
+        handle: Boxed<Ident>,
         data: Data,
     },
     /// Writes behind a file's bytes through the handle in a variable.
     Append {
-        handle: Ident,
+        handle: Boxed<Ident>,
         data: Data,
     },
     /// Sets the position of the handle in a variable.
     Seek {
-        handle: Ident,
-        to: Term,
+        handle: Boxed<Ident>,
+        to: KeptTerm,
     },
     /// Asks for the length of the file whose handle is in a variable.
     Length {
-        handle: Ident,
-        into: Option<Ident>,
+        handle: Boxed<Ident>,
+        into: Option<Boxed<Ident>>,
     },
     /// Gives up the handle in a variable.
     Close {
-        handle: Ident,
+        handle: Boxed<Ident>,
     },
     /// Takes a file's name away at the commit. A slot takes the end where one is named.
     Unlink {
-        name: Name,
-        slot: Option<Ident>,
+        name: Boxed<Name>,
+        slot: Option<Boxed<Ident>>,
     },
     /// Keeps for good, at the commit, what was written to the file whose handle is in a variable.
     Sync {
-        handle: Ident,
-        slot: Option<Ident>,
+        handle: Boxed<Ident>,
+        slot: Option<Boxed<Ident>>,
     },
     /// A variable takes a number.
     Let {
-        into: Ident,
-        value: Expression,
+        into: Boxed<Ident>,
+        value: KeptExpression,
     },
     /// The transaction aborts itself.
     Abort,
     /// It aborts itself where the test holds.
     AbortIf {
-        left: Term,
+        left: KeptTerm,
         test: Test,
-        right: Term,
+        right: KeptTerm,
     },
     /// It aborts itself where its last call was refused.
     Require,

@@ -10,13 +10,14 @@ ghost use Rattle.xc_text.specs.Terms.{term as term_of_token, test as test_of_tok
 ghost use Rattle.xc_text.specs.Views.{lexeme};
 
 use crate::file_calls::file_call_line;
+use crate::kept::{KeptExpression, KeptTerm};
 use crate::reason::both;
 use crate::script::{Statement, Term, Test};
 use crate::term::{expression, ident, is_sign, spells, term, test};
 use crate::token::Token;
 use crate::why::{Stop, Why};
 use std::alloc::Global;
-use xc_data::Ident;
+use xc_data::{Boxed, Ident};
 
 /// A line of one word, whose rest is empty.
 pub fn check_bare(tokens: &[Token]) -> Result<(), Why>
@@ -78,33 +79,42 @@ pub fn term_into(tokens: &[Token]) -> Result<(Term, Option<Ident>), Why>
     }
 }
 
-fn load_line(tokens: &[Token]) -> Result<Statement, Why>
-    ensures { result ≡ load_said (map lexeme tokens.now) }
+fn load_line(alloc: Global, tokens: &[Token]) -> Result<Statement, Stop>
+    ensures { Gives (λ statement. statement) result (load_said (map lexeme tokens.now)) }
 {
     let (at, into) = term_into(tokens)?;
-    Ok(Statement::Load { at, into })
+    Ok(Statement::Load {
+        at: KeptTerm::new(alloc, at)?,
+        into: Boxed::new_optional(alloc, into)?,
+    })
 }
 
-fn store_line(tokens: &[Token]) -> Result<Statement, Why>
-    ensures { result ≡ store_said (map lexeme tokens.now) }
+fn store_line(alloc: Global, tokens: &[Token]) -> Result<Statement, Stop>
+    ensures { Gives (λ statement. statement) result (store_said (map lexeme tokens.now)) }
 {
     match tokens {
-        [] => Err(Why::BadForm),
+        [] => Err(Stop::Refused(Why::BadForm)),
         [at, value @ ..] => {
             let (at, value) = both(term(at), expression(value))?;
-            Ok(Statement::Store { at, value })
+            Ok(Statement::Store {
+                at: KeptTerm::new(alloc, at)?,
+                value: KeptExpression::new(alloc, value)?,
+            })
         }
     }
 }
 
-fn let_line(tokens: &[Token]) -> Result<Statement, Why>
-    ensures { result ≡ let_said (map lexeme tokens.now) }
+fn let_line(alloc: Global, tokens: &[Token]) -> Result<Statement, Stop>
+    ensures { Gives (λ statement. statement) result (let_said (map lexeme tokens.now)) }
 {
     match tokens {
-        [] => Err(Why::BadForm),
+        [] => Err(Stop::Refused(Why::BadForm)),
         [into, value @ ..] => {
             let (into, value) = both(ident(into), expression(value))?;
-            Ok(Statement::Let { into, value })
+            Ok(Statement::Let {
+                into: Boxed::new(alloc, into)?,
+                value: KeptExpression::new(alloc, value)?,
+            })
         }
     }
 }
@@ -115,23 +125,34 @@ fn test_with(sign: &Token, right: &Token) -> Result<(Test, Term), Why>
     both(test(sign), term(right))
 }
 
-fn abort_if(word: &Token, left: &Token, sign: &Token, right: &Token) -> Result<Statement, Why>
-    ensures { result ≡ abort_said (lexeme word.now ∷ lexeme left.now ∷ lexeme sign.now ∷ lexeme right.now ∷ []) }
+fn abort_if(
+    alloc: Global,
+    word: &Token,
+    left: &Token,
+    sign: &Token,
+    right: &Token,
+) -> Result<Statement, Stop>
+    ensures { Gives (λ statement. statement) result
+        (abort_said (lexeme word.now ∷ lexeme left.now ∷ lexeme sign.now ∷ lexeme right.now ∷ [])) }
 {
     if !is_sign(word, b"if") {
-        return Err(Why::BadForm);
+        return Err(Stop::Refused(Why::BadForm));
     }
     let (left, (test, right)) = both(term(left), test_with(sign, right))?;
-    Ok(Statement::AbortIf { left, test, right })
+    Ok(Statement::AbortIf {
+        left: KeptTerm::new(alloc, left)?,
+        test,
+        right: KeptTerm::new(alloc, right)?,
+    })
 }
 
-fn abort_line(tokens: &[Token]) -> Result<Statement, Why>
-    ensures { result ≡ abort_said (map lexeme tokens.now) }
+fn abort_line(alloc: Global, tokens: &[Token]) -> Result<Statement, Stop>
+    ensures { Gives (λ statement. statement) result (abort_said (map lexeme tokens.now)) }
 {
     match tokens {
         [] => Ok(Statement::Abort),
-        [word, left, sign, right] => abort_if(word, left, sign, right),
-        _ => Err(Why::BadForm),
+        [word, left, sign, right] => abort_if(alloc, word, left, sign, right),
+        _ => Err(Stop::Refused(Why::BadForm)),
     }
 }
 
@@ -140,16 +161,16 @@ pub fn statement_line(alloc: Global, word: &[u8], rest: &[Token]) -> Result<Stat
     ensures { Gives (λ statement. statement) result (statement_said word.now (map lexeme rest.now)) }
 {
     if spells(word, b"load") {
-        return Ok(load_line(rest)?);
+        return load_line(alloc, rest);
     }
     if spells(word, b"store") {
-        return Ok(store_line(rest)?);
+        return store_line(alloc, rest);
     }
     if spells(word, b"let") {
-        return Ok(let_line(rest)?);
+        return let_line(alloc, rest);
     }
     if spells(word, b"abort") {
-        return Ok(abort_line(rest)?);
+        return abort_line(alloc, rest);
     }
     if spells(word, b"require") {
         check_bare(rest)?;

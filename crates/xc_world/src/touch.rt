@@ -68,9 +68,9 @@ pub fn touched(alloc: Global, call: &Call, me: &Private, words: u32) -> SmallVec
     match call {
         Call::Load { at } | Call::Store { at, .. } => one(alloc, mode, Object::Word(*at as u32)),
         Call::XOpen { name } | Call::XCreate { name } | Call::XUnlink { name, .. } => {
-            one(alloc, mode, Object::Name(*name))
+            one(alloc, mode, Object::Name(*name.value()))
         }
-        Call::XRename { from, to } => both_names(alloc, mode, *from, *to),
+        Call::XRename { from, to } => both_names(alloc, mode, *from.value(), *to.value()),
         Call::XRead { h, .. } | Call::XWriteOvr { h, .. } => claim_at(alloc, mode, me.place(*h)),
         Call::XWriteSeq { h, .. } | Call::XLen { h } => claim_at(alloc, mode, me.place(*h)),
         Call::XReadPipe { h, .. } | Call::XRecvmsg { h } => claim_at(alloc, mode, me.place(*h)),
@@ -131,12 +131,12 @@ pub fn late_call(call: &Call, me: &Private) -> Result<Option<LateCall>, NoMemory
     ensures { IfOk result (λ found. MatchOption found (late_call call.now me.now ≡ []) (λ late. late_call call.now me.now ≡ late ∷ [])) }
 {
     match call {
-        Call::XUnlink { name, .. } => Ok(Some(LateCall::Unlink(*name))),
+        Call::XUnlink { name, .. } => Ok(Some(LateCall::Unlink(*name.value()))),
         Call::XSync { h, .. } => Ok(sync_of(me.place(*h))),
         Call::XWritePipe { h, bytes, .. } => write_pipe_of(me.place(*h), bytes),
         Call::XShutdown { h, .. } => Ok(shutdown_of(me.place(*h))),
         Call::XSendmsg { h, bytes, .. } => send_of(me.place(*h), bytes),
-        Call::XThreadCreate { body, .. } => Ok(Some(LateCall::Thread(*body))),
+        Call::XThreadCreate { body, .. } => Ok(Some(LateCall::Thread(*body.value()))),
         _ => Ok(None),
     }
 }

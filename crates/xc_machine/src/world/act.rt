@@ -67,14 +67,14 @@ impl World {
                 self.words.set(*at as usize, *value);
                 Ok(Reply::Done)
             }
-            Call::XOpen { name } => Ok(self.open(me, *name)),
-            Call::XCreate { name } => self.create(me, tx, *name),
+            Call::XOpen { name } => Ok(self.open(me, *name.value())),
+            Call::XCreate { name } => self.create(me, tx, *name.value()),
             Call::XRead { h, n } => self.read(me, *h, *n),
             Call::XWriteOvr { h, bytes } => self.overwrite(me, *h, bytes),
             Call::XWriteSeq { h, bytes } => self.append(me, *h, bytes),
             Call::XSeek { h, to } => Ok(seek(me, *h, *to)),
             Call::XLen { h } => Ok(self.len_of(me, *h)),
-            Call::XRename { from, to } => self.rename(*from, *to),
+            Call::XRename { from, to } => self.rename(*from.value(), *to.value()),
             Call::XClose { h } => {
                 close(me, *h);
                 Ok(Reply::Done)

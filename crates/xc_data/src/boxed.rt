@@ -1,0 +1,75 @@
+ghost use Rattle.std.specs.Prelude.{◌≡◌, IfOk};
+
+use crate::NoMemory;
+use std::alloc::Global;
+use std::marker::Model;
+
+/// A value in a place of its own in memory, so that what names it stays small. Contracts see it as
+/// the value.
+#[derive(Debug, Drop)]
+pub struct Boxed<T> {
+    value: Box<T>,
+}
+
+impl<T> Model for Boxed<T> {
+    ghost Value = { T };
+
+    ghost view = { λ a. a.value.value };
+}
+
+impl<T: Drop> Boxed<T> {
+    pub fn new(alloc: Global, value: T) -> Result<Self, NoMemory>
+        ensures { IfOk result (λ boxed. boxed ≡ value) }
+    {
+        Ok(Boxed {
+            value: Box::new(alloc, value)?,
+        })
+    }
+}
+
+impl<T> Boxed<T> {
+    pub fn value(&self) -> &T
+        ensures { result.now ≡ self.now }
+    {
+        &self.value
+    }
+}
+
+impl<T: PartialEq> PartialEq for Boxed<T> {
+    ghost eq = { T.eq };
+
+    ghost laws = { T.laws };
+
+    fn eq(&self, other: &Self) -> bool {
+        *self.value == *other.value
+    }
+}
+
+impl<T: Copy + Drop> Boxed<T> {
+    /// Another place with the same value.
+    pub fn copied(&self, alloc: Global) -> Result<Self, NoMemory>
+        ensures { IfOk result (λ copy. copy ≡ self.now) }
+    {
+        Boxed::new(alloc, *self.value())
+    }
+
+    /// A place for the value, where there is one.
+    pub fn new_optional(alloc: Global, value: Option<T>) -> Result<Option<Self>, NoMemory>
+        ensures { IfOk result (λ boxed. boxed ≡ value) }
+    {
+        match value {
+            Some(value) => Ok(Some(Boxed::new(alloc, value)?)),
+            None => Ok(None),
+        }
+    }
+
+    /// The value, where there is one.
+    pub fn optional_value(boxed: &Option<Self>) -> Option<T>
+        ensures { result ≡ boxed.now }
+    {
+        match boxed {
+            Some(boxed) => Some(*boxed.value()),
+            None => None,
+        }
+    }
+}
