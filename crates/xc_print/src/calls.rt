@@ -106,7 +106,12 @@ pub fn push_call(out: &mut Page, call: &Call) -> Result<(), NoMemory>
         Call::XReadPipe { h, n } => push_numbered(out, "x_read_pipe ", *h, *n),
         Call::XPair => write!(out, "x_pair"),
         Call::XRecvmsg { h } => push_handled(out, "x_recvmsg ", *h),
-        Call::XUnlink { name, slot } => push_named_late(out, "x_unlink ", name.value().as_slice(), slot),
+        Call::XUnlink { name, slot } => push_named_late(
+            out,
+            "x_unlink ",
+            name.value().as_slice(),
+            slot,
+        ),
         Call::XSync { h, slot } => push_handled_late(out, "x_sync ", *h, slot),
         Call::XWritePipe { h, bytes, slot } => {
             push_written_late(out, "x_write_pipe ", *h, bytes, slot)

@@ -121,20 +121,13 @@ fn close(variables: &Variables, handle: &Boxed<Ident>) -> Call
 }
 
 // Another place for a slot's name.
-fn slot_copied(
-    alloc: Global,
-    slot: &Option<Boxed<Ident>>,
-) -> Result<Option<Boxed<Ident>>, NoMemory>
+fn slot_copied(alloc: Global, slot: &Option<Boxed<Ident>>) -> Result<Option<Boxed<Ident>>, NoMemory>
     ensures { IfOk result (λ copy. copy ≡ slot.now) }
 {
     Boxed::new_optional(alloc, Boxed::optional_value(slot))
 }
 
-fn unlink(
-    alloc: Global,
-    name: &Boxed<Name>,
-    slot: &Option<Boxed<Ident>>,
-) -> Result<Call, NoMemory>
+fn unlink(alloc: Global, name: &Boxed<Name>, slot: &Option<Boxed<Ident>>) -> Result<Call, NoMemory>
     ensures { IfOk result (λ call. call ≡ XUnlink name.now slot.now) }
 {
     Ok(Call::XUnlink {

@@ -12,7 +12,9 @@ fn slot_of(call: &Call) -> Option<Ident>
     match call {
         Call::XUnlink { slot, .. } | Call::XSync { slot, .. } => Boxed::optional_value(slot),
         Call::XWritePipe { slot, .. } | Call::XShutdown { slot, .. } => Boxed::optional_value(slot),
-        Call::XSendmsg { slot, .. } | Call::XThreadCreate { slot, .. } => Boxed::optional_value(slot),
+        Call::XSendmsg { slot, .. } | Call::XThreadCreate { slot, .. } => Boxed::optional_value(
+            slot,
+        ),
         _ => None,
     }
 }

@@ -143,7 +143,11 @@ fn add_stored(names: &mut Names, at: &KeptTerm, value: &KeptExpression) -> Resul
     add_expression(names, &value.expression())
 }
 
-fn add_term_into(names: &mut Names, term: &KeptTerm, into: &Option<Boxed<Ident>>) -> Result<(), NoMemory>
+fn add_term_into(
+    names: &mut Names,
+    term: &KeptTerm,
+    into: &Option<Boxed<Ident>>,
+) -> Result<(), NoMemory>
     ensures { OnOk result (names.new ≡ with_target (with_term names.old term.now) into.now) }
 {
     add_term(names, &term.term())?;
@@ -157,14 +161,22 @@ fn add_handle_and_term(names: &mut Names, handle: &Ident, term: &KeptTerm) -> Re
     add_term(names, &term.term())
 }
 
-fn add_handle_into(names: &mut Names, handle: &Ident, into: &Option<Boxed<Ident>>) -> Result<(), NoMemory>
+fn add_handle_into(
+    names: &mut Names,
+    handle: &Ident,
+    into: &Option<Boxed<Ident>>,
+) -> Result<(), NoMemory>
     ensures { OnOk result (names.new ≡ with_target (with_variable names.old handle.now) into.now) }
 {
     add_variable(names, *handle)?;
     add_target(names, into)
 }
 
-fn add_synced(names: &mut Names, handle: &Ident, slot: &Option<Boxed<Ident>>) -> Result<(), NoMemory>
+fn add_synced(
+    names: &mut Names,
+    handle: &Ident,
+    slot: &Option<Boxed<Ident>>,
+) -> Result<(), NoMemory>
     ensures { OnOk result (names.new ≡ with_ending (with_variable names.old handle.now) slot.now) }
 {
     add_variable(names, *handle)?;
