@@ -56,7 +56,7 @@ fn cover(undo: &mut Undo, n: u32)
 }
 
 /// What a turn answers whose record came to this end.
-pub(crate) fn turn_of(end: UndoEnd) -> UndoTurn
+fn turn_of(end: UndoEnd) -> UndoTurn
     ensures { result ≡ turn_of end }
 {
     match end {

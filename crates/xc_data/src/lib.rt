@@ -16,8 +16,6 @@ mod name;
 mod object;
 mod private;
 mod script;
-#[cfg(test)]
-mod tests;
 mod undo;
 
 pub use boxed::Boxed;

@@ -3,7 +3,5 @@
 
 mod doing;
 mod late;
-#[cfg(test)]
-mod tests;
 
 pub use late::Late;

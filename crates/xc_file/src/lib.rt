@@ -25,12 +25,3 @@ pub use opening::x_open;
 pub use overwriting::x_write_ovr;
 pub use reading::x_read;
 pub use renaming::x_rename;
-
-#[cfg(test)]
-mod append_tests;
-#[cfg(test)]
-mod late_tests;
-#[cfg(test)]
-mod name_tests;
-#[cfg(test)]
-mod tests;

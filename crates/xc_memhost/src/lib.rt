@@ -9,8 +9,6 @@ mod objects;
 mod pair_body;
 mod pipe_body;
 mod spans;
-#[cfg(test)]
-mod tests;
 
 pub use calls::{AnswerList, HostAnswer, HostCall, run_calls};
 pub use mem_host::MemHost;

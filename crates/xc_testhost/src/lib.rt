@@ -3,7 +3,5 @@
 
 mod tails;
 mod test_host;
-#[cfg(test)]
-mod tests;
 
 pub use test_host::{Asked, TestHost};

@@ -1,0 +1,22 @@
+mod compensate;
+mod data;
+mod deferred;
+mod file;
+mod memhost;
+mod testhost;
+
+use std::alloc::Global;
+use xc_data::{Name, NoMemory, Num};
+use xc_testhost::TestHost;
+
+// The file `a` of a host for tests.
+const FILE: Num = Num { tx: 0, k: 0 };
+
+fn name(bytes: &[u8]) -> Result<Name, NoMemory> {
+    Name::new(bytes).ok_or(NoMemory)
+}
+
+// A host with a file of these bytes, at most 65,536.
+fn host_of(alloc: Global, bytes: &[u8]) -> Result<TestHost, NoMemory> {
+    TestHost::new(alloc, bytes, bytes.len().min(65536) as u32)
+}

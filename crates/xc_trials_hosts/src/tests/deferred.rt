@@ -1,0 +1,50 @@
+use super::{FILE, host_of, name};
+use Asked::{Lookup, Sync, Unlink};
+use std::alloc::Global;
+use std::test::Fail;
+use xc_data::{LateCall, LateEnd, NoMemory};
+use xc_deferred::Late;
+use xc_testhost::{Asked, TestHost};
+
+// An unlink of the name `a` and a sync of its file.
+fn kept(alloc: Global) -> Result<Late, NoMemory> {
+    let mut late = Late::new(alloc);
+    late.push(LateCall::Unlink(name(b"a")?))?;
+    late.push(LateCall::Sync(FILE))?;
+    Ok(late)
+}
+
+// Does all calls: their ends are these, by these calls of the host.
+pub(super) fn ends_so(
+    mut host: TestHost,
+    mut late: Late,
+    ends: &[LateEnd],
+    calls: &[Asked],
+) -> bool {
+    for _ in 0..9 {
+        if late.has_left() {
+            late.do_one(&mut host);
+        }
+    }
+    late.into_ends().as_slice() == ends && host.log.as_slice() == calls
+}
+
+#[test]
+fn calls_end_in_their_order(rt: HostRuntime) -> Result<(), Fail> {
+    let late = kept(rt.alloc())?;
+    let host = host_of(rt.alloc(), b"hello")?;
+    let ends = [LateEnd::Done, LateEnd::Done];
+    assert!(rt; ends_so(host, late, &ends, &[Lookup, Unlink, Sync]));
+    Ok(())
+}
+
+// No host that follows a script wants memory for a look.
+#[test]
+fn an_unlink_wants_memory(rt: HostRuntime) -> Result<(), Fail> {
+    let late = kept(rt.alloc())?;
+    let mut host = host_of(rt.alloc(), b"hello")?;
+    host.starves = true;
+    let ends = [LateEnd::NoMemory(0), LateEnd::Done];
+    assert!(rt; ends_so(host, late, &ends, &[Lookup, Sync]));
+    Ok(())
+}
