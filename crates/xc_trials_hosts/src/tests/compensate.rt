@@ -1,12 +1,12 @@
-ghost use Rattle.std.specs.Prelude.{◌≡◌, [], IfOk};
+ghost use Rattle.std.specs.Prelude.{IfOk};
 ghost use Rattle.xc_compensate.specs.Records.{IsRecord};
 
 use super::{FILE, host_of, name};
-use Asked::{Cut, NameBack, Restore, Uncreate};
+use Asked::{Append, Create, Cut, NameBack, Rename, Restore, Uncreate};
 use std::alloc::Global;
 use std::test::Fail;
 use xc_compensate::{Stack, UndoTurn};
-use xc_data::{Chunk, NoMemory, Num, Undo};
+use xc_data::{Chunk, Name, NoMemory, Num, Undo};
 use xc_host::Host;
 use xc_testhost::{Asked, TestHost};
 
@@ -30,18 +30,18 @@ fn overwrite(alloc: Global) -> Result<Undo, NoMemory>
     })
 }
 
+fn with_overwrite(alloc: Global) -> Result<Stack, NoMemory> {
+    let mut stack = Stack::new(alloc);
+    stack.push(overwrite(alloc)?)?;
+    Ok(stack)
+}
+
 // Bytes are restored from the first one that isn't restored yet, and faults with restored bytes between
 // them count together.
-#[test]
-fn faults_of_a_turn_count_together(rt: HostRuntime) -> Result<(), Fail> {
-    let mut stack = Stack::new(rt.alloc());
-    stack.push(overwrite(rt.alloc())?)?;
-    let mut host = host_of(rt.alloc(), b"abCDEFGh")?;
+fn fails_in_one_turn(mut host: TestHost, mut stack: Stack) -> bool {
     host.grain = 2;
     host.fails = [1, 3, 5];
     let turn = stack.undo_next(&mut host, 3);
-    assert_eq!(rt; turn, UndoTurn::Failed { done: 4, faults: 3 });
-    assert_eq!(rt; host.bytes.as_slice(), b"abcdefGh".as_slice());
     let calls = [
         Restore(2, 5),
         Restore(2, 5),
@@ -49,7 +49,15 @@ fn faults_of_a_turn_count_together(rt: HostRuntime) -> Result<(), Fail> {
         Restore(4, 3),
         Restore(6, 1),
     ];
-    assert_eq!(rt; host.log.as_slice(), calls.as_slice());
+    turn == UndoTurn::Failed { done: 4, faults: 3 }
+        && host.bytes.as_slice() == b"abcdefGh".as_slice()
+        && host.log.as_slice() == calls.as_slice()
+}
+
+#[test]
+fn faults_of_a_turn_count_together(rt: HostRuntime) -> Result<(), Fail> {
+    let stack = with_overwrite(rt.alloc())?;
+    assert!(rt; fails_in_one_turn(host_of(rt.alloc(), b"abCDEFGh")?, stack));
     Ok(())
 }
 
@@ -83,9 +91,7 @@ fn tail(alloc: Global) -> Result<Undo, NoMemory>
 }
 
 // The records of a file that was made, renamed from `made` to `moved`, and appended to.
-fn chain(alloc: Global) -> Result<Stack, NoMemory>
-    ensures { IfOk result (λ stack. stack.ended ≡ []) }
-{
+fn chain(alloc: Global) -> Result<Stack, NoMemory> {
     let mut stack = Stack::new(alloc);
     stack.push(made()?)?;
     stack.push(moved()?)?;
@@ -93,33 +99,33 @@ fn chain(alloc: Global) -> Result<Stack, NoMemory>
     Ok(stack)
 }
 
-// A host behind these calls, with an empty log.
-fn host_behind(alloc: Global) -> Result<TestHost, NoMemory> {
-    let (made, moved) = (name(b"made")?, name(b"moved")?);
-    let mut host = TestHost::new(alloc, b"", 0)?;
-    let done = host.create(&made, MADE).is_ok()
-        && host.rename(&made, &moved).is_ok()
-        && host.append(MADE, b"hello").is_ok();
-    if !done {
-        return Err(NoMemory);
-    }
-    host.log.clear();
-    Ok(host)
+fn has_made(host: &mut TestHost, made: &Name, moved: &Name) -> bool {
+    host.create(made, MADE).is_ok()
+        && host.rename(made, moved).is_ok()
+        && host.append(MADE, b"hello").is_ok()
+}
+
+fn is_undone(host: &mut TestHost, mut stack: Stack) -> bool {
+    stack.undo_next(host, 1) == UNDONE
+        && stack.undo_next(host, 1) == UNDONE
+        && stack.undo_next(host, 1) == UNDONE
+        && stack.undo_next(host, 1) == UndoTurn::Ended
+}
+
+// The file is gone with its name, and the other file is there.
+fn is_undone_call_by_call(mut host: TestHost, made: &Name, moved: &Name, stack: Stack) -> bool {
+    let calls = [Create, Rename, Append(5), Cut(0), NameBack, Uncreate];
+    has_made(&mut host, made, moved)
+        && is_undone(&mut host, stack)
+        && host.names.len() == 1
+        && host.log.as_slice() == calls.as_slice()
 }
 
 #[test]
 fn a_chain_is_undone_call_by_call(rt: HostRuntime) -> Result<(), Fail> {
-    let mut stack = chain(rt.alloc())?;
-    let mut host = host_behind(rt.alloc())?;
-    assert_eq!(rt; stack.undo_next(&mut host, 1), UNDONE);
-    assert_eq!(rt; host.tail(MADE), b"".as_slice());
-    assert_eq!(rt; stack.undo_next(&mut host, 1), UNDONE);
-    assert_eq!(rt; host.named(&name(b"made")?), Some(MADE));
-    assert_eq!(rt; stack.undo_next(&mut host, 1), UNDONE);
-    assert_eq!(rt; host.named(&name(b"made")?), None);
-    assert_eq!(rt;
-        host.log.as_slice(),
-        [Cut(0), NameBack, Uncreate].as_slice()
-    );
+    let (made, moved) = (name(b"made")?, name(b"moved")?);
+    let stack = chain(rt.alloc())?;
+    let host = host_of(rt.alloc(), b"")?;
+    assert!(rt; is_undone_call_by_call(host, &made, &moved, stack));
     Ok(())
 }

@@ -1,5 +1,8 @@
+ghost use Rattle.std.specs.Prelude.{◌≤◌, length};
+
+use std::alloc::Global;
 use std::test::Fail;
-use xc_data::{Boxed, Chunk, Ident, Items, Name};
+use xc_data::{Boxed, Chunk, Ident, Items, Name, NoMemory};
 
 fn are_names(texts: &[&[u8]]) -> bool {
     texts.iter().all(|text| Name::new(text).is_some())
@@ -29,35 +32,54 @@ fn identifiers_at_their_limits(rt: HostRuntime) {
     assert!(rt; !is_any_identifier(&[b"", b"1x", b"_x", b"Main", &[b'i'; 33]]));
 }
 
+fn is_shared(whole: &Chunk) -> Result<bool, NoMemory> {
+    Ok(whole.share()? == *whole)
+}
+
+fn is_cut(whole: &Chunk) -> Result<bool, NoMemory>
+    requires { 3 ≤ length whole.now }
+{
+    Ok(whole.part(1, 3)?.as_slice() == b"el".as_slice())
+}
+
 #[test]
 fn bytes_are_shared_and_cut(rt: HostRuntime) -> Result<(), Fail> {
     let whole = Chunk::new(rt.alloc(), b"hello")?;
-    assert!(rt; whole.part(1, 3)?.as_slice() == b"el".as_slice());
-    assert!(rt; whole.share()? == whole);
+    assert!(rt; is_shared(&whole)? && is_cut(&whole)?);
     Ok(())
+}
+
+fn are_taken_over(bytes: Vec<u8>) -> Result<bool, NoMemory> {
+    Ok(Chunk::from_vec(bytes)?.as_slice() == b"hi".as_slice())
 }
 
 #[test]
 fn bytes_are_taken_over(rt: HostRuntime) -> Result<(), Fail> {
-    let owned = Chunk::from_vec([104, 105].to_vec(rt.alloc())?)?;
-    assert!(rt; owned.as_slice() == b"hi".as_slice());
+    assert!(rt; are_taken_over(b"hi".to_vec(rt.alloc())?)?);
     Ok(())
+}
+
+fn sevens(alloc: Global) -> Result<Items<u64>, NoMemory> {
+    let mut list = Items::new(alloc);
+    list.push(7)?;
+    Ok(list)
 }
 
 #[test]
 fn items_are_pushed_and_cloned(rt: HostRuntime) -> Result<(), Fail> {
-    let mut list = Items::new(rt.alloc());
-    list.push(7)?;
-    assert!(rt; list.get(0) == Some(&7));
-    assert!(rt; list.clone()? == list);
+    let list = sevens(rt.alloc())?;
+    assert!(rt; list.clone()?.get(0) == Some(&7));
     Ok(())
+}
+
+fn is_copied(alloc: Global, boxed: &Boxed<u64>) -> Result<bool, NoMemory> {
+    Ok(*boxed.copied(alloc)?.value() == 7)
 }
 
 #[test]
 fn values_are_boxed(rt: HostRuntime) -> Result<(), Fail> {
-    let boxed = Boxed::new(rt.alloc(), 7)?;
-    assert_eq!(rt; *boxed.copied(rt.alloc())?.value(), 7);
-    let optional = Boxed::new_optional(rt.alloc(), Some(8))?;
-    assert_eq!(rt; Boxed::optional_value(&optional), Some(8));
+    let boxed = Boxed::new_optional(rt.alloc(), Some(7))?;
+    let boxed = boxed.ok_or(NoMemory)?;
+    assert!(rt; is_copied(rt.alloc(), &boxed)?);
     Ok(())
 }

@@ -6,7 +6,7 @@ use Asked::{Append, Create, Len, Lookup, Read, Rename, Sync, Unlink, Write};
 use std::alloc::Global;
 use std::test::Fail;
 use xc_compensate::Stack;
-use xc_data::{Chunk, LateEnd, NoMemory, Place, Private, Reply};
+use xc_data::{Chunk, LateEnd, Name, NoMemory, Place, Private, Reply};
 use xc_deferred::Late;
 use xc_file::{
     x_close, x_create, x_open, x_read, x_rename, x_sync, x_unlink, x_write_ovr, x_write_seq,
@@ -38,28 +38,28 @@ fn is_got(reply: &Reply, wanted: &[u8]) -> bool {
     }
 }
 
-#[test]
-fn a_read_asks_for_the_rest(rt: HostRuntime) -> Result<(), Fail> {
-    let mut host = grained(rt.alloc())?;
+fn reads_by_two(alloc: Global, mut host: TestHost) -> Result<bool, NoMemory> {
     let mut me = opened(7);
-    let reply = x_read(rt.alloc(), &mut host, &mut me, 0, 9)?;
-    assert!(rt; is_got(&reply, b"hello"));
-    assert_eq!(rt; me.place(0), Place::File { num: FILE, at: 5 });
-    assert_eq!(rt; me.stored, 12);
+    let reply = x_read(alloc, &mut host, &mut me, 0, 9)?;
     let calls = [Read(0, 9), Read(2, 7), Read(4, 5), Read(5, 4)];
-    assert_eq!(rt; host.log.as_slice(), calls.as_slice());
-    Ok(())
+    Ok(is_got(&reply, b"hello") && me.stored == 12 && host.log.as_slice() == calls.as_slice())
 }
 
 #[test]
-fn an_overwrite_writes_the_rest(rt: HostRuntime) -> Result<(), Fail> {
-    let bytes = Chunk::new(rt.alloc(), b"HELLO")?;
-    let mut host = grained(rt.alloc())?;
+fn a_read_asks_for_the_rest(rt: HostRuntime) -> Result<(), Fail> {
+    assert!(rt; reads_by_two(rt.alloc(), grained(rt.alloc())?)?);
+    Ok(())
+}
+
+// An overwrite from the begin of the file on, and what it replies.
+fn overwrite(alloc: Global, host: &mut TestHost, bytes: &Chunk) -> Result<Reply, NoMemory> {
     let mut me = opened(7);
-    let mut undo = Stack::new(rt.alloc());
-    let reply = x_write_ovr(rt.alloc(), &mut host, &mut me, &mut undo, 0, &bytes)?;
-    assert_eq!(rt; reply, Reply::Done);
-    assert_eq!(rt; host.bytes.as_slice(), b"HELLO".as_slice());
+    let mut undo = Stack::new(alloc);
+    x_write_ovr(alloc, host, &mut me, &mut undo, 0, bytes)
+}
+
+fn overwrites_by_two(alloc: Global, mut host: TestHost, bytes: &Chunk) -> Result<bool, NoMemory> {
+    let reply = overwrite(alloc, &mut host, bytes)?;
     let calls = [
         Len,
         Read(0, 5),
@@ -69,93 +69,127 @@ fn an_overwrite_writes_the_rest(rt: HostRuntime) -> Result<(), Fail> {
         Write(2, 3),
         Write(4, 1),
     ];
-    assert_eq!(rt; host.log.as_slice(), calls.as_slice());
+    Ok(
+        reply == Reply::Done
+            && host.bytes.as_slice() == b"HELLO".as_slice()
+            && host.log.as_slice() == calls.as_slice(),
+    )
+}
+
+#[test]
+fn an_overwrite_writes_the_rest(rt: HostRuntime) -> Result<(), Fail> {
+    let bytes = Chunk::new(rt.alloc(), b"HELLO")?;
+    assert!(rt; overwrites_by_two(rt.alloc(), grained(rt.alloc())?, &bytes)?);
     Ok(())
 }
 
 // A host that says too much of the file's length.
+fn is_past_the_end(alloc: Global, mut host: TestHost, bytes: &Chunk) -> Result<bool, NoMemory> {
+    host.len = 9;
+    let reply = overwrite(alloc, &mut host, bytes)?;
+    let calls = [Len, Read(0, 9), Read(5, 4)];
+    Ok(
+        reply == Reply::PastEnd
+            && host.bytes.as_slice() == b"hello".as_slice()
+            && host.log.as_slice() == calls.as_slice(),
+    )
+}
+
 #[test]
 fn old_bytes_that_are_not_there(rt: HostRuntime) -> Result<(), Fail> {
     let bytes = Chunk::new(rt.alloc(), b"HELLOHELL")?;
-    let mut host = host_of(rt.alloc(), b"hello")?;
-    host.len = 9;
-    let mut me = opened(0);
-    let mut undo = Stack::new(rt.alloc());
-    let reply = x_write_ovr(rt.alloc(), &mut host, &mut me, &mut undo, 0, &bytes)?;
-    assert_eq!(rt; reply, Reply::PastEnd);
-    assert_eq!(rt; host.bytes.as_slice(), b"hello".as_slice());
-    let calls = [Len, Read(0, 9), Read(5, 4)];
-    assert_eq!(rt; host.log.as_slice(), calls.as_slice());
+    assert!(rt; is_past_the_end(rt.alloc(), host_of(rt.alloc(), b"hello")?, &bytes)?);
     Ok(())
+}
+
+fn appends_by_two(alloc: Global, mut host: TestHost, bytes: &Chunk) -> Result<bool, NoMemory> {
+    let mut me = opened(7);
+    let mut undo = Stack::new(alloc);
+    let reply = x_write_seq(&mut host, &mut me, &mut undo, 0, bytes)?;
+    let calls = [Len, Append(5), Append(3), Append(1)];
+    Ok(
+        reply == Reply::Done
+            && host.tail(FILE) == b"HELLO".as_slice()
+            && host.log.as_slice() == calls.as_slice(),
+    )
 }
 
 #[test]
 fn an_append_appends_the_rest(rt: HostRuntime) -> Result<(), Fail> {
     let bytes = Chunk::new(rt.alloc(), b"HELLO")?;
-    let mut host = grained(rt.alloc())?;
-    let mut me = opened(7);
-    let mut undo = Stack::new(rt.alloc());
-    let reply = x_write_seq(&mut host, &mut me, &mut undo, 0, &bytes)?;
-    assert_eq!(rt; reply, Reply::Done);
-    assert_eq!(rt; host.tail(FILE), b"HELLO".as_slice());
-    let calls = [Len, Append(5), Append(3), Append(1)];
-    assert_eq!(rt; host.log.as_slice(), calls.as_slice());
+    assert!(rt; appends_by_two(rt.alloc(), grained(rt.alloc())?, &bytes)?);
     Ok(())
+}
+
+fn opens(mut host: TestHost, name: &Name) -> Result<bool, NoMemory> {
+    let mut me = opened(0);
+    let reply = x_open(&mut host, &mut me, name)?;
+    Ok(reply == Reply::Made(1) && host.log.as_slice() == [Lookup].as_slice())
 }
 
 #[test]
 fn a_name_is_opened(rt: HostRuntime) -> Result<(), Fail> {
-    let mut host = host_of(rt.alloc(), b"hello")?;
-    let mut me = opened(0);
-    let reply = x_open(&mut host, &mut me, &name(b"a")?)?;
-    assert_eq!(rt; reply, Reply::Made(1));
-    assert_eq!(rt; host.log.as_slice(), [Lookup].as_slice());
+    let name = name(b"a")?;
+    assert!(rt; opens(host_of(rt.alloc(), b"hello")?, &name)?);
     Ok(())
+}
+
+fn creates(alloc: Global, mut host: TestHost, name: &Name) -> Result<bool, NoMemory> {
+    let mut me = opened(0);
+    let mut undo = Stack::new(alloc);
+    let reply = x_create(&mut host, &mut me, &mut undo, 9, name)?;
+    Ok(reply == Reply::Made(1) && host.log.as_slice() == [Lookup, Create].as_slice())
 }
 
 #[test]
 fn a_file_is_made(rt: HostRuntime) -> Result<(), Fail> {
-    let mut host = host_of(rt.alloc(), b"hello")?;
-    let mut me = opened(0);
-    let mut undo = Stack::new(rt.alloc());
-    let reply = x_create(&mut host, &mut me, &mut undo, 9, &name(b"b")?)?;
-    assert_eq!(rt; reply, Reply::Made(1));
-    assert_eq!(rt; host.log.as_slice(), [Lookup, Create].as_slice());
+    let name = name(b"b")?;
+    assert!(rt; creates(rt.alloc(), host_of(rt.alloc(), b"hello")?, &name)?);
     Ok(())
+}
+
+fn renames(alloc: Global, mut host: TestHost, from: &Name, to: &Name) -> Result<bool, NoMemory> {
+    let mut undo = Stack::new(alloc);
+    let reply = x_rename(&mut host, &mut undo, from, to)?;
+    Ok(reply == Reply::Done && host.log.as_slice() == [Lookup, Lookup, Rename].as_slice())
 }
 
 #[test]
 fn a_file_is_renamed(rt: HostRuntime) -> Result<(), Fail> {
     let (from, to) = (name(b"a")?, name(b"b")?);
-    let mut host = host_of(rt.alloc(), b"hello")?;
-    let mut undo = Stack::new(rt.alloc());
-    assert_eq!(rt; x_rename(&mut host, &mut undo, &from, &to)?, Reply::Done);
-    assert_eq!(rt; host.log.as_slice(), [Lookup, Lookup, Rename].as_slice());
+    assert!(rt; renames(rt.alloc(), host_of(rt.alloc(), b"hello")?, &from, &to)?);
     Ok(())
 }
 
 // The second unlink is late as the first is: the name is looked for at the commit.
+fn unlinks(late: &mut Late, name: &Name) -> Result<bool, NoMemory> {
+    Ok(x_unlink(late, name)? == Reply::Late && x_unlink(late, name)? == Reply::Late)
+}
+
 #[test]
 fn an_unlink_is_late(rt: HostRuntime) -> Result<(), Fail> {
-    let a = name(b"a")?;
-    let mut late = Late::new(rt.alloc());
-    assert_eq!(rt; x_unlink(&mut late, &a)?, Reply::Late);
-    assert_eq!(rt; x_unlink(&mut late, &a)?, Reply::Late);
+    let name = name(b"a")?;
     let host = host_of(rt.alloc(), b"hello")?;
+    let mut late = Late::new(rt.alloc());
+    assert!(rt; unlinks(&mut late, &name)?);
     let ends = [LateEnd::Done, LateEnd::NoName];
     assert!(rt; ends_so(host, late, &ends, &[Lookup, Unlink, Lookup]));
     Ok(())
 }
 
 // A sync is of the file that was open at the call, and a bad handle is kept for nothing.
+fn syncs(late: &mut Late) -> Result<bool, NoMemory> {
+    let mut me = opened(0);
+    let replied = x_sync(late, &me, 0)? == Reply::Late;
+    let closed = x_close(&mut me, 0) == Reply::Done;
+    Ok(replied && closed && x_sync(late, &me, 0)? == Reply::BadHandle)
+}
+
 #[test]
 fn a_sync_is_late(rt: HostRuntime) -> Result<(), Fail> {
-    let mut me = opened(0);
-    let mut late = Late::new(rt.alloc());
-    assert_eq!(rt; x_sync(&mut late, &me, 0)?, Reply::Late);
-    assert_eq!(rt; x_close(&mut me, 0), Reply::Done);
-    assert_eq!(rt; x_sync(&mut late, &me, 0)?, Reply::BadHandle);
     let host = host_of(rt.alloc(), b"hello")?;
+    let mut late = Late::new(rt.alloc());
+    assert!(rt; syncs(&mut late)?);
     assert!(rt; ends_so(host, late, &[LateEnd::Done], &[Sync]));
     Ok(())
 }

@@ -129,16 +129,20 @@ fn an_opened_host_has_its_file(rt: HostRuntime) -> Result<(), Fail> {
 
 #[test]
 fn calls_that_take_memory_are_done(rt: HostRuntime) -> Result<(), Fail> {
-    let mut host = MemHost::new(rt.alloc());
-    assert!(rt; makes_a_file(&mut host, name(b"b")?));
+    let name = name(b"b")?;
+    assert!(rt; makes_a_file(&mut MemHost::new(rt.alloc()), name));
     Ok(())
+}
+
+// A look at a host with no file.
+fn finds_none(alloc: Global, name: Name) -> Result<bool, NoMemory> {
+    let mut host = MemHost::new(alloc);
+    let answers = run_calls(alloc, &mut host, &[HostCall::Lookup(name)])?;
+    Ok(answers.get(0) == Some(&HostAnswer::Found(None)))
 }
 
 #[test]
 fn calls_are_made_in_a_list(rt: HostRuntime) -> Result<(), Fail> {
-    let mut host = MemHost::new(rt.alloc());
-    let calls = [HostCall::Lookup(name(b"a")?)];
-    let answers = run_calls(rt.alloc(), &mut host, &calls)?;
-    assert_eq!(rt; answers.get(0), Some(&HostAnswer::Found(None)));
+    assert!(rt; finds_none(rt.alloc(), name(b"a")?)?);
     Ok(())
 }
