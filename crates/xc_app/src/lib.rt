@@ -5,8 +5,6 @@ mod ends;
 mod finish;
 mod lines;
 mod run;
-#[cfg(test)]
-mod tests;
 
 pub use finish::{Finish, LIMIT, Status};
 pub use run::xcalls_run;

@@ -11,6 +11,3 @@ pub use kept::taken_by;
 pub use run::{Replied, run_body};
 pub use world::World;
 pub use xc_data::NoMemory;
-
-#[cfg(test)]
-mod tests;

@@ -13,8 +13,6 @@ mod page;
 mod records;
 mod rendering;
 mod replies;
-#[cfg(test)]
-mod tests;
 mod totals;
 
 pub use rendering::render;

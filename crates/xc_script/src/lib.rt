@@ -12,6 +12,3 @@ mod value;
 
 pub use ask::Ask;
 pub use job::JobState;
-
-#[cfg(test)]
-mod tests;

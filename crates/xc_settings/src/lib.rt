@@ -10,6 +10,3 @@ mod values;
 
 pub use chosen::{Chosen, SettingsErr};
 pub use options::settings;
-
-#[cfg(test)]
-mod tests;

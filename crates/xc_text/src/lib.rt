@@ -31,6 +31,3 @@ pub use kept::{KeptExpression, KeptTerm};
 pub use parser::parse;
 pub use script::{Block, Body, Data, Expression, Item, Script, Statement, Term, Test};
 pub use why::{ParseErr, Why};
-
-#[cfg(test)]
-mod tests;

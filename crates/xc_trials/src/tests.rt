@@ -1,3 +1,5 @@
+mod machine;
+
 ghost use Rattle.std.specs.Prelude.{◌≤◌};
 ghost use Rattle.xc_world.specs.Sound.{IsSound};
 
