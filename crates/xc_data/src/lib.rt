@@ -35,7 +35,7 @@ pub use name::Name;
 pub use object::{Num, Object};
 pub use private::{Place, Private};
 pub use script::{
-    CallNumbers, FaultLine, FaultList, IdentList, Kind, Opened, OpenedList, Prologue, Script0,
+    CallNumbers, FaultLine, FaultList, IdentList, Kind, Opened, OpenedList, Outline, Prologue,
     WordList,
 };
 pub use undo::{RecordList, Undo, UndoEnd};

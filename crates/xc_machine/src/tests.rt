@@ -6,7 +6,7 @@ use crate::{Replied, World, run_body};
 use std::alloc::Global;
 use xc_data::{
     Answer, Asked, Call, Chunk, Claim, Items, LateAnswer, LateCall, LateEnd, Mode, Name, NoMemory,
-    Num, Object, Opened, Prologue, Reply, Script0,
+    Num, Object, Opened, Outline, Prologue, Reply,
 };
 use xc_world::opening_private;
 
@@ -39,7 +39,7 @@ fn are_fit(objects: &[Opened]) -> bool
 }
 
 // The script keeps its limits: these few objects can't be too many pipes or pairs.
-fn keeps_limits(script: &Script0) -> bool
+fn keeps_limits(script: &Outline) -> bool
     ensures { IsTrue result → KeepsLimits script.now }
 {
     if script.words.len() > 4096 || script.prologue.objects.len() > 32 {
@@ -94,7 +94,7 @@ fn first_end(world: &mut World, late: &[LateCall]) -> Result<Option<LateEnd>, No
 }
 
 // The first transaction of a script, none where it passes a limit.
-fn run(alloc: Global, script: &Script0, asked: &[Asked]) -> Result<Option<Outcome>, NoMemory> {
+fn run(alloc: Global, script: &Outline, asked: &[Asked]) -> Result<Option<Outcome>, NoMemory> {
     if !keeps_limits(script) || !are_fine(asked) {
         return Ok(None);
     }
@@ -122,8 +122,8 @@ fn says(
     }
 }
 
-fn script_of(alloc: Global, words: Vec<u64>, objects: Vec<Opened>) -> Script0 {
-    Script0 {
+fn script_of(alloc: Global, words: Vec<u64>, objects: Vec<Opened>) -> Outline {
+    Outline {
         words: Items::from_vec(words),
         prologue: Prologue {
             objects: Items::from_vec(objects),

@@ -4,7 +4,7 @@ ghost use Rattle.xc_script.specs.Ask.{is_over, unless_over, data_of, handle_valu
 ghost use Rattle.xc_script.specs.Ask.{ask_of, carried_by};
 
 use crate::data::{data_in, data_len};
-use crate::reading::{expression_of, handle_in, value_of};
+use crate::terms::{expression_of, handle_in, value_of};
 use crate::value::Variables;
 use std::alloc::Global;
 use xc_data::{Boxed, Call, Chunk, Ident, Name, NoMemory};

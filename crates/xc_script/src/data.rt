@@ -2,7 +2,7 @@ ghost use Rattle.std.specs.Prelude.{◌≡◌, ◌≤◌, ◌<◌, ◌++◌, len
 ghost use Rattle.std.specs.Fmt.{decimal};
 ghost use Rattle.xc_script.specs.Ask.{item_value, data_of};
 
-use crate::reading::{bytes_in, value_of};
+use crate::terms::{bytes_in, value_of};
 use crate::value::Variables;
 use std::alloc::Global;
 use xc_data::{Chunk, NoMemory};

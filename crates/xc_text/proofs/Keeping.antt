@@ -530,7 +530,7 @@ pub parsed : (bytes : List ℕ) (s : Script) → parse_of bytes ≡ Ok s → IsS
 parsed bytes s e = subst (λ (a : Result Script Refusal). IfOk a IsScript) e (parse_of-keeps bytes)
 
 -- such a script keeps the limits of every prologue
-pub in_limits : (s : Script) → IsScript s → KeepsLimits s.plain
+pub in_limits : (s : Script) → IsScript s → KeepsLimits s.outline
 in_limits s k =
     record {
       words = k.few_words;

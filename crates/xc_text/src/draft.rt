@@ -19,7 +19,7 @@ use crate::why::{Stop, Why};
 use std::alloc::Global;
 use std::marker::Model;
 use std::mem;
-use xc_data::{FaultList, Ident, Items, NoMemory, Prologue, Script0, WordList};
+use xc_data::{FaultList, Ident, Items, NoMemory, Outline, Prologue, WordList};
 
 mod opening;
 
@@ -112,7 +112,7 @@ impl Draft {
             grain: self.grain,
         };
         Script {
-            plain: Script0 {
+            outline: Outline {
                 words: self.words,
                 prologue,
                 bodies: Items::new(alloc),

@@ -154,7 +154,7 @@ fn jobs_in_order(rt: HostRuntime) -> Result<(), Fail> {
     let text = many_jobs(rt.alloc(), 1000, "\n# ended")?;
     let script = parse(rt.alloc(), text.as_bytes())?;
     assert_eq!(rt; script.blocks.len(), 1000);
-    assert!(rt; script.plain().jobs.get(0).copied() == Ident::new(b"j0"));
-    assert!(rt; script.plain().jobs.get(999).copied() == Ident::new(b"j999"));
+    assert!(rt; script.outline().jobs.get(0).copied() == Ident::new(b"j0"));
+    assert!(rt; script.outline().jobs.get(999).copied() == Ident::new(b"j999"));
     Ok(())
 }

@@ -106,7 +106,7 @@ fn has_body(script: &Script, body: &Body) -> bool {
 
 // The name and the bytes of a file.
 fn file_at(script: &Script, at: usize) -> Option<(&[u8], &[u8])> {
-    match script.plain().prologue.objects.get(at)? {
+    match script.outline().prologue.objects.get(at)? {
         Opened::File { name, bytes } => Some((name.as_slice(), bytes.as_slice())),
         _ => None,
     }
@@ -127,7 +127,7 @@ fn a_whole_script(rt: HostRuntime) -> Result<(), Fail> {
     let body = all_statements(rt.alloc(), name, h, v)?;
     let script = parse(rt.alloc(), WHOLE.as_bytes())?;
     assert!(rt; has_body(&script, &body));
-    assert_eq!(rt; script.plain().words.as_slice(), [0, 7].as_slice());
+    assert_eq!(rt; script.outline().words.as_slice(), [0, 7].as_slice());
     let s = Ident::new(b"s").ok_or("s")?;
     assert!(rt; script.slots.as_slice() == [s, h].as_slice());
     let bytes = b"q\n\"q\n\"\\\x00O\xfe".as_slice();
