@@ -11,6 +11,7 @@ mod claim;
 mod entry;
 mod ident;
 mod items;
+mod limits;
 mod memory;
 mod name;
 mod object;
@@ -30,6 +31,7 @@ pub use entry::{
 };
 pub use ident::Ident;
 pub use items::Items;
+pub use limits::{MOST_CALL_BYTES, MOST_FILE_BYTES, MOST_MADE, MOST_STORED};
 pub use memory::NoMemory;
 pub use name::Name;
 pub use object::{Num, Object};

@@ -35,7 +35,8 @@ none_some : {T : Type 0} (x : T) → None ≡ Some x → ⊥
 none_some x e = subst (λ o. MatchOption o (Unit {0}) (λ _. ⊥)) e tt
 
 stays_so : (bad big much : Bool) (w : World) (me : Private) (other : Stepped) (r : Reply) → first bad big much ≡ Some r
-    → (if bad then step_to w me reply.BadHandle else if big then step_to w me reply.TooBig else if much then step_to w me reply.TooMuch else other) ≡ step_to w me r
+    → (if bad then step_to w me reply.BadHandle else if big then step_to w me reply.TooBig else if much then step_to w me reply.TooMuch else other)
+    ≡ step_to w me r
 stays_so true big much w me other r e = ap (λ o. step_to w me (unwrap_or o r)) e
 stays_so false true much w me other r e = ap (λ o. step_to w me (unwrap_or o r)) e
 stays_so false false true w me other r e = ap (λ o. step_to w me (unwrap_or o r)) e

@@ -51,7 +51,8 @@ part_itself (x ∷ xs) = inl (refl, part_itself xs)
 abbrev pub asked_by : Call → Answer → Asked
 asked_by c answer = record { call = c; answer = answer }
 
-module _ (s : Setting) (p : Progress) (words : List ℕ) (contents : Contents) (jobs : List SeenJob) (next at : ℕ) (job : SeenJob) (place : Position) (tx : SeenTx)
+module _ (s : Setting) (p : Progress) (words : List ℕ) (contents : Contents) (jobs : List SeenJob) (next at : ℕ) (job : SeenJob) (place : Position)
+    (tx : SeenTx)
     (there : slice_get jobs at ≡ Some job) (doing : job.doing ≡ Active tx) (f : Flying s p words contents jobs next) (runs : tx.phase ≡ Running) where
   -- it leaves nothing, and holds no more
   pub wants_keeps : Flying s p words contents (slice_set jobs at (with_tx job place (wanting tx [] tx.held))) next

@@ -235,7 +235,8 @@ grained-keeps r n k =
 
 stated-keeps : (s : Said) (statement : Statement) → IsSound s → Keeps (stated s statement)
 stated-keeps s statement k =
-    cond_both (has_few_calls s.body statement && are_few (with_statement s.names statement)) _ _ Keeps (λ few.
+    cond_both (has_few_calls s.body statement && are_few (with_statement s.names statement)) _ _
+    (λ (r : Result Said Why). Keeps (and_then r (λ (t : Said). Ok (record t { body = t.body ++ statement ∷ [] })))) (λ few.
     record {
       some_words = k.some_words;
       few_words = k.few_words;

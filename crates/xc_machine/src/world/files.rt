@@ -8,7 +8,7 @@ ghost use Rattle.xc_world.specs.Act.Files.{read_at, overwrite_at, append_at, see
 
 use super::World;
 use super::shared::{joined, replaced};
-use xc_data::{Chunk, NoMemory, Num, Place, Private, Reply};
+use xc_data::{Chunk, MOST_FILE_BYTES, NoMemory, Num, Place, Private, Reply};
 
 impl World {
     pub(super) fn read(&self, me: &mut Private, h: u16, n: u64) -> Result<Reply, NoMemory>
@@ -146,7 +146,7 @@ impl World {
         if bytes.is_empty() {
             return Ok(Reply::Done);
         }
-        if self.file(num).len() + bytes.len() > 65536 {
+        if (self.file(num).len() + bytes.len()) as u64 > MOST_FILE_BYTES {
             return Ok(Reply::TooBig);
         }
         self.extend(me, h, num, bytes.as_slice())?;
