@@ -11,7 +11,7 @@ use Rattle.xc_host.specs.Contents.{needs_scripted}
 use Rattle.xc_text.specs.declared.script.Script.{Script}
 use Rattle.xc_edge.specs.Streams.{Came, AppendsPart, AppendsWhole}
 use Rattle.xc_edge.specs.Told.{Told, HasFailed}
-use Rattle.xc_print.specs.Text.{text}
+use Rattle.xc_print.specs.Text.{rendered}
 use Rattle.xc_print.specs.Totals.{totals_of}
 use Rattle.xc_station.specs.declared.start.End.{End}
 use Rattle.xc_settings.specs.declared.chosen.Chosen.{Chosen}
@@ -39,7 +39,7 @@ IsRefusal old new line why = (bytes : List ℕ) × IsRead old new bytes × (pars
 
 -- the script has a line that this host can't follow
 abbrev pub is_refused_by : Bool → Script → Bool
-is_refused_by takes_scripts script = not takes_scripts && needs_scripted script.plain.prologue
+is_refused_by takes_scripts script = not takes_scripts && needs_scripted script.outline.prologue
 
 -- the bytes read are a script with a line that this host can't follow
 abbrev pub IsUnscripted : Bool → Told → Told → Type 0
@@ -53,37 +53,38 @@ AreScript takes_scripts (Some bytes) =
     (script : Script) × (parse_of (take 1048577 bytes) ≡ Ok script) × (is_refused_by takes_scripts script ≡ false)
 
 -- ---- the run
--- what a run leaves beside its journal
-abbrev pub final_of : {H : Type 0} → HostModel H → End H → Final
-final_of model end = record { words = end.words; contents = model.contents end.host; lines = end.jobs }
-
 -- the text of a run's end
 abbrev pub end_text : {H : Type 0} → End H → List ℕ
-end_text end = text end.journal.items end.jobs end.words
+end_text end = rendered end.journal.items end.jobs end.words
 
--- the end of a run that chose this, over the host that was handed in
-pub record IsRunOver {H : Type 0} (model : HostModel H) (chosen : Chosen) (host : H) (end : End H) : Type 0 where
-  pub scripted : is_refused_by model.takes_scripts end.opening.script ≡ false
-  pub faults : end.opening.faults ≡ model.fault_count host
-  -- the journal is true of the script, and leads to the words, to the host's contents and to the jobs' ends
-  pub whole : IsTrueEnd (setting end.opening.script chosen.rules model.tells) end.journal.items (final_of model end)
-  -- with no schedule its transactions ran one after another
-  pub serial : chosen.schedule ≡ None → IsSerial end.journal.items
-  -- the host's count rose by the recorded faults, and stayed where none is recorded
-  pub counted : CountsFaults (sum_by entry_faults end.journal.items) (model.fault_count host) (model.fault_count end.host)
-  -- with no schedule, where the host tells, no fault is recorded, no late call wanted memory and each job was done, the text
-  -- is that of the script alone
-  pub plain : chosen.schedule ≡ None → IsTrue model.tells → sum_by entry_faults end.journal.items ≡ 0
-      → some_late_starved end.journal.items ≡ false → all_done end.jobs ≡ true → end_text end ≡ plain_text end.opening.script
+module _ {H : Type 0} (model : HostModel H) where
+  -- what a run leaves beside its journal
+  abbrev pub final_of : End H → Final
+  final_of end = record { words = end.words; contents = model.contents end.host; lines = end.jobs }
 
--- the bytes are a script, and this is the end of its run
-abbrev pub IsRunOf : {H : Type 0} → HostModel H → List ℕ → Chosen → H → End H → Type 0
-IsRunOf model bytes chosen host end = (parse_of bytes ≡ Ok end.opening.script) × IsRunOver model chosen host end
+  -- the end of a run that chose this, over the host that was handed in
+  pub record IsRunOver (chosen : Chosen) (host : H) (end : End H) : Type 0 where
+    pub scripted : is_refused_by model.takes_scripts end.opening.script ≡ false
+    pub faults : end.opening.faults ≡ model.fault_count host
+    -- the journal is true of the script, and leads to the words, to the host's contents and to the jobs' ends
+    pub whole : IsTrueEnd (setting end.opening.script chosen.rules model.tells) end.journal.items (final_of end)
+    -- with no schedule its transactions ran one after another
+    pub serial : chosen.schedule ≡ None → IsSerial end.journal.items
+    -- the host's count rose by the recorded faults, and stayed where none is recorded
+    pub counted : CountsFaults (sum_by entry_faults end.journal.items) (model.fault_count host) (model.fault_count end.host)
+    -- with no schedule, where the host tells, no fault is recorded, no late call wanted memory and each job was done, the text
+    -- is that of the script alone
+    pub plain : chosen.schedule ≡ None → IsTrue model.tells → sum_by entry_faults end.journal.items ≡ 0
+        → some_late_starved end.journal.items ≡ false → all_done end.jobs ≡ true → end_text end ≡ plain_text end.opening.script
 
--- the words chose something, bytes were read, and this is the end of their run
-abbrev pub IsRun : {H : Type 0} → HostModel H → List (List ℕ) → Told → Told → H → End H → Type 0
-IsRun model words old new host end =
-    (chosen : Chosen) × (settings_of words ≡ Some chosen) × (bytes : List ℕ) × IsRead old new bytes × IsRunOf model bytes chosen host end
+  -- the bytes are a script, and this is the end of its run
+  abbrev pub IsRunOf : List ℕ → Chosen → H → End H → Type 0
+  IsRunOf bytes chosen host end = (parse_of bytes ≡ Ok end.opening.script) × IsRunOver chosen host end
+
+  -- the words chose something, bytes were read, and this is the end of their run
+  abbrev pub IsRun : List (List ℕ) → Told → Told → H → End H → Type 0
+  IsRun words old new host end =
+      (chosen : Chosen) × (settings_of words ≡ Some chosen) × (bytes : List ℕ) × IsRead old new bytes × IsRunOf bytes chosen host end
 
 -- the end of a run is there, or the host, and not both
 abbrev pub IsOneOf : {A B : Type 0} → Option A → Option B → Type 0

@@ -165,7 +165,7 @@ fn take_turns<H: Host>(station: &mut Station<H>, schedule: &Option<JobNumbers>)
 // The outcome of a script's run.
 fn of_script<H: Host>(alloc: Global, host: H, script: Script, chosen: &Chosen) -> Outcome<H>
     requires script { IsScript script }
-    requires limits { KeepsLimits script.plain }
+    requires limits { KeepsLimits script.outline }
     requires rules { (1 ≤ chosen.now.rules.attempts) × (1 ≤ chosen.now.rules.undo_tries) }
     ensures due { IsDue result.status result.end (due_bytes result.due) }
     ensures run { IfSome result.end (λ end. (end.opening.script ≡ script)

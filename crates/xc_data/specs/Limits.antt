@@ -4,7 +4,7 @@ use Rattle.std.specs.declared.option.Option.TheVariants.{None, Some}
 use Rattle.xc_data.specs.declared.script.Opened.{Opened}
 use Rattle.xc_data.specs.declared.script.Opened.TheVariants.{File, Pipe, Pair}
 use Rattle.xc_data.specs.declared.script.Prologue.{Prologue}
-use Rattle.xc_data.specs.declared.script.Script0.{Script0}
+use Rattle.xc_data.specs.declared.script.Outline.{Outline}
 
 -- a file of at most 65536 bytes, a pipe that holds at most 4096, or a pair
 abbrev pub IsOpenedFit : Opened → Type 0
@@ -36,7 +36,7 @@ pub record IsPrologue (prologue : Prologue) : Type 0 where
   pub grain : IsGrain prologue.grain
 
 -- the words, the prologue and the blocks are within their limits
-pub record KeepsLimits (script : Script0) : Type 0 where
+pub record KeepsLimits (script : Outline) : Type 0 where
   pub words : length script.words ≤ 4096
   pub prologue : IsPrologue script.prologue
   pub blocks : length script.jobs + length script.bodies ≤ 1000

@@ -11,6 +11,7 @@ mod claim;
 mod entry;
 mod ident;
 mod items;
+mod limits;
 mod memory;
 mod name;
 mod object;
@@ -28,12 +29,13 @@ pub use entry::{
 };
 pub use ident::Ident;
 pub use items::Items;
+pub use limits::{MOST_CALL_BYTES, MOST_FILE_BYTES, MOST_MADE, MOST_STORED};
 pub use memory::NoMemory;
 pub use name::Name;
 pub use object::{Num, Object};
 pub use private::{Place, Private};
 pub use script::{
-    CallNumbers, FaultLine, FaultList, IdentList, Kind, Opened, OpenedList, Prologue, Script0,
+    CallNumbers, FaultLine, FaultList, IdentList, Kind, Opened, OpenedList, Outline, Prologue,
     WordList,
 };
 pub use undo::{RecordList, Undo, UndoEnd};

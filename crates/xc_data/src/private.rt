@@ -40,17 +40,6 @@ impl Private {
         }
     }
 
-    /// The same handles, with nothing made or stored.
-    pub fn renewed(&self) -> Private
-        ensures { result ≡ record { places = self.now.places; made = 0; stored = 0 } }
-    {
-        Private {
-            places: self.places,
-            made: 0,
-            stored: 0,
-        }
-    }
-
     /// What stands at a handle; 65,535 and the like are vacant.
     pub fn place(&self, h: u16) -> Place
         ensures value { result ≡ place_of self.now.places h }

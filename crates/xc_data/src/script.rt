@@ -68,7 +68,7 @@ pub struct Prologue {
 
 /// A script without its statements: what the plain machine starts from.
 #[derive(Debug, Drop)]
-pub struct Script0 {
+pub struct Outline {
     pub words: WordList,
     pub prologue: Prologue,
     /// The names of the `body` blocks, which only a started thread runs.

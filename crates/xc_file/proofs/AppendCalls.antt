@@ -18,7 +18,7 @@ use Rattle.xc_data.specs.declared.undo.Undo.TheVariants.{Tail}
 use Rattle.xc_data.specs.Private.{place_of}
 use Rattle.xc_world.specs.World.{World}
 use Rattle.xc_world.specs.Act.{act}
-use Rattle.xc_world.specs.Act.Step.{stays, storing}
+use Rattle.xc_world.specs.Act.Step.{step_to, storing}
 use Rattle.xc_world.specs.Ends.{Ending}
 use Rattle.xc_world.specs.Fits.{fits, answer_of}
 use Rattle.xc_world.specs.Trail.{recorded, append_record, done_of}
@@ -38,7 +38,7 @@ behind was me h num bytes n = storing (moved_on me h num (length (file_in was nu
 front_step : (was is : Contents) (number : ℕ) (me : Private) (h : ℕ) (num : Num) (at : ℕ) (bytes : List ℕ) (n : ℕ) (w : World)
     → length bytes ≤ 1024 → me.stored + length bytes ≤ 16384 → place_of me.places h ≡ File num at → 0 < length bytes
     → Appends was is num bytes (Fault n)
-    → act (with_contents w was) me number (XWriteSeq h bytes) (answer.Fault n) ≡ stays (with_contents w is) (behind was me h num bytes n) (Fault n)
+    → act (with_contents w was) me number (XWriteSeq h bytes) (answer.Fault n) ≡ step_to (with_contents w is) (behind was me h num bytes n) (Fault n)
 front_step was is number me h num at bytes n w big much there some did = grind (arith, common_steps)
 
 front_fits : (was is : Contents) (number : ℕ) (me : Private) (h : ℕ) (num : Num) (at : ℕ) (bytes : List ℕ) (n : ℕ) (w : World)

@@ -14,7 +14,7 @@ use Rattle.xc_data.specs.declared.undo.Undo.{Undo}
 use Rattle.xc_data.specs.Faults.{is_fault_reply}
 use Rattle.xc_world.specs.World.{World}
 use Rattle.xc_world.specs.Act.{act}
-use Rattle.xc_world.specs.Act.Step.{stays}
+use Rattle.xc_world.specs.Act.Step.{step_to}
 use Rattle.xc_world.specs.Checks.{is_bad_handle, is_too_big, is_too_much}
 use Rattle.xc_world.specs.Fits.{fits, answer_of}
 use Rattle.xc_host.specs.Model.{HostModel}
@@ -164,7 +164,7 @@ alone_call {H = H} model call s next r alone =
       one = omega arith;
       undo = grown_by_none s.undo;
       acts = λ _. record {
-        step = λ w. subst (λ a. act (w_of w) s.me s.number call a ≡ stays (w_of w) next r) (sym alone.answer) (alone.step (w_of w) s.number);
+        step = λ w. subst (λ a. act (w_of w) s.me s.number call a ≡ step_to (w_of w) next r) (sym alone.answer) (alone.step (w_of w) s.number);
         fits = λ w. subst (λ a. IsTrue (fits (w_of w) s.me s.number call a)) (sym alone.answer) refl;
       };
       records = λ _ w. sym (alone.unrecorded (w_of w) s.number);

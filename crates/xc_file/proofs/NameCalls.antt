@@ -15,7 +15,7 @@ use Rattle.xc_data.specs.declared.private.Private.{Private}
 use Rattle.xc_data.specs.Private.{lowest_vacant}
 use Rattle.xc_world.specs.World.{World}
 use Rattle.xc_world.specs.Act.{act, done}
-use Rattle.xc_world.specs.Act.Step.{Stepped, stays, counted}
+use Rattle.xc_world.specs.Act.Step.{Stepped, step_to, counted}
 use Rattle.xc_world.specs.Act.Names.{created, renamed, next_num}
 use Rattle.xc_world.specs.Checks.{has_made_all}
 use Rattle.xc_host.specs.Contents.{Contents, with_contents, renamed_file}
@@ -29,12 +29,12 @@ abbrev step_renamed : World → Private → List ℕ → List ℕ → Option Num
 step_renamed w me from to o p = counted (XRename from to) (renamed w me from to o p)
 
 renamed_done : (w : World) (was : Contents) (me : Private) (from to : List ℕ) (o : Option Num) → is_some o ≡ true → o ≡ map.get was.names from
-    → step_renamed (with_contents w was) me from to o None ≡ stays (with_contents w (renamed_file was from to o)) me reply.Done
+    → step_renamed (with_contents w was) me from to o None ≡ step_to (with_contents w (renamed_file was from to o)) me reply.Done
 renamed_done w was me from to None some e = cc
 renamed_done w was me from to (Some num) some e = refl
 
 renamed_exists : (w : World) (me : Private) (from to : List ℕ) (o p : Option Num) → is_some o ≡ true → is_some p ≡ true
-    → step_renamed w me from to o p ≡ stays w me reply.Exists
+    → step_renamed w me from to o p ≡ step_to w me reply.Exists
 renamed_exists w me from to None p some there = cc
 renamed_exists w me from to (Some num) None some there = cc
 renamed_exists w me from to (Some num) (Some other) some there = refl
@@ -45,25 +45,25 @@ pub rename_acts : (was is : Contents) (number : ℕ) (me : Private) (from to : L
 rename_acts was is number me from to reply.Done (same, named, absent) =
     record {
       step = λ w. ap (step_renamed (with_contents w was) me from to (map.get was.names from)) absent
-          ∙ renamed_done w was me from to (map.get was.names from) named refl ∙ ap (λ c. stays (with_contents w c) me reply.Done) (sym same);
+          ∙ renamed_done w was me from to (map.get was.names from) named refl ∙ ap (λ c. step_to (with_contents w c) me reply.Done) (sym same);
       fits = λ w. refl;
     }
 rename_acts was is number me from to reply.NoName (same, absent) =
     record {
       step = λ w. ap (λ o. step_renamed (with_contents w was) me from to o (map.get was.names to)) absent
-          ∙ ap (λ c. stays (with_contents w c) me reply.NoName) (sym same);
+          ∙ ap (λ c. step_to (with_contents w c) me reply.NoName) (sym same);
       fits = λ w. refl;
     }
 rename_acts was is number me from to reply.Exists (same, named, there) =
     record {
       step = λ w. renamed_exists (with_contents w was) me from to (map.get was.names from) (map.get was.names to) named there
-          ∙ ap (λ c. stays (with_contents w c) me reply.Exists) (sym same);
+          ∙ ap (λ c. step_to (with_contents w c) me reply.Exists) (sym same);
       fits = λ w. refl;
     }
 rename_acts was is number me from to (reply.Fault n) (same, none) =
     subst (λ m. Acts (XRename from to) (moment was number me) (moment is number me) (reply.Fault m)) (sym none)
     (record {
-      step = λ w. ap (λ c. stays (with_contents w c) me (reply.Fault 0)) (sym same);
+      step = λ w. ap (λ c. step_to (with_contents w c) me (reply.Fault 0)) (sym same);
       fits = λ w. refl;
     })
 rename_acts was is number me from to _ never = absurd never
@@ -81,14 +81,14 @@ much_none all vacant h few there = ap (λ o. all || is_none o) there ∙ or-fals
 passes : (w : World) (me : Private) (number : ℕ) (name : List ℕ) (answer : Answer) → much (has_made_all me) (lowest_vacant me.places) ≡ false
     → act w me number (XCreate name) answer ≡ counted (XCreate name) (done w me number (XCreate name) answer)
 passes w me number name answer free =
-    ap (λ b. if b then stays w me reply.TooMuch else counted (XCreate name) (done w me number (XCreate name) answer)) free
+    ap (λ b. if b then step_to w me reply.TooMuch else counted (XCreate name) (done w me number (XCreate name) answer)) free
 
 -- its step, by what stands at the name and the lowest vacant handle
 abbrev step_created : World → Private → ℕ → List ℕ → Option Num → Option ℕ → Stepped
 step_created w me number name o vacant = counted (XCreate name) (created w me number name o vacant)
 
 created_exists : (w : World) (me : Private) (number : ℕ) (name : List ℕ) (o : Option Num) (vacant : Option ℕ) → is_some o ≡ true
-    → step_created w me number name o vacant ≡ stays w me reply.Exists
+    → step_created w me number name o vacant ≡ step_to w me reply.Exists
 created_exists w me number name None vacant there = cc
 created_exists w me number name (Some num) vacant there = refl
 
@@ -104,7 +104,7 @@ create_acts was is number me name h (reply.Made k) few vacant at (same, absent) 
       step = λ w. passes (with_contents w was) me number name answer.Fine free
           ∙ ap (λ o. step_created (with_contents w was) me number name o (lowest_vacant me.places)) absent
           ∙ ap (step_created (with_contents w was) me number name None) vacant
-          ∙ ap (λ c. stays (with_contents w c) next (reply.Made h)) (sym same);
+          ∙ ap (λ c. step_to (with_contents w c) next (reply.Made h)) (sym same);
       fits = λ w. refl;
     })
 create_acts was is number me name h reply.Exists few vacant at (same, named) =
@@ -112,14 +112,14 @@ create_acts was is number me name h reply.Exists few vacant at (same, named) =
     record {
       step = λ w. passes (with_contents w was) me number name answer.Fine free
           ∙ created_exists (with_contents w was) me number name (map.get was.names name) (lowest_vacant me.places) named
-          ∙ ap (λ c. stays (with_contents w c) me reply.Exists) (sym same);
+          ∙ ap (λ c. step_to (with_contents w c) me reply.Exists) (sym same);
       fits = λ w. refl;
     }
 create_acts was is number me name h (reply.Fault n) few vacant at (same, none) =
     let free = much_none (has_made_all me) (lowest_vacant me.places) h (lt-leb 16 me.made few) vacant in
     subst (λ m. Acts (XCreate name) (moment was number me) (moment is number me) (reply.Fault m)) (sym none)
     (record {
-      step = λ w. passes (with_contents w was) me number name (answer.Fault 0) free ∙ ap (λ c. stays (with_contents w c) me (reply.Fault 0)) (sym same);
+      step = λ w. passes (with_contents w was) me number name (answer.Fault 0) free ∙ ap (λ c. step_to (with_contents w c) me (reply.Fault 0)) (sym same);
       fits = λ w. ap (λ b. not b && true) (or-false (much (has_made_all me) (lowest_vacant me.places)) ∙ free);
     })
 create_acts was is number me name h _ few vacant at never = absurd never

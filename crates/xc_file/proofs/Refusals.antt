@@ -15,7 +15,7 @@ use Rattle.xc_data.specs.Faults.{is_fault_reply}
 use Rattle.xc_data.specs.Private.{place_of}
 use Rattle.xc_world.specs.World.{World}
 use Rattle.xc_world.specs.Act.{act, done}
-use Rattle.xc_world.specs.Act.Step.{Stepped, stays, counted}
+use Rattle.xc_world.specs.Act.Step.{Stepped, step_to, counted}
 use Rattle.xc_world.specs.Checks.{is_bad_handle, is_too_big, is_too_much, is_bad_word, is_refused}
 use Rattle.xc_world.specs.Fits.{answer_of}
 use Rattle.xc_world.specs.Trail.{overwrite_record, append_record, done_of}
@@ -35,18 +35,19 @@ none_some : {T : Type 0} (x : T) → None ≡ Some x → ⊥
 none_some x e = subst (λ o. MatchOption o (Unit {0}) (λ _. ⊥)) e tt
 
 stays_so : (bad big much : Bool) (w : World) (me : Private) (other : Stepped) (r : Reply) → first bad big much ≡ Some r
-    → (if bad then stays w me reply.BadHandle else if big then stays w me reply.TooBig else if much then stays w me reply.TooMuch else other) ≡ stays w me r
-stays_so true big much w me other r e = ap (λ o. stays w me (unwrap_or o r)) e
-stays_so false true much w me other r e = ap (λ o. stays w me (unwrap_or o r)) e
-stays_so false false true w me other r e = ap (λ o. stays w me (unwrap_or o r)) e
+    → (if bad then step_to w me reply.BadHandle else if big then step_to w me reply.TooBig else if much then step_to w me reply.TooMuch else other)
+    ≡ step_to w me r
+stays_so true big much w me other r e = ap (λ o. step_to w me (unwrap_or o r)) e
+stays_so false true much w me other r e = ap (λ o. step_to w me (unwrap_or o r)) e
+stays_so false false true w me other r e = ap (λ o. step_to w me (unwrap_or o r)) e
 stays_so false false false w me other r e = absurd (none_some r e)
 
 -- a refused call leaves the plain machine as it was, with this reply
 pub refused_acts : (w : World) (me : Private) (tx : ℕ) (call : Call) (answer : Answer) (r : Reply) → refusal_of call me ≡ Some r
-    → act w me tx call answer ≡ stays w me r
+    → act w me tx call answer ≡ step_to w me r
 refused_acts w me tx call answer r e =
     stays_so (is_bad_handle call me) (is_too_big call) (is_too_much call me) w me
-    (if is_bad_word call (length w.words) then stays w me reply.BadWord else counted call (done w me tx call answer)) r e
+    (if is_bad_word call (length w.words) then step_to w me reply.BadWord else counted call (done w me tx call answer)) r e
 
 none_of : (bad big much word : Bool) → first bad big much ≡ None → (bad || big || much || word) ≡ word
 none_of true big much word e = absurd (none_some reply.BadHandle (sym e))

@@ -19,7 +19,7 @@ use Rattle.xc_world.specs.World.{World}
 use Rattle.xc_world.specs.Checks.{is_bad_handle, is_too_big, is_too_much}
 use Rattle.xc_world.specs.Act.{act}
 use Rattle.xc_world.specs.Act.Names.{next_num}
-use Rattle.xc_world.specs.Act.Step.{stays}
+use Rattle.xc_world.specs.Act.Step.{step_to}
 use Rattle.xc_world.specs.Fits.{fits, answer_of}
 use Rattle.xc_world.specs.Trail.{recorded}
 use Rattle.xc_host.specs.Contents.{Contents, file_in, has_file, with_contents}
@@ -74,7 +74,7 @@ is_check_reply call _ = false
 -- reply records, the next private state, and the host's contents behind the call
 pub record Acts (call : Call) (was is : Moment) (reply : Reply) : Type 0 where
   pub step : (w : World) → act (with_contents w was.contents) was.me was.number call (answer_of reply)
-      ≡ stays (with_contents w is.contents) is.me reply
+      ≡ step_to (with_contents w is.contents) is.me reply
   pub fits : (w : World) → IsTrue (fits (with_contents w was.contents) was.me was.number call (answer_of reply))
 
 -- these are the plain machine's records of the call
@@ -84,7 +84,7 @@ AreRecorded call was made reply = (w : World) → made ≡ recorded (with_conten
 -- a call that reaches no host: in every world the plain machine's step, which leaves the world and no record;
 -- refused exactly where a check refuses it
 pub record StepsAlone (call : Call) (me next : Private) (reply : Reply) : Type 0 where
-  pub step : (w : World) (number : ℕ) → act w me number call Fine ≡ stays w next reply
+  pub step : (w : World) (number : ℕ) → act w me number call Fine ≡ step_to w next reply
   pub unrecorded : (w : World) (number : ℕ) → recorded w me number call reply ≡ []
   pub answer : answer_of reply ≡ Fine
   pub checked : MatchOption (refusal_of call me) (is_check_reply call reply ≡ false) (λ r. (reply ≡ r) × (next ≡ me))

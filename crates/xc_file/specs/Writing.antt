@@ -14,13 +14,14 @@ use Rattle.xc_compensate.specs.Records.{Records}
 abbrev pub IsInside : Contents → Num → ℕ → List ℕ → Type 0
 IsInside c file at bytes = at + length bytes ≤ length (file_in c file)
 
--- what an overwrite with this reply did: past the end nothing, else all the bytes, or with a fault a front
-abbrev pub Overwrote : Contents → Contents → Num → ℕ → List ℕ → Reply → Type 0
-Overwrote was is file at bytes PastEnd = (is ≡ was) × (length (file_in was file) < at + length bytes)
-Overwrote was is file at bytes Done = (is ≡ wrote_front was file at bytes) × IsInside was file at bytes
-Overwrote was is file at bytes (Fault n) = (is ≡ wrote_front was file at (take n bytes))
-    × ((n ≡ 0) ⊎ ((n < length bytes) × IsInside was file at bytes))
-Overwrote was is file at bytes _ = ⊥
+module _ (was is : Contents) where
+  -- what an overwrite with this reply did: past the end nothing, else all the bytes, or with a fault a front
+  abbrev pub Overwrote : Num → ℕ → List ℕ → Reply → Type 0
+  Overwrote file at bytes PastEnd = (is ≡ was) × (length (file_in was file) < at + length bytes)
+  Overwrote file at bytes Done = (is ≡ wrote_front was file at bytes) × IsInside was file at bytes
+  Overwrote file at bytes (Fault n) = (is ≡ wrote_front was file at (take n bytes))
+      × ((n ≡ 0) ⊎ ((n < length bytes) × IsInside was file at bytes))
+  Overwrote file at bytes _ = ⊥
 
 -- the position of an open file is behind what was done
 abbrev pub moved_on : Private → ℕ → Num → ℕ → ℕ → Private

@@ -16,11 +16,8 @@ ghost use Rattle.xc_file.specs.Writing.{AddsOne, moved_on};
 use crate::checks::{OpenFile, open_file};
 use crate::moving::move_on;
 use xc_compensate::Stack;
-use xc_data::{Chunk, NoMemory, Num, Private, Reply, Undo};
+use xc_data::{Chunk, MOST_FILE_BYTES, NoMemory, Num, Private, Reply, Undo};
 use xc_host::{Fault, Host, HostErr};
-
-/// The most bytes that a file has.
-const MAX_FILE: u64 = 65536;
 
 /// How many bytes are appended, and what stopped the append there.
 #[derive(Clone, Copy)]
@@ -40,7 +37,7 @@ fn end_of<H: Host>(host: &mut H, file: Num, n: u32) -> Result<Option<u32>, Fault
     ensures cause { CountsFault (is_err result) (H.model.fault_count host.old) (H.model.fault_count host.new) }
 {
     let len = host.len(file)?;
-    if len as u64 + n as u64 > MAX_FILE {
+    if len as u64 + n as u64 > MOST_FILE_BYTES {
         return Ok(None);
     }
     Ok(Some(len))

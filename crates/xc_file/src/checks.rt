@@ -5,13 +5,7 @@ ghost use Rattle.xc_world.specs.Checks.{is_file};
 ghost use Rattle.xc_world.specs.Late.{is_late};
 ghost use Rattle.xc_file.specs.Checks.{IsOpenAt, refusal_at};
 
-use xc_data::{Num, Place, Private, Reply};
-
-/// The most bytes that one call reads or writes.
-const MAX_BYTES: u64 = 1024;
-
-/// The most bytes that a transaction stores.
-const MAX_STORED: u64 = 16384;
+use xc_data::{MOST_CALL_BYTES, MOST_STORED, Num, Place, Private, Reply};
 
 /// A file that is open at a handle, and its position.
 #[derive(Clone, Copy)]
@@ -43,10 +37,10 @@ pub(crate) fn open_file(me: &Private, h: u16, n: u64) -> Result<OpenFile, Reply>
     let Some(file) = file_at(me, h) else {
         return Err(Reply::BadHandle);
     };
-    if n > MAX_BYTES {
+    if n > MOST_CALL_BYTES {
         return Err(Reply::TooBig);
     }
-    if me.stored as u64 + n > MAX_STORED {
+    if me.stored as u64 + n > MOST_STORED {
         return Err(Reply::TooMuch);
     }
     Ok(file)

@@ -9,11 +9,8 @@ ghost use Rattle.xc_file.specs.Naming.{IsAbsent, IsMadeAt, Creates, with_made};
 ghost use Rattle.xc_file.specs.Writing.{AddsOne};
 
 use xc_compensate::Stack;
-use xc_data::{Name, NoMemory, Num, Place, Private, Reply, Undo};
+use xc_data::{MOST_MADE, Name, NoMemory, Num, Place, Private, Reply, Undo};
 use xc_host::{Host, HostErr};
-
-/// The most objects that a transaction makes.
-const MAX_MADE: u16 = 16;
 
 // Makes a file under a name that is absent. The record of it is there before.
 fn create_recorded<H: Host>(
@@ -137,7 +134,7 @@ pub fn x_create<H: Host>(
     ensures made { me.old.made ≤ 16 → me.new.made ≤ 16 }
     ensures now { IfOk result (λ reply. is_late reply ≡ false) }
 {
-    if me.made >= MAX_MADE {
+    if me.made >= MOST_MADE {
         return Ok(Reply::TooMuch);
     }
     let Some(h) = me.vacant() else {

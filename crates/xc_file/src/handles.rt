@@ -10,11 +10,8 @@ ghost use Rattle.xc_file.specs.Calls.{Acts, IsFileCall, IsOpenIn, StepsAlone, is
 ghost use Rattle.xc_file.specs.Checks.{IsOpenAt};
 
 use crate::checks::{OpenFile, file_at};
-use xc_data::{Place, Private, Reply};
+use xc_data::{MOST_FILE_BYTES, Place, Private, Reply};
 use xc_host::Host;
-
-/// The furthest position of an open file, which is also the most bytes that a file has.
-const MAX_POSITION: u64 = 65536;
 
 /// Sets the position of an open file, also past the file's end.
 pub fn x_seek(me: &mut Private, h: u16, to: u64) -> Reply
@@ -25,7 +22,7 @@ pub fn x_seek(me: &mut Private, h: u16, to: u64) -> Reply
     let Place::File { num, .. } = me.place(h) else {
         return Reply::BadHandle;
     };
-    if to > MAX_POSITION {
+    if to > MOST_FILE_BYTES {
         return Reply::TooBig;
     }
     let at = to as u32;

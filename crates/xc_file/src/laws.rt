@@ -6,7 +6,7 @@ ghost use Rattle.xc_data.specs.declared.call.Reply.{Reply};
 ghost use Rattle.xc_data.specs.declared.private.Private.{Private};
 ghost use Rattle.xc_world.specs.World.{World};
 ghost use Rattle.xc_world.specs.Act.{act};
-ghost use Rattle.xc_world.specs.Act.Step.{stays};
+ghost use Rattle.xc_world.specs.Act.Step.{step_to};
 ghost use Rattle.xc_world.specs.Checks.{is_bad_word, is_refused};
 ghost use Rattle.xc_file.specs.Calls.{CallState, IsFileCall, StepsAlone, refusal_of};
 
@@ -16,7 +16,7 @@ use xc_host::Host;
 /// a bad word is refused there.
 pub fn a_check_refuses_as_the_plain_machine()
     ensures refused { (w : World) (me : Private) (tx : ℕ) (call : Call) (answer : Answer) (r : Reply) → refusal_of call me ≡ Some r
-        → act w me tx call answer ≡ stays w me r }
+        → act w me tx call answer ≡ step_to w me r }
     ensures passed { (me : Private) (call : Call) (words : ℕ) → refusal_of call me ≡ None
         → is_refused call me words ≡ is_bad_word call words }
 {}

@@ -11,7 +11,7 @@ use Rattle.xc_world.specs.Sound.{IsSound}
 use Rattle.xc_world.specs.Checks.{is_too_big, is_too_much}
 use Rattle.xc_world.specs.Fits.{fits}
 use Rattle.xc_world.specs.Act.{done}
-use Rattle.xc_world.specs.Act.Step.{stays, IsShortReply}
+use Rattle.xc_world.specs.Act.Step.{step_to, IsShortReply}
 use Rattle.xc_world.proofs.Sound.{read_size, done_well}
 use Rattle.xc_world.proofs.SoundSteps.{StepsWell, got_length}
 
@@ -32,8 +32,8 @@ pub record IsCountable (me next : Private) (r : Reply) : Type 0 where
 
 -- a call that passes, and that its answer fits, is countable
 pub passed-countable : (w v : World) (me next : Private) (tx : ℕ) (c : Call) (a : Answer) (r : Reply) → IsSound w me tx → IsTrue (fits w me tx c a)
-    → is_too_big c ≡ false → is_too_much c me ≡ false → done w me tx c a ≡ stays v next r → IsCountable me next r
+    → is_too_big c ≡ false → is_too_much c me ≡ false → done w me tx c a ≡ step_to v next r → IsCountable me next r
 passed-countable w v me next tx c a r sound fit big much e =
-    let well : StepsWell w tx me (read_size c) (stays v next r) = subst (StepsWell w tx me (read_size c)) e (done_well w me tx c a fit much sound) in
+    let well : StepsWell w tx me (read_size c) (step_to v next r) = subst (StepsWell w tx me (read_size c)) e (done_well w me tx c a fit much sound) in
     let most = read_size-short c big in
     record { stored = well.stored; short = short_reply r (omega (arith, well.got)) }

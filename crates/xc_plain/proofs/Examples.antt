@@ -12,7 +12,7 @@ use Rattle.xc_data.specs.declared.claim.Mode.TheVariants.{Exclusive}
 use Rattle.xc_data.specs.declared.entry.Entry.{Entry}
 use Rattle.xc_data.specs.declared.entry.Outcome.TheVariants.{Committed}
 use Rattle.xc_data.specs.declared.object.Object.TheVariants as object
-use Rattle.xc_print.specs.Text.{text}
+use Rattle.xc_print.specs.Text.{rendered}
 use Rattle.xc_story.specs.Progress.{progress_of}
 use Rattle.xc_text.specs.declared.script.Expression.TheVariants as expression
 use Rattle.xc_text.specs.declared.script.Script.{Script}
@@ -32,7 +32,7 @@ stores value = statement.Store (term.Number 0) (expression.Term (term.Number val
 abbrev two_jobs : Script
 two_jobs =
     record {
-      plain =
+      outline =
           record {
             words = 100 ∷ 0 ∷ [];
             prologue = record { objects = []; faults = []; grain = None };
@@ -73,7 +73,7 @@ text_of_two_jobs = refl
 abbrev unlinks : Script
 unlinks =
     record {
-      plain =
+      outline =
           record {
             words = [];
             prologue = record { objects = []; faults = []; grain = None };
@@ -84,7 +84,7 @@ unlinks =
       slots = [];
     }
 
-no_name : map.get (opening unlinks.plain).names (codes "a") ≡ None
+no_name : map.get (opening unlinks.outline).names (codes "a") ≡ None
 no_name = map.get-empty _ (codes "a")
 
 -- its one entry: the late call finds no name
@@ -105,7 +105,7 @@ its_journal : plain_journal unlinks ≡ its_entry ∷ []
 its_journal = rw no_name refl
 
 abbrev text_with : List Entry → List ℕ
-text_with journal = let state = (progress_of unlinks journal).state in text journal (done_lines state) state.world.words
+text_with journal = let state = (progress_of unlinks journal).state in rendered journal (done_lines state) state.world.words
 
 abbrev its_text : List ℕ
 its_text =

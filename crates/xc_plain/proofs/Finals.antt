@@ -14,7 +14,7 @@ use Rattle.xc_data.specs.declared.entry.JobEnd.TheVariants as job_end
 use Rattle.xc_data.specs.declared.entry.JobLine.{JobLine}
 use Rattle.xc_data.specs.declared.entry.Outcome.{Outcome}
 use Rattle.xc_data.specs.declared.entry.Outcome.TheVariants.{Committed, Aborted}
-use Rattle.xc_print.specs.Text.{text}
+use Rattle.xc_print.specs.Text.{rendered}
 use Rattle.xc_script.specs.Ask.{fresh_job, block_place, next_body, transactions_at, walk_from}
 use Rattle.xc_story.specs.Ending.{IsEnd, AreEnds, Final, IsTrueEnd, is_done, all_done, is_settled_or_tried_again}
 use Rattle.xc_story.specs.Ending.{some_late_starved, transactions_of_jobs}
@@ -141,18 +141,18 @@ same_entries s entries final whole serial tells tries faults starved done =
     let many : length entries ≡ transactions_of_jobs s.script opening.jobs =
     sym (count_settled entries settled) ∙ complete.count ∙ jobs_keep s opening entries told settled in
     same_journal s opening 0 (transactions_of_jobs s.script opening.jobs) entries told tells tries serial.order faults starved settled
-    (untried_opening s.script s.script.plain.jobs) (omega (arith, many)) next
+    (untried_opening s.script s.script.outline.jobs) (omega (arith, many)) next
 
 -- the text of a run whose jobs ran one after another, each to its end, where no call met a fault and no late call wanted
 -- memory, is the plain one
 pub plain_end : (s : Setting) (entries : List Entry) (final : Final) → IsTrueEnd s entries final → IsSerial entries → IsTrue s.tells
     → 1 ≤ s.rules.undo_tries → sum_by entry_faults entries ≡ 0 → some_late_starved entries ≡ false → all_done final.lines ≡ true
-    → text entries final.lines final.words ≡ plain_text s.script
+    → rendered entries final.lines final.words ≡ plain_text s.script
 plain_end s entries final whole serial tells tries faults starved done =
     let same = same_entries s entries final whole serial tells tries faults starved done in
     let state = (progress_of s.script entries).state in
     let ended = whole.state tells in
     let lines : final.lines ≡ done_lines state =
     lines_of final.lines done ∙ ap (map (λ (block : List ℕ). record { block = block; end = job_end.Done })) ended.blocks in
-    ap₂ (text entries) lines ended.words
-    ∙ ap (λ (journal : List Entry). text journal (done_lines (progress_of s.script journal).state) (progress_of s.script journal).state.world.words) same
+    ap₂ (rendered entries) lines ended.words
+    ∙ ap (λ (journal : List Entry). rendered journal (done_lines (progress_of s.script journal).state) (progress_of s.script journal).state.world.words) same

@@ -14,7 +14,7 @@ use Rattle.xc_data.specs.declared.entry.Outcome.TheVariants.{Committed, Aborted}
 use Rattle.xc_data.specs.declared.private.Private.{Private}
 use Rattle.xc_data.specs.declared.undo.Undo.{Undo}
 use Rattle.xc_data.specs.declared.undo.UndoEnd.TheVariants.{Undone}
-use Rattle.xc_print.specs.Text.{text}
+use Rattle.xc_print.specs.Text.{rendered}
 use Rattle.xc_script.specs.Ask.{Walk, asks, answered, all_answered, walk_from, next_body}
 use Rattle.xc_script.specs.declared.ask.Ask.{Ask}
 use Rattle.xc_script.specs.declared.ask.Ask.TheVariants as ask
@@ -69,15 +69,16 @@ entry_at script place p job f =
 abbrev pub next_place : Script → List Following → Option ℕ
 next_place script jobs = position (λ (f : Following). is_some (next_body script f.job)) jobs
 
--- one more entry by this job, whose place is told, and then what comes behind it
-abbrev pub journal_at : Script → ℕ → Progress → (Progress → List Entry) → ℕ → Option Following → List Entry
-journal_at script place p more at None = []
-journal_at script place p more at (Some f) = let e = entry_at script place p (at + 1) f in e ∷ more (after_entry script p e)
+module _ (script : Script) (place : ℕ) (p : Progress) (more : Progress → List Entry) where
+  -- one more entry by this job, whose place is told, and then what comes behind it
+  abbrev pub journal_at : ℕ → Option Following → List Entry
+  journal_at at None = []
+  journal_at at (Some f) = let e = entry_at script place p (at + 1) f in e ∷ more (after_entry script p e)
 
--- one more entry by the job at this place, and then what comes behind it
-abbrev pub journal_with : Script → ℕ → Progress → (Progress → List Entry) → Option ℕ → List Entry
-journal_with script place p more None = []
-journal_with script place p more (Some at) = journal_at script place p more at (slice_get p.jobs at)
+  -- one more entry by the job at this place, and then what comes behind it
+  abbrev pub journal_with : Option ℕ → List Entry
+  journal_with None = []
+  journal_with (Some at) = journal_at at (slice_get p.jobs at)
 
 -- the entries from a place of the journal on, at most so many
 abbrev pub plain_from : ℕ → Script → ℕ → Progress → List Entry
@@ -100,4 +101,4 @@ abbrev pub plain_text : Script → List ℕ
 plain_text script =
     let journal = plain_journal script in
     let state = (progress_of script journal).state in
-    text journal (done_lines state) state.world.words
+    rendered journal (done_lines state) state.world.words

@@ -16,7 +16,7 @@ use Rattle.xc_data.specs.Claims.{held_of}
 use Rattle.xc_compensate.specs.Records.{way_of}
 use Rattle.xc_host.specs.Contents.{Contents, contents_of, with_contents, world_of}
 use Rattle.xc_script.specs.declared.ask.Ask.{Ask}
-use Rattle.xc_script.specs.Place.{Place}
+use Rattle.xc_script.specs.Position.{Position}
 use Rattle.xc_txmem.specs.Overlay.{overlaid}
 use Rattle.xc_world.specs.World.{World}
 use Rattle.xc_world.specs.Effects.{AreMadeIn, undone_to}
@@ -94,7 +94,8 @@ records_so s p words contents jobs next at job tx there doing f =
     records_made (standing_in p.state.world (world_in p.state.world words contents) f.unnoted jobs next) at t f.flies active (f.sound at t active)
 
 -- ---- turns
-module _ (s : Setting) (p : Progress) (words : List ℕ) (contents : Contents) (jobs : List SeenJob) (next at : ℕ) (job : SeenJob) (place : Place) (tx : SeenTx)
+module _ (s : Setting) (p : Progress) (words : List ℕ) (contents : Contents) (jobs : List SeenJob) (next at : ℕ) (job : SeenJob) (place : Position)
+    (tx : SeenTx)
     (there : slice_get jobs at ≡ Some job) (doing : job.doing ≡ Active tx) (f : Flying s p words contents jobs next) where
   abbrev standing : Standing
   standing = standing_in p.state.world (world_in p.state.world words contents) f.unnoted jobs next

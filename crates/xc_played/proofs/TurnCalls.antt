@@ -16,9 +16,9 @@ use Rattle.xc_data.specs.declared.private.Private.{Private}
 use Rattle.xc_data.specs.Claims.{claim, owned, owned_object, holding, holding_one, held_of}
 use Rattle.xc_host.specs.Contents.{Contents}
 use Rattle.xc_script.specs.Ask.{Walk, answered}
-use Rattle.xc_script.specs.Place.{Place}
+use Rattle.xc_script.specs.Position.{Position}
 use Rattle.xc_world.specs.World.{World}
-use Rattle.xc_world.specs.Act.Step.{Stepped, stays}
+use Rattle.xc_world.specs.Act.Step.{Stepped, step_to}
 use Rattle.xc_world.specs.Fits.{answer_of}
 use Rattle.xc_world.specs.Late.{kept_call}
 use Rattle.xc_world.specs.Modes.{claims_of}
@@ -105,7 +105,7 @@ module _ (w : World) (words : List ℕ) (was is : Contents) (us : List Asked) (j
   abbrev after : SeenTx
   after = noting tx c reply claims parts
 
-  acts : did now (claiming t after.held) (asked_with c reply) ≡ stays (seen (record w { words = words }) is parts.stores) parts.me reply
+  acts : did now (claiming t after.held) (asked_with c reply) ≡ step_to (seen (record w { words = words }) is parts.stores) parts.me reply
   acts = go.does.step
 
   noted_so : noting_in_flight now (claiming t after.held) (asked_with c reply) parts.stores ≡ flown job.me us after
@@ -144,7 +144,7 @@ pub holding-more : (a b : List Claim) → holding (held_of a) b ≡ held_of (a +
 holding-more a b = sym (fold-append holding_one [] a b)
 
 -- ---- the turn
-module _ (s : Setting) (p : Progress) (words : List ℕ) (was is : Contents) (jobs : List SeenJob) (next at : ℕ) (job : SeenJob) (place : Place) (tx : SeenTx)
+module _ (s : Setting) (p : Progress) (words : List ℕ) (was is : Contents) (jobs : List SeenJob) (next at : ℕ) (job : SeenJob) (place : Position) (tx : SeenTx)
     (c : Call) (reply : Reply) (parts : Parts) (there : slice_get jobs at ≡ Some job) (doing : job.doing ≡ Active tx) (runs : tx.phase ≡ Running)
     (go : Stepping (seen (record p.state.world { words = words }) was tx.writes) (seen (record p.state.world { words = words }) is parts.stores)
     tx c reply parts) (f : Flying s p words was jobs next) where

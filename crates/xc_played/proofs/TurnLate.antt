@@ -8,7 +8,7 @@ use Rattle.xc_data.specs.declared.call.LateAnswer.{LateAnswer}
 use Rattle.xc_data.specs.declared.call.LateAnswer.TheVariants as late_answer
 use Rattle.xc_data.specs.declared.call.LateEnd.{LateEnd}
 use Rattle.xc_host.specs.Contents.{Contents, world_of}
-use Rattle.xc_script.specs.Place.{Place}
+use Rattle.xc_script.specs.Position.{Position}
 use Rattle.xc_world.specs.World.{World}
 use Rattle.xc_world.specs.Fits.{late_fits, late_answer_of}
 use Rattle.xc_world.specs.Late.{Ended, late, ends}
@@ -36,7 +36,7 @@ late_fits_in w words contents (WritePipe num bytes) (late_answer.Fault n) = refl
 late_fits_in w words contents (WritePipe num bytes) (late_answer.NoMemory n) = refl
 late_fits_in w words contents c a = refl
 
-module _ (s : Setting) (p : Progress) (words : List ℕ) (was is : Contents) (jobs : List SeenJob) (next at : ℕ) (job : SeenJob) (place : Place) (tx : SeenTx)
+module _ (s : Setting) (p : Progress) (words : List ℕ) (was is : Contents) (jobs : List SeenJob) (next at : ℕ) (job : SeenJob) (place : Position) (tx : SeenTx)
     (there : slice_get jobs at ≡ Some job) (doing : job.doing ≡ Active tx) (commits : tx.phase ≡ Committing) (f : Flying s p words was jobs next)
     (call : LateCall) (end : LateEnd) (does : DoesLate was is call end) where
   abbrev standing : Standing

@@ -6,7 +6,7 @@ use native.Mathlib.Decide.{ℕ_discrete}
 use Rattle.xc_data.specs.declared.call.Asked.{Asked}
 use Rattle.xc_data.specs.declared.private.Private.{Private}
 use Rattle.xc_host.specs.Contents.{Contents, with_contents}
-use Rattle.xc_script.specs.Place.{Place}
+use Rattle.xc_script.specs.Position.{Position}
 use Rattle.xc_world.specs.World.{World, beginning}
 use Rattle.xc_story.specs.Setting.{Setting}
 use Rattle.xc_story.specs.Progress.{Following, Progress, progress_of}
@@ -142,11 +142,11 @@ changed s p words words' contents contents' jobs next next' at us job job' there
     }
 
 -- ---- the job's transaction goes on
-active_one : (job : SeenJob) (place : Place) (tx u : SeenTx) → active_of (with_tx job place tx) ≡ Some u → tx ≡ u
+active_one : (job : SeenJob) (place : Position) (tx u : SeenTx) → active_of (with_tx job place tx) ≡ Some u → tx ≡ u
 active_one job place tx u e = cc e
 
 -- what is true of an active transaction
-pub right_active : (s : Setting) (p : Progress) (next at : ℕ) (us : List Asked) (job : SeenJob) (place : Place) (tx : SeenTx)
+pub right_active : (s : Setting) (p : Progress) (next at : ℕ) (us : List Asked) (job : SeenJob) (place : Position) (tx : SeenTx)
     → IsUnnoted tx.phase (asked_of_tx s (slice_get p.jobs at) tx) us
     → HoldsFor (ran_at p.state.world job.me tx) (asked_of_tx s (slice_get p.jobs at) tx) tx.phase tx.held → Right s p next at us (with_tx job place tx)
 right_active s p next at us job place tx asked holds =
@@ -160,7 +160,7 @@ right_active s p next at us job place tx asked holds =
 
 -- it keeps all, where it keeps the flights
 pub goes_on : (s : Setting) (p : Progress) (words words' : List ℕ) (contents contents' : Contents) (jobs : List SeenJob) (next at : ℕ) (us : List Asked)
-    (job : SeenJob) (place : Place) (tx tx' : SeenTx) → slice_get jobs at ≡ Some job → job.doing ≡ Active tx → tx'.number ≡ tx.number
+    (job : SeenJob) (place : Position) (tx tx' : SeenTx) → slice_get jobs at ≡ Some job → job.doing ≡ Active tx → tx'.number ≡ tx.number
     → (f : Flying s p words contents jobs next)
     → InFlight (turned (standing_in p.state.world (world_in p.state.world words contents) f.unnoted jobs next) at (Some (flown job.me us tx'))
     (world_in p.state.world words' contents'))
@@ -209,7 +209,7 @@ rests s p words contents jobs next at job job' there none none' me block f =
     (right_idle s p next at [] job' none' (subst (λ (m : Private). IsIdleSound w next m.places) (sym me) (f.idle at job there none)))
 
 -- its next transaction begins
-pub begins_next : (s : Setting) (p : Progress) (words : List ℕ) (contents : Contents) (jobs : List SeenJob) (next at : ℕ) (job : SeenJob) (place : Place)
+pub begins_next : (s : Setting) (p : Progress) (words : List ℕ) (contents : Contents) (jobs : List SeenJob) (next at : ℕ) (job : SeenJob) (place : Position)
     (rank began : ℕ) → slice_get jobs at ≡ Some job → active_of job ≡ None → job.me ≡ beginning job.me.places
     → Flying s p words contents jobs next
     → Flying s p words contents (slice_set jobs at (with_tx job place (new_tx next rank began job.me))) (next + 1)

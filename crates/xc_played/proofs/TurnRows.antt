@@ -11,7 +11,7 @@ use Rattle.xc_data.specs.declared.entry.Outcome.TheVariants.{Committed, Aborted}
 use Rattle.xc_compensate.specs.Records.{Records}
 use Rattle.xc_host.specs.Contents.{Contents}
 use Rattle.xc_script.specs.Ask.{asks, walk_from}
-use Rattle.xc_script.specs.Place.{Place}
+use Rattle.xc_script.specs.Position.{Position}
 use Rattle.xc_txmem.specs.Overlay.{overlaid}
 use Rattle.xc_story.specs.declared.phase.Phase.TheVariants.{Running, Committing, Undoing}
 use Rattle.xc_story.specs.Setting.{Setting}
@@ -118,7 +118,7 @@ module _ (s : Setting) (old : Now) (at : ℕ) (job : SeenJob) (there : slice_get
         let running : IsRunning s follows.following job.place tx = subst (IsInPhase s follows.following job.place tx) runs underway.phase in
         ap (λ o. asked_of_tx s o tx) follows.at_place ∙ ap asks (sym running.ahead)
 
-    kept : (new : Now) (place : Place) (tx' : SeenTx) → new.journal ≡ old.journal → new.jobs ≡ slice_set old.jobs at (with_tx job place tx')
+    kept : (new : Now) (place : Position) (tx' : SeenTx) → new.journal ≡ old.journal → new.jobs ≡ slice_set old.jobs at (with_tx job place tx')
         → Flying s before new.words new.contents (slice_set old.jobs at (with_tx job place tx')) (begun_count old + 1) → AreFlying s new
     kept new place tx' = row_kept s old new at job (with_tx job place tx') there (sym one)
 
@@ -140,7 +140,7 @@ module _ (s : Setting) (old : Now) (at : ℕ) (job : SeenJob) (there : slice_get
         (subst (λ ws. Flying s before ws new.contents (slice_set old.jobs at (with_tx job row.place next)) (begun_count old + 1)) (sym row.words) done)
 
     -- the way back begins
-    row_back : (c : Cause) (place : Place) → tx.phase ≡ Running → AreFlying s (with_job old at (with_tx job place (record tx { phase = Undoing c })))
+    row_back : (c : Cause) (place : Position) → tx.phase ≡ Running → AreFlying s (with_job old at (with_tx job place (record tx { phase = Undoing c })))
     row_back c place runs =
         kept (with_job old at (with_tx job place (record tx { phase = Undoing c }))) place (record tx { phase = Undoing c }) refl refl
         (back_keeps s before old.words old.contents old.jobs (begun_count old + 1) at job place tx there doing f c runs)

@@ -9,7 +9,7 @@ use Rattle.xc_data.specs.declared.private.Place.{Place as Handle}
 use Rattle.xc_data.specs.declared.private.Place.TheVariants.{Vacant}
 use Rattle.xc_data.specs.declared.script.Opened.{Opened}
 use Rattle.xc_data.specs.declared.script.Opened.TheVariants as line
-use Rattle.xc_data.specs.declared.script.Script0.{Script0}
+use Rattle.xc_data.specs.declared.script.Outline.{Outline}
 use Rattle.xc_host.specs.Contents.{Contents, contents_of, world_of, nothing, opened}
 use Rattle.xc_text.specs.declared.script.Script.{Script}
 use Rattle.xc_text.specs.Scripts.{IsScript, IsFileLine}
@@ -42,7 +42,7 @@ all_alike w v k (o ∷ objects) same =
     all_alike (with_opened w (line_num k) o) (with_opened v (line_num k) o) (k + 1) objects
     (opened_alike w (line_num k) o ∙ ap (λ (c : Contents). contents_of (with_opened (world_of c) (line_num k) o)) same ∙ sym (opened_alike v (line_num k) o))
 
-opening_contents : (script : Script0) → contents_of (opening script) ≡ opened script.prologue.objects
+opening_contents : (script : Outline) → contents_of (opening script) ≡ opened script.prologue.objects
 opening_contents script = all_alike (bare script) (world_of nothing) 0 script.prologue.objects refl
 
 -- no line changes a word or a job
@@ -61,7 +61,7 @@ all_base w k (o ∷ objects) =
     let more = all_base (with_opened w (line_num k) o) (k + 1) objects in
     (more.0 ∙ one.0, more.1 ∙ one.1)
 
-opening_base : (script : Script0) → SameBase (bare script) (opening script)
+opening_base : (script : Outline) → SameBase (bare script) (opening script)
 opening_base script = all_base (bare script) 0 script.prologue.objects
 
 -- a file has no handle at the opening
@@ -71,12 +71,12 @@ no_handles_of k (line.File name bytes ∷ objects) all = no_handles_of (k + 1) o
 no_handles_of k (line.Pipe bytes ∷ objects) all = absurd (All-head IsFileLine (line.Pipe bytes) objects all)
 no_handles_of k (line.Pair ∷ objects) all = absurd (All-head IsFileLine line.Pair objects all)
 
-no_opening_handles : (script : Script) → IsScript script → opening_handles script.plain ≡ no_handles
+no_opening_handles : (script : Script) → IsScript script → opening_handles script.outline ≡ no_handles
 no_opening_handles script is =
-    ap (λ (handles : List Handle). handles ++ replicate (256 - length handles) Vacant) (no_handles_of 0 script.plain.prologue.objects is.files)
+    ap (λ (handles : List Handle). handles ++ replicate (256 - length handles) Vacant) (no_handles_of 0 script.outline.prologue.objects is.files)
 
 -- the world that a script opens with, from its words and its contents
-opening_now : (script : Script0) → world_in (opening script) script.words (opened script.prologue.objects) ≡ opening script
+opening_now : (script : Outline) → world_in (opening script) script.words (opened script.prologue.objects) ≡ opening script
 opening_now script =
     let w = opening script in
     ap (world_in w script.words) (sym (opening_contents script)) ∙ ap (λ ws. world_in w ws (contents_of w)) (sym (opening_base script).0)
@@ -113,34 +113,35 @@ module _ (script : Script) where
   their_blocks (name ∷ names) = ap (λ ns. name ∷ ns) (their_blocks names)
 
 -- ---- the start
-opening_flies : (s : Setting) → IsScript s.script → KeepsLimits s.script.plain
-    → Flying s (opening_progress s.script) s.script.plain.words (opened s.script.plain.prologue.objects) (map (opened_job s.script) s.script.plain.jobs) 1
+opening_flies : (s : Setting) → IsScript s.script → KeepsLimits s.script.outline
+    → Flying s (opening_progress s.script) s.script.outline.words (opened s.script.outline.prologue.objects) (map (opened_job s.script) s.script.outline.jobs) 1
 opening_flies s read limits =
     let script = s.script in
-    let names = script.plain.jobs in
-    let w = opening script.plain in
+    let names = script.outline.jobs in
+    let w = opening script.outline in
     let unnoted : ℕ → List Asked = λ at. [] in
     let idle = none_flies script unnoted names in
     let handles = no_opening_handles script read in
     let sound : IsIdleSound w 1 no_handles =
-    λ m le. subst (λ hs. IsSound w (beginning hs) m) handles (opening_sound script.plain limits m (omega (arith, le))) in
+    λ m le. subst (λ hs. IsSound w (beginning hs) m) handles (opening_sound script.outline limits m (omega (arith, le))) in
     record {
       unnoted = unnoted;
       was_asked = λ at job tx there active. tt;
-      flies = starts (standing_in w (world_in w script.plain.words (opened script.plain.prologue.objects)) unnoted (map (opened_job script) names) 1) idle
-          (opening_now script.plain) (λ m k le. (sound m le).new k (omega arith));
+      flies = starts (standing_in w (world_in w script.outline.words (opened script.outline.prologue.objects)) unnoted (map (opened_job script) names) 1) idle
+          (opening_now script.outline) (λ m k le. (sound m le).new k (omega arith));
       sound = λ j t e. absurd (cc (idle j, e));
       idle = λ at job there none. subst (IsIdleSound w 1) (sym (each_fresh script names at job there).handles) sound;
       handles = ap (replicate (length names)) handles ∙ their_handles script names;
-      started = (opening_base script.plain).1 ∙ their_blocks script names;
+      started = (opening_base script.outline).1 ∙ their_blocks script names;
       holds = λ at job tx there active. (let none = (each_fresh script names at job there).none in absurd (cc (none, active)));
     }
 
 -- a start flies
-pub start_flies : (s : Setting) (now : Now) → IsSet s → KeepsLimits s.script.plain → IsOpening s.script now
-    → now.contents ≡ opened s.script.plain.prologue.objects → AreFlying s now
+pub start_flies : (s : Setting) (now : Now) → IsSet s → KeepsLimits s.script.outline → IsOpening s.script now
+    → now.contents ≡ opened s.script.outline.prologue.objects → AreFlying s now
 start_flies s now set limits o held =
-    let many : length (actives now.jobs) ≡ 0 = ap (λ js. length (actives js)) o.jobs ∙ ap length (none_active s.script s.script.plain.jobs) in
+    let many : length (actives now.jobs) ≡ 0 = ap (λ js. length (actives js)) o.jobs ∙ ap length (none_active s.script s.script.outline.jobs) in
     let entries : length now.journal ≡ 0 = ap length o.journal in
-    flies_so s now (opening_progress s.script) s.script.plain.words (opened s.script.plain.prologue.objects) (map (opened_job s.script) s.script.plain.jobs) 1
+    flies_so s now (opening_progress s.script) s.script.outline.words (opened s.script.outline.prologue.objects)
+      (map (opened_job s.script) s.script.outline.jobs) 1
     (ap (progress_of s.script) o.journal) o.words held o.jobs (omega (arith, many, entries)) (opening_flies s set.read limits)

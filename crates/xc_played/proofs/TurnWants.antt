@@ -12,7 +12,7 @@ use Rattle.xc_data.specs.Claims.{holding, held_of}
 use Rattle.xc_host.specs.Contents.{Contents, contents_of}
 use Rattle.xc_script.specs.declared.ask.Ask.{Ask}
 use Rattle.xc_script.specs.declared.ask.Ask.TheVariants as ask
-use Rattle.xc_script.specs.Place.{Place, walk_of}
+use Rattle.xc_script.specs.Position.{Position, walk_of}
 use Rattle.xc_world.specs.World.{World}
 use Rattle.xc_world.specs.Modes.{claims_of}
 use Rattle.xc_world.specs.Run.{Ran, asked_of}
@@ -51,7 +51,8 @@ part_itself (x ∷ xs) = inl (refl, part_itself xs)
 abbrev pub asked_by : Call → Answer → Asked
 asked_by c answer = record { call = c; answer = answer }
 
-module _ (s : Setting) (p : Progress) (words : List ℕ) (contents : Contents) (jobs : List SeenJob) (next at : ℕ) (job : SeenJob) (place : Place) (tx : SeenTx)
+module _ (s : Setting) (p : Progress) (words : List ℕ) (contents : Contents) (jobs : List SeenJob) (next at : ℕ) (job : SeenJob) (place : Position)
+    (tx : SeenTx)
     (there : slice_get jobs at ≡ Some job) (doing : job.doing ≡ Active tx) (f : Flying s p words contents jobs next) (runs : tx.phase ≡ Running) where
   -- it leaves nothing, and holds no more
   pub wants_keeps : Flying s p words contents (slice_set jobs at (with_tx job place (wanting tx [] tx.held))) next
@@ -183,7 +184,7 @@ module _ (s : Setting) (p : Progress) (words : List ℕ) (contents : Contents) (
           (subst (λ a. IsUnnoted (Undoing cause.NoMemory) a (asked_last ∷ [])) (sym asks ∙ asked_same s (slice_get p.jobs at) tx wanter refl) refl)
 
 -- ---- whatever it left
-module _ (s : Setting) (p : Progress) (old new : Now) (next at : ℕ) (job : SeenJob) (place : Place) (tx : SeenTx) (there : slice_get old.jobs at ≡ Some job)
+module _ (s : Setting) (p : Progress) (old new : Now) (next at : ℕ) (job : SeenJob) (place : Position) (tx : SeenTx) (there : slice_get old.jobs at ≡ Some job)
     (doing : job.doing ≡ Active tx) (f : Flying s p old.words old.contents old.jobs next) (runs : tx.phase ≡ Running)
     (asks : asked_of_tx s (slice_get p.jobs at) tx ≡ asked_at s job.place) where
   abbrev Wanting : List Undo → List Claim → Contents → Type 0

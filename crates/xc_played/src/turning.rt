@@ -11,8 +11,8 @@ ghost use Rattle.xc_played.specs.Flying.{AreFlying};
 
 /// At a start, over a host with exactly the script's objects, nobody is active, and all is the plain machine's.
 pub fn a_start_flies()
-    ensures { (s : Setting) (now : Now) → IsSet s → KeepsLimits s.script.plain → IsOpening s.script now
-        → now.contents ≡ opened s.script.plain.prologue.objects → AreFlying s now }
+    ensures { (s : Setting) (now : Now) → IsSet s → KeepsLimits s.script.outline → IsOpening s.script now
+        → now.contents ≡ opened s.script.outline.prologue.objects → AreFlying s now }
 {}
 
 /// A turn of one job keeps the flights of all.

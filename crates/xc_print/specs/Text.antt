@@ -35,5 +35,5 @@ word_lines at (value ∷ values) = word_line at value ++ word_lines (at + 1) val
 
 -- the entries, the jobs, the words and, last, the totals; what aborted transactions took and nobody has
 -- read since has no lines here: they would stand between the words and the totals
-abbrev pub text : List Entry → List JobLine → List ℕ → List ℕ
-text journal jobs words = journal_text journal ++ job_lines 1 jobs ++ word_lines 0 words ++ totals_line (totals_of journal)
+abbrev pub rendered : List Entry → List JobLine → List ℕ → List ℕ
+rendered journal jobs words = journal_text journal ++ job_lines 1 jobs ++ word_lines 0 words ++ totals_line (totals_of journal)

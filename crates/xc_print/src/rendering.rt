@@ -1,5 +1,5 @@
 ghost use Rattle.std.specs.Prelude.{◌≡◌, ◌++◌, ◌≤◌, length, IfOk, OnOk};
-ghost use Rattle.xc_print.specs.Text.{job_end_text, job_line, job_lines, word_line, word_lines, text as whole_text};
+ghost use Rattle.xc_print.specs.Text.{job_end_text, job_line, job_lines, word_line, word_lines, rendered};
 ghost use Rattle.xc_print.specs.Totals.{totals_line, totals_of};
 
 use crate::Totals;
@@ -79,7 +79,7 @@ fn push_text(
     words: &[u64],
 ) -> Result<(), NoMemory>
     requires { length journal.now ≤ 10000 }
-    ensures { OnOk result (out.new ≡ out.old ++ whole_text journal.now jobs.now words.now) }
+    ensures { OnOk result (out.new ≡ out.old ++ rendered journal.now jobs.now words.now) }
 {
     push_journal(out, journal)?;
     push_jobs(out, jobs)?;
@@ -95,7 +95,7 @@ pub fn render(
     words: &[u64],
 ) -> Result<Text, NoMemory>
     requires few { length journal.now ≤ 10000 }
-    ensures { IfOk result (λ text. text ≡ whole_text journal.now jobs.now words.now) }
+    ensures { IfOk result (λ text. text ≡ rendered journal.now jobs.now words.now) }
 {
     let mut out = Page::new(alloc);
     push_text(&mut out, journal, jobs, words)?;

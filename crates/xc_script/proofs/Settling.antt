@@ -11,7 +11,7 @@ use Rattle.xc_script.specs.declared.ask.Ask.TheVariants as ask
 use Rattle.xc_script.specs.Ask.{Variables, Walk, is_silent, set_by, settled, stands, asks, asks_of, answered, behind_ask}
 use Rattle.xc_script.specs.Ask.{bound, target_of, stored_after, refuses}
 use Rattle.xc_world.specs.Checks.{bytes_of}
-use Rattle.xc_script.specs.Place.{Place, IsSettled, left_at}
+use Rattle.xc_script.specs.Position.{Position, IsSettled, left_at}
 
 -- as many statements are left, or fewer
 pub settled-length : (variables : Variables) (stored : ℕ) (refused : Bool) (left : List Statement) →
@@ -38,7 +38,7 @@ stands_from variables stored refused [] same = refl
 stands_from variables stored refused (s ∷ rest) same = silent_or variables stored refused s rest (is_silent variables refused s) refl same
 
 -- at a settled place no silent statement comes first
-pub stands_settled : (script : Script) (place : Place) → IsSettled script place → stands place.variables place.refused (left_at script place) ≡ true
+pub stands_settled : (script : Script) (place : Position) → IsSettled script place → stands place.variables place.refused (left_at script place) ≡ true
 stands_settled script place is = stands_from place.variables place.stored place.refused (left_at script place) is.left
 
 fewer_behind : (walk : Walk) (left : List Statement) (a : Ask) (c : Call) (reply : Reply) → asks_of walk.variables walk.stored left ≡ a → a ≡ ask.Call c →

@@ -1,3 +1,3 @@
 pub mod Ask
-pub mod Place
+pub mod Position
 pub mod Slots

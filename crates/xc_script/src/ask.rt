@@ -4,10 +4,10 @@ ghost use Rattle.xc_script.specs.Ask.{is_over, unless_over, data_of, handle_valu
 ghost use Rattle.xc_script.specs.Ask.{ask_of, carried_by};
 
 use crate::data::{data_in, data_len};
-use crate::reading::{expression_of, handle_in, value_of};
+use crate::terms::{expression_of, handle_in, value_of};
 use crate::value::Variables;
 use std::alloc::Global;
-use xc_data::{Boxed, Call, Chunk, Ident, Name, NoMemory};
+use xc_data::{Boxed, Call, Chunk, Ident, MOST_STORED, Name, NoMemory};
 use xc_text::{Data, KeptExpression, KeptTerm, Statement};
 
 /// What a job is asked to do next.
@@ -28,7 +28,7 @@ fn room_for(variables: &Variables, stored: u128, items: &Data) -> Option<usize>
     let Some(len) = data_len(variables, items) else {
         return None;
     };
-    if stored > (16384 - len) as u128 {
+    if stored > (MOST_STORED as usize - len) as u128 {
         return None;
     }
     Some(len)

@@ -2,10 +2,10 @@ ghost use Rattle.std.specs.Prelude.{◌≡◌, ◌≤◌, ◌<◌, ◌++◌, len
 ghost use Rattle.std.specs.Fmt.{decimal};
 ghost use Rattle.xc_script.specs.Ask.{item_value, data_of};
 
-use crate::reading::{bytes_in, value_of};
+use crate::terms::{bytes_in, value_of};
 use crate::value::Variables;
 use std::alloc::Global;
-use xc_data::{Chunk, NoMemory};
+use xc_data::{Chunk, MOST_CALL_BYTES, NoMemory};
 use xc_text::{Data, Item};
 
 // How many decimal digits a number has.
@@ -37,7 +37,7 @@ pub fn data_len(variables: &Variables, items: &Data) -> Option<usize>
     let mut len = 0;
     for item in items.as_slice() {
         let more = item_len(variables, item);
-        if more > 1024 - len {
+        if more > MOST_CALL_BYTES as usize - len {
             return None;
         }
         len += more;

@@ -3,7 +3,7 @@ ghost use Rattle.std.specs.Option.{option_copied};
 ghost use Rattle.std.specs.Cmp.Lexicographic.{pointwise};
 ghost use Rattle.xc_script.specs.Ask.{asks_from, answered, next_body, transactions_at, fresh_job, block_place, value_in};
 ghost use Rattle.xc_script.specs.Slots.{kept_of, with_ends};
-ghost use Rattle.xc_script.specs.Place.{Place, job_of, walk_of, at_begin, IsSettled, IsAskedCall, target_at};
+ghost use Rattle.xc_script.specs.Position.{Position, job_of, walk_of, at_begin, IsSettled, IsAskedCall, target_at};
 
 use crate::Ask;
 use crate::answer::{bind, refuses, stored_after, target_of};
@@ -35,11 +35,11 @@ pub struct JobState {
 
 impl Model for JobState {
     ghost use Rattle.std.specs.Prelude.{◌≤◌, ◌*◌, ◌^◌};
-    ghost use Rattle.xc_script.specs.Place.{Place, coded_place};
+    ghost use Rattle.xc_script.specs.Position.{Position, coded_position};
 
-    ghost Value = { Place };
+    ghost Value = { Position };
 
-    ghost coded = { coded_place };
+    ghost coded = { coded_position };
 
     ghost view = { λ j. record {
       block = j.block;

@@ -6,8 +6,8 @@ mod ask;
 mod data;
 mod ends;
 mod job;
-mod reading;
 mod silent;
+mod terms;
 mod value;
 
 pub use ask::Ask;

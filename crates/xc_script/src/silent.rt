@@ -1,7 +1,7 @@
 ghost use Rattle.std.specs.Prelude.{◌≡◌, ◌≤◌, ℕ, true, drop, OnOk, OnErr};
 ghost use Rattle.xc_script.specs.Ask.{holds, is_silent, set_by, settled, stands};
 
-use crate::reading::{expression_of, value_of};
+use crate::terms::{expression_of, value_of};
 use crate::value::{Value, Variables};
 use xc_data::NoMemory;
 use xc_text::{Statement, Test};

@@ -3,7 +3,7 @@ ghost use Rattle.std.specs.FinMap as map;
 ghost use Rattle.std.specs.Option.{option_copied};
 ghost use Rattle.xc_failure.specs.Slots.{slot_number, unset};
 ghost use Rattle.xc_script.specs.Ask.{set_to};
-ghost use Rattle.xc_script.specs.Place.{nothing_kept};
+ghost use Rattle.xc_script.specs.Position.{nothing_kept};
 ghost use Rattle.xc_script.specs.Slots.{with_end};
 
 use std::alloc::Global;
@@ -29,7 +29,7 @@ pub struct Variables {
 
 impl Model for Variables {
     ghost use Rattle.xc_script.specs.Ask.{Variables as PlainVariables};
-    ghost use Rattle.xc_script.specs.Place.{coded_variables};
+    ghost use Rattle.xc_script.specs.Position.{coded_variables};
 
     ghost Value = { PlainVariables };
 

@@ -6,7 +6,7 @@ use Rattle.xc_data.specs.declared.entry.JobEnd.{JobEnd}
 use Rattle.xc_data.specs.declared.entry.Turn.{Turn}
 use Rattle.xc_data.specs.declared.entry.Turn.TheVariants as turn
 use Rattle.xc_data.specs.declared.private.Private.{Private}
-use Rattle.xc_script.specs.Place.{Place}
+use Rattle.xc_script.specs.Position.{Position}
 use Rattle.xc_story.specs.Setting.{Setting}
 use Rattle.xc_story.specs.Seen.{SeenTx, SeenJob, Active, Ended, Now, begun_count, rank_of, with_job}
 use Rattle.xc_story.specs.Rows.{IdleTurn, IsEnding, beginning_job, new_tx}
@@ -33,7 +33,7 @@ pub all_begun : (now : Now) (entered entries active : ℕ) → HasBegun now entr
 all_begun now entered entries active k len = λ i. (k.entered ∙ sym len) i + k.active i
 
 -- its next transaction begins
-pub begins : (now : Now) (job : SeenJob) (me : Private) (place : Place) (tx : SeenTx) (entered entries active rank : ℕ) → me ≡ job.me
+pub begins : (now : Now) (job : SeenJob) (me : Private) (place : Position) (tx : SeenTx) (entered entries active rank : ℕ) → me ≡ job.me
     → HasBegun now entries active → entered ≡ entries
     → place ≡ record job.place { begun = job.place.variables } → rank ≡ rank_of job.attempts (entered + active + 1)
     → tx ≡ new_tx (entered + active + 1) rank entered job.me → record job { me = me; place = place; doing = Active tx } ≡ beginning_job now job

@@ -8,7 +8,7 @@ use Rattle.xc_data.specs.declared.entry.Outcome.TheVariants.{Committed, Aborted}
 use Rattle.xc_data.specs.declared.private.Private.{Private}
 use Rattle.xc_compensate.specs.Records.{Records}
 use Rattle.xc_deferred.specs.Queue.{Queue}
-use Rattle.xc_script.specs.Place.{Place, at_begin}
+use Rattle.xc_script.specs.Position.{Position, at_begin}
 use Rattle.xc_script.specs.Slots.{kept_of, with_ends}
 use Rattle.xc_world.specs.World.{beginning}
 use Rattle.xc_story.specs.declared.phase.Attempts.{Attempts}
@@ -62,7 +62,7 @@ pub is_active : (job : Job) (tx : SeenTx) → doing_of job ≡ Active tx → doi
 is_active job tx is = active_again job.tx job.tx job.activity tx is
 
 -- a job that stands elsewhere, with its transaction further on
-pub moves_on : (job : Job) (tx : SeenTx) (place : Place) (now : Tx) → doing_of job ≡ Active tx → begun_of now ≡ begun_of job.tx
+pub moves_on : (job : Job) (tx : SeenTx) (place : Position) (now : Tx) → doing_of job ≡ Active tx → begun_of now ≡ begun_of job.tx
     → with_tx (seen_job job) place (seen_tx now) ≡ seen_job (record job { place = place; tx = now })
 moves_on job tx place now is kept =
     let doing = sym (active_again job.tx now job.activity tx is) in
@@ -108,7 +108,7 @@ commit_entry t tx at same phase =
     ∙ ap (λ (p : Phase). entry_of tx at (outcome_in p tx.undo.ended tx.ends)) phase
 
 -- a job behind a commit
-pub commit_behind : (old : SeenJob) (t tx : SeenTx) (me : Private) (place : Place) (attempts : Option Attempts) → t ≡ tx → me ≡ beginning t.me.places
+pub commit_behind : (old : SeenJob) (t tx : SeenTx) (me : Private) (place : Position) (attempts : Option Attempts) → t ≡ tx → me ≡ beginning t.me.places
     → place ≡ at_begin (record {
       block = old.place.block;
       next = old.place.next + 1;

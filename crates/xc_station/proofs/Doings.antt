@@ -25,7 +25,7 @@ use Rattle.xc_script.specs.Ask.{value_in}
 use Rattle.xc_txmem.specs.Overlay.{overlaid}
 use Rattle.xc_world.specs.World.{World}
 use Rattle.xc_world.specs.Act.{act}
-use Rattle.xc_world.specs.Act.Step.{Stepped, stays}
+use Rattle.xc_world.specs.Act.Step.{Stepped, step_to}
 use Rattle.xc_world.specs.Fits.{fits, answer_of}
 use Rattle.xc_world.specs.Late.{is_late, kept_call}
 use Rattle.xc_world.specs.Trail.{recorded}
@@ -82,7 +82,7 @@ module _ {H : Type 0} (model : HostModel H) (c : Call) (old new : Acting H) (oth
             (still_words (overlaid old.words old.tx.writes) c reply other);
         does = λ tells w at. record {
           step = (k.acts tells).step (over w)
-              ∙ ap (λ ws. stays (seen w (model.contents new.host) ws) new.tx.me reply) (sym writes);
+              ∙ ap (λ ws. step_to (seen w (model.contents new.host) ws) new.tx.me reply) (sym writes);
           fits = (k.acts tells).fits (over w);
           records = ap (λ (u : Records). u.pending) k.undo ∙ ap (λ us. old.tx.undo.pending ++ us) (k.records tells (over w));
         };
@@ -188,7 +188,7 @@ module _ {H : Type 0} (model : HostModel H) (c : Call) (old : Acting H) (writes 
       ap (λ ws. words_after (overlaid ws stores) c) at ∙ sym after ∙ ap (λ ws. overlaid ws writes) (sym at) in
       let fine : answer_of reply ≡ answer.Fine = ap answer_of gives' ∙ word-fine v.words c is in
       record {
-        step = ap (act v me number c) fine ∙ word-act v me number c is ∙ (λ i. stays (record v { words = after' i }) me (sym gives' i));
+        step = ap (act v me number c) fine ∙ word-act v me number c is ∙ (λ i. step_to (record v { words = after' i }) me (sym gives' i));
         fits = subst (λ (a : Answer). IsTrue (fits v me number c a)) (sym fine) refl;
         records = sym (append_nil old.tx.undo.pending) ∙ ap (λ us. old.tx.undo.pending ++ us) (sym (word-trail v me number c reply is));
       }

@@ -13,7 +13,7 @@ use Rattle.xc_host.specs.Model.{HostModel}
 use Rattle.xc_journal.specs.Room.{Roomy}
 use Rattle.xc_script.specs.declared.ask.Ask.{Ask}
 use Rattle.xc_script.specs.declared.ask.Ask.TheVariants as ask
-use Rattle.xc_script.specs.Place.{Place}
+use Rattle.xc_script.specs.Position.{Position}
 use Rattle.xc_wordlocks.specs.Table.{KeepsOthers, mode_of}
 use Rattle.xc_story.specs.Setting.{Setting}
 use Rattle.xc_story.specs.Seen.{SeenTx, SeenJob, Active, Ended, Now, active_in, active_of, begun_count, rank_of, with_job}
@@ -31,7 +31,7 @@ use Rattle.xc_station.proofs.Rooms.{rooms_set, table_begun, table_goes_on, table
 -- ---- a running transaction goes on
 -- the job that a row leaves in the place
 pub record GoesOn (old new : Now) (at : ℕ) (job : SeenJob) : Type 0 where
-  pub place : Place
+  pub place : Position
   pub tx : SeenTx
   pub jobs : new.jobs ≡ slice_set old.jobs at (with_tx job place tx)
 

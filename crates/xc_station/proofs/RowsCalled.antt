@@ -15,7 +15,7 @@ use Rattle.xc_host.specs.Contents.{Contents}
 use Rattle.xc_host.specs.Model.{HostModel}
 use Rattle.xc_script.specs.declared.ask.Ask.TheVariants as ask
 use Rattle.xc_script.specs.Ask.{asks, answered}
-use Rattle.xc_script.specs.Place.{Place, walk_of}
+use Rattle.xc_script.specs.Position.{Position, walk_of}
 use Rattle.xc_txmem.specs.Overlay.{overlaid}
 use Rattle.xc_world.specs.Modes.{claims_of}
 use Rattle.xc_wordlocks.specs.Table.{claimed, mode_in}
@@ -25,7 +25,7 @@ use Rattle.xc_story.specs.Setting.{Setting}
 use Rattle.xc_story.specs.Seen.{SeenTx, SeenJob, Now, active_in}
 use Rattle.xc_story.specs.WordCalls.{IsWordStep}
 use Rattle.xc_story.specs.Rows.{Calls, DoesIn, DoesPartIn, HasNoRival, HoldsWanting, IsActiveAt, IsLeft, IsSameBegin}
-use Rattle.xc_story.specs.Rows.{IsSamePlace, IsReplyInTime, Parts, RunningTurn, noting, parts_of, stored_by, wanting, with_tx}
+use Rattle.xc_story.specs.Rows.{IsSamePosition, IsReplyInTime, Parts, RunningTurn, noting, parts_of, stored_by, wanting, with_tx}
 use Rattle.xc_story.proofs.AskedCalls.{asked_built}
 use Rattle.xc_station.specs.declared.calls.Shared.{Shared}
 use Rattle.xc_station.specs.declared.tx.Tx.{Tx}
@@ -36,13 +36,13 @@ use Rattle.xc_station.proofs.RowsRun.{asked_before, asked_row}
 use Rattle.xc_station.proofs.Rivals.{none_met, table_behind}
 
 -- the job stands behind the reply
-pub record IsBehind (s : Setting) (old new : Place) (reply : Reply) : Type 0 where
+pub record IsBehind (s : Setting) (old new : Position) (reply : Reply) : Type 0 where
   pub begin : IsSameBegin old new
   pub walk : walk_of s.script new ≡ answered (walk_of s.script old) reply
   pub nearer : old.at < new.at
 
 -- ---- behind granted claims
-module _ {H : Type 0} (model : HostModel H) (s : Setting) (shared : Shared H) (now : Now) (at : ℕ) (job : SeenJob) (place : Place) (old : Tx)
+module _ {H : Type 0} (model : HostModel H) (s : Setting) (shared : Shared H) (now : Now) (at : ℕ) (job : SeenJob) (place : Position) (old : Tx)
     (here : IsAt model shared now at job) (has : HasTx s job place (seen_tx old)) (behind : Shared H) (mid : Tx) (call : Call)
     (words : behind.words ≡ shared.words) (asked : asks (walk_of s.script place) ≡ ask.Call call)
     (g : IsGranted shared.claims behind.claims old mid (claims_of call old.me (length shared.words))) where
@@ -59,7 +59,7 @@ module _ {H : Type 0} (model : HostModel H) (s : Setting) (shared : Shared H) (n
   words_now : behind.words ≡ now.words
   words_now = words ∙ sym here.words
 
-  row_granted : (place' : Place) (tx : SeenTx) (answer : Turn) → tx.number ≡ old.number
+  row_granted : (place' : Position) (tx : SeenTx) (answer : Turn) → tx.number ≡ old.number
       → tx.held ≡ holding old.held.items (claims_of call old.me (length shared.words))
       → RunningTurn s at now job (seen_tx old) answer (moved model behind (with_tx job place' tx) now at)
       → IsRow s now (moved model behind (with_tx job place' tx) now at) at job answer behind.claims
@@ -75,7 +75,7 @@ module _ {H : Type 0} (model : HostModel H) (s : Setting) (shared : Shared H) (n
       }
 
   -- memory is wanting behind them: what the call left stays, and what it claimed is held
-  module _ (telling : IsTrue s.tells → IsTrue model.tells) (place' : Place) (from : H) (done new : Tx) (same : place' ≡ place) (host : from ≡ shared.host)
+  module _ (telling : IsTrue s.tells → IsTrue model.tells) (place' : Position) (from : H) (done new : Tx) (same : place' ≡ place) (host : from ≡ shared.host)
       (l : LeavesOff model call (acting from behind.words mid) (acting behind.host behind.words done))
       (is : seen_tx new ≡ record (seen_tx done) { phase = Undoing cause.NoMemory }) where
     left_as : seen_tx new ≡ wanting (seen_tx old) l.left (holding old.held.items (claims_of call old.me (length now.words)))
@@ -102,7 +102,7 @@ module _ {H : Type 0} (model : HostModel H) (s : Setting) (shared : Shared H) (n
         (ap (λ (t : SeenTx). t.held) left_as ∙ ap (holding old.held.items) (sym claims_now))
         (subst (λ a. RunningTurn s at now job (seen_tx old) a moment) (sym gives) (record {
           place = place';
-          same = subst (IsSamePlace s job.place) (sym same) has.same;
+          same = subst (IsSamePosition s job.place) (sym same) has.same;
           left = l.left;
           one = l.one;
           held = held;
@@ -115,7 +115,7 @@ module _ {H : Type 0} (model : HostModel H) (s : Setting) (shared : Shared H) (n
         }))
 
   -- the call is done and noted
-  module _ (telling : IsTrue s.tells → IsTrue model.tells) (place' : Place) (from : H) (done new : Tx) (reply : Reply)
+  module _ (telling : IsTrue s.tells → IsTrue model.tells) (place' : Position) (from : H) (done new : Tx) (reply : Reply)
       (stands : IsBehind s place place' reply) (host : from ≡ shared.host)
       (d : HasDone model call (acting from behind.words mid) (acting behind.host behind.words done) reply)
       (noted : seen_tx new ≡ record (seen_tx done) { calls = done.calls.items ++ call ∷ []; replies = done.replies.items ++ reply ∷ [] }) where

@@ -14,14 +14,14 @@ use Rattle.xc_script.specs.declared.ask.Ask.TheVariants as ask
 use Rattle.xc_text.specs.declared.script.Script.{Script}
 use Rattle.xc_text.specs.declared.script.Statement.{Statement}
 use Rattle.xc_script.specs.Ask.{Walk, asks, asks_from, next_body}
-use Rattle.xc_script.specs.Place.{Place, job_of, walk_of, IsSettled}
+use Rattle.xc_script.specs.Position.{Position, job_of, walk_of, IsSettled}
 use Rattle.xc_txmem.specs.Overlay.{overlaid}
 use Rattle.xc_world.specs.Modes.{claims_of}
 use Rattle.xc_wordlocks.specs.Table.{mode_in}
 use Rattle.xc_story.specs.declared.phase.Phase.TheVariants.{Committing, Undoing}
 use Rattle.xc_story.specs.Setting.{Setting}
 use Rattle.xc_story.specs.Seen.{SeenTx, SeenJob, Now, Active, active_in, with_job}
-use Rattle.xc_story.specs.Rows.{AskedTurn, HoldsWanting, IsActiveAt, IsFirstMet, IsSamePlace}
+use Rattle.xc_story.specs.Rows.{AskedTurn, HoldsWanting, IsActiveAt, IsFirstMet, IsSamePosition}
 use Rattle.xc_story.specs.Rows.{RunningTurn, wanting, with_tx}
 use Rattle.xc_station.specs.declared.calls.Shared.{Shared}
 use Rattle.xc_station.specs.declared.tx.Tx.{Tx}
@@ -45,24 +45,24 @@ as_before now at tx ask.End = (refl, refl)
 
 -- ---- what is asked
 -- silent statements lead to what is asked
-pub asked_before : (s : Setting) (job : SeenJob) (place : Place) (tx : SeenTx) (a : Ask) → HasTx s job place tx → asks (walk_of s.script place) ≡ a
+pub asked_before : (s : Setting) (job : SeenJob) (place : Position) (tx : SeenTx) (a : Ask) → HasTx s job place tx → asks (walk_of s.script place) ≡ a
     → asks (walk_of s.script job.place) ≡ a
 asked_before s job place tx a has asked = ap asks (sym has.same.walk) ∙ asked
 
 -- so the turn is that of what is asked
-pub asked_row : (s : Setting) (at : ℕ) (now new : Now) (job : SeenJob) (place : Place) (tx : SeenTx) (a : Ask) → HasTx s job place tx
+pub asked_row : (s : Setting) (at : ℕ) (now new : Now) (job : SeenJob) (place : Position) (tx : SeenTx) (a : Ask) → HasTx s job place tx
     → asks (walk_of s.script place) ≡ a → AskedTurn s at now job tx a new → RunningTurn s at now job tx turn.Went new
 asked_row s at now new job place tx a has asked row =
     subst (λ b. AskedTurn s at now job tx b new) (sym (asked_before s job place tx a has asked)) row
 
 -- ---- rows
-module _ {H : Type 0} (model : HostModel H) (s : Setting) (shared : Shared H) (now : Now) (at : ℕ) (job : SeenJob) (place : Place) (old : Tx)
+module _ {H : Type 0} (model : HostModel H) (s : Setting) (shared : Shared H) (now : Now) (at : ℕ) (job : SeenJob) (place : Position) (old : Tx)
     (here : IsAt model shared now at job) (has : HasTx s job place (seen_tx old)) where
   active : IsActiveAt now.jobs at (seen_tx old)
   active = (job, here.stands, ap active_in has.doing)
 
   -- a turn in which nothing is held more
-  row_same : (behind : Shared H) (place' : Place) (tx : SeenTx) (answer : Turn) → behind.claims ≡ shared.claims → tx.number ≡ old.number
+  row_same : (behind : Shared H) (place' : Position) (tx : SeenTx) (answer : Turn) → behind.claims ≡ shared.claims → tx.number ≡ old.number
       → tx.held ≡ old.held.items → RunningTurn s at now job (seen_tx old) answer (moved model behind (with_tx job place' tx) now at)
       → IsRow s now (moved model behind (with_tx job place' tx) now at) at job answer behind.claims
   row_same behind place' tx answer claims number held row =
@@ -175,16 +175,16 @@ module _ {H : Type 0} (model : HostModel H) (s : Setting) (shared : Shared H) (n
 
 -- ---- what is asked
 -- a transaction at a place that silent statements lead to
-pub has_tx : (s : Setting) (job : SeenJob) (was place : Place) (tx : SeenTx) → job.doing ≡ Active tx → job.place ≡ was → IsSamePlace s was place
+pub has_tx : (s : Setting) (job : SeenJob) (was place : Position) (tx : SeenTx) → job.doing ≡ Active tx → job.place ≡ was → IsSamePosition s was place
     → HasTx s job place tx
-has_tx s job was place tx doing stands same = record { doing = doing; same = subst (λ p. IsSamePlace s p place) (sym stands) same }
+has_tx s job was place tx doing stands same = record { doing = doing; same = subst (λ p. IsSamePosition s p place) (sym stands) same }
 
 asks_left : (o : Option (List Statement)) (walk : Walk) → IsSome o → asks_from o walk ≡ asks walk
 asks_left None walk some = cc
 asks_left (Some body) walk some = refl
 
 -- with a transaction left, the walk asks
-pub asked_walk : (script : Script) (was place : Place) (a : Ask) → IsSome (next_body script (job_of was)) → walk_of script place ≡ walk_of script was
+pub asked_walk : (script : Script) (was place : Position) (a : Ask) → IsSome (next_body script (job_of was)) → walk_of script place ≡ walk_of script was
     → a ≡ asks_from (next_body script (job_of was)) (walk_of script was) → asks (walk_of script place) ≡ a
 asked_walk script was place a left walk value =
     ap asks walk ∙ sym (asks_left (next_body script (job_of was)) (walk_of script was) left) ∙ sym value

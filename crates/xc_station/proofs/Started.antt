@@ -34,8 +34,8 @@ none_there script (b ∷ blocks) zero tx job at is =
 none_there script (b ∷ blocks) (suc j) tx job at is = none_there script blocks j tx job at is
 
 -- what is true of it
-pub started : (s : Setting) (faults : ℕ) (now : Now) → IsSet s → KeepsLimits s.script.plain → IsOpening s.script now → now.faults ≡ faults
-    → (IsTrue s.tells → now.contents ≡ opened s.script.plain.prologue.objects) → IsSteady s faults now
+pub started : (s : Setting) (faults : ℕ) (now : Now) → IsSet s → KeepsLimits s.script.outline → IsOpening s.script now → now.faults ≡ faults
+    → (IsTrue s.tells → now.contents ≡ opened s.script.outline.prologue.objects) → IsSteady s faults now
 started s faults now set limits opening counted told = record {
   set = set;
   kept = subst (λ n. IsKept s n now) counted (start_kept s now opening);
@@ -46,7 +46,7 @@ started s faults now set limits opening counted told = record {
 pub roomy : (script : Script) (table : Table) (spare : ℕ) (now : Now) (lines : Roomy JobLine) → IsScript script → IsOpening script now
     → ((n : ℕ) (o : Object) → mode_of table n o ≡ None) → length now.jobs ≤ lines.spare → lines.items ≡ [] → HasRooms table 0 spare now lines
 roomy script table spare now lines read opening empty room none =
-    let blocks = script.plain.jobs in
+    let blocks = script.outline.jobs in
     record {
       claims = record {
         held = λ j tx o active. absurd (none_there script blocks j tx active.0 (ap (λ jobs. slice_get jobs j) (sym opening.jobs) ∙ active.1) active.2);

@@ -10,7 +10,7 @@ use Rattle.xc_data.specs.declared.call.Reply.TheVariants as reply
 use Rattle.xc_data.specs.declared.private.Private.{Private}
 use Rattle.xc_world.specs.World.{World}
 use Rattle.xc_world.specs.Act.{act}
-use Rattle.xc_world.specs.Act.Step.{stays}
+use Rattle.xc_world.specs.Act.Step.{step_to}
 use Rattle.xc_world.specs.Fits.{answer_of}
 use Rattle.xc_world.specs.Trail.{recorded}
 use Rattle.xc_data.specs.Faults.{is_fault_reply}
@@ -25,20 +25,20 @@ append_nil (x ∷ xs) = ap (λ ys. x ∷ ys) (append_nil xs)
 
 -- ---- calls on words
 word_load : (w : World) (me : Private) (at : ℕ) (b : Bool) →
-    (if b then stays w me reply.BadWord else stays w me (reply.Number (slice_index w.words at)))
-    ≡ stays w me (if b then reply.BadWord else reply.Number (slice_index w.words at))
+    (if b then step_to w me reply.BadWord else step_to w me (reply.Number (slice_index w.words at)))
+    ≡ step_to w me (if b then reply.BadWord else reply.Number (slice_index w.words at))
 word_load w me at true = refl
 word_load w me at false = refl
 
 word_store : (w : World) (me : Private) (at value : ℕ) (b : Bool) →
-    (if b then stays w me reply.BadWord else stays (record w { words = slice_set w.words at value }) me reply.Done)
-    ≡ stays (record w { words = if b then w.words else slice_set w.words at value }) me (if b then reply.BadWord else reply.Done)
+    (if b then step_to w me reply.BadWord else step_to (record w { words = slice_set w.words at value }) me reply.Done)
+    ≡ step_to (record w { words = if b then w.words else slice_set w.words at value }) me (if b then reply.BadWord else reply.Done)
 word_store w me at value true = refl
 word_store w me at value false = refl
 
 -- the plain machine does a call on words by the words alone
 pub word-act : (w : World) (me : Private) (tx : ℕ) (c : Call)
-    → is_word_call c ≡ true → act w me tx c answer.Fine ≡ stays (record w { words = words_after w.words c }) me (word_reply w.words c)
+    → is_word_call c ≡ true → act w me tx c answer.Fine ≡ step_to (record w { words = words_after w.words c }) me (word_reply w.words c)
 word-act w me tx (call.Load at) is = word_load w me at (nat_le (length w.words) at)
 word-act w me tx (call.Store at value) is = word_store w me at value (nat_le (length w.words) at)
 word-act w me tx _ is = cc

@@ -62,38 +62,39 @@ abbrev pub with_parts : SeenTx → Call → Reply → Parts → SeenTx
 with_parts tx call reply parts =
     record tx { me = parts.me; writes = parts.stores; undo = parts.undo; late = tx.late ++ kept_call call tx.me reply }
 
--- the call was done with this reply, as a row of calls says it: its stores, its records, its part on words, its fault,
--- whether it is kept for the commit, and over a host that tells the plain machine's step
-pub record HasDone {H : Type 0} (model : HostModel H) (call : Call) (old new : Acting H) (reply : Reply) : Type 0 where
-  pub tx : new.tx ≡ with_parts old.tx call reply (parts_of new.tx)
-  pub stores : new.tx.writes ≡ old.tx.writes ++ stored_by (length old.words) call
-  pub stored : new.tx.me.stored ≤ 16384
-  pub made : List Undo
-  pub one : length made ≤ 1
-  pub undo : new.tx.undo ≡ record old.tx.undo { pending = old.tx.undo.pending ++ made }
-  pub in_time : IsReplyInTime old.tx.me old.tx.number call reply
-  pub cause : CountsFault (is_fault_reply reply) (model.fault_count old.host) (model.fault_count new.host)
-  pub spoken : IsWordStep (overlaid old.words old.tx.writes) (overlaid old.words new.tx.writes) call reply
-  pub does : IsTrue model.tells
-      → DoesIn old.words (model.contents old.host) (model.contents new.host) (parts_of old.tx) (parts_of new.tx) call reply
-
 -- a transaction with these records behind its own
 abbrev pub leaving : SeenTx → List Undo → SeenTx
 leaving tx left = record tx { undo = record tx.undo { pending = tx.undo.pending ++ left } }
 
--- memory was wanting: the transaction is as before but for what the call left, at most one record. Over a host that
--- tells nothing was left and nothing is changed, or with some answer the call did its part
-pub record LeavesOff {H : Type 0} (model : HostModel H) (call : Call) (old new : Acting H) : Type 0 where
-  pub left : List Undo
-  pub one : length left ≤ 1
-  pub tx : new.tx ≡ leaving old.tx left
-  pub faults : model.fault_count new.host ≡ model.fault_count old.host
-  pub contents : IsTrue model.tells
-      → ((left ≡ []) × (model.contents new.host ≡ model.contents old.host))
-      ⊎ ((answer : Answer) × DoesPartIn old.words (model.contents old.host) (model.contents new.host) (parts_of old.tx)
-      (record { call = call; answer = answer }) left)
+module _ {H : Type 0} (model : HostModel H) (call : Call) (old new : Acting H) where
+  -- the call was done with this reply, as a row of calls says it: its stores, its records, its part on words, its fault,
+  -- whether it is kept for the commit, and over a host that tells the plain machine's step
+  pub record HasDone (reply : Reply) : Type 0 where
+    pub tx : new.tx ≡ with_parts old.tx call reply (parts_of new.tx)
+    pub stores : new.tx.writes ≡ old.tx.writes ++ stored_by (length old.words) call
+    pub stored : new.tx.me.stored ≤ 16384
+    pub made : List Undo
+    pub one : length made ≤ 1
+    pub undo : new.tx.undo ≡ record old.tx.undo { pending = old.tx.undo.pending ++ made }
+    pub in_time : IsReplyInTime old.tx.me old.tx.number call reply
+    pub cause : CountsFault (is_fault_reply reply) (model.fault_count old.host) (model.fault_count new.host)
+    pub spoken : IsWordStep (overlaid old.words old.tx.writes) (overlaid old.words new.tx.writes) call reply
+    pub does : IsTrue model.tells
+        → DoesIn old.words (model.contents old.host) (model.contents new.host) (parts_of old.tx) (parts_of new.tx) call reply
 
--- by what the call answers
-abbrev pub HasActed : {H : Type 0} → HostModel H → Call → Acting H → Acting H → Result Reply NoMemory → Type 0
-HasActed model call old new (Ok reply) = HasDone model call old new reply
-HasActed model call old new (Err e) = LeavesOff model call old new
+  -- memory was wanting: the transaction is as before but for what the call left, at most one record. Over a host that
+  -- tells nothing was left and nothing is changed, or with some answer the call did its part
+  pub record LeavesOff : Type 0 where
+    pub left : List Undo
+    pub one : length left ≤ 1
+    pub tx : new.tx ≡ leaving old.tx left
+    pub faults : model.fault_count new.host ≡ model.fault_count old.host
+    pub contents : IsTrue model.tells
+        → ((left ≡ []) × (model.contents new.host ≡ model.contents old.host))
+        ⊎ ((answer : Answer) × DoesPartIn old.words (model.contents old.host) (model.contents new.host) (parts_of old.tx)
+        (record { call = call; answer = answer }) left)
+
+  -- by what the call answers
+  abbrev pub HasActed : Result Reply NoMemory → Type 0
+  HasActed (Ok reply) = HasDone reply
+  HasActed (Err e) = LeavesOff

@@ -10,14 +10,14 @@ use Rattle.xc_data.specs.declared.entry.Turn.{Turn}
 use Rattle.xc_data.specs.declared.entry.Turn.TheVariants as turn
 use Rattle.xc_host.specs.Model.{HostModel}
 use Rattle.xc_script.specs.Ask.{next_body}
-use Rattle.xc_script.specs.Place.{Place, job_of}
+use Rattle.xc_script.specs.Position.{Position, job_of}
 use Rattle.xc_text.specs.declared.script.Script.{Script}
 use Rattle.xc_wordlocks.specs.Table.{Table, KeepsOthers, claimed, mode_in, mode_of}
 use Rattle.xc_wordlocks.specs.Met.{IsFirstMet, IsNotMet}
 use Rattle.xc_story.specs.declared.phase.Phase.TheVariants.{Undoing}
 use Rattle.xc_story.specs.Setting.{Setting}
 use Rattle.xc_story.specs.Seen.{SeenTx, SeenJob, Active, Now, actives}
-use Rattle.xc_story.specs.Rows.{IsActiveAt, IsSamePlace, RunningTurn}
+use Rattle.xc_story.specs.Rows.{IsActiveAt, IsSamePosition, RunningTurn}
 use Rattle.xc_story.specs.Holding.{AreApart}
 use Rattle.xc_station.specs.declared.calls.Shared.{Shared}
 use Rattle.xc_station.specs.declared.tx.Tx.{Tx}
@@ -34,25 +34,26 @@ pub record IsTable (table : Table) (jobs : List SeenJob) : Type 0 where
 abbrev pub AreSingle : List SeenJob → Type 0
 AreSingle jobs = (i j : ℕ) (t u : SeenTx) → IsActiveAt jobs i t → IsActiveAt jobs j u → t.number ≡ u.number → i ≡ j
 
--- at this moment the jobs share this, and this job stands in the place `at`
-pub record IsAt {H : Type 0} (model : HostModel H) (shared : Shared H) (now : Now) (at : ℕ) (job : SeenJob) : Type 0 where
-  pub words : now.words ≡ shared.words
-  pub contents : now.contents ≡ model.contents shared.host
-  pub faults : now.faults ≡ model.fault_count shared.host
-  pub stands : slice_get now.jobs at ≡ Some job
-  pub table : IsTable shared.claims now.jobs
-  pub apart : AreApart now.jobs
-  pub single : AreSingle now.jobs
+module _ {H : Type 0} (model : HostModel H) (shared : Shared H) where
+  -- at this moment the jobs share this, and this job stands in the place `at`
+  pub record IsAt (now : Now) (at : ℕ) (job : SeenJob) : Type 0 where
+    pub words : now.words ≡ shared.words
+    pub contents : now.contents ≡ model.contents shared.host
+    pub faults : now.faults ≡ model.fault_count shared.host
+    pub stands : slice_get now.jobs at ≡ Some job
+    pub table : IsTable shared.claims now.jobs
+    pub apart : AreApart now.jobs
+    pub single : AreSingle now.jobs
 
--- the moment behind a turn of the job in this place that made no entry
-abbrev pub moved : {H : Type 0} → HostModel H → Shared H → SeenJob → Now → ℕ → Now
-moved model shared job now at =
-    record now {
-      words = shared.words;
-      contents = model.contents shared.host;
-      faults = model.fault_count shared.host;
-      jobs = slice_set now.jobs at job;
-    }
+  -- the moment behind a turn of the job in this place that made no entry
+  abbrev pub moved : SeenJob → Now → ℕ → Now
+  moved job now at =
+      record now {
+        words = shared.words;
+        contents = model.contents shared.host;
+        faults = model.fault_count shared.host;
+        jobs = slice_set now.jobs at job;
+      }
 
 -- the journal has so many entries, and so many transactions are active
 pub record HasBegun (now : Now) (entries transactions : ℕ) : Type 0 where
@@ -61,45 +62,47 @@ pub record HasBegun (now : Now) (entries transactions : ℕ) : Type 0 where
 
 -- ---- what contracts of a running transaction's turn say: of every moment that shows its job so
 -- the job has this transaction, at a place from which nothing but silent statements was passed
-pub record HasTx (s : Setting) (job : SeenJob) (place : Place) (tx : SeenTx) : Type 0 where
+pub record HasTx (s : Setting) (job : SeenJob) (place : Position) (tx : SeenTx) : Type 0 where
   pub doing : job.doing ≡ Active tx
-  pub same : IsSamePlace s job.place place
+  pub same : IsSamePosition s job.place place
 
--- its turn is a row of the table of turns, and the table of claims is what active transactions hold then
-pub record IsRow (s : Setting) (now new : Now) (at : ℕ) (job : SeenJob) (answer : Turn) (claims : Table) : Type 0 where
-  pub tx : SeenTx
-  pub doing : job.doing ≡ Active tx
-  pub row : RunningTurn s at now job tx answer new
-  pub table : IsTable claims new.jobs
+module _ (s : Setting) (now new : Now) (at : ℕ) (job : SeenJob) where
+  -- its turn is a row of the table of turns, and the table of claims is what active transactions hold then
+  pub record IsRow (answer : Turn) (claims : Table) : Type 0 where
+    pub tx : SeenTx
+    pub doing : job.doing ≡ Active tx
+    pub row : RunningTurn s at now job tx answer new
+    pub table : IsTable claims new.jobs
 
 -- ---- claims of a transaction
--- the table and the transaction behind claims that were granted
-pub record IsGranted (table behind : Table) (old new : Tx) (claims : List Claim) : Type 0 where
-  pub free : All (IsNotMet table old.number) claims
-  pub row : (o : Object) → mode_of behind old.number o ≡ claimed (mode_of table old.number o) claims o
-  pub others : KeepsOthers old.number table behind
-  pub held : seen_tx new ≡ record (seen_tx old) { held = holding old.held.items claims }
-  pub room : HasNoteRoom new
+module _ (table behind : Table) (old new : Tx) where
+  -- the table and the transaction behind claims that were granted
+  pub record IsGranted (claims : List Claim) : Type 0 where
+    pub free : All (IsNotMet table old.number) claims
+    pub row : (o : Object) → mode_of behind old.number o ≡ claimed (mode_of table old.number o) claims o
+    pub others : KeepsOthers old.number table behind
+    pub held : seen_tx new ≡ record (seen_tx old) { held = holding old.held.items claims }
+    pub room : HasNoteRoom new
 
--- one was met: the transaction undoes
-pub record IsRefused (table behind : Table) (old new : Tx) (claims : List Claim) (entered : ℕ) : Type 0 where
-  pub object : Object
-  pub holder : ℕ
-  pub met : IsFirstMet table claims old.number object holder
-  pub same : behind ≡ table
-  pub undoes : seen_tx new ≡ record (seen_tx old) { phase = Undoing (cause.Conflict object holder entered) }
+  -- one was met: the transaction undoes
+  pub record IsRefused (claims : List Claim) (entered : ℕ) : Type 0 where
+    pub object : Object
+    pub holder : ℕ
+    pub met : IsFirstMet table claims old.number object holder
+    pub same : behind ≡ table
+    pub undoes : seen_tx new ≡ record (seen_tx old) { phase = Undoing (cause.Conflict object holder entered) }
 
--- memory was wanting: the transaction undoes
-pub record IsWanting (table behind : Table) (old new : Tx) : Type 0 where
-  pub same : behind ≡ table
-  pub undoes : seen_tx new ≡ record (seen_tx old) { phase = Undoing cause.NoMemory }
+  -- memory was wanting: the transaction undoes
+  pub record IsWanting : Type 0 where
+    pub same : behind ≡ table
+    pub undoes : seen_tx new ≡ record (seen_tx old) { phase = Undoing cause.NoMemory }
 
--- by the answer
-abbrev pub HasClaimed : Table → Table → Tx → Tx → List Claim → ℕ → Result (Unit {0}) Turn → Type 0
-HasClaimed table behind old new claims entered (Ok x) = IsGranted table behind old new claims
-HasClaimed table behind old new claims entered (Err turn.Went) = IsRefused table behind old new claims entered
-HasClaimed table behind old new claims entered (Err turn.NoMemory) = IsWanting table behind old new
-HasClaimed table behind old new claims entered (Err _) = ⊥
+  -- by the answer
+  abbrev pub HasClaimed : List Claim → ℕ → Result (Unit {0}) Turn → Type 0
+  HasClaimed claims entered (Ok x) = IsGranted claims
+  HasClaimed claims entered (Err turn.Went) = IsRefused claims entered
+  HasClaimed claims entered (Err turn.NoMemory) = IsWanting
+  HasClaimed claims entered (Err _) = ⊥
 
 -- a job whose transaction runs may take its turn
 pub record CanRun {H : Type 0} (script : Script) (model : HostModel H) (shared : Shared H) (job : SeenJob) : Type 0 where

@@ -109,10 +109,11 @@ pub record WorksOn {H : Type 0} (model : HostModel H) (job : ℕ) (old new : See
   pub alone : AreAlone (now_of model old) (job - 1) → AreAlone (now_of model new) (job - 1)
 
 -- ---- a list of turns
--- a job that goes on takes its turn, a row of the table; one that doesn't is passed over
-abbrev pub IsStepOf : {H : Type 0} → HostModel H → ℕ → Seen H → Seen H → Bool → Type 0
-IsStepOf model job old new true = (answer : Turn) × IsTurn (setting_of model old) (job - 1) (now_of model old) answer (now_of model new)
-IsStepOf model job old new false = new ≡ old
+module _ {H : Type 0} (model : HostModel H) (job : ℕ) (old new : Seen H) where
+  -- a job that goes on takes its turn, a row of the table; one that doesn't is passed over
+  abbrev pub IsStepOf : Bool → Type 0
+  IsStepOf true = (answer : Turn) × IsTurn (setting_of model old) (job - 1) (now_of model old) answer (now_of model new)
+  IsStepOf false = new ≡ old
 
 -- the jobs of these numbers do so one after another
 abbrev pub TakeTurns : {H : Type 0} → HostModel H → List ℕ → Seen H → Seen H → Type 0

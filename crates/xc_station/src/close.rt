@@ -4,7 +4,7 @@ ghost use Rattle.xc_data.specs.declared.entry.Cause.{Cause as PlainCause};
 ghost use Rattle.xc_data.specs.declared.entry.Outcome.TheVariants.{Committed, Aborted};
 ghost use Rattle.xc_deferred.specs.Does.{EndsNext, IsThereFor};
 ghost use Rattle.xc_deferred.specs.Queue.{Queue};
-ghost use Rattle.xc_script.specs.Place.{at_begin};
+ghost use Rattle.xc_script.specs.Position.{at_begin};
 ghost use Rattle.xc_compensate.specs.Records.{IsTried, NextIsCovered, Records};
 ghost use Rattle.xc_story.specs.declared.phase.Phase.TheVariants as PlainPhase;
 ghost use Rattle.xc_story.specs.Seen.{SeenTx, Active, Idle, failures, late_left};

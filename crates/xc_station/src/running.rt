@@ -2,7 +2,7 @@ ghost use Rattle.std.specs.Prelude.{◌≡◌, ◌≤◌, ℕ, length, IsSome, I
 ghost use Rattle.xc_data.specs.declared.entry.Cause.TheVariants as PlainCause;
 ghost use Rattle.xc_script.specs.declared.ask.Ask.TheVariants.{Call as AskedCall};
 ghost use Rattle.xc_script.specs.Ask.{asks, next_body};
-ghost use Rattle.xc_script.specs.Place.{walk_of, job_of, IsSettled};
+ghost use Rattle.xc_script.specs.Position.{walk_of, job_of, IsSettled};
 ghost use Rattle.xc_world.specs.Modes.{claims_of};
 ghost use Rattle.xc_story.specs.declared.phase.Phase.TheVariants as PlainPhase;
 ghost use Rattle.xc_story.specs.declared.rules.Rules.{Rules as PlainRules};

@@ -53,13 +53,13 @@ pub struct Station<H: Host> {
 
 impl<H: Host> Model for Station<H> {
     ghost use Rattle.std.specs.Coded.{codes};
-    ghost use Rattle.xc_script.specs.Place.{coded_place};
+    ghost use Rattle.xc_script.specs.Position.{coded_position};
     ghost use Rattle.xc_story.specs.Setting.{setting};
     ghost use Rattle.xc_station.specs.Stations.{Seen, IsSteady, HasRooms, moment};
 
     ghost Value = { Seen H };
 
-    ghost coded = { Prim.hlevel (codes, coded_place) };
+    ghost coded = { Prim.hlevel (codes, coded_position) };
 
     ghost view = { λ s. record {
       opening = s.opening;
@@ -255,10 +255,10 @@ impl<H: Host> Station<H> {
 
 // The jobs of the script's job blocks, each at the begin of its block.
 fn opened_jobs(alloc: Global, script: &Script) -> Result<Vec<Job>, NoMemory>
-    ensures { IfOk result (λ jobs. seen_jobs jobs.items ≡ map (opened_job script.now) script.now.plain.jobs) }
+    ensures { IfOk result (λ jobs. seen_jobs jobs.items ≡ map (opened_job script.now) script.now.outline.jobs) }
 {
     let mut jobs = Vec::new(alloc);
-    for block in script.plain().jobs.as_slice() {
+    for block in script.outline().jobs.as_slice() {
         jobs.push(Job {
             block: *block,
             place: JobState::new(alloc, script, *block)?,
@@ -283,11 +283,11 @@ fn room_for(alloc: Global, jobs: &Vec<Job>) -> Result<Roomy<JobLine>, NoMemory>
 // The memory of a start.
 fn rooms(alloc: Global, script: &Script) -> Result<(Words, Vec<Job>, Roomy<JobLine>), NoMemory>
     requires { IsScript script.now }
-    ensures words { IfOk result (λ made. made.0 ≡ script.now.plain.words) }
-    ensures jobs { IfOk result (λ made. seen_jobs made.1.items ≡ map (opened_job script.now) script.now.plain.jobs) }
+    ensures words { IfOk result (λ made. made.0 ≡ script.now.outline.words) }
+    ensures jobs { IfOk result (λ made. seen_jobs made.1.items ≡ map (opened_job script.now) script.now.outline.jobs) }
     ensures lines { IfOk result (λ made. (length made.1.items ≤ made.2.spare) × (made.2.items ≡ [])) }
 {
-    let words = Words::new(alloc, script.plain().words.as_slice())?;
+    let words = Words::new(alloc, script.outline().words.as_slice())?;
     let jobs = opened_jobs(alloc, script)?;
     let lines = room_for(alloc, &jobs)?;
     Ok((words, jobs, lines))
@@ -303,16 +303,16 @@ impl<H: Host> Station<H> {
         rules: Rules,
     ) -> Result<Station<H>, NotStarted<H>>
         requires script { IsScript script }
-        requires limits { KeepsLimits script.plain }
+        requires limits { KeepsLimits script.outline }
         requires rules { (1 ≤ rules.attempts) × (1 ≤ rules.undo_tries) }
         ensures ok { IfOk result (λ s. (s.opening ≡ record { script = script; faults = H.model.fault_count host }) × (s.rules ≡ rules)
             × (s.taken ≡ 0)) }
         ensures opening { IfOk result (λ s. IsOpening script (now_of H.model s)) }
         ensures told { IsTrue H.model.tells
-            → IfOk result (λ s. H.model.contents s.host ≡ opened script.plain.prologue.objects) }
-        ensures scripted { IfOk result (λ s. not H.model.takes_scripts && needs_scripted script.plain.prologue ≡ false) }
+            → IfOk result (λ s. H.model.contents s.host ≡ opened script.outline.prologue.objects) }
+        ensures scripted { IfOk result (λ s. not H.model.takes_scripts && needs_scripted script.outline.prologue ≡ false) }
         ensures refused { IfErr result
-            (λ n. n.why ≡ OpenErr.NotScripted → not H.model.takes_scripts && needs_scripted script.plain.prologue ≡ true) }
+            (λ n. n.why ≡ OpenErr.NotScripted → not H.model.takes_scripts && needs_scripted script.outline.prologue ≡ true) }
         ensures err { IfErr result (λ n. n.host ≡ host) }
     {
         let mut host = host;
@@ -323,7 +323,7 @@ impl<H: Host> Station<H> {
                 why: OpenErr::NoMemory,
             });
         };
-        if let Err(why) = host.open_with(&script.plain().prologue) {
+        if let Err(why) = host.open_with(&script.outline().prologue) {
             return Err(NotStarted { host, why });
         }
         let claims = Claims::new(alloc);

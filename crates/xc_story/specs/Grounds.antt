@@ -18,20 +18,21 @@ pub record Part : Type 0 where
   -- why it is aborted, where it is
   pub cause : Option Cause
 
--- it stands in the journal at this place or later, or is active
-abbrev pub Stands : List Part → List (Option Part) → ℕ → Part → Type 0
-Stands log active at who = ((p : ℕ) × (slice_get log p ≡ Some who) × (at ≤ p)) ⊎ ((j : ℕ) × (get_or active j None ≡ Some who))
+module _ (log : List Part) (active : List (Option Part)) where
+  -- it stands in the journal at this place or later, or is active
+  abbrev pub Stands : ℕ → Part → Type 0
+  Stands at who = ((p : ℕ) × (slice_get log p ≡ Some who) × (at ≤ p)) ⊎ ((j : ℕ) × (get_or active j None ≡ Some who))
 
--- a transaction of another job that had begun by then, hadn't ended, and holds the object
-pub record Holder (log : List Part) (active : List (Option Part)) (object : Object) (holder at job : ℕ) : Type 0 where
-  pub who : Part
-  pub stands : Stands log active at who
-  pub numbered : who.number ≡ holder
-  pub other : who.job ≢ job
-  pub began : who.began ≤ at
-  pub claim : Claim
-  pub names : claim.object ≡ object
-  pub holds : Contains who.held claim
+  -- a transaction of another job that had begun by then, hadn't ended, and holds the object
+  pub record Holder (object : Object) (holder at job : ℕ) : Type 0 where
+    pub who : Part
+    pub stands : Stands at who
+    pub numbered : who.number ≡ holder
+    pub other : who.job ≢ job
+    pub began : who.began ≤ at
+    pub claim : Claim
+    pub names : claim.object ≡ object
+    pub holds : Contains who.held claim
 
 -- among these claims one is of the same object, and the two don't go together
 abbrev pub Clashes : List Claim → Claim → Type 0

@@ -55,10 +55,10 @@ untried block job since = record { block = block; job = job; first = None; faile
 abbrev pub opening_progress : Script → Progress
 opening_progress script =
     record {
-      state = opening_state script.plain;
-      jobs = map (λ name. untried name (fresh_job script (block_place script name)) 0) script.plain.jobs;
+      state = opening_state script.outline;
+      jobs = map (λ name. untried name (fresh_job script (block_place script name)) 0) script.outline.jobs;
       entered = 0;
-      words = script.plain.words;
+      words = script.outline.words;
     }
 
 -- ---- an entry run on a state; jobs are numbered from 1

@@ -35,12 +35,12 @@ use Rattle.xc_text.specs.declared.script.Statement.{Statement}
 use Rattle.xc_script.specs.declared.ask.Ask.{Ask}
 use Rattle.xc_script.specs.declared.ask.Ask.TheVariants as ask
 use Rattle.xc_script.specs.Ask.{asks, answered, next_body}
-use Rattle.xc_script.specs.Place.{Place, at_begin, job_of, walk_of, IsSettled}
+use Rattle.xc_script.specs.Position.{Position, at_begin, job_of, walk_of, IsSettled}
 use Rattle.xc_script.specs.Slots.{kept_of, with_ends}
 use Rattle.xc_txmem.specs.Overlay.{overlaid}
 use Rattle.xc_world.specs.World.{World, beginning}
 use Rattle.xc_world.specs.Act.{act}
-use Rattle.xc_world.specs.Act.Step.{stays}
+use Rattle.xc_world.specs.Act.Step.{step_to}
 use Rattle.xc_world.specs.Ends.{IsLegalEnd}
 use Rattle.xc_world.specs.Effects.{undone_to}
 use Rattle.xc_world.specs.Fits.{fits, answer_of}
@@ -58,27 +58,27 @@ use Rattle.xc_story.specs.Seen.{active_of, begun_count, failures, late_left, ran
 
 -- ---- where a job stands
 -- its next transaction, where one is left
-abbrev pub body_at : Setting → Place → Option (List Statement)
+abbrev pub body_at : Setting → Position → Option (List Statement)
 body_at s place = next_body s.script (job_of place)
 
 -- what its transaction is asked next
-abbrev pub asked_at : Setting → Place → Ask
+abbrev pub asked_at : Setting → Position → Ask
 asked_at s place = asks (walk_of s.script place)
 
 -- the job stands in the same transaction, with the same variables for its abort
-pub record IsSameBegin (old new : Place) : Type 0 where
+pub record IsSameBegin (old new : Position) : Type 0 where
   pub block : new.block ≡ old.block
   pub next : new.next ≡ old.next
   pub begun : new.begun ≡ old.begun
 
 -- it passed silent statements at most: it stands before the same as before
-pub record IsSamePlace (s : Setting) (old new : Place) : Type 0 where
+pub record IsSamePosition (s : Setting) (old new : Position) : Type 0 where
   pub begin : IsSameBegin old new
   pub walk : walk_of s.script new ≡ walk_of s.script old
   pub at : old.at ≤ new.at
 
 -- the job with its transaction like this, at this place
-abbrev pub with_tx : SeenJob → Place → SeenTx → SeenJob
+abbrev pub with_tx : SeenJob → Position → SeenTx → SeenJob
 with_tx job place tx = record job { place = place; doing = Active tx }
 
 -- ---- an idle job
@@ -125,11 +125,12 @@ IsEnding s now job job_end.JournalFull =
     IsSome (body_at s job.place) × (failures job.attempts < s.rules.attempts) × (10000 ≤ begun_count now)
 IsEnding s now job job_end.NoMemory = IsSome (body_at s job.place)
 
--- an idle job ends, or its next transaction begins
-abbrev pub IdleTurn : Setting → ℕ → Now → SeenJob → Turn → Now → Type 0
-IdleTurn s at old job (turn.Ended end) new = IsEnding s old job end × (new ≡ with_job old at (record job { doing = Ended end }))
-IdleTurn s at old job turn.Went new = IsReady s old job × (new ≡ with_job old at (beginning_job old job))
-IdleTurn s at old job _ new = ⊥
+module _ (s : Setting) (at : ℕ) (old : Now) (job : SeenJob) where
+  -- an idle job ends, or its next transaction begins
+  abbrev pub IdleTurn : Turn → Now → Type 0
+  IdleTurn (turn.Ended end) new = IsEnding s old job end × (new ≡ with_job old at (record job { doing = Ended end }))
+  IdleTurn turn.Went new = IsReady s old job × (new ≡ with_job old at (beginning_job old job))
+  IdleTurn _ new = ⊥
 
 -- ---- claims of a running transaction against what others hold
 -- this transaction is the active one of the job in this place
@@ -193,16 +194,18 @@ pub record Parts : Type 0 where
 abbrev pub seen : World → Contents → List (ℕ × ℕ) → World
 seen w contents stores = record (with_contents w contents) { words = overlaid w.words stores }
 
--- from one world to another a call is the plain machine's, with the answer that its reply records
-pub record Does (from to : World) (old new : Parts) (call : Call) (reply : Reply) : Type 0 where
-  pub step : act from old.me old.number call (answer_of reply) ≡ stays to new.me reply
-  pub fits : IsTrue (fits from old.me old.number call (answer_of reply))
-  pub records : new.undo.pending ≡ old.undo.pending ++ recorded from old.me old.number call reply
+module _ (from to : World) where
+  -- from one world to another a call is the plain machine's, with the answer that its reply records
+  pub record Does (old new : Parts) (call : Call) (reply : Reply) : Type 0 where
+    pub step : act from old.me old.number call (answer_of reply) ≡ step_to to new.me reply
+    pub fits : IsTrue (fits from old.me old.number call (answer_of reply))
+    pub records : new.undo.pending ≡ old.undo.pending ++ recorded from old.me old.number call reply
 
--- the same in every world with these words, from these contents of the host to those
-abbrev pub DoesIn : List ℕ → Contents → Contents → Parts → Parts → Call → Reply → Type 0
-DoesIn words was is old new call reply =
-    (w : World) → w.words ≡ words → Does (seen w was old.stores) (seen w is new.stores) old new call reply
+module _ (words : List ℕ) (was is : Contents) where
+  -- the same in every world with these words, from these contents of the host to those
+  abbrev pub DoesIn : Parts → Parts → Call → Reply → Type 0
+  DoesIn old new call reply =
+      (w : World) → w.words ≡ words → Does (seen w was old.stores) (seen w is new.stores) old new call reply
 
 -- these parts of a transaction
 abbrev pub parts_of : SeenTx → Parts
@@ -236,61 +239,61 @@ pub record IsReplyInTime (me : Private) (number : ℕ) (call : Call) (reply : Re
   pub kept : waits call ≡ true → (w : World) → reply ≡ (act w me number call answer.Fine).reply
   pub now : waits call ≡ false → is_late reply ≡ false
 
--- the call is done and noted
-pub record Calls (s : Setting) (at : ℕ) (old : Now) (job : SeenJob) (tx : SeenTx) (call : Call) (new : Now) : Type 0 where
-  -- what it claims nobody else holds against it
-  pub free : All (HasNoRival old.jobs at) (claims_at old tx call)
-  pub reply : Reply
-  pub place : Place
-  pub parts : Parts
-  pub jobs : new.jobs ≡ slice_set old.jobs at (with_tx job place (noting tx call reply (claims_at old tx call) parts))
-  pub words : new.words ≡ old.words
-  pub journal : new.journal ≡ old.journal
-  -- the job stands behind the reply
-  pub begin : IsSameBegin job.place place
-  pub walk : walk_of s.script place ≡ answered (walk_of s.script job.place) reply
-  pub nearer : job.place.at < place.at
-  -- it is kept for the commit or done now, and one of those that scripts have so far
-  pub in_time : IsReplyInTime tx.me tx.number call reply
-  pub built : is_built call ≡ true
-  -- the older records stay, and at most one comes behind them
-  pub made : List Undo
-  pub one : length made ≤ 1
-  pub undo : parts.undo ≡ record tx.undo { pending = tx.undo.pending ++ made }
-  pub stored : parts.me.stored ≤ 16384
-  -- its stores wait behind the older ones
-  pub stores : parts.stores ≡ tx.writes ++ stored_by (length old.words) call
-  -- on words its reply and its effect are those of the words with the transaction's stores, over every host
-  pub spoken : IsWordStep (overlaid old.words tx.writes) (overlaid old.words parts.stores) call reply
-  -- a fault exactly where the host's count rose
-  pub cause : CountsFault (is_fault_reply reply) old.faults new.faults
-  -- over a host that tells, all is the plain machine's
-  pub does : IsTrue s.tells → DoesIn old.words old.contents new.contents (parts_of tx) parts call reply
+module _ (s : Setting) (at : ℕ) (old : Now) (job : SeenJob) (tx : SeenTx) where
+  -- the call is done and noted
+  pub record Calls (call : Call) (new : Now) : Type 0 where
+    -- what it claims nobody else holds against it
+    pub free : All (HasNoRival old.jobs at) (claims_at old tx call)
+    pub reply : Reply
+    pub place : Position
+    pub parts : Parts
+    pub jobs : new.jobs ≡ slice_set old.jobs at (with_tx job place (noting tx call reply (claims_at old tx call) parts))
+    pub words : new.words ≡ old.words
+    pub journal : new.journal ≡ old.journal
+    -- the job stands behind the reply
+    pub begin : IsSameBegin job.place place
+    pub walk : walk_of s.script place ≡ answered (walk_of s.script job.place) reply
+    pub nearer : job.place.at < place.at
+    -- it is kept for the commit or done now, and one of those that scripts have so far
+    pub in_time : IsReplyInTime tx.me tx.number call reply
+    pub built : is_built call ≡ true
+    -- the older records stay, and at most one comes behind them
+    pub made : List Undo
+    pub one : length made ≤ 1
+    pub undo : parts.undo ≡ record tx.undo { pending = tx.undo.pending ++ made }
+    pub stored : parts.me.stored ≤ 16384
+    -- its stores wait behind the older ones
+    pub stores : parts.stores ≡ tx.writes ++ stored_by (length old.words) call
+    -- on words its reply and its effect are those of the words with the transaction's stores, over every host
+    pub spoken : IsWordStep (overlaid old.words tx.writes) (overlaid old.words parts.stores) call reply
+    -- a fault exactly where the host's count rose
+    pub cause : CountsFault (is_fault_reply reply) old.faults new.faults
+    -- over a host that tells, all is the plain machine's
+    pub does : IsTrue s.tells → DoesIn old.words old.contents new.contents (parts_of tx) parts call reply
 
--- a claim of the call meets a holder: the transaction undoes
-pub record Conflicts (s : Setting) (at : ℕ) (old : Now) (job : SeenJob) (tx : SeenTx) (call : Call) (new : Now) : Type 0 where
-  pub object : Object
-  pub holder : ℕ
-  pub met : IsFirstMet old.jobs at (claims_at old tx call) object holder
-  pub place : Place
-  pub same : IsSamePlace s job.place place
-  pub behind : new
-      ≡ with_job old at (with_tx job place (record tx { phase = Undoing (cause.Conflict object holder (length old.journal)) }))
+  -- a claim of the call meets a holder: the transaction undoes
+  pub record Conflicts (call : Call) (new : Now) : Type 0 where
+    pub object : Object
+    pub holder : ℕ
+    pub met : IsFirstMet old.jobs at (claims_at old tx call) object holder
+    pub place : Position
+    pub same : IsSamePosition s job.place place
+    pub behind : new
+        ≡ with_job old at (with_tx job place (record tx { phase = Undoing (cause.Conflict object holder (length old.journal)) }))
 
--- ---- a running transaction goes over to its commit, or to its way back
--- its stores are written
-pub record Commits (s : Setting) (at : ℕ) (old : Now) (job : SeenJob) (tx : SeenTx) (new : Now) : Type 0 where
-  pub place : Place
-  pub same : IsSamePlace s job.place place
-  pub settled : IsSettled s.script place
-  pub behind : new
-      ≡ record (with_job old at (with_tx job place (record tx { phase = Committing }))) { words = overlaid old.words tx.writes }
+  -- it goes over to its commit: its stores are written
+  pub record Commits (new : Now) : Type 0 where
+    pub place : Position
+    pub same : IsSamePosition s job.place place
+    pub settled : IsSettled s.script place
+    pub behind : new
+        ≡ record (with_job old at (with_tx job place (record tx { phase = Committing }))) { words = overlaid old.words tx.writes }
 
--- the script asks its abort
-pub record TurnsBack (s : Setting) (at : ℕ) (old : Now) (job : SeenJob) (tx : SeenTx) (new : Now) : Type 0 where
-  pub place : Place
-  pub same : IsSamePlace s job.place place
-  pub behind : new ≡ with_job old at (with_tx job place (record tx { phase = Undoing cause.Asked }))
+  -- the script asks its abort
+  pub record TurnsBack (new : Now) : Type 0 where
+    pub place : Position
+    pub same : IsSamePosition s job.place place
+    pub behind : new ≡ with_job old at (with_tx job place (record tx { phase = Undoing cause.Asked }))
 
 -- from one world to another a call did its part, with this answer, before memory was wanting; these records are left of it
 pub record DoesPart (from to : World) (parts : Parts) (asked : Asked) (left : List Undo) : Type 0 where
@@ -298,10 +301,11 @@ pub record DoesPart (from to : World) (parts : Parts) (asked : Asked) (left : Li
   pub world : to ≡ (act from parts.me parts.number asked.call asked.answer).world
   pub records : left ≡ recorded from parts.me parts.number asked.call (act from parts.me parts.number asked.call asked.answer).reply
 
--- the same in every world with these words, from these contents of the host to those
-abbrev pub DoesPartIn : List ℕ → Contents → Contents → Parts → Asked → List Undo → Type 0
-DoesPartIn words was is parts asked left =
-    (w : World) → w.words ≡ words → DoesPart (seen w was parts.stores) (seen w is parts.stores) parts asked left
+module _ (words : List ℕ) (was is : Contents) where
+  -- the same in every world with these words, from these contents of the host to those
+  abbrev pub DoesPartIn : Parts → Asked → List Undo → Type 0
+  DoesPartIn parts asked left =
+      (w : World) → w.words ≡ words → DoesPart (seen w was parts.stores) (seen w is parts.stores) parts asked left
 
 -- a call that is asked left these records before memory was wanting: with some answer it did its part
 abbrev pub LeavesPart : Now → Now → Parts → Ask → List Undo → Type 0
@@ -313,46 +317,48 @@ LeavesPart old new parts _ left = ⊥
 abbrev pub IsLeft : Now → Now → Parts → Ask → List Undo → Type 0
 IsLeft old new parts next left = ((left ≡ []) × (new.contents ≡ old.contents)) ⊎ LeavesPart old new parts next left
 
--- what it holds where memory was wanting: no more than before, if the asked call left nothing; or also what that call
--- claims, which nobody else holds against it
-abbrev pub HoldsWanting : Now → ℕ → SeenTx → Ask → List Undo → List Claim → Type 0
-HoldsWanting old at tx (ask.Call call) left held =
-    ((left ≡ []) × (held ≡ tx.held))
-    ⊎ (All (HasNoRival old.jobs at) (claims_at old tx call) × (held ≡ holding tx.held (claims_at old tx call)))
-HoldsWanting old at tx _ left held = (left ≡ []) × (held ≡ tx.held)
+module _ (old : Now) (at : ℕ) (tx : SeenTx) where
+  -- what it holds where memory was wanting: no more than before, if the asked call left nothing; or also what that call
+  -- claims, which nobody else holds against it
+  abbrev pub HoldsWanting : Ask → List Undo → List Claim → Type 0
+  HoldsWanting (ask.Call call) left held =
+      ((left ≡ []) × (held ≡ tx.held))
+      ⊎ (All (HasNoRival old.jobs at) (claims_at old tx call) × (held ≡ holding tx.held (claims_at old tx call)))
+  HoldsWanting _ left held = (left ≡ []) × (held ≡ tx.held)
 
 -- the transaction turns back for want of memory; these records are left of a call that isn't noted
 abbrev pub wanting : SeenTx → List Undo → List Claim → SeenTx
 wanting tx left held =
     record tx { phase = Undoing cause.NoMemory; undo = record tx.undo { pending = tx.undo.pending ++ left }; held = held }
 
--- memory is wanting: nothing is noted, and the host is as before but for what the asked call did before, which at most
--- one record tells
-pub record Wants (s : Setting) (at : ℕ) (old : Now) (job : SeenJob) (tx : SeenTx) (new : Now) : Type 0 where
-  pub place : Place
-  pub same : IsSamePlace s job.place place
-  pub left : List Undo
-  pub one : length left ≤ 1
-  pub held : List Claim
-  pub holds : HoldsWanting old at tx (asked_at s job.place) left held
-  pub jobs : new.jobs ≡ slice_set old.jobs at (with_tx job place (wanting tx left held))
-  pub words : new.words ≡ old.words
-  pub journal : new.journal ≡ old.journal
-  pub faults : new.faults ≡ old.faults
-  pub contents : IsTrue s.tells → IsLeft old new (parts_of tx) (asked_at s job.place) left
+module _ (s : Setting) (at : ℕ) (old : Now) (job : SeenJob) (tx : SeenTx) where
+  -- memory is wanting: nothing is noted, and the host is as before but for what the asked call did before, which at most
+  -- one record tells
+  pub record Wants (new : Now) : Type 0 where
+    pub place : Position
+    pub same : IsSamePosition s job.place place
+    pub left : List Undo
+    pub one : length left ≤ 1
+    pub held : List Claim
+    pub holds : HoldsWanting old at tx (asked_at s job.place) left held
+    pub jobs : new.jobs ≡ slice_set old.jobs at (with_tx job place (wanting tx left held))
+    pub words : new.words ≡ old.words
+    pub journal : new.journal ≡ old.journal
+    pub faults : new.faults ≡ old.faults
+    pub contents : IsTrue s.tells → IsLeft old new (parts_of tx) (asked_at s job.place) left
 
--- by what is asked
-abbrev pub AskedTurn : Setting → ℕ → Now → SeenJob → SeenTx → Ask → Now → Type 0
-AskedTurn s at old job tx (ask.Call call) new = Calls s at old job tx call new ⊎ Conflicts s at old job tx call new
-AskedTurn s at old job tx ask.Commit new = Commits s at old job tx new
-AskedTurn s at old job tx ask.Abort new = TurnsBack s at old job tx new
-AskedTurn s at old job tx ask.End new = ⊥
+  -- by what is asked
+  abbrev pub AskedTurn : Ask → Now → Type 0
+  AskedTurn (ask.Call call) new = Calls s at old job tx call new ⊎ Conflicts s at old job tx call new
+  AskedTurn ask.Commit new = Commits s at old job tx new
+  AskedTurn ask.Abort new = TurnsBack s at old job tx new
+  AskedTurn ask.End new = ⊥
 
--- a running transaction does what is asked, or memory is wanting
-abbrev pub RunningTurn : Setting → ℕ → Now → SeenJob → SeenTx → Turn → Now → Type 0
-RunningTurn s at old job tx turn.Went new = AskedTurn s at old job tx (asked_at s job.place) new
-RunningTurn s at old job tx turn.NoMemory new = Wants s at old job tx new
-RunningTurn s at old job tx _ new = ⊥
+  -- a running transaction does what is asked, or memory is wanting
+  abbrev pub RunningTurn : Turn → Now → Type 0
+  RunningTurn turn.Went new = AskedTurn (asked_at s job.place) new
+  RunningTurn turn.NoMemory new = Wants new
+  RunningTurn _ new = ⊥
 
 -- ---- what a transaction leaves at its end
 -- the entry of a transaction that ended so, of the job in this place
@@ -370,16 +376,17 @@ entry_of tx at outcome =
     }
 
 -- ---- late calls
--- the next late call is done, in the order in which they were made, under the claims of its transaction
-pub record EndsLate (s : Setting) (at : ℕ) (old : Now) (job : SeenJob) (tx : SeenTx) (call : LateCall) (new : Now) : Type 0 where
-  pub end : LateEnd
-  pub jobs : new.jobs ≡ slice_set old.jobs at (with_tx job job.place (record tx { ends = tx.ends ++ end ∷ [] }))
-  pub words : new.words ≡ old.words
-  pub journal : new.journal ≡ old.journal
-  -- a fault exactly where the host's count rose
-  pub cause : CountsFault (is_fault_end end) old.faults new.faults
-  -- over a host that tells, its end and what it did are the plain machine's
-  pub does : IsTrue s.tells → DoesLate old.contents new.contents call end
+module _ (s : Setting) (at : ℕ) (old : Now) (job : SeenJob) (tx : SeenTx) where
+  -- the next late call is done, in the order in which they were made, under the claims of its transaction
+  pub record EndsLate (call : LateCall) (new : Now) : Type 0 where
+    pub end : LateEnd
+    pub jobs : new.jobs ≡ slice_set old.jobs at (with_tx job job.place (record tx { ends = tx.ends ++ end ∷ [] }))
+    pub words : new.words ≡ old.words
+    pub journal : new.journal ≡ old.journal
+    -- a fault exactly where the host's count rose
+    pub cause : CountsFault (is_fault_end end) old.faults new.faults
+    -- over a host that tells, its end and what it did are the plain machine's
+    pub does : IsTrue s.tells → DoesLate old.contents new.contents call end
 
 -- ---- entries
 -- behind a commit a job is at its next transaction, with the variables and the handles of this one's end, and where the
@@ -435,26 +442,28 @@ module _ (s : Setting) (at : ℕ) where
   CommittingTurn old job tx _ new = ⊥
 
 -- ---- the way back
--- the newest record without an end is tried
-pub record Compensates (s : Setting) (at : ℕ) (old : Now) (job : SeenJob) (tx : SeenTx) (new : Now) : Type 0 where
-  pub older : List Undo
-  pub tried : Undo
-  pub end : UndoEnd
-  pub newest : tx.undo.pending ≡ older ++ tried ∷ []
-  -- blocked exactly where a newer record stands in the way; failed exactly after so many tries
-  pub legal : IsLegalEnd s.rules.undo_tries tried end (way_of older tried tx.undo)
-  pub faults : CountsFaults (end_faults end) old.faults new.faults
-  -- the host did what the end says
-  pub effect : IsTrue s.tells → new.contents ≡ contents_of (undone_to (world_of old.contents) tried end)
-  pub jobs : new.jobs ≡ slice_set old.jobs at
-      (with_tx job job.place (record tx { undo = record { pending = older; ended = (tried, end) ∷ tx.undo.ended } }))
-  pub words : new.words ≡ old.words
-  pub journal : new.journal ≡ old.journal
+module _ (s : Setting) (at : ℕ) (old : Now) (job : SeenJob) (tx : SeenTx) where
+  -- the newest record without an end is tried
+  pub record Compensates (new : Now) : Type 0 where
+    pub older : List Undo
+    pub tried : Undo
+    pub end : UndoEnd
+    pub newest : tx.undo.pending ≡ older ++ tried ∷ []
+    -- blocked exactly where a newer record stands in the way; failed exactly after so many tries
+    pub legal : IsLegalEnd s.rules.undo_tries tried end (way_of older tried tx.undo)
+    pub faults : CountsFaults (end_faults end) old.faults new.faults
+    -- the host did what the end says
+    pub effect : IsTrue s.tells → new.contents ≡ contents_of (undone_to (world_of old.contents) tried end)
+    pub jobs : new.jobs ≡ slice_set old.jobs at
+        (with_tx job job.place (record tx { undo = record { pending = older; ended = (tried, end) ∷ tx.undo.ended } }))
+    pub words : new.words ≡ old.words
+    pub journal : new.journal ≡ old.journal
 
--- an aborted transaction, each of whose records has its end, enters
-abbrev pub EntersAborted : ℕ → Now → SeenJob → SeenTx → Cause → Now → Type 0
-EntersAborted at old job tx c new =
-    new ≡ entering old at (behind_abort job tx c) (entry_of tx at (Aborted (record { cause = c; records = tx.undo.ended })))
+module _ (at : ℕ) (old : Now) (job : SeenJob) (tx : SeenTx) where
+  -- an aborted transaction, each of whose records has its end, enters
+  abbrev pub EntersAborted : Cause → Now → Type 0
+  EntersAborted c new =
+      new ≡ entering old at (behind_abort job tx c) (entry_of tx at (Aborted (record { cause = c; records = tx.undo.ended })))
 
 module _ (s : Setting) (at : ℕ) where
   -- by the records that have no end yet

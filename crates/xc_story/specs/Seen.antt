@@ -12,7 +12,7 @@ use Rattle.xc_data.specs.declared.entry.JobEnd.{JobEnd}
 use Rattle.xc_data.specs.declared.private.Private.{Private}
 use Rattle.xc_compensate.specs.Records.{Records}
 use Rattle.xc_host.specs.Contents.{Contents}
-use Rattle.xc_script.specs.Place.{Place}
+use Rattle.xc_script.specs.Position.{Position}
 use Rattle.xc_story.specs.declared.phase.Attempts.{Attempts}
 use Rattle.xc_story.specs.declared.phase.Phase.{Phase}
 
@@ -49,7 +49,7 @@ pub record SeenJob : Type 0 where
   pub block : List ℕ
   -- its handles, as its next transaction begins with them, or the active one began
   pub me : Private
-  pub place : Place
+  pub place : Position
   -- the attempts at its next transaction that ended in a conflict, where there were some
   pub attempts : Option Attempts
   pub doing : Doing

@@ -10,7 +10,7 @@ use Rattle.xc_data.specs.declared.entry.Entry.{Entry}
 use Rattle.xc_script.specs.declared.ask.Ask.{Ask}
 use Rattle.xc_script.specs.declared.ask.Ask.TheVariants as ask
 use Rattle.xc_script.specs.Ask.{asks, all_answered, walk_from, next_body}
-use Rattle.xc_script.specs.Place.{Place, at_begin, walk_of, IsSettled}
+use Rattle.xc_script.specs.Position.{Position, at_begin, walk_of, IsSettled}
 use Rattle.xc_world.specs.World.{beginning}
 use Rattle.xc_world.specs.Ends.{AreLegal}
 use Rattle.xc_world.specs.Modes.{claims_of}
@@ -28,23 +28,23 @@ use Rattle.xc_story.specs.Seen.{SeenTx, SeenJob, Doing, Idle, Active, Starved, E
 
 -- ---- an active transaction, as a part of its job's story
 -- the job stands in its next transaction, and keeps the variables of its begin
-pub record IsStanding (f : Following) (place : Place) : Type 0 where
+pub record IsStanding (f : Following) (place : Position) : Type 0 where
   pub block : place.block ≡ f.job.block
   pub next : place.next ≡ f.job.next
   pub begun : place.begun ≡ f.job.variables
 
 -- the job stands behind its transaction's replies
-abbrev pub IsAhead : Setting → Following → Place → SeenTx → Type 0
+abbrev pub IsAhead : Setting → Following → Position → SeenTx → Type 0
 IsAhead s f place tx = walk_of s.script place ≡ all_answered (walk_from s.script f.job) tx.replies
 
 -- a running one: no compensation was tried
-pub record IsRunning (s : Setting) (f : Following) (place : Place) (tx : SeenTx) : Type 0 where
+pub record IsRunning (s : Setting) (f : Following) (place : Position) (tx : SeenTx) : Type 0 where
   pub ahead : IsAhead s f place tx
   pub none : tx.undo.ended ≡ []
   pub no_ends : tx.ends ≡ []
 
 -- a committing one: its commit was asked, and the job stands where its walk does
-pub record IsCommitting (s : Setting) (f : Following) (place : Place) (tx : SeenTx) : Type 0 where
+pub record IsCommitting (s : Setting) (f : Following) (place : Position) (tx : SeenTx) : Type 0 where
   pub ahead : IsAhead s f place tx
   pub asked : asks (walk_of s.script place) ≡ ask.Commit
   pub settled : IsSettled s.script place
@@ -58,13 +58,13 @@ pub record IsUndoing (s : Setting) (f : Following) (tx : SeenTx) (c : Cause) : T
   pub no_ends : tx.ends ≡ []
 
 -- by its phase
-abbrev pub IsInPhase : Setting → Following → Place → SeenTx → Phase → Type 0
+abbrev pub IsInPhase : Setting → Following → Position → SeenTx → Phase → Type 0
 IsInPhase s f place tx Running = IsRunning s f place tx
 IsInPhase s f place tx Committing = IsCommitting s f place tx
 IsInPhase s f place tx (Undoing c) = IsUndoing s f tx c
 
 -- the active transaction of a job that the journal tells so far as f
-pub record IsUnderway (s : Setting) (f : Following) (place : Place) (tx : SeenTx) : Type 0 where
+pub record IsUnderway (s : Setting) (f : Following) (place : Position) (tx : SeenTx) : Type 0 where
   pub goes_on : f.starved ≡ false
   pub left : IsSome (next_body s.script f.job)
   pub attempts : length f.failed < s.rules.attempts

@@ -21,7 +21,7 @@ use Rattle.xc_text.specs.declared.script.Script.{Script}
 use Rattle.xc_script.specs.declared.ask.Ask.{Ask}
 use Rattle.xc_script.specs.declared.ask.Ask.TheVariants as ask
 use Rattle.xc_script.specs.Ask.{Walk, asks, answered, all_answered, walk_from, next_body}
-use Rattle.xc_script.specs.Place.{is_call}
+use Rattle.xc_script.specs.Position.{is_call}
 use Rattle.xc_world.specs.Act.{act}
 use Rattle.xc_world.specs.Fits.{fits}
 use Rattle.xc_world.specs.Modes.{claims_of}

@@ -235,7 +235,8 @@ grained-keeps r n k =
 
 stated-keeps : (s : Said) (statement : Statement) → IsSound s → Keeps (stated s statement)
 stated-keeps s statement k =
-    cond_both (has_few_calls s.body statement && are_few (with_statement s.names statement)) _ _ Keeps (λ few.
+    cond_both (has_few_calls s.body statement && are_few (with_statement s.names statement)) _ _
+    (λ (r : Result Said Why). Keeps (and_then r (λ (t : Said). Ok (record t { body = t.body ++ statement ∷ [] })))) (λ few.
     record {
       some_words = k.some_words;
       few_words = k.few_words;
@@ -530,7 +531,7 @@ pub parsed : (bytes : List ℕ) (s : Script) → parse_of bytes ≡ Ok s → IsS
 parsed bytes s e = subst (λ (a : Result Script Refusal). IfOk a IsScript) e (parse_of-keeps bytes)
 
 -- such a script keeps the limits of every prologue
-pub in_limits : (s : Script) → IsScript s → KeepsLimits s.plain
+pub in_limits : (s : Script) → IsScript s → KeepsLimits s.outline
 in_limits s k =
     record {
       words = k.few_words;

@@ -1,5 +1,6 @@
 pub mod Answers
 pub mod Grammar
+pub mod Kept
 pub mod Kinds
 pub mod Lines
 pub mod Literals

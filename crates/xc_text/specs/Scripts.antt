@@ -34,7 +34,7 @@ prologue_of s = record { objects = s.objects; faults = s.faults; grain = s.grain
 -- the whole script
 abbrev pub script_of : Said → Script
 script_of s = record {
-  plain = record {
+  outline = record {
     words = s.words;
     prologue = prologue_of s;
     bodies = [];
@@ -74,14 +74,14 @@ IsOneCall line = (1 ≤ line.first) × (line.first ≡ line.last)
 
 -- a script that was read
 pub record IsScript (s : Script) : Type 0 where
-  pub some_words : 1 ≤ length s.plain.words
-  pub few_words : length s.plain.words ≤ 4096
+  pub some_words : 1 ≤ length s.outline.words
+  pub few_words : length s.outline.words ≤ 4096
   pub few_blocks : length s.blocks ≤ 1000
   pub distinct : IsDistinct (pointwise nat_eq) (names_of s.blocks)
-  pub jobs : s.plain.jobs ≡ names_of s.blocks
-  pub bodies : s.plain.bodies ≡ []
-  pub prologue : IsPrologue s.plain.prologue
-  pub files : All IsFileLine s.plain.prologue.objects
-  pub faults : All IsOneCall s.plain.prologue.faults
+  pub jobs : s.outline.jobs ≡ names_of s.blocks
+  pub bodies : s.outline.bodies ≡ []
+  pub prologue : IsPrologue s.outline.prologue
+  pub files : All IsFileLine s.outline.prologue.objects
+  pub faults : All IsOneCall s.outline.prologue.faults
   pub each_block : All IsBlock s.blocks
   pub few_slots : length s.slots ≤ 256

@@ -168,12 +168,16 @@ has_few_calls body statement = nat_le (count_by is_call (body ++ statement ∷ [
 abbrev pub are_few : Names → Bool
 are_few names = nat_le (length names.variables) 256 && nat_le (length names.slots) 256
 
--- a statement more, where the calls of its transaction and the names of the script stay few
-abbrev pub stated : Said → Statement → Result Said Why
-stated s statement =
+-- a statement's names more, where the calls of its transaction and the names of the script stay few
+abbrev pub named : Said → Statement → Result Said Why
+named s statement =
     if has_few_calls s.body statement && are_few (with_statement s.names statement) then
-    Ok (record s { names = with_statement s.names statement; body = s.body ++ statement ∷ [] })
+    Ok (record s { names = with_statement s.names statement })
     else Err TooMany
+
+-- a statement more
+abbrev pub stated : Said → Statement → Result Said Why
+stated s statement = and_then (named s statement) (λ (t : Said). Ok (record t { body = t.body ++ statement ∷ [] }))
 
 -- the transaction under way ends
 abbrev pub committed : Said → Option (List ℕ) → Result Said Why

@@ -3,7 +3,7 @@ ghost use Rattle.xc_text.specs.Answers.{Gives};
 ghost use Rattle.xc_text.specs.Said.{opening};
 ghost use Rattle.xc_text.specs.Scripts.{script_of};
 ghost use Rattle.xc_text.specs.Sections.{block_in, is_outside, transaction_in};
-ghost use Rattle.xc_text.specs.Steps.{started, begun, stated, committed, ended_block, after, after_bytes};
+ghost use Rattle.xc_text.specs.Steps.{started, begun, named, stated, committed, ended_block, after, after_bytes};
 
 use crate::block_names::BlockNames;
 use crate::counted::Counted;
@@ -19,7 +19,7 @@ use crate::why::{Stop, Why};
 use std::alloc::Global;
 use std::marker::Model;
 use std::mem;
-use xc_data::{FaultList, Ident, Items, NoMemory, Prologue, Script0, WordList};
+use xc_data::{FaultList, Ident, Items, NoMemory, Outline, Prologue, WordList};
 
 mod opening;
 
@@ -112,7 +112,7 @@ impl Draft {
             grain: self.grain,
         };
         Script {
-            plain: Script0 {
+            outline: Outline {
                 words: self.words,
                 prologue,
                 bodies: Items::new(alloc),
@@ -150,16 +150,23 @@ impl Draft {
         Ok(())
     }
 
-    fn state(&mut self, statement: Statement) -> Result<(), Stop>
-        ensures { Gives (λ _. self.new) result (stated self.old statement) }
+    fn name(&mut self, statement: &Statement) -> Result<(), Stop>
+        ensures { Gives (λ _. self.new) result (named self.old statement.now) }
     {
-        if !self.body.has_room(&statement) {
+        if !self.body.has_room(statement) {
             return Err(Stop::Refused(Why::TooMany));
         }
-        add_statement(&mut self.names, &statement)?;
+        add_statement(&mut self.names, statement)?;
         if !self.names.are_few() {
             return Err(Stop::Refused(Why::TooMany));
         }
+        Ok(())
+    }
+
+    fn state(&mut self, statement: Statement) -> Result<(), Stop>
+        ensures { Gives (λ _. self.new) result (stated self.old statement) }
+    {
+        self.name(&statement)?;
         self.body.push(statement)?;
         Ok(())
     }

@@ -8,8 +8,6 @@ pub const MOST_WORDS: u64 = 4096;
 pub const FIRST_WORDS: u64 = 16;
 /// Files of a prologue.
 pub const MOST_FILES: usize = 4096;
-/// The bytes of one of them.
-pub const MOST_FILE_BYTES: u32 = 65_536;
 /// The grain of a host.
 pub const MOST_GRAIN: u64 = 65_536;
 /// Blocks of a script.
@@ -22,8 +20,6 @@ pub const MOST_CALLS: u32 = 256;
 pub const MOST_NAMES: usize = 256;
 /// The parts of the data of a write.
 pub const MOST_ITEMS: usize = 16;
-/// The bytes that the literals of a write give.
-pub const MOST_DATA_BYTES: u32 = 1024;
 /// What a literal means, before its repeat.
 pub const MOST_LITERAL_BYTES: usize = 1024;
 /// How often a literal may stand there.

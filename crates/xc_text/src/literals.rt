@@ -4,10 +4,9 @@ ghost use Rattle.xc_text.specs.Literals.{is_literal as is_literal_token, given, 
 ghost use Rattle.xc_text.specs.Literals.{contents as contents_said};
 ghost use Rattle.xc_text.specs.Views.{lexeme};
 
-use crate::limits::MOST_FILE_BYTES;
 use crate::token::Token;
 use std::alloc::Global;
-use xc_data::{Chunk, NoMemory};
+use xc_data::{Chunk, MOST_FILE_BYTES, NoMemory};
 
 fn is_literal(token: &Token) -> bool
     ensures { result ≡ is_literal_token (lexeme token.now) }
@@ -103,7 +102,7 @@ fn joined(alloc: Global, tokens: &[Token]) -> Result<Chunk, NoMemory>
 pub fn contents(alloc: Global, tokens: &[Token]) -> Result<Option<Chunk>, NoMemory>
     ensures { IfOk result (λ bytes. bytes ≡ contents_said (map lexeme tokens.now)) }
 {
-    if !is_within(MOST_FILE_BYTES, tokens) {
+    if !is_within(MOST_FILE_BYTES as u32, tokens) {
         return Ok(None);
     }
     Ok(Some(joined(alloc, tokens)?))

@@ -50,7 +50,7 @@ pub fn parse(alloc: Global, bytes: &[u8]) -> Result<Script, ParseErr>
     ensures ok { IfOk result (λ script. parse_of bytes.now ≡ Ok script) }
     ensures refused { (line : _) (why : _) → IsErrOf result (ParseErr.Refused line why) → parse_of bytes.now ≡ Err (line, why) }
     ensures script { IfOk result IsScript }
-    ensures limits { IfOk result (λ script. KeepsLimits script.plain) }
+    ensures limits { IfOk result (λ script. KeepsLimits script.outline) }
 {
     if bytes.len() > MOST_SCRIPT_BYTES {
         return Err(ParseErr::Refused {

@@ -3,7 +3,7 @@ ghost use Rattle.xc_text.specs.Answers.{Gives, seen};
 ghost use Rattle.xc_text.specs.Pieces.{word_item as word_item_said, item_of, items_of, data_of};
 ghost use Rattle.xc_text.specs.Views.{lexeme};
 
-use crate::limits::{MOST_DATA_BYTES, MOST_ITEMS};
+use crate::limits::MOST_ITEMS;
 use crate::literals::{is_within, repeated};
 use crate::reason::beside;
 use crate::script::{Data, Item};
@@ -11,7 +11,7 @@ use crate::term::{ident_word, term_word};
 use crate::token::Token;
 use crate::why::{Stop, Why};
 use std::alloc::Global;
-use xc_data::Items;
+use xc_data::{Items, MOST_CALL_BYTES};
 
 fn word_item(word: &[u8]) -> Result<Item, Why>
     ensures { result ≡ word_item_said word.now }
@@ -72,7 +72,7 @@ pub fn check_data(tokens: &[Token]) -> Result<(), Why>
         return Err(Why::BadForm);
     }
     check_items(tokens)?;
-    if !is_within(MOST_DATA_BYTES, tokens) {
+    if !is_within(MOST_CALL_BYTES as u32, tokens) {
         return Err(Why::TooMany);
     }
     Ok(())

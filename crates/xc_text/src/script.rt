@@ -1,7 +1,7 @@
 ghost use Rattle.std.specs.Prelude.{◌≡◌};
 
 use crate::kept::{KeptExpression, KeptTerm};
-use xc_data::{Boxed, Chunk, Ident, IdentList, Items, Name, Script0};
+use xc_data::{Boxed, Chunk, Ident, IdentList, Items, Name, Outline};
 
 /// A number, the number in a variable, or one that tells how the last late call with a slot ended.
 #[derive(Clone, Copy, Debug, PartialEq)]
@@ -139,7 +139,7 @@ pub struct Block {
 /// A whole script.
 #[derive(Debug, Drop)]
 pub struct Script {
-    pub plain: Script0,
+    pub outline: Outline,
     /// The blocks in the order of the script.
     pub blocks: Items<Block>,
     /// The names of its slots, each once.
@@ -148,9 +148,9 @@ pub struct Script {
 
 impl Script {
     /// The script without its statements.
-    pub fn plain(&self) -> &Script0
-        ensures { result.now ≡ self.now.plain }
+    pub fn outline(&self) -> &Outline
+        ensures { result.now ≡ self.now.outline }
     {
-        &self.plain
+        &self.outline
     }
 }

@@ -80,7 +80,7 @@ fn replays(alloc: Global, entry: &Entry) -> Result<bool, NoMemory> {
     let Ok(script) = parse(alloc, FILE.as_bytes()) else {
         return Ok(false);
     };
-    let plain = script.plain();
+    let plain = script.outline();
     let mut world = World::of(alloc, plain)?;
     let mut me = opening_private(alloc, plain)?;
     gives(&mut world, &mut me, entry)

@@ -219,8 +219,8 @@ pub complete : (s : Setting) (entries : List Entry) (lines : List JobLine) → A
 complete s entries lines are ends done =
     let start : Progress = opening_progress s.script in
     let opened : List ℕ → Following = λ name. untried name (fresh_job s.script (block_place s.script name)) 0 in
-    let none : passed_by start.jobs ≡ 0 = passed_none opened s.script.plain.jobs (λ name. refl) in
-    let first : AllByRecursion (IsWithin s.script) start.jobs = each_map (IsWithin s.script) opened s.script.plain.jobs (λ name. omega arith) in
+    let none : passed_by start.jobs ≡ 0 = passed_none opened s.script.outline.jobs (λ name. refl) in
+    let first : AllByRecursion (IsWithin s.script) start.jobs = each_map (IsWithin s.script) opened s.script.outline.jobs (λ name. omega arith) in
     let jobs : List Following = (progress_of s.script entries).jobs in
     let end = ends_done s (length entries) jobs lines ends done (all_within s start entries are first) in
     record {

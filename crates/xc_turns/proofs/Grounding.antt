@@ -18,7 +18,7 @@ use Rattle.xc_data.specs.declared.entry.Turn.{Turn}
 use Rattle.xc_script.specs.declared.ask.Ask.{Ask}
 use Rattle.xc_script.specs.declared.ask.Ask.TheVariants as ask
 use Rattle.xc_script.specs.Ask.{asks}
-use Rattle.xc_script.specs.Place.{Place}
+use Rattle.xc_script.specs.Position.{Position}
 use Rattle.xc_story.specs.declared.phase.Phase.TheVariants.{Running}
 use Rattle.xc_story.specs.Setting.{Setting}
 use Rattle.xc_story.specs.Seen.{SeenTx, SeenJob, Doing, Idle, Active, Starved, Ended, Now, active_in, active_of}
@@ -51,7 +51,7 @@ underway s begun f job was Starved e told = cc
 underway s begun f job was (Ended end) e told = cc
 
 -- what a running one is asked, its job asks where it stands
-asked_there : (s : Setting) (f : Following) (place : Place) (was : SeenTx) → IsUnderway s f place was → was.phase ≡ Running
+asked_there : (s : Setting) (f : Following) (place : Position) (was : SeenTx) → IsUnderway s f place was → was.phase ≡ Running
     → next_of s.script f was.replies ≡ asked_at s place
 asked_there s f place was told running =
     let at : IsRunning s f place was = subst (IsInPhase s f place was) running told.phase in

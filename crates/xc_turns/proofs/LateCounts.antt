@@ -16,7 +16,7 @@ use Rattle.xc_data.specs.declared.private.Private.{Private}
 use Rattle.xc_data.specs.Private.{place_of}
 use Rattle.xc_world.specs.World.{World}
 use Rattle.xc_world.specs.Checks.{is_bad_handle, is_file, is_pipe, is_pair}
-use Rattle.xc_world.specs.Act.Step.{Stepped, stays}
+use Rattle.xc_world.specs.Act.Step.{Stepped, step_to}
 use Rattle.xc_world.specs.Late.{is_late, kept_call, late_call, sync_of, write_pipe_of, shutdown_of, send_of}
 use Rattle.xc_script.specs.Slots.{kept_of}
 use Rattle.xc_story.specs.LateCalls.{waits}
@@ -49,7 +49,7 @@ waiting_one (call.XSendmsg h bytes slot) me kept good = send_one (place_of me.pl
 waiting_one (call.XThreadCreate body slot) me kept good = refl
 waiting_one _ me kept good = cc kept
 
-passed : (b : Bool) (w : World) (me : Private) (s : Stepped) → is_late (if b then stays w me reply.BadHandle else s).reply ≡ true → b ≡ false
+passed : (b : Bool) (w : World) (me : Private) (s : Stepped) → is_late (if b then step_to w me reply.BadHandle else s).reply ≡ true → b ≡ false
 passed true w me s late = cc late
 passed false w me s late = refl
 

@@ -21,7 +21,7 @@ use Rattle.xc_text.specs.declared.script.Statement.{Statement}
 use Rattle.xc_script.specs.declared.ask.Ask.{Ask}
 use Rattle.xc_script.specs.declared.ask.Ask.TheVariants as ask
 use Rattle.xc_script.specs.Ask.{transactions_at}
-use Rattle.xc_script.specs.Place.{Place}
+use Rattle.xc_script.specs.Position.{Position}
 use Rattle.xc_world.specs.Late.{kept_call}
 use Rattle.xc_story.specs.declared.phase.Phase.{Phase}
 use Rattle.xc_story.specs.declared.phase.Phase.TheVariants.{Running, Committing, Undoing}
@@ -29,7 +29,7 @@ use Rattle.xc_story.specs.Setting.{Setting}
 use Rattle.xc_story.specs.Seen.{SeenTx, SeenJob, Doing, Idle, Active, Starved, Ended, Now, failures, begun_count, late_left, rank_of, entering}
 use Rattle.xc_story.specs.Rows.{IsTurn, TurnOf, IdleTurn, ActiveTurn, RunningTurn, AskedTurn, CommittingTurn, UndoingTurn, BackTurn, StarvedTurn}
 use Rattle.xc_story.specs.Rows.{Calls, HoldsWanting, IsSameBegin, LateTurn, asked_at, body_at}
-use Rattle.xc_story.specs.Rows.{IsSamePlace, entry_of, noting, wanting, claims_at, with_tx, beginning_job, behind_commit, behind_abort}
+use Rattle.xc_story.specs.Rows.{IsSamePosition, entry_of, noting, wanting, claims_at, with_tx, beginning_job, behind_commit, behind_abort}
 use Rattle.xc_story.specs.Measure.{phase_turns, doing_turns, job_turns, turns_left}
 use Rattle.xc_turns.proofs.Lists.{sum_set_place}
 use Rattle.xc_turns.proofs.LateCounts.{kept_few, left_less, left_more, left_some}
@@ -47,7 +47,7 @@ falls_by s at old new was is e same less =
     subst (λ jobs. sum_by (job_turns s) jobs < turns_left s old) (sym same) (one_falls (job_turns s) old.jobs at was is e less)
 
 -- the bodies from a place on
-abbrev bodies_at : Setting → Place → List (List Statement)
+abbrev bodies_at : Setting → Position → List (List Statement)
 bodies_at s place = drop place.next (transactions_at s.script place.block)
 
 -- fewer than what is left of what a job does
@@ -73,7 +73,7 @@ idle_falls s at old new job (turn.Busy object holder) stands is h = absurd h
 idle_falls s at old new job turn.NoMemory stands is h = absurd h
 
 -- ---- a job with an active transaction that goes on
-goes_on : (s : Setting) (at : ℕ) (old new : Now) (job : SeenJob) (place : Place) (tx next : SeenTx) → slice_get old.jobs at ≡ Some job
+goes_on : (s : Setting) (at : ℕ) (old new : Now) (job : SeenJob) (place : Position) (tx next : SeenTx) → slice_get old.jobs at ≡ Some job
     → job.doing ≡ Active tx → new.jobs ≡ slice_set old.jobs at (with_tx job place next) → IsSameBegin job.place place
     → ((n : ℕ) → n ≡ length (first_of (bodies_at s job.place))
     → phase_turns n place.at next next.phase < phase_turns n job.place.at tx tx.phase)
@@ -88,11 +88,11 @@ goes_on s at old new job place tx next stands is jobs begin falls =
 
 -- ---- a call
 -- where nothing is left the commit is asked
-commits_past : (s : Setting) (place : Place) → drop place.at (unwrap_or (body_at s place) []) ≡ [] → asked_at s place ≡ ask.Commit
+commits_past : (s : Setting) (place : Position) → drop place.at (unwrap_or (body_at s place) []) ≡ [] → asked_at s place ≡ ask.Commit
 commits_past s place e = rw e
 
 -- a call is asked before the end
-asked_before : (s : Setting) (place : Place) (call : Call) → asked_at s place ≡ ask.Call call → place.at < length (first_of (bodies_at s place))
+asked_before : (s : Setting) (place : Position) (call : Call) → asked_at s place ≡ ask.Call call → place.at < length (first_of (bodies_at s place))
 asked_before s place call e =
     let body = unwrap_or (body_at s place) [] in
     let there : length body ≡ length (first_of (bodies_at s place)) = ap length (first_there (transactions_at s.script place.block) place.next) in
@@ -112,8 +112,8 @@ call_falls s at old new job tx call stands is runs asked c =
     (left_more tx.late (kept_call call tx.me c.reply) (length tx.ends) (kept_few (world_of old.contents) tx.me tx.number call c.reply c.in_time)))
 
 -- ---- a transaction that leaves its running
-turn_falls : (s : Setting) (at : ℕ) (old new : Now) (job : SeenJob) (place : Place) (tx next : SeenTx) → slice_get old.jobs at ≡ Some job
-    → job.doing ≡ Active tx → tx.phase ≡ Running → new.jobs ≡ slice_set old.jobs at (with_tx job place next) → IsSamePlace s job.place place
+turn_falls : (s : Setting) (at : ℕ) (old new : Now) (job : SeenJob) (place : Position) (tx next : SeenTx) → slice_get old.jobs at ≡ Some job
+    → job.doing ≡ Active tx → tx.phase ≡ Running → new.jobs ≡ slice_set old.jobs at (with_tx job place next) → IsSamePosition s job.place place
     → (next.phase ≡ Running → ⊥) → length next.undo.pending ≡ length tx.undo.pending → length (late_left next) ≡ length (late_left tx)
     → turns_left s new < turns_left s old
 turn_falls s at old new job place tx next stands is runs jobs same other records kept =
@@ -134,7 +134,7 @@ ask_falls s at old new job tx ask.Abort stands is runs asked c =
 ask_falls s at old new job tx ask.End stands is runs asked c = absurd c
 
 -- what left a record is a call, whose statement is still to come
-left_before : (s : Setting) (at : ℕ) (old : Now) (place : Place) (tx : SeenTx) (a : Ask) (left : List Undo) (held : List Claim) → asked_at s place ≡ a
+left_before : (s : Setting) (at : ℕ) (old : Now) (place : Position) (tx : SeenTx) (a : Ask) (left : List Undo) (held : List Claim) → asked_at s place ≡ a
     → length left ≤ 1 → HoldsWanting old at tx a left held → length left ≤ length (first_of (bodies_at s place)) - place.at
 left_before s at old place tx (ask.Call call) left held asked one holds = omega (arith, asked_before s place call asked)
 left_before s at old place tx ask.Commit left held asked one kept = let none = ap length kept.0 in omega arith

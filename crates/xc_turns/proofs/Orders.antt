@@ -239,7 +239,7 @@ alone_turned s at old new answer h alone = doing_row s at old new h.job h.job.do
 pub alone_opened : (script : Script) (now : Now) → IsOpening script now → AreAlone now 0
 alone_opened script now o =
     let rests = λ (j : ℕ) (tx : SeenTx) (active : IsActiveAt now.jobs j tx).
-    opened_rests script script.plain.jobs j tx (subst (λ js. IsActiveAt js j tx) o.jobs active) in
+    opened_rests script script.outline.jobs j tx (subst (λ js. IsActiveAt js j tx) o.jobs active) in
     let none : IsSerial [] = record { order = tt; jobs = λ i j a b ea eb less. cc } in
     record {
       serial = subst (λ j. IsSerial j) (sym o.journal) none;

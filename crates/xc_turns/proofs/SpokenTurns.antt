@@ -17,7 +17,7 @@ use Rattle.xc_data.specs.declared.undo.Undo.{Undo}
 use Rattle.xc_text.specs.declared.script.Script.{Script}
 use Rattle.xc_script.specs.declared.ask.Ask.{Ask}
 use Rattle.xc_script.specs.declared.ask.Ask.TheVariants as ask
-use Rattle.xc_script.specs.Place.{Place}
+use Rattle.xc_script.specs.Position.{Position}
 use Rattle.xc_world.specs.Own.{Sees, Owns}
 use Rattle.xc_story.specs.declared.phase.Phase.{Phase}
 use Rattle.xc_story.specs.declared.phase.Phase.TheVariants.{Running, Committing, Undoing}
@@ -110,7 +110,7 @@ module _ (s : Setting) (at : ℕ) (old : Now) (job : SeenJob) (new : Now) (stand
     said = h.each at tx (job, stands, active)
 
     -- from one that doesn't commit to one that doesn't
-    goes_on : (place : Place) (tx' : SeenTx) → (tx.phase ≡ Committing → ⊥) → (tx'.phase ≡ Committing → ⊥) → HasSpoken before tx'
+    goes_on : (place : Position) (tx' : SeenTx) → (tx.phase ≡ Committing → ⊥) → (tx'.phase ≡ Committing → ⊥) → HasSpoken before tx'
         → KeepsWords s (with_job old at (with_tx job place tx'))
     goes_on place tx' was now sp =
         let job' = with_tx job place tx' in
@@ -118,7 +118,7 @@ module _ (s : Setting) (at : ℕ) (old : Now) (job : SeenJob) (new : Now) (stand
         (active_speaks before job' tx' refl sp)
 
     -- ---- a running one
-    turns_back : (place : Place) (c : Cause) → tx.phase ≡ Running → KeepsWords s (with_job old at (with_tx job place (record tx { phase = Undoing c })))
+    turns_back : (place : Position) (c : Cause) → tx.phase ≡ Running → KeepsWords s (with_job old at (with_tx job place (record tx { phase = Undoing c })))
     turns_back place c runs =
         goes_on place (record tx { phase = Undoing c }) (running_is_none tx.phase runs) (undoing_is_none (Undoing c) c refl)
         (turned_spoken before tx c tx.held (λ word e. e) (λ word e. e) said)

@@ -7,7 +7,7 @@ use Rattle.xc_data.specs.declared.entry.Cause.{Cause}
 use Rattle.xc_data.specs.declared.entry.Cause.TheVariants as cause
 use Rattle.xc_data.specs.declared.entry.Entry.{Entry}
 use Rattle.xc_script.specs.Ask.{Job, Variables, Walk}
-use Rattle.xc_script.specs.Place.{at_begin}
+use Rattle.xc_script.specs.Position.{at_begin}
 use Rattle.xc_script.specs.Slots.{kept_of, with_ends}
 use Rattle.xc_story.specs.declared.phase.Attempts.{Attempts}
 use Rattle.xc_story.specs.declared.phase.Phase.TheVariants.{Committing}

@@ -15,7 +15,7 @@ use Rattle.xc_data.specs.declared.undo.Undo.{Undo}
 use Rattle.xc_text.specs.declared.script.Script.{Script}
 use Rattle.xc_script.specs.declared.ask.Ask.{Ask}
 use Rattle.xc_script.specs.Ask.{asks}
-use Rattle.xc_script.specs.Place.{Place}
+use Rattle.xc_script.specs.Position.{Position}
 use Rattle.xc_world.specs.Ends.{AreLegal, Ending}
 use Rattle.xc_world.specs.Run.{Ran, late_asked_of, lates, lates_fit}
 use Rattle.xc_story.specs.declared.phase.Phase.{Phase}
@@ -59,7 +59,7 @@ commit_played s words p at tx next commits all so =
     }
 
 -- the entry of a commit is true behind a true journal
-pub commit_true : (s : Setting) (words : ℕ) (p : Progress) (f : Following) (at : ℕ) (place : Place) (tx : SeenTx) → slice_get p.jobs at ≡ Some f
+pub commit_true : (s : Setting) (words : ℕ) (p : Progress) (f : Following) (at : ℕ) (place : Position) (tx : SeenTx) → slice_get p.jobs at ≡ Some f
     → tx.phase ≡ Committing → late_left tx ≡ [] → IsUnderway s f place tx → tx.began ≤ p.entered → AreWordReplies p.words tx.calls tx.replies
     → (IsTrue s.tells → IsPlayedSoFar s words p at tx) → IsTrueEntry s p (entry_of tx at (Committed tx.ends))
 commit_true s words p f at place tx got commits none under began said played =
@@ -141,7 +141,7 @@ few_tried true n m lt = omega arith
 few_tried false n m lt = omega arith
 
 -- the entry of an abort is true behind a true journal
-pub abort_true : (s : Setting) (words : ℕ) (p : Progress) (f : Following) (at : ℕ) (place : Place) (tx : SeenTx) (c : Cause) → slice_get p.jobs at ≡ Some f
+pub abort_true : (s : Setting) (words : ℕ) (p : Progress) (f : Following) (at : ℕ) (place : Position) (tx : SeenTx) (c : Cause) → slice_get p.jobs at ≡ Some f
     → tx.phase ≡ Undoing c → tx.undo.pending ≡ [] → IsUnderway s f place tx → tx.began ≤ p.entered → AreWordReplies p.words tx.calls tx.replies
     → (IsTrue s.tells → IsPlayedSoFar s words p at tx) → IsTrueEntry s p (entry_of tx at (aborted_by c tx))
 abort_true s words p f at place tx c got undoes none under began said played =

@@ -15,7 +15,7 @@ use Rattle.xc_data.specs.declared.undo.UndoEnd.{UndoEnd}
 use Rattle.xc_compensate.specs.Records.{Records, way_of}
 use Rattle.xc_script.specs.declared.ask.Ask.TheVariants as ask
 use Rattle.xc_script.specs.Ask.{Walk, answered, all_answered, asks, walk_from}
-use Rattle.xc_script.specs.Place.{Place, at_begin, walk_of, IsSettled}
+use Rattle.xc_script.specs.Position.{Position, at_begin, walk_of, IsSettled}
 use Rattle.xc_world.specs.World.{World, beginning}
 use Rattle.xc_world.specs.Ends.{AreLegal, IsLegalEnd}
 use Rattle.xc_story.specs.declared.phase.Attempts.{Attempts}
@@ -25,7 +25,7 @@ use Rattle.xc_story.specs.Progress.{Following}
 use Rattle.xc_story.specs.Truth.{IsCauseOf, next_of}
 use Rattle.xc_story.specs.Ending.{IsEnd}
 use Rattle.xc_story.specs.Seen.{SeenTx, SeenJob, Idle, Active, Starved, Ended, Now, begun_count, failures, rank_of}
-use Rattle.xc_story.specs.Rows.{IsEnding, IsReady, IsReplyInTime, IsSameBegin, IsSamePlace, IsSpent, Parts, asked_at, beginning_job, body_at, is_built}
+use Rattle.xc_story.specs.Rows.{IsEnding, IsReady, IsReplyInTime, IsSameBegin, IsSamePosition, IsSpent, Parts, asked_at, beginning_job, body_at, is_built}
 use Rattle.xc_story.specs.Rows.{new_tx, noting, with_tx}
 use Rattle.xc_story.specs.Told.{AreAttempts, IsDoing, IsInPhase, IsCommitting, IsJobTold, IsRunning, IsStanding, IsUndoing, IsUnderway}
 use Rattle.xc_turns.proofs.StoryAsks.{answered-more, asks-more, asks-count}
@@ -52,13 +52,13 @@ given_up s f (Some a) c spent are =
 -- it ends as its story does
 end_told : (s : Setting) (now : Now) (f : Following) (job : SeenJob) (end : JobEnd) → IsEnding s now job end → AreAttempts f job.attempts
     → f.starved ≡ false → job.place ≡ at_begin f.job → IsEnd s (begun_count now) f end
-end_told s now f job job_end.Done ending are goes place = (goes, ap (λ (p : Place). body_at s p) (sym place) ∙ ending)
+end_told s now f job job_end.Done ending are goes place = (goes, ap (λ (p : Position). body_at s p) (sym place) ∙ ending)
 end_told s now f job (job_end.GaveUp c) ending are goes place =
-    (goes, subst (λ (p : Place). IsSome (body_at s p)) place ending.0, given_up s f job.attempts c ending.1 are)
+    (goes, subst (λ (p : Position). IsSome (body_at s p)) place ending.0, given_up s f job.attempts c ending.1 are)
 end_told s now f job job_end.JournalFull ending are goes place =
     let few : length f.failed < s.rules.attempts = let lt = ending.1 in let same = attempts_count f job.attempts are in omega arith in
-    (goes, subst (λ (p : Place). IsSome (body_at s p)) place ending.0, few, ending.2)
-end_told s now f job job_end.NoMemory ending are goes place = subst (λ (p : Place). IsSome (body_at s p)) place ending
+    (goes, subst (λ (p : Position). IsSome (body_at s p)) place ending.0, few, ending.2)
+end_told s now f job job_end.NoMemory ending are goes place = subst (λ (p : Position). IsSome (body_at s p)) place ending
 
 -- an idle job that ends
 pub ended_told : (s : Setting) (now : Now) (entered : ℕ) (f : Following) (job : SeenJob) (end : JobEnd) → job.doing ≡ Idle → IsEnding s now job end
@@ -83,20 +83,20 @@ begun_underway s now f job ready are goes place since fresh =
     let none : job.me.stored ≡ 0 = ap (λ (m : Private). m.stored) fresh in
     record {
       goes_on = goes;
-      left = subst (λ (p : Place). IsSome (body_at s p)) place ready.left;
+      left = subst (λ (p : Position). IsSome (body_at s p)) place ready.left;
       attempts = let lt = ready.attempts in let same = attempts_count f job.attempts are in omega arith;
       rank = attempts_rank f job.attempts (begun_count now + 1) are;
       since = since;
       standing = record {
-        block = ap (λ (p : Place). p.block) place;
-        next = ap (λ (p : Place). p.next) place;
-        begun = ap (λ (p : Place). p.variables) place;
+        block = ap (λ (p : Position). p.block) place;
+        next = ap (λ (p : Position). p.next) place;
+        begun = ap (λ (p : Position). p.variables) place;
       };
       asked = refl;
       kept = refl;
       built = refl;
       stored = omega arith;
-      phase = record { ahead = ap (λ (p : Place). walk_of s.script (record p { begun = p.variables })) place; none = refl; no_ends = refl };
+      phase = record { ahead = ap (λ (p : Position). walk_of s.script (record p { begun = p.variables })) place; none = refl; no_ends = refl };
     }
 
 -- an idle job whose next transaction begins
@@ -115,7 +115,7 @@ begun_told s now f job idle ready told =
 
 -- ---- a job with an active transaction that stays active
 -- its story goes on where its transaction does
-pub active_told : (s : Setting) (begun entered : ℕ) (f : Following) (job : SeenJob) (place : Place) (tx next : SeenTx) → job.doing ≡ Active tx
+pub active_told : (s : Setting) (begun entered : ℕ) (f : Following) (job : SeenJob) (place : Position) (tx next : SeenTx) → job.doing ≡ Active tx
     → (IsUnderway s f job.place tx → IsUnderway s f place next)
     → IsJobTold s begun entered f job → IsJobTold s begun entered f (with_tx job place next)
 active_told s begun entered f job place tx next active moves told =
@@ -129,16 +129,16 @@ active_told s begun entered f job place tx next active moves told =
     }
 
 -- the same begin stands in the same transaction
-pub same_standing : (f : Following) (old new : Place) → IsSameBegin old new → IsStanding f old → IsStanding f new
+pub same_standing : (f : Following) (old new : Position) → IsSameBegin old new → IsStanding f old → IsStanding f new
 same_standing f old new same stands =
     record { block = same.block ∙ stands.block; next = same.next ∙ stands.next; begun = same.begun ∙ stands.begun }
 
 -- a running one's phase
-pub running_phase : (s : Setting) (f : Following) (place : Place) (tx : SeenTx) → tx.phase ≡ Running → IsUnderway s f place tx → IsRunning s f place tx
+pub running_phase : (s : Setting) (f : Following) (place : Position) (tx : SeenTx) → tx.phase ≡ Running → IsUnderway s f place tx → IsRunning s f place tx
 running_phase s f place tx runs under = subst (IsInPhase s f place tx) runs under.phase
 
 -- behind a call
-pub called_underway : (w : World) (s : Setting) (f : Following) (old new : Place) (tx : SeenTx) (call : Call) (reply : Reply) (claims : List Claim)
+pub called_underway : (w : World) (s : Setting) (f : Following) (old new : Position) (tx : SeenTx) (call : Call) (reply : Reply) (claims : List Claim)
     (parts : Parts) (made : List Undo)
     → tx.phase ≡ Running → asks (walk_of s.script old) ≡ ask.Call call → IsSameBegin old new → walk_of s.script new ≡ answered (walk_of s.script old) reply
     → IsReplyInTime tx.me tx.number call reply → is_built call ≡ true → parts.undo ≡ record tx.undo { pending = tx.undo.pending ++ made }
@@ -167,8 +167,8 @@ called_underway w s f old new tx call reply claims parts made runs asked same be
     }
 
 -- on its way back
-pub back_underway : (s : Setting) (f : Following) (old new : Place) (tx : SeenTx) (c : Cause) (undo : Records) (held : List Claim)
-    → undo.ended ≡ tx.undo.ended → tx.phase ≡ Running → IsSamePlace s old new
+pub back_underway : (s : Setting) (f : Following) (old new : Position) (tx : SeenTx) (c : Cause) (undo : Records) (held : List Claim)
+    → undo.ended ≡ tx.undo.ended → tx.phase ≡ Running → IsSamePosition s old new
     → (next_of s.script f tx.replies ≡ asked_at s old → IsCauseOf c (next_of s.script f tx.replies))
     → IsUnderway s f old tx → IsUnderway s f new (record tx { phase = Undoing c; undo = undo; held = held })
 back_underway s f old new tx c undo held ended runs same caused under =
@@ -192,7 +192,7 @@ back_underway s f old new tx c undo held ended runs same caused under =
     }
 
 -- over to its commit
-pub commits_underway : (s : Setting) (f : Following) (old new : Place) (tx : SeenTx) → tx.phase ≡ Running → IsSamePlace s old new → IsSettled s.script new
+pub commits_underway : (s : Setting) (f : Following) (old new : Position) (tx : SeenTx) → tx.phase ≡ Running → IsSamePosition s old new → IsSettled s.script new
     → asked_at s old ≡ ask.Commit → IsUnderway s f old tx → IsUnderway s f new (record tx { phase = Committing })
 commits_underway s f old new tx runs same settled asked under =
     let running = running_phase s f old tx runs under in
@@ -217,7 +217,7 @@ commits_underway s f old new tx runs same settled asked under =
     }
 
 -- behind a late call
-pub ended_underway : (s : Setting) (f : Following) (place : Place) (tx : SeenTx) (end : LateEnd) → tx.phase ≡ Committing → length tx.ends < length tx.late
+pub ended_underway : (s : Setting) (f : Following) (place : Position) (tx : SeenTx) (end : LateEnd) → tx.phase ≡ Committing → length tx.ends < length tx.late
     → IsUnderway s f place tx → IsUnderway s f place (record tx { ends = tx.ends ++ end ∷ [] })
 ended_underway s f place tx end commits some under =
     let next : SeenTx = record tx { ends = tx.ends ++ end ∷ [] } in
@@ -244,7 +244,7 @@ ended_underway s f place tx end commits some under =
     }
 
 -- behind a compensation
-pub tried_underway : (s : Setting) (f : Following) (place : Place) (tx : SeenTx) (c : Cause) (older : List Undo) (u : Undo) (end : UndoEnd)
+pub tried_underway : (s : Setting) (f : Following) (place : Position) (tx : SeenTx) (c : Cause) (older : List Undo) (u : Undo) (end : UndoEnd)
     → tx.phase ≡ Undoing c → tx.undo.pending ≡ older ++ u ∷ [] → IsLegalEnd s.rules.undo_tries u end (way_of older u tx.undo)
     → IsUnderway s f place tx → IsUnderway s f place (record tx { undo = record { pending = older; ended = (u, end) ∷ tx.undo.ended } })
 tried_underway s f place tx c older u end undoes newest legal under =

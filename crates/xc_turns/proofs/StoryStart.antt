@@ -68,9 +68,9 @@ none_begun =
       by_now = λ a in_a. absurd (let none = in_a.1 in omega arith);
     }
 
-start_told : (s : Setting) (words : ℕ) → AreTold s words [] (opened_jobs s.script s.script.plain.jobs)
+start_told : (s : Setting) (words : ℕ) → AreTold s words [] (opened_jobs s.script s.script.outline.jobs)
 start_told s words =
-    let names = s.script.plain.jobs in
+    let names = s.script.outline.jobs in
     let jobs = opened_jobs s.script names in
     record {
       entries = tt;
@@ -107,12 +107,12 @@ start_counted script names faults =
 -- a start keeps all
 pub start_kept : (s : Setting) (now : Now) → IsOpening s.script now → IsKept s now.faults now
 start_kept s now opening =
-    let names = s.script.plain.jobs in
-    let first : Now = record now { words = s.script.plain.words; journal = []; jobs = opened_jobs s.script names } in
+    let names = s.script.outline.jobs in
+    let first : Now = record now { words = s.script.outline.words; journal = []; jobs = opened_jobs s.script names } in
     let same : now ≡ first = λ i. record now { words = opening.words i; journal = opening.journal i; jobs = opening.jobs i } in
     let kept : IsKept s now.faults first = record {
-      told = start_told s (length s.script.plain.words);
-      spoken = start_spoken s.script names s.script.plain.words;
+      told = start_told s (length s.script.outline.words);
+      spoken = start_spoken s.script names s.script.outline.words;
       apart = start_apart s.script names;
       counted = start_counted s.script names now.faults;
     } in

@@ -17,7 +17,7 @@ use Rattle.xc_data.specs.declared.undo.Undo.{Undo}
 use Rattle.xc_host.specs.Contents.{world_of}
 use Rattle.xc_script.specs.declared.ask.Ask.{Ask}
 use Rattle.xc_script.specs.declared.ask.Ask.TheVariants as ask
-use Rattle.xc_script.specs.Place.{Place, is_call}
+use Rattle.xc_script.specs.Position.{Position, is_call}
 use Rattle.xc_story.specs.declared.phase.Phase.{Phase}
 use Rattle.xc_story.specs.declared.phase.Phase.TheVariants.{Running, Committing, Undoing}
 use Rattle.xc_story.specs.Setting.{Setting}
@@ -97,7 +97,7 @@ module _ (s : Setting) (at : ℕ) (old new : Now) (job : SeenJob) (b : Before s 
   starved_row turn.NoMemory starved row = absurd row
 
   -- ---- a job with an active transaction that stays active
-  active_row : (place : Place) (tx next : SeenTx) → job.doing ≡ Active tx → active_begin next ≡ active_begin tx
+  active_row : (place : Position) (tx next : SeenTx) → job.doing ≡ Active tx → active_begin next ≡ active_begin tx
       → ((f : Following) → IsUnderway s f job.place tx → IsUnderway s f place next)
       → new.journal ≡ old.journal → new.jobs ≡ slice_set old.jobs at (with_tx job place next) → After
   active_row place tx next active same moves journal jobs =

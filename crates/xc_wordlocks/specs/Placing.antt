@@ -12,13 +12,14 @@ use Rattle.xc_wordlocks.specs.Table.{Table, mode_of, KeepsOthers}
 abbrev pub is_claimed : List Claim → Object → Bool
 is_claimed claims o = list_any (λ (c : Claim). is_object c.object o) claims
 
--- the transaction holds what these claims are on: what it didn't hold before, Shared, and that was added to its row
-pub record Placed (tx : ℕ) (claims : List Claim) (was now : Table) (front row : List Object) : Type 0 where
-  pub added : List Object
-  pub rows : row ≡ front ++ added
-  pub new : (o : Object) → has added o ≡ true → mode_of was tx o ≡ None
-  pub shared : (o : Object) → has added o ≡ true → mode_of now tx o ≡ Some Shared
-  pub asked : (o : Object) → has added o ≡ true → is_claimed claims o ≡ true
-  pub kept : (o : Object) → has added o ≡ false → mode_of now tx o ≡ mode_of was tx o
-  pub held : All (λ (c : Claim). IsSome (mode_of now tx c.object)) claims
-  pub others : KeepsOthers tx was now
+module _ (tx : ℕ) (claims : List Claim) (was now : Table) where
+  -- the transaction holds what these claims are on: what it didn't hold before, Shared, and that was added to its row
+  pub record Placed (front row : List Object) : Type 0 where
+    pub added : List Object
+    pub rows : row ≡ front ++ added
+    pub new : (o : Object) → has added o ≡ true → mode_of was tx o ≡ None
+    pub shared : (o : Object) → has added o ≡ true → mode_of now tx o ≡ Some Shared
+    pub asked : (o : Object) → has added o ≡ true → is_claimed claims o ≡ true
+    pub kept : (o : Object) → has added o ≡ false → mode_of now tx o ≡ mode_of was tx o
+    pub held : All (λ (c : Claim). IsSome (mode_of now tx c.object)) claims
+    pub others : KeepsOthers tx was now

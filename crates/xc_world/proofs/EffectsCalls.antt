@@ -17,7 +17,7 @@ use Rattle.xc_data.specs.declared.private.Place.TheVariants.{Vacant, File, Pipe,
 use Rattle.xc_data.specs.declared.private.Private.{Private}
 use Rattle.xc_data.specs.Private.{place_of, with_place, lowest_vacant}
 use Rattle.xc_world.specs.World.{World, file_of, with_file}
-use Rattle.xc_world.specs.Act.Step.{Stepped, stays}
+use Rattle.xc_world.specs.Act.Step.{Stepped, step_to}
 use Rattle.xc_world.specs.Act.Names.{next_num, opened, created, renamed}
 use Rattle.xc_world.specs.Act.Files.{got, read_at, overwritten, put, overwrite_at, appended, append_at, seek_at, len_at, overwrite_short, append_short}
 use Rattle.xc_world.specs.Act.Pipes.{new_pipe, pair_made, new_pair}
@@ -60,7 +60,7 @@ overwrite_at-leads : (w : World) (me : Private) (h : ℕ) (bytes : List ℕ) (p 
 overwrite_at-leads w me h bytes (File num at) =
     let before = take (length bytes) (drop at (file_of w num)) in
     cond_both (length bytes == 0) _ _ (LeadsOverwrite w bytes (File num at)) (λ none. none_leads w _ (length bytes == 0) none) (λ some.
-    cond_both (nat_lt (length (file_of w num)) (at + length bytes)) (stays w me reply.PastEnd) (put w me h num at bytes reply.Done)
+    cond_both (nat_lt (length (file_of w num)) (at + length bytes)) (step_to w me reply.PastEnd) (put w me h num at bytes reply.Done)
     (LeadsOverwrite w bytes (File num at)) (λ _. refl) (λ _.
     one_leads w _ (Bytes num at before bytes (length bytes) ∷ []) (length bytes == 0) some
     (put-leads w num at (length bytes) before bytes bytes (sym (take_all (length bytes) bytes (omega arith))))))
@@ -89,7 +89,7 @@ append_at-leads : (w : World) (me : Private) (h : ℕ) (bytes : List ℕ) (p : P
 append_at-leads w me h bytes (File num at) =
     let from = length (file_of w num) in
     cond_both (length bytes == 0) _ _ (LeadsAppend w bytes (File num at)) (λ none. none_leads w _ (length bytes == 0) none) (λ some.
-    cond_both (nat_lt 65536 (from + length bytes)) (stays w me reply.TooBig) (appended w me h num bytes reply.Done) (LeadsAppend w bytes (File num at))
+    cond_both (nat_lt 65536 (from + length bytes)) (step_to w me reply.TooBig) (appended w me h num bytes reply.Done) (LeadsAppend w bytes (File num at))
     (λ _. refl) (λ _.
     one_leads w _ (Tail num from bytes (length bytes) ∷ []) (length bytes == 0) some
     (appended-leads w num from (length bytes) bytes bytes (sym (take_all (length bytes) bytes (omega arith))))))
@@ -144,8 +144,8 @@ new_pair-leads w me tx (Some h) =
 -- ---- calls on files that change none
 read_at-leads : (w : World) (me : Private) (h n : ℕ) (p : Place) → Rests w (read_at w me h n p)
 read_at-leads w me h n (File num at) =
-    cond_both (n == 0) (stays w me (reply.Got [])) _ (Rests w) (λ _. refl) (λ _.
-    cond_both (nat_le (length (file_of w num)) at) (stays w me reply.End) (got w me h num at (take n (drop at (file_of w num)))) (Rests w) (λ _. refl)
+    cond_both (n == 0) (step_to w me (reply.Got [])) _ (Rests w) (λ _. refl) (λ _.
+    cond_both (nat_le (length (file_of w num)) at) (step_to w me reply.End) (got w me h num at (take n (drop at (file_of w num)))) (Rests w) (λ _. refl)
     (λ _. refl))
 read_at-leads w me h n Vacant = refl
 read_at-leads w me h n (Pipe num) = refl

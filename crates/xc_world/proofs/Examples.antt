@@ -19,7 +19,7 @@ use Rattle.xc_maps.proofs.Maps.{num_total, num_exact}
 use Rattle.xc_maps.proofs.Laws.{get-insert_same}
 use Rattle.xc_world.specs.World.{World, Pipe, Pair, with_file, with_pipe, with_pair}
 use Rattle.xc_world.specs.Act.{act}
-use Rattle.xc_world.specs.Act.Step.{stays}
+use Rattle.xc_world.specs.Act.Step.{step_to}
 use Rattle.xc_world.specs.Late.{late, ends}
 
 abbrev first_num : Num
@@ -67,35 +67,35 @@ pair_there pair = get-insert_same num_total num_exact map.empty first_num pair
 -- an overwrite from the second byte on, and its two bytes are stored
 pub overwrites_the_middle :
     act with_hello (holding (place.File first_num 1)) 1 (call.XWriteOvr 0 (codes "EL")) answer.Fine
-    ≡ stays (with_file with_hello first_num (codes "hELlo")) (record (holding (place.File first_num 3)) { stored = 2 }) reply.Done
+    ≡ step_to (with_file with_hello first_num (codes "hELlo")) (record (holding (place.File first_num 3)) { stored = 2 }) reply.Done
 overwrites_the_middle = rw hello_there refl
 
 -- an overwrite that fails after one byte did that byte
 pub overwrites_one_byte :
     act with_hello (holding (place.File first_num 1)) 1 (call.XWriteOvr 0 (codes "EL")) (answer.Fault 1)
-    ≡ stays (with_file with_hello first_num (codes "hEllo")) (record (holding (place.File first_num 2)) { stored = 2 }) (reply.Fault 1)
+    ≡ step_to (with_file with_hello first_num (codes "hEllo")) (record (holding (place.File first_num 2)) { stored = 2 }) (reply.Fault 1)
 overwrites_one_byte = rw hello_there refl
 
 -- an overwrite past the end changes nothing
 pub overwrites_nothing_past_the_end :
     act with_hello (holding (place.File first_num 4)) 1 (call.XWriteOvr 0 (codes "EL")) answer.Fine
-    ≡ stays with_hello (record (holding (place.File first_num 4)) { stored = 2 }) reply.PastEnd
+    ≡ step_to with_hello (record (holding (place.File first_num 4)) { stored = 2 }) reply.PastEnd
 overwrites_nothing_past_the_end = rw hello_there refl
 
 -- an append from the middle moves the position to the new end
 pub appends_behind_the_end :
     act with_hello (holding (place.File first_num 1)) 1 (call.XWriteSeq 0 (codes "!")) answer.Fine
-    ≡ stays (with_file with_hello first_num (codes "hello!")) (record (holding (place.File first_num 6)) { stored = 1 }) reply.Done
+    ≡ step_to (with_file with_hello first_num (codes "hello!")) (record (holding (place.File first_num 6)) { stored = 1 }) reply.Done
 appends_behind_the_end = rw hello_there refl
 
 -- a read at the end
 pub reads_the_end :
-    act with_hello (holding (place.File first_num 5)) 1 (call.XRead 0 9) answer.Fine ≡ stays with_hello (holding (place.File first_num 5)) reply.End
+    act with_hello (holding (place.File first_num 5)) 1 (call.XRead 0 9) answer.Fine ≡ step_to with_hello (holding (place.File first_num 5)) reply.End
 reads_the_end = rw hello_there refl
 
 -- a rename of a name onto itself
 pub renames_onto_itself :
-    act with_hello (holding place.Vacant) 1 (call.XRename (codes "a") (codes "a")) answer.Fine ≡ stays with_hello (holding place.Vacant) reply.Exists
+    act with_hello (holding place.Vacant) 1 (call.XRename (codes "a") (codes "a")) answer.Fine ≡ step_to with_hello (holding place.Vacant) reply.Exists
 renames_onto_itself = rw name_there refl
 
 -- an unlink takes the name and leaves the file

@@ -20,7 +20,7 @@ use Rattle.xc_data.specs.declared.private.Private.{Private}
 use Rattle.xc_data.specs.Private.{place_of, with_place, lowest_vacant}
 use Rattle.xc_world.specs.World.{World, Pipe, Pair, file_of, pipe_of, pair_of, empty_pipe, empty_pair, waiting, with_waiting}
 use Rattle.xc_world.specs.Act.{fine, faulty, done}
-use Rattle.xc_world.specs.Act.Step.{Stepped, stays}
+use Rattle.xc_world.specs.Act.Step.{Stepped, step_to}
 use Rattle.xc_world.specs.Act.Names.{next_num, opened, created, renamed}
 use Rattle.xc_world.specs.Act.Files.{read_at, overwritten, put, overwrite_at, appended, append_at, seek_at, len_at, overwrite_short, append_short}
 use Rattle.xc_world.specs.Act.Pipes.{nothing, new_pipe, read_pipe_at, pair_made, new_pair, received, receive_at}
@@ -45,15 +45,15 @@ has_it (place.Pair num side) more = first_in (object.Pair num) more
 module _ (objects : List Object) (w v : World) where
   -- ---- what both steps do
   pub changed : (x y : World) (me you : Private) (r q : Reply) → me ≡ you → r ≡ q → GoAlike objects w v x y
-      → ActsAlike objects w v (stays x me r) (stays y you q)
+      → ActsAlike objects w v (step_to x me r) (step_to y you q)
   changed x y me you r q same e worlds = record { reply = e; me = same; worlds = worlds }
 
   -- a call that changes neither world gives the same in both
-  pub looked : (me you : Private) (r q : Reply) → me ≡ you → r ≡ q → All (AgreeAt w v) objects → ActsAlike objects w v (stays w me r) (stays v you q)
+  pub looked : (me you : Private) (r q : Reply) → me ≡ you → r ≡ q → All (AgreeAt w v) objects → ActsAlike objects w v (step_to w me r) (step_to v you q)
   looked me you r q same e agree = changed w v me you r q same e (same_alike objects w v agree)
 
   -- a call that changes nothing gives the same in both worlds
-  pub quiet : (me : Private) (r : Reply) → All (AgreeAt w v) objects → ActsAlike objects w v (stays w me r) (stays v me r)
+  pub quiet : (me : Private) (r : Reply) → All (AgreeAt w v) objects → ActsAlike objects w v (step_to w me r) (step_to v me r)
   quiet me r agree = looked me me r r refl refl agree
 
   -- ---- what both worlds have at an object of the list

@@ -15,7 +15,7 @@ use Rattle.xc_data.specs.Private.{place_of, with_place, lowest_vacant}
 use Rattle.xc_world.specs.World.{World, file_of, pipe_of, pair_of, waiting}
 use Rattle.xc_world.specs.Checks.{is_bad_handle, is_too_big, is_too_much, is_bad_word, is_refused, refusal}
 use Rattle.xc_world.specs.Act.{act, fine, faulty, done}
-use Rattle.xc_world.specs.Act.Step.{Stepped, stays, counted}
+use Rattle.xc_world.specs.Act.Step.{Stepped, step_to, counted}
 use Rattle.xc_world.specs.Act.Names.{next_num, opened, created, renamed}
 use Rattle.xc_world.specs.Act.Files.{read_at, overwrite_at, append_at, seek_at, len_at, overwrite_short, append_short}
 use Rattle.xc_world.specs.Act.Pipes.{new_pipe, read_pipe_at, pair_made, new_pair, received, receive_at}
@@ -138,9 +138,9 @@ act_refused w me tx c a =
 -- ---- a private refusal
 -- the first check that refuses gives the reply
 first_refusal : (w : World) (me : Private) (a b c d : Bool) (s : Stepped) → (a || b || c || d) ≡ true
-    → (if a then stays w me reply.BadHandle else if b then stays w me reply.TooBig else if c then stays w me reply.TooMuch
-    else if d then stays w me reply.BadWord else s)
-    ≡ stays w me (if a then reply.BadHandle else if b then reply.TooBig else if c then reply.TooMuch else reply.BadWord)
+    → (if a then step_to w me reply.BadHandle else if b then step_to w me reply.TooBig else if c then step_to w me reply.TooMuch
+    else if d then step_to w me reply.BadWord else s)
+    ≡ step_to w me (if a then reply.BadHandle else if b then reply.TooBig else if c then reply.TooMuch else reply.BadWord)
 first_refusal w me true b c d s e = refl
 first_refusal w me false true c d s e = refl
 first_refusal w me false false true d s e = refl
@@ -149,6 +149,6 @@ first_refusal w me false false false false s e = cc
 
 -- a call that a private check refuses leaves the world and the private state
 pub act_refused_whole : (w : World) (me : Private) (tx : ℕ) (call : Call) (answer : Answer) → IsTrue (is_refused call me (length w.words))
-    → act w me tx call answer ≡ stays w me (refusal call me)
+    → act w me tx call answer ≡ step_to w me (refusal call me)
 act_refused_whole w me tx c a e =
     first_refusal w me (is_bad_handle c me) (is_too_big c) (is_too_much c me) (is_bad_word c (length w.words)) (counted c (done w me tx c a)) e

@@ -7,7 +7,7 @@ use Rattle.std.proofs.lemmas.List.Elements.{All-nil, All-cons, All-head, All-tai
 use Rattle.xc_data.specs.declared.object.Num.{Num}
 use Rattle.xc_data.specs.declared.script.Opened.{Opened}
 use Rattle.xc_data.specs.declared.script.Opened.TheVariants as opened
-use Rattle.xc_data.specs.declared.script.Script0.{Script0}
+use Rattle.xc_data.specs.declared.script.Outline.{Outline}
 use Rattle.xc_data.specs.declared.private.Place.{Place}
 use Rattle.xc_data.specs.declared.private.Place.TheVariants as place
 use Rattle.xc_data.specs.Private.{place_of}
@@ -92,7 +92,7 @@ place_in P [] n h vacant all = subst P (sym (vacant_at n h)) vacant
 place_in P (p ∷ places) n zero vacant all = All-head P p places all
 place_in P (p ∷ places) n (suc h) vacant all = place_in P places n h vacant (All-tail P p places all)
 
-bare_fit : (script : Script0) → IsFit (bare script)
+bare_fit : (script : Outline) → IsFit (bare script)
 bare_fit script =
     record {
       files = λ q. subst (λ (o : Option (List ℕ)). length (unwrap_or o []) ≤ 65536) (sym (map.get-empty num_cmp q)) (omega arith);
@@ -100,11 +100,11 @@ bare_fit script =
       names = λ name num e. let none : None ≡ Some num = sym (map.get-empty name_cmp name) ∙ e in cc;
     }
 
-bare_free : (script : Script0) (q : Num) → IsFree (bare script) q
+bare_free : (script : Outline) (q : Num) → IsFree (bare script) q
 bare_free script q = record { file = map.get-empty num_cmp q; pipe = map.get-empty num_cmp q; pair = map.get-empty num_cmp q }
 
 -- a script within its limits opens a sound world
-pub opening_sound : (script : Script0) → KeepsLimits script → (tx : ℕ) → 0 < tx → IsSound (opening script) (beginning (opening_handles script)) tx
+pub opening_sound : (script : Outline) → KeepsLimits script → (tx : ℕ) → 0 < tx → IsSound (opening script) (beginning (opening_handles script)) tx
 opening_sound script limits tx lt =
     let objects = script.prologue.objects in
     let all = all_opened (bare script) 0 objects limits.prologue.contents (bare_fit script) in

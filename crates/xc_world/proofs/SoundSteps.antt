@@ -9,7 +9,7 @@ use Rattle.xc_data.specs.declared.private.Private.{Private}
 use Rattle.xc_data.specs.Private.{place_of, with_place}
 use Rattle.xc_world.specs.World.{World}
 use Rattle.xc_world.specs.Sound.{IsFit, IsKnown, IsSound}
-use Rattle.xc_world.specs.Act.Step.{Stepped, stays, storing}
+use Rattle.xc_world.specs.Act.Step.{Stepped, step_to, storing}
 use Rattle.xc_world.specs.Act.Names.{next_num, making}
 use Rattle.xc_world.proofs.SoundParts.{Keeps, Adds, keeps_itself, keeps_all}
 
@@ -82,5 +82,5 @@ pub adds_nothing : (w : World) (num : Num) → IsFit w → Adds w w num
 adds_nothing w num fit = keeps_all w w num (keeps_itself true w fit) refl
 
 -- a call that changes nothing steps well
-pub quiet : (w : World) (me : Private) (tx n : ℕ) (r : Reply) → got_length r ≤ n → IsSound w me tx → StepsWell w tx me n (stays w me r)
+pub quiet : (w : World) (me : Private) (tx n : ℕ) (r : Reply) → got_length r ≤ n → IsSound w me tx → StepsWell w tx me n (step_to w me r)
 quiet w me tx n r le s = record { sound = s; grows = adds_nothing w (next_num me tx) s.world; stored = refl; got = le }

@@ -26,7 +26,7 @@ use Rattle.xc_maps.proofs.Maps.{num_total, num_exact}
 use Rattle.xc_maps.proofs.Laws.{get-insert_same, get-insert_other, insert-get_same, insert-insert_same, insert-insert_other}
 use Rattle.xc_world.specs.World.{World, Pipe, Pair, pipe_of, pair_of, empty_pipe, empty_pair, with_pipe, with_pair, waiting, with_waiting}
 use Rattle.xc_world.specs.Act.{act, done}
-use Rattle.xc_world.specs.Act.Step.{Stepped, stays}
+use Rattle.xc_world.specs.Act.Step.{Stepped, step_to}
 use Rattle.xc_world.specs.Act.Names.{next_num}
 use Rattle.xc_world.specs.Act.Pipes.{nothing, took, read_pipe_at, received, receive_at}
 use Rattle.xc_world.specs.Fits.{fits}
@@ -200,7 +200,7 @@ pub record TakesBack (w : World) (me : Private) (c : Call) (s : Stepped) : Type 
   pub there : All (Stands s.world) (taken_by c me s.reply)
   pub words : s.world.words ≡ w.words
 
-takes_nothing : (w : World) (me : Private) (c : Call) (r : Reply) (you : Private) → taken_by c me r ≡ [] → TakesBack w me c (stays w you r)
+takes_nothing : (w : World) (me : Private) (c : Call) (r : Reply) (you : Private) → taken_by c me r ≡ [] → TakesBack w me c (step_to w you r)
 takes_nothing w me c r you e = record { back = ap (given_back w) e; there = subst (All (Stands w)) (sym e) (All-nil (Stands w)); words = refl }
 
 -- put back where it was taken from

@@ -18,7 +18,7 @@ use Rattle.xc_world.specs.World.{World}
 use Rattle.xc_world.specs.Sound.{IsFree, IsSound}
 use Rattle.xc_world.specs.Act.Names.{next_num}
 use Rattle.xc_world.specs.Checks.{bytes_of, is_bad_handle, is_too_big, is_too_much, is_bad_word, is_refused}
-use Rattle.xc_world.specs.Act.Step.{Stepped, stays, counted}
+use Rattle.xc_world.specs.Act.Step.{Stepped, step_to, counted}
 use Rattle.xc_world.specs.Act.{fine, faulty, done, act}
 use Rattle.xc_world.specs.Fits.{fits, asks_host, may_stop, is_write, is_done}
 use Rattle.xc_world.specs.Run.{Ran, body, body_fits}
@@ -126,7 +126,7 @@ done-undoes w me tx c (answer.Fault n) sound fit = faulty-undoes w me tx c n sou
 
 -- a call is refused by a check, or is done
 pub act-cases : (w : World) (me : Private) (tx : ℕ) (c : Call) (a : Answer) (P : Stepped → Type 0)
-    → P (stays w me reply.BadHandle) → P (stays w me reply.TooBig) → P (stays w me reply.TooMuch) → P (stays w me reply.BadWord)
+    → P (step_to w me reply.BadHandle) → P (step_to w me reply.TooBig) → P (step_to w me reply.TooMuch) → P (step_to w me reply.BadWord)
     → P (counted c (done w me tx c a)) → P (act w me tx c a)
 act-cases w me tx c a P bad_handle too_big too_much bad_word passed =
     cond_both (is_bad_handle c me) _ _ P (λ _. bad_handle) (λ _.

@@ -26,40 +26,41 @@ takes_data (call.XRecvmsg h) = true
 takes_data _ = false
 
 -- ---- records that were made one after another, each in the world that the ones before it left
--- the file is there, all the new bytes lie within it, and the old ones stood under them; some of them were written
-pub record IsOverwriteIn (w : World) (file : Num) (at : ℕ) (before after : List ℕ) (n : ℕ) : Type 0 where
-  pub there : is_some (finite.get w.files file) ≡ true
-  pub inside : at + length after ≤ length (file_of w file)
-  pub old : before ≡ take (length after) (drop at (file_of w file))
-  pub some : 1 ≤ n
-  pub within : n ≤ length after
+module _ (w : World) where
+  -- the file is there, all the new bytes lie within it, and the old ones stood under them; some of them were written
+  pub record IsOverwriteIn (file : Num) (at : ℕ) (before after : List ℕ) (n : ℕ) : Type 0 where
+    pub there : is_some (finite.get w.files file) ≡ true
+    pub inside : at + length after ≤ length (file_of w file)
+    pub old : before ≡ take (length after) (drop at (file_of w file))
+    pub some : 1 ≤ n
+    pub within : n ≤ length after
 
--- the file is there, as long as the record says, with room for all the new bytes; some of them were appended
-pub record IsAppendIn (w : World) (file : Num) (from : ℕ) (after : List ℕ) (n : ℕ) : Type 0 where
-  pub there : is_some (finite.get w.files file) ≡ true
-  pub size : length (file_of w file) ≡ from
-  pub room : from + length after ≤ 65536
-  pub some : 1 ≤ n
-  pub within : n ≤ length after
+  -- the file is there, as long as the record says, with room for all the new bytes; some of them were appended
+  pub record IsAppendIn (file : Num) (from : ℕ) (after : List ℕ) (n : ℕ) : Type 0 where
+    pub there : is_some (finite.get w.files file) ≡ true
+    pub size : length (file_of w file) ≡ from
+    pub room : from + length after ≤ 65536
+    pub some : 1 ≤ n
+    pub within : n ≤ length after
 
--- neither the name nor a file of this number is there
-pub record IsNewFileIn (w : World) (name : List ℕ) (num : Num) : Type 0 where
-  pub unnamed : finite.get w.names name ≡ None
-  pub absent : finite.get w.files num ≡ None
+  -- neither the name nor a file of this number is there
+  pub record IsNewFileIn (name : List ℕ) (num : Num) : Type 0 where
+    pub unnamed : finite.get w.names name ≡ None
+    pub absent : finite.get w.files num ≡ None
 
--- the old name has a file, and the new one none
-pub record IsRenameIn (w : World) (from to : List ℕ) : Type 0 where
-  pub there : is_some (finite.get w.names from) ≡ true
-  pub vacant : finite.get w.names to ≡ None
+  -- the old name has a file, and the new one none
+  pub record IsRenameIn (from to : List ℕ) : Type 0 where
+    pub there : is_some (finite.get w.names from) ≡ true
+    pub vacant : finite.get w.names to ≡ None
 
--- what each kind of record asks of the world in which it is made
-abbrev pub IsMadeIn : World → Undo → Type 0
-IsMadeIn w (Bytes file at before after n) = IsOverwriteIn w file at before after n
-IsMadeIn w (Tail file from after n) = IsAppendIn w file from after n
-IsMadeIn w (Made name num) = IsNewFileIn w name num
-IsMadeIn w (Moved from to) = IsRenameIn w from to
-IsMadeIn w (NewPipe num) = finite.get w.pipes num ≡ None
-IsMadeIn w (NewPair num) = finite.get w.pairs num ≡ None
+  -- what each kind of record asks of the world in which it is made
+  abbrev pub IsMadeIn : Undo → Type 0
+  IsMadeIn (Bytes file at before after n) = IsOverwriteIn file at before after n
+  IsMadeIn (Tail file from after n) = IsAppendIn file from after n
+  IsMadeIn (Made name num) = IsNewFileIn name num
+  IsMadeIn (Moved from to) = IsRenameIn from to
+  IsMadeIn (NewPipe num) = finite.get w.pipes num ≡ None
+  IsMadeIn (NewPair num) = finite.get w.pairs num ≡ None
 
 -- each record was made in the world that the records before it leave
 abbrev pub AreMadeIn : World → List Undo → Type 0

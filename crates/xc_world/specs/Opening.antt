@@ -4,7 +4,7 @@ use Rattle.std.specs.FinMap as map
 use Rattle.xc_data.specs.declared.object.Num.{Num}
 use Rattle.xc_data.specs.declared.script.Opened.{Opened}
 use Rattle.xc_data.specs.declared.script.Opened.TheVariants as opened
-use Rattle.xc_data.specs.declared.script.Script0.{Script0}
+use Rattle.xc_data.specs.declared.script.Outline.{Outline}
 use Rattle.xc_data.specs.declared.private.Place.{Place}
 use Rattle.xc_data.specs.declared.private.Place.TheVariants as place
 use Rattle.xc_world.specs.World.{World, State, with_pipe, with_pair, empty_pair}
@@ -25,7 +25,7 @@ with_all_opened w k [] = w
 with_all_opened w k (o ∷ objects) = with_all_opened (with_opened w (line_num k) o) (k + 1) objects
 
 -- the script's words and blocks, its jobs started, and no object
-abbrev pub bare : Script0 → World
+abbrev pub bare : Outline → World
 bare script =
     record {
       words = script.words;
@@ -38,7 +38,7 @@ bare script =
     }
 
 -- the world that a script opens with
-abbrev pub opening : Script0 → World
+abbrev pub opening : Outline → World
 opening script = with_all_opened (bare script) 0 script.prologue.objects
 
 -- ---- the handles, in line order: a pipe has one, a pair has its two sides
@@ -49,9 +49,9 @@ handles_of k (opened.Pipe bytes ∷ objects) = place.Pipe (line_num k) ∷ handl
 handles_of k (opened.Pair ∷ objects) = place.Pair (line_num k) 0 ∷ place.Pair (line_num k) 1 ∷ handles_of (k + 1) objects
 
 -- all 256 places
-abbrev pub opening_handles : Script0 → List Place
+abbrev pub opening_handles : Outline → List Place
 opening_handles script = let handles = handles_of 0 script.prologue.objects in handles ++ replicate (256 - length handles) place.Vacant
 
 -- the world that a script opens with, and each job's handles
-abbrev pub opening_state : Script0 → State
+abbrev pub opening_state : Outline → State
 opening_state script = record { world = opening script; handles = replicate (length script.jobs) (opening_handles script) }

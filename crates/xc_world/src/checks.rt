@@ -2,7 +2,9 @@ ghost use Rattle.std.specs.Prelude.{◌≡◌, ◌<◌, ◌^◌, length, count_b
 ghost use Rattle.xc_data.specs.Private.{is_vacant};
 ghost use Rattle.xc_world.specs.Checks as check;
 
-use xc_data::{Call, Place, Private, Reply};
+use xc_data::{
+    Call, MOST_CALL_BYTES, MOST_FILE_BYTES, MOST_MADE, MOST_STORED, Place, Private, Reply,
+};
 
 fn is_file(place: Place) -> bool
     ensures { result ≡ check.is_file place }
@@ -43,9 +45,9 @@ pub fn is_too_big(call: &Call) -> bool
     ensures { result ≡ check.is_too_big call.now }
 {
     match call {
-        Call::XRead { n, .. } | Call::XReadPipe { n, .. } => *n > 1024,
-        Call::XSeek { to, .. } => *to > 65536,
-        _ => bytes_len(call) > 1024,
+        Call::XRead { n, .. } | Call::XReadPipe { n, .. } => *n > MOST_CALL_BYTES,
+        Call::XSeek { to, .. } => *to > MOST_FILE_BYTES,
+        _ => bytes_len(call) as u64 > MOST_CALL_BYTES,
     }
 }
 
@@ -65,13 +67,13 @@ pub fn bytes_len(call: &Call) -> usize
 fn passes_store(me: &Private, n: u64) -> bool
     ensures { result ≡ check.passes_store me.now n }
 {
-    (me.stored as u64).saturating_add(n) > 16384
+    (me.stored as u64).saturating_add(n) > MOST_STORED
 }
 
 fn has_made_all(me: &Private) -> bool
     ensures { result ≡ check.has_made_all me.now }
 {
-    me.made >= 16
+    me.made >= MOST_MADE
 }
 
 fn vacant_count(places: &[Place]) -> usize
@@ -86,7 +88,7 @@ pub fn is_too_much(call: &Call, me: &Private) -> bool
 {
     match call {
         Call::XRead { n, .. } | Call::XReadPipe { n, .. } => passes_store(me, *n),
-        Call::XRecvmsg { .. } => passes_store(me, 1024),
+        Call::XRecvmsg { .. } => passes_store(me, MOST_CALL_BYTES),
         Call::XWriteOvr { bytes, .. } | Call::XWriteSeq { bytes, .. } => {
             passes_store(me, bytes.len() as u64)
         }

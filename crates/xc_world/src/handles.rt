@@ -5,7 +5,7 @@ ghost use Rattle.xc_data.specs.Limits.{KeepsLimits};
 ghost use Rattle.xc_world.specs.Opening.{opening_handles, handles_of};
 
 use std::alloc::Global;
-use xc_data::{Items, NoMemory, Num, Opened, Place, Private, Script0};
+use xc_data::{Items, NoMemory, Num, Opened, Outline, Place, Private};
 
 // The handles that a line opens.
 fn push_handles(places: &mut Items<Place>, k: u16, opened: &Opened) -> Result<(), NoMemory>
@@ -46,7 +46,7 @@ fn holding(places: &[Place]) -> Private
 }
 
 /// The private state with which a job of the script begins.
-pub fn opening_private(alloc: Global, script: &Script0) -> Result<Private, NoMemory>
+pub fn opening_private(alloc: Global, script: &Outline) -> Result<Private, NoMemory>
     requires { KeepsLimits script.now }
     ensures { IfOk result (λ me. me ≡ beginning (opening_handles script.now)) }
 {

@@ -4,12 +4,12 @@ ghost use Rattle.xc_data.specs.declared.call.Answer.{Answer};
 ghost use Rattle.xc_data.specs.declared.call.LateCall.{LateCall};
 ghost use Rattle.xc_data.specs.declared.call.LateAnswer.{LateAnswer};
 ghost use Rattle.xc_data.specs.declared.private.Private.{Private};
-ghost use Rattle.xc_data.specs.declared.script.Script0.{Script0};
+ghost use Rattle.xc_data.specs.declared.script.Outline.{Outline};
 ghost use Rattle.xc_world.specs.World.{World, beginning};
 ghost use Rattle.xc_world.specs.Act.{act};
 ghost use Rattle.xc_world.specs.Late.{late, kept_call};
 ghost use Rattle.xc_world.specs.Checks.{is_refused, refusal};
-ghost use Rattle.xc_world.specs.Act.Step.{stays};
+ghost use Rattle.xc_world.specs.Act.Step.{step_to};
 ghost use Rattle.xc_world.specs.Fits.{fits, late_fits, is_within};
 ghost use Rattle.xc_world.specs.Touch.{touch, made_by};
 ghost use Rattle.xc_world.specs.Sound.{IsFit, IsSound, IsShortCall, names_there, IsReady};
@@ -26,7 +26,7 @@ pub fn a_refused_call_changes_nothing()
 /// A call that a private check refuses leaves the private state too, and nothing is counted.
 pub fn a_privately_refused_call_leaves_all()
     ensures { (w : World) (me : Private) (tx : ℕ) (call : Call) (answer : Answer) → IsTrue (is_refused call me (length w.words))
-        → act w me tx call answer ≡ stays w me (refusal call me) }
+        → act w me tx call answer ≡ step_to w me (refusal call me) }
 {}
 
 /// Whatever else two worlds hold: where they agree on what a call touches and makes, it replies the
@@ -75,7 +75,7 @@ pub fn a_late_call_keeps_all_sound()
 
 /// The opening of a script within its limits is sound for each job's first transaction.
 pub fn the_opening_is_sound()
-    ensures { (script : Script0) → KeepsLimits script → (tx : ℕ) → 0 < tx
+    ensures { (script : Outline) → KeepsLimits script → (tx : ℕ) → 0 < tx
         → IsSound (opening script) (beginning (opening_handles script)) tx }
 {}
 

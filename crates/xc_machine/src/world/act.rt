@@ -5,7 +5,7 @@ ghost use Rattle.xc_world.specs.Checks.{bytes_of, is_refused as refuses};
 ghost use Rattle.xc_world.specs.Fits.{fits};
 ghost use Rattle.xc_world.specs.Sound.{IsSound};
 ghost use Rattle.xc_world.specs.Act.{act, done, fine, faulty};
-ghost use Rattle.xc_world.specs.Act.Step.{stays, storing_call, storing_reply, IsShortReply};
+ghost use Rattle.xc_world.specs.Act.Step.{step_to, storing_call, storing_reply, IsShortReply};
 ghost use Rattle.xc_world.specs.Act.Files.{seek_at};
 
 use super::World;
@@ -27,7 +27,7 @@ fn count(me: &mut Private, call: &Call, reply: &Reply)
 
 fn seek(me: &mut Private, h: u16, to: u64) -> Reply
     requires { to ≤ 65536 }
-    ensures { (w : _) → seek_at w me.old h to (place_of me.old.places h) ≡ stays w me.new result }
+    ensures { (w : _) → seek_at w me.old h to (place_of me.old.places h) ≡ step_to w me.new result }
 {
     let Place::File { num, .. } = me.place(h) else {
         return Reply::BadHandle;
@@ -57,7 +57,7 @@ impl World {
     fn fine(&mut self, me: &mut Private, tx: u32, call: &Call) -> Result<Reply, NoMemory>
         requires sound { IsSound self.old me.old tx }
         requires passed { refuses call.now me.old (length self.old.words) ≡ false }
-        ensures ok { IfOk result (λ reply. fine self.old me.old tx call.now ≡ stays self.new me.new reply) }
+        ensures ok { IfOk result (λ reply. fine self.old me.old tx call.now ≡ step_to self.new me.new reply) }
         ensures world { OnErr result (self.new ≡ self.old) }
         ensures me { OnErr result (me.new ≡ me.old) }
     {
@@ -91,7 +91,7 @@ impl World {
     fn faulty(&mut self, me: &mut Private, tx: u32, call: &Call, n: u32) -> Result<Reply, NoMemory>
         requires sound { IsSound self.old me.old tx }
         requires fits { IsTrue (fits self.old me.old tx call.now (answer.Fault n)) }
-        ensures ok { IfOk result (λ reply. faulty self.old me.old call.now n ≡ stays self.new me.new reply) }
+        ensures ok { IfOk result (λ reply. faulty self.old me.old call.now n ≡ step_to self.new me.new reply) }
         ensures world { OnErr result (self.new ≡ self.old) }
         ensures me { OnErr result (me.new ≡ me.old) }
     {
@@ -113,7 +113,7 @@ impl World {
         requires sound { IsSound self.old me.old tx }
         requires passed { refuses call.now me.old (length self.old.words) ≡ false }
         requires fits { IsTrue (fits self.old me.old tx call.now answer) }
-        ensures ok { IfOk result (λ reply. done self.old me.old tx call.now answer ≡ stays self.new me.new reply) }
+        ensures ok { IfOk result (λ reply. done self.old me.old tx call.now answer ≡ step_to self.new me.new reply) }
         ensures world { OnErr result (self.new ≡ self.old) }
         ensures me { OnErr result (me.new ≡ me.old) }
     {
@@ -132,7 +132,7 @@ impl World {
     ) -> Result<Reply, NoMemory>
         requires sound { IsSound self.old me.old tx }
         requires fits { IsTrue (fits self.old me.old tx call.now answer) }
-        ensures ok { IfOk result (λ reply. act self.old me.old tx call.now answer ≡ stays self.new me.new reply) }
+        ensures ok { IfOk result (λ reply. act self.old me.old tx call.now answer ≡ step_to self.new me.new reply) }
         ensures world { OnErr result (self.new ≡ self.old) }
         ensures me { OnErr result (me.new ≡ me.old) }
     {
@@ -164,7 +164,7 @@ impl World {
         requires sound { IsSound self.old me.old tx }
         requires fits { IsTrue (fits self.old me.old tx call.now answer) }
         ensures sound { OnOk result (IsSound self.new me.new tx) }
-        ensures ok { IfOk result (λ reply. act self.old me.old tx call.now answer ≡ stays self.new me.new reply) }
+        ensures ok { IfOk result (λ reply. act self.old me.old tx call.now answer ≡ step_to self.new me.new reply) }
         ensures world { OnErr result (self.new ≡ self.old) }
         ensures me { OnErr result (me.new ≡ me.old) }
     {

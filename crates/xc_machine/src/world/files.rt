@@ -3,18 +3,18 @@ ghost use Rattle.xc_data.specs.declared.object.Num.{Num};
 ghost use Rattle.xc_data.specs.declared.private.Place.TheVariants.{File};
 ghost use Rattle.xc_data.specs.Private.{place_of, with_place};
 ghost use Rattle.xc_world.specs.World.{World as PlainWorld, file_of, with_file};
-ghost use Rattle.xc_world.specs.Act.Step.{stays};
+ghost use Rattle.xc_world.specs.Act.Step.{step_to};
 ghost use Rattle.xc_world.specs.Act.Files.{read_at, overwrite_at, append_at, seek_at, len_at, overwrite_short, append_short, overwritten};
 
 use super::World;
 use super::shared::{joined, replaced};
-use xc_data::{Chunk, NoMemory, Num, Place, Private, Reply};
+use xc_data::{Chunk, MOST_FILE_BYTES, NoMemory, Num, Place, Private, Reply};
 
 impl World {
     pub(super) fn read(&self, me: &mut Private, h: u16, n: u64) -> Result<Reply, NoMemory>
         requires most { n ≤ 1024 }
         requires files { (num : Num) → length (file_of self.now num) ≤ 65536 }
-        ensures ok { IfOk result (λ reply. read_at self.now me.old h n (place_of me.old.places h) ≡ stays self.now me.new reply) }
+        ensures ok { IfOk result (λ reply. read_at self.now me.old h n (place_of me.old.places h) ≡ step_to self.now me.new reply) }
         ensures me { OnErr result (me.new ≡ me.old) }
     {
         let Place::File { num, at } = me.place(h) else {
@@ -68,7 +68,7 @@ impl World {
     ) -> Result<Reply, NoMemory>
         requires files { (num : Num) → length (file_of self.old num) ≤ 65536 }
         ensures ok { IfOk result (λ reply.
-            overwrite_at self.old me.old h bytes.now (place_of me.old.places h) ≡ stays self.new me.new reply) }
+            overwrite_at self.old me.old h bytes.now (place_of me.old.places h) ≡ step_to self.new me.new reply) }
         ensures world { OnErr result (self.new ≡ self.old) }
         ensures me { OnErr result (me.new ≡ me.old) }
     {
@@ -97,7 +97,7 @@ impl World {
         requires inside { (num : Num) (at : ℕ) → place_of me.old.places h ≡ File num at → 0 < n
             → (n ≤ length bytes.now) × (at + n ≤ length (file_of self.old num)) }
         ensures ok { IfOk result (λ reply.
-            overwrite_short self.old me.old h bytes.now n (place_of me.old.places h) ≡ stays self.new me.new reply) }
+            overwrite_short self.old me.old h bytes.now n (place_of me.old.places h) ≡ step_to self.new me.new reply) }
         ensures world { OnErr result (self.new ≡ self.old) }
         ensures me { OnErr result (me.new ≡ me.old) }
     {
@@ -135,7 +135,8 @@ impl World {
         bytes: &Chunk,
     ) -> Result<Reply, NoMemory>
         requires files { (num : Num) → length (file_of self.old num) ≤ 65536 }
-        ensures ok { IfOk result (λ reply. append_at self.old me.old h bytes.now (place_of me.old.places h) ≡ stays self.new me.new reply) }
+        ensures ok { IfOk result (λ reply.
+            append_at self.old me.old h bytes.now (place_of me.old.places h) ≡ step_to self.new me.new reply) }
         ensures world { OnErr result (self.new ≡ self.old) }
         ensures me { OnErr result (me.new ≡ me.old) }
     {
@@ -145,7 +146,7 @@ impl World {
         if bytes.is_empty() {
             return Ok(Reply::Done);
         }
-        if self.file(num).len() + bytes.len() > 65536 {
+        if (self.file(num).len() + bytes.len()) as u64 > MOST_FILE_BYTES {
             return Ok(Reply::TooBig);
         }
         self.extend(me, h, num, bytes.as_slice())?;
@@ -163,7 +164,7 @@ impl World {
         requires inside { (num : Num) (at : ℕ) → place_of me.old.places h ≡ File num at → 0 < n
             → (n ≤ length bytes.now) × (length (file_of self.old num) + n ≤ 65536) }
         ensures ok { IfOk result (λ reply.
-            append_short self.old me.old h bytes.now n (place_of me.old.places h) ≡ stays self.new me.new reply) }
+            append_short self.old me.old h bytes.now n (place_of me.old.places h) ≡ step_to self.new me.new reply) }
         ensures world { OnErr result (self.new ≡ self.old) }
         ensures me { OnErr result (me.new ≡ me.old) }
     {
@@ -178,7 +179,7 @@ impl World {
     }
 
     pub(super) fn len_of(&self, me: &Private, h: u16) -> Reply
-        ensures { len_at self.now me.now (place_of me.now.places h) ≡ stays self.now me.now result }
+        ensures { len_at self.now me.now (place_of me.now.places h) ≡ step_to self.now me.now result }
     {
         match me.place(h) {
             Place::File { num, .. } => Reply::Number(self.file(num).len() as u64),

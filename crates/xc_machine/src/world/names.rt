@@ -1,7 +1,7 @@
 ghost use Rattle.std.specs.Prelude.{◌≡◌, ◌≤◌, Some, None, IfOk, OnOk, OnErr};
 ghost use Rattle.std.specs.FinMap as map;
 ghost use Rattle.xc_world.specs.World.{World as PlainWorld};
-ghost use Rattle.xc_world.specs.Act.Step.{stays};
+ghost use Rattle.xc_world.specs.Act.Step.{step_to};
 ghost use Rattle.xc_world.specs.Act.Names.{opens, creates, renames, with_moved, next_num, with_new_file};
 
 use super::World;
@@ -9,7 +9,7 @@ use xc_data::{Chunk, Name, NoMemory, Num, Place, Private, Reply};
 
 impl World {
     pub(super) fn open(&self, me: &mut Private, name: Name) -> Reply
-        ensures { opens self.now me.old name ≡ stays self.now me.new result }
+        ensures { opens self.now me.old name ≡ step_to self.now me.new result }
     {
         let Some(num) = self.names.get(name) else {
             return Reply::NoName;
@@ -44,7 +44,7 @@ impl World {
     ) -> Result<Reply, NoMemory>
         requires made { me.old.made ≤ 16 }
         requires new { map.get self.old.files (next_num me.old tx) ≡ None }
-        ensures ok { IfOk result (λ reply. creates self.old me.old tx name ≡ stays self.new me.new reply) }
+        ensures ok { IfOk result (λ reply. creates self.old me.old tx name ≡ step_to self.new me.new reply) }
         ensures world { OnErr result (self.new ≡ self.old) }
         ensures me { OnErr result (me.new ≡ me.old) }
     {
@@ -74,7 +74,7 @@ impl World {
     }
 
     pub(super) fn rename(&mut self, from: Name, to: Name) -> Result<Reply, NoMemory>
-        ensures ok { (me : Private) → IfOk result (λ reply. renames self.old me from to ≡ stays self.new me reply) }
+        ensures ok { (me : Private) → IfOk result (λ reply. renames self.old me from to ≡ step_to self.new me reply) }
         ensures world { OnErr result (self.new ≡ self.old) }
     {
         let Some(num) = self.names.get(from) else {

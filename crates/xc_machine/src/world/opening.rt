@@ -6,7 +6,7 @@ ghost use Rattle.xc_world.specs.Opening.{opening, bare, with_opened, opening_han
 
 use super::{PairBody, PipeBody, World};
 use std::alloc::Global;
-use xc_data::{Ident, IdentList, Items, NoMemory, Num, Opened, Script0, WordList};
+use xc_data::{Ident, IdentList, Items, NoMemory, Num, Opened, Outline, WordList};
 use xc_maps::{NameMap, NumMap};
 
 fn words_of(alloc: Global, words: &[u64]) -> Result<WordList, NoMemory>
@@ -29,7 +29,7 @@ fn names_of(alloc: Global, front: &[Ident], back: &[Ident]) -> Result<IdentList,
 
 impl World {
     // The script's words and blocks, its jobs started, and no object.
-    fn bare(alloc: Global, script: &Script0) -> Result<World, NoMemory>
+    fn bare(alloc: Global, script: &Outline) -> Result<World, NoMemory>
         ensures { IfOk result (λ world. world ≡ bare script.now) }
     {
         Ok(World {
@@ -60,7 +60,7 @@ impl World {
         }
     }
 
-    fn opening(alloc: Global, script: &Script0) -> Result<World, NoMemory>
+    fn opening(alloc: Global, script: &Outline) -> Result<World, NoMemory>
         requires { KeepsLimits script.now }
         ensures { IfOk result (λ world. world ≡ opening script.now) }
     {
@@ -76,7 +76,7 @@ impl World {
     }
 
     /// The world that a script opens with.
-    pub fn of(alloc: Global, script: &Script0) -> Result<World, NoMemory>
+    pub fn of(alloc: Global, script: &Outline) -> Result<World, NoMemory>
         requires { KeepsLimits script.now }
         ensures value { IfOk result (λ world. world ≡ opening script.now) }
         ensures words { IfOk result (λ world. length world.words ≤ 4096) }

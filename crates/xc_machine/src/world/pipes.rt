@@ -1,7 +1,7 @@
 ghost use Rattle.std.specs.Prelude.{◌≡◌, ◌≤◌, ◌==◌, IfOk, OnOk, OnErr, if◌then◌else◌};
 ghost use Rattle.xc_data.specs.Private.{place_of, lowest_vacant};
 ghost use Rattle.xc_world.specs.World.{pipe_of, pair_of, with_pipe, with_pair, with_waiting, other_side, empty_pair};
-ghost use Rattle.xc_world.specs.Act.Step.{stays};
+ghost use Rattle.xc_world.specs.Act.Step.{step_to};
 ghost use Rattle.xc_world.specs.Act.Pipes.{new_pipe, read_pipe_at, new_pair, receive_at};
 
 use super::shared::shared;
@@ -41,7 +41,7 @@ impl World {
 
     pub(super) fn make_pipe(&mut self, me: &mut Private, tx: u32) -> Result<Reply, NoMemory>
         requires made { me.old.made ≤ 16 }
-        ensures ok { IfOk result (λ reply. new_pipe self.old me.old tx (lowest_vacant me.old.places) ≡ stays self.new me.new reply) }
+        ensures ok { IfOk result (λ reply. new_pipe self.old me.old tx (lowest_vacant me.old.places) ≡ step_to self.new me.new reply) }
         ensures world { OnErr result (self.new ≡ self.old) }
         ensures me { OnErr result (me.new ≡ me.old) }
     {
@@ -57,7 +57,7 @@ impl World {
     }
 
     pub(super) fn read_pipe(&mut self, me: &Private, h: u16, n: u64) -> Result<Reply, NoMemory>
-        ensures ok { IfOk result (λ reply. read_pipe_at self.old me.now n (place_of me.now.places h) ≡ stays self.new me.now reply) }
+        ensures ok { IfOk result (λ reply. read_pipe_at self.old me.now n (place_of me.now.places h) ≡ step_to self.new me.now reply) }
         ensures world { OnErr result (self.new ≡ self.old) }
     {
         let Place::Pipe(num) = me.place(h) else {
@@ -79,7 +79,7 @@ impl World {
 
     pub(super) fn make_pair(&mut self, me: &mut Private, tx: u32) -> Result<Reply, NoMemory>
         requires made { me.old.made ≤ 16 }
-        ensures ok { IfOk result (λ reply. new_pair self.old me.old tx (lowest_vacant me.old.places) ≡ stays self.new me.new reply) }
+        ensures ok { IfOk result (λ reply. new_pair self.old me.old tx (lowest_vacant me.old.places) ≡ step_to self.new me.new reply) }
         ensures world { OnErr result (self.new ≡ self.old) }
         ensures me { OnErr result (me.new ≡ me.old) }
     {
@@ -117,7 +117,7 @@ impl World {
     }
 
     pub(super) fn receive(&mut self, me: &Private, h: u16) -> Result<Reply, NoMemory>
-        ensures ok { IfOk result (λ reply. receive_at self.old me.now (place_of me.now.places h) ≡ stays self.new me.now reply) }
+        ensures ok { IfOk result (λ reply. receive_at self.old me.now (place_of me.now.places h) ≡ step_to self.new me.now reply) }
         ensures world { OnErr result (self.new ≡ self.old) }
     {
         let Place::Pair { num, side } = me.place(h) else {

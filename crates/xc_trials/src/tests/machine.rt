@@ -6,7 +6,7 @@ use std::alloc::Global;
 use std::test::Fail;
 use xc_data::{
     Answer, Asked, Call, Chunk, Claim, LateAnswer, LateCall, LateEnd, Mode, NoMemory, Num, Object,
-    Reply, Script0,
+    Outline, Reply,
 };
 use xc_machine::{Replied, World, run_body};
 use xc_text::parse;
@@ -18,7 +18,7 @@ fn fine(call: Call) -> Asked {
 }
 
 // Runs a transaction that loads and stores word 0.
-fn runs(alloc: Global, script: &Script0) -> Result<Replied, NoMemory>
+fn runs(alloc: Global, script: &Outline) -> Result<Replied, NoMemory>
     requires { KeepsLimits script.now }
 {
     let mut world = World::of(alloc, script)?;
@@ -33,7 +33,7 @@ fn runs(alloc: Global, script: &Script0) -> Result<Replied, NoMemory>
 #[test]
 fn a_word_is_stored(rt: HostRuntime) -> Result<(), Fail> {
     let script = parse(rt.alloc(), b"word 0 100\n")?;
-    let replied = runs(rt.alloc(), script.plain())?;
+    let replied = runs(rt.alloc(), script.outline())?;
     let replies = [Reply::Number(100), Reply::Done];
     assert!(rt; replied.replies.as_slice() == replies.as_slice());
     let held = Claim {
@@ -62,7 +62,7 @@ fn end_of(world: &mut World, call: &LateCall) -> Result<Option<LateEnd>, NoMemor
 }
 
 // A world with a pipe, which transaction 1 has made.
-fn with_pipe(alloc: Global, script: &Script0) -> Result<World, NoMemory>
+fn with_pipe(alloc: Global, script: &Outline) -> Result<World, NoMemory>
     requires { KeepsLimits script.now }
 {
     let mut world = World::of(alloc, script)?;
@@ -82,7 +82,7 @@ fn write_pipe(alloc: Global) -> Result<LateCall, NoMemory> {
 fn a_pipe_gets_full(rt: HostRuntime) -> Result<(), Fail> {
     let script = parse(rt.alloc(), b"")?;
     let call = write_pipe(rt.alloc())?;
-    let mut world = with_pipe(rt.alloc(), script.plain())?;
+    let mut world = with_pipe(rt.alloc(), script.outline())?;
     for _ in 0..4 {
         assert_eq!(rt; end_of(&mut world, &call)?, Some(LateEnd::Done));
     }

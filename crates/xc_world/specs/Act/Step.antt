@@ -14,8 +14,8 @@ pub record Stepped : Type 0 where
   pub reply : Reply
 
 -- the step to this world and private state
-abbrev pub stays : World → Private → Reply → Stepped
-stays w me r = record { world = w; me = me; reply = r }
+abbrev pub step_to : World → Private → Reply → Stepped
+step_to w me r = record { world = w; me = me; reply = r }
 
 -- so many more bytes are stored
 abbrev pub storing : Private → ℕ → Private
@@ -36,7 +36,7 @@ storing_reply _ me = me
 
 -- a call that passed the checks has its bytes and its reply's counted
 abbrev pub counted : Call → Stepped → Stepped
-counted call s = stays s.world (storing_reply s.reply (storing_call call s.me)) s.reply
+counted call s = step_to s.world (storing_reply s.reply (storing_call call s.me)) s.reply
 
 -- the bytes that a reply brings are at most 1,024
 abbrev pub IsShortReply : Reply → Type 0

@@ -10,25 +10,25 @@ use Rattle.xc_file.proofs.Refusals.{by_much}
 use Rattle.xc_file.proofs.NameCalls.{much_none, created_acts}
 use Rattle.xc_file.proofs.creating.x_create.Goals as goal
 
-pub returns-then-me-ge-MAX_MADE-clause-call : goal.returns-then-me-ge-MAX_MADE-clause-call
-returns-then-me-ge-MAX_MADE-clause-call g c =
+pub returns-then-me-ge-MOST_MADE-clause-call : goal.returns-then-me-ge-MOST_MADE-clause-call
+returns-then-me-ge-MOST_MADE-clause-call g c =
     let me = c.args.me.now in
     refused_call g.H.Host.model _ (record { host = c.args.host.now; number = c.args.tx; me = me; undo = c.args.undo.now }) _
-    (ap (λ b. by_much (b || is_none (lowest_vacant me.places))) (le-leb 16 me.made c.if-me-ge-MAX_MADE.true)) (λ w. refl)
+    (ap (λ b. by_much (b || is_none (lowest_vacant me.places))) (le-leb 16 me.made c.if-me-ge-MOST_MADE.true)) (λ w. refl)
 
 pub returns-in_default-clause-call : goal.returns-in_default-clause-call
 returns-in_default-clause-call g c =
     let me = c.args.me.now in
     refused_call g.H.Host.model _ (record { host = c.args.host.now; number = c.args.tx; me = me; undo = c.args.undo.now }) _
     (ap (λ o. by_much (has_made_all me || is_none o)) (sym c.vacant.ensures.value ∙ c.in_default.is)
-    ∙ ap (λ b. by_much (b || true)) (lt-leb 16 me.made c.if-me-ge-MAX_MADE.false)) (λ w. refl)
+    ∙ ap (λ b. by_much (b || true)) (lt-leb 16 me.made c.if-me-ge-MOST_MADE.false)) (λ w. refl)
 
 pub returns-clause-call : goal.returns-clause-call
 returns-clause-call g c =
     let model = g.H.Host.model in
     let me = c.args.me.now in
     let name = c.args.name.now in
-    let few = c.if-me-ge-MAX_MADE.false in
+    let few = c.if-me-ge-MOST_MADE.false in
     let vacant = sym c.vacant.ensures.value ∙ c.in-Some.is in
     let next = c.create_at.ensures in
     recorded_call model (XCreate name) (create_record me c.args.tx name)

@@ -1,6 +1,6 @@
 use Rattle.std.proofs.Common.{◌≡◌, ap, sym, ◌∙◌}
 use Rattle.xc_data.specs.declared.entry.JobEnd.TheVariants as job_end
-use Rattle.xc_script.specs.Place.{Place}
+use Rattle.xc_script.specs.Position.{Position}
 use Rattle.xc_story.specs.Seen.{SeenJob, Ended, with_job}
 use Rattle.xc_story.specs.Setting.{setting}
 use Rattle.xc_station.specs.Jobs.{seen_job}
@@ -21,7 +21,7 @@ returns-then-is_err-clause-row c tells now at begun =
     elim c.then-is_err.branch [
       | then-is_err-via-then-is_err w ↦ w.job-is
       | then-is_err-via-else-is_err+then-is_err-2 w ↦
-          w.job-is ∙ ap (λ (p : Place). record job { place = p })
+          w.job-is ∙ ap (λ (p : Position). record job { place = p })
           (where_err w.begin.result (sym w.is_err-else-is_err.ensures.value ∙ w.if-is_err-2.true) w.begin.ensures.err)
     ] in
     ends (setting c.args.script.now c.args.rules.now tells) at now (seen_job job) _ _ _ ready.left

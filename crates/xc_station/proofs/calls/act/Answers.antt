@@ -1,4 +1,5 @@
-use Rattle.std.proofs.Common.{arith, refl}
+use Rattle.std.proofs.Common.{arith, ap, refl, sym, ◌∙◌}
+use Rattle.xc_data.specs.declared.call.Call.TheVariants as call
 use Rattle.xc_station.specs.Acting.{acting}
 use Rattle.xc_station.proofs.Doings.{alone_acted, file_acted, kept_acted, load_acted, store_acted}
 use Rattle.xc_station.proofs.calls.act.Goals as goal
@@ -14,13 +15,13 @@ returns-in-Store-clause-acted g c =
 pub returns-in-XOpen-clause-acted : goal.returns-in-XOpen-clause-acted
 returns-in-XOpen-clause-acted g c =
     let e = c.x_open.ensures in
-    file_acted g.H.Host.model _ _ _ _ _ c.in-XOpen.is refl refl (e.call c.args.tx.now.number c.args.tx.now.undo) refl
+    file_acted g.H.Host.model _ _ _ _ _ (c.in-XOpen.is ∙ ap call.XOpen (sym c.value.ensures)) refl refl (e.call c.args.tx.now.number c.args.tx.now.undo) refl
     (omega (arith, e.same.0, c.requires.may.stored)) e.now
 
 pub returns-in-XCreate-clause-acted : goal.returns-in-XCreate-clause-acted
 returns-in-XCreate-clause-acted g c =
     let e = c.x_create.ensures in
-    file_acted g.H.Host.model _ _ _ _ _ c.in-XCreate.is refl refl e.call refl (omega (arith, e.stored, c.requires.may.stored)) e.now
+    file_acted g.H.Host.model _ _ _ _ _ (c.in-XCreate.is ∙ ap call.XCreate (sym c.value-in-XCreate.ensures)) refl refl e.call refl (omega (arith, e.stored, c.requires.may.stored)) e.now
 
 pub returns-in-XRead-clause-acted : goal.returns-in-XRead-clause-acted
 returns-in-XRead-clause-acted g c =
@@ -52,7 +53,8 @@ returns-in-XLen-clause-acted g c =
 pub returns-in-XRename-clause-acted : goal.returns-in-XRename-clause-acted
 returns-in-XRename-clause-acted g c =
     let e = c.x_rename.ensures in
-    file_acted g.H.Host.model _ _ _ _ _ c.in-XRename.is refl refl (e.call c.args.tx.now.number c.args.tx.now.me) refl c.requires.may.stored e.now
+    file_acted g.H.Host.model _ _ _ _ _
+    (c.in-XRename.is ∙ (λ i. call.XRename (sym c.value-in-XRename.ensures i) (sym c.value-in-XRename-2.ensures i))) refl refl (e.call c.args.tx.now.number c.args.tx.now.me) refl c.requires.may.stored e.now
 
 pub returns-in-XWriteSeq-clause-acted : goal.returns-in-XWriteSeq-clause-acted
 returns-in-XWriteSeq-clause-acted g c =
@@ -62,7 +64,8 @@ returns-in-XWriteSeq-clause-acted g c =
 pub returns-in-XUnlink-clause-acted : goal.returns-in-XUnlink-clause-acted
 returns-in-XUnlink-clause-acted g c =
     let e = c.x_unlink.ensures in
-    kept_acted g.H.Host.model _ _ _ _ _ c.in-XUnlink.is refl refl (e.call c.args.tx.now.me _) e.err c.requires.may.stored
+    kept_acted g.H.Host.model _ _ _ _ _ (c.in-XUnlink.is ∙ (λ i. call.XUnlink (sym c.value-in-XUnlink.ensures i) c.in-XUnlink.slot)) refl refl
+    (e.call c.args.tx.now.me _) e.err c.requires.may.stored
 
 pub returns-in-XSync-clause-acted : goal.returns-in-XSync-clause-acted
 returns-in-XSync-clause-acted g c =

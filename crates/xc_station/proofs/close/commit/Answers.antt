@@ -1,5 +1,5 @@
 use Rattle.std.proofs.Common.{◌≡◌, ◌+◌, ap, sym, ◌∙◌, subst}
-use Rattle.xc_script.specs.Place.{Place, at_begin}
+use Rattle.xc_script.specs.Position.{Position, at_begin}
 use Rattle.xc_script.specs.Slots.{kept_of, with_ends}
 use Rattle.xc_story.specs.Seen.{SeenTx}
 use Rattle.xc_story.specs.declared.phase.Phase.TheVariants.{Committing}
@@ -12,13 +12,13 @@ use Rattle.xc_station.proofs.close.commit.Goals as goal
 pub returns : goal.returns
 returns c tx at is number =
     let required = c.requires.committing in
-    let was : Place = c.args.job.now.place in
+    let was : Position = c.args.job.now.place in
     let same : seen_tx c.args.job.now.tx ≡ tx = its_active c.args.job.now tx is in
     let as-required : required.0 ≡ tx = same_active _ _ (sym required.1 ∙ is) in
     let phase : tx.phase ≡ Committing = subst (λ (t : SeenTx). t.phase ≡ Committing) as-required required.2 in (
       commit_behind (seen_job c.args.job.now) _ _ _ _ _ same (c.close.ensures.begun ∙ ap begun_of c.renew.ensures)
           (c.go_on.ensures.place
-          ∙ ap (λ (p : Place). at_begin (record { block = p.block; next = p.next + 1; variables = p.variables })) c.set_ends.ensures
+          ∙ ap (λ (p : Position). at_begin (record { block = p.block; next = p.next + 1; variables = p.variables })) c.set_ends.ensures
           ∙ (λ i. at_begin (record {
             block = was.block;
             next = was.next + 1;

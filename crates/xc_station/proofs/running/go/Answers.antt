@@ -1,7 +1,7 @@
 use Rattle.std.proofs.Common.{◌∙◌, refl}
 use Rattle.xc_data.specs.declared.entry.Cause.TheVariants as cause
 use Rattle.xc_story.specs.declared.phase.Phase.TheVariants.{Committing, Undoing}
-use Rattle.xc_story.specs.Rows.{IsSamePlace}
+use Rattle.xc_story.specs.Rows.{IsSamePosition}
 use Rattle.xc_story.specs.Setting.{setting}
 use Rattle.xc_station.proofs.RowsRun.{asked_walk, commits, has_tx, turns_back, wants}
 use Rattle.xc_station.proofs.running.go.Goals as goal
@@ -12,7 +12,7 @@ returns-in-Ok-Commit-clause-count g c = c.apply.ensures.count
 pub returns-in-Ok-Commit-clause-row : goal.returns-in-Ok-Commit-clause-row
 returns-in-Ok-Commit-clause-row g c rules now at job here doing place journal =
     let e = c.in-Ok-Commit.ensures in
-    let same : IsSamePlace (setting c.args.script.now rules g.H.Host.model.tells) c.args.place.now c.ask.new.self =
+    let same : IsSamePosition (setting c.args.script.now rules g.H.Host.model.tells) c.args.place.now c.ask.new.self =
     record { begin = record { block = e.same.0; next = e.same.1; begun = e.begun }; walk = e.walk; at = e.at } in
     commits g.H.Host.model _ _ _ _ _ c.ask.new.self c.args.tx.now here (has_tx _ _ _ _ _ doing place same)
     (record { host = c.args.shared.now.host; words = c.apply.new.words; claims = c.args.shared.now.claims }) (record c.args.tx.now { phase = Committing })
@@ -22,7 +22,7 @@ returns-in-Ok-Commit-clause-row g c rules now at job here doing place journal =
 pub returns-in-Ok-Abort-clause-row : goal.returns-in-Ok-Abort-clause-row
 returns-in-Ok-Abort-clause-row g c rules now at job here doing place journal =
     let e = c.in-Ok-Abort.ensures in
-    let same : IsSamePlace (setting c.args.script.now rules g.H.Host.model.tells) c.args.place.now c.ask.new.self =
+    let same : IsSamePosition (setting c.args.script.now rules g.H.Host.model.tells) c.args.place.now c.ask.new.self =
     record { begin = record { block = e.same.0; next = e.same.1; begun = e.begun }; walk = e.walk; at = e.at } in
     turns_back g.H.Host.model _ _ _ _ _ c.ask.new.self c.args.tx.now here (has_tx _ _ _ _ _ doing place same) c.args.shared.now
     (record c.args.tx.now { phase = Undoing cause.Asked }) refl refl refl refl
@@ -31,7 +31,7 @@ returns-in-Ok-Abort-clause-row g c rules now at job here doing place journal =
 pub returns-in-Err-clause-row : goal.returns-in-Err-clause-row
 returns-in-Err-clause-row g c rules now at job here doing place journal =
     let e = c.in-Err.ensures in
-    let same : IsSamePlace (setting c.args.script.now rules g.H.Host.model.tells) c.args.place.now c.ask.new.self =
+    let same : IsSamePosition (setting c.args.script.now rules g.H.Host.model.tells) c.args.place.now c.ask.new.self =
     record { begin = record { block = e.same.0; next = e.same.1; begun = e.begun }; walk = e.walk; at = e.at } in
     wants g.H.Host.model _ _ _ _ _ c.ask.new.self c.args.tx.now here (has_tx _ _ _ _ _ doing place same) c.args.shared.now c.want.new.tx c.want.result
     refl refl refl c.want.ensures.tx c.want.ensures.answer

@@ -176,7 +176,7 @@ fn a_job_too_many(rt: HostRuntime) -> Result<(), Fail> {
 }
 
 fn is_in_order(script: &Script) -> bool {
-    let jobs = &script.plain().jobs;
+    let jobs = &script.outline().jobs;
     script.blocks.len() == 1000
         && jobs.get(0).copied() == Ident::new(b"j0")
         && jobs.get(999).copied() == Ident::new(b"j999")

@@ -18,7 +18,7 @@ fn counts(script: &Script) -> Option<(usize, usize, usize)> {
 
 // The name and the bytes of a file.
 fn file_at(script: &Script, at: usize) -> Option<(&[u8], &[u8])> {
-    match script.plain().prologue.objects.get(at)? {
+    match script.outline().prologue.objects.get(at)? {
         Opened::File { name, bytes } => Some((name.as_slice(), bytes.as_slice())),
         _ => None,
     }
@@ -42,7 +42,7 @@ fn has_both_files(script: &Script) -> bool {
 #[test]
 fn a_whole_script(rt: HostRuntime) -> Result<(), Fail> {
     let script = parse(rt.alloc(), WHOLE.as_bytes())?;
-    assert!(rt; script.plain().words.as_slice() == [0, 7].as_slice());
+    assert!(rt; script.outline().words.as_slice() == [0, 7].as_slice());
     assert!(rt; are_letters(script.slots.as_slice(), b"sh"));
     assert!(rt; counts(&script) == Some((1, 1, 20)));
     assert!(rt; has_both_files(&script));

@@ -1,6 +1,6 @@
 use Rattle.std.proofs.Common.{ap, sym, ◌∙◌, subst, ◌≤◌}
 use Rattle.std.proofs.lemmas.List.{length-map}
-use Rattle.xc_data.specs.declared.script.Script0.{Script0}
+use Rattle.xc_data.specs.declared.script.Outline.{Outline}
 use Rattle.xc_host.specs.Contents.{opened}
 use Rattle.xc_story.specs.Opened.{IsOpening}
 use Rattle.xc_story.specs.Setting.{setting}
@@ -17,7 +17,7 @@ invariant_of-result g c =
     c.new-journal.result.items c.in-Ok.jobs.items) = record { words = c.in-Ok.ensures.words; journal = c.new-journal.ensures; jobs = c.in-Ok.ensures.jobs } in (
       started s _ _ (record { read = c.requires.script; attempts = c.requires.rules.0; tries = c.requires.rules.1 }) c.requires.limits opening
           (c.open_with.ensures.count ∙ sym c.faults-faults.ensures)
-          (λ t. c.in_default-open_with.ensures.ok t ∙ ap (λ (p : Script0). opened p.prologue.objects) c.plain.ensures),
+          (λ t. c.in_default-open_with.ensures.ok t ∙ ap (λ (p : Outline). opened p.prologue.objects) c.outline.ensures),
       roomy c.args.script _ _ _ _ c.requires.script opening c.new-claims.ensures.empty
           (subst (λ n. n ≤ c.in-Ok.lines.spare) (sym (length-map c.in-Ok.jobs.items seen_job)) c.in-Ok.ensures.lines.0) c.in-Ok.ensures.lines.1,
     )

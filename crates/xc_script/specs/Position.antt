@@ -16,7 +16,7 @@ use Rattle.xc_script.specs.Ask.{Variables, Values, Walk, Job, settled, asks, nex
 
 -- the block, the transaction and the statement in it; what the transaction has stored, and whether its last
 -- call was refused; the variables there, and those at the transaction's begin
-pub record Place : Type 0 where
+pub record Position : Type 0 where
   pub block : ℕ
   pub next : ℕ
   pub at : ℕ
@@ -54,8 +54,8 @@ coded_variables =
     (λ v. (v.values, v.slots)) (λ p. record { values = p.0; slots = p.1 }) (λ _. refl)
 
 -- a place's code, that of its fields as a tuple
-abbrev pub coded_place : Coded Place
-coded_place =
+abbrev pub coded_position : Coded Position
+coded_position =
     code_by (ℕ × (ℕ × (ℕ × (ℕ × (Bool × (Variables × Variables))))))
     (coded× coded_ℕ (coded× coded_ℕ (coded× coded_ℕ (coded× coded_ℕ (coded× coded_bool (coded× coded_variables coded_variables))))))
     (λ p. (p.block, (p.next, (p.at, (p.stored, (p.refused, (p.variables, p.begun)))))))
@@ -72,19 +72,19 @@ coded_place =
 
 -- ---- what stands at a place
 -- the job that stands there, were its transaction to begin there
-abbrev pub job_of : Place → Job
+abbrev pub job_of : Position → Job
 job_of place = record { block = place.block; next = place.next; variables = place.variables }
 
 -- the statements of its transaction from the place on
-abbrev pub left_at : Script → Place → List Statement
+abbrev pub left_at : Script → Position → List Statement
 left_at script place = drop place.at (unwrap_or (next_body script (job_of place)) [])
 
 -- the transaction on its way there
-abbrev pub walk_of : Script → Place → Walk
+abbrev pub walk_of : Script → Position → Walk
 walk_of script place = settled place.variables place.stored place.refused (left_at script place)
 
 -- the place is where its walk is: no silent statement comes first
-pub record IsSettled (script : Script) (place : Place) : Type 0 where
+pub record IsSettled (script : Script) (place : Position) : Type 0 where
   pub variables : place.variables ≡ (walk_of script place).variables
   pub left : left_at script place ≡ (walk_of script place).left
 
@@ -93,7 +93,7 @@ abbrev pub nothing_kept : Variables
 nothing_kept = record { values = map.empty; slots = map.empty }
 
 -- a job before its next transaction: none has begun
-abbrev pub at_begin : Job → Place
+abbrev pub at_begin : Job → Position
 at_begin job =
     record { block = job.block; next = job.next; at = 0; stored = 0; refused = false; variables = job.variables; begun = nothing_kept }
 
@@ -103,7 +103,7 @@ is_call (ask.Call call) = true
 is_call _ = false
 
 -- a call is asked at this place
-abbrev pub IsAskedCall : Script → Place → Type 0
+abbrev pub IsAskedCall : Script → Position → Type 0
 IsAskedCall script place = IsTrue (is_call (asks (walk_of script place)))
 
 -- the variable that takes the reply to what is asked, where one does
@@ -112,5 +112,5 @@ first_target [] = None
 first_target (s ∷ rest) = target_of s
 
 -- the variable that takes the reply at this place, where one does
-abbrev pub target_at : Script → Place → Option (List ℕ)
+abbrev pub target_at : Script → Position → Option (List ℕ)
 target_at script place = first_target (walk_of script place).left
