@@ -1,4 +1,4 @@
-ghost use Rattle.std.specs.Prelude.{◌≡◌, ◌≤◌, ℕ, Some, None, Ok, Err, IfSome, IsTrue, length, map, string_bytes, true, if◌then◌else◌};
+ghost use Rattle.std.specs.Prelude.{◌≡◌, ◌≤◌, ℕ, Some, None, Ok, Err, IfOk, IfSome, IsErrOf, IsTrue, length, map, string_bytes, true, if◌then◌else◌};
 ghost use Rattle.xc_data.specs.Limits.{KeepsLimits};
 ghost use Rattle.xc_text.specs.declared.script.Script.{Script};
 ghost use Rattle.xc_text.specs.declared.why.Why.{Why};
@@ -186,19 +186,29 @@ fn of_script<H: Host>(alloc: Global, host: H, script: Script, chosen: &Chosen) -
     }
 }
 
+// The script of these bytes, which are given back before it runs.
+fn script_in(alloc: Global, bytes: Vec<u8>) -> Result<Script, ParseErr>
+    ensures ok { IfOk result (λ script. parse_of bytes.items ≡ Ok script) }
+    ensures refused { (line : _) (why : _) → IsErrOf result (ParseErr.Refused line why) → parse_of bytes.items ≡ Err (line, why) }
+    ensures script { IfOk result IsScript }
+    ensures limits { IfOk result (λ script. KeepsLimits script.outline) }
+{
+    parse(alloc, bytes.as_slice())
+}
+
 // The outcome of the bytes that were read.
-fn of_bytes<H: Host>(alloc: Global, host: H, bytes: &[u8], chosen: &Chosen) -> Outcome<H>
+fn of_bytes<H: Host>(alloc: Global, host: H, bytes: Vec<u8>, chosen: &Chosen) -> Outcome<H>
     requires rules { (1 ≤ chosen.now.rules.attempts) × (1 ≤ chosen.now.rules.undo_tries) }
     ensures due { IsDue result.status result.end (due_bytes result.due) }
-    ensures run { IfSome result.end (IsRunOf H.model bytes.now chosen.now host) }
+    ensures run { IfSome result.end (IsRunOf H.model bytes.items chosen.now host) }
     ensures host { IfSome result.host (λ back. back ≡ host) }
     ensures one { IsOneOf result.end result.host }
-    ensures refused { (line : ℕ) (why : Why) → result.status ≡ Status.Refused line why → parse_of bytes.now ≡ Err (line, why) }
+    ensures refused { (line : ℕ) (why : Why) → result.status ≡ Status.Refused line why → parse_of bytes.items ≡ Err (line, why) }
     ensures unscripted { result.status ≡ Status.NotScripted
-        → (script : Script) × (parse_of bytes.now ≡ Ok script) × (is_refused_by H.model.takes_scripts script ≡ true) }
+        → (script : Script) × (parse_of bytes.items ≡ Ok script) × (is_refused_by H.model.takes_scripts script ≡ true) }
     ensures bytes { IsOfBytes result.status }
 {
-    match parse(alloc, bytes) {
+    match script_in(alloc, bytes) {
         Ok(script) => of_script(alloc, host, script, chosen),
         Err(ParseErr::Refused { line, why }) => of_refusal(alloc, host, line, why),
         Err(ParseErr::NoMemory) => no_memory(host),
@@ -226,7 +236,7 @@ fn decide<S: Source, H: Host>(
         Err(SettingsErr::NoMemory) => return no_memory(host),
     };
     match read_up_to(alloc, source, LIMIT) {
-        Ok(bytes) => of_bytes(alloc, host, bytes.as_slice(), &chosen),
+        Ok(bytes) => of_bytes(alloc, host, bytes, &chosen),
         Err(ReadErr::Failed) => alone(host, Status::ReadFault, Due::ReadFault),
         Err(ReadErr::NoMemory) => no_memory(host),
     }

@@ -1,7 +1,7 @@
 ghost use Rattle.std.specs.Prelude.{◌≡◌, IfOk};
 
 use crate::NoMemory;
-use std::alloc::Global;
+use std::alloc::{AllocError, Global};
 use std::marker::Model;
 
 /// A value in a place of its own in memory, so that what names it stays small. Contracts see it as
@@ -32,6 +32,11 @@ impl<T> Boxed<T> {
         ensures { result.now ≡ self.now }
     {
         &self.value
+    }
+
+    /// Where its place was taken.
+    pub fn allocator(&self) -> Global {
+        *Box::allocator(&self.value)
     }
 }
 
@@ -71,5 +76,19 @@ impl<T: Copy + Drop> Boxed<T> {
             Some(boxed) => Some(*boxed.value()),
             None => None,
         }
+    }
+}
+
+impl<T: Eq> Eq for Boxed<T> {
+    ghost laws = { T.Eq.laws };
+}
+
+impl<T: Clone + Drop> Clone for Boxed<T> {
+    ghost is_clone = { T.is_clone };
+
+    fn clone(&self) -> Result<Self, AllocError> {
+        Ok(Boxed {
+            value: self.value.clone()?,
+        })
     }
 }

@@ -1,6 +1,6 @@
 ghost use Rattle.std.specs.Prelude.{◌≡◌, ◌↔◌, [], IsTrue, ◌≤◌, ◌<◌, ◌^◌, List, ℕ, length, slice_range, IfOk};
 
-use crate::NoMemory;
+use crate::{Boxed, NoMemory};
 use bytes::Bytes;
 use std::alloc::Global;
 use std::marker::Model;
@@ -8,7 +8,7 @@ use std::marker::Model;
 /// Bytes that may have several owners. Another owner shares them and copies none.
 #[derive(Clone, Debug, Drop, PartialEq, Eq)]
 pub struct Chunk {
-    bytes: Bytes,
+    bytes: Boxed<Bytes>,
 }
 
 impl Model for Chunk {
@@ -25,8 +25,9 @@ impl Chunk {
     pub fn new(alloc: Global, bytes: &[u8]) -> Result<Chunk, NoMemory>
         ensures { IfOk result (λ chunk. chunk ≡ bytes.now) }
     {
+        let bytes = Bytes::copy_from_slice(alloc, bytes)?;
         Ok(Chunk {
-            bytes: Bytes::copy_from_slice(alloc, bytes)?,
+            bytes: Boxed::new(alloc, bytes)?,
         })
     }
 
@@ -34,8 +35,10 @@ impl Chunk {
     pub fn from_vec(bytes: Vec<u8>) -> Result<Chunk, NoMemory>
         ensures { IfOk result (λ chunk. chunk ≡ bytes.items) }
     {
+        let alloc = *bytes.allocator();
+        let bytes = Bytes::from_vec(bytes)?;
         Ok(Chunk {
-            bytes: Bytes::from_vec(bytes)?,
+            bytes: Boxed::new(alloc, bytes)?,
         })
     }
 
@@ -45,8 +48,9 @@ impl Chunk {
         requires within { to ≤ length self.now }
         ensures { IfOk result (λ chunk. chunk ≡ slice_range self.now from to) }
     {
+        let part = self.bytes.value().slice(from..to)?;
         Ok(Chunk {
-            bytes: self.bytes.slice(from..to)?,
+            bytes: Boxed::new(self.bytes.allocator(), part)?,
         })
     }
 
@@ -54,19 +58,19 @@ impl Chunk {
         ensures value { result ≡ length self.now }
         ensures bound { result < 2 ^ 63 }
     {
-        self.bytes.len()
+        self.bytes.value().len()
     }
 
     pub fn is_empty(&self) -> bool
         ensures { IsTrue result ↔ (self.now ≡ []) }
     {
-        self.bytes.is_empty()
+        self.bytes.value().is_empty()
     }
 
     pub fn as_slice(&self) -> &[u8]
         ensures { result.now ≡ self.now }
     {
-        self.bytes.as_slice()
+        self.bytes.value().as_slice()
     }
 
     /// Another owner of the same bytes.

@@ -43,6 +43,15 @@ impl<T> Items<T> {
         self.items
     }
 
+    /// The room that is left is given back. It takes no memory.
+    pub fn trimmed(self) -> Self
+        ensures { result ≡ self }
+    {
+        let mut items = self.items;
+        items.shrink_to_fit();
+        Items { items }
+    }
+
     pub fn as_slice(&self) -> &[T]
         ensures { result.now ≡ self.now }
     {

@@ -90,9 +90,7 @@ impl<T> Roomy<T> {
     pub fn into_items(self) -> Items<T>
         ensures { result ≡ self.items }
     {
-        let mut items = self.items;
-        items.shrink_to_fit();
-        Items::from_vec(items)
+        Items::from_vec(self.items).trimmed()
     }
 }
 

@@ -107,6 +107,39 @@ fn is_on_words(call: &Call) -> bool
     matches!(call, Call::Load { .. } | Call::Store { .. })
 }
 
+// A call that may change the handles. They are put back where memory is wanting behind it, for the variable that takes the
+// reply.
+fn do_host_call<H: Host>(
+    alloc: Global,
+    host: &mut H,
+    words: &Words,
+    script: &Script,
+    place: &mut JobState,
+    tx: &mut Tx,
+    call: &Call,
+) -> Result<Reply, NoMemory>
+    requires asked { asks (walk_of script.now place.old) ≡ AskedCall call.now }
+    requires settled { IsSettled script.now place.old }
+    requires may { MayGo (length words.now) (seen_tx tx.old) }
+    requires ready { IsTrue H.model.tells → AreReadyFor (seen_tx tx.old) (H.model.contents host.old) }
+    ensures begun { begun_of tx.new ≡ begun_of tx.old }
+    ensures notes { (tx.new.calls ≡ tx.old.calls) × (tx.new.replies ≡ tx.old.replies) }
+    ensures walk { IfOk result (λ reply. walk_of script.now place.new ≡ answered (walk_of script.now place.old) reply) }
+    ensures nearer { OnOk result (place.old.at < place.new.at) }
+    ensures begin { IsSameBegin place.old place.new }
+    ensures err_place { OnErr result (place.new ≡ place.old) }
+    ensures acted { HasActed H.model call.now (acting host.old words.now tx.old) (acting host.new words.now tx.new) result }
+{
+    tx.keep();
+    let before = tx.me;
+    let reply = act(alloc, host, words, tx, call)?;
+    if place.answer(script, &reply).is_err() {
+        tx.me = before;
+        return Err(NoMemory);
+    }
+    Ok(reply)
+}
+
 /// Does the call that is asked, and goes on behind its reply. Without memory the place is as it was, and so are the
 /// handles, also where it is wanting behind the call, for the variable that takes the reply.
 pub fn do_call<H: Host>(
@@ -130,17 +163,10 @@ pub fn do_call<H: Host>(
     ensures err_place { OnErr result (place.new ≡ place.old) }
     ensures acted { HasActed H.model call.now (acting host.old words.now tx.old) (acting host.new words.now tx.new) result }
 {
-    if is_on_words(call) {
-        let reply = act(alloc, host, words, tx, call)?;
-        place.answer(script, &reply)?;
-        return Ok(reply);
+    if !is_on_words(call) {
+        return do_host_call(alloc, host, words, script, place, tx, call);
     }
-    tx.keep();
-    let before = tx.me;
     let reply = act(alloc, host, words, tx, call)?;
-    if place.answer(script, &reply).is_err() {
-        tx.me = before;
-        return Err(NoMemory);
-    }
+    place.answer(script, &reply)?;
     Ok(reply)
 }

@@ -99,10 +99,10 @@ impl Counted {
         Ok(())
     }
 
-    /// It takes no memory.
+    /// The room that is left is given back. It takes no memory.
     pub fn into_body(self) -> Body
         ensures { result ≡ self }
     {
-        self.statements
+        self.statements.trimmed()
     }
 }
