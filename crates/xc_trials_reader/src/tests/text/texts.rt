@@ -63,11 +63,19 @@ fn ended(alloc: Global, text: &str) -> Result<String, AllocError> {
     Ok(lines)
 }
 
+fn is_refused_at(refusal: Option<(u32, Why)>, last: usize, why: Why) -> bool {
+    match refusal {
+        Some((line, found)) => line as usize == last && found == why,
+        None => false,
+    }
+}
+
 // The first of the texts that isn't refused so.
 fn other(alloc: Global, texts: &'static str, why: Why) -> Result<Option<&'static str>, AllocError> {
     for text in texts.split('\n') {
-        let last = text.split('/').count() as u32;
-        if refusal(alloc, ended(alloc, text)?.as_bytes()) != Some((last, why)) {
+        let lines = ended(alloc, text)?;
+        let last = text.split('/').count();
+        if !is_refused_at(refusal(alloc, lines.as_bytes()), last, why) {
             return Ok(Some(text));
         }
     }
