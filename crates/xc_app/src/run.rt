@@ -1,4 +1,5 @@
-ghost use Rattle.std.specs.Prelude.{◌≡◌, ◌≤◌, ℕ, Some, None, Ok, Err, IfOk, IfSome, IsErrOf, IsTrue, length, map, string_bytes, true, if◌then◌else◌};
+ghost use Rattle.std.specs.Prelude.{◌≡◌, ◌≤◌, ℕ, Some, None, Ok, Err, length, map, string_bytes, true, if◌then◌else◌};
+ghost use Rattle.std.specs.Prelude.{IfOk, IfSome, IsErrOf, IsTrue};
 ghost use Rattle.xc_data.specs.Limits.{KeepsLimits};
 ghost use Rattle.xc_text.specs.declared.script.Script.{Script};
 ghost use Rattle.xc_text.specs.declared.why.Why.{Why};

@@ -21,7 +21,8 @@ returns-in-XOpen-clause-acted g c =
 pub returns-in-XCreate-clause-acted : goal.returns-in-XCreate-clause-acted
 returns-in-XCreate-clause-acted g c =
     let e = c.x_create.ensures in
-    file_acted g.H.Host.model _ _ _ _ _ (c.in-XCreate.is ∙ ap call.XCreate (sym c.value-in-XCreate.ensures)) refl refl e.call refl (omega (arith, e.stored, c.requires.may.stored)) e.now
+    file_acted g.H.Host.model _ _ _ _ _ (c.in-XCreate.is ∙ ap call.XCreate (sym c.value-in-XCreate.ensures)) refl refl
+    e.call refl (omega (arith, e.stored, c.requires.may.stored)) e.now
 
 pub returns-in-XRead-clause-acted : goal.returns-in-XRead-clause-acted
 returns-in-XRead-clause-acted g c =
@@ -54,7 +55,8 @@ pub returns-in-XRename-clause-acted : goal.returns-in-XRename-clause-acted
 returns-in-XRename-clause-acted g c =
     let e = c.x_rename.ensures in
     file_acted g.H.Host.model _ _ _ _ _
-    (c.in-XRename.is ∙ (λ i. call.XRename (sym c.value-in-XRename.ensures i) (sym c.value-in-XRename-2.ensures i))) refl refl (e.call c.args.tx.now.number c.args.tx.now.me) refl c.requires.may.stored e.now
+    (c.in-XRename.is ∙ (λ i. call.XRename (sym c.value-in-XRename.ensures i) (sym c.value-in-XRename-2.ensures i))) refl refl
+    (e.call c.args.tx.now.number c.args.tx.now.me) refl c.requires.may.stored e.now
 
 pub returns-in-XWriteSeq-clause-acted : goal.returns-in-XWriteSeq-clause-acted
 returns-in-XWriteSeq-clause-acted g c =
@@ -64,7 +66,8 @@ returns-in-XWriteSeq-clause-acted g c =
 pub returns-in-XUnlink-clause-acted : goal.returns-in-XUnlink-clause-acted
 returns-in-XUnlink-clause-acted g c =
     let e = c.x_unlink.ensures in
-    kept_acted g.H.Host.model _ _ _ _ _ (c.in-XUnlink.is ∙ (λ i. call.XUnlink (sym c.value-in-XUnlink.ensures i) c.in-XUnlink.slot)) refl refl
+    kept_acted g.H.Host.model _ _ _ _ _
+    (c.in-XUnlink.is ∙ (λ i. call.XUnlink (sym c.value-in-XUnlink.ensures i) c.in-XUnlink.slot)) refl refl
     (e.call c.args.tx.now.me _) e.err c.requires.may.stored
 
 pub returns-in-XSync-clause-acted : goal.returns-in-XSync-clause-acted
