@@ -143,5 +143,5 @@ start_flies s now set limits o held =
     let many : length (actives now.jobs) ≡ 0 = ap (λ js. length (actives js)) o.jobs ∙ ap length (none_active s.script s.script.outline.jobs) in
     let entries : length now.journal ≡ 0 = ap length o.journal in
     flies_so s now (opening_progress s.script) s.script.outline.words (opened s.script.outline.prologue.objects)
-      (map (opened_job s.script) s.script.outline.jobs) 1
+    (map (opened_job s.script) s.script.outline.jobs) 1
     (ap (progress_of s.script) o.journal) o.words held o.jobs (omega (arith, many, entries)) (opening_flies s set.read limits)

@@ -257,7 +257,7 @@ impl<H: Host> Station<H> {
 fn opened_jobs(alloc: Global, script: &Script) -> Result<Vec<Job>, NoMemory>
     ensures { IfOk result (λ jobs. seen_jobs jobs.items ≡ map (opened_job script.now) script.now.outline.jobs) }
 {
-    let mut jobs = Vec::new(alloc);
+    let mut jobs = Vec::with_capacity(alloc, script.outline().jobs.len())?;
     for block in script.outline().jobs.as_slice() {
         jobs.push(Job {
             block: *block,
