@@ -9,12 +9,10 @@ use Rattle.xc_data.specs.declared.object.Object.{Object}
 use Rattle.xc_data.specs.declared.claim.Mode.{Mode}
 use Rattle.xc_data.specs.declared.claim.Claim.{Claim}
 use Rattle.xc_data.specs.Claims.{is_object}
-use Rattle.std.specs.FinMap as map
-use Rattle.xc_wordlocks.specs.Keys.{holder}
 use Rattle.xc_wordlocks.specs.Rows.{has}
-use Rattle.xc_wordlocks.specs.Table.{Table, mode_of, with_mode, claimed, KeepsOthers}
+use Rattle.xc_wordlocks.specs.Table.{Table, mode_of, set_mode, with_mode, claimed, KeepsOthers}
 use Rattle.xc_wordlocks.proofs.Orders.{same_object, itself}
-use Rattle.xc_wordlocks.proofs.Modes.{mode_of-insert, mode_of-remove, mode_of-remove_other}
+use Rattle.xc_wordlocks.proofs.Modes.{mode_of-set, mode_of-set_other}
 
 -- what is left of a list begins with the next one
 pub left-cons : {X : Type 0} (xs : List X) (i : ℕ) (x : X) → i < length xs → x ≡ get_or xs i x → drop i xs ≡ x ∷ drop (i + 1) xs
@@ -45,9 +43,9 @@ raised_by t tx c o false e = refl
 
 -- a claim on what is held gives it the stronger of both modes
 pub raised : (t : Table) (tx : ℕ) (c : Claim) (m : Mode) (o : Object) → m ≡ with_mode (mode_of t tx c.object) c.mode
-    → mode_of (map.insert t (holder c.object tx) m) tx o ≡ claimed (mode_of t tx o) (c ∷ []) o
+    → mode_of (set_mode t tx c.object (Some m)) tx o ≡ claimed (mode_of t tx o) (c ∷ []) o
 raised t tx c m o e =
-    mode_of-insert t c.object o tx m ∙ ap (λ (x : Mode). cond (is_object c.object o) (Some x) (mode_of t tx o)) e
+    mode_of-set t c.object o tx (Some m) ∙ ap (λ (x : Mode). cond (is_object c.object o) (Some x) (mode_of t tx o)) e
     ∙ raised_by t tx c o (is_object c.object o) refl ∙ sym (claimed_on (mode_of t tx o) c o (is_object c.object o) refl)
 
 -- what is held before a claim is held behind it
@@ -107,10 +105,10 @@ is_object-swap a b = turned_object a b (is_object a b) (is_object b a) refl refl
 
 -- an object more is taken out
 pub removing_more : (tx : ℕ) (was now : Table) (objects rest : List Object) (p : Object) → Removing tx was now objects (p ∷ rest)
-    → Removing tx was (map.remove now (holder p tx)) objects rest
+    → Removing tx was (set_mode now tx p None) objects rest
 removing_more tx was now objects rest p r = record {
   own = λ o.
-      ap (λ (m : Option Mode). cond (has rest o) None m) (mode_of-remove now p o tx ∙ ap (λ b. cond b None (mode_of now tx o)) (is_object-swap p o))
+      ap (λ (m : Option Mode). cond (has rest o) None m) (mode_of-set now p o tx None ∙ ap (λ b. cond b None (mode_of now tx o)) (is_object-swap p o))
       ∙ without (is_object o p) (has rest o) (mode_of now tx o) ∙ r.own o;
-  others = λ n o ne. mode_of-remove_other now p o tx n ne ∙ r.others n o ne;
+  others = λ n o ne. mode_of-set_other now p o tx n None ne ∙ r.others n o ne;
 }

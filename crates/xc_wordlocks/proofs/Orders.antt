@@ -1,4 +1,4 @@
--- The order of holders, and what keys and objects have to do with each other.
+-- The orders of keys and holders, and what keys and objects have to do with each other.
 use Rattle.std.proofs.Common.{◌≡◌, ◌≢◌, Bool, true, false, refl, ap, sym, ◌∙◌, subst, arith}
 use Rattle.std.specs.declared.cmp.Ordering.{Ordering}
 use Rattle.std.specs.declared.cmp.Ordering.TheVariants.{Less, Equal, Greater}
@@ -12,13 +12,18 @@ use Rattle.xc_data.specs.declared.object.Object.{Object}
 use Rattle.xc_data.specs.declared.object.Object.TheVariants as object
 use Rattle.xc_data.specs.Claims.{is_object}
 use Rattle.xc_maps.proofs.Maps.{num_exact}
-use Rattle.xc_wordlocks.specs.declared.key.Key.{Key}
 use Rattle.xc_wordlocks.specs.declared.key.Key.TheVariants as key
-use Rattle.xc_wordlocks.specs.declared.key.Holder.{Holder}
-use Rattle.xc_wordlocks.specs.contracts.key.KeyPartialEq.TheImpl as key_eq
+use Rattle.xc_wordlocks.specs.declared.key.Kind.{Kind}
+use Rattle.xc_wordlocks.specs.declared.key.Kind.TheVariants as kind
+use Rattle.xc_wordlocks.specs.declared.key.Other.{Other}
+use Rattle.xc_wordlocks.specs.declared.key.Other.TheVariants as other
+use Rattle.xc_wordlocks.specs.contracts.key.OtherPartialEq.TheImpl as other_eq
+use Rattle.xc_wordlocks.specs.contracts.key.OtherOrd.TheImpl as other_ord
+use Rattle.xc_wordlocks.specs.contracts.key.OtherOrd.TheImpl.Laws as other_laws
 use Rattle.xc_wordlocks.specs.contracts.key.KeyOrd.TheImpl.Laws as key_laws
 use Rattle.xc_wordlocks.specs.contracts.key.HolderOrd.TheImpl.Laws as holder_laws
-use Rattle.xc_wordlocks.specs.Keys.{key_of, key_cmp, holder, holder_cmp}
+use Rattle.xc_wordlocks.specs.contracts.key.WordHolderOrd.TheImpl.Laws as word_holder_laws
+use Rattle.xc_wordlocks.specs.Keys.{key_of, kind_of, key_cmp, holder_cmp, word_holder_cmp}
 
 -- ---- objects
 same_num : (n m : Num) → is_object (object.File n) (object.File m) ≡ true → n ≡ m
@@ -53,50 +58,78 @@ other_object a b e same =
     let clash = sym yes ∙ e in
     absurd (cc)
 
--- ---- keys
--- the object of a key
-pub object_of : Key → Object
-object_of (key.Word at) = object.Word at
-object_of (key.Name name) = object.Name name
-object_of (key.File num) = object.File num
-object_of (key.Pipe num) = object.Pipe num
-object_of (key.Pair num) = object.Pair num
-object_of key.Jobs = object.Jobs
-
-object_of-key_of : (o : Object) → object_of (key_of o) ≡ o
-unfolding object_of
-object_of-key_of (object.Word at) = refl
-object_of-key_of (object.Name name) = refl
-object_of-key_of (object.File num) = refl
-object_of-key_of (object.Pipe num) = refl
-object_of-key_of (object.Pair num) = refl
-object_of-key_of object.Jobs = refl
-
-key_of-object_of : (k : Key) → key_of (object_of k) ≡ k
-unfolding object_of
-key_of-object_of (key.Word at) = refl
-key_of-object_of (key.Name name) = refl
-key_of-object_of (key.File num) = refl
-key_of-object_of (key.Pipe num) = refl
-key_of-object_of (key.Pair num) = refl
-key_of-object_of key.Jobs = refl
-
+-- ---- keys and kinds
 -- keys of two objects differ
 pub key_of-same : (a b : Object) → key_of a ≡ key_of b → a ≡ b
-key_of-same a b e = sym (object_of-key_of a) ∙ ap object_of e ∙ object_of-key_of b
+key_of-same (object.Word a) (object.Word b) e = cc
+key_of-same (object.Name a) (object.Name b) e = cc
+key_of-same (object.File a) (object.File b) e = cc
+key_of-same (object.Pipe a) (object.Pipe b) e = cc
+key_of-same (object.Pair a) (object.Pair b) e = cc
+key_of-same object.Jobs object.Jobs e = refl
+key_of-same _ _ e = cc
 
--- every holder is that of its key's object
-pub holder-object_of : (h : Holder) → holder (object_of h.object) h.tx ≡ h
-holder-object_of h = ap (λ (k : Key). record { object = k; tx = h.tx }) (key_of-object_of h.object)
+-- the object of a kind
+pub object_of : Kind → Object
+object_of (kind.Word at) = object.Word at
+object_of (kind.Other (other.Name name)) = object.Name name
+object_of (kind.Other (other.File num)) = object.File num
+object_of (kind.Other (other.Pipe num)) = object.Pipe num
+object_of (kind.Other (other.Pair num)) = object.Pair num
+object_of (kind.Other other.Jobs) = object.Jobs
 
--- ---- the order
--- the order of holders is total
-pub holder_total : IsTotalOrder holder_cmp
-holder_total = holder_laws.total-law
+object_of-kind_of : (o : Object) → object_of (kind_of o) ≡ o
+unfolding object_of
+object_of-kind_of (object.Word at) = refl
+object_of-kind_of (object.Name name) = refl
+object_of-kind_of (object.File num) = refl
+object_of-kind_of (object.Pipe num) = refl
+object_of-kind_of (object.Pair num) = refl
+object_of-kind_of object.Jobs = refl
+
+-- each kind is that of its object
+pub kind_of-object_of : (k : Kind) → kind_of (object_of k) ≡ k
+unfolding object_of
+kind_of-object_of (kind.Word at) = refl
+kind_of-object_of (kind.Other (other.Name name)) = refl
+kind_of-object_of (kind.Other (other.File num)) = refl
+kind_of-object_of (kind.Other (other.Pipe num)) = refl
+kind_of-object_of (kind.Other (other.Pair num)) = refl
+kind_of-object_of (kind.Other other.Jobs) = refl
+
+-- two objects differ as words or others too
+pub kind_of-same : (a b : Object) → kind_of a ≡ kind_of b → a ≡ b
+kind_of-same a b e = sym (object_of-kind_of a) ∙ ap object_of e ∙ object_of-kind_of b
+
+-- ---- the orders
+-- the order of objects that aren't words
+abbrev pub other_cmp : Other → Other → Ordering
+other_cmp = other_ord.ghosts.cmp
+
+-- it is total
+pub other_total : IsTotalOrder other_cmp
+other_total = other_laws.total-law
 
 -- the order of keys is total
 pub key_total : IsTotalOrder key_cmp
 key_total = key_laws.total-law
+
+-- the order of the holders of words is total
+pub word_holder_total : IsTotalOrder word_holder_cmp
+word_holder_total = word_holder_laws.total-law
+
+-- the order of the other holders is total
+pub holder_total : IsTotalOrder holder_cmp
+holder_total = holder_laws.total-law
+
+-- objects that compare as equal are the same
+pub other_exact : CmpEqualImpliesEq other_cmp
+other_exact (other.Name a) (other.Name b) e = ap other.Name (exact_bytes a b e)
+other_exact (other.File a) (other.File b) e = ap other.File (num_exact a b e)
+other_exact (other.Pipe a) (other.Pipe b) e = ap other.Pipe (num_exact a b e)
+other_exact (other.Pair a) (other.Pair b) e = ap other.Pair (num_exact a b e)
+other_exact other.Jobs other.Jobs e = refl
+other_exact _ _ e = cc
 
 -- keys that compare as equal are the same
 pub key_exact : CmpEqualImpliesEq key_cmp
@@ -108,49 +141,56 @@ key_exact (key.Pair a) (key.Pair b) e = ap key.Pair (num_exact a b e)
 key_exact key.Jobs key.Jobs e = refl
 key_exact _ _ e = cc
 
-exact_at : (a b : Holder) (r : Ordering) → key_cmp a.object b.object ≡ r → ordering_then r (nat_cmp a.tx b.tx) ≡ Equal → a ≡ b
-exact_at a b Equal e f =
-    let object_same = key_exact a.object b.object e in
-    let tx_same = exact_unsigned a.tx b.tx f in
-    λ i. record { object = object_same i; tx = tx_same i }
-exact_at a b Less e f = cc
-exact_at a b Greater e f = cc
+both_equal : (r s : Ordering) → ordering_then r s ≡ Equal → (r ≡ Equal) × (s ≡ Equal)
+both_equal Equal s e = (refl, e)
+both_equal Less s e = cc
+both_equal Greater s e = cc
 
--- holders that compare as equal are the same
+-- holders of words that compare as equal are the same
+pub word_holder_exact : CmpEqualImpliesEq word_holder_cmp
+word_holder_exact a b e =
+    let equal = both_equal (nat_cmp a.at b.at) (nat_cmp a.tx b.tx) e in
+    let at_same = exact_unsigned a.at b.at equal.0 in
+    let tx_same = exact_unsigned a.tx b.tx equal.1 in
+    λ i. record { at = at_same i; tx = tx_same i }
+
+-- other holders that compare as equal are the same
 pub holder_exact : CmpEqualImpliesEq holder_cmp
-holder_exact a b e = exact_at a b (key_cmp a.object b.object) refl e
+holder_exact a b e =
+    let equal = both_equal (other_cmp a.object b.object) (nat_cmp a.tx b.tx) e in
+    let object_same = other_exact a.object b.object equal.0 in
+    let tx_same = exact_unsigned a.tx b.tx equal.1 in
+    λ i. record { object = object_same i; tx = tx_same i }
 
--- ---- keys that are told apart
-abbrev pub is_key : Key → Key → Bool
-is_key = key_eq.ghosts.eq
+-- ---- objects that aren't words and are told apart
+abbrev pub is_other : Other → Other → Bool
+is_other = other_eq.ghosts.eq
 
-same_key_num : (n m : Num) → is_key (key.File n) (key.File m) ≡ true → n ≡ m
-same_key_num n m e = grind arith
+same_file : (n m : Num) → is_other (other.File n) (other.File m) ≡ true → n ≡ m
+same_file n m e = grind arith
 
--- keys that the test calls equal are the same
-pub same_key : (a b : Key) → is_key a b ≡ true → a ≡ b
-same_key (key.Word i) (key.Word j) e = grind arith
-same_key (key.Name n) (key.Name m) e = ap key.Name (same_text n m (sym e))
-same_key (key.File n) (key.File m) e = ap key.File (same_key_num n m e)
-same_key (key.Pipe n) (key.Pipe m) e = ap key.Pipe (same_key_num n m e)
-same_key (key.Pair n) (key.Pair m) e = ap key.Pair (same_key_num n m e)
-same_key key.Jobs key.Jobs e = refl
-same_key a b e = cc
+-- those that the test calls equal are the same
+pub same_other : (a b : Other) → is_other a b ≡ true → a ≡ b
+same_other (other.Name n) (other.Name m) e = ap other.Name (same_text n m (sym e))
+same_other (other.File n) (other.File m) e = ap other.File (same_file n m e)
+same_other (other.Pipe n) (other.Pipe m) e = ap other.Pipe (same_file n m e)
+same_other (other.Pair n) (other.Pair m) e = ap other.Pair (same_file n m e)
+same_other other.Jobs other.Jobs e = refl
+same_other a b e = cc
 
-itself_key_num : (n : Num) → is_key (key.File n) (key.File n) ≡ true
-itself_key_num n = grind arith
+file_itself : (n : Num) → is_other (other.File n) (other.File n) ≡ true
+file_itself n = grind arith
 
-itself_key : (k : Key) → is_key k k ≡ true
-itself_key (key.Word i) = grind arith
-itself_key (key.Name n) = nat_list_eq_equiv.refl n
-itself_key (key.File n) = itself_key_num n
-itself_key (key.Pipe n) = itself_key_num n
-itself_key (key.Pair n) = itself_key_num n
-itself_key key.Jobs = refl
+other_itself : (o : Other) → is_other o o ≡ true
+other_itself (other.Name n) = nat_list_eq_equiv.refl n
+other_itself (other.File n) = file_itself n
+other_itself (other.Pipe n) = file_itself n
+other_itself (other.Pair n) = file_itself n
+other_itself other.Jobs = refl
 
--- keys that the test tells apart differ
-pub other_key : (a b : Key) → is_key a b ≡ false → a ≢ b
-other_key a b e same =
-    let yes : is_key a b ≡ true = subst (λ x. is_key a x ≡ true) same (itself_key a) in
+-- those that the test tells apart differ
+pub others_apart : (a b : Other) → is_other a b ≡ false → a ≢ b
+others_apart a b e same =
+    let yes : is_other a b ≡ true = subst (λ x. is_other a x ≡ true) same (other_itself a) in
     let clash = sym yes ∙ e in
     absurd (cc)

@@ -2,7 +2,6 @@
 use Rattle.std.proofs.Common.{◌≡◌, ◌≢◌, ℕ, Bool, true, false, cond, ◌||◌, Option, Some, None, IsSome, is_some, List, [], ◌∷◌, ◌++◌, refl, ap, ap₂, sym, ◌∙◌}
 use Rattle.std.proofs.Common.{length, drop, append_assoc}
 use Rattle.std.specs.Prelude.{All, ◌==◌, if◌then◌else◌}
-use Rattle.std.specs.FinMap as map
 use Rattle.std.proofs.Math.Seq.{drop-append_seam}
 use Rattle.std.proofs.lemmas.Bool.{eqb-true, eqb-false}
 use Rattle.std.proofs.lemmas.List.Folds.{list_any-append}
@@ -12,12 +11,11 @@ use Rattle.xc_data.specs.declared.claim.Mode.{Mode}
 use Rattle.xc_data.specs.declared.claim.Mode.TheVariants.{Shared}
 use Rattle.xc_data.specs.declared.claim.Claim.{Claim}
 use Rattle.xc_data.specs.Claims.{is_object}
-use Rattle.xc_wordlocks.specs.Keys.{holder}
 use Rattle.xc_wordlocks.specs.Rows.{has}
 use Rattle.xc_wordlocks.specs.Placing.{Placed, is_claimed}
-use Rattle.xc_wordlocks.specs.Table.{Table, mode_of, with_mode, claimed, KeepsOthers}
+use Rattle.xc_wordlocks.specs.Table.{Table, mode_of, set_mode, with_mode, claimed, KeepsOthers}
 use Rattle.xc_wordlocks.proofs.Orders.{same_object, itself}
-use Rattle.xc_wordlocks.proofs.Modes.{same_table, mode_of-insert, mode_of-insert_other}
+use Rattle.xc_wordlocks.proofs.Modes.{same_table, mode_of-set, mode_of-set_other}
 use Rattle.xc_wordlocks.proofs.Claimed.{is_object-swap}
 
 -- ---- tests
@@ -54,7 +52,7 @@ placed_held tx c t row there = record {
 
 -- it is new
 pub placed_new : (tx : ℕ) (c : Claim) (t : Table) (row : List Object) → mode_of t tx c.object ≡ None
-    → Placed tx (c ∷ []) t (map.insert t (holder c.object tx) Shared) row (row ++ c.object ∷ [])
+    → Placed tx (c ∷ []) t (set_mode t tx c.object (Some Shared)) row (row ++ c.object ∷ [])
 placed_new tx c t row lacks = record {
   added = c.object ∷ [];
   rows = refl;
@@ -65,18 +63,18 @@ placed_new tx c t row lacks = record {
   held =
       All-cons (λ (d : Claim). IsSome (mode_of put tx d.object)) c [] (ap is_some (inserted c.object true (itself c.object)))
       (All-nil (λ (d : Claim). IsSome (mode_of put tx d.object)));
-  others = λ n o ne. mode_of-insert_other t c.object o tx n Shared ne;
+  others = λ n o ne. mode_of-set_other t c.object o tx n (Some Shared) ne;
 }
   where
     put : Table
-    put = map.insert t (holder c.object tx) Shared
+    put = set_mode t tx c.object (Some Shared)
 
     own : (o : Object) → has (c.object ∷ []) o ≡ true → is_object o c.object ≡ true
     own o e = sym (or_none (is_object o c.object)) ∙ e
 
     inserted : (o : Object) (b : Bool) → is_object c.object o ≡ b
-        → mode_of (map.insert t (holder c.object tx) Shared) tx o ≡ cond b (Some Shared) (mode_of t tx o)
-    inserted o b e = mode_of-insert t c.object o tx Shared ∙ ap (λ x. cond x (Some Shared) (mode_of t tx o)) e
+        → mode_of (set_mode t tx c.object (Some Shared)) tx o ≡ cond b (Some Shared) (mode_of t tx o)
+    inserted o b e = mode_of-set t c.object o tx (Some Shared) ∙ ap (λ x. cond x (Some Shared) (mode_of t tx o)) e
 
 -- ---- claims behind claims
 module _ (tx : ℕ) (xs ys : List Claim) (s t u : Table) (f g h : List Object) (p : Placed tx xs s t f g) (q : Placed tx ys t u g h) where

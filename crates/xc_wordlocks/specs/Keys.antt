@@ -8,10 +8,17 @@ use Rattle.xc_data.specs.declared.claim.Mode.{Mode}
 use Rattle.xc_data.specs.contracts.claim.Mode as mode_row
 use Rattle.xc_wordlocks.specs.declared.key.Key.{Key}
 use Rattle.xc_wordlocks.specs.declared.key.Key.TheVariants as key
+use Rattle.xc_wordlocks.specs.declared.key.Kind.{Kind}
+use Rattle.xc_wordlocks.specs.declared.key.Kind.TheVariants as kind
+use Rattle.xc_wordlocks.specs.declared.key.Other.{Other}
+use Rattle.xc_wordlocks.specs.declared.key.Other.TheVariants as other
 use Rattle.xc_wordlocks.specs.declared.key.Holder.{Holder}
+use Rattle.xc_wordlocks.specs.declared.key.WordHolder.{WordHolder}
 use Rattle.xc_wordlocks.specs.contracts.key.Holder as holder_row
+use Rattle.xc_wordlocks.specs.contracts.key.WordHolder as word_holder_row
 use Rattle.xc_wordlocks.specs.contracts.key.KeyOrd.TheImpl as key_ord
 use Rattle.xc_wordlocks.specs.contracts.key.HolderOrd.TheImpl as holder_ord
+use Rattle.xc_wordlocks.specs.contracts.key.WordHolderOrd.TheImpl as word_holder_ord
 
 -- an object's key
 abbrev pub key_of : Object → Key
@@ -22,19 +29,40 @@ key_of (object.Pipe num) = key.Pipe num
 key_of (object.Pair num) = key.Pair num
 key_of object.Jobs = key.Jobs
 
--- a transaction as the holder of an object
-abbrev pub holder : Object → ℕ → Holder
-holder o n = record { object = key_of o; tx = n }
+-- an object as a word or another
+abbrev pub kind_of : Object → Kind
+kind_of (object.Word at) = kind.Word at
+kind_of (object.Name name) = kind.Other (other.Name name)
+kind_of (object.File num) = kind.Other (other.File num)
+kind_of (object.Pipe num) = kind.Other (other.Pipe num)
+kind_of (object.Pair num) = kind.Other (other.Pair num)
+kind_of object.Jobs = kind.Other other.Jobs
+
+-- a transaction as the holder of a word
+abbrev pub word_holder : ℕ → ℕ → WordHolder
+word_holder at n = record { at = at; tx = n }
+
+-- a transaction as the holder of another object
+abbrev pub holder_of : Other → ℕ → Holder
+holder_of o n = record { object = o; tx = n }
 
 -- the order of keys
 abbrev pub key_cmp : Key → Key → Ordering
 key_cmp = key_ord.ghosts.cmp
 
+-- by word, and then by transaction
+abbrev pub word_holder_cmp : WordHolder → WordHolder → Ordering
+word_holder_cmp = word_holder_ord.ghosts.cmp
+
 -- by object, and then by transaction
 abbrev pub holder_cmp : Holder → Holder → Ordering
 holder_cmp = holder_ord.ghosts.cmp
 
--- how a proof stores a holder
+-- how a proof stores the holder of a word
+abbrev pub coded_word_holder : Coded WordHolder
+coded_word_holder = word_holder_row.the_row.coded
+
+-- how a proof stores the holder of another object
 abbrev pub coded_holder : Coded Holder
 coded_holder = holder_row.the_row.coded
 

@@ -1,3 +1,4 @@
+pub mod First
 pub mod Index
 pub mod Keys
 pub mod Met

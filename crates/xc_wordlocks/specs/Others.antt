@@ -1,9 +1,7 @@
 -- Who else holds an object: what the table is asked when a claim is looked at.
-use Rattle.std.specs.Prelude.{◌≡◌, ◌≢◌, ◌<◌, ◌≤◌, ℕ, Option, Some, None}
-use Rattle.std.specs.FinMap as map
+use Rattle.std.specs.Prelude.{◌≡◌, ◌≢◌, ◌<◌, ℕ, Some, None}
 use Rattle.xc_data.specs.declared.object.Object.{Object}
 use Rattle.xc_data.specs.declared.claim.Mode.{Mode}
-use Rattle.xc_wordlocks.specs.declared.key.Key.{Key}
 use Rattle.xc_wordlocks.specs.Table.{Table, mode_of}
 
 -- nobody but tx holds an object
@@ -15,9 +13,3 @@ pub record IsFirstOther (table : Table) (o : Object) (tx n : ℕ) (mode : Mode) 
   pub other : n ≢ tx
   pub holds : mode_of table n o ≡ Some mode
   pub smallest : (k : ℕ) → k ≢ tx → k < n → mode_of table k o ≡ None
-
--- the smallest transaction from a number on that holds what the key stands for, and its mode
-abbrev pub IsFirstFrom : Table → Key → ℕ → Option (ℕ × Mode) → Type 0
-IsFirstFrom table key low None = (k : ℕ) → low ≤ k → map.get table (record { object = key; tx = k }) ≡ None
-IsFirstFrom table key low (Some h) = (low ≤ h.0) × (map.get table (record { object = key; tx = h.0 }) ≡ Some h.1)
-    × ((k : ℕ) → low ≤ k → k < h.0 → map.get table (record { object = key; tx = k }) ≡ None)

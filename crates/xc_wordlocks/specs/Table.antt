@@ -1,20 +1,51 @@
 -- The table of claims: in which mode each transaction holds each object.
-use Rattle.std.specs.Prelude.{◌≡◌, ◌≢◌, ℕ, List, [], ◌∷◌, Option, Some, None, if◌then◌else◌}
+use Rattle.std.specs.Prelude.{◌≡◌, ◌≢◌, ℕ, List, [], ◌∷◌, Option, Some, None, if◌then◌else◌, refl}
+use Rattle.std.specs.Coded.{Coded, code_by, coded×}
+use Rattle.std.specs.declared.cmp.Ordering.{Ordering}
 use Rattle.std.specs.FinMap as map
 use Rattle.xc_data.specs.declared.object.Object.{Object}
 use Rattle.xc_data.specs.declared.claim.Mode.{Mode}
 use Rattle.xc_data.specs.declared.claim.Mode.TheVariants.{Shared}
 use Rattle.xc_data.specs.declared.claim.Claim.{Claim}
 use Rattle.xc_data.specs.Claims.{is_object, stronger}
-use Rattle.xc_wordlocks.specs.Keys.{holder, holder_cmp}
+use Rattle.xc_wordlocks.specs.declared.key.Kind.{Kind}
+use Rattle.xc_wordlocks.specs.declared.key.Kind.TheVariants as kind
+use Rattle.xc_wordlocks.specs.declared.holders.Holders.{Holders}
+use Rattle.xc_wordlocks.specs.Keys.{kind_of, holder_of, word_holder, holder_cmp, word_holder_cmp, coded_holder, coded_word_holder, coded_mode}
 
--- the holders of all objects, with their modes
+-- two maps: the holders of words, and those of all other objects, with their modes
 abbrev pub Table : Type 0
-Table = map.FinMap holder_cmp Mode
+Table = Holders
+
+-- the table's code, that of its maps
+abbrev pub coded_table : Coded Table
+coded_table =
+    code_by (map.FinMap word_holder_cmp Mode × map.FinMap holder_cmp Mode)
+    (coded× (map.code coded_word_holder coded_mode) (map.code coded_holder coded_mode))
+    (λ t. (t.words, t.others)) (λ p. record { words = p.0; others = p.1 }) (λ _. refl)
+
+-- in which mode a transaction holds a word or another object
+abbrev pub mode_at : Table → ℕ → Kind → Option Mode
+mode_at table n (kind.Word at) = map.get table.words (word_holder at n)
+mode_at table n (kind.Other o) = map.get table.others (holder_of o n)
 
 -- in which mode a transaction holds an object
 abbrev pub mode_of : Table → ℕ → Object → Option Mode
-mode_of table n o = map.get table (holder o n)
+mode_of table n o = mode_at table n (kind_of o)
+
+-- a map with a mode at a key, or with nothing there
+abbrev pub set_entry : {K : Type 0} {R : K → K → Ordering} → map.FinMap R Mode → K → Option Mode → map.FinMap R Mode
+set_entry m k None = map.remove m k
+set_entry m k (Some mode) = map.insert m k mode
+
+-- the table with a transaction's mode for a word or another object, or with nothing there
+abbrev pub set_at : Table → ℕ → Kind → Option Mode → Table
+set_at table n (kind.Word at) mode = record table { words = set_entry table.words (word_holder at n) mode }
+set_at table n (kind.Other o) mode = record table { others = set_entry table.others (holder_of o n) mode }
+
+-- the table in which a transaction holds an object in a mode, or no longer
+abbrev pub set_mode : Table → ℕ → Object → Option Mode → Table
+set_mode table n o mode = set_at table n (kind_of o) mode
 
 -- the mode of an object behind a claim on it
 abbrev pub with_mode : Option Mode → Mode → Mode

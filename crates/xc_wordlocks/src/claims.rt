@@ -19,14 +19,12 @@ pub struct Claims {
 }
 
 impl Model for Claims {
-    ghost use Rattle.std.specs.FinMap as map;
-    ghost use Rattle.xc_data.specs.declared.claim.Mode.{Mode};
-    ghost use Rattle.xc_wordlocks.specs.Keys.{holder_cmp, coded_holder, coded_mode};
+    ghost use Rattle.xc_wordlocks.specs.Table.{Table, coded_table};
     ghost use Rattle.xc_wordlocks.specs.Rows.{IsWhole};
 
-    ghost Value = { map.FinMap holder_cmp Mode };
+    ghost Value = { Table };
 
-    ghost coded = { map.code coded_holder coded_mode };
+    ghost coded = { coded_table };
 
     ghost view = { λ a. a.holders };
 

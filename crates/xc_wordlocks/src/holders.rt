@@ -1,85 +1,75 @@
 ghost use Rattle.std.specs.Prelude.{◌≡◌, ◌+◌, [], ◌∷◌, All, IsSome, MatchOption, OnOk, OnErr, None, Some, if◌then◌else◌};
 ghost use Rattle.std.specs.FinMap as map;
-ghost use Rattle.xc_wordlocks.specs.Keys.{holder};
-ghost use Rattle.xc_wordlocks.specs.Table.{KeepsOthers, claimed, mode_of};
 ghost use Rattle.xc_data.specs.declared.object.Object.{Object};
 ghost use Rattle.xc_data.specs.declared.claim.Claim.{Claim};
-ghost use Rattle.xc_wordlocks.specs.Rows.{has};
-ghost use Rattle.xc_wordlocks.specs.Others.{HasNoOther, IsFirstFrom, IsFirstOther};
 
-use crate::key::{Holder, Key};
+use crate::key::Kind;
+use crate::others::Others;
+use crate::words::Words;
 use std::alloc::Global;
-use std::collections::BTreeMap;
-use std::marker::Model;
-use std::ops::Bound;
 use xc_data::{Claim, Mode, NoMemory, Object};
 
-/// Who holds which object, and in which mode.
+/// Who holds which object, and in which mode. Contracts see it by `mode_of`.
 #[derive(Drop)]
 pub struct Holders {
-    modes: BTreeMap<Holder, Mode>,
-}
-
-impl Model for Holders {
-    ghost use Rattle.std.specs.FinMap as map;
-    ghost use Rattle.xc_data.specs.declared.claim.Mode.{Mode};
-    ghost use Rattle.xc_wordlocks.specs.Keys.{holder_cmp, coded_holder, coded_mode};
-
-    ghost Value = { map.FinMap holder_cmp Mode };
-
-    ghost coded = { map.code coded_holder coded_mode };
-
-    ghost view = { λ a. map.from_entries a.modes.entries };
+    words: Words,
+    others: Others,
 }
 
 impl Holders {
+    ghost use Rattle.xc_wordlocks.specs.Table.{KeepsOthers, claimed, mode_of, set_mode};
+    ghost use Rattle.xc_wordlocks.specs.Rows.{has};
+    ghost use Rattle.xc_wordlocks.specs.First.{IsFirstFrom};
+    ghost use Rattle.xc_wordlocks.specs.Others.{HasNoOther, IsFirstOther};
+
     pub fn new(alloc: Global) -> Self
-        ensures { result ≡ map.empty }
+        ensures words { result.words ≡ map.empty }
+        ensures others { result.others ≡ map.empty }
     {
         Holders {
-            modes: BTreeMap::new(alloc),
+            words: Words::new(alloc),
+            others: Others::new(alloc),
         }
     }
 
     pub fn get(&self, object: Object, tx: u32) -> Option<Mode>
         ensures { result ≡ mode_of self.now tx object }
     {
-        self.modes.get(&Holder::new(object, tx)).copied()
+        match Kind::from(object) {
+            Kind::Word(at) => self.words.get(at, tx),
+            Kind::Other(object) => self.others.get(object, tx),
+        }
     }
 
     /// Only a new holder can want memory.
     pub fn insert(&mut self, object: Object, tx: u32, mode: Mode) -> Result<(), NoMemory>
-        ensures ok { OnOk result (self.new ≡ map.insert self.old (holder object tx) mode) }
+        ensures ok { OnOk result (self.new ≡ set_mode self.old tx object (Some mode)) }
         ensures err { OnErr result (self.new ≡ self.old) }
         ensures absent { OnErr result (mode_of self.old tx object ≡ None) }
     {
-        let object = Key::from(object);
-        self.modes.insert(Holder { object, tx }, mode)?;
-        Ok(())
+        match Kind::from(object) {
+            Kind::Word(at) => self.words.insert(at, tx, mode),
+            Kind::Other(object) => self.others.insert(object, tx, mode),
+        }
     }
 
     // The smallest holder of an object.
-    fn first(&self, object: Key) -> Option<(u32, Mode)>
-        ensures { IsFirstFrom self.now object 0 result }
+    fn first(&self, object: &Object) -> Option<(u32, Mode)>
+        ensures { IsFirstFrom (λ n. mode_of self.now n object.now) 0 result }
     {
-        let (holder, mode) = self.modes.range(Holder { object, tx: 0 }..).next()?;
-        if holder.object == object {
-            Some((holder.tx, *mode))
-        } else {
-            None
+        match Kind::from(*object) {
+            Kind::Word(at) => self.words.first(at),
+            Kind::Other(object) => self.others.first(object),
         }
     }
 
     // The smallest holder of an object that is greater than this one.
-    fn first_behind(&self, object: Key, tx: u32) -> Option<(u32, Mode)>
-        ensures { IsFirstFrom self.now object (tx + 1) result }
+    fn first_behind(&self, object: &Object, tx: u32) -> Option<(u32, Mode)>
+        ensures { IsFirstFrom (λ n. mode_of self.now n object.now) (tx + 1) result }
     {
-        let behind = (Bound::Excluded(Holder { object, tx }), Bound::Unbounded);
-        let (holder, mode) = self.modes.range(behind).next()?;
-        if holder.object == object {
-            Some((holder.tx, *mode))
-        } else {
-            None
+        match Kind::from(*object) {
+            Kind::Word(at) => self.words.first_behind(at, tx),
+            Kind::Other(object) => self.others.first_behind(object, tx),
         }
     }
 
@@ -87,18 +77,21 @@ impl Holders {
     pub fn first_other(&self, object: &Object, tx: u32) -> Option<(u32, Mode)>
         ensures { MatchOption result (HasNoOther self.now object.now tx) (λ h. IsFirstOther self.now object.now tx h.0 h.1) }
     {
-        let (holder, mode) = self.first(Key::from(*object))?;
+        let (holder, mode) = self.first(object)?;
         if holder == tx {
-            self.first_behind(Key::from(*object), tx)
+            self.first_behind(object, tx)
         } else {
             Some((holder, mode))
         }
     }
 
     pub fn remove(&mut self, object: Object, tx: u32)
-        ensures { self.new ≡ map.remove self.old (holder object tx) }
+        ensures { self.new ≡ set_mode self.old tx object None }
     {
-        let _ = self.modes.remove(&Holder::new(object, tx));
+        match Kind::from(object) {
+            Kind::Word(at) => self.words.remove(at, tx),
+            Kind::Other(object) => self.others.remove(object, tx),
+        }
     }
 
     /// The transaction holds none of these objects any longer.

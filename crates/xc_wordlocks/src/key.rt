@@ -1,6 +1,6 @@
 use xc_data::{Name, Num, Object};
 
-/// An object as the table orders it: by its kind, and then by what it names.
+/// An object in an order: by its kind, and then by what it names.
 #[derive(Clone, Copy, Debug, PartialEq, Eq, PartialOrd, Ord)]
 pub enum Key {
     Word(u32),
@@ -11,10 +11,34 @@ pub enum Key {
     Jobs,
 }
 
-/// A transaction that holds an object. The holders of one object stand next to each other.
+/// An object that isn't a word, in the same order.
+#[derive(Clone, Copy, Debug, PartialEq, Eq, PartialOrd, Ord)]
+pub enum Other {
+    Name(Name),
+    File(Num),
+    Pipe(Num),
+    Pair(Num),
+    Jobs,
+}
+
+/// An object as the table takes it: a word or another.
+#[derive(Clone, Copy)]
+pub enum Kind {
+    Word(u32),
+    Other(Other),
+}
+
+/// A transaction that holds a word. The holders of one word stand next to each other.
+#[derive(Clone, Copy, Debug, PartialEq, Eq, PartialOrd, Ord)]
+pub struct WordHolder {
+    pub at: u32,
+    pub tx: u32,
+}
+
+/// A transaction that holds another object. The holders of one object stand next to each other.
 #[derive(Clone, Copy, Debug, PartialEq, Eq, PartialOrd, Ord)]
 pub struct Holder {
-    pub object: Key,
+    pub object: Other,
     pub tx: u32,
 }
 
@@ -36,16 +60,20 @@ impl From<Object> for Key {
     }
 }
 
-impl Holder {
+impl From<Object> for Kind {
     ghost use Rattle.std.specs.Prelude.{◌≡◌};
-    ghost use Rattle.xc_wordlocks.specs.Keys.{holder};
+    ghost use Rattle.xc_wordlocks.specs.Keys.{kind_of};
 
-    pub fn new(object: Object, tx: u32) -> Self
-        ensures { result ≡ holder object tx }
-    {
-        Holder {
-            object: Key::from(object),
-            tx,
+    ghost from_gives = { λ o k. k ≡ kind_of o };
+
+    fn from(object: Object) -> Self {
+        match object {
+            Object::Word(at) => Kind::Word(at),
+            Object::Name(name) => Kind::Other(Other::Name(name)),
+            Object::File(num) => Kind::Other(Other::File(num)),
+            Object::Pipe(num) => Kind::Other(Other::Pipe(num)),
+            Object::Pair(num) => Kind::Other(Other::Pair(num)),
+            Object::Jobs => Kind::Other(Other::Jobs),
         }
     }
 }

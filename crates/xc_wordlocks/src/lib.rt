@@ -7,11 +7,13 @@ mod holding;
 mod index;
 mod key;
 mod law;
+mod others;
 mod placing;
 mod refusal;
 mod rows;
 #[cfg(test)]
 mod tests;
+mod words;
 
 pub use claims::Claims;
 pub use holding::Holding;

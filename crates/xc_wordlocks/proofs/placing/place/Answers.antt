@@ -1,10 +1,8 @@
-use Rattle.std.proofs.Common.{List, ◌∷◌, [], is_some, ap, sym, ◌∙◌, subst}
-use Rattle.std.specs.FinMap as map
+use Rattle.std.proofs.Common.{List, ◌∷◌, [], Some, is_some, ap, sym, ◌∙◌, subst}
 use Rattle.xc_data.specs.declared.object.Object.{Object}
 use Rattle.xc_data.specs.declared.claim.Mode.TheVariants.{Shared}
-use Rattle.xc_wordlocks.specs.Keys.{holder}
 use Rattle.xc_wordlocks.specs.Placing.{Placed}
-use Rattle.xc_wordlocks.specs.Table.{Table, mode_of}
+use Rattle.xc_wordlocks.specs.Table.{Table, mode_of, set_mode}
 use Rattle.xc_wordlocks.proofs.Modes.{none_there}
 use Rattle.xc_wordlocks.proofs.Places.{placed_new}
 use Rattle.xc_wordlocks.proofs.placing.place.Goals as goal
@@ -16,6 +14,6 @@ returns-in-Ok-clause-ok c =
     let one = c.args.claim.now ∷ [] in
     let lacks = none_there (mode_of was c.args.tx c.args.claim.now.object) (ap is_some (sym c.get.ensures) ∙ sym c.is_some.ensures ∙ c.if-is_some.false) in
     subst (λ (t : Table). Placed c.args.tx one was t row c.push.new.self.items) (sym c.in-Ok.ensures.ok)
-    (subst (λ (l : List Object). Placed c.args.tx one was (map.insert was (holder c.args.claim.now.object c.args.tx) Shared) row l)
+    (subst (λ (l : List Object). Placed c.args.tx one was (set_mode was c.args.tx c.args.claim.now.object (Some Shared)) row l)
     (sym c.in_ok-push.ensures.items)
     (placed_new c.args.tx c.args.claim.now was row lacks))

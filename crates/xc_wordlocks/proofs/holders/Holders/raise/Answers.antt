@@ -1,9 +1,7 @@
-use Rattle.std.proofs.Common.{◌≡◌, Option, ap, ◌∙◌}
-use Rattle.std.specs.FinMap as map
+use Rattle.std.proofs.Common.{◌≡◌, Option, Some, ap, ◌∙◌}
 use Rattle.xc_data.specs.declared.claim.Mode.{Mode}
-use Rattle.xc_wordlocks.specs.Keys.{holder}
-use Rattle.xc_wordlocks.specs.Table.{Table, mode_of, with_mode}
-use Rattle.xc_wordlocks.proofs.Modes.{mode_of-insert_other, put_there}
+use Rattle.xc_wordlocks.specs.Table.{Table, mode_of, set_mode, with_mode}
+use Rattle.xc_wordlocks.proofs.Modes.{mode_of-set_other, put_there}
 use Rattle.xc_wordlocks.proofs.Claimed.{raised}
 use Rattle.xc_wordlocks.proofs.holders.Holders.raise.Goals as goal
 use Rattle.xc_wordlocks.proofs.holders.Holders.raise.Goals.{in-Some, in-None}
@@ -16,10 +14,10 @@ mode_is c =
       | in-None w ↦ w.mode-is ∙ ap with (w.in-None.ensures)
     ]
 
-put_is : (c : goal.After-insert) → c.insert.new.self ≡ map.insert c.args.self.now (holder c.args.claim.now.object c.args.tx) c.match-get.mode
+put_is : (c : goal.After-insert) → c.insert.new.self ≡ set_mode c.args.self.now c.args.tx c.args.claim.now.object (Some c.match-get.mode)
 put_is c =
     put_there (mode_of c.args.self.now c.args.tx c.args.claim.now.object) c.insert.new.self
-    (map.insert c.args.self.now (holder c.args.claim.now.object c.args.tx) c.match-get.mode) c.insert.result c.requires
+    (set_mode c.args.self.now c.args.tx c.args.claim.now.object (Some c.match-get.mode)) c.insert.result c.requires
     c.insert.ensures.ok c.insert.ensures.absent
 
 pub returns-clause-own : goal.returns-clause-own
@@ -30,4 +28,4 @@ returns-clause-own c o =
 pub returns-clause-others : goal.returns-clause-others
 returns-clause-others c n o ne =
     ap (λ (t : Table). mode_of t n o) (put_is c)
-    ∙ mode_of-insert_other c.args.self.now c.args.claim.now.object o c.args.tx n c.match-get.mode ne
+    ∙ mode_of-set_other c.args.self.now c.args.claim.now.object o c.args.tx n (Some c.match-get.mode) ne
