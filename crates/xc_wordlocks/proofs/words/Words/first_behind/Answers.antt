@@ -22,9 +22,11 @@ returns-then-holder-at c =
     let start = starts_behind row c.args.tx in
     let holder = c.in_ok-holder.holder.now in
     let mode = c.in_ok-holder.mode.now in
-    subst (λ (t : map.FinMap word_holder_cmp Mode). IsFirstFrom (λ n. map.get t (word_holder c.args.at n)) (c.args.tx + 1) (Some (holder.tx, mode))) c.self.view_is
+    subst (λ (t : map.FinMap word_holder_cmp Mode). IsFirstFrom (λ n. map.get t (word_holder c.args.at n)) (c.args.tx + 1) (Some (holder.tx, mode)))
+    c.self.view_is
     (found word_holder_total row start c.self.inside.modes holder mode
-    (first_of word_holder_total row start c.self.inside.modes c.range.result c.next.new.self holder mode (c.range.ensures.in_range tt) c.in_ok-holder.ensures.steps)
+    (first_of word_holder_total row start c.self.inside.modes c.range.result c.next.new.self holder mode (c.range.ensures.in_range tt)
+    c.in_ok-holder.ensures.steps)
     (ap (λ x. word_holder x holder.tx) c.if-holder-at.true))
 
 pub returns-else-holder-at : goal.returns-else-holder-at
@@ -35,5 +37,6 @@ returns-else-holder-at c =
     let mode = c.in_ok-holder.mode.now in
     subst (λ (t : map.FinMap word_holder_cmp Mode). IsFirstFrom (λ n. map.get t (word_holder c.args.at n)) (c.args.tx + 1) None) c.self.view_is
     (beyond word_holder_total row start c.self.inside.modes holder mode
-    (first_of word_holder_total row start c.self.inside.modes c.range.result c.next.new.self holder mode (c.range.ensures.in_range tt) c.in_ok-holder.ensures.steps)
+    (first_of word_holder_total row start c.self.inside.modes c.range.result c.next.new.self holder mode (c.range.ensures.in_range tt)
+    c.in_ok-holder.ensures.steps)
     (λ e. c.if-holder-at.false (ap (λ (h : WordHolder). h.at) e)))
