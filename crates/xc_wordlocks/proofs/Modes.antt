@@ -47,11 +47,12 @@ same_table s t same =
 empty_at : (t : Table) (n : ℕ) (k : Kind) → t.words ≡ map.empty → t.others ≡ map.empty → mode_at t n k ≡ None
 empty_at t n (kind.Word at) w o =
     ap (λ (m : map.FinMap word_holder_cmp Mode). map.get m (word_holder at n)) w ∙ map.get-empty word_holder_cmp (word_holder at n)
-empty_at t n (kind.Other p) w o = ap (λ (m : map.FinMap holder_cmp Mode). map.get m (holder_of p n)) o ∙ map.get-empty holder_cmp (holder_of p n)
+empty_at t n (kind.Other p) w o =
+    ap (λ (m : map.FinMap holder_cmp Mode). map.get m (holder_of p n)) o ∙ map.get-empty holder_cmp (holder_of p n)
 
 -- nobody holds anything in an empty table
 pub mode_of-empty : (t : Table) (n : ℕ) (o : Object) → t.words ≡ map.empty → t.others ≡ map.empty → mode_of t n o ≡ None
-mode_of-empty t n o w e = empty_at t n (kind_of o) w e
+mode_of-empty t n o words others = empty_at t n (kind_of o) words others
 
 -- ---- one entry of a map
 module _ {K : Type 0} {R : K → K → Ordering} (total : IsTotalOrder R) (exact : CmpEqualImpliesEq R) (m : map.FinMap R Mode) where

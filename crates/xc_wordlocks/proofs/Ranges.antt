@@ -17,7 +17,7 @@ use Rattle.xc_wordlocks.specs.declared.key.Holder.{Holder}
 use Rattle.xc_wordlocks.specs.declared.key.WordHolder.{WordHolder}
 use Rattle.xc_wordlocks.specs.Keys.{holder_of, holder_cmp, word_holder, word_holder_cmp}
 use Rattle.xc_wordlocks.specs.First.{IsFirstFrom}
-use Rattle.xc_wordlocks.proofs.Orders.{other_total, other_exact}
+use Rattle.xc_wordlocks.proofs.Orders.{other_total, other_exact, holder_total, word_holder_total}
 
 -- ---- comparisons
 up_to : (n m : ℕ) (r : Ordering) → MatchOrdering r (n < m) (n ≡ m) (m < n) → is_gt r ≡ false → n ≤ m
@@ -66,12 +66,14 @@ module _ {K : Type 0} {R : K → K → Ordering} (total : IsTotalOrder R) (exact
 -- ---- the holders of one object
 -- they stand next to each other, in the order of their transactions
 pub record Row {H : Type 0} (R : H → H → Ordering) (tx : H → ℕ) (at : ℕ → H) : Type 0 where
+  pub total : IsTotalOrder R
   pub order : (n m : ℕ) → R (at n) (at m) ≡ nat_cmp n m
   pub between : (n m : ℕ) (h : H) → is_gt (R (at n) h) ≡ false → is_gt (R h (at m)) ≡ false → h ≡ at (tx h)
 
 -- those of a word
 pub word_row : (w : ℕ) → Row word_holder_cmp (λ (h : WordHolder). h.tx) (word_holder w)
 word_row w = record {
+  total = word_holder_total;
   order = λ n m. level nat_cmp_total exact_unsigned w n m;
   between = λ n m h above under. ap (λ x. word_holder x h.tx) (squeezed nat_cmp_total exact_unsigned w h.at n h.tx m above under);
 }
@@ -79,6 +81,7 @@ word_row w = record {
 -- those of another object
 pub other_row : (o : Other) → Row holder_cmp (λ (h : Holder). h.tx) (holder_of o)
 other_row o = record {
+  total = holder_total;
   order = λ n m. level other_total other_exact o n m;
   between = λ n m h above under. ap (λ x. holder_of x h.tx) (squeezed other_total other_exact o h.object n h.tx m above under);
 }
@@ -116,52 +119,42 @@ lacks : {A : Type 0} (o : Option A) → (IsSome o → ⊥) → o ≡ None
 lacks None h = refl
 lacks (Some a) h = absurd (h refl)
 
-module _ {H : Type 0} {R : H → H → Ordering} {tx : H → ℕ} {at : ℕ → H} (total : IsTotalOrder R) (row : Row R tx at) {low : ℕ} {lo : Bound H}
-    (start : Start row low lo) (m : BTreeMap H Mode) where
+module _ {H : Type 0} {R : H → H → Ordering} {tx : H → ℕ} {at : ℕ → H} {row : Row R tx at} {low : ℕ} {lo : Bound H} (start : Start row low lo)
+    (m : BTreeMap H Mode) (t : map.FinMap R Mode) (is_of : map.from_entries m.entries ≡ t) (r : List (H × Mode)) (is : IsRangeOf R lo Unbounded m r) where
   -- the modes of the object's holders
   abbrev pub modes : ℕ → Option Mode
-  modes n = map.get (map.from_entries {R = R} m.entries) (at n)
+  modes n = map.get t (at n)
 
   seen : (n : ℕ) → modes n ≡ get R m (at n)
-  seen n = get-lookup total m.entries (at n)
+  seen n = ap (λ (u : map.FinMap R Mode). map.get u (at n)) (sym is_of) ∙ get-lookup row.total m.entries (at n)
 
   -- nothing lies behind the bound
-  pub none_behind : (r : List (H × Mode)) → IsRangeOf R lo Unbounded m r → r ≡ [] → IsFirstFrom modes low None
-  none_behind r is empty n above = seen n ∙ is.5 empty (at n) (start.takes n above, tt)
+  pub none_behind : (result : Option (ℕ × Mode)) → r ≡ [] → result ≡ None → IsFirstFrom modes low result
+  none_behind result empty e =
+      subst (λ (x : Option (ℕ × Mode)). IsFirstFrom modes low x) (sym e) (λ n above. seen n ∙ is.5 empty (at n) (start.takes n above, tt))
 
-  -- an entry, as the first of the range
-  pub record First (h : H) (mode : Mode) : Type 0 where
-    pub from : IsFromStart R lo h
-    pub has : get R m h ≡ Some mode
-    pub least : (q : H) → IsFromStart R lo q → IsSome (get R m q) → is_gt (R h q) ≡ false
+  module _ (rest : List (H × Mode)) (h : H) (mode : Mode) (e : r ≡ (h, mode) ∷ rest) where
+    got : IsRangeOf R lo Unbounded m ((h, mode) ∷ rest)
+    got = subst (λ (l : List (H × Mode)). IsRangeOf R lo Unbounded m l) e is
 
-  -- the first entry behind the bound
-  pub first_of : (r rest : List (H × Mode)) (h : H) (mode : Mode) → IsRangeOf R lo Unbounded m r → r ≡ (h, mode) ∷ rest → First h mode
-  first_of r rest h mode is e =
-      let got : IsRangeOf R lo Unbounded m ((h, mode) ∷ rest) = subst (λ (l : List (H × Mode)). IsRangeOf R lo Unbounded m l) e is in
-      record {
-        from = got.1.0.0;
-        has = got.1.1;
-        least = λ q behind there. got.2 q (behind, tt) there;
-      }
+    least : (n : ℕ) → low ≤ n → IsSome (get R m (at n)) → is_gt (R h (at n)) ≡ false
+    least n above there = got.2 (at n) (start.takes n above, tt) there
 
-  -- it is of another object: nobody holds this one
-  pub beyond : (h : H) (mode : Mode) → First h mode → h ≢ at (tx h) → IsFirstFrom modes low None
-  beyond h mode first ne n above =
-      seen n
-      ∙ lacks (get R m (at n)) (λ there.
-      ne (row.between start.first n h (start.from h first.from) (first.least (at n) (start.takes n above) there)))
+    -- the first entry is of another object: nobody holds this one
+    pub beyond : h ≢ at (tx h) → IsFirstFrom modes low None
+    beyond ne n above =
+        seen n ∙ lacks (get R m (at n)) (λ there. ne (row.between start.first n h (start.from h got.1.0.0) (least n above there)))
 
-  -- it is of the object: its transaction is the smallest
-  pub found : (h : H) (mode : Mode) → First h mode → h ≡ at (tx h) → IsFirstFrom modes low (Some (tx h, mode))
-  found h mode first same = (
-    start.numbers (tx h) (subst (λ (q : H). IsFromStart R lo q) same first.from),
-    seen (tx h) ∙ ap (λ (q : H). get R m q) (sym same) ∙ first.has,
-    λ n above under.
-        seen n
-        ∙ lacks (get R m (at n)) (λ there.
-        let least : is_gt (nat_cmp (tx h) n) ≡ false =
-        sym (ap is_gt (row.order (tx h) n)) ∙ ap (λ (q : H). is_gt (R q (at n))) (sym same) ∙ first.least (at n) (start.takes n above) there in
-        let up : tx h ≤ n = up_to (tx h) n (nat_cmp (tx h) n) (ranks (tx h) n) least in
-        absurd (omega arith)),
-  )
+    -- it is of the object: its transaction is the smallest
+    pub found : h ≡ at (tx h) → IsFirstFrom modes low (Some (tx h, mode))
+    found same = (
+      start.numbers (tx h) (subst (λ (q : H). IsFromStart R lo q) same got.1.0.0),
+      seen (tx h) ∙ ap (λ (q : H). get R m q) (sym same) ∙ got.1.1,
+      λ n above under.
+          seen n
+          ∙ lacks (get R m (at n)) (λ there.
+          let not_above : is_gt (nat_cmp (tx h) n) ≡ false =
+          sym (ap is_gt (row.order (tx h) n)) ∙ ap (λ (q : H). is_gt (R q (at n))) (sym same) ∙ least n above there in
+          let up : tx h ≤ n = up_to (tx h) n (nat_cmp (tx h) n) (ranks (tx h) n) not_above in
+          absurd (omega arith)),
+    )

@@ -11,7 +11,7 @@ use Rattle.xc_data.specs.Claims.{is_object, stronger}
 use Rattle.xc_wordlocks.specs.declared.key.Kind.{Kind}
 use Rattle.xc_wordlocks.specs.declared.key.Kind.TheVariants as kind
 use Rattle.xc_wordlocks.specs.declared.holders.Holders.{Holders}
-use Rattle.xc_wordlocks.specs.Keys.{kind_of, holder_of, word_holder, holder_cmp, word_holder_cmp}
+use Rattle.xc_wordlocks.specs.Keys.{kind_of, holder_of, holder_cmp, word_holder, word_holder_cmp}
 use Rattle.xc_wordlocks.specs.Keys.{coded_holder, coded_word_holder, coded_mode}
 
 -- two maps: the holders of words, and those of all other objects, with their modes

@@ -1,5 +1,4 @@
-ghost use Rattle.std.specs.Prelude.{◌≡◌, ◌+◌, [], ◌∷◌, All, IsSome, MatchOption, OnOk, OnErr, None, Some, if◌then◌else◌};
-ghost use Rattle.std.specs.FinMap as map;
+ghost use Rattle.std.specs.Prelude.{◌≡◌, ◌+◌, ℕ, [], ◌∷◌, All, IsSome, MatchOption, OnOk, OnErr, None, Some, if◌then◌else◌};
 ghost use Rattle.xc_data.specs.declared.object.Object.{Object};
 ghost use Rattle.xc_data.specs.declared.claim.Claim.{Claim};
 
@@ -23,8 +22,7 @@ impl Holders {
     ghost use Rattle.xc_wordlocks.specs.Others.{HasNoOther, IsFirstOther};
 
     pub fn new(alloc: Global) -> Self
-        ensures words { result.words ≡ map.empty }
-        ensures others { result.others ≡ map.empty }
+        ensures { (n : ℕ) (o : Object) → mode_of result n o ≡ None }
     {
         Holders {
             words: Words::new(alloc),
@@ -110,11 +108,14 @@ impl Holders {
         ensures own { (o : Object) → mode_of self.new tx o ≡ claimed (mode_of self.old tx o) (claim.now ∷ []) o }
         ensures others { KeepsOthers tx self.old self.new }
     {
-        let mode = match self.get(claim.object, tx) {
+        let was = self.get(claim.object, tx);
+        let mode = match was {
             Some(was) => was.stronger(claim.mode),
             None => claim.mode,
         };
-        let _ = self.insert(claim.object, tx, mode);
+        if was != Some(mode) {
+            let _ = self.insert(claim.object, tx, mode);
+        }
     }
 
     /// Gives what the transaction holds the modes of these claims. It takes no memory.

@@ -6,26 +6,26 @@ use Rattle.xc_wordlocks.proofs.Claimed.{raised}
 use Rattle.xc_wordlocks.proofs.holders.Holders.raise.Goals as goal
 use Rattle.xc_wordlocks.proofs.holders.Holders.raise.Goals.{in-Some, in-None}
 
-mode_is : (c : goal.After-insert) → c.match-get.mode ≡ with_mode (mode_of c.args.self.now c.args.tx c.args.claim.now.object) c.args.claim.now.mode
+mode_is : (c : goal.After-insert) → c.match-was.mode ≡ with_mode (mode_of c.args.self.now c.args.tx c.args.claim.now.object) c.args.claim.now.mode
 mode_is c =
     let with : Option Mode → Mode = λ m. with_mode m c.args.claim.now.mode in
-    elim c.match-get.branch [
+    elim c.match-was.branch [
       | in-Some w ↦ w.mode-is ∙ w.stronger-mode.ensures ∙ ap with (w.in-Some.ensures)
       | in-None w ↦ w.mode-is ∙ ap with (w.in-None.ensures)
     ]
 
-put_is : (c : goal.After-insert) → c.insert.new.self ≡ set_mode c.args.self.now c.args.tx c.args.claim.now.object (Some c.match-get.mode)
+put_is : (c : goal.After-insert) → c.insert.new.self ≡ set_mode c.args.self.now c.args.tx c.args.claim.now.object (Some c.match-was.mode)
 put_is c =
     put_there (mode_of c.args.self.now c.args.tx c.args.claim.now.object) c.insert.new.self
-    (set_mode c.args.self.now c.args.tx c.args.claim.now.object (Some c.match-get.mode)) c.insert.result c.requires
+    (set_mode c.args.self.now c.args.tx c.args.claim.now.object (Some c.match-was.mode)) c.insert.result c.requires
     c.insert.ensures.ok c.insert.ensures.absent
 
-pub returns-clause-own : goal.returns-clause-own
-returns-clause-own c o =
+pub returns-then-ne-clause-own : goal.returns-then-ne-clause-own
+returns-then-ne-clause-own c o =
     ap (λ (t : Table). mode_of t c.args.tx o) (put_is c)
-    ∙ raised c.args.self.now c.args.tx c.args.claim.now c.match-get.mode o (mode_is c)
+    ∙ raised c.args.self.now c.args.tx c.args.claim.now c.match-was.mode o (mode_is c)
 
-pub returns-clause-others : goal.returns-clause-others
-returns-clause-others c n o ne =
+pub returns-then-ne-clause-others : goal.returns-then-ne-clause-others
+returns-then-ne-clause-others c n o ne =
     ap (λ (t : Table). mode_of t n o) (put_is c)
-    ∙ mode_of-set_other c.args.self.now c.args.claim.now.object o c.args.tx n (Some c.match-get.mode) ne
+    ∙ mode_of-set_other c.args.self.now c.args.claim.now.object o c.args.tx n (Some c.match-was.mode) ne
