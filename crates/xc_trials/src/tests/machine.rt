@@ -12,22 +12,21 @@ use xc_machine::{Replied, World, run_body};
 use xc_text::parse;
 use xc_world::opening_private;
 
-fn fine(call: Call) -> Asked {
-    let answer = Answer::Fine;
-    Asked { call, answer }
-}
-
 // Runs a transaction that loads and stores word 0.
 fn runs(alloc: Global, script: &Outline) -> Result<Replied, NoMemory>
     requires { KeepsLimits script.now }
 {
     let mut world = World::of(alloc, script)?;
     let mut me = opening_private(alloc, script)?;
-    let asked = [
-        fine(Call::Load { at: 0 }),
-        fine(Call::Store { at: 0, value: 105 }),
-    ];
-    run_body(alloc, &mut world, &mut me, 1, &asked)
+    let load = Asked {
+        call: Call::Load { at: 0 },
+        answer: Answer::Fine,
+    };
+    let store = Asked {
+        call: Call::Store { at: 0, value: 105 },
+        answer: Answer::Fine,
+    };
+    run_body(alloc, &mut world, &mut me, 1, &[load, store])
 }
 
 #[test]
