@@ -1,5 +1,5 @@
--- The list of what a transaction holds, with an index of the places beside it.
-use Rattle.std.specs.Prelude.{◌≡◌, ◌↔◌, ◌≤◌, ℕ, All, List, length, slice_get, unwrap_or, Option, None, Some, IsSome}
+-- An index of the places of objects in a list.
+use Rattle.std.specs.Prelude.{◌≡◌, ◌↔◌, ℕ, List, slice_get, unwrap_or, Option, None, Some, IsSome}
 use Rattle.std.specs.BTreeMap.{is_at}
 use Rattle.std.specs.Map.{lookup}
 use Rattle.xc_data.specs.declared.object.Object.{Object}
@@ -23,14 +23,3 @@ HasPlace index o = IsSome (lookup (is_at (key_cmp (key_of o))) index)
 -- each object has the place in which it stands among the held ones, and no other
 abbrev pub IsIndex : Index → List Claim → Type 0
 IsIndex index held = (o : Object) (at : ℕ) → (place_in index o ≡ Some at) ↔ (slice_get (objects held) at ≡ Some o)
-
--- what contracts see of what is held: the claims, how many more go in without memory, and the index
-pub record Held : Type 0 where
-  pub items : List Claim
-  pub spare : ℕ
-  pub index : Index
-
--- claims go in without memory
-pub record HasRoomFor (held : Held) (claims : List Claim) : Type 0 where
-  pub spare : length claims ≤ held.spare
-  pub places : All (λ (c : Claim). HasPlace held.index c.object) claims

@@ -1,4 +1,5 @@
 pub mod First
+pub mod Held
 pub mod Index
 pub mod Keys
 pub mod Met

@@ -63,6 +63,10 @@ abbrev pub mode_in : List Claim → Object → Option Mode
 mode_in [] o = None
 mode_in (c ∷ cs) o = if is_object c.object o then Some c.mode else mode_in cs o
 
+-- a transaction holds what this list says, and no more
+abbrev pub Holds : Table → ℕ → List Claim → Type 0
+Holds table tx held = (o : Object) → mode_of table tx o ≡ mode_in held o
+
 -- all others hold the same in both tables
 abbrev pub KeepsOthers : ℕ → Table → Table → Type 0
 KeepsOthers tx old new = (n : ℕ) (o : Object) → n ≢ tx → mode_of new n o ≡ mode_of old n o

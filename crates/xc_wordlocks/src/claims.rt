@@ -1,15 +1,16 @@
 ghost use Rattle.std.specs.Prelude.{◌≡◌, ℕ, All, MatchOption, MatchResult, None, OnOk, OnErr, IfErr};
 ghost use Rattle.xc_data.specs.declared.object.Object.{Object};
-ghost use Rattle.xc_wordlocks.specs.Table.{AreCompatible, KeepsOthers, claimed, mode_of};
+ghost use Rattle.xc_wordlocks.specs.Table.{AreCompatible, Holds, KeepsOthers, claimed, mode_of};
 ghost use Rattle.xc_wordlocks.specs.Met.{IsCause, IsMet, IsNotMet};
 
 use crate::ClaimErr;
 use crate::holders::Holders;
+use crate::holding::Holding;
 use crate::placing::hold_all;
 use crate::rows::Rows;
 use std::alloc::Global;
 use std::marker::Model;
-use xc_data::Claim;
+use xc_data::{Claim, HeldList};
 
 /// Which transaction holds which object, and in which mode. Contracts see it by `mode_of`.
 #[derive(Drop)]
@@ -86,14 +87,16 @@ impl Claims {
         Ok(())
     }
 
-    /// The transaction holds nothing any longer. It takes no memory.
-    pub fn release_all(&mut self, tx: u32)
-        ensures released { (o : Object) → mode_of self.new tx o ≡ None }
+    /// The transaction holds nothing any longer. Gives the list of what it held. It takes no memory.
+    pub fn release_all(&mut self, tx: u32, held: Holding) -> HeldList
+        ensures released { Holds self.old tx held.items → (o : Object) → mode_of self.new tx o ≡ None }
+        ensures held { Holds self.old tx held.items → result ≡ held.items }
         ensures others { KeepsOthers tx self.old self.new }
         ensures coherent { AreCompatible self.new }
     {
         if let Some(row) = self.rows.remove(tx) {
             self.holders.remove_all(row.as_slice(), tx);
         }
+        held.into_items()
     }
 }

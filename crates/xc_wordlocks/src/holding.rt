@@ -2,7 +2,8 @@ ghost use Rattle.std.specs.Prelude.{◌≡◌, ◌<◌, ◌≤◌, ◌+◌, ◌^
 ghost use Rattle.xc_data.specs.Claims.{holding, holding_one};
 ghost use Rattle.xc_data.specs.declared.claim.Claim.{Claim};
 ghost use Rattle.xc_data.specs.declared.object.Object.{Object};
-ghost use Rattle.xc_wordlocks.specs.Index.{HasPlace, HasRoomFor, IsIndex};
+ghost use Rattle.xc_wordlocks.specs.Held.{HasRoomFor};
+ghost use Rattle.xc_wordlocks.specs.Index.{HasPlace, IsIndex};
 
 use crate::index::Index;
 use std::alloc::Global;
@@ -20,7 +21,8 @@ pub struct Holding {
 }
 
 impl Model for Holding {
-    ghost use Rattle.xc_wordlocks.specs.Index.{Held, IsIndex};
+    ghost use Rattle.xc_wordlocks.specs.Held.{Held};
+    ghost use Rattle.xc_wordlocks.specs.Index.{IsIndex};
 
     ghost Value = { Held };
 

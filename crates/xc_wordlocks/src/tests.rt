@@ -41,7 +41,9 @@ fn play(rt: &impl Abort, claims: &mut Claims, step: &Step) {
     match step {
         Step::Claims(tx, listed, meant) => assert_eq!(rt; claims.claim(listed, *tx), *meant),
         Step::Asks(tx, claim, meant) => assert_eq!(rt; claims.met(claim, *tx), *meant),
-        Step::Ends(tx) => claims.release_all(*tx),
+        Step::Ends(tx) => {
+            claims.release_all(*tx, Holding::new(rt.alloc()));
+        }
     }
 }
 
