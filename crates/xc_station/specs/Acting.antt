@@ -13,7 +13,7 @@ use Rattle.xc_file.specs.Calls.{IsNewIn, IsOpenIn}
 use Rattle.xc_host.specs.Contents.{Contents}
 use Rattle.xc_host.specs.Model.{HostModel}
 use Rattle.xc_txmem.specs.Overlay.{AreWithin, overlaid}
-use Rattle.xc_wordlocks.specs.Index.{HasRoomFor}
+use Rattle.xc_wordlocks.specs.Held.{HasRoomFor}
 use Rattle.xc_world.specs.Late.{kept_call}
 use Rattle.xc_story.specs.declared.phase.Phase.TheVariants.{Running}
 use Rattle.xc_story.specs.Rows.{DoesIn, DoesPartIn, IsReplyInTime, Parts, parts_of, stored_by}

@@ -1,6 +1,6 @@
 -- A moment of a station, as one job sees it: what all jobs share, and the job itself in its place.
 use Rattle.std.specs.Prelude.{◌≡◌, ℕ, List, length, slice_get, slice_set, All, IsSome, IsTrue, Result, Ok, Err}
-use Rattle.std.specs.declared.option.Option.TheVariants.{Some}
+use Rattle.std.specs.declared.option.Option.TheVariants.{None, Some}
 use Rattle.xc_data.specs.Claims.{holding}
 use Rattle.xc_data.specs.declared.claim.Claim.{Claim}
 use Rattle.xc_data.specs.declared.claim.Mode.{Mode}
@@ -12,7 +12,7 @@ use Rattle.xc_host.specs.Model.{HostModel}
 use Rattle.xc_script.specs.Ask.{next_body}
 use Rattle.xc_script.specs.Position.{Position, job_of}
 use Rattle.xc_text.specs.declared.script.Script.{Script}
-use Rattle.xc_wordlocks.specs.Table.{Table, KeepsOthers, claimed, mode_in, mode_of}
+use Rattle.xc_wordlocks.specs.Table.{Table, Holds, KeepsOthers, claimed, mode_in, mode_of}
 use Rattle.xc_wordlocks.specs.Met.{IsFirstMet, IsNotMet}
 use Rattle.xc_story.specs.declared.phase.Phase.TheVariants.{Undoing}
 use Rattle.xc_story.specs.Setting.{Setting}
@@ -29,6 +29,20 @@ pub record IsTable (table : Table) (jobs : List SeenJob) : Type 0 where
   pub held : (j : ℕ) (tx : SeenTx) (o : Object) → IsActiveAt jobs j tx → mode_of table tx.number o ≡ mode_in tx.held o
   pub known : (n : ℕ) (o : Object) (mode : Mode) → mode_of table n o ≡ Some mode
       → (j : ℕ) × (tx : SeenTx) × IsActiveAt jobs j tx × (tx.number ≡ n)
+
+-- a job's active transaction holds in the table what it holds
+abbrev pub HoldsItsClaims : Table → SeenJob → Type 0
+HoldsItsClaims table job = (tx : SeenTx) → job.doing ≡ Active tx → Holds table tx.number tx.held
+
+module _ (old new : Table) where
+  -- a transaction holds nothing any longer, and all others what they held
+  pub record Frees (tx : ℕ) : Type 0 where
+    pub released : (o : Object) → mode_of new tx o ≡ None
+    pub others : KeepsOthers tx old new
+
+  -- so does a job's
+  abbrev pub GivesUpClaims : SeenJob → Type 0
+  GivesUpClaims job = (tx : SeenTx) → job.doing ≡ Active tx → Frees tx.number
 
 -- no two active transactions have one number
 abbrev pub AreSingle : List SeenJob → Type 0

@@ -10,6 +10,7 @@ ghost use Rattle.xc_story.specs.declared.phase.Phase.TheVariants as PlainPhase;
 ghost use Rattle.xc_story.specs.Seen.{SeenTx, Active, Idle, failures, late_left};
 ghost use Rattle.xc_story.specs.Rows.{behind_abort, behind_commit, entry_of, with_tx};
 ghost use Rattle.xc_station.specs.Jobs.{queue_of, seen_job, with_queue};
+ghost use Rattle.xc_station.specs.Moments.{GivesUpClaims, HoldsItsClaims};
 
 use crate::job::{Activity, Job};
 use crate::tx::Tx;
@@ -18,6 +19,7 @@ use xc_data::{Cause, Entry};
 use xc_host::Host;
 use xc_script::JobState;
 use xc_story::{Attempts, Phase};
+use xc_wordlocks::Claims;
 
 // Goes on to the next transaction, of which there was no attempt yet.
 fn go_on(place: &mut JobState, attempts: &mut Option<Attempts>)
@@ -41,13 +43,15 @@ pub fn end_late<H: Host>(host: &mut H, job: &mut Job)
     job.tx.late.do_one(host);
 }
 
-/// A committed job behind its last turn, and its entry: its slots have taken the ends of its late calls. The job's number
-/// counts from 1.
-pub fn commit(alloc: Global, number: u32, job: &mut Job) -> Entry
+/// A committed job behind its last turn, and its entry: its slots have taken the ends of its late calls, and its claims are
+/// given up. The job's number counts from 1.
+pub fn commit(alloc: Global, number: u32, job: &mut Job, claims: &mut Claims) -> Entry
     requires committing { (tx : SeenTx) × ((seen_job job.old).doing ≡ Active tx) × (tx.phase ≡ PlainPhase.Committing) }
     requires next { job.old.place.next < 2 ^ 32 }
-    ensures { (tx : SeenTx) (at : ℕ) → (seen_job job.old).doing ≡ Active tx → number ≡ at + 1
+    requires table { HoldsItsClaims claims.old (seen_job job.old) }
+    ensures entry { (tx : SeenTx) (at : ℕ) → (seen_job job.old).doing ≡ Active tx → number ≡ at + 1
         → (seen_job job.new ≡ behind_commit (seen_job job.old) tx) × (result ≡ entry_of tx at (Committed tx.ends)) }
+    ensures freed { GivesUpClaims claims.old claims.new (seen_job job.old) }
 {
     job.activity = Activity::Idle;
     let Tx {
@@ -60,7 +64,7 @@ pub fn commit(alloc: Global, number: u32, job: &mut Job) -> Entry
         .set_ends(calls.as_slice(), replies.as_slice(), late.ends());
     go_on(&mut job.place, &mut job.attempts);
     job.tx.renew();
-    job.tx.close(alloc, number)
+    job.tx.close(alloc, number, claims)
 }
 
 /// An undoing job behind a turn in which its newest record without an end was tried.
@@ -122,19 +126,21 @@ fn go_back(job: &mut Job, rank: u32, cause: Cause)
     }
 }
 
-/// An undoing job behind its last turn, and its entry. The job's number counts from 1.
-pub fn abort(alloc: Global, number: u32, job: &mut Job) -> Entry
+/// An undoing job behind its last turn, and its entry: its claims are given up. The job's number counts from 1.
+pub fn abort(alloc: Global, number: u32, job: &mut Job, claims: &mut Claims) -> Entry
     requires undone { (tx : SeenTx) × (c : PlainCause) × ((seen_job job.old).doing ≡ Active tx) × (tx.phase ≡ PlainPhase.Undoing c)
         × (tx.undo.pending ≡ []) }
     requires next { job.old.place.next < 2 ^ 32 }
     requires attempts { failures job.old.attempts + 1 < 2 ^ 32 }
-    ensures { (tx : SeenTx) (c : PlainCause) (at : ℕ) → (seen_job job.old).doing ≡ Active tx → tx.phase ≡ PlainPhase.Undoing c
+    requires table { HoldsItsClaims claims.old (seen_job job.old) }
+    ensures entry { (tx : SeenTx) (c : PlainCause) (at : ℕ) → (seen_job job.old).doing ≡ Active tx → tx.phase ≡ PlainPhase.Undoing c
         → number ≡ at + 1 → (seen_job job.new ≡ behind_abort (seen_job job.old) tx c)
         × (result ≡ entry_of tx at (Aborted (record { cause = c; records = tx.undo.ended }))) }
+    ensures freed { GivesUpClaims claims.old claims.new (seen_job job.old) }
 {
     let cause = cause_of(&job.tx);
     let rank = job.tx.rank;
-    let entry = job.tx.close(alloc, number);
+    let entry = job.tx.close(alloc, number, claims);
     job.activity = Activity::Idle;
     go_back(job, rank, cause);
     entry

@@ -169,8 +169,12 @@ impl<H: Host> Station<H> {
         ensures same { KeepsOpening self.old self.new }
         ensures row { IsTurn (setting_of H.model self.old) at (now_of H.model self.old) result (now_of H.model self.new) }
     {
-        let entry = commit(self.alloc, at as u32 + 1, &mut self.jobs[at]);
-        self.shared.claims.release_all(entry.tx);
+        let entry = commit(
+            self.alloc,
+            at as u32 + 1,
+            &mut self.jobs[at],
+            &mut self.shared.claims,
+        );
         self.journal.enter(entry);
         self.active -= 1;
         Turn::Went
@@ -197,8 +201,12 @@ impl<H: Host> Station<H> {
         ensures same { KeepsOpening self.old self.new }
         ensures row { IsTurn (setting_of H.model self.old) at (now_of H.model self.old) result (now_of H.model self.new) }
     {
-        let entry = abort(self.alloc, at as u32 + 1, &mut self.jobs[at]);
-        self.shared.claims.release_all(entry.tx);
+        let entry = abort(
+            self.alloc,
+            at as u32 + 1,
+            &mut self.jobs[at],
+            &mut self.shared.claims,
+        );
         self.journal.enter(entry);
         self.active -= 1;
         Turn::Went

@@ -5,7 +5,9 @@ ghost use Rattle.xc_world.specs.World.{beginning, no_handles};
 ghost use Rattle.xc_story.specs.declared.phase.Phase.TheVariants as PlainPhase;
 ghost use Rattle.xc_story.specs.Rows.{entry_of, new_tx};
 ghost use Rattle.xc_station.specs.Jobs.{begun_of, outcome_in, seen_tx};
+ghost use Rattle.xc_wordlocks.specs.Table.{Holds};
 ghost use Rattle.xc_station.specs.Acting.{HasRoom, HasNoteRoom};
+ghost use Rattle.xc_station.specs.Moments.{Frees};
 
 use std::alloc::Global;
 use std::mem;
@@ -15,7 +17,7 @@ use xc_deferred::Late;
 use xc_journal::Roomy;
 use xc_story::Phase;
 use xc_txmem::WriteSet;
-use xc_wordlocks::Holding;
+use xc_wordlocks::{Claims, Holding};
 
 /// A job's transaction, with what its entry will say. It lies in its job for all of the job's transactions, and with it
 /// the job's handles: no begin and no end copies them.
@@ -156,16 +158,19 @@ impl Tx {
         self.replies.enter(reply);
     }
 
-    /// The entry of the job of this number: a commit's, or that of an abort whose records have their ends. It takes no
-    /// memory.
-    pub fn close(&mut self, alloc: Global, job: u32) -> Entry
-        requires { (c : PlainCause) → self.old.phase ≡ PlainPhase.Undoing c → self.old.undo.pending ≡ [] }
+    /// The entry of the job of this number: a commit's, or that of an abort whose records have their ends. It holds nothing
+    /// from then on. It takes no memory.
+    pub fn close(&mut self, alloc: Global, job: u32, claims: &mut Claims) -> Entry
+        requires undone { (c : PlainCause) → self.old.phase ≡ PlainPhase.Undoing c → self.old.undo.pending ≡ [] }
+        requires table { Holds claims.old self.old.number self.old.held.items }
         ensures entry { (at : ℕ) → job ≡ at + 1
             → result ≡ entry_of (seen_tx self.old) at (outcome_in self.old.phase self.old.undo.ended self.old.late.ends) }
         ensures begun { begun_of self.new ≡ begun_of self.old }
+        ensures freed { Frees claims.old claims.new self.old.number }
     {
         let undo = mem::replace(&mut self.undo, Stack::new(alloc));
         let late = mem::replace(&mut self.late, Late::new(alloc));
+        let held = mem::replace(&mut self.held, Holding::new(alloc));
         let outcome = outcome_of(&self.phase, undo, late);
         self.writes = WriteSet::new(alloc);
         Entry {
@@ -175,7 +180,7 @@ impl Tx {
             began: self.began,
             calls: mem::replace(&mut self.calls, Roomy::new(alloc)).into_items(),
             replies: mem::replace(&mut self.replies, Roomy::new(alloc)).into_items(),
-            held: mem::replace(&mut self.held, Holding::new(alloc)).into_items(),
+            held: claims.release_all(self.number, held),
             outcome,
         }
     }

@@ -1,11 +1,24 @@
-use Rattle.std.proofs.Common.{◌≡◌, sym, ap, ◌∙◌}
+use Rattle.std.proofs.Common.{◌≡◌, sym, ap, ◌∙◌, subst}
 use Rattle.xc_story.specs.Seen.{SeenTx, Idle}
+use Rattle.xc_wordlocks.specs.Table.{Holds}
 use Rattle.xc_station.specs.Jobs.{seen_job, seen_tx}
+use Rattle.xc_station.specs.Moments.{Frees}
 use Rattle.xc_station.proofs.Closed.{its_active, same_cause, abort_behind, abort_entry}
 use Rattle.xc_station.proofs.close.abort.Goals as goal
 
-pub returns : goal.returns
-returns c tx cause at is phase number =
+pub close-entry-requires-clause-table : goal.close-entry-requires-clause-table
+close-entry-requires-clause-table c =
+    let required = c.requires.undone in
+    let same : seen_tx c.args.job.now.tx ≡ required.0 = its_active c.args.job.now required.0 required.2 in
+    subst (λ (t : SeenTx). Holds c.args.claims.now t.number t.held) (sym same) (c.requires.table required.0 required.2)
+
+pub returns-clause-freed : goal.returns-clause-freed
+returns-clause-freed c tx is =
+    let same : seen_tx c.args.job.now.tx ≡ tx = its_active c.args.job.now tx is in
+    subst (Frees c.args.claims.now c.close-entry.new.claims) (ap (λ (t : SeenTx). t.number) same) c.close-entry.ensures.freed
+
+pub returns-clause-entry : goal.returns-clause-entry
+returns-clause-entry c tx cause at is phase number =
     let job = c.args.job.now in
     let same : seen_tx job.tx ≡ tx = its_active job tx is in
     let caused = same_cause _ _ (sym c.cause_of-cause.ensures ∙ ap (λ (t : SeenTx). t.phase) same ∙ phase) in (

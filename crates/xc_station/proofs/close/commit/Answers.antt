@@ -6,11 +6,26 @@ use Rattle.xc_story.specs.declared.phase.Phase.TheVariants.{Committing}
 use Rattle.xc_station.specs.declared.tx.Tx.{Tx}
 use Rattle.xc_station.specs.Jobs.{begun_of, outcome_in, seen_job, seen_tx}
 use Rattle.xc_story.specs.Rows.{entry_of}
+use Rattle.xc_wordlocks.specs.Table.{Holds}
+use Rattle.xc_station.specs.Moments.{Frees}
 use Rattle.xc_station.proofs.Closed.{its_active, same_active, commit_entry, commit_behind}
 use Rattle.xc_station.proofs.close.commit.Goals as goal
 
-pub returns : goal.returns
-returns c tx at is number =
+pub close-requires-clause-table : goal.close-requires-clause-table
+close-requires-clause-table c =
+    let required = c.requires.committing in
+    let same : seen_tx c.args.job.now.tx ≡ required.0 = its_active c.args.job.now required.0 required.1 in
+    subst (λ (t : Tx). Holds c.args.claims.now t.number t.held.items) (sym c.renew.ensures)
+    (subst (λ (t : SeenTx). Holds c.args.claims.now t.number t.held) (sym same) (c.requires.table required.0 required.1))
+
+pub returns-clause-freed : goal.returns-clause-freed
+returns-clause-freed c tx is =
+    let same : seen_tx c.args.job.now.tx ≡ tx = its_active c.args.job.now tx is in
+    subst (Frees c.args.claims.now c.close.new.claims)
+    (ap (λ (t : Tx). t.number) c.renew.ensures ∙ ap (λ (t : SeenTx). t.number) same) c.close.ensures.freed
+
+pub returns-clause-entry : goal.returns-clause-entry
+returns-clause-entry c tx at is number =
     let required = c.requires.committing in
     let was : Position = c.args.job.now.place in
     let same : seen_tx c.args.job.now.tx ≡ tx = its_active c.args.job.now tx is in

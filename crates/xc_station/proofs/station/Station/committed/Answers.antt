@@ -1,17 +1,14 @@
 use Rattle.std.proofs.Common.{◌≡◌, refl, sym, subst, ap, ◌+◌}
 use Rattle.std.specs.Prelude.{slice_set}
-use Rattle.xc_story.specs.Seen.{active_of}
+use Rattle.xc_story.specs.Seen.{active_in, active_of}
 use Rattle.xc_story.specs.Setting.{setting}
 use Rattle.xc_story.specs.Rows.{IsTurn}
-use Rattle.std.specs.declared.option.Option.TheVariants.{None}
-use Rattle.xc_data.specs.declared.object.Object.{Object}
-use Rattle.xc_data.specs.declared.entry.Entry.{Entry}
-use Rattle.xc_wordlocks.specs.Table.{KeepsOthers, mode_of}
 use Rattle.xc_station.specs.declared.calls.Shared.{Shared}
 use Rattle.xc_data.specs.declared.entry.Turn.TheVariants as turn
 use Rattle.xc_station.specs.declared.job.Stage.TheVariants as PlainStage
-use Rattle.xc_station.specs.Jobs.{IsStage, doing_of}
+use Rattle.xc_station.specs.Jobs.{IsStage, doing_of, seen_job}
 use Rattle.xc_station.specs.Stations.{moment, now_of, setting_of}
+use Rattle.xc_station.proofs.Placed.{get_map}
 use Rattle.xc_station.proofs.Ready.{fits_next, has_room}
 use Rattle.xc_station.proofs.RoomsKept.{rooms_entered}
 use Rattle.xc_station.proofs.Stages.{lent, committed_stage}
@@ -30,6 +27,15 @@ commit-entry-requires-clause-committing g c =
     c.index_mut.ensures.value in
     let mine = committed_stage (doing_of was) is.stage in
     (mine.tx, mine.doing, mine.phase)
+
+pub commit-entry-requires-clause-table : goal.commit-entry-requires-clause-table
+commit-entry-requires-clause-table g c tx doing =
+    let was = c.index_mut.result.now in
+    let station = c.self.inside in
+    let at = c.args.at in
+    let is = lent station.jobs.items at PlainStage.Committed was (subst (λ v. IsStage v.jobs at PlainStage.Committed) (sym c.self.view_is) c.requires)
+    c.index_mut.ensures.value in
+    λ o. c.self.invariant.1.claims.held at tx o (seen_job was, get_map seen_job station.jobs.items at was is.stands, ap active_in doing)
 
 pub commit-entry-requires-clause-next : goal.commit-entry-requires-clause-next
 commit-entry-requires-clause-next g c =
@@ -79,14 +85,14 @@ invariant_of-self g c =
     let s = setting station.opening.script station.rules model.tells in
     let is = lent station.jobs.items at PlainStage.Committed was (subst (λ v. IsStage v.jobs at PlainStage.Committed) (sym c.self.view_is) c.requires)
     c.index_mut.ensures.value in
-    let shared' : Shared g.row.H.Denot = record { host = station.shared.host; words = station.shared.words; claims = c.release_all.new.self } in
+    let shared' : Shared g.row.H.Denot = record { host = station.shared.host; words = station.shared.words; claims = c.commit-entry.new.claims } in
     let job = c.commit-entry.new.job in
     let turned = committed_turned model station.shared station.journal.items station.jobs.items at was s shared' c.enter.new.self.items
     c.commit-entry.result job (at + 1)
-    is c.commit-entry.ensures refl (refl, refl) c.enter.ensures.items in
+    is c.commit-entry.ensures.entry refl (refl, refl) c.enter.ensures.items in
     let mine = committed_stage (doing_of was) is.stage in
-    let gave = c.commit-entry.ensures mine.tx at mine.doing refl in
-    let number = ap (λ (e : Entry). e.tx) gave.1 in
+    let gave = c.commit-entry.ensures.entry mine.tx at mine.doing refl in
+    let freed = c.commit-entry.ensures.freed mine.tx mine.doing in
     let some = has_room model station.shared station.journal.items station.jobs.items at was station.opening.script station.rules station.opening.faults
     station.active
     station.journal.spare station.lines c.self.invariant.0 c.self.invariant.1 PlainStage.Committed mine.tx is mine.doing in (
@@ -94,8 +100,7 @@ invariant_of-self g c =
       rooms_entered model station.shared station.journal.items station.jobs.items at was job station.active station.journal.spare station.lines is.stands
           c.self.invariant.1 s shared' c.enter.new.self.items c.enter.new.self.spare mine.tx c.self.invariant.0.kept.told mine.doing
           (ap active_of gave.0)
-          (subst (λ n. (o : Object) → mode_of c.release_all.new.self n o ≡ None) number c.release_all.ensures.released)
-          (subst (λ n. KeepsOthers n station.shared.claims c.release_all.new.self) number c.release_all.ensures.others) some.0 c.enter.ensures.spare,
+          freed.released freed.others some.0 c.enter.ensures.spare,
     )
 
 pub returns-clause-row : goal.returns-clause-row
@@ -107,10 +112,10 @@ returns-clause-row g c =
     let s = setting station.opening.script station.rules model.tells in
     let is = lent station.jobs.items at PlainStage.Committed was (subst (λ v. IsStage v.jobs at PlainStage.Committed) (sym c.self.view_is) c.requires)
     c.index_mut.ensures.value in
-    let shared' : Shared g.row.H.Denot = record { host = station.shared.host; words = station.shared.words; claims = c.release_all.new.self } in
+    let shared' : Shared g.row.H.Denot = record { host = station.shared.host; words = station.shared.words; claims = c.commit-entry.new.claims } in
     let job = c.commit-entry.new.job in
     let turned = committed_turned model station.shared station.journal.items station.jobs.items at was s shared' c.enter.new.self.items
     c.commit-entry.result job (at + 1)
-    is c.commit-entry.ensures refl (refl, refl) c.enter.ensures.items in
+    is c.commit-entry.ensures.entry refl (refl, refl) c.enter.ensures.items in
     subst (λ v. IsTurn (setting_of model v) at (now_of model v) turn.Went (moment model shared' c.enter.new.self.items (slice_set station.jobs.items at job)))
     c.self.view_is turned
