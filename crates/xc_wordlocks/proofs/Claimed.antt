@@ -1,6 +1,6 @@
 -- Modes behind claims, and loops over them.
 use Rattle.std.proofs.Common.{◌≡◌, ℕ, Bool, true, false, cond, ◌||◌, Option, Some, None, IsSome, List, [], ◌∷◌, ◌++◌, refl, ap, sym, ◌∙◌, subst}
-use Rattle.std.proofs.Common.{take, take_all, length-drop, arith, ◌-◌, ◌+◌, ◌<◌, suc, length, get_or, drop, drop-cons, add-one}
+use Rattle.std.proofs.Common.{take, ◌+◌, ◌<◌, suc, length, get_or, drop, drop-cons, add-one}
 use Rattle.std.specs.Prelude.{All, if◌then◌else◌}
 use Rattle.std.proofs.Math.Seq.{take-suc}
 use Rattle.std.proofs.lemmas.List.{take-append-drop}

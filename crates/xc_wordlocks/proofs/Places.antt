@@ -1,16 +1,15 @@
 -- Room for claims: one claim more, all of them, and what is taken back.
-use Rattle.std.proofs.Common.{◌≡◌, ◌≢◌, ℕ, Bool, true, false, cond, ◌||◌, Option, Some, None, IsSome, is_some, List, [], ◌∷◌, ◌++◌, refl, ap, ap₂, sym, ◌∙◌}
-use Rattle.std.specs.Prelude.{All, ◌==◌, if◌then◌else◌}
+use Rattle.std.proofs.Common.{◌≡◌, ◌≢◌, ℕ, Bool, true, false, cond, ◌||◌, Some, None, IsSome, is_some, List, [], ◌∷◌, ◌++◌, refl, ap, ap₂, sym, ◌∙◌}
+use Rattle.std.specs.Prelude.{◌==◌, if◌then◌else◌}
 use Rattle.std.proofs.lemmas.Bool.{eqb-true, eqb-false}
 use Rattle.std.proofs.lemmas.List.Folds.{list_any-append}
-use Rattle.std.proofs.lemmas.List.Elements.{All-nil, All-cons, All-head, All-tail, All-weaker, All-append}
+use Rattle.std.proofs.lemmas.List.Elements.{All-nil, All-cons, All-weaker, All-append}
 use Rattle.xc_data.specs.declared.object.Object.{Object}
-use Rattle.xc_data.specs.declared.claim.Mode.{Mode}
 use Rattle.xc_data.specs.declared.claim.Mode.TheVariants.{Shared}
 use Rattle.xc_data.specs.declared.claim.Claim.{Claim}
 use Rattle.xc_data.specs.Claims.{is_object}
-use Rattle.xc_wordlocks.specs.Placing.{Placed, PlacedBehind, is_claimed}
-use Rattle.xc_wordlocks.specs.Table.{has, Table, mode_of, set_mode, with_mode, claimed, KeepsOthers}
+use Rattle.xc_wordlocks.specs.Placing.{Placed, is_claimed}
+use Rattle.xc_wordlocks.specs.Table.{has, Table, mode_of, set_mode, claimed, KeepsOthers}
 use Rattle.xc_wordlocks.proofs.Orders.{same_object, itself}
 use Rattle.xc_wordlocks.proofs.Modes.{same_table, mode_of-set, mode_of-set_other}
 use Rattle.xc_wordlocks.proofs.Claimed.{is_object-swap}
@@ -30,21 +29,6 @@ pub has-append : (a b : List Object) (o : Object) → has (a ++ b) o ≡ (has a 
 has-append a b o = list_any-append (is_object o) a b
 
 -- ---- one claim
--- it is held already
-pub placed_held : (tx : ℕ) (c : Claim) (t : Table) (front : List Object) → IsSome (mode_of t tx c.object) → PlacedBehind tx (c ∷ []) t t front front
-placed_held tx c t front there = ([], sym (append_nil front), record {
-  new = λ o e. absurd (cc);
-  shared = λ o e. absurd (cc);
-  asked = λ o e. absurd (cc);
-  kept = λ o e. refl;
-  held = All-cons (λ (d : Claim). IsSome (mode_of t tx d.object)) c [] there (All-nil (λ (d : Claim). IsSome (mode_of t tx d.object)));
-  others = λ n o ne. refl;
-})
-  where
-    append_nil : (xs : List Object) → xs ++ [] ≡ xs
-    append_nil [] = refl
-    append_nil (x ∷ xs) = ap (λ ys. x ∷ ys) (append_nil xs)
-
 -- it is new
 pub placed_new : (tx : ℕ) (c : Claim) (t : Table) → mode_of t tx c.object ≡ None
     → Placed tx (c ∷ []) t (set_mode t tx c.object (Some Shared)) (c.object ∷ [])

@@ -2,7 +2,7 @@
 use Rattle.std.proofs.Common.{◌≡◌, ◌<◌, ◌≤◌, ◌+◌, ℕ, Bool, true, false, cond, ◌||◌, Option, Some, None, List, [], ◌∷◌, ◌++◌, map, refl, ap, ap₂, sym, ◌∙◌}
 use Rattle.std.proofs.Common.{length, take, drop, get_or, drop-cons, add-one, arith}
 use Rattle.std.specs.Prelude.{All, if◌then◌else◌, option_map}
-use Rattle.std.specs.List.{fold, filter_map, cons_option}
+use Rattle.std.specs.List.{fold, cons_option}
 use Rattle.std.proofs.Math.Bool.{or-false}
 use Rattle.std.proofs.lemmas.List.{append-nil, map-append}
 use Rattle.std.proofs.lemmas.List.Elements.{All-head, All-tail, filter_map-append}

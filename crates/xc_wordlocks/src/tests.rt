@@ -102,7 +102,13 @@ fn readers_share_and_writers_are_alone(rt: HostRuntime) -> Result<(), Fail> {
     let both = [reads(WORD_0), reads(FILE)];
     end(&rt, &mut claims, 3, &both, &both)?;
     play(&rt, &mut claims, &freed);
-    end(&rt, &mut claims, 9, &[reads(WORD_0), reads(WORD_0)], &[reads(WORD_0)])?;
+    end(
+        &rt,
+        &mut claims,
+        9,
+        &[reads(WORD_0), reads(WORD_0)],
+        &[reads(WORD_0)],
+    )?;
     play(&rt, &mut claims, &alone);
     let log = [reads(WORD_0), reads(PIPE), writes(WORD_0), reads(WORD_0)];
     end(&rt, &mut claims, 7, &log, &[writes(WORD_0), reads(PIPE)])?;

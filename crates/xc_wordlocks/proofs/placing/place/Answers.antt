@@ -1,5 +1,4 @@
-use Rattle.std.proofs.Common.{◌≡◌, ◌∷◌, ◌++◌, [], Some, None, is_some, ap, sym, ◌∙◌, subst}
-use Rattle.xc_data.specs.declared.claim.Mode.TheVariants.{Shared}
+use Rattle.std.proofs.Common.{◌≡◌, ◌∷◌, ◌++◌, [], None, is_some, ap, sym, ◌∙◌, subst}
 use Rattle.xc_wordlocks.specs.Placing.{Placed}
 use Rattle.xc_wordlocks.specs.Table.{Table, mode_of}
 use Rattle.xc_wordlocks.proofs.Modes.{none_there}
@@ -11,8 +10,7 @@ returns-clause-ok c =
     let was = c.args.holders.now in
     let claim = c.args.claim.now in
     let lacks : mode_of was c.args.tx claim.object ≡ None =
-    none_there (mode_of was c.args.tx claim.object) (ap is_some (sym c.get.ensures) ∙ sym c.is_some.ensures ∙ c.if-is_some.false) in
-    (
+    none_there (mode_of was c.args.tx claim.object) (ap is_some (sym c.get.ensures) ∙ sym c.is_some.ensures ∙ c.if-is_some.false) in (
       claim.object ∷ [],
       c.push_reserved.ensures.items ∙ ap (λ xs. xs ++ claim.object ∷ []) c.reserve.ensures.items,
       subst (λ (t : Table). Placed c.args.tx (claim ∷ []) was t (claim.object ∷ [])) (sym c.in_ok-insert.ensures.ok) (placed_new c.args.tx claim was lacks),

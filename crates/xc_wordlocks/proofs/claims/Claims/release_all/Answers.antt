@@ -1,12 +1,10 @@
 use Rattle.std.proofs.Common.{◌≡◌, Bool, true, false, cond, Option, Some, None, is_some, refl, ap, sym, ◌∙◌}
-use Rattle.std.specs.Prelude.{All}
 use Rattle.std.proofs.lemmas.List.Elements.{All-weaker}
-use Rattle.xc_data.specs.declared.object.Object.{Object}
 use Rattle.xc_data.specs.declared.claim.Mode.{Mode}
 use Rattle.xc_data.specs.declared.claim.Claim.{Claim}
 use Rattle.xc_data.specs.Claims.{objects, held_of}
-use Rattle.xc_wordlocks.specs.Table.{Holds, has, mode_in, mode_of}
-use Rattle.xc_wordlocks.specs.Released.{claims_on, each_once}
+use Rattle.xc_wordlocks.specs.Table.{has, mode_in, mode_of}
+use Rattle.xc_wordlocks.specs.Released.{claims_on}
 use Rattle.xc_wordlocks.proofs.Held.{mode_in-has, held_first}
 use Rattle.xc_wordlocks.proofs.Modes.{none_there}
 use Rattle.xc_wordlocks.proofs.Released.{held_has, held_objects, same_claims}
