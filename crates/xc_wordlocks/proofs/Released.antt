@@ -26,6 +26,7 @@ merged_objects c [] = refl
 merged_objects c (h ∷ hs) =
     ap (λ o. o ∷ objects (map (merged c) hs)) (merged_object c h (is_object c.object h.object) refl) ∙ ap (λ os. h.object ∷ os) (merged_objects c hs)
 
+-- behind one claim, and behind several
 one_objects : (held : List Claim) (c : Claim) → objects (holding_one held c) ≡ with_one (objects held) c.object
 one_objects held c = by (has (objects held) c.object)
   where
@@ -41,7 +42,7 @@ all_objects held (c ∷ cs) = all_objects (holding_one held c) cs ∙ ap (λ os.
 pub held_objects : (claims : List Claim) → objects (held_of claims) ≡ each_once (objects claims)
 held_objects claims = all_objects [] claims
 
--- either of two lists of objects has the same ones
+-- an object behind others adds itself alone
 with_has : (os : List Object) (p o : Object) (b : Bool) → has os p ≡ b → has (if b then os else os ++ p ∷ []) o ≡ (has os o || has (p ∷ []) o)
 with_has os p o true there = by (is_object o p) refl
   where
@@ -50,6 +51,7 @@ with_has os p o true there = by (is_object o p) refl
     by false is = sym (or-false (has os o))
 with_has os p o false lacks = has-append os (p ∷ []) o
 
+-- objects behind others add themselves alone
 fold_has : (os ps : List Object) (o : Object) → has (fold with_one os ps) o ≡ (has os o || has ps o)
 fold_has os [] o = sym (or-false (has os o))
 fold_has os (p ∷ ps) o =
@@ -82,6 +84,7 @@ same_claims modes (h ∷ hs) all =
 abbrev pub claim_in : Option Mode → Object → List Claim
 claim_in m o = cons_option (option_map (λ m. claim m o) m) []
 
+-- an object more adds its claim, where it is new and held
 claims_more : (modes : Object → Option Mode) (os : List Object) (p : Object)
     → claims_on modes (each_once (os ++ p ∷ [])) ≡ claims_on modes (each_once os) ++ claim_in (cond (has os p) None (modes p)) p
 claims_more modes os p =
@@ -104,9 +107,9 @@ pub record Taking (tx : ℕ) (was now : Table) (log items : List Claim) (at coun
   pub behind : count ≤ at
   pub same_length : length items ≡ length log
 
--- a claim more is done
 module _ (tx : ℕ) (was now : Table) (log items : List Claim) (at count : ℕ) (t : Taking tx was now log items at count) (c : Claim)
     (within : at < length items) (is : c ≡ get_or items at c) where
+  -- the claim is the log's next one, and behind it all stands as it was
   both : c ∷ drop (at + 1) items ≡ get_or log at c ∷ drop (at + 1) log
   both = sym (left-cons items at c within is) ∙ t.rest ∙ rw add-one (drop-cons log at c (omega (arith, t.same_length)))
 
@@ -116,9 +119,11 @@ module _ (tx : ℕ) (was now : Table) (log items : List Claim) (at count : ℕ) 
   rest_next : drop (at + 1) items ≡ drop (at + 1) log
   rest_next = let e = both in cc
 
+  -- the objects so far, with one more
   grown : objects (take (at + 1) log) ≡ objects (take at log) ++ c.object ∷ []
   grown = ap objects (take-more log at c (omega (arith, t.same_length)) is_next) ∙ map-append (λ (d : Claim). d.object) (take at log) (c ∷ [])
 
+  -- a claim more is done
   pub taking_more : (next : List Claim) (n : ℕ) → take n next ≡ take count items ++ claim_in (mode_of now tx c.object) c.object
       → drop (at + 1) next ≡ drop (at + 1) items → n ≤ at + 1 → length next ≡ length items
       → Taking tx was (set_mode now tx c.object None) log next (at + 1) n

@@ -52,7 +52,7 @@ impl Holding {
     }
 
     /// The claims themselves, all of them. It takes no memory.
-    pub fn into_claims(self) -> Vec<Claim>
+    pub(crate) fn into_claims(self) -> Vec<Claim>
         ensures { held_of result.items ≡ self.items }
     {
         self.claims.into_items().into_vec()

@@ -34,6 +34,7 @@ returns-clause-held c holds =
     c.trimmed.ensures ∙ c.from_vec.ensures ∙ c.take_all.ensures.taken ∙ ap (claims_on modes) (sym (held_objects log))
     ∙ same_claims modes (held_of log)
     (All-weaker (λ (h : Claim). mode_in (held_of log) h.object ≡ Some h.mode) (λ (h : Claim). modes h.object ≡ Some h.mode)
-    (λ h is. ap (λ t. mode_of t c.args.tx h.object) c.self.view_is ∙ holds h.object ∙ ap (λ held. mode_in held h.object) (sym c.into_claims-claims.ensures) ∙ is)
+    (λ h is. ap (λ t. mode_of t c.args.tx h.object) c.self.view_is ∙ holds h.object
+    ∙ ap (λ held. mode_in held h.object) (sym c.into_claims-claims.ensures) ∙ is)
     (held_of log) (held_first log))
     ∙ c.into_claims-claims.ensures
