@@ -1,6 +1,6 @@
 -- Modes behind claims, and loops over them.
 use Rattle.std.proofs.Common.{◌≡◌, ℕ, Bool, true, false, cond, ◌||◌, Option, Some, None, IsSome, List, [], ◌∷◌, ◌++◌, refl, ap, sym, ◌∙◌, subst}
-use Rattle.std.proofs.Common.{take, take_all, length-drop, arith, ◌-◌, ◌+◌, ◌<◌, suc, length, get_or, drop, drop-cons, add-one}
+use Rattle.std.proofs.Common.{take, ◌+◌, ◌<◌, suc, length, get_or, drop, drop-cons, add-one}
 use Rattle.std.specs.Prelude.{All, if◌then◌else◌}
 use Rattle.std.proofs.Math.Seq.{take-suc}
 use Rattle.std.proofs.lemmas.List.{take-append-drop}
@@ -9,8 +9,7 @@ use Rattle.xc_data.specs.declared.object.Object.{Object}
 use Rattle.xc_data.specs.declared.claim.Mode.{Mode}
 use Rattle.xc_data.specs.declared.claim.Claim.{Claim}
 use Rattle.xc_data.specs.Claims.{is_object}
-use Rattle.xc_wordlocks.specs.Rows.{has}
-use Rattle.xc_wordlocks.specs.Table.{Table, mode_of, set_mode, with_mode, claimed, KeepsOthers}
+use Rattle.xc_wordlocks.specs.Table.{has, Table, mode_of, set_mode, with_mode, claimed, KeepsOthers}
 use Rattle.xc_wordlocks.proofs.Orders.{same_object, itself}
 use Rattle.xc_wordlocks.proofs.Modes.{mode_of-set, mode_of-set_other}
 
@@ -25,10 +24,6 @@ take-more xs i x lt e = rw add-one (take-suc xs i x lt ∙ ap (λ y. take i xs +
 -- the whole list: what was seen, the next one, and the others
 pub parts : {X : Type 0} (xs : List X) (i : ℕ) (x : X) → i < length xs → x ≡ get_or xs i x → xs ≡ take i xs ++ x ∷ drop (i + 1) xs
 parts xs i x lt e = sym (take-append-drop i xs) ∙ ap (λ ys. take i xs ++ ys) (left-cons xs i x lt e)
-
--- a range up to the end of a list is all behind its start
-pub all_behind : {X : Type 0} (n : ℕ) (xs : List X) → take (length xs - n) (drop n xs) ≡ drop n xs
-all_behind n xs = take_all (length xs - n) (drop n xs) (omega (arith, length-drop n xs))
 
 -- ---- one claim
 -- an object that a claim isn't on keeps its mode
@@ -83,7 +78,8 @@ pub record Removing (tx : ℕ) (was now : Table) (objects left : List Object) : 
   pub own : (o : Object) → cond (has left o) None (mode_of now tx o) ≡ cond (has objects o) None (mode_of was tx o)
   pub others : KeepsOthers tx was now
 
-without : (b c : Bool) (m : Option Mode) → cond c None (cond b None m) ≡ cond (b || c) None m
+-- what is without one and then without another is without either
+pub without : (b c : Bool) (m : Option Mode) → cond c None (cond b None m) ≡ cond (b || c) None m
 without true true m = refl
 without true false m = refl
 without false true m = refl

@@ -8,8 +8,7 @@ use Rattle.xc_data.specs.declared.object.Object.{Object}
 use Rattle.xc_data.specs.declared.claim.Mode.{Mode}
 use Rattle.xc_data.specs.declared.claim.Claim.{Claim}
 use Rattle.xc_data.specs.Claims.{claim, is_object, stronger, merged, holding_one, holding, held_of, objects, AreOnceAtMost}
-use Rattle.xc_wordlocks.specs.Rows.{has}
-use Rattle.xc_wordlocks.specs.Table.{with_mode, claimed, mode_in}
+use Rattle.xc_wordlocks.specs.Table.{has, with_mode, claimed, mode_in}
 use Rattle.xc_wordlocks.proofs.Orders.{same_object, itself}
 use Rattle.xc_wordlocks.proofs.Modes.{none_there}
 use Rattle.xc_wordlocks.proofs.Claimed.{is_object-swap}
@@ -25,7 +24,7 @@ seen_by h hs o true e rest = refl
 seen_by h hs o false e rest = rest
 
 -- an object has a mode where a claim of the list is on it
-mode_in-has : (held : List Claim) (o : Object) → is_some (mode_in held o) ≡ has (objects held) o
+pub mode_in-has : (held : List Claim) (o : Object) → is_some (mode_in held o) ≡ has (objects held) o
 mode_in-has [] o = refl
 mode_in-has (h ∷ hs) o =
     ap is_some (first_here h hs o (is_object h.object o) refl) ∙ seen_by h hs o (is_object h.object o) refl (mode_in-has hs o)
@@ -246,11 +245,14 @@ first_all : (held claims : List Claim) → AreFirst held → AreFirst (holding h
 first_all held [] first = first
 first_all held (c ∷ cs) first = first_all (holding_one held c) cs (first_one held c first)
 
+-- what claims hold is in a list with the first mode of each object
+pub held_first : (claims : List Claim) → All (λ (h : Claim). mode_in (held_of claims) h.object ≡ Some h.mode) (held_of claims)
+unfolding AreFirst
+held_first claims = first_all [] claims (All-nil (λ (h : Claim). mode_in [] h.object ≡ Some h.mode))
+
 -- in a list of what claims hold the members are the modes
 pub held_member : (claims : List Claim) (o : Object) (m : Mode) → (mode_in (held_of claims) o ≡ Some m) ↔ Contains (held_of claims) (claim m o)
-unfolding AreFirst
 held_member claims o m = (
   member (held_of claims) o m,
-  λ at. All-contains (λ (h : Claim). mode_in (held_of claims) h.object ≡ Some h.mode) (held_of claims) (claim m o)
-      (first_all [] claims (All-nil (λ (h : Claim). mode_in [] h.object ≡ Some h.mode))) at,
+  λ at. All-contains (λ (h : Claim). mode_in (held_of claims) h.object ≡ Some h.mode) (held_of claims) (claim m o) (held_first claims) at,
 )

@@ -5,4 +5,4 @@ pub mod Claimed
 pub mod Places
 pub mod Whole
 pub mod Held
-pub mod Indexed
+pub mod Released

@@ -1,4 +1,4 @@
--- The orders of keys and holders, and what keys and objects have to do with each other.
+-- The orders of holders, and what kinds and objects have to do with each other.
 use Rattle.std.proofs.Common.{◌≡◌, ◌≢◌, Bool, true, false, refl, ap, sym, ◌∙◌, subst, arith}
 use Rattle.std.specs.declared.cmp.Ordering.{Ordering}
 use Rattle.std.specs.declared.cmp.Ordering.TheVariants.{Less, Equal, Greater}
@@ -12,7 +12,6 @@ use Rattle.xc_data.specs.declared.object.Object.{Object}
 use Rattle.xc_data.specs.declared.object.Object.TheVariants as object
 use Rattle.xc_data.specs.Claims.{is_object}
 use Rattle.xc_maps.proofs.Maps.{num_exact}
-use Rattle.xc_wordlocks.specs.declared.key.Key.TheVariants as key
 use Rattle.xc_wordlocks.specs.declared.key.Kind.{Kind}
 use Rattle.xc_wordlocks.specs.declared.key.Kind.TheVariants as kind
 use Rattle.xc_wordlocks.specs.declared.key.Other.{Other}
@@ -20,10 +19,9 @@ use Rattle.xc_wordlocks.specs.declared.key.Other.TheVariants as other
 use Rattle.xc_wordlocks.specs.contracts.key.OtherPartialEq.TheImpl as other_eq
 use Rattle.xc_wordlocks.specs.contracts.key.OtherOrd.TheImpl as other_ord
 use Rattle.xc_wordlocks.specs.contracts.key.OtherOrd.TheImpl.Laws as other_laws
-use Rattle.xc_wordlocks.specs.contracts.key.KeyOrd.TheImpl.Laws as key_laws
 use Rattle.xc_wordlocks.specs.contracts.key.HolderOrd.TheImpl.Laws as holder_laws
 use Rattle.xc_wordlocks.specs.contracts.key.WordHolderOrd.TheImpl.Laws as word_holder_laws
-use Rattle.xc_wordlocks.specs.Keys.{key_of, kind_of, key_cmp, holder_cmp, word_holder_cmp}
+use Rattle.xc_wordlocks.specs.Keys.{kind_of, holder_cmp, word_holder_cmp}
 
 -- ---- objects
 same_num : (n m : Num) → is_object (object.File n) (object.File m) ≡ true → n ≡ m
@@ -58,17 +56,7 @@ other_object a b e same =
     let clash = sym yes ∙ e in
     absurd (cc)
 
--- ---- keys and kinds
--- keys of two objects differ
-pub key_of-same : (a b : Object) → key_of a ≡ key_of b → a ≡ b
-key_of-same (object.Word a) (object.Word b) e = cc
-key_of-same (object.Name a) (object.Name b) e = cc
-key_of-same (object.File a) (object.File b) e = cc
-key_of-same (object.Pipe a) (object.Pipe b) e = cc
-key_of-same (object.Pair a) (object.Pair b) e = cc
-key_of-same object.Jobs object.Jobs e = refl
-key_of-same _ _ e = cc
-
+-- ---- kinds
 -- the object of a kind
 pub object_of : Kind → Object
 object_of (kind.Word at) = object.Word at
@@ -110,10 +98,6 @@ other_cmp = other_ord.ghosts.cmp
 pub other_total : IsTotalOrder other_cmp
 other_total = other_laws.total-law
 
--- the order of keys is total
-pub key_total : IsTotalOrder key_cmp
-key_total = key_laws.total-law
-
 -- the order of the holders of words is total
 pub word_holder_total : IsTotalOrder word_holder_cmp
 word_holder_total = word_holder_laws.total-law
@@ -130,16 +114,6 @@ other_exact (other.Pipe a) (other.Pipe b) e = ap other.Pipe (num_exact a b e)
 other_exact (other.Pair a) (other.Pair b) e = ap other.Pair (num_exact a b e)
 other_exact other.Jobs other.Jobs e = refl
 other_exact _ _ e = cc
-
--- keys that compare as equal are the same
-pub key_exact : CmpEqualImpliesEq key_cmp
-key_exact (key.Word a) (key.Word b) e = ap key.Word (exact_unsigned a b e)
-key_exact (key.Name a) (key.Name b) e = ap key.Name (exact_bytes a b e)
-key_exact (key.File a) (key.File b) e = ap key.File (num_exact a b e)
-key_exact (key.Pipe a) (key.Pipe b) e = ap key.Pipe (num_exact a b e)
-key_exact (key.Pair a) (key.Pair b) e = ap key.Pair (num_exact a b e)
-key_exact key.Jobs key.Jobs e = refl
-key_exact _ _ e = cc
 
 both_equal : (r s : Ordering) → ordering_then r s ≡ Equal → (r ≡ Equal) × (s ≡ Equal)
 both_equal Equal s e = (refl, e)

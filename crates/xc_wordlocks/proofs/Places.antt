@@ -1,19 +1,15 @@
 -- Room for claims: one claim more, all of them, and what is taken back.
-use Rattle.std.proofs.Common.{◌≡◌, ◌≢◌, ℕ, Bool, true, false, cond, ◌||◌, Option, Some, None, IsSome, is_some, List, [], ◌∷◌, ◌++◌, refl, ap, ap₂, sym, ◌∙◌}
-use Rattle.std.proofs.Common.{length, drop, append_assoc}
-use Rattle.std.specs.Prelude.{All, ◌==◌, if◌then◌else◌}
-use Rattle.std.proofs.Math.Seq.{drop-append_seam}
+use Rattle.std.proofs.Common.{◌≡◌, ◌≢◌, ℕ, Bool, true, false, cond, ◌||◌, Some, None, IsSome, is_some, List, [], ◌∷◌, ◌++◌, refl, ap, ap₂, sym, ◌∙◌}
+use Rattle.std.specs.Prelude.{◌==◌, if◌then◌else◌}
 use Rattle.std.proofs.lemmas.Bool.{eqb-true, eqb-false}
 use Rattle.std.proofs.lemmas.List.Folds.{list_any-append}
-use Rattle.std.proofs.lemmas.List.Elements.{All-nil, All-cons, All-head, All-tail, All-weaker, All-append}
+use Rattle.std.proofs.lemmas.List.Elements.{All-nil, All-cons, All-weaker, All-append}
 use Rattle.xc_data.specs.declared.object.Object.{Object}
-use Rattle.xc_data.specs.declared.claim.Mode.{Mode}
 use Rattle.xc_data.specs.declared.claim.Mode.TheVariants.{Shared}
 use Rattle.xc_data.specs.declared.claim.Claim.{Claim}
 use Rattle.xc_data.specs.Claims.{is_object}
-use Rattle.xc_wordlocks.specs.Rows.{has}
 use Rattle.xc_wordlocks.specs.Placing.{Placed, is_claimed}
-use Rattle.xc_wordlocks.specs.Table.{Table, mode_of, set_mode, with_mode, claimed, KeepsOthers}
+use Rattle.xc_wordlocks.specs.Table.{has, Table, mode_of, set_mode, claimed, KeepsOthers}
 use Rattle.xc_wordlocks.proofs.Orders.{same_object, itself}
 use Rattle.xc_wordlocks.proofs.Modes.{same_table, mode_of-set, mode_of-set_other}
 use Rattle.xc_wordlocks.proofs.Claimed.{is_object-swap}
@@ -33,29 +29,10 @@ pub has-append : (a b : List Object) (o : Object) → has (a ++ b) o ≡ (has a 
 has-append a b o = list_any-append (is_object o) a b
 
 -- ---- one claim
--- it is held already
-pub placed_held : (tx : ℕ) (c : Claim) (t : Table) (row : List Object) → IsSome (mode_of t tx c.object) → Placed tx (c ∷ []) t t row row
-placed_held tx c t row there = record {
-  added = [];
-  rows = sym (append_nil row);
-  new = λ o e. absurd (cc);
-  shared = λ o e. absurd (cc);
-  asked = λ o e. absurd (cc);
-  kept = λ o e. refl;
-  held = All-cons (λ (d : Claim). IsSome (mode_of t tx d.object)) c [] there (All-nil (λ (d : Claim). IsSome (mode_of t tx d.object)));
-  others = λ n o ne. refl;
-}
-  where
-    append_nil : (xs : List Object) → xs ++ [] ≡ xs
-    append_nil [] = refl
-    append_nil (x ∷ xs) = ap (λ ys. x ∷ ys) (append_nil xs)
-
 -- it is new
-pub placed_new : (tx : ℕ) (c : Claim) (t : Table) (row : List Object) → mode_of t tx c.object ≡ None
-    → Placed tx (c ∷ []) t (set_mode t tx c.object (Some Shared)) row (row ++ c.object ∷ [])
-placed_new tx c t row lacks = record {
-  added = c.object ∷ [];
-  rows = refl;
+pub placed_new : (tx : ℕ) (c : Claim) (t : Table) → mode_of t tx c.object ≡ None
+    → Placed tx (c ∷ []) t (set_mode t tx c.object (Some Shared)) (c.object ∷ [])
+placed_new tx c t lacks = record {
   new = λ o e. ap (mode_of t tx) (same_object o c.object (own o e)) ∙ lacks;
   shared = λ o e. inserted o true (is_object-swap c.object o ∙ own o e);
   asked = λ o e. or_none (is_object c.object o) ∙ is_object-swap c.object o ∙ own o e;
@@ -77,60 +54,58 @@ placed_new tx c t row lacks = record {
     inserted o b e = mode_of-set t c.object o tx (Some Shared) ∙ ap (λ x. cond x (Some Shared) (mode_of t tx o)) e
 
 -- ---- claims behind claims
-module _ (tx : ℕ) (xs ys : List Claim) (s t u : Table) (f g h : List Object) (p : Placed tx xs s t f g) (q : Placed tx ys t u g h) where
-  both : (o : Object) (a b : Bool) → has p.added o ≡ a → has q.added o ≡ b → has (p.added ++ q.added) o ≡ (a || b)
-  both o a b e k = has-append p.added q.added o ∙ ap₂ (λ x y. x || y) e k
+module _ (tx : ℕ) (xs ys : List Claim) (s t u : Table) (f g : List Object) (p : Placed tx xs s t f) (q : Placed tx ys t u g) where
+  both : (o : Object) (a b : Bool) → has f o ≡ a → has g o ≡ b → has (f ++ g) o ≡ (a || b)
+  both o a b e k = has-append f g o ∙ ap₂ (λ x y. x || y) e k
 
-  apart : (o : Object) → has p.added o ≡ true → has q.added o ≡ false
-  apart o e = by (has q.added o) refl
+  apart : (o : Object) → has f o ≡ true → has g o ≡ false
+  apart o e = by (has g o) refl
     where
-      by : (b : Bool) → has q.added o ≡ b → b ≡ false
+      by : (b : Bool) → has g o ≡ b → b ≡ false
       by false k = refl
       by true k =
           let clash : Some Shared ≡ None = sym (p.shared o e) ∙ q.new o k in
           absurd (cc)
 
-  new_by : (o : Object) (a b : Bool) → has p.added o ≡ a → has q.added o ≡ b → (a || b) ≡ true → mode_of s tx o ≡ None
+  new_by : (o : Object) (a b : Bool) → has f o ≡ a → has g o ≡ b → (a || b) ≡ true → mode_of s tx o ≡ None
   new_by o true b e k either = p.new o e
   new_by o false true e k either = sym (p.kept o e) ∙ q.new o k
   new_by o false false e k either = absurd (cc)
 
-  shared_by : (o : Object) (a b : Bool) → has p.added o ≡ a → has q.added o ≡ b → (a || b) ≡ true → mode_of u tx o ≡ Some Shared
+  shared_by : (o : Object) (a b : Bool) → has f o ≡ a → has g o ≡ b → (a || b) ≡ true → mode_of u tx o ≡ Some Shared
   shared_by o true b e k either = q.kept o (apart o e) ∙ p.shared o e
   shared_by o false true e k either = q.shared o k
   shared_by o false false e k either = absurd (cc)
 
-  asked_by : (o : Object) (a b : Bool) → has p.added o ≡ a → has q.added o ≡ b → (a || b) ≡ true → is_claimed (xs ++ ys) o ≡ true
+  asked_by : (o : Object) (a b : Bool) → has f o ≡ a → has g o ≡ b → (a || b) ≡ true → is_claimed (xs ++ ys) o ≡ true
   asked_by o true b e k either =
       list_any-append (λ (c : Claim). is_object c.object o) xs ys ∙ ap (λ x. x || is_claimed ys o) (p.asked o e)
   asked_by o false true e k either =
       list_any-append (λ (c : Claim). is_object c.object o) xs ys ∙ ap (λ x. is_claimed xs o || x) (q.asked o k) ∙ or_last (is_claimed xs o)
   asked_by o false false e k either = absurd (cc)
 
-  kept_by : (o : Object) (a b : Bool) → has p.added o ≡ a → has q.added o ≡ b → (a || b) ≡ false → mode_of u tx o ≡ mode_of s tx o
+  kept_by : (o : Object) (a b : Bool) → has f o ≡ a → has g o ≡ b → (a || b) ≡ false → mode_of u tx o ≡ mode_of s tx o
   kept_by o false false e k neither = q.kept o k ∙ p.kept o e
   kept_by o true b e k neither = absurd (cc)
   kept_by o false true e k neither = absurd (cc)
 
   stays : (o : Object) → IsSome (mode_of t tx o) → IsSome (mode_of u tx o)
-  stays o there = by (has q.added o) refl
+  stays o there = by (has g o) refl
     where
-      by : (b : Bool) → has q.added o ≡ b → IsSome (mode_of u tx o)
+      by : (b : Bool) → has g o ≡ b → IsSome (mode_of u tx o)
       by true e = ap is_some (q.shared o e)
       by false e = ap is_some (q.kept o e) ∙ there
 
-  split : (o : Object) (r : Bool) → has (p.added ++ q.added) o ≡ r → (has p.added o || has q.added o) ≡ r
-  split o r e = sym (has-append p.added q.added o) ∙ e
+  split : (o : Object) (r : Bool) → has (f ++ g) o ≡ r → (has f o || has g o) ≡ r
+  split o r e = sym (has-append f g o) ∙ e
 
   -- all of them have their places
-  pub placed-append : Placed tx (xs ++ ys) s u f h
+  pub placed-append : Placed tx (xs ++ ys) s u (f ++ g)
   placed-append = record {
-    added = p.added ++ q.added;
-    rows = q.rows ∙ ap (λ l. l ++ q.added) p.rows ∙ append_assoc f p.added q.added;
-    new = λ o e. new_by o (has p.added o) (has q.added o) refl refl (split o true e);
-    shared = λ o e. shared_by o (has p.added o) (has q.added o) refl refl (split o true e);
-    asked = λ o e. asked_by o (has p.added o) (has q.added o) refl refl (split o true e);
-    kept = λ o e. kept_by o (has p.added o) (has q.added o) refl refl (split o false e);
+    new = λ o e. new_by o (has f o) (has g o) refl refl (split o true e);
+    shared = λ o e. shared_by o (has f o) (has g o) refl refl (split o true e);
+    asked = λ o e. asked_by o (has f o) (has g o) refl refl (split o true e);
+    kept = λ o e. kept_by o (has f o) (has g o) refl refl (split o false e);
     held =
         All-append (λ (d : Claim). IsSome (mode_of u tx d.object)) xs ys
         (All-weaker (λ (d : Claim). IsSome (mode_of t tx d.object)) (λ (d : Claim). IsSome (mode_of u tx d.object)) (λ d there. stays d.object there) xs p.held)
@@ -139,12 +114,12 @@ module _ (tx : ℕ) (xs ys : List Claim) (s t u : Table) (f g h : List Object) (
   }
 
 -- ---- what is taken back
-module _ (tx : ℕ) (claims : List Claim) (s t u : Table) (f g : List Object) (p : Placed tx claims s t f g) where
+module _ (tx : ℕ) (claims : List Claim) (s t u : Table) (f : List Object) (p : Placed tx claims s t f) where
   -- without what was added, all is as before
-  pub taken_back : ((o : Object) → mode_of u tx o ≡ cond (has (drop (length f) g) o) None (mode_of t tx o)) → KeepsOthers tx t u → u ≡ s
+  pub taken_back : ((o : Object) → mode_of u tx o ≡ cond (has f o) None (mode_of t tx o)) → KeepsOthers tx t u → u ≡ s
   taken_back own others = same_table u s (λ n o. by_number n o (n == tx) refl)
     where
-      back : (o : Object) (b : Bool) → has p.added o ≡ b → cond b None (mode_of t tx o) ≡ mode_of s tx o
+      back : (o : Object) (b : Bool) → has f o ≡ b → cond b None (mode_of t tx o) ≡ mode_of s tx o
       back o true e = sym (p.new o e)
       back o false e = p.kept o e
 
@@ -152,17 +127,7 @@ module _ (tx : ℕ) (claims : List Claim) (s t u : Table) (f g : List Object) (p
       by_number n o false e = let ne : n ≢ tx = eqb-false n tx e in others n o ne ∙ p.others n o ne
       by_number n o true e =
           let same : n ≡ tx = eqb-true n tx e in
-          ap (λ k. mode_of u k o) same ∙ own o
-          ∙ ap (λ l. cond (has l o) None (mode_of t tx o)) (ap (drop (length f)) p.rows ∙ drop-append_seam f p.added)
-          ∙ back o (has p.added o) refl ∙ ap (λ k. mode_of s k o) (sym same)
-
-  -- the row lists what is held
-  pub placed_listed : ((o : Object) → has f o ≡ is_some (mode_of s tx o)) → (o : Object) → has g o ≡ is_some (mode_of t tx o)
-  placed_listed listed o = ap (λ l. has l o) p.rows ∙ has-append f p.added o ∙ by (has p.added o) refl
-    where
-      by : (b : Bool) → has p.added o ≡ b → (has f o || b) ≡ is_some (mode_of t tx o)
-      by true e = or_last (has f o) ∙ sym (ap is_some (p.shared o e))
-      by false e = or_none (has f o) ∙ listed o ∙ sym (ap is_some (p.kept o e))
+          ap (λ k. mode_of u k o) same ∙ own o ∙ back o (has f o) refl ∙ ap (λ k. mode_of s k o) (sym same)
 
 -- ---- the modes behind the claims
 from_shared_by : (c : Claim) (cs : List Claim) (o : Object) (b : Bool) → is_object c.object o ≡ b → (b || is_claimed cs o) ≡ true
@@ -176,30 +141,12 @@ from_shared : (cs : List Claim) (o : Object) → is_claimed cs o ≡ true → cl
 from_shared [] o e = absurd (cc)
 from_shared (c ∷ cs) o e = from_shared_by c cs o (is_object c.object o) refl e (from_shared cs o)
 
-module _ (tx : ℕ) (claims : List Claim) (s t : Table) (f g : List Object) (p : Placed tx claims s t f g) where
+module _ (tx : ℕ) (claims : List Claim) (s t : Table) (f : List Object) (p : Placed tx claims s t f) where
   -- the claims make of the places what they make of what was held
   pub placed_claimed : (o : Object) → claimed (mode_of t tx o) claims o ≡ claimed (mode_of s tx o) claims o
-  placed_claimed o = by (has p.added o) refl
+  placed_claimed o = by (has f o) refl
     where
-      by : (b : Bool) → has p.added o ≡ b → claimed (mode_of t tx o) claims o ≡ claimed (mode_of s tx o) claims o
+      by : (b : Bool) → has f o ≡ b → claimed (mode_of t tx o) claims o ≡ claimed (mode_of s tx o) claims o
       by false e = ap (λ m. claimed m claims o) (p.kept o e)
       by true e =
           ap (λ m. claimed m claims o) (p.shared o e) ∙ from_shared claims o (p.asked o e) ∙ ap (λ m. claimed m claims o) (sym (p.new o e))
-
-still_is : (t : Table) (tx : ℕ) (o : Object) (c : Claim) (was : Option Mode) (b : Bool) → is_object c.object o ≡ b → IsSome (mode_of t tx c.object)
-    → is_some was ≡ is_some (mode_of t tx o) → is_some (if b then Some (with_mode was c.mode) else was) ≡ is_some (mode_of t tx o)
-still_is t tx o c was true e there same = sym (ap (λ (p : Object). is_some (mode_of t tx p)) (sym (same_object c.object o e)) ∙ there)
-still_is t tx o c was false e there same = same
-
-held_from : (t : Table) (tx : ℕ) (o : Object) (cs : List Claim) (was : Option Mode) → All (λ (d : Claim). IsSome (mode_of t tx d.object)) cs
-    → is_some was ≡ is_some (mode_of t tx o) → is_some (claimed was cs o) ≡ is_some (mode_of t tx o)
-held_from t tx o [] was held same = same
-held_from t tx o (c ∷ cs) was held same =
-    let P : Claim → Type 0 = λ d. IsSome (mode_of t tx d.object) in
-    held_from t tx o cs (if is_object c.object o then Some (with_mode was c.mode) else was) (All-tail P c cs held)
-    (still_is t tx o c was (is_object c.object o) refl (All-head P c cs held) same)
-
--- what is held stays so behind claims on what is held, and nothing else is held
-pub claimed_held : (t : Table) (tx : ℕ) (o : Object) (cs : List Claim) → All (λ (d : Claim). IsSome (mode_of t tx d.object)) cs
-    → is_some (claimed (mode_of t tx o) cs o) ≡ is_some (mode_of t tx o)
-claimed_held t tx o cs held = held_from t tx o cs (mode_of t tx o) held refl

@@ -1,5 +1,5 @@
--- What the table keeps: compatible modes, and rows that list what is held.
-use Rattle.std.proofs.Common.{◌≡◌, ◌≢◌, ℕ, Bool, true, false, Option, Some, None, is_some, List, [], ◌∷◌, refl, ap, sym, ◌∙◌, subst}
+-- What the table keeps: compatible modes.
+use Rattle.std.proofs.Common.{◌≡◌, ◌≢◌, ℕ, Bool, true, false, Option, Some, None, List, [], ◌∷◌, refl, ap, sym, ◌∙◌, subst}
 use Rattle.std.specs.Prelude.{All, ◌==◌, if◌then◌else◌}
 use Rattle.std.proofs.lemmas.Bool.{eqb-true, eqb-false}
 use Rattle.std.proofs.lemmas.List.Elements.{All-head, All-tail}
@@ -8,7 +8,6 @@ use Rattle.xc_data.specs.declared.claim.Mode.{Mode}
 use Rattle.xc_data.specs.declared.claim.Mode.TheVariants.{Shared, Exclusive}
 use Rattle.xc_data.specs.declared.claim.Claim.{Claim}
 use Rattle.xc_data.specs.Claims.{is_object, compatible, stronger}
-use Rattle.xc_wordlocks.specs.Rows.{has}
 use Rattle.xc_wordlocks.specs.Met.{IsNotMet}
 use Rattle.xc_wordlocks.specs.Table.{Table, mode_of, with_mode, claimed, KeepsOthers, AreCompatible}
 use Rattle.xc_wordlocks.proofs.Orders.{same_object}
@@ -93,15 +92,3 @@ pub coherent_empty : (t : Table) → ((n : ℕ) (o : Object) → mode_of t n o �
 coherent_empty t empty n k o a b ne mine other =
     let clash : None ≡ Some a = sym (empty n o) ∙ mine in
     absurd (cc)
-
--- ---- rows
--- where the row of one transaction lists what it holds, and the others stay, all rows do
-pub listed_so : (tx : ℕ) (before after : ℕ → List Object) (s t : Table) → ((o : Object) → has (after tx) o ≡ is_some (mode_of t tx o))
-    → ((n : ℕ) → n ≢ tx → after n ≡ before n) → KeepsOthers tx s t → ((n : ℕ) (o : Object) → has (before n) o ≡ is_some (mode_of s n o))
-    → (n : ℕ) (o : Object) → has (after n) o ≡ is_some (mode_of t n o)
-listed_so tx before after s t own rows others listed n o = by (n == tx) refl
-  where
-    by : (b : Bool) → (n == tx) ≡ b → has (after n) o ≡ is_some (mode_of t n o)
-    by true e = ap (λ k. has (after k) o) (eqb-true n tx e) ∙ own o ∙ ap (λ k. is_some (mode_of t k o)) (sym (eqb-true n tx e))
-    by false e =
-        ap (λ l. has l o) (rows n (eqb-false n tx e)) ∙ listed n o ∙ ap is_some (sym (others n o (eqb-false n tx e)))

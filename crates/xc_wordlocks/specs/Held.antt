@@ -1,15 +1,12 @@
 -- What a transaction holds, with room for more.
-use Rattle.std.specs.Prelude.{◌≤◌, ℕ, All, List, length}
+use Rattle.std.specs.Prelude.{◌≤◌, ℕ, List, length}
 use Rattle.xc_data.specs.declared.claim.Claim.{Claim}
-use Rattle.xc_wordlocks.specs.Index.{Index, HasPlace}
 
--- what contracts see of what is held: the claims, how many more go in without memory, and the index
+-- what contracts see of what is held: the claims, and how many more go in without memory
 pub record Held : Type 0 where
   pub items : List Claim
   pub spare : ℕ
-  pub index : Index
 
 -- claims go in without memory
-pub record HasRoomFor (held : Held) (claims : List Claim) : Type 0 where
-  pub spare : length claims ≤ held.spare
-  pub places : All (λ (c : Claim). HasPlace held.index c.object) claims
+abbrev pub HasRoomFor : Held → List Claim → Type 0
+HasRoomFor held claims = length claims ≤ held.spare

@@ -6,8 +6,6 @@ use Rattle.xc_data.specs.declared.object.Object.{Object}
 use Rattle.xc_data.specs.declared.object.Object.TheVariants as object
 use Rattle.xc_data.specs.declared.claim.Mode.{Mode}
 use Rattle.xc_data.specs.contracts.claim.Mode as mode_row
-use Rattle.xc_wordlocks.specs.declared.key.Key.{Key}
-use Rattle.xc_wordlocks.specs.declared.key.Key.TheVariants as key
 use Rattle.xc_wordlocks.specs.declared.key.Kind.{Kind}
 use Rattle.xc_wordlocks.specs.declared.key.Kind.TheVariants as kind
 use Rattle.xc_wordlocks.specs.declared.key.Other.{Other}
@@ -16,18 +14,8 @@ use Rattle.xc_wordlocks.specs.declared.key.Holder.{Holder}
 use Rattle.xc_wordlocks.specs.declared.key.WordHolder.{WordHolder}
 use Rattle.xc_wordlocks.specs.contracts.key.Holder as holder_row
 use Rattle.xc_wordlocks.specs.contracts.key.WordHolder as word_holder_row
-use Rattle.xc_wordlocks.specs.contracts.key.KeyOrd.TheImpl as key_ord
 use Rattle.xc_wordlocks.specs.contracts.key.HolderOrd.TheImpl as holder_ord
 use Rattle.xc_wordlocks.specs.contracts.key.WordHolderOrd.TheImpl as word_holder_ord
-
--- an object's key
-abbrev pub key_of : Object → Key
-key_of (object.Word at) = key.Word at
-key_of (object.Name name) = key.Name name
-key_of (object.File num) = key.File num
-key_of (object.Pipe num) = key.Pipe num
-key_of (object.Pair num) = key.Pair num
-key_of object.Jobs = key.Jobs
 
 -- an object as a word or another
 abbrev pub kind_of : Object → Kind
@@ -45,10 +33,6 @@ word_holder at n = record { at = at; tx = n }
 -- a transaction as the holder of another object
 abbrev pub holder_of : Other → ℕ → Holder
 holder_of o n = record { object = o; tx = n }
-
--- the order of keys
-abbrev pub key_cmp : Key → Key → Ordering
-key_cmp = key_ord.ghosts.cmp
 
 -- by word, and then by transaction
 abbrev pub word_holder_cmp : WordHolder → WordHolder → Ordering

@@ -1,9 +1,8 @@
 pub mod First
 pub mod Held
-pub mod Index
 pub mod Keys
 pub mod Met
 pub mod Others
 pub mod Placing
-pub mod Rows
+pub mod Released
 pub mod Table

@@ -5,21 +5,22 @@ use Rattle.xc_data.specs.declared.object.Object.{Object}
 use Rattle.xc_data.specs.declared.claim.Mode.TheVariants.{Shared}
 use Rattle.xc_data.specs.declared.claim.Claim.{Claim}
 use Rattle.xc_data.specs.Claims.{is_object}
-use Rattle.xc_wordlocks.specs.Rows.{has}
-use Rattle.xc_wordlocks.specs.Table.{Table, mode_of, KeepsOthers}
+use Rattle.xc_wordlocks.specs.Table.{has, Table, mode_of, KeepsOthers}
 
 -- whether a claim of a list is on an object
 abbrev pub is_claimed : List Claim → Object → Bool
 is_claimed claims o = list_any (λ (c : Claim). is_object c.object o) claims
 
 module _ (tx : ℕ) (claims : List Claim) (was now : Table) where
-  -- the transaction holds what these claims are on: what it didn't hold before, Shared, and that was added to its row
-  pub record Placed (front row : List Object) : Type 0 where
-    pub added : List Object
-    pub rows : row ≡ front ++ added
+  -- the transaction holds what these claims are on: what it didn't hold before, Shared, and that was added
+  pub record Placed (added : List Object) : Type 0 where
     pub new : (o : Object) → has added o ≡ true → mode_of was tx o ≡ None
     pub shared : (o : Object) → has added o ≡ true → mode_of now tx o ≡ Some Shared
     pub asked : (o : Object) → has added o ≡ true → is_claimed claims o ≡ true
     pub kept : (o : Object) → has added o ≡ false → mode_of now tx o ≡ mode_of was tx o
     pub held : All (λ (c : Claim). IsSome (mode_of now tx c.object)) claims
     pub others : KeepsOthers tx was now
+
+  -- the same, where what was added came behind others
+  abbrev pub PlacedBehind : List Object → List Object → Type 0
+  PlacedBehind front all = (more : List Object) × (all ≡ front ++ more) × Placed more

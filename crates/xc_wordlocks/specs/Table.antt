@@ -1,5 +1,6 @@
 -- The table of claims: in which mode each transaction holds each object.
-use Rattle.std.specs.Prelude.{◌≡◌, ◌≢◌, ℕ, List, [], ◌∷◌, Option, Some, None, if◌then◌else◌, refl}
+use Rattle.std.specs.Prelude.{◌≡◌, ◌≢◌, ℕ, Bool, List, [], ◌∷◌, Option, Some, None, if◌then◌else◌, refl}
+use Rattle.std.specs.List.{list_any}
 use Rattle.std.specs.Coded.{Coded, code_by, coded×}
 use Rattle.std.specs.declared.cmp.Ordering.{Ordering}
 use Rattle.std.specs.FinMap as map
@@ -13,6 +14,10 @@ use Rattle.xc_wordlocks.specs.declared.key.Kind.TheVariants as kind
 use Rattle.xc_wordlocks.specs.declared.holders.Holders.{Holders}
 use Rattle.xc_wordlocks.specs.Keys.{kind_of, holder_of, holder_cmp, word_holder, word_holder_cmp}
 use Rattle.xc_wordlocks.specs.Keys.{coded_holder, coded_word_holder, coded_mode}
+
+-- whether an object is in a list
+abbrev pub has : List Object → Object → Bool
+has os o = list_any (is_object o) os
 
 -- two maps: the holders of words, and those of all other objects, with their modes
 abbrev pub Table : Type 0

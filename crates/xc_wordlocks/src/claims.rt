@@ -1,27 +1,27 @@
-ghost use Rattle.std.specs.Prelude.{◌≡◌, ℕ, All, MatchOption, MatchResult, None, OnOk, OnErr, IfErr};
+ghost use Rattle.std.specs.Prelude.{◌≡◌, ℕ, All, MatchOption, MatchResult, None, OnOk, OnErr, IfErr, if◌then◌else◌};
+ghost use Rattle.xc_data.specs.Claims.{objects};
 ghost use Rattle.xc_data.specs.declared.object.Object.{Object};
-ghost use Rattle.xc_wordlocks.specs.Table.{AreCompatible, Holds, KeepsOthers, claimed, mode_of};
+ghost use Rattle.xc_wordlocks.specs.Table.{AreCompatible, Holds, KeepsOthers, claimed, has, mode_of};
 ghost use Rattle.xc_wordlocks.specs.Met.{IsCause, IsMet, IsNotMet};
 
 use crate::ClaimErr;
 use crate::holders::Holders;
 use crate::holding::Holding;
 use crate::placing::hold_all;
-use crate::rows::Rows;
+use crate::releasing::take_all;
 use std::alloc::Global;
 use std::marker::Model;
-use xc_data::{Claim, HeldList};
+use xc_data::{Claim, HeldList, Items};
 
 /// Which transaction holds which object, and in which mode. Contracts see it by `mode_of`.
 #[derive(Drop)]
 pub struct Claims {
+    alloc: Global,
     holders: Holders,
-    rows: Rows,
 }
 
 impl Model for Claims {
-    ghost use Rattle.xc_wordlocks.specs.Table.{Table, coded_table};
-    ghost use Rattle.xc_wordlocks.specs.Rows.{IsWhole};
+    ghost use Rattle.xc_wordlocks.specs.Table.{AreCompatible, Table, coded_table};
 
     ghost Value = { Table };
 
@@ -29,7 +29,7 @@ impl Model for Claims {
 
     ghost view = { λ a. a.holders };
 
-    ghost invariant = { λ a. IsWhole a.rows a.holders };
+    ghost invariant = { λ a. AreCompatible a.holders };
 }
 
 impl Claims {
@@ -38,8 +38,8 @@ impl Claims {
         ensures coherent { AreCompatible result }
     {
         Claims {
+            alloc,
             holders: Holders::new(alloc),
-            rows: Rows::new(alloc),
         }
     }
 
@@ -83,20 +83,21 @@ impl Claims {
         ensures coherent { AreCompatible self.new }
     {
         self.check(claims, tx)?;
-        hold_all(&mut self.holders, &mut self.rows, claims, tx)?;
+        hold_all(&mut self.holders, self.alloc, claims, tx)?;
         Ok(())
     }
 
-    /// The transaction holds nothing any longer. Gives the list of what it held. It takes no memory.
+    /// The transaction holds nothing any longer of what is listed. Gives the list, each object once, in the mode in which it was
+    /// held; what the transaction doesn't hold is passed over. It takes no memory.
     pub fn release_all(&mut self, tx: u32, held: Holding) -> HeldList
+        ensures freed { (o : Object) → mode_of self.new tx o ≡ (if has (objects held.items) o then None else mode_of self.old tx o) }
         ensures released { Holds self.old tx held.items → (o : Object) → mode_of self.new tx o ≡ None }
         ensures held { Holds self.old tx held.items → result ≡ held.items }
         ensures others { KeepsOthers tx self.old self.new }
         ensures coherent { AreCompatible self.new }
     {
-        if let Some(row) = self.rows.remove(tx) {
-            self.holders.remove_all(row.as_slice(), tx);
-        }
-        held.into_items()
+        let mut claims = held.into_claims();
+        take_all(&mut self.holders, &mut claims, tx);
+        Items::from_vec(claims).trimmed()
     }
 }

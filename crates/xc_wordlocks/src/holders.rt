@@ -16,8 +16,7 @@ pub struct Holders {
 }
 
 impl Holders {
-    ghost use Rattle.xc_wordlocks.specs.Table.{KeepsOthers, claimed, mode_of, set_mode};
-    ghost use Rattle.xc_wordlocks.specs.Rows.{has};
+    ghost use Rattle.xc_wordlocks.specs.Table.{KeepsOthers, claimed, has, mode_of, set_mode};
     ghost use Rattle.xc_wordlocks.specs.First.{IsFirstFrom};
     ghost use Rattle.xc_wordlocks.specs.Others.{HasNoOther, IsFirstOther};
 
@@ -83,8 +82,10 @@ impl Holders {
         }
     }
 
-    pub fn remove(&mut self, object: Object, tx: u32)
-        ensures { self.new ≡ set_mode self.old tx object None }
+    /// The transaction doesn't hold the object any longer. Gives the mode in which it did. It takes no memory.
+    pub fn remove(&mut self, object: Object, tx: u32) -> Option<Mode>
+        ensures value { result ≡ mode_of self.old tx object }
+        ensures removed { self.new ≡ set_mode self.old tx object None }
     {
         match Kind::from(object) {
             Kind::Word(at) => self.words.remove(at, tx),

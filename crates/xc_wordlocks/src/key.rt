@@ -1,17 +1,6 @@
 use xc_data::{Name, Num, Object};
 
-/// An object in an order: by its kind, and then by what it names.
-#[derive(Clone, Copy, Debug, PartialEq, Eq, PartialOrd, Ord)]
-pub enum Key {
-    Word(u32),
-    Name(Name),
-    File(Num),
-    Pipe(Num),
-    Pair(Num),
-    Jobs,
-}
-
-/// An object that isn't a word, in the same order.
+/// An object that isn't a word, in an order: by its kind, and then by what it names.
 #[derive(Clone, Copy, Debug, PartialEq, Eq, PartialOrd, Ord)]
 pub enum Other {
     Name(Name),
@@ -40,24 +29,6 @@ pub struct WordHolder {
 pub struct Holder {
     pub object: Other,
     pub tx: u32,
-}
-
-impl From<Object> for Key {
-    ghost use Rattle.std.specs.Prelude.{◌≡◌};
-    ghost use Rattle.xc_wordlocks.specs.Keys.{key_of};
-
-    ghost from_gives = { λ o k. k ≡ key_of o };
-
-    fn from(object: Object) -> Self {
-        match object {
-            Object::Word(at) => Key::Word(at),
-            Object::Name(name) => Key::Name(name),
-            Object::File(num) => Key::File(num),
-            Object::Pipe(num) => Key::Pipe(num),
-            Object::Pair(num) => Key::Pair(num),
-            Object::Jobs => Key::Jobs,
-        }
-    }
 }
 
 impl From<Object> for Kind {

@@ -4,13 +4,12 @@
 mod claims;
 mod holders;
 mod holding;
-mod index;
 mod key;
 mod law;
 mod others;
 mod placing;
 mod refusal;
-mod rows;
+mod releasing;
 #[cfg(test)]
 mod tests;
 mod words;

@@ -53,10 +53,12 @@ impl Others {
         Ok(())
     }
 
-    pub fn remove(&mut self, object: Other, tx: u32)
-        ensures { self.new ≡ map.remove self.old (holder_of object tx) }
+    /// Gives the mode that was there. It takes no memory.
+    pub fn remove(&mut self, object: Other, tx: u32) -> Option<Mode>
+        ensures value { result ≡ map.get self.old (holder_of object tx) }
+        ensures removed { self.new ≡ map.remove self.old (holder_of object tx) }
     {
-        let _ = self.modes.remove(&Holder { object, tx });
+        self.modes.remove(&Holder { object, tx })
     }
 
     /// The smallest holder of an object.

@@ -1,7 +1,7 @@
-use crate::{ClaimErr, Claims};
+use crate::{ClaimErr, Claims, Holding};
 use std::process::Abort;
 use std::test::Fail;
-use xc_data::{Claim, Mode, Num, Object};
+use xc_data::{Claim, Mode, NoMemory, Num, Object};
 
 const WORD_0: Object = Object::Word(0);
 
@@ -30,26 +30,40 @@ const fn writes(object: Object) -> Claim {
 enum Step {
     Claims(u32, [Claim; 2], Result<(), ClaimErr>),
     Asks(u32, Claim, Option<u32>),
-    Ends(u32),
 }
 
 fn met(object: Object, holder: u32) -> Result<(), ClaimErr> {
     Err(ClaimErr::Met { object, holder })
 }
 
-fn play(rt: &impl Abort, claims: &mut Claims, step: &Step) {
-    match step {
-        Step::Claims(tx, listed, meant) => assert_eq!(rt; claims.claim(listed, *tx), *meant),
-        Step::Asks(tx, claim, meant) => assert_eq!(rt; claims.met(claim, *tx), *meant),
-        Step::Ends(tx) => {
-            claims.release_all(*tx, Holding::new(rt.alloc()));
+fn play(rt: &impl Abort, claims: &mut Claims, steps: &[Step]) {
+    for step in steps {
+        match step {
+            Step::Claims(tx, listed, meant) => assert_eq!(rt; claims.claim(listed, *tx), *meant),
+            Step::Asks(tx, claim, meant) => assert_eq!(rt; claims.met(claim, *tx), *meant),
         }
     }
 }
 
+// A transaction ends: the claims of its calls, in their order, and what it held.
+fn end(
+    rt: &(impl Abort + AllocGlobal),
+    claims: &mut Claims,
+    tx: u32,
+    log: &[Claim],
+    meant: &[Claim],
+) -> Result<(), NoMemory> {
+    assert!(rt; log.len() <= 256);
+    let mut held = Holding::new(rt.alloc());
+    held.reserve(log)?;
+    held.hold(log);
+    assert_eq!(rt; claims.release_all(tx, held).as_slice(), meant);
+    Ok(())
+}
+
 #[test]
 fn readers_share_and_writers_are_alone(rt: HostRuntime) -> Result<(), Fail> {
-    let steps = [
+    let beside = [
         // Two readers of one object, and a second object each.
         Step::Claims(3, [reads(WORD_0), reads(FILE)], Ok(())),
         Step::Claims(7, [reads(WORD_0), reads(PIPE)], Ok(())),
@@ -64,26 +78,41 @@ fn readers_share_and_writers_are_alone(rt: HostRuntime) -> Result<(), Fail> {
         // The first claim in the list that is met decides.
         Step::Claims(1, [writes(PIPE), writes(WORD_0)], met(PIPE, 7)),
         Step::Claims(1, [writes(WORD_0), writes(PIPE)], met(WORD_0, 3)),
-        // An end frees what was held, and nothing else.
-        Step::Ends(3),
+    ];
+    // An end frees what was held, and nothing else.
+    let freed = [
         Step::Asks(1, writes(FILE), None),
         Step::Asks(1, writes(WORD_0), Some(7)),
-        Step::Ends(9),
+    ];
+    let alone = [
         // Alone, a reader becomes a writer, and stays one.
         Step::Claims(7, [writes(WORD_0), reads(WORD_0)], Ok(())),
         Step::Asks(7, writes(WORD_0), None),
         Step::Asks(1, reads(WORD_0), Some(7)),
         Step::Claims(1, [reads(WORD_1), reads(WORD_0)], met(WORD_0, 7)),
         Step::Asks(2, writes(WORD_1), None),
-        Step::Ends(7),
+    ];
+    let after = [
         Step::Claims(1, [reads(WORD_1), writes(WORD_1)], Ok(())),
         Step::Asks(2, reads(WORD_1), Some(1)),
         Step::Asks(2, writes(PIPE), None),
     ];
     let mut claims = Claims::new(rt.alloc());
-    for step in &steps {
-        play(&rt, &mut claims, step);
-    }
+    play(&rt, &mut claims, &beside);
+    let both = [reads(WORD_0), reads(FILE)];
+    end(&rt, &mut claims, 3, &both, &both)?;
+    play(&rt, &mut claims, &freed);
+    end(
+        &rt,
+        &mut claims,
+        9,
+        &[reads(WORD_0), reads(WORD_0)],
+        &[reads(WORD_0)],
+    )?;
+    play(&rt, &mut claims, &alone);
+    let log = [reads(WORD_0), reads(PIPE), writes(WORD_0), reads(WORD_0)];
+    end(&rt, &mut claims, 7, &log, &[writes(WORD_0), reads(PIPE)])?;
+    play(&rt, &mut claims, &after);
     Ok(())
 }
 
@@ -100,7 +129,7 @@ fn a_transaction_holds_many(rt: HostRuntime) -> Result<(), Fail> {
         assert_eq!(rt; claims.met(&reads(Object::Word(at)), 2), Some(1));
     }
     assert_eq!(rt; claims.claim(&[writes(Object::Word(256))], 2), Ok(()));
-    claims.release_all(1);
+    end(&rt, &mut claims, 1, &listed, &listed)?;
     for at in 0..256 {
         assert_eq!(rt; claims.met(&writes(Object::Word(at)), 3), None);
     }

@@ -53,10 +53,12 @@ impl Words {
         Ok(())
     }
 
-    pub fn remove(&mut self, at: u32, tx: u32)
-        ensures { self.new ≡ map.remove self.old (word_holder at tx) }
+    /// Gives the mode that was there. It takes no memory.
+    pub fn remove(&mut self, at: u32, tx: u32) -> Option<Mode>
+        ensures value { result ≡ map.get self.old (word_holder at tx) }
+        ensures removed { self.new ≡ map.remove self.old (word_holder at tx) }
     {
-        let _ = self.modes.remove(&WordHolder { at, tx });
+        self.modes.remove(&WordHolder { at, tx })
     }
 
     /// The smallest holder of a word.

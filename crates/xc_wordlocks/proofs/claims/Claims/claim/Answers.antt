@@ -7,16 +7,12 @@ use Rattle.xc_wordlocks.proofs.claims.Claims.claim.Goals as goal
 
 coherent : (c : goal.In_ok-hold_all) → AreCompatible c.hold_all.new.holders
 coherent c =
-    coherent_claim c.self.inside.holders c.hold_all.new.holders c.args.tx c.args.claims.now c.self.invariant.coherent
+    coherent_claim c.self.inside.holders c.hold_all.new.holders c.args.tx c.args.claims.now c.self.invariant
     (subst (λ (t : Table). All (IsNotMet t c.args.tx) c.args.claims.now) (sym c.self.view_is) c.in_ok-check.ensures)
     c.in_ok-hold_all.ensures.own c.in_ok-hold_all.ensures.others
 
 pub invariant_of-self-2 : goal.invariant_of-self-2
-invariant_of-self-2 c =
-    record {
-      listed = c.in_ok-hold_all.ensures.listed c.self.invariant.listed;
-      coherent = coherent c;
-    }
+invariant_of-self-2 c = coherent c
 
 pub returns-clause-coherent : goal.returns-clause-coherent
 returns-clause-coherent c = coherent c

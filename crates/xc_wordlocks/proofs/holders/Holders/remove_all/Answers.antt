@@ -9,7 +9,7 @@ loop-object-preserved c =
     let objects = c.args.objects.now in
     let i = c.loop-object.object-index in
     let rest = drop (i + 1) objects in
-    subst (λ (t : Table). Removing c.args.tx c.args.self.now t objects rest) (sym c.remove.ensures)
+    subst (λ (t : Table). Removing c.args.tx c.args.self.now t objects rest) (sym c.remove.ensures.removed)
     (removing_more c.args.tx c.args.self.now c.loop-object.self objects rest c.object-item.result
     (subst (λ (left : List Object). Removing c.args.tx c.args.self.now c.loop-object.self objects left)
     (left-cons objects i c.object-item.result c.loop-object-test.true c.object-item.is) c.loop-object.invariant))

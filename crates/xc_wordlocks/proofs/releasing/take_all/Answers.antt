@@ -1,0 +1,39 @@
+use Rattle.std.proofs.Common.{◌≡◌, ◌+◌, ◌<◌, ◌++◌, Option, length, take, drop, ap, ap₂, sym, ◌∙◌, subst, arith}
+use Rattle.std.proofs.lemmas.List.{append-nil, drop-set-lt, take_more_set}
+use Rattle.std.specs.Global.{Vec}
+use Rattle.std.proofs.Math.ListN.{set, length-set}
+use Rattle.xc_data.specs.declared.claim.Mode.{Mode}
+use Rattle.xc_data.specs.declared.claim.Claim.{Claim}
+use Rattle.xc_wordlocks.specs.Table.{Table}
+use Rattle.xc_wordlocks.proofs.Released.{Taking, claim_in, taking_more}
+use Rattle.xc_wordlocks.proofs.releasing.take_all.Goals as goal
+use Rattle.xc_wordlocks.proofs.releasing.take_all.Goals.{in-Some, in_default}
+
+pub loop-at-preserved : goal.loop-at-preserved
+loop-at-preserved c =
+    let items = c.loop-at.claims.items in
+    let count = c.loop-at.count in
+    let at = c.loop-at.at in
+    let item = c.index-claim.result.now in
+    let t = c.loop-at.invariant in
+    let within : at < length items = omega (arith, c.args.claims.now.ok.0) in
+    let front = λ (m : Option Mode). take count items ++ claim_in m item.object in
+    let more = taking_more c.args.tx c.args.holders.now c.loop-at.holders c.args.claims.now.items items at count t item within c.index-claim.ensures in
+    subst (λ (now : Table). Taking c.args.tx c.args.holders.now now c.args.claims.now.items c.match-remove.claims.items (at + 1) c.match-remove.count)
+    (sym c.remove.ensures.removed)
+    (elim c.match-remove.branch [
+      | in-Some w ↦
+          let kept : Claim = record item { mode = w.in-Some.mode } in
+          let items_are : c.match-remove.claims.items ≡ set items count kept = ap (λ (v : Vec Claim). v.items) w.claims-is in
+          let more_count = w.count-is in
+          more c.match-remove.claims.items c.match-remove.count
+          (ap₂ take w.count-is items_are ∙ take_more_set items count kept (omega arith) ∙ ap front w.in-Some.ensures.value)
+          (ap (drop (at + 1)) items_are ∙ drop-set-lt (at + 1) items count kept (omega arith)) (omega arith)
+          (ap length items_are ∙ length-set items count kept)
+      | in_default w ↦
+          let items_are : c.match-remove.claims.items ≡ items = ap (λ (v : Vec Claim). v.items) w.claims-is in
+          let same_count = w.count-is in
+          more c.match-remove.claims.items c.match-remove.count
+          (ap₂ take w.count-is items_are ∙ sym (append-nil (take count items)) ∙ ap front w.in_default.ensures.value)
+          (ap (drop (at + 1)) items_are) (omega arith) (ap length items_are)
+    ])
