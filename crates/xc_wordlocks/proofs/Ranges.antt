@@ -14,10 +14,9 @@ use Rattle.xc_data.specs.declared.claim.Mode.{Mode}
 use Rattle.xc_maps.proofs.Maps.{get-lookup}
 use Rattle.xc_wordlocks.specs.declared.key.Other.{Other}
 use Rattle.xc_wordlocks.specs.declared.key.Holder.{Holder}
-use Rattle.xc_wordlocks.specs.declared.key.WordHolder.{WordHolder}
-use Rattle.xc_wordlocks.specs.Keys.{holder_of, holder_cmp, word_holder, word_holder_cmp}
+use Rattle.xc_wordlocks.specs.Keys.{holder_of, holder_cmp}
 use Rattle.xc_wordlocks.specs.First.{IsFirstFrom}
-use Rattle.xc_wordlocks.proofs.Orders.{other_total, other_exact, holder_total, word_holder_total}
+use Rattle.xc_wordlocks.proofs.Orders.{other_total, other_exact, holder_total}
 
 -- ---- comparisons
 up_to : (n m : ℕ) (r : Ordering) → MatchOrdering r (n < m) (n ≡ m) (m < n) → is_gt r ≡ false → n ≤ m
@@ -70,13 +69,6 @@ pub record Row {H : Type 0} (R : H → H → Ordering) (tx : H → ℕ) (at : �
   pub order : (n m : ℕ) → R (at n) (at m) ≡ nat_cmp n m
   pub between : (n m : ℕ) (h : H) → is_gt (R (at n) h) ≡ false → is_gt (R h (at m)) ≡ false → h ≡ at (tx h)
 
--- those of a word
-pub word_row : (w : ℕ) → Row word_holder_cmp (λ (h : WordHolder). h.tx) (word_holder w)
-word_row w = record {
-  total = word_holder_total;
-  order = λ n m. level nat_cmp_total exact_unsigned w n m;
-  between = λ n m h above under. ap (λ x. word_holder x h.tx) (squeezed nat_cmp_total exact_unsigned w h.at n h.tx m above under);
-}
 
 -- those of another object
 pub other_row : (o : Other) → Row holder_cmp (λ (h : Holder). h.tx) (holder_of o)

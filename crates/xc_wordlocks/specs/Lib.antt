@@ -7,3 +7,4 @@ pub mod Others
 pub mod Placing
 pub mod Rows
 pub mod Table
+pub mod Words

@@ -87,7 +87,9 @@ impl Holders {
         ensures { self.new ≡ set_mode self.old tx object None }
     {
         match Kind::from(object) {
-            Kind::Word(at) => self.words.remove(at, tx),
+            Kind::Word(at) => {
+                let _ = self.words.remove(at, tx);
+            },
             Kind::Other(object) => self.others.remove(object, tx),
         }
     }

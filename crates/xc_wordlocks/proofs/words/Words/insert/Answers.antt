@@ -1,21 +1,22 @@
-use Rattle.std.proofs.Common.{ap, sym, ◌∙◌}
+use Rattle.std.proofs.Common.{rules, ◌≡◌, ◌<◌, ◌+◌, ℕ, length, None, OnOk, OnErr, ◌-◌, ◌*◌, ◌≤◌, ◌/◌, ◌%◌, Bool, true, false, nat_eq, nat_lt, List, [], ◌∷◌, ◌++◌, slice_index_or, slice_set, bit_and, bit_or, Fits, w8, w32, w64, Bor, MutBor}
 use Rattle.std.specs.FinMap as map
-use Rattle.xc_data.specs.declared.claim.Mode.{Mode}
-use Rattle.xc_maps.proofs.Maps.{get-lookup, inserted}
-use Rattle.xc_wordlocks.specs.Keys.{word_holder, word_holder_cmp}
-use Rattle.xc_wordlocks.proofs.Modes.{on_err}
-use Rattle.xc_wordlocks.proofs.Orders.{word_holder_total, word_holder_exact}
+use Rattle.xc_wordlocks.specs.Keys.{word_holder}
+use Rattle.xc_wordlocks.specs.First.{IsFirstFrom}
+use Rattle.xc_wordlocks.specs.Words.{words_of}
 use Rattle.xc_wordlocks.proofs.words.Words.insert.Goals as goal
 
-pub returns-in_err-insert-clause-absent : goal.returns-in_err-insert-clause-absent
-returns-in_err-insert-clause-absent c =
-    let holder = word_holder c.args.at c.args.tx in
-    on_err c.from_residual.result
-    (ap (λ (m : map.FinMap word_holder_cmp Mode). map.get m holder) (sym c.self.view_is)
-    ∙ get-lookup word_holder_total c.self.inside.modes.entries holder ∙ c.in_err-insert.ensures.absent)
+-- src/words.rt:67:9
+pub returns-in_err-grow-clause-absent : goal.returns-in_err-grow-clause-absent
+returns-in_err-grow-clause-absent c = ?
 
+-- src/words.rt:68:9
+pub returns-in_err-insert-clause-err : goal.returns-in_err-insert-clause-err
+returns-in_err-insert-clause-err c = ?
+
+-- src/words.rt:68:9
+pub returns-in_err-insert-clause-absent : goal.returns-in_err-insert-clause-absent
+returns-in_err-insert-clause-absent c = ?
+
+-- src/words.rt:62:5
 pub returns-clause-ok : goal.returns-clause-ok
-returns-clause-ok c =
-    let holder = word_holder c.args.at c.args.tx in
-    inserted word_holder_total word_holder_exact c.self.inside.modes.entries c.insert.new.self.entries holder c.args.mode c.in_ok-insert.ensures.updates.0
-    ∙ ap (λ (m : map.FinMap word_holder_cmp Mode). map.insert m holder c.args.mode) c.self.view_is
+returns-clause-ok c = ?

@@ -1,0 +1,163 @@
+-- What the list of the words' holders says of the finite map that contracts see.
+use Rattle.std.proofs.Common.{◌≡◌, ◌≢◌, ℕ, zero, suc, ◌+◌, ◌<◌, ◌≤◌, Bool, true, false, cond, Option, Some, None, IsSome, List, [], ◌∷◌, ◌++◌, length}
+use Rattle.std.proofs.Common.{set, refl, ap, sym, ◌∙◌, subst, arith}
+use Rattle.std.specs.Prelude.{slice_get}
+use Rattle.std.specs.declared.cmp.Ordering.{Ordering}
+use Rattle.std.specs.declared.cmp.Ordering.TheVariants.{Less, Equal, Greater}
+use Rattle.std.specs.Ordering.{nat_cmp, ordering_then, is_eq, eq_by_cmp}
+use Rattle.std.specs.Cmp.{nat_cmp_total, tied_itself, eq_by_cmp_equiv}
+use Rattle.std.specs.BTreeMap.{BTreeMap, get, is_at}
+use Rattle.std.specs.Map.{lookup}
+use Rattle.std.specs.FinMap as map
+use Rattle.std.proofs.lemmas.Map.Lookups.{exact_unsigned}
+use Rattle.std.proofs.lemmas.Option.{slice_get_past, slice_get_within, same_Some}
+use Rattle.xc_data.specs.declared.claim.Mode.{Mode}
+use Rattle.xc_maps.proofs.Laws.{tied}
+use Rattle.xc_maps.proofs.Maps.{get-lookup}
+use Rattle.xc_wordlocks.specs.Keys.{WordHolder, word_holder, word_holder_cmp}
+use Rattle.xc_wordlocks.specs.Words.{entries_at, entries_from, words_of}
+use Rattle.xc_wordlocks.proofs.Orders.{word_holder_total, word_holder_exact}
+
+-- ---- one entry of the map is one of the map at its word's place
+apart : (v w : ℕ) (o r : Ordering) → nat_cmp v w ≡ o → v ≢ w → is_eq (ordering_then o r) ≡ false
+apart v w Less r e ne = refl
+apart v w Equal r e ne = absurd (ne (exact_unsigned v w e))
+apart v w Greater r e ne = refl
+
+-- the mode of a transaction at a word, in a list of entries
+abbrev found_in : ℕ → ℕ → List (WordHolder × Mode) → Option Mode
+found_in v n es = lookup (is_at (word_holder_cmp (word_holder v n))) es
+
+passed : (v w n : ℕ) (es : List (ℕ × Mode)) (rest : List (WordHolder × Mode)) → v ≢ w → found_in v n (entries_at w es ++ rest) ≡ found_in v n rest
+passed v w n [] rest ne = refl
+passed v w n (e ∷ es) rest ne =
+    ap (λ b. cond b (Some e.1) (found_in v n (entries_at w es ++ rest))) (apart v w (nat_cmp v w) (nat_cmp n e.0) refl ne) ∙ passed v w n es rest ne
+
+own : (v n : ℕ) (es : List (ℕ × Mode)) (rest : List (WordHolder × Mode)) → found_in v n rest ≡ None
+    → found_in v n (entries_at v es ++ rest) ≡ lookup (is_at (nat_cmp n)) es
+own v n [] rest none = none
+own v n (e ∷ es) rest none =
+    ap (λ r. cond (is_eq (ordering_then r (nat_cmp n e.0))) (Some e.1) (found_in v n (entries_at v es ++ rest))) (tied_itself nat_cmp_total v)
+    ∙ ap (cond (is_at (nat_cmp n) e.0) (Some e.1)) (own v n es rest none)
+
+before : (v w n : ℕ) (ms : List (BTreeMap ℕ Mode)) → v < w → found_in v n (entries_from w ms) ≡ None
+before v w n [] lt = refl
+before v w n (m ∷ ms) lt = passed v w n m.entries (entries_from (w + 1) ms) (λ e. absurd (omega arith)) ∙ before v (w + 1) n ms (omega arith)
+
+-- the mode of a transaction in the map at a place, if there is one
+abbrev pub held_in : Option (BTreeMap ℕ Mode) → ℕ → Option Mode
+held_in None n = None
+held_in (Some m) n = get nat_cmp m n
+
+placed : (v w i n : ℕ) (ms : List (BTreeMap ℕ Mode)) → v ≡ w + i → found_in v n (entries_from w ms) ≡ held_in (slice_get ms i) n
+placed v w i n [] e = refl
+placed v w zero n (m ∷ ms) e =
+    let same : w ≡ v = omega arith in
+    ap (λ u. found_in v n (entries_from u (m ∷ ms))) same ∙ own v n m.entries (entries_from (v + 1) ms) (before v (v + 1) n ms (omega arith))
+placed v w (suc i) n (m ∷ ms) e =
+    passed v w n m.entries (entries_from (w + 1) ms) (λ same. absurd (omega arith)) ∙ placed v (w + 1) i n ms (omega arith)
+
+-- the finite map has at a holder what the map at the word's place has at the transaction
+pub get-words_of : (ms : List (BTreeMap ℕ Mode)) (v n : ℕ) → map.get (words_of ms) (word_holder v n) ≡ held_in (slice_get ms v) n
+get-words_of ms v n = get-lookup word_holder_total (entries_from 0 ms) (word_holder v n) ∙ placed v 0 v n ms (omega arith)
+
+-- nobody holds a word beyond the list
+pub none_beyond : (ms : List (BTreeMap ℕ Mode)) (v n : ℕ) → length ms ≤ v → map.get (words_of ms) (word_holder v n) ≡ None
+none_beyond ms v n past = get-words_of ms v n ∙ ap (λ o. held_in o n) (slice_get_past ms v past)
+
+-- ---- changes of the list
+-- lists of which one has the modes of the other at each word are seen as one map
+same_words : (ms ks : List (BTreeMap ℕ Mode)) → ((v n : ℕ) → held_in (slice_get ms v) n ≡ held_in (slice_get ks v) n) → words_of ms ≡ words_of ks
+same_words ms ks h =
+    map.same_map word_holder_total word_holder_exact (words_of ms) (words_of ks)
+    (λ q. get-words_of ms q.0 q.1 ∙ h q.0 q.1 ∙ sym (get-words_of ks q.0 q.1))
+
+pushed_at : (ms : List (BTreeMap ℕ Mode)) (m : BTreeMap ℕ Mode) (v n : ℕ) → m.entries ≡ []
+    → held_in (slice_get (ms ++ m ∷ []) v) n ≡ held_in (slice_get ms v) n
+pushed_at [] m zero n e = ap (lookup (is_at (nat_cmp n))) e
+pushed_at [] m (suc v) n e = refl
+pushed_at (k ∷ ms) m zero n e = refl
+pushed_at (k ∷ ms) m (suc v) n e = pushed_at ms m v n e
+
+-- a word more that nobody holds isn't seen
+pub words_of-push : (ms : List (BTreeMap ℕ Mode)) (m : BTreeMap ℕ Mode) → m.entries ≡ [] → words_of (ms ++ m ∷ []) ≡ words_of ms
+words_of-push ms m e = same_words (ms ++ m ∷ []) ms (λ v n. pushed_at ms m v n e)
+
+set_there : (ms : List (BTreeMap ℕ Mode)) (i : ℕ) (k : BTreeMap ℕ Mode) → i < length ms → slice_get (set ms i k) i ≡ Some k
+set_there [] i k lt = absurd (omega arith)
+set_there (m ∷ ms) zero k lt = refl
+set_there (m ∷ ms) (suc i) k lt = set_there ms i k (omega arith)
+
+set_elsewhere : (ms : List (BTreeMap ℕ Mode)) (i j : ℕ) (k : BTreeMap ℕ Mode) → j ≢ i → slice_get (set ms i k) j ≡ slice_get ms j
+set_elsewhere [] i j k ne = refl
+set_elsewhere (m ∷ ms) zero zero k ne = absurd (ne refl)
+set_elsewhere (m ∷ ms) zero (suc j) k ne = refl
+set_elsewhere (m ∷ ms) (suc i) zero k ne = refl
+set_elsewhere (m ∷ ms) (suc i) (suc j) k ne = set_elsewhere ms i j k (λ e. ne (ap suc e))
+
+same_entries : (w i : ℕ) (m k : BTreeMap ℕ Mode) (ms : List (BTreeMap ℕ Mode)) → slice_get ms i ≡ Some m → k.entries ≡ m.entries
+    → entries_from w (set ms i k) ≡ entries_from w ms
+same_entries w i m k [] there e = refl
+same_entries w zero m k (x ∷ ms) there e =
+    ap (λ es. entries_at w es ++ entries_from (w + 1) ms) (e ∙ ap (λ (y : BTreeMap ℕ Mode). y.entries) (same_Some m x (sym there)))
+same_entries w (suc i) m k (x ∷ ms) there e = ap (λ es. entries_at w x.entries ++ es) (same_entries (w + 1) i m k ms there e)
+
+not_same : (v i : ℕ) (r : Ordering) → nat_cmp v i ≡ r → is_eq r ≡ false → v ≢ i
+not_same v i r is apart_by same =
+    let clash : true ≡ false = sym (ap is_eq (ap (λ j. nat_cmp v j) (sym same) ∙ tied_itself nat_cmp_total v)) ∙ ap is_eq is ∙ apart_by in
+    absurd (cc)
+
+-- ---- a map of the list is put where another stands
+module _ (ms : List (BTreeMap ℕ Mode)) (i : ℕ) (m k : BTreeMap ℕ Mode) (there : slice_get ms i ≡ Some m) where
+  -- with the same entries it is seen as the same
+  pub words_of-same : k.entries ≡ m.entries → words_of (set ms i k) ≡ words_of ms
+  words_of-same e = ap (λ es. map.from_entries es) (same_entries 0 i m k ms there e)
+
+  module _ (tx : ℕ) (w : Option Mode) (changes : (n : ℕ) → get nat_cmp k n ≡ cond (is_at (nat_cmp tx) n) w (get nat_cmp m n)) where
+    elsewhere : (v n : ℕ) → v ≢ i → held_in (slice_get (set ms i k) v) n ≡ held_in (slice_get ms v) n
+    elsewhere v n ne = ap (λ o. held_in o n) (set_elsewhere ms i v k ne)
+
+    here : (n : ℕ) → held_in (slice_get (set ms i k) i) n ≡ cond (is_eq (nat_cmp n tx)) w (held_in (slice_get ms i) n)
+    here n =
+        ap (λ o. held_in o n) (set_there ms i k (slice_get_within ms i m there)) ∙ changes n
+        ∙ ap (λ b. cond b w (get nat_cmp m n)) ((eq_by_cmp_equiv nat_cmp_total).symm tx n)
+        ∙ ap (λ o. cond (is_eq (nat_cmp n tx)) w (held_in o n)) (sym there)
+
+    changed_at : (v n : ℕ) (r : Ordering) → nat_cmp v i ≡ r
+        → held_in (slice_get (set ms i k) v) n ≡ cond (is_eq (ordering_then r (nat_cmp n tx))) w (held_in (slice_get ms v) n)
+    changed_at v n Less e = elsewhere v n (not_same v i Less e refl)
+    changed_at v n Equal e =
+        let same : i ≡ v = sym (exact_unsigned v i e) in
+        subst (λ u. held_in (slice_get (set ms i k) u) n ≡ cond (is_eq (nat_cmp n tx)) w (held_in (slice_get ms u) n)) same (here n)
+    changed_at v n Greater e = elsewhere v n (not_same v i Greater e refl)
+
+    -- what differs at one transaction is seen to differ at one holder
+    changed : (q : WordHolder) → map.get (words_of (set ms i k)) q ≡ cond (eq_by_cmp word_holder_cmp q (word_holder i tx)) w (map.get (words_of ms) q)
+    changed q =
+        get-words_of (set ms i k) q.0 q.1 ∙ changed_at q.0 q.1 (nat_cmp q.0 i) refl
+        ∙ ap (cond (eq_by_cmp word_holder_cmp q (word_holder i tx)) w) (sym (get-words_of ms q.0 q.1))
+
+  -- with a mode at a transaction
+  pub words_of-insert : (tx : ℕ) (mode : Mode) → ((n : ℕ) → get nat_cmp k n ≡ cond (is_at (nat_cmp tx) n) (Some mode) (get nat_cmp m n))
+      → words_of (set ms i k) ≡ map.insert (words_of ms) (word_holder i tx) mode
+  words_of-insert tx mode h =
+      map.same_map word_holder_total word_holder_exact (words_of (set ms i k)) (map.insert (words_of ms) (word_holder i tx) mode)
+      (λ q. changed tx (Some mode) h q ∙ sym (map.get-insert word_holder_total (words_of ms) (word_holder i tx) mode q))
+
+  -- with nothing at a transaction
+  pub words_of-remove : (tx : ℕ) → ((n : ℕ) → get nat_cmp k n ≡ cond (is_at (nat_cmp tx) n) None (get nat_cmp m n))
+      → words_of (set ms i k) ≡ map.remove (words_of ms) (word_holder i tx)
+  words_of-remove tx h =
+      map.same_map word_holder_total word_holder_exact (words_of (set ms i k)) (map.remove (words_of ms) (word_holder i tx))
+      (λ q. changed tx None h q ∙ sym (map.get-remove word_holder_total (words_of ms) (word_holder i tx) q))
+
+none_at : (b : Bool) (o : Option Mode) → (b ≡ true → o ≡ None) → cond b None o ≡ o
+none_at true o h = sym (h refl)
+none_at false o h = refl
+
+-- what isn't there is removed
+pub removed_absent : (t : map.FinMap word_holder_cmp Mode) (h : WordHolder) → map.get t h ≡ None → map.remove t h ≡ t
+removed_absent t h none =
+    map.same_map word_holder_total word_holder_exact (map.remove t h) t
+    (λ q. map.get-remove word_holder_total t h q ∙ none_at (eq_by_cmp word_holder_cmp q h) (map.get t q)
+    (λ b. ap (map.get t) (tied word_holder_total word_holder_exact q h b) ∙ none))
