@@ -1,6 +1,6 @@
 -- What the list of the words' holders says of the finite map that contracts see.
 use Rattle.std.proofs.Common.{◌≡◌, ◌≢◌, ℕ, zero, suc, ◌+◌, ◌<◌, ◌≤◌, Bool, true, false, cond, Option, Some, None, IsSome, List, [], ◌∷◌, ◌++◌, length}
-use Rattle.std.proofs.Common.{set, refl, ap, sym, ◌∙◌, subst, arith}
+use Rattle.std.proofs.Common.{set, get_or, refl, ap, sym, ◌∙◌, subst, arith}
 use Rattle.std.specs.Prelude.{slice_get}
 use Rattle.std.specs.declared.cmp.Ordering.{Ordering}
 use Rattle.std.specs.declared.cmp.Ordering.TheVariants.{Less, Equal, Greater}
@@ -10,7 +10,7 @@ use Rattle.std.specs.BTreeMap.{BTreeMap, get, is_at}
 use Rattle.std.specs.Map.{lookup}
 use Rattle.std.specs.FinMap as map
 use Rattle.std.proofs.lemmas.Map.Lookups.{exact_unsigned}
-use Rattle.std.proofs.lemmas.Option.{slice_get_past, slice_get_within, same_Some}
+use Rattle.std.proofs.lemmas.Option.{slice_get_past, slice_get_within, slice_get_read, same_Some}
 use Rattle.xc_data.specs.declared.claim.Mode.{Mode}
 use Rattle.xc_maps.proofs.Laws.{tied}
 use Rattle.xc_maps.proofs.Maps.{get-lookup}
@@ -45,7 +45,7 @@ before v w n [] lt = refl
 before v w n (m ∷ ms) lt = passed v w n m.entries (entries_from (w + 1) ms) (λ e. absurd (omega arith)) ∙ before v (w + 1) n ms (omega arith)
 
 -- the mode of a transaction in the map at a place, if there is one
-abbrev pub held_in : Option (BTreeMap ℕ Mode) → ℕ → Option Mode
+abbrev held_in : Option (BTreeMap ℕ Mode) → ℕ → Option Mode
 held_in None n = None
 held_in (Some m) n = get nat_cmp m n
 
@@ -58,12 +58,8 @@ placed v w (suc i) n (m ∷ ms) e =
     passed v w n m.entries (entries_from (w + 1) ms) (λ same. absurd (omega arith)) ∙ placed v (w + 1) i n ms (omega arith)
 
 -- the finite map has at a holder what the map at the word's place has at the transaction
-pub get-words_of : (ms : List (BTreeMap ℕ Mode)) (v n : ℕ) → map.get (words_of ms) (word_holder v n) ≡ held_in (slice_get ms v) n
+get-words_of : (ms : List (BTreeMap ℕ Mode)) (v n : ℕ) → map.get (words_of ms) (word_holder v n) ≡ held_in (slice_get ms v) n
 get-words_of ms v n = get-lookup word_holder_total (entries_from 0 ms) (word_holder v n) ∙ placed v 0 v n ms (omega arith)
-
--- nobody holds a word beyond the list
-pub none_beyond : (ms : List (BTreeMap ℕ Mode)) (v n : ℕ) → length ms ≤ v → map.get (words_of ms) (word_holder v n) ≡ None
-none_beyond ms v n past = get-words_of ms v n ∙ ap (λ o. held_in o n) (slice_get_past ms v past)
 
 -- ---- changes of the list
 -- lists of which one has the modes of the other at each word are seen as one map
@@ -107,49 +103,67 @@ not_same v i r is apart_by same =
     let clash : true ≡ false = sym (ap is_eq (ap (λ j. nat_cmp v j) (sym same) ∙ tied_itself nat_cmp_total v)) ∙ ap is_eq is ∙ apart_by in
     absurd (cc)
 
--- ---- a map of the list is put where another stands
-module _ (ms : List (BTreeMap ℕ Mode)) (i : ℕ) (m k : BTreeMap ℕ Mode) (there : slice_get ms i ≡ Some m) where
-  -- with the same entries it is seen as the same
-  pub words_of-same : k.entries ≡ m.entries → words_of (set ms i k) ≡ words_of ms
-  words_of-same e = ap (λ es. map.from_entries es) (same_entries 0 i m k ms there e)
+-- ---- another map is put where one stands
+module _ (ms : List (BTreeMap ℕ Mode)) (i : ℕ) (m k : BTreeMap ℕ Mode) (there : slice_get ms i ≡ Some m)
+    (tx : ℕ) (w : Option Mode) (changes : (n : ℕ) → get nat_cmp k n ≡ cond (is_at (nat_cmp tx) n) w (get nat_cmp m n)) where
+  elsewhere : (v n : ℕ) → v ≢ i → held_in (slice_get (set ms i k) v) n ≡ held_in (slice_get ms v) n
+  elsewhere v n ne = ap (λ o. held_in o n) (set_elsewhere ms i v k ne)
 
-  module _ (tx : ℕ) (w : Option Mode) (changes : (n : ℕ) → get nat_cmp k n ≡ cond (is_at (nat_cmp tx) n) w (get nat_cmp m n)) where
-    elsewhere : (v n : ℕ) → v ≢ i → held_in (slice_get (set ms i k) v) n ≡ held_in (slice_get ms v) n
-    elsewhere v n ne = ap (λ o. held_in o n) (set_elsewhere ms i v k ne)
+  here : (n : ℕ) → held_in (slice_get (set ms i k) i) n ≡ cond (is_eq (nat_cmp n tx)) w (held_in (slice_get ms i) n)
+  here n =
+      ap (λ o. held_in o n) (set_there ms i k (slice_get_within ms i m there)) ∙ changes n
+      ∙ ap (λ b. cond b w (get nat_cmp m n)) ((eq_by_cmp_equiv nat_cmp_total).symm tx n)
+      ∙ ap (λ o. cond (is_eq (nat_cmp n tx)) w (held_in o n)) (sym there)
 
-    here : (n : ℕ) → held_in (slice_get (set ms i k) i) n ≡ cond (is_eq (nat_cmp n tx)) w (held_in (slice_get ms i) n)
-    here n =
-        ap (λ o. held_in o n) (set_there ms i k (slice_get_within ms i m there)) ∙ changes n
-        ∙ ap (λ b. cond b w (get nat_cmp m n)) ((eq_by_cmp_equiv nat_cmp_total).symm tx n)
-        ∙ ap (λ o. cond (is_eq (nat_cmp n tx)) w (held_in o n)) (sym there)
+  changed_at : (v n : ℕ) (r : Ordering) → nat_cmp v i ≡ r
+      → held_in (slice_get (set ms i k) v) n ≡ cond (is_eq (ordering_then r (nat_cmp n tx))) w (held_in (slice_get ms v) n)
+  changed_at v n Less e = elsewhere v n (not_same v i Less e refl)
+  changed_at v n Equal e =
+      let same : i ≡ v = sym (exact_unsigned v i e) in
+      subst (λ u. held_in (slice_get (set ms i k) u) n ≡ cond (is_eq (nat_cmp n tx)) w (held_in (slice_get ms u) n)) same (here n)
+  changed_at v n Greater e = elsewhere v n (not_same v i Greater e refl)
 
-    changed_at : (v n : ℕ) (r : Ordering) → nat_cmp v i ≡ r
-        → held_in (slice_get (set ms i k) v) n ≡ cond (is_eq (ordering_then r (nat_cmp n tx))) w (held_in (slice_get ms v) n)
-    changed_at v n Less e = elsewhere v n (not_same v i Less e refl)
-    changed_at v n Equal e =
-        let same : i ≡ v = sym (exact_unsigned v i e) in
-        subst (λ u. held_in (slice_get (set ms i k) u) n ≡ cond (is_eq (nat_cmp n tx)) w (held_in (slice_get ms u) n)) same (here n)
-    changed_at v n Greater e = elsewhere v n (not_same v i Greater e refl)
+  -- what differs at one transaction is seen to differ at one holder
+  changed : (q : WordHolder) → map.get (words_of (set ms i k)) q ≡ cond (eq_by_cmp word_holder_cmp q (word_holder i tx)) w (map.get (words_of ms) q)
+  changed q =
+      get-words_of (set ms i k) q.0 q.1 ∙ changed_at q.0 q.1 (nat_cmp q.0 i) refl
+      ∙ ap (cond (eq_by_cmp word_holder_cmp q (word_holder i tx)) w) (sym (get-words_of ms q.0 q.1))
 
-    -- what differs at one transaction is seen to differ at one holder
-    changed : (q : WordHolder) → map.get (words_of (set ms i k)) q ≡ cond (eq_by_cmp word_holder_cmp q (word_holder i tx)) w (map.get (words_of ms) q)
-    changed q =
-        get-words_of (set ms i k) q.0 q.1 ∙ changed_at q.0 q.1 (nat_cmp q.0 i) refl
-        ∙ ap (cond (eq_by_cmp word_holder_cmp q (word_holder i tx)) w) (sym (get-words_of ms q.0 q.1))
+-- ---- the list, seen as a finite map
+module _ (ms : List (BTreeMap ℕ Mode)) (t : map.FinMap word_holder_cmp Mode) (is : words_of ms ≡ t) where
+  -- nobody holds a word beyond the list
+  pub none_beyond : (v n : ℕ) → length ms ≤ v → map.get t (word_holder v n) ≡ None
+  none_beyond v n past =
+      ap (λ s. map.get s (word_holder v n)) (sym is) ∙ get-words_of ms v n ∙ ap (λ o. held_in o n) (slice_get_past ms v past)
 
-  -- with a mode at a transaction
-  pub words_of-insert : (tx : ℕ) (mode : Mode) → ((n : ℕ) → get nat_cmp k n ≡ cond (is_at (nat_cmp tx) n) (Some mode) (get nat_cmp m n))
-      → words_of (set ms i k) ≡ map.insert (words_of ms) (word_holder i tx) mode
-  words_of-insert tx mode h =
-      map.same_map word_holder_total word_holder_exact (words_of (set ms i k)) (map.insert (words_of ms) (word_holder i tx) mode)
-      (λ q. changed tx (Some mode) h q ∙ sym (map.get-insert word_holder_total (words_of ms) (word_holder i tx) mode q))
+  module _ (i : ℕ) (m : BTreeMap ℕ Mode) (inside : i < length ms) (read : m ≡ get_or ms i m) where
+    there : slice_get ms i ≡ Some m
+    there = slice_get_read ms (length ms) i m refl inside read
 
-  -- with nothing at a transaction
-  pub words_of-remove : (tx : ℕ) → ((n : ℕ) → get nat_cmp k n ≡ cond (is_at (nat_cmp tx) n) None (get nat_cmp m n))
-      → words_of (set ms i k) ≡ map.remove (words_of ms) (word_holder i tx)
-  words_of-remove tx h =
-      map.same_map word_holder_total word_holder_exact (words_of (set ms i k)) (map.remove (words_of ms) (word_holder i tx))
-      (λ q. changed tx None h q ∙ sym (map.get-remove word_holder_total (words_of ms) (word_holder i tx) q))
+    -- the modes of a word's holders are those of the map at its place
+    pub mode_there : (n : ℕ) → map.get t (word_holder i n) ≡ get nat_cmp m n
+    mode_there n = ap (λ s. map.get s (word_holder i n)) (sym is) ∙ get-words_of ms i n ∙ ap (λ o. held_in o n) there
+
+    module _ (k : BTreeMap ℕ Mode) where
+      -- another map with the same entries is put there
+      pub put_same : k.entries ≡ m.entries → words_of (set ms i k) ≡ t
+      put_same e = ap (λ es. map.from_entries es) (same_entries 0 i m k ms there e) ∙ is
+
+      -- one that has a mode at a transaction
+      pub put_mode : (tx : ℕ) (mode : Mode) → ((n : ℕ) → get nat_cmp k n ≡ cond (is_at (nat_cmp tx) n) (Some mode) (get nat_cmp m n))
+          → words_of (set ms i k) ≡ map.insert t (word_holder i tx) mode
+      put_mode tx mode h =
+          map.same_map word_holder_total word_holder_exact (words_of (set ms i k)) (map.insert (words_of ms) (word_holder i tx) mode)
+          (λ q. changed ms i m k there tx (Some mode) h q ∙ sym (map.get-insert word_holder_total (words_of ms) (word_holder i tx) mode q))
+          ∙ ap (λ s. map.insert s (word_holder i tx) mode) is
+
+      -- one that has nothing at a transaction
+      pub put_none : (tx : ℕ) → ((n : ℕ) → get nat_cmp k n ≡ cond (is_at (nat_cmp tx) n) None (get nat_cmp m n))
+          → words_of (set ms i k) ≡ map.remove t (word_holder i tx)
+      put_none tx h =
+          map.same_map word_holder_total word_holder_exact (words_of (set ms i k)) (map.remove (words_of ms) (word_holder i tx))
+          (λ q. changed ms i m k there tx None h q ∙ sym (map.get-remove word_holder_total (words_of ms) (word_holder i tx) q))
+          ∙ ap (λ s. map.remove s (word_holder i tx)) is
 
 none_at : (b : Bool) (o : Option Mode) → (b ≡ true → o ≡ None) → cond b None o ≡ o
 none_at true o h = sym (h refl)

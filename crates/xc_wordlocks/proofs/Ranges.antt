@@ -9,7 +9,7 @@ use Rattle.std.specs.Cmp.{IsTotalOrder, nat_cmp_total, tied_itself, ranks}
 use Rattle.std.specs.BTreeMap.{BTreeMap, get}
 use Rattle.std.specs.BTreeMap.Range.{IsFromStart, IsRangeOf}
 use Rattle.std.specs.FinMap as map
-use Rattle.std.proofs.lemmas.Map.Lookups.{CmpEqualImpliesEq, exact_unsigned}
+use Rattle.std.proofs.lemmas.Map.Lookups.{CmpEqualImpliesEq}
 use Rattle.xc_data.specs.declared.claim.Mode.{Mode}
 use Rattle.xc_maps.proofs.Maps.{get-lookup}
 use Rattle.xc_wordlocks.specs.declared.key.Other.{Other}
@@ -69,8 +69,7 @@ pub record Row {H : Type 0} (R : H → H → Ordering) (tx : H → ℕ) (at : �
   pub order : (n m : ℕ) → R (at n) (at m) ≡ nat_cmp n m
   pub between : (n m : ℕ) (h : H) → is_gt (R (at n) h) ≡ false → is_gt (R h (at m)) ≡ false → h ≡ at (tx h)
 
-
--- those of another object
+-- those of an object that isn't a word
 pub other_row : (o : Other) → Row holder_cmp (λ (h : Holder). h.tx) (holder_of o)
 other_row o = record {
   total = holder_total;

@@ -1,4 +1,6 @@
-ghost use Rattle.std.specs.Prelude.{◌≡◌, ◌<◌, ◌+◌, ℕ, length, None, OnOk, OnErr};
+ghost use Rattle.std.specs.Prelude.{◌≡◌, ◌<◌, ◌≤◌, ◌+◌, ℕ, length, None, IfSome, IfNone, OnOk, OnErr};
+ghost use Rattle.std.specs.Ordering.{nat_cmp};
+ghost use Rattle.std.specs.BTreeMap.{get};
 ghost use Rattle.std.specs.FinMap as map;
 ghost use Rattle.xc_wordlocks.specs.Keys.{word_holder};
 ghost use Rattle.xc_wordlocks.specs.First.{IsFirstFrom};
@@ -34,6 +36,7 @@ impl Model for Words {
 // Makes the list longer, up to a word. Nobody holds the words that are new.
 fn grow(holders: &mut Vec<BTreeMap<u32, Mode>>, alloc: Global, at: usize) -> Result<(), NoMemory>
     ensures reach { OnOk result (at < length holders.new.items) }
+    ensures beyond { OnErr result (length holders.new.items ≤ at) }
     ensures same { words_of holders.new.items ≡ words_of holders.old.items }
 {
     while holders.len() <= at {
@@ -52,10 +55,18 @@ impl Words {
         }
     }
 
+    // The holders of a word, if the list reaches it.
+    fn holders_of(&self, at: u32) -> Option<&BTreeMap<u32, Mode>>
+        ensures some { IfSome result (λ m. (n : ℕ) → map.get self.now (word_holder at n) ≡ get nat_cmp m.now n) }
+        ensures none { IfNone result ((n : ℕ) → map.get self.now (word_holder at n) ≡ None) }
+    {
+        self.holders.get(at as usize)
+    }
+
     pub fn get(&self, at: u32, tx: u32) -> Option<Mode>
         ensures { result ≡ map.get self.now (word_holder at tx) }
     {
-        self.holders.get(at as usize)?.get(&tx).copied()
+        self.holders_of(at)?.get(&tx).copied()
     }
 
     /// Only a new holder can want memory.
@@ -80,7 +91,7 @@ impl Words {
     pub fn first(&self, at: u32) -> Option<(u32, Mode)>
         ensures { IsFirstFrom (λ n. map.get self.now (word_holder at n)) 0 result }
     {
-        let (tx, mode) = self.holders.get(at as usize)?.first_key_value()?;
+        let (tx, mode) = self.holders_of(at)?.first_key_value()?;
         Some((*tx, *mode))
     }
 
@@ -89,7 +100,7 @@ impl Words {
         ensures { IsFirstFrom (λ n. map.get self.now (word_holder at n)) (tx + 1) result }
     {
         let behind = (Bound::Excluded(tx), Bound::Unbounded);
-        let (tx, mode) = self.holders.get(at as usize)?.range(behind).next()?;
+        let (tx, mode) = self.holders_of(at)?.range(behind).next()?;
         Some((*tx, *mode))
     }
 }

@@ -1,22 +1,27 @@
-use Rattle.std.proofs.Common.{rules, ◌≡◌, ◌<◌, ◌+◌, ℕ, length, None, OnOk, OnErr, ◌-◌, ◌*◌, ◌≤◌, ◌/◌, ◌%◌, Bool, true, false, nat_eq, nat_lt, List, [], ◌∷◌, ◌++◌, slice_index_or, slice_set, bit_and, bit_or, Fits, w8, w32, w64, Bor, MutBor}
+use Rattle.std.proofs.Common.{ap, sym, ◌∙◌}
 use Rattle.std.specs.FinMap as map
-use Rattle.xc_wordlocks.specs.Keys.{word_holder}
-use Rattle.xc_wordlocks.specs.First.{IsFirstFrom}
-use Rattle.xc_wordlocks.specs.Words.{words_of}
+use Rattle.xc_wordlocks.proofs.Modes.{on_err}
+use Rattle.xc_wordlocks.proofs.ByWord.{none_beyond, mode_there, put_same, put_mode}
 use Rattle.xc_wordlocks.proofs.words.Words.insert.Goals as goal
 
--- src/words.rt:67:9
 pub returns-in_err-grow-clause-absent : goal.returns-in_err-grow-clause-absent
-returns-in_err-grow-clause-absent c = ?
+returns-in_err-grow-clause-absent c =
+    on_err c.from_residual.result
+    (none_beyond c.grow.new.holders.items c.args.self.now (c.in_err-grow.ensures.same ∙ c.self.view_is) c.args.at c.args.tx c.in_err-grow.ensures.beyond)
 
--- src/words.rt:68:9
 pub returns-in_err-insert-clause-err : goal.returns-in_err-insert-clause-err
-returns-in_err-insert-clause-err c = ?
+returns-in_err-insert-clause-err c =
+    on_err c.from_residual-in_err-insert.result
+    (put_same c.grow.new.holders.items c.args.self.now (c.in_ok-grow.ensures.same ∙ c.self.view_is) c.args.at c.index_mut.result.now
+    c.in_ok-grow.ensures.reach c.index_mut.ensures.value c.insert.new.self c.in_err-insert.ensures.err)
 
--- src/words.rt:68:9
 pub returns-in_err-insert-clause-absent : goal.returns-in_err-insert-clause-absent
-returns-in_err-insert-clause-absent c = ?
+returns-in_err-insert-clause-absent c =
+    on_err c.from_residual-in_err-insert.result
+    (mode_there c.grow.new.holders.items c.args.self.now (c.in_ok-grow.ensures.same ∙ c.self.view_is) c.args.at c.index_mut.result.now
+    c.in_ok-grow.ensures.reach c.index_mut.ensures.value c.args.tx ∙ c.in_err-insert.ensures.absent)
 
--- src/words.rt:62:5
 pub returns-clause-ok : goal.returns-clause-ok
-returns-clause-ok c = ?
+returns-clause-ok c =
+    put_mode c.grow.new.holders.items c.args.self.now (c.in_ok-grow.ensures.same ∙ c.self.view_is) c.args.at c.index_mut.result.now
+    c.in_ok-grow.ensures.reach c.index_mut.ensures.value c.insert.new.self c.args.tx c.args.mode c.in_ok-insert.ensures.updates.0

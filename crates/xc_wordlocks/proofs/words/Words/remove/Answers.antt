@@ -1,22 +1,27 @@
-use Rattle.std.proofs.Common.{rules, ◌≡◌, ◌<◌, ◌+◌, ℕ, length, None, OnOk, OnErr, ◌-◌, ◌*◌, ◌≤◌, ◌/◌, ◌%◌, Bool, true, false, nat_eq, nat_lt, List, [], ◌∷◌, ◌++◌, slice_index_or, slice_set, bit_and, bit_or, Fits, w8, w32, w64, Bor, MutBor}
-use Rattle.std.specs.FinMap as map
+use Rattle.std.proofs.Common.{sym, ◌∙◌}
 use Rattle.xc_wordlocks.specs.Keys.{word_holder}
-use Rattle.xc_wordlocks.specs.First.{IsFirstFrom}
-use Rattle.xc_wordlocks.specs.Words.{words_of}
+use Rattle.xc_wordlocks.proofs.ByWord.{none_beyond, mode_there, put_none, removed_absent}
 use Rattle.xc_wordlocks.proofs.words.Words.remove.Goals as goal
 
--- src/words.rt:76:9
 pub returns-in_err-get_mut-clause-value : goal.returns-in_err-get_mut-clause-value
-returns-in_err-get_mut-clause-value c = ?
+returns-in_err-get_mut-clause-value c =
+    c.from_residual.ensures
+    ∙ sym (none_beyond c.self.inside.holders.items c.args.self.now c.self.view_is c.args.at c.args.tx c.in_err-get_mut.ensures.item.3)
 
--- src/words.rt:76:9
 pub returns-in_err-get_mut-clause-removed : goal.returns-in_err-get_mut-clause-removed
-returns-in_err-get_mut-clause-removed c = ?
+returns-in_err-get_mut-clause-removed c =
+    c.self.view_is
+    ∙ sym (removed_absent c.args.self.now (word_holder c.args.at c.args.tx)
+    (none_beyond c.self.inside.holders.items c.args.self.now c.self.view_is c.args.at c.args.tx c.in_err-get_mut.ensures.item.3))
 
--- src/words.rt:72:5
 pub returns-clause-value : goal.returns-clause-value
-returns-clause-value c = ?
+returns-clause-value c =
+    let item = c.in_ok-get_mut.ensures.item in
+    c.remove.ensures.value
+    ∙ sym (mode_there c.self.inside.holders.items c.args.self.now c.self.view_is c.args.at c.in_ok-get_mut.field-0.now item.3.0 item.1 c.args.tx)
 
--- src/words.rt:72:5
 pub returns-clause-removed : goal.returns-clause-removed
-returns-clause-removed c = ?
+returns-clause-removed c =
+    let item = c.in_ok-get_mut.ensures.item in
+    put_none c.self.inside.holders.items c.args.self.now c.self.view_is c.args.at c.in_ok-get_mut.field-0.now item.3.0 item.1
+    c.remove.new.self c.args.tx c.remove.ensures.updates.0
