@@ -1,11 +1,11 @@
 -- What the list of the words' holders says of the finite map that contracts see.
-use Rattle.std.proofs.Common.{◌≡◌, ◌≢◌, ℕ, zero, suc, ◌+◌, ◌<◌, ◌≤◌, Bool, true, false, cond, Option, Some, None, IsSome, List, [], ◌∷◌, ◌++◌, length}
+use Rattle.std.proofs.Common.{◌≡◌, ◌≢◌, ℕ, zero, suc, ◌+◌, ◌<◌, ◌≤◌, Bool, true, false, cond, Option, Some, None, List, [], ◌∷◌, ◌++◌, length}
 use Rattle.std.proofs.Common.{set, get_or, refl, ap, sym, ◌∙◌, subst, arith}
 use Rattle.std.specs.Prelude.{slice_get}
 use Rattle.std.specs.declared.cmp.Ordering.{Ordering}
 use Rattle.std.specs.declared.cmp.Ordering.TheVariants.{Less, Equal, Greater}
 use Rattle.std.specs.Ordering.{nat_cmp, ordering_then, is_eq, eq_by_cmp}
-use Rattle.std.specs.Cmp.{nat_cmp_total, tied_itself, eq_by_cmp_equiv}
+use Rattle.std.specs.Cmp.{nat_cmp_total, ranked, tied_itself, eq_by_cmp_equiv}
 use Rattle.std.specs.BTreeMap.{BTreeMap, get, is_at}
 use Rattle.std.specs.Map.{lookup}
 use Rattle.std.specs.FinMap as map
@@ -19,6 +19,7 @@ use Rattle.xc_wordlocks.specs.Words.{entries_at, entries_from, words_of}
 use Rattle.xc_wordlocks.proofs.Orders.{word_holder_total, word_holder_exact}
 
 -- ---- one entry of the map is one of the map at its word's place
+-- holders of two words aren't one
 apart : (v w : ℕ) (o r : Ordering) → nat_cmp v w ≡ o → v ≢ w → is_eq (ordering_then o r) ≡ false
 apart v w Less r e ne = refl
 apart v w Equal r e ne = absurd (ne (exact_unsigned v w e))
@@ -28,11 +29,13 @@ apart v w Greater r e ne = refl
 abbrev found_in : ℕ → ℕ → List (WordHolder × Mode) → Option Mode
 found_in v n es = lookup (is_at (word_holder_cmp (word_holder v n))) es
 
+-- holders of another word are passed over
 passed : (v w n : ℕ) (es : List (ℕ × Mode)) (rest : List (WordHolder × Mode)) → v ≢ w → found_in v n (entries_at w es ++ rest) ≡ found_in v n rest
 passed v w n [] rest ne = refl
 passed v w n (e ∷ es) rest ne =
     ap (λ b. cond b (Some e.1) (found_in v n (entries_at w es ++ rest))) (apart v w (nat_cmp v w) (nat_cmp n e.0) refl ne) ∙ passed v w n es rest ne
 
+-- holders of the word itself are found by their transactions
 own : (v n : ℕ) (es : List (ℕ × Mode)) (rest : List (WordHolder × Mode)) → found_in v n rest ≡ None
     → found_in v n (entries_at v es ++ rest) ≡ lookup (is_at (nat_cmp n)) es
 own v n [] rest none = none
@@ -40,6 +43,7 @@ own v n (e ∷ es) rest none =
     ap (λ r. cond (is_eq (ordering_then r (nat_cmp n e.0))) (Some e.1) (found_in v n (entries_at v es ++ rest))) (tied_itself nat_cmp_total v)
     ∙ ap (cond (is_at (nat_cmp n) e.0) (Some e.1)) (own v n es rest none)
 
+-- nothing is found of a word before all
 before : (v w n : ℕ) (ms : List (BTreeMap ℕ Mode)) → v < w → found_in v n (entries_from w ms) ≡ None
 before v w n [] lt = refl
 before v w n (m ∷ ms) lt = passed v w n m.entries (entries_from (w + 1) ms) (λ e. absurd (omega arith)) ∙ before v (w + 1) n ms (omega arith)
@@ -49,6 +53,7 @@ abbrev held_in : Option (BTreeMap ℕ Mode) → ℕ → Option Mode
 held_in None n = None
 held_in (Some m) n = get nat_cmp m n
 
+-- what is found of a word is in the map at its place
 placed : (v w i n : ℕ) (ms : List (BTreeMap ℕ Mode)) → v ≡ w + i → found_in v n (entries_from w ms) ≡ held_in (slice_get ms i) n
 placed v w i n [] e = refl
 placed v w zero n (m ∷ ms) e =
@@ -62,35 +67,16 @@ get-words_of : (ms : List (BTreeMap ℕ Mode)) (v n : ℕ) → map.get (words_of
 get-words_of ms v n = get-lookup word_holder_total (entries_from 0 ms) (word_holder v n) ∙ placed v 0 v n ms (omega arith)
 
 -- ---- changes of the list
--- lists of which one has the modes of the other at each word are seen as one map
-same_words : (ms ks : List (BTreeMap ℕ Mode)) → ((v n : ℕ) → held_in (slice_get ms v) n ≡ held_in (slice_get ks v) n) → words_of ms ≡ words_of ks
-same_words ms ks h =
-    map.same_map word_holder_total word_holder_exact (words_of ms) (words_of ks)
-    (λ q. get-words_of ms q.0 q.1 ∙ h q.0 q.1 ∙ sym (get-words_of ks q.0 q.1))
-
-pushed_at : (ms : List (BTreeMap ℕ Mode)) (m : BTreeMap ℕ Mode) (v n : ℕ) → m.entries ≡ []
-    → held_in (slice_get (ms ++ m ∷ []) v) n ≡ held_in (slice_get ms v) n
-pushed_at [] m zero n e = ap (lookup (is_at (nat_cmp n))) e
-pushed_at [] m (suc v) n e = refl
-pushed_at (k ∷ ms) m zero n e = refl
-pushed_at (k ∷ ms) m (suc v) n e = pushed_at ms m v n e
+-- no entry is behind those of all words where nobody holds one more
+pushed : (w : ℕ) (ms : List (BTreeMap ℕ Mode)) (m : BTreeMap ℕ Mode) → m.entries ≡ [] → entries_from w (ms ++ m ∷ []) ≡ entries_from w ms
+pushed w [] m e = ap (λ es. entries_at w es ++ []) e
+pushed w (k ∷ ms) m e = ap (λ es. entries_at w k.entries ++ es) (pushed (w + 1) ms m e)
 
 -- a word more that nobody holds isn't seen
 pub words_of-push : (ms : List (BTreeMap ℕ Mode)) (m : BTreeMap ℕ Mode) → m.entries ≡ [] → words_of (ms ++ m ∷ []) ≡ words_of ms
-words_of-push ms m e = same_words (ms ++ m ∷ []) ms (λ v n. pushed_at ms m v n e)
+words_of-push ms m e = ap (λ es. map.from_entries es) (pushed 0 ms m e)
 
-set_there : (ms : List (BTreeMap ℕ Mode)) (i : ℕ) (k : BTreeMap ℕ Mode) → i < length ms → slice_get (set ms i k) i ≡ Some k
-set_there [] i k lt = absurd (omega arith)
-set_there (m ∷ ms) zero k lt = refl
-set_there (m ∷ ms) (suc i) k lt = set_there ms i k (omega arith)
-
-set_elsewhere : (ms : List (BTreeMap ℕ Mode)) (i j : ℕ) (k : BTreeMap ℕ Mode) → j ≢ i → slice_get (set ms i k) j ≡ slice_get ms j
-set_elsewhere [] i j k ne = refl
-set_elsewhere (m ∷ ms) zero zero k ne = absurd (ne refl)
-set_elsewhere (m ∷ ms) zero (suc j) k ne = refl
-set_elsewhere (m ∷ ms) (suc i) zero k ne = refl
-set_elsewhere (m ∷ ms) (suc i) (suc j) k ne = set_elsewhere ms i j k (λ e. ne (ap suc e))
-
+-- a map with the same entries makes the same entries in all
 same_entries : (w i : ℕ) (m k : BTreeMap ℕ Mode) (ms : List (BTreeMap ℕ Mode)) → slice_get ms i ≡ Some m → k.entries ≡ m.entries
     → entries_from w (set ms i k) ≡ entries_from w ms
 same_entries w i m k [] there e = refl
@@ -98,30 +84,46 @@ same_entries w zero m k (x ∷ ms) there e =
     ap (λ es. entries_at w es ++ entries_from (w + 1) ms) (e ∙ ap (λ (y : BTreeMap ℕ Mode). y.entries) (same_Some m x (sym there)))
 same_entries w (suc i) m k (x ∷ ms) there e = ap (λ es. entries_at w x.entries ++ es) (same_entries (w + 1) i m k ms there e)
 
-not_same : (v i : ℕ) (r : Ordering) → nat_cmp v i ≡ r → is_eq r ≡ false → v ≢ i
-not_same v i r is apart_by same =
-    let clash : true ≡ false = sym (ap is_eq (ap (λ j. nat_cmp v j) (sym same) ∙ tied_itself nat_cmp_total v)) ∙ ap is_eq is ∙ apart_by in
-    absurd (cc)
+-- at its place stands what was put there
+set_there : (ms : List (BTreeMap ℕ Mode)) (i : ℕ) (k : BTreeMap ℕ Mode) → i < length ms → slice_get (set ms i k) i ≡ Some k
+set_there [] i k lt = absurd (omega arith)
+set_there (m ∷ ms) zero k lt = refl
+set_there (m ∷ ms) (suc i) k lt = set_there ms i k (omega arith)
+
+-- and elsewhere what stood there
+set_elsewhere : (ms : List (BTreeMap ℕ Mode)) (i j : ℕ) (k : BTreeMap ℕ Mode) → j ≢ i → slice_get (set ms i k) j ≡ slice_get ms j
+set_elsewhere [] i j k ne = refl
+set_elsewhere (m ∷ ms) zero zero k ne = absurd (ne refl)
+set_elsewhere (m ∷ ms) zero (suc j) k ne = refl
+set_elsewhere (m ∷ ms) (suc i) zero k ne = refl
+set_elsewhere (m ∷ ms) (suc i) (suc j) k ne = set_elsewhere ms i j k (λ e. ne (ap suc e))
 
 -- ---- another map is put where one stands
 module _ (ms : List (BTreeMap ℕ Mode)) (i : ℕ) (m k : BTreeMap ℕ Mode) (there : slice_get ms i ≡ Some m)
     (tx : ℕ) (w : Option Mode) (changes : (n : ℕ) → get nat_cmp k n ≡ cond (is_at (nat_cmp tx) n) w (get nat_cmp m n)) where
+  -- the holders of other words stay
   elsewhere : (v n : ℕ) → v ≢ i → held_in (slice_get (set ms i k) v) n ≡ held_in (slice_get ms v) n
   elsewhere v n ne = ap (λ o. held_in o n) (set_elsewhere ms i v k ne)
 
+  -- the word's holders differ at the transaction
   here : (n : ℕ) → held_in (slice_get (set ms i k) i) n ≡ cond (is_eq (nat_cmp n tx)) w (held_in (slice_get ms i) n)
   here n =
       ap (λ o. held_in o n) (set_there ms i k (slice_get_within ms i m there)) ∙ changes n
       ∙ ap (λ b. cond b w (get nat_cmp m n)) ((eq_by_cmp_equiv nat_cmp_total).symm tx n)
       ∙ ap (λ o. cond (is_eq (nat_cmp n tx)) w (held_in o n)) (sym there)
 
+  -- at any word the modes differ there alone
   changed_at : (v n : ℕ) (r : Ordering) → nat_cmp v i ≡ r
       → held_in (slice_get (set ms i k) v) n ≡ cond (is_eq (ordering_then r (nat_cmp n tx))) w (held_in (slice_get ms v) n)
-  changed_at v n Less e = elsewhere v n (not_same v i Less e refl)
+  changed_at v n Less e =
+      let less : v < i = ranked v i Less (sym e) in
+      elsewhere v n (λ same. absurd (omega arith))
   changed_at v n Equal e =
       let same : i ≡ v = sym (exact_unsigned v i e) in
       subst (λ u. held_in (slice_get (set ms i k) u) n ≡ cond (is_eq (nat_cmp n tx)) w (held_in (slice_get ms u) n)) same (here n)
-  changed_at v n Greater e = elsewhere v n (not_same v i Greater e refl)
+  changed_at v n Greater e =
+      let greater : i < v = ranked v i Greater (sym e) in
+      elsewhere v n (λ same. absurd (omega arith))
 
   -- what differs at one transaction is seen to differ at one holder
   changed : (q : WordHolder) → map.get (words_of (set ms i k)) q ≡ cond (eq_by_cmp word_holder_cmp q (word_holder i tx)) w (map.get (words_of ms) q)
@@ -137,6 +139,7 @@ module _ (ms : List (BTreeMap ℕ Mode)) (t : map.FinMap word_holder_cmp Mode) (
       ap (λ s. map.get s (word_holder v n)) (sym is) ∙ get-words_of ms v n ∙ ap (λ o. held_in o n) (slice_get_past ms v past)
 
   module _ (i : ℕ) (m : BTreeMap ℕ Mode) (inside : i < length ms) (read : m ≡ get_or ms i m) where
+    -- the map at the place, as it was read
     there : slice_get ms i ≡ Some m
     there = slice_get_read ms (length ms) i m refl inside read
 
@@ -165,11 +168,12 @@ module _ (ms : List (BTreeMap ℕ Mode)) (t : map.FinMap word_holder_cmp Mode) (
           (λ q. changed ms i m k there tx None h q ∙ sym (map.get-remove word_holder_total (words_of ms) (word_holder i tx) q))
           ∙ ap (λ s. map.remove s (word_holder i tx)) is
 
+-- what isn't there is taken out
 none_at : (b : Bool) (o : Option Mode) → (b ≡ true → o ≡ None) → cond b None o ≡ o
 none_at true o h = sym (h refl)
 none_at false o h = refl
 
--- what isn't there is removed
+-- a map without an entry is the same without it
 pub removed_absent : (t : map.FinMap word_holder_cmp Mode) (h : WordHolder) → map.get t h ≡ None → map.remove t h ≡ t
 removed_absent t h none =
     map.same_map word_holder_total word_holder_exact (map.remove t h) t

@@ -5,7 +5,7 @@ use Rattle.std.specs.declared.cmp.Ordering.TheVariants.{Less, Equal, Greater}
 use Rattle.std.specs.declared.ops.Bound.{Bound}
 use Rattle.std.specs.declared.ops.Bound.TheVariants.{Included, Excluded, Unbounded}
 use Rattle.std.specs.Ordering.{nat_cmp, ordering_then, ordering_reverse, is_gt, MatchOrdering}
-use Rattle.std.specs.Cmp.{IsTotalOrder, nat_cmp_total, tied_itself, ranks}
+use Rattle.std.specs.Cmp.{IsTotalOrder, tied_itself, ranks}
 use Rattle.std.specs.BTreeMap.{BTreeMap, get}
 use Rattle.std.specs.BTreeMap.Range.{IsFromStart, IsRangeOf}
 use Rattle.std.specs.FinMap as map

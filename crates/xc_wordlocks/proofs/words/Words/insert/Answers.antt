@@ -1,5 +1,4 @@
-use Rattle.std.proofs.Common.{ap, sym, ◌∙◌}
-use Rattle.std.specs.FinMap as map
+use Rattle.std.proofs.Common.{◌∙◌}
 use Rattle.xc_wordlocks.proofs.Modes.{on_err}
 use Rattle.xc_wordlocks.proofs.ByWord.{none_beyond, mode_there, put_same, put_mode}
 use Rattle.xc_wordlocks.proofs.words.Words.insert.Goals as goal
