@@ -1,4 +1,5 @@
-use crate::{ClaimErr, Claims};
+use crate::{ClaimErr, Claims, Holding};
+use std::alloc::Global;
 use std::process::Abort;
 use std::test::Fail;
 use xc_data::{Claim, Mode, Num, Object};
@@ -37,12 +38,12 @@ fn met(object: Object, holder: u32) -> Result<(), ClaimErr> {
     Err(ClaimErr::Met { object, holder })
 }
 
-fn play(rt: &impl Abort, claims: &mut Claims, step: &Step) {
+fn play(rt: &impl Abort, alloc: Global, claims: &mut Claims, step: &Step) {
     match step {
         Step::Claims(tx, listed, meant) => assert_eq!(rt; claims.claim(listed, *tx), *meant),
         Step::Asks(tx, claim, meant) => assert_eq!(rt; claims.met(claim, *tx), *meant),
         Step::Ends(tx) => {
-            claims.release_all(*tx, Holding::new(rt.alloc()));
+            claims.release_all(*tx, Holding::new(alloc));
         }
     }
 }
@@ -82,7 +83,7 @@ fn readers_share_and_writers_are_alone(rt: HostRuntime) -> Result<(), Fail> {
     ];
     let mut claims = Claims::new(rt.alloc());
     for step in &steps {
-        play(&rt, &mut claims, step);
+        play(&rt, rt.alloc(), &mut claims, step);
     }
     Ok(())
 }
@@ -100,7 +101,7 @@ fn a_transaction_holds_many(rt: HostRuntime) -> Result<(), Fail> {
         assert_eq!(rt; claims.met(&reads(Object::Word(at)), 2), Some(1));
     }
     assert_eq!(rt; claims.claim(&[writes(Object::Word(256))], 2), Ok(()));
-    claims.release_all(1);
+    claims.release_all(1, Holding::new(rt.alloc()));
     for at in 0..256 {
         assert_eq!(rt; claims.met(&writes(Object::Word(at)), 3), None);
     }
