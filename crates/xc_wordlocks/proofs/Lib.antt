@@ -1,6 +1,7 @@
 pub mod Orders
 pub mod Modes
 pub mod Ranges
+pub mod ByWord
 pub mod Claimed
 pub mod Places
 pub mod Whole

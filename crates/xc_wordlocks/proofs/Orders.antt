@@ -5,8 +5,8 @@ use Rattle.std.specs.declared.cmp.Ordering.TheVariants.{Less, Equal, Greater}
 use Rattle.std.specs.Ordering.{nat_cmp, ordering_then}
 use Rattle.std.specs.Cmp.{IsTotalOrder}
 use Rattle.std.specs.Cmp.Lexicographic.{same_text}
-use Rattle.std.proofs.lemmas.Cmp.{nat_list_eq_equiv}
-use Rattle.std.proofs.lemmas.Map.Lookups.{CmpEqualImpliesEq, exact_bytes, exact_unsigned}
+use Rattle.std.proofs.lemmas.Cmp.{nat_list_eq_equiv, nat_cmp_total, on_total, then_total}
+use Rattle.std.proofs.lemmas.Map.Lookups.{CmpEqualImpliesEq, exact_bytes, exact_unsigned, exact_pairs}
 use Rattle.xc_data.specs.declared.object.Num.{Num}
 use Rattle.xc_data.specs.declared.object.Object.{Object}
 use Rattle.xc_data.specs.declared.object.Object.TheVariants as object
@@ -20,7 +20,6 @@ use Rattle.xc_wordlocks.specs.contracts.key.OtherPartialEq.TheImpl as other_eq
 use Rattle.xc_wordlocks.specs.contracts.key.OtherOrd.TheImpl as other_ord
 use Rattle.xc_wordlocks.specs.contracts.key.OtherOrd.TheImpl.Laws as other_laws
 use Rattle.xc_wordlocks.specs.contracts.key.HolderOrd.TheImpl.Laws as holder_laws
-use Rattle.xc_wordlocks.specs.contracts.key.WordHolderOrd.TheImpl.Laws as word_holder_laws
 use Rattle.xc_wordlocks.specs.Keys.{kind_of, holder_cmp, word_holder_cmp}
 
 -- ---- objects
@@ -100,7 +99,7 @@ other_total = other_laws.total-law
 
 -- the order of the holders of words is total
 pub word_holder_total : IsTotalOrder word_holder_cmp
-word_holder_total = word_holder_laws.total-law
+word_holder_total = then_total (on_total (λ h. h.0) nat_cmp_total) (on_total (λ h. h.1) nat_cmp_total)
 
 -- the order of the other holders is total
 pub holder_total : IsTotalOrder holder_cmp
@@ -122,11 +121,7 @@ both_equal Greater s e = cc
 
 -- holders of words that compare as equal are the same
 pub word_holder_exact : CmpEqualImpliesEq word_holder_cmp
-word_holder_exact a b e =
-    let equal = both_equal (nat_cmp a.at b.at) (nat_cmp a.tx b.tx) e in
-    let at_same = exact_unsigned a.at b.at equal.0 in
-    let tx_same = exact_unsigned a.tx b.tx equal.1 in
-    λ i. record { at = at_same i; tx = tx_same i }
+word_holder_exact = exact_pairs nat_cmp nat_cmp exact_unsigned exact_unsigned
 
 -- other holders that compare as equal are the same
 pub holder_exact : CmpEqualImpliesEq holder_cmp

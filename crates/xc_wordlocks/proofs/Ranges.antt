@@ -5,19 +5,18 @@ use Rattle.std.specs.declared.cmp.Ordering.TheVariants.{Less, Equal, Greater}
 use Rattle.std.specs.declared.ops.Bound.{Bound}
 use Rattle.std.specs.declared.ops.Bound.TheVariants.{Included, Excluded, Unbounded}
 use Rattle.std.specs.Ordering.{nat_cmp, ordering_then, ordering_reverse, is_gt, MatchOrdering}
-use Rattle.std.specs.Cmp.{IsTotalOrder, nat_cmp_total, tied_itself, ranks}
+use Rattle.std.specs.Cmp.{IsTotalOrder, tied_itself, ranks}
 use Rattle.std.specs.BTreeMap.{BTreeMap, get}
 use Rattle.std.specs.BTreeMap.Range.{IsFromStart, IsRangeOf}
 use Rattle.std.specs.FinMap as map
-use Rattle.std.proofs.lemmas.Map.Lookups.{CmpEqualImpliesEq, exact_unsigned}
+use Rattle.std.proofs.lemmas.Map.Lookups.{CmpEqualImpliesEq}
 use Rattle.xc_data.specs.declared.claim.Mode.{Mode}
 use Rattle.xc_maps.proofs.Maps.{get-lookup}
 use Rattle.xc_wordlocks.specs.declared.key.Other.{Other}
 use Rattle.xc_wordlocks.specs.declared.key.Holder.{Holder}
-use Rattle.xc_wordlocks.specs.declared.key.WordHolder.{WordHolder}
-use Rattle.xc_wordlocks.specs.Keys.{holder_of, holder_cmp, word_holder, word_holder_cmp}
+use Rattle.xc_wordlocks.specs.Keys.{holder_of, holder_cmp}
 use Rattle.xc_wordlocks.specs.First.{IsFirstFrom}
-use Rattle.xc_wordlocks.proofs.Orders.{other_total, other_exact, holder_total, word_holder_total}
+use Rattle.xc_wordlocks.proofs.Orders.{other_total, other_exact, holder_total}
 
 -- ---- comparisons
 up_to : (n m : ℕ) (r : Ordering) → MatchOrdering r (n < m) (n ≡ m) (m < n) → is_gt r ≡ false → n ≤ m
@@ -70,15 +69,7 @@ pub record Row {H : Type 0} (R : H → H → Ordering) (tx : H → ℕ) (at : �
   pub order : (n m : ℕ) → R (at n) (at m) ≡ nat_cmp n m
   pub between : (n m : ℕ) (h : H) → is_gt (R (at n) h) ≡ false → is_gt (R h (at m)) ≡ false → h ≡ at (tx h)
 
--- those of a word
-pub word_row : (w : ℕ) → Row word_holder_cmp (λ (h : WordHolder). h.tx) (word_holder w)
-word_row w = record {
-  total = word_holder_total;
-  order = λ n m. level nat_cmp_total exact_unsigned w n m;
-  between = λ n m h above under. ap (λ x. word_holder x h.tx) (squeezed nat_cmp_total exact_unsigned w h.at n h.tx m above under);
-}
-
--- those of another object
+-- those of an object that isn't a word
 pub other_row : (o : Other) → Row holder_cmp (λ (h : Holder). h.tx) (holder_of o)
 other_row o = record {
   total = holder_total;

@@ -1,6 +1,7 @@
 -- The keys of the table: objects in an order, and who holds them.
 use Rattle.std.specs.Prelude.{ℕ}
-use Rattle.std.specs.Coded.{Coded}
+use Rattle.std.specs.Coded.{Coded, coded×, coded_ℕ}
+use Rattle.std.specs.Ordering.{nat_cmp, ordering_then}
 use Rattle.std.specs.declared.cmp.Ordering.{Ordering}
 use Rattle.xc_data.specs.declared.object.Object.{Object}
 use Rattle.xc_data.specs.declared.object.Object.TheVariants as object
@@ -11,11 +12,8 @@ use Rattle.xc_wordlocks.specs.declared.key.Kind.TheVariants as kind
 use Rattle.xc_wordlocks.specs.declared.key.Other.{Other}
 use Rattle.xc_wordlocks.specs.declared.key.Other.TheVariants as other
 use Rattle.xc_wordlocks.specs.declared.key.Holder.{Holder}
-use Rattle.xc_wordlocks.specs.declared.key.WordHolder.{WordHolder}
 use Rattle.xc_wordlocks.specs.contracts.key.Holder as holder_row
-use Rattle.xc_wordlocks.specs.contracts.key.WordHolder as word_holder_row
 use Rattle.xc_wordlocks.specs.contracts.key.HolderOrd.TheImpl as holder_ord
-use Rattle.xc_wordlocks.specs.contracts.key.WordHolderOrd.TheImpl as word_holder_ord
 
 -- an object as a word or another
 abbrev pub kind_of : Object → Kind
@@ -26,9 +24,13 @@ kind_of (object.Pipe num) = kind.Other (other.Pipe num)
 kind_of (object.Pair num) = kind.Other (other.Pair num)
 kind_of object.Jobs = kind.Other other.Jobs
 
+-- a word and a transaction that holds it
+abbrev pub WordHolder : Type 0
+WordHolder = ℕ × ℕ
+
 -- a transaction as the holder of a word
 abbrev pub word_holder : ℕ → ℕ → WordHolder
-word_holder at n = record { at = at; tx = n }
+word_holder at n = (at, n)
 
 -- a transaction as the holder of another object
 abbrev pub holder_of : Other → ℕ → Holder
@@ -36,7 +38,7 @@ holder_of o n = record { object = o; tx = n }
 
 -- by word, and then by transaction
 abbrev pub word_holder_cmp : WordHolder → WordHolder → Ordering
-word_holder_cmp = word_holder_ord.ghosts.cmp
+word_holder_cmp a b = ordering_then (nat_cmp a.0 b.0) (nat_cmp a.1 b.1)
 
 -- by object, and then by transaction
 abbrev pub holder_cmp : Holder → Holder → Ordering
@@ -44,7 +46,7 @@ holder_cmp = holder_ord.ghosts.cmp
 
 -- how a proof stores the holder of a word
 abbrev pub coded_word_holder : Coded WordHolder
-coded_word_holder = word_holder_row.the_row.coded
+coded_word_holder = coded× coded_ℕ coded_ℕ
 
 -- how a proof stores the holder of another object
 abbrev pub coded_holder : Coded Holder

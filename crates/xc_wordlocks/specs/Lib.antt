@@ -6,3 +6,4 @@ pub mod Others
 pub mod Placing
 pub mod Released
 pub mod Table
+pub mod Words

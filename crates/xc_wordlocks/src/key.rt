@@ -17,14 +17,7 @@ pub enum Kind {
     Other(Other),
 }
 
-/// A transaction that holds a word. The holders of one word stand next to each other.
-#[derive(Clone, Copy, Debug, PartialEq, Eq, PartialOrd, Ord)]
-pub struct WordHolder {
-    pub at: u32,
-    pub tx: u32,
-}
-
-/// A transaction that holds another object. The holders of one object stand next to each other.
+/// A transaction that holds an object that isn't a word. The holders of one object stand next to each other.
 #[derive(Clone, Copy, Debug, PartialEq, Eq, PartialOrd, Ord)]
 pub struct Holder {
     pub object: Other,

@@ -1,31 +1,48 @@
-ghost use Rattle.std.specs.Prelude.{◌≡◌, ◌+◌, ℕ, None, OnOk, OnErr};
+ghost use Rattle.std.specs.Prelude.{◌≡◌, ◌<◌, ◌≤◌, ◌+◌, ℕ, length, None, IfSome, IfNone, OnOk, OnErr};
+ghost use Rattle.std.specs.Ordering.{nat_cmp};
+ghost use Rattle.std.specs.BTreeMap.{get};
 ghost use Rattle.std.specs.FinMap as map;
 ghost use Rattle.xc_wordlocks.specs.Keys.{word_holder};
 ghost use Rattle.xc_wordlocks.specs.First.{IsFirstFrom};
+ghost use Rattle.xc_wordlocks.specs.Words.{words_of};
 
-use crate::key::WordHolder;
 use std::alloc::Global;
 use std::collections::BTreeMap;
 use std::marker::Model;
 use std::ops::Bound;
 use xc_data::{Mode, NoMemory};
 
-/// Who holds which word, and in which mode. The keys are small, since words are claimed most.
+/// Who holds which word, and in which mode. The holders of a word stand at its place in a list, since words are claimed most.
 #[derive(Drop)]
 pub struct Words {
-    modes: BTreeMap<WordHolder, Mode>,
+    alloc: Global,
+    // For each word up to the greatest that was claimed, who holds it.
+    holders: Vec<BTreeMap<u32, Mode>>,
 }
 
 impl Model for Words {
     ghost use Rattle.std.specs.FinMap as map;
     ghost use Rattle.xc_data.specs.declared.claim.Mode.{Mode};
     ghost use Rattle.xc_wordlocks.specs.Keys.{word_holder_cmp, coded_word_holder, coded_mode};
+    ghost use Rattle.xc_wordlocks.specs.Words.{words_of};
 
     ghost Value = { map.FinMap word_holder_cmp Mode };
 
     ghost coded = { map.code coded_word_holder coded_mode };
 
-    ghost view = { λ a. map.from_entries a.modes.entries };
+    ghost view = { λ a. words_of a.holders.items };
+}
+
+// Makes the list longer, up to a word. Nobody holds the words that are new.
+fn grow(holders: &mut Vec<BTreeMap<u32, Mode>>, alloc: Global, at: usize) -> Result<(), NoMemory>
+    ensures reach { OnOk result (at < length holders.new.items) }
+    ensures beyond { OnErr result (length holders.new.items ≤ at) }
+    ensures same { words_of holders.new.items ≡ words_of holders.old.items }
+{
+    while holders.len() <= at {
+        holders.push(BTreeMap::new(alloc))?;
+    }
+    Ok(())
 }
 
 impl Words {
@@ -33,14 +50,23 @@ impl Words {
         ensures { result ≡ map.empty }
     {
         Words {
-            modes: BTreeMap::new(alloc),
+            alloc,
+            holders: Vec::new(alloc),
         }
+    }
+
+    // The holders of a word, if the list reaches it.
+    fn holders_of(&self, at: u32) -> Option<&BTreeMap<u32, Mode>>
+        ensures some { IfSome result (λ m. (n : ℕ) → map.get self.now (word_holder at n) ≡ get nat_cmp m.now n) }
+        ensures none { IfNone result ((n : ℕ) → map.get self.now (word_holder at n) ≡ None) }
+    {
+        self.holders.get(at as usize)
     }
 
     pub fn get(&self, at: u32, tx: u32) -> Option<Mode>
         ensures { result ≡ map.get self.now (word_holder at tx) }
     {
-        self.modes.get(&WordHolder { at, tx }).copied()
+        self.holders_of(at)?.get(&tx).copied()
     }
 
     /// Only a new holder can want memory.
@@ -49,40 +75,32 @@ impl Words {
         ensures err { OnErr result (self.new ≡ self.old) }
         ensures absent { OnErr result (map.get self.old (word_holder at tx) ≡ None) }
     {
-        self.modes.insert(WordHolder { at, tx }, mode)?;
+        grow(&mut self.holders, self.alloc, at as usize)?;
+        self.holders[at as usize].insert(tx, mode)?;
         Ok(())
     }
 
-    /// Gives the mode that was there. It takes no memory.
     pub fn remove(&mut self, at: u32, tx: u32) -> Option<Mode>
         ensures value { result ≡ map.get self.old (word_holder at tx) }
         ensures removed { self.new ≡ map.remove self.old (word_holder at tx) }
     {
-        self.modes.remove(&WordHolder { at, tx })
+        self.holders.get_mut(at as usize)?.remove(&tx)
     }
 
     /// The smallest holder of a word.
     pub fn first(&self, at: u32) -> Option<(u32, Mode)>
         ensures { IsFirstFrom (λ n. map.get self.now (word_holder at n)) 0 result }
     {
-        let (holder, mode) = self.modes.range(WordHolder { at, tx: 0 }..).next()?;
-        if holder.at == at {
-            Some((holder.tx, *mode))
-        } else {
-            None
-        }
+        let (tx, mode) = self.holders_of(at)?.first_key_value()?;
+        Some((*tx, *mode))
     }
 
     /// The smallest holder of a word that is greater than this one.
     pub fn first_behind(&self, at: u32, tx: u32) -> Option<(u32, Mode)>
         ensures { IsFirstFrom (λ n. map.get self.now (word_holder at n)) (tx + 1) result }
     {
-        let behind = (Bound::Excluded(WordHolder { at, tx }), Bound::Unbounded);
-        let (holder, mode) = self.modes.range(behind).next()?;
-        if holder.at == at {
-            Some((holder.tx, *mode))
-        } else {
-            None
-        }
+        let behind = (Bound::Excluded(tx), Bound::Unbounded);
+        let (tx, mode) = self.holders_of(at)?.range(behind).next()?;
+        Some((*tx, *mode))
     }
 }

@@ -1,21 +1,26 @@
-use Rattle.std.proofs.Common.{ap, sym, ◌∙◌}
-use Rattle.std.specs.FinMap as map
-use Rattle.xc_data.specs.declared.claim.Mode.{Mode}
-use Rattle.xc_maps.proofs.Maps.{get-lookup, inserted}
-use Rattle.xc_wordlocks.specs.Keys.{word_holder, word_holder_cmp}
+use Rattle.std.proofs.Common.{◌∙◌}
 use Rattle.xc_wordlocks.proofs.Modes.{on_err}
-use Rattle.xc_wordlocks.proofs.Orders.{word_holder_total, word_holder_exact}
+use Rattle.xc_wordlocks.proofs.ByWord.{none_beyond, mode_there, put_same, put_mode}
 use Rattle.xc_wordlocks.proofs.words.Words.insert.Goals as goal
+
+pub returns-in_err-grow-clause-absent : goal.returns-in_err-grow-clause-absent
+returns-in_err-grow-clause-absent c =
+    on_err c.from_residual.result
+    (none_beyond c.grow.new.holders.items c.args.self.now (c.in_err-grow.ensures.same ∙ c.self.view_is) c.args.at c.args.tx c.in_err-grow.ensures.beyond)
+
+pub returns-in_err-insert-clause-err : goal.returns-in_err-insert-clause-err
+returns-in_err-insert-clause-err c =
+    on_err c.from_residual-in_err-insert.result
+    (put_same c.grow.new.holders.items c.args.self.now (c.in_ok-grow.ensures.same ∙ c.self.view_is) c.args.at c.index_mut.result.now
+    c.in_ok-grow.ensures.reach c.index_mut.ensures.value c.insert.new.self c.in_err-insert.ensures.err)
 
 pub returns-in_err-insert-clause-absent : goal.returns-in_err-insert-clause-absent
 returns-in_err-insert-clause-absent c =
-    let holder = word_holder c.args.at c.args.tx in
-    on_err c.from_residual.result
-    (ap (λ (m : map.FinMap word_holder_cmp Mode). map.get m holder) (sym c.self.view_is)
-    ∙ get-lookup word_holder_total c.self.inside.modes.entries holder ∙ c.in_err-insert.ensures.absent)
+    on_err c.from_residual-in_err-insert.result
+    (mode_there c.grow.new.holders.items c.args.self.now (c.in_ok-grow.ensures.same ∙ c.self.view_is) c.args.at c.index_mut.result.now
+    c.in_ok-grow.ensures.reach c.index_mut.ensures.value c.args.tx ∙ c.in_err-insert.ensures.absent)
 
 pub returns-clause-ok : goal.returns-clause-ok
 returns-clause-ok c =
-    let holder = word_holder c.args.at c.args.tx in
-    inserted word_holder_total word_holder_exact c.self.inside.modes.entries c.insert.new.self.entries holder c.args.mode c.in_ok-insert.ensures.updates.0
-    ∙ ap (λ (m : map.FinMap word_holder_cmp Mode). map.insert m holder c.args.mode) c.self.view_is
+    put_mode c.grow.new.holders.items c.args.self.now (c.in_ok-grow.ensures.same ∙ c.self.view_is) c.args.at c.index_mut.result.now
+    c.in_ok-grow.ensures.reach c.index_mut.ensures.value c.insert.new.self c.args.tx c.args.mode c.in_ok-insert.ensures.updates.0
