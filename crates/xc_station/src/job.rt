@@ -22,10 +22,10 @@ pub enum Activity {
 #[derive(Drop)]
 pub struct Job {
     pub block: Ident,
-    pub place: JobState,
     /// Attempts at its next transaction that met a holder.
     pub attempts: Option<Attempts>,
     pub activity: Activity,
+    pub place: JobState,
     /// Its active transaction; while it has none, the handles of the last one's end stay in it for the next.
     pub tx: Tx,
 }

@@ -20,28 +20,28 @@ use xc_txmem::WriteSet;
 use xc_wordlocks::{Claims, Holding};
 
 /// A job's transaction, with what its entry will say. It lies in its job for all of the job's transactions, and with it
-/// the job's handles: no begin and no end copies them.
+/// the job's handles: no begin and no end copies them. What a call on a word reads stands together, in front of the handles.
 #[derive(Drop)]
 pub struct Tx {
+    pub writes: WriteSet,
+    pub calls: Roomy<Call>,
+    pub replies: Roomy<Reply>,
+    pub held: Holding,
     pub number: u32,
     /// The number of the first attempt at it.
     pub rank: u32,
     /// The length that the journal had at its begin.
     pub began: u32,
-    pub phase: Phase,
-    pub me: Private,
     /// Whether a call may have changed the handles since the begin.
     pub changed: bool,
-    /// The handles of the begin, where one may have.
-    pub begun: Private,
-    pub writes: WriteSet,
+    pub phase: Phase,
     /// What its calls did at the host.
     pub undo: Stack,
     /// What it keeps for its commit, and how that ended.
     pub late: Late,
-    pub calls: Roomy<Call>,
-    pub replies: Roomy<Reply>,
-    pub held: Holding,
+    pub me: Private,
+    /// The handles of the begin, where one may have.
+    pub begun: Private,
 }
 
 // The outcome of a transaction that ends in this phase, with the ends of its records or of its late calls.
