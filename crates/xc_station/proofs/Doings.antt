@@ -128,6 +128,14 @@ file_acted model c d old new r is other at_once k frame stored now =
     frame ∙ ap (λ ws. record old.tx { me = new.tx.me; writes = ws; undo = new.tx.undo }) (sym writes) in
     subst (λ (e : Call). HasActed model e old new r) (sym is) (file_answered model d old new other r k whole writes stored at_once now)
 
+-- so has one at these handles, which are those of the transaction
+pub file_acted_at : {H : Type 0} (model : HostModel H) (c d : Call) (old new : Acting H) (me : Private) (r : Result Reply NoMemory) → me ≡ old.tx.me
+    → c ≡ d → is_word_call d ≡ false → waits d ≡ false → IsFileCall model d (record (calling old) { me = me }) (calling new) r
+    → new.tx ≡ record old.tx { me = new.tx.me; undo = new.tx.undo } → new.tx.me.stored ≤ 16384 → IfOk r (λ reply. is_late reply ≡ false)
+    → HasActed model c old new r
+file_acted_at model c d old new me r same is other at_once k =
+    file_acted model c d old new r is other at_once (subst (λ (m : Private). IsFileCall model d (record (calling old) { me = m }) (calling new) r) same k)
+
 -- a call that reaches no host has acted
 pub alone_acted : {H : Type 0} (model : HostModel H) (c d : Call) (old : Acting H) (next : Private) (reply : Reply) → c ≡ d → is_word_call d ≡ false
     → waits d ≡ false → StepsAlone d old.tx.me next reply → next.stored ≤ 16384 → is_late reply ≡ false
@@ -135,6 +143,13 @@ pub alone_acted : {H : Type 0} (model : HostModel H) (c d : Call) (old : Acting 
 alone_acted model c d old next reply is other at_once alone stored now =
     file_acted model c d old (record old { tx = record old.tx { me = next } }) (Ok reply) is other at_once
     (alone_call model d (calling old) next reply alone) refl stored now
+
+-- so has one at these handles
+pub alone_acted_at : {H : Type 0} (model : HostModel H) (c d : Call) (old : Acting H) (next me : Private) (reply : Reply) → me ≡ old.tx.me → c ≡ d
+    → is_word_call d ≡ false → waits d ≡ false → StepsAlone d me next reply → next.stored ≤ 16384 → is_late reply ≡ false
+    → HasDone model c old (record old { tx = record old.tx { me = next } }) reply
+alone_acted_at model c d old next me reply same is other at_once alone =
+    alone_acted model c d old next reply is other at_once (subst (λ (m : Private). StepsAlone d m next reply) same alone)
 
 -- ---- a call that is kept for the commit
 -- a transaction at a host with other late calls
@@ -160,6 +175,14 @@ kept_acted model c d old queue (Err e) is other waiting kept err stored =
       faults = refl;
       contents = λ tells. inl (refl, refl);
     }
+
+-- so has one at these handles
+pub kept_acted_at : {H : Type 0} (model : HostModel H) (c d : Call) (old : Acting H) (queue : Queue) (me : Private) (r : Result Reply NoMemory)
+    → me ≡ old.tx.me → c ≡ d → is_word_call d ≡ false → waits d ≡ true → IfOk r (λ reply. IsKept d me (queue_of old.tx) queue reply)
+    → OnErr r (queue ≡ queue_of old.tx) → old.tx.me.stored ≤ 16384 → HasActed model c old (queueing old queue) r
+kept_acted_at model c d old queue me r same is other waiting kept =
+    kept_acted model c d old queue r is other waiting
+    (subst (λ (m : Private). IfOk r (λ reply. IsKept d m (queue_of old.tx) queue reply)) same kept)
 
 -- ---- a call on words
 -- it isn't kept for the commit

@@ -45,26 +45,26 @@ pub record IsBehind (s : Setting) (old new : Position) (reply : Reply) : Type 0 
 module _ {H : Type 0} (model : HostModel H) (s : Setting) (shared : Shared H) (now : Now) (at : ℕ) (job : SeenJob) (place : Position) (old : Tx)
     (here : IsAt model shared now at job) (has : HasTx s job place (seen_tx old)) (behind : Shared H) (mid : Tx) (call : Call)
     (words : behind.words ≡ shared.words) (asked : asks (walk_of s.script place) ≡ ask.Call call)
-    (g : IsGranted shared.claims behind.claims old mid (claims_of call old.me (length shared.words))) where
+    (g : IsGranted shared.claims behind.claims old mid (claims_of call old.me.value (length shared.words))) where
   active : IsActiveAt now.jobs at (seen_tx old)
   active = (job, here.stands, ap active_in has.doing)
 
-  claims_now : claims_of call old.me (length shared.words) ≡ claims_of call old.me (length now.words)
-  claims_now = ap (λ n. claims_of call old.me n) (sym (ap length here.words))
+  claims_now : claims_of call old.me.value (length shared.words) ≡ claims_of call old.me.value (length now.words)
+  claims_now = ap (λ n. claims_of call old.me.value n) (sym (ap length here.words))
 
-  granted_free : All (HasNoRival now.jobs at) (claims_of call old.me (length now.words))
+  granted_free : All (HasNoRival now.jobs at) (claims_of call old.me.value (length now.words))
   granted_free = subst (All (HasNoRival now.jobs at)) claims_now (none_met now.jobs at (seen_tx old) shared.claims here.table here.single here.apart active
-      (claims_of call old.me (length shared.words)) g.free)
+      (claims_of call old.me.value (length shared.words)) g.free)
 
   words_now : behind.words ≡ now.words
   words_now = words ∙ sym here.words
 
   row_granted : (place' : Position) (tx : SeenTx) (answer : Turn) → tx.number ≡ old.number
-      → tx.held ≡ holding old.held.items (claims_of call old.me (length shared.words))
+      → tx.held ≡ holding old.held.items (claims_of call old.me.value (length shared.words))
       → RunningTurn s at now job (seen_tx old) answer (moved model behind (with_tx job place' tx) now at)
       → IsRow s now (moved model behind (with_tx job place' tx) now at) at job answer behind.claims
   row_granted place' tx answer number held row =
-      let claims = claims_of call old.me (length shared.words) in
+      let claims = claims_of call old.me.value (length shared.words) in
       record {
         tx = seen_tx old;
         doing = has.doing;
@@ -78,7 +78,7 @@ module _ {H : Type 0} (model : HostModel H) (s : Setting) (shared : Shared H) (n
   module _ (telling : IsTrue s.tells → IsTrue model.tells) (place' : Position) (from : H) (done new : Tx) (same : place' ≡ place) (host : from ≡ shared.host)
       (l : LeavesOff model call (acting from behind.words mid) (acting behind.host behind.words done))
       (is : seen_tx new ≡ record (seen_tx done) { phase = Undoing cause.NoMemory }) where
-    left_as : seen_tx new ≡ wanting (seen_tx old) l.left (holding old.held.items (claims_of call old.me (length now.words)))
+    left_as : seen_tx new ≡ wanting (seen_tx old) l.left (holding old.held.items (claims_of call old.me.value (length now.words)))
     left_as = is ∙ ap (λ (t : SeenTx). record t { phase = Undoing cause.NoMemory }) l.tx
         ∙ ap (λ (t : SeenTx). record (leaving t l.left) { phase = Undoing cause.NoMemory }) g.held
         ∙ ap (λ claims. wanting (seen_tx old) l.left (holding old.held.items claims)) claims_now
@@ -96,7 +96,7 @@ module _ {H : Type 0} (model : HostModel H) (s : Setting) (shared : Shared H) (n
         → IsRow s now (moved model behind (with_tx job place' (seen_tx new)) now at) at job answer behind.claims
     starved answer gives =
         let next = asked_before s job place (seen_tx old) (ask.Call call) has asked in
-        let held = holding old.held.items (claims_of call old.me (length now.words)) in
+        let held = holding old.held.items (claims_of call old.me.value (length now.words)) in
         let moment = moved model behind (with_tx job place' (seen_tx new)) now at in
         row_granted place' (seen_tx new) answer (ap (λ (t : SeenTx). t.number) left_as)
         (ap (λ (t : SeenTx). t.held) left_as ∙ ap (holding old.held.items) (sym claims_now))
@@ -119,12 +119,12 @@ module _ {H : Type 0} (model : HostModel H) (s : Setting) (shared : Shared H) (n
       (stands : IsBehind s place place' reply) (host : from ≡ shared.host)
       (d : HasDone model call (acting from behind.words mid) (acting behind.host behind.words done) reply)
       (noted : seen_tx new ≡ record (seen_tx done) { calls = done.calls.items ++ call ∷ []; replies = done.replies.items ++ reply ∷ [] }) where
-    done_as : seen_tx done ≡ with_parts (record (seen_tx old) { held = holding old.held.items (claims_of call old.me (length now.words)) })
+    done_as : seen_tx done ≡ with_parts (record (seen_tx old) { held = holding old.held.items (claims_of call old.me.value (length now.words)) })
         call reply (parts_of (seen_tx done))
     done_as = d.tx ∙ ap (λ (t : SeenTx). with_parts t call reply (parts_of (seen_tx done))) g.held
         ∙ ap (λ claims. with_parts (record (seen_tx old) { held = holding old.held.items claims }) call reply (parts_of (seen_tx done))) claims_now
 
-    noted_as : seen_tx new ≡ noting (seen_tx old) call reply (claims_of call old.me (length now.words)) (parts_of (seen_tx done))
+    noted_as : seen_tx new ≡ noting (seen_tx old) call reply (claims_of call old.me.value (length now.words)) (parts_of (seen_tx done))
     noted_as = noted ∙ ap (λ (t : SeenTx). record t { calls = t.calls ++ call ∷ []; replies = t.replies ++ reply ∷ [] }) done_as
 
     writes_old : mid.writes ≡ old.writes

@@ -77,10 +77,10 @@ module _ {H : Type 0} (model : HostModel H) (s : Setting) (shared : Shared H) (n
       }
 
   -- ---- a claim is met
-  met_now : (call : Call) (object : Object) (holder : ℕ) → IsFirstMet now.jobs at (claims_of call old.me (length shared.words)) object holder
-      → IsFirstMet now.jobs at (claims_of call old.me (length now.words)) object holder
+  met_now : (call : Call) (object : Object) (holder : ℕ) → IsFirstMet now.jobs at (claims_of call old.me.value (length shared.words)) object holder
+      → IsFirstMet now.jobs at (claims_of call old.me.value (length now.words)) object holder
   met_now call object holder met =
-      subst (λ n. IsFirstMet now.jobs at (claims_of call old.me n) object holder) (sym (ap length here.words)) met
+      subst (λ n. IsFirstMet now.jobs at (claims_of call old.me.value n) object holder) (sym (ap length here.words)) met
 
   same_moment : (behind : Shared H) (job' : SeenJob) → behind.host ≡ shared.host → behind.words ≡ shared.words
       → moved model behind job' now at ≡ with_job now at job'
@@ -90,7 +90,7 @@ module _ {H : Type 0} (model : HostModel H) (s : Setting) (shared : Shared H) (n
   -- another holds something against it
   pub refused : (behind : Shared H) (new : Tx) (call : Call) (entered : ℕ) → behind.host ≡ shared.host → behind.words ≡ shared.words
       → asks (walk_of s.script place) ≡ ask.Call call → length now.journal ≡ entered
-      → IsRefused shared.claims behind.claims old new (claims_of call old.me (length shared.words)) entered
+      → IsRefused shared.claims behind.claims old new (claims_of call old.me.value (length shared.words)) entered
       → IsRow s now (moved model behind (with_tx job place (seen_tx new)) now at) at job turn.Went behind.claims
   refused behind new call entered host words asked journal r =
       let undoing = λ (n : ℕ). record (seen_tx old) { phase = Undoing (cause.Conflict r.object r.holder n) } in
@@ -100,7 +100,7 @@ module _ {H : Type 0} (model : HostModel H) (s : Setting) (shared : Shared H) (n
         object = r.object;
         holder = r.holder;
         met = met_now call r.object r.holder (first_rival now.jobs at (seen_tx old) shared.claims here.table here.single here.apart active
-            (claims_of call old.me (length shared.words)) r.object r.holder r.met);
+            (claims_of call old.me.value (length shared.words)) r.object r.holder r.met);
         place = place;
         same = has.same;
         behind = same_moment behind (with_tx job place (seen_tx new)) host words ∙ ap (λ (t : SeenTx). with_job now at (with_tx job place t)) is;
@@ -167,7 +167,7 @@ module _ {H : Type 0} (model : HostModel H) (s : Setting) (shared : Shared H) (n
   -- the claims failed
   pub unclaimed : (behind : Shared H) (new : Tx) (call : Call) (entered : ℕ) (answer : Turn) → behind.host ≡ shared.host → behind.words ≡ shared.words
       → asks (walk_of s.script place) ≡ ask.Call call → length now.journal ≡ entered
-      → HasClaimed shared.claims behind.claims old new (claims_of call old.me (length shared.words)) entered (Err answer)
+      → HasClaimed shared.claims behind.claims old new (claims_of call old.me.value (length shared.words)) entered (Err answer)
       → IsRow s now (moved model behind (with_tx job place (seen_tx new)) now at) at job answer behind.claims
   unclaimed behind new call entered turn.Went host words asked journal r = refused behind new call entered host words asked journal r
   unclaimed behind new call entered turn.NoMemory host words asked journal w = wants behind new turn.NoMemory host words w.same w.undoes refl

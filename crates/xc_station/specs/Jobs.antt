@@ -27,7 +27,7 @@ seen_tx tx =
       rank = tx.rank;
       began = tx.began;
       phase = tx.phase;
-      me = tx.me;
+      me = tx.me.value;
       writes = tx.writes;
       undo = tx.undo;
       calls = tx.calls.items;
@@ -47,7 +47,7 @@ with_queue tx queue = record tx { late = queue.calls; ends = queue.ends }
 
 -- the private state of its begin: it was kept where a call may have changed it
 abbrev pub begun_of : Tx → Private
-begun_of tx = if tx.changed then tx.begun else tx.me
+begun_of tx = if tx.changed then tx.begun.value else tx.me.value
 
 -- what a job with this transaction does
 abbrev pub seen_doing : Tx → Activity → Doing

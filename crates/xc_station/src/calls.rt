@@ -131,10 +131,10 @@ fn do_host_call<H: Host>(
     ensures acted { HasActed H.model call.now (acting host.old words.now tx.old) (acting host.new words.now tx.new) result }
 {
     tx.keep();
-    let before = tx.me;
+    let before = *tx.me;
     let reply = act(alloc, host, words, tx, call)?;
     if place.answer(script, &reply).is_err() {
-        tx.me = before;
+        *tx.me = before;
         return Err(NoMemory);
     }
     Ok(reply)

@@ -30,7 +30,7 @@ use xc_world::touched;
 // What a transaction's call claims.
 fn touched_by(alloc: Global, words: &Words, tx: &Tx, call: &Call) -> SmallVec<Claim, 2>
     requires { length words.now ≤ 4096 }
-    ensures { result.items ≡ claims_of call.now tx.now.me (length words.now) }
+    ensures { result.items ≡ claims_of call.now tx.now.me.value (length words.now) }
 {
     touched(alloc, call, &tx.me, words.count() as u32)
 }
@@ -57,7 +57,7 @@ fn claim<H: Host>(
     requires count { length shared.old.words ≤ 4096 }
     ensures same { (shared.new.host ≡ shared.old.host) × (shared.new.words ≡ shared.old.words) }
     ensures claimed { HasClaimed shared.old.claims shared.new.claims tx.old tx.new
-        (claims_of call.now tx.old.me (length shared.old.words)) entered result }
+        (claims_of call.now tx.old.me.value (length shared.old.words)) entered result }
     ensures begun { begun_of tx.new ≡ begun_of tx.old }
 {
     let touched = touched_by(alloc, &shared.words, tx, call);

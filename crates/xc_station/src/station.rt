@@ -272,7 +272,7 @@ fn opened_jobs(alloc: Global, script: &Script) -> Result<Vec<Job>, NoMemory>
             place: JobState::new(alloc, script, *block)?,
             attempts: None,
             activity: Activity::Idle,
-            tx: Tx::new(alloc),
+            tx: Tx::new(alloc)?,
         })?;
     }
     Ok(jobs)

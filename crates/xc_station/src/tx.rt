@@ -1,4 +1,4 @@
-ghost use Rattle.std.specs.Prelude.{◌≡◌, ◌≤◌, ◌+◌, ◌∷◌, ◌++◌, [], ℕ, length, true, false, OnOk};
+ghost use Rattle.std.specs.Prelude.{◌≡◌, ◌≤◌, ◌+◌, ◌∷◌, ◌++◌, [], ℕ, length, true, false, IfOk, OnOk};
 ghost use Rattle.xc_data.specs.Claims.{holding};
 ghost use Rattle.xc_data.specs.declared.entry.Cause.{Cause as PlainCause};
 ghost use Rattle.xc_world.specs.World.{beginning, no_handles};
@@ -20,7 +20,8 @@ use xc_txmem::WriteSet;
 use xc_wordlocks::{Claims, Holding};
 
 /// A job's transaction, with what its entry will say. It lies in its job for all of the job's transactions, and with it
-/// the job's handles: no begin and no end copies them. What a call on a word reads stands together, in front of the handles.
+/// the job's handles: no begin and no end copies them. These have places of their
+/// own, and what a call on a word reads stands together, so that a turn finds little of many jobs in its way.
 #[derive(Drop)]
 pub struct Tx {
     pub writes: WriteSet,
@@ -39,9 +40,9 @@ pub struct Tx {
     pub undo: Stack,
     /// What it keeps for its commit, and how that ended.
     pub late: Late,
-    pub me: Private,
+    pub me: Box<Private>,
     /// The handles of the begin, where one may have.
-    pub begun: Private,
+    pub begun: Box<Private>,
 }
 
 // The outcome of a transaction that ends in this phase, with the ends of its records or of its late calls.
@@ -61,25 +62,25 @@ fn outcome_of(phase: &Phase, undo: Stack, late: Late) -> Outcome
 }
 
 impl Tx {
-    /// That of a job which has begun none yet, with no handles. It takes no memory.
-    pub fn new(alloc: Global) -> Tx
-        ensures { begun_of result ≡ beginning no_handles }
+    /// That of a job which has begun none yet, with no handles.
+    pub fn new(alloc: Global) -> Result<Tx, NoMemory>
+        ensures { IfOk result (λ tx. begun_of tx ≡ beginning no_handles) }
     {
-        Tx {
+        Ok(Tx {
             number: 0,
             rank: 0,
             began: 0,
             phase: Phase::Running,
-            me: Private::new(),
+            me: Box::new(alloc, Private::new())?,
             changed: false,
-            begun: Private::new(),
+            begun: Box::new(alloc, Private::new())?,
             writes: WriteSet::new(alloc),
             undo: Stack::new(alloc),
             late: Late::new(alloc),
             calls: Roomy::new(alloc),
             replies: Roomy::new(alloc),
             held: Holding::new(alloc),
-        }
+        })
     }
 
     /// Begins the next transaction, with the handles of the last one's end: those of its begin, where it was aborted. It
@@ -93,7 +94,7 @@ impl Tx {
         self.began = began;
         self.phase = Phase::Running;
         if self.changed {
-            self.me = self.begun;
+            mem::swap(&mut self.me, &mut self.begun);
         }
         self.changed = false;
         self.writes = WriteSet::new(alloc);
@@ -106,17 +107,20 @@ impl Tx {
 
     /// Keeps the handles of the begin, before a call changes one.
     pub fn keep(&mut self)
-        ensures { self.new ≡ record self.old { changed = true; begun = begun_of self.old } }
+        ensures tx { seen_tx self.new ≡ seen_tx self.old }
+        ensures begun { begun_of self.new ≡ begun_of self.old }
+        ensures changed { self.new.changed ≡ true }
+        ensures notes { (self.new.calls ≡ self.old.calls) × (self.new.replies ≡ self.old.replies) }
     {
         if !self.changed {
-            self.begun = self.me;
+            *self.begun = *self.me;
             self.changed = true;
         }
     }
 
     /// The next transaction begins with the handles as they are, and with nothing made or stored.
     pub fn renew(&mut self)
-        ensures { self.new ≡ record self.old { changed = false; me = beginning self.old.me.places } }
+        ensures { self.new ≡ record self.old { changed = false; me = record self.old.me { value = beginning self.old.me.value.places } } }
     {
         self.me.made = 0;
         self.me.stored = 0;

@@ -1,6 +1,5 @@
 use Rattle.std.proofs.Common.{ap, sym}
 use Rattle.std.specs.Prelude.{is_err}
-use Rattle.xc_data.specs.declared.private.Private.{Private}
 use Rattle.xc_station.specs.Acting.{acting}
 use Rattle.xc_station.proofs.Doings.{unanswered, unanswered_so, wants_value}
 use Rattle.xc_station.proofs.calls.do_call.Goals as goal
@@ -11,5 +10,5 @@ returns-in_err-answer-clause-acted g c =
     let new = acting c.act.new.host c.args.words.now c.act.new.tx in
     let still = e.words (sym c.if-not-is_on_words.ensures) in
     unanswered_so g.H.Host.model _ _ _ _ c.from_residual-in_err-answer.ensures.0 (unanswered g.H.Host.model _ _ _ _ _ e.acted
-    (ap (λ (me : Private). record new { tx = record new.tx { me = me } }) still)
+    (λ i. record new { tx = record new.tx { me = (still i).value } })
     (wants_value c.answer.result _ (ap is_err c.in_err-answer.was) c.answer.ensures.lasting))
