@@ -1,5 +1,5 @@
 -- A transaction that ends, and its job behind it.
-use Rattle.std.proofs.Common.{◌≡◌, ◌+◌, ℕ, [], ap, refl, sym, ◌∙◌}
+use Rattle.std.proofs.Common.{◌≡◌, ◌+◌, ℕ, ap, refl, sym, ◌∙◌}
 use Rattle.std.specs.Prelude.{Option}
 use Rattle.std.specs.declared.option.Option.TheVariants.{None}
 use Rattle.xc_data.specs.declared.entry.Cause.{Cause}

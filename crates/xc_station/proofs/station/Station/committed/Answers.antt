@@ -1,4 +1,4 @@
-use Rattle.std.proofs.Common.{◌≡◌, refl, sym, subst, ap, ◌+◌}
+use Rattle.std.proofs.Common.{refl, sym, subst, ap, ◌+◌}
 use Rattle.std.specs.Prelude.{slice_set}
 use Rattle.xc_story.specs.Seen.{active_in, active_of}
 use Rattle.xc_story.specs.Setting.{setting}

@@ -1,4 +1,4 @@
-use Rattle.std.proofs.Common.{rules, ◌≡◌, refl, sym, subst, ap, ◌∙◌, ◌+◌, arith, Fits, w32}
+use Rattle.std.proofs.Common.{rules, refl, sym, subst, ap, ◌∙◌, ◌+◌, arith, Fits, w32}
 use Rattle.std.specs.Prelude.{slice_set}
 use Rattle.xc_story.specs.Seen.{active_in, active_of}
 use Rattle.xc_story.specs.Setting.{setting}
