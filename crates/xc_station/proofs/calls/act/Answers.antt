@@ -19,7 +19,8 @@ returns-in-XOpen-clause-acted g c =
     let e = c.x_open.ensures in
     let same = c.deref_mut.ensures.value in
     let stored = ap (λ (me : Private). me.stored) same in
-    file_acted_at g.H.Host.model _ _ _ _ _ _ same (c.in-XOpen.is ∙ ap call.XOpen (sym c.value.ensures)) refl refl (e.call c.args.tx.now.number c.args.tx.now.undo) refl
+    file_acted_at g.H.Host.model _ _ _ _ _ _ same (c.in-XOpen.is ∙ ap call.XOpen (sym c.value.ensures))
+    refl refl (e.call c.args.tx.now.number c.args.tx.now.undo) refl
     (omega (arith, e.same.0, stored, c.requires.may.stored)) e.now
 
 pub returns-in-XCreate-clause-acted : goal.returns-in-XCreate-clause-acted
@@ -33,12 +34,14 @@ returns-in-XCreate-clause-acted g c =
 pub returns-in-XRead-clause-acted : goal.returns-in-XRead-clause-acted
 returns-in-XRead-clause-acted g c =
     let e = c.x_read.ensures in
-    file_acted_at g.H.Host.model _ _ _ _ _ _ c.deref_mut-in-XRead.ensures.value c.in-XRead.is refl refl (e.call c.args.tx.now.number c.args.tx.now.undo) refl e.stored e.now
+    file_acted_at g.H.Host.model _ _ _ _ _ _ c.deref_mut-in-XRead.ensures.value c.in-XRead.is
+    refl refl (e.call c.args.tx.now.number c.args.tx.now.undo) refl e.stored e.now
 
 pub returns-in-XWriteOvr-clause-acted : goal.returns-in-XWriteOvr-clause-acted
 returns-in-XWriteOvr-clause-acted g c =
     let e = c.x_write_ovr.ensures in
-    file_acted_at g.H.Host.model _ _ _ _ _ _ c.deref_mut-in-XWriteOvr.ensures.value c.in-XWriteOvr.is refl refl (e.call c.args.tx.now.number) refl e.stored e.now
+    file_acted_at g.H.Host.model _ _ _ _ _ _ c.deref_mut-in-XWriteOvr.ensures.value c.in-XWriteOvr.is
+    refl refl (e.call c.args.tx.now.number) refl e.stored e.now
 
 pub returns-in-XSeek-clause-acted : goal.returns-in-XSeek-clause-acted
 returns-in-XSeek-clause-acted g c =
@@ -74,7 +77,8 @@ returns-in-XRename-clause-acted g c =
 pub returns-in-XWriteSeq-clause-acted : goal.returns-in-XWriteSeq-clause-acted
 returns-in-XWriteSeq-clause-acted g c =
     let e = c.x_write_seq.ensures in
-    file_acted_at g.H.Host.model _ _ _ _ _ _ c.deref_mut-in-XWriteSeq.ensures.value c.in-XWriteSeq.is refl refl (e.call c.args.tx.now.number) refl e.stored e.now
+    file_acted_at g.H.Host.model _ _ _ _ _ _ c.deref_mut-in-XWriteSeq.ensures.value c.in-XWriteSeq.is
+    refl refl (e.call c.args.tx.now.number) refl e.stored e.now
 
 pub returns-in-XUnlink-clause-acted : goal.returns-in-XUnlink-clause-acted
 returns-in-XUnlink-clause-acted g c =
