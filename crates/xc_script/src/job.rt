@@ -17,10 +17,13 @@ use std::mem;
 use xc_data::{Call, Ident, LateEnd, NoMemory, Reply};
 use xc_text::{Block, Script, Statement};
 
-/// A job's place in its block, and its variables.
+/// A job's place in its block, and its variables. What each call reads stands behind what only a begin and an end do.
 #[derive(Drop)]
 pub struct JobState {
     alloc: Global,
+    // Those at the begin of the transaction.
+    begun: Variables,
+    variables: Variables,
     block: usize,
     next: usize,
     at: usize,
@@ -28,9 +31,6 @@ pub struct JobState {
     stored: u128,
     // The last call of the transaction was.
     refused: bool,
-    variables: Variables,
-    // Those at the begin of the transaction.
-    begun: Variables,
 }
 
 impl Model for JobState {

@@ -14,13 +14,13 @@ use Rattle.xc_world.specs.World.{beginning}
 use Rattle.xc_story.specs.declared.phase.Attempts.{Attempts}
 use Rattle.xc_story.specs.declared.phase.Phase.{Phase}
 use Rattle.xc_story.specs.declared.phase.Phase.TheVariants.{Committing, Undoing}
-use Rattle.xc_story.specs.Seen.{SeenTx, SeenJob, Doing, Idle, Active}
+use Rattle.xc_story.specs.Seen.{SeenTx, SeenJob, Doing, Idle, Active, with_queue}
 use Rattle.xc_story.specs.Rows.{behind_abort, behind_commit, entry_of, with_tx}
 use Rattle.xc_station.specs.declared.job.Activity.{Activity}
 use Rattle.xc_station.specs.declared.job.Activity.TheVariants as activity
 use Rattle.xc_station.specs.declared.job.Job.{Job}
 use Rattle.xc_station.specs.declared.tx.Tx.{Tx}
-use Rattle.xc_station.specs.Jobs.{begun_of, doing_of, outcome_in, seen_doing, seen_job, seen_tx, with_queue}
+use Rattle.xc_station.specs.Jobs.{begun_of, doing_of, outcome_in, seen_doing, seen_job, seen_tx}
 
 active_or : SeenTx → Doing → SeenTx
 active_or none (Active tx) = tx

@@ -31,10 +31,9 @@ use Rattle.xc_world.specs.Late.{is_late, kept_call}
 use Rattle.xc_world.specs.Trail.{recorded}
 use Rattle.xc_story.specs.Rows.{Parts, DoesIn, DoesPartIn, IsReplyInTime, parts_of, seen, stored_by}
 use Rattle.xc_story.specs.LateCalls.{waits}
-use Rattle.xc_story.specs.Seen.{SeenTx}
+use Rattle.xc_story.specs.Seen.{SeenTx, queue_of, with_queue}
 use Rattle.xc_story.specs.WordCalls.{IsWordStep, is_word_call, word_reply, words_after}
 use Rattle.xc_station.specs.Acting.{Acting, HasActed, HasDone, LeavesOff, with_parts}
-use Rattle.xc_station.specs.Jobs.{queue_of, with_queue}
 use Rattle.xc_station.proofs.WordActs.{append_nil, still_words, no_stores, no_value, word-act, word-fine, word-quiet, word-trail}
 
 -- a host with a transaction at it, as calls on files see them

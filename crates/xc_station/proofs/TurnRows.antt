@@ -17,7 +17,7 @@ use Rattle.xc_story.specs.declared.phase.Phase.{Phase}
 use Rattle.xc_story.specs.declared.phase.Phase.TheVariants as phase
 use Rattle.xc_story.specs.declared.rules.Rules.{Rules}
 use Rattle.xc_story.specs.Setting.{Setting, setting}
-use Rattle.xc_story.specs.Seen.{SeenTx, SeenJob, Doing, Idle, Active, Starved, Ended, Now, late_left, with_job}
+use Rattle.xc_story.specs.Seen.{SeenTx, SeenJob, Doing, Idle, Active, Starved, Ended, Now, late_left, queue_of, with_queue, with_job}
 use Rattle.xc_text.specs.declared.script.Script.{Script}
 use Rattle.xc_story.specs.Rows.{IsTurn, TurnOf, ActiveTurn, BackTurn, Compensates, EndsLate, EntersAborted, EntersCommitted, IdleTurn, LateTurn, StarvedTurn}
 use Rattle.xc_story.specs.Rows.{behind_abort, behind_commit, entry_of, with_tx}
@@ -25,7 +25,7 @@ use Rattle.xc_station.specs.declared.calls.Shared.{Shared}
 use Rattle.xc_station.specs.declared.job.Job.{Job}
 use Rattle.xc_station.specs.declared.job.Stage.{Stage}
 use Rattle.xc_station.specs.declared.job.Stage.TheVariants as stage
-use Rattle.xc_station.specs.Jobs.{doing_of, queue_of, seen_job, seen_jobs, with_queue}
+use Rattle.xc_station.specs.Jobs.{doing_of, seen_job, seen_jobs}
 use Rattle.xc_station.specs.Moments.{IsRow, moved}
 use Rattle.xc_station.specs.Stations.{moment}
 use Rattle.xc_station.proofs.Placed.{get_map, map_set}

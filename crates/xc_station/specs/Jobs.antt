@@ -7,7 +7,6 @@ use Rattle.xc_data.specs.declared.entry.Outcome.{Outcome}
 use Rattle.xc_data.specs.declared.entry.Outcome.TheVariants.{Committed, Aborted}
 use Rattle.xc_data.specs.declared.private.Private.{Private}
 use Rattle.xc_data.specs.declared.undo.Undo.{Undo}
-use Rattle.xc_deferred.specs.Queue.{Queue}
 use Rattle.xc_world.specs.Ends.{Ending}
 use Rattle.xc_story.specs.declared.phase.Phase.{Phase}
 use Rattle.xc_story.specs.declared.phase.Phase.TheVariants as phase
@@ -36,14 +35,6 @@ seen_tx tx =
       late = tx.late.calls;
       ends = tx.late.ends;
     }
-
--- the late calls of a transaction, with their ends
-abbrev pub queue_of : SeenTx → Queue
-queue_of tx = record { calls = tx.late; ends = tx.ends }
-
--- the transaction with others
-abbrev pub with_queue : SeenTx → Queue → SeenTx
-with_queue tx queue = record tx { late = queue.calls; ends = queue.ends }
 
 -- the private state of its begin: it was kept where a call may have changed it
 abbrev pub begun_of : Tx → Private

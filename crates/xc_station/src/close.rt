@@ -7,9 +7,9 @@ ghost use Rattle.xc_deferred.specs.Queue.{Queue};
 ghost use Rattle.xc_script.specs.Position.{at_begin};
 ghost use Rattle.xc_compensate.specs.Records.{IsTried, NextIsCovered, Records};
 ghost use Rattle.xc_story.specs.declared.phase.Phase.TheVariants as PlainPhase;
-ghost use Rattle.xc_story.specs.Seen.{SeenTx, Active, Idle, failures, late_left};
+ghost use Rattle.xc_story.specs.Seen.{SeenTx, Active, Idle, failures, late_left, queue_of, with_queue};
 ghost use Rattle.xc_story.specs.Rows.{behind_abort, behind_commit, entry_of, with_tx};
-ghost use Rattle.xc_station.specs.Jobs.{queue_of, seen_job, with_queue};
+ghost use Rattle.xc_station.specs.Jobs.{seen_job};
 ghost use Rattle.xc_station.specs.Moments.{GivesUpClaims, HoldsItsClaims};
 
 use crate::job::{Activity, Job};

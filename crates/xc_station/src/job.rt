@@ -24,8 +24,8 @@ pub struct Job {
     pub block: Ident,
     /// Attempts at its next transaction that met a holder.
     pub attempts: Option<Attempts>,
-    pub activity: Activity,
     pub place: JobState,
+    pub activity: Activity,
     /// Its active transaction; while it has none, the handles of the last one's end stay in it for the next.
     pub tx: Tx,
 }

@@ -28,6 +28,7 @@ pub struct Tx {
     pub calls: Roomy<Call>,
     pub replies: Roomy<Reply>,
     pub held: Holding,
+    pub me: Box<Private>,
     pub number: u32,
     /// The number of the first attempt at it.
     pub rank: u32,
@@ -40,7 +41,6 @@ pub struct Tx {
     pub undo: Stack,
     /// What it keeps for its commit, and how that ended.
     pub late: Late,
-    pub me: Box<Private>,
     /// The handles of the begin, where one may have.
     pub begun: Box<Private>,
 }

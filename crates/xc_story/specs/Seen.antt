@@ -1,5 +1,5 @@
 -- A station between two turns, as plain data.
-use Rattle.std.specs.Prelude.{ℕ, ◌+◌, List, [], ◌∷◌, ◌++◌, length, drop, slice_set, Option}
+use Rattle.std.specs.Prelude.{ℕ, ◌+◌, List, [], ◌∷◌, ◌++◌, length, slice_set, Option}
 use Rattle.std.specs.List.{filter_map}
 use Rattle.std.specs.declared.option.Option.TheVariants.{None, Some}
 use Rattle.xc_data.specs.declared.call.Call.{Call}
@@ -11,6 +11,7 @@ use Rattle.xc_data.specs.declared.entry.Entry.{Entry}
 use Rattle.xc_data.specs.declared.entry.JobEnd.{JobEnd}
 use Rattle.xc_data.specs.declared.private.Private.{Private}
 use Rattle.xc_compensate.specs.Records.{Records}
+use Rattle.xc_deferred.specs.Queue.{Queue, left}
 use Rattle.xc_host.specs.Contents.{Contents}
 use Rattle.xc_script.specs.Position.{Position}
 use Rattle.xc_story.specs.declared.phase.Attempts.{Attempts}
@@ -80,9 +81,17 @@ actives jobs = filter_map active_of jobs
 abbrev pub begun_count : Now → ℕ
 begun_count now = length now.journal + length (actives now.jobs)
 
+-- its late calls, with the ends of the first of them
+abbrev pub queue_of : SeenTx → Queue
+queue_of tx = record { calls = tx.late; ends = tx.ends }
+
+-- the transaction with others
+abbrev pub with_queue : SeenTx → Queue → SeenTx
+with_queue tx queue = record tx { late = queue.calls; ends = queue.ends }
+
 -- its late calls that have no end yet
 abbrev pub late_left : SeenTx → List LateCall
-late_left tx = drop (length tx.ends) tx.late
+late_left tx = left (queue_of tx)
 
 -- ---- attempts
 -- how many ended in a conflict

@@ -1,8 +1,7 @@
 use Rattle.std.proofs.Common.{◌≡◌, ◌<◌, ◌∷◌, List, IsTrue, length, ap, sym, ◌∙◌, subst}
 use Rattle.xc_data.specs.declared.call.LateCall.{LateCall}
 use Rattle.xc_deferred.specs.Does.{EndsNext, IsThereFor}
-use Rattle.xc_story.specs.Seen.{SeenTx, late_left}
-use Rattle.xc_station.specs.Jobs.{queue_of}
+use Rattle.xc_story.specs.Seen.{SeenTx, late_left, queue_of}
 use Rattle.xc_station.proofs.Closed.{its_active, late_behind}
 use Rattle.xc_station.proofs.close.end_late.Goals as goal
 

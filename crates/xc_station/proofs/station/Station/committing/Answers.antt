@@ -1,11 +1,12 @@
 use Rattle.std.proofs.Common.{refl, sym, subst, ap}
 use Rattle.std.specs.Prelude.{slice_set}
+use Rattle.xc_story.specs.Seen.{with_queue}
 use Rattle.xc_story.specs.Setting.{setting}
 use Rattle.xc_story.specs.Rows.{IsTurn}
 use Rattle.xc_station.specs.declared.calls.Shared.{Shared}
 use Rattle.xc_data.specs.declared.entry.Turn.TheVariants as turn
 use Rattle.xc_station.specs.declared.job.Stage.TheVariants as PlainStage
-use Rattle.xc_station.specs.Jobs.{IsStage, doing_of, with_queue}
+use Rattle.xc_station.specs.Jobs.{IsStage, doing_of}
 use Rattle.xc_station.specs.Stations.{moment, now_of, setting_of}
 use Rattle.xc_station.proofs.Ready.{may_end_late}
 use Rattle.xc_station.proofs.RoomsKept.{rooms_going}
