@@ -6,19 +6,20 @@ use Rattle.std.specs.declared.cmp.Ordering.{Ordering}
 use Rattle.std.specs.declared.cmp.Ordering.TheVariants.{Less, Equal, Greater}
 use Rattle.std.specs.Ordering.{nat_cmp, ordering_then, is_eq, eq_by_cmp}
 use Rattle.std.specs.Cmp.{nat_cmp_total, ranked, tied_itself, eq_by_cmp_equiv}
-use Rattle.std.specs.BTreeMap.{BTreeMap, get, is_at}
+use Rattle.std.specs.BTreeMap.{is_at}
 use Rattle.std.specs.Map.{lookup}
 use Rattle.std.specs.FinMap as map
 use Rattle.std.proofs.lemmas.Map.Lookups.{exact_unsigned}
-use Rattle.std.proofs.lemmas.Option.{slice_get_past, slice_get_within, slice_get_read, same_Some}
+use Rattle.std.proofs.lemmas.Option.{slice_get_past, slice_get_within, slice_get_read}
+use Rattle.std.proofs.lemmas.List.{set-get_or}
 use Rattle.xc_data.specs.declared.claim.Mode.{Mode}
 use Rattle.xc_maps.proofs.Laws.{tied}
 use Rattle.xc_maps.proofs.Maps.{get-lookup}
 use Rattle.xc_wordlocks.specs.Keys.{WordHolder, word_holder, word_holder_cmp}
-use Rattle.xc_wordlocks.specs.Words.{entries_at, entries_from, words_of}
+use Rattle.xc_wordlocks.specs.Words.{mode_among, entries_at, entries_from, words_of}
 use Rattle.xc_wordlocks.proofs.Orders.{word_holder_total, word_holder_exact}
 
--- ---- one entry of the map is one of the map at its word's place
+-- ---- one entry of the map is one of the list at its word's place
 -- holders of two words aren't one
 apart : (v w : ℕ) (o r : Ordering) → nat_cmp v w ≡ o → v ≢ w → is_eq (ordering_then o r) ≡ false
 apart v w Less r e ne = refl
@@ -37,70 +38,62 @@ passed v w n (e ∷ es) rest ne =
 
 -- holders of the word itself are found by their transactions
 own : (v n : ℕ) (es : List (ℕ × Mode)) (rest : List (WordHolder × Mode)) → found_in v n rest ≡ None
-    → found_in v n (entries_at v es ++ rest) ≡ lookup (is_at (nat_cmp n)) es
+    → found_in v n (entries_at v es ++ rest) ≡ mode_among es n
 own v n [] rest none = none
 own v n (e ∷ es) rest none =
     ap (λ r. cond (is_eq (ordering_then r (nat_cmp n e.0))) (Some e.1) (found_in v n (entries_at v es ++ rest))) (tied_itself nat_cmp_total v)
     ∙ ap (cond (is_at (nat_cmp n) e.0) (Some e.1)) (own v n es rest none)
 
 -- nothing is found of a word before all
-before : (v w n : ℕ) (ms : List (BTreeMap ℕ Mode)) → v < w → found_in v n (entries_from w ms) ≡ None
+before : (v w n : ℕ) (ms : List (List (ℕ × Mode))) → v < w → found_in v n (entries_from w ms) ≡ None
 before v w n [] lt = refl
-before v w n (m ∷ ms) lt = passed v w n m.entries (entries_from (w + 1) ms) (λ e. absurd (omega arith)) ∙ before v (w + 1) n ms (omega arith)
+before v w n (m ∷ ms) lt = passed v w n m (entries_from (w + 1) ms) (λ e. absurd (omega arith)) ∙ before v (w + 1) n ms (omega arith)
 
--- the mode of a transaction in the map at a place, if there is one
-abbrev held_in : Option (BTreeMap ℕ Mode) → ℕ → Option Mode
+-- the mode of a transaction in the list at a place, if there is one
+abbrev held_in : Option (List (ℕ × Mode)) → ℕ → Option Mode
 held_in None n = None
-held_in (Some m) n = get nat_cmp m n
+held_in (Some m) n = mode_among m n
 
--- what is found of a word is in the map at its place
-placed : (v w i n : ℕ) (ms : List (BTreeMap ℕ Mode)) → v ≡ w + i → found_in v n (entries_from w ms) ≡ held_in (slice_get ms i) n
+-- what is found of a word is in the list at its place
+placed : (v w i n : ℕ) (ms : List (List (ℕ × Mode))) → v ≡ w + i → found_in v n (entries_from w ms) ≡ held_in (slice_get ms i) n
 placed v w i n [] e = refl
 placed v w zero n (m ∷ ms) e =
     let same : w ≡ v = omega arith in
-    ap (λ u. found_in v n (entries_from u (m ∷ ms))) same ∙ own v n m.entries (entries_from (v + 1) ms) (before v (v + 1) n ms (omega arith))
+    ap (λ u. found_in v n (entries_from u (m ∷ ms))) same ∙ own v n m (entries_from (v + 1) ms) (before v (v + 1) n ms (omega arith))
 placed v w (suc i) n (m ∷ ms) e =
-    passed v w n m.entries (entries_from (w + 1) ms) (λ same. absurd (omega arith)) ∙ placed v (w + 1) i n ms (omega arith)
+    passed v w n m (entries_from (w + 1) ms) (λ same. absurd (omega arith)) ∙ placed v (w + 1) i n ms (omega arith)
 
--- the finite map has at a holder what the map at the word's place has at the transaction
-get-words_of : (ms : List (BTreeMap ℕ Mode)) (v n : ℕ) → map.get (words_of ms) (word_holder v n) ≡ held_in (slice_get ms v) n
+-- the finite map has at a holder what the list at the word's place has at the transaction
+get-words_of : (ms : List (List (ℕ × Mode))) (v n : ℕ) → map.get (words_of ms) (word_holder v n) ≡ held_in (slice_get ms v) n
 get-words_of ms v n = get-lookup word_holder_total (entries_from 0 ms) (word_holder v n) ∙ placed v 0 v n ms (omega arith)
 
 -- ---- changes of the list
--- no entry is behind those of all words where nobody holds one more
-pushed : (w : ℕ) (ms : List (BTreeMap ℕ Mode)) (m : BTreeMap ℕ Mode) → m.entries ≡ [] → entries_from w (ms ++ m ∷ []) ≡ entries_from w ms
-pushed w [] m e = ap (λ es. entries_at w es ++ []) e
-pushed w (k ∷ ms) m e = ap (λ es. entries_at w k.entries ++ es) (pushed (w + 1) ms m e)
+-- a word that nobody holds has no entry behind the others
+pushed : (w : ℕ) (ms : List (List (ℕ × Mode))) → entries_from w (ms ++ [] ∷ []) ≡ entries_from w ms
+pushed w [] = refl
+pushed w (m ∷ ms) = ap (λ es. entries_at w m ++ es) (pushed (w + 1) ms)
 
 -- a word more that nobody holds isn't seen
-pub words_of-push : (ms : List (BTreeMap ℕ Mode)) (m : BTreeMap ℕ Mode) → m.entries ≡ [] → words_of (ms ++ m ∷ []) ≡ words_of ms
-words_of-push ms m e = ap (λ es. map.from_entries es) (pushed 0 ms m e)
-
--- a map with the same entries makes the same entries in all
-same_entries : (w i : ℕ) (m k : BTreeMap ℕ Mode) (ms : List (BTreeMap ℕ Mode)) → slice_get ms i ≡ Some m → k.entries ≡ m.entries
-    → entries_from w (set ms i k) ≡ entries_from w ms
-same_entries w i m k [] there e = refl
-same_entries w zero m k (x ∷ ms) there e =
-    ap (λ es. entries_at w es ++ entries_from (w + 1) ms) (e ∙ ap (λ (y : BTreeMap ℕ Mode). y.entries) (same_Some m x (sym there)))
-same_entries w (suc i) m k (x ∷ ms) there e = ap (λ es. entries_at w x.entries ++ es) (same_entries (w + 1) i m k ms there e)
+pub words_of-push : (ms : List (List (ℕ × Mode))) → words_of (ms ++ [] ∷ []) ≡ words_of ms
+words_of-push ms = ap (λ es. map.from_entries es) (pushed 0 ms)
 
 -- at its place stands what was put there
-set_there : (ms : List (BTreeMap ℕ Mode)) (i : ℕ) (k : BTreeMap ℕ Mode) → i < length ms → slice_get (set ms i k) i ≡ Some k
+set_there : (ms : List (List (ℕ × Mode))) (i : ℕ) (k : List (ℕ × Mode)) → i < length ms → slice_get (set ms i k) i ≡ Some k
 set_there [] i k lt = absurd (omega arith)
 set_there (m ∷ ms) zero k lt = refl
 set_there (m ∷ ms) (suc i) k lt = set_there ms i k (omega arith)
 
 -- and elsewhere what stood there
-set_elsewhere : (ms : List (BTreeMap ℕ Mode)) (i j : ℕ) (k : BTreeMap ℕ Mode) → j ≢ i → slice_get (set ms i k) j ≡ slice_get ms j
+set_elsewhere : (ms : List (List (ℕ × Mode))) (i j : ℕ) (k : List (ℕ × Mode)) → j ≢ i → slice_get (set ms i k) j ≡ slice_get ms j
 set_elsewhere [] i j k ne = refl
 set_elsewhere (m ∷ ms) zero zero k ne = absurd (ne refl)
 set_elsewhere (m ∷ ms) zero (suc j) k ne = refl
 set_elsewhere (m ∷ ms) (suc i) zero k ne = refl
 set_elsewhere (m ∷ ms) (suc i) (suc j) k ne = set_elsewhere ms i j k (λ e. ne (ap suc e))
 
--- ---- another map is put where one stands
-module _ (ms : List (BTreeMap ℕ Mode)) (i : ℕ) (m k : BTreeMap ℕ Mode) (there : slice_get ms i ≡ Some m)
-    (tx : ℕ) (w : Option Mode) (changes : (n : ℕ) → get nat_cmp k n ≡ cond (is_at (nat_cmp tx) n) w (get nat_cmp m n)) where
+-- ---- another list is put where one stands
+module _ (ms : List (List (ℕ × Mode))) (i : ℕ) (m k : List (ℕ × Mode)) (there : slice_get ms i ≡ Some m)
+    (tx : ℕ) (w : Option Mode) (changes : (n : ℕ) → mode_among k n ≡ cond (is_at (nat_cmp tx) n) w (mode_among m n)) where
   -- the holders of other words stay
   elsewhere : (v n : ℕ) → v ≢ i → held_in (slice_get (set ms i k) v) n ≡ held_in (slice_get ms v) n
   elsewhere v n ne = ap (λ o. held_in o n) (set_elsewhere ms i v k ne)
@@ -109,7 +102,7 @@ module _ (ms : List (BTreeMap ℕ Mode)) (i : ℕ) (m k : BTreeMap ℕ Mode) (th
   here : (n : ℕ) → held_in (slice_get (set ms i k) i) n ≡ cond (is_eq (nat_cmp n tx)) w (held_in (slice_get ms i) n)
   here n =
       ap (λ o. held_in o n) (set_there ms i k (slice_get_within ms i m there)) ∙ changes n
-      ∙ ap (λ b. cond b w (get nat_cmp m n)) ((eq_by_cmp_equiv nat_cmp_total).symm tx n)
+      ∙ ap (λ b. cond b w (mode_among m n)) ((eq_by_cmp_equiv nat_cmp_total).symm tx n)
       ∙ ap (λ o. cond (is_eq (nat_cmp n tx)) w (held_in o n)) (sym there)
 
   -- at any word the modes differ there alone
@@ -132,28 +125,28 @@ module _ (ms : List (BTreeMap ℕ Mode)) (i : ℕ) (m k : BTreeMap ℕ Mode) (th
       ∙ ap (cond (eq_by_cmp word_holder_cmp q (word_holder i tx)) w) (sym (get-words_of ms q.0 q.1))
 
 -- ---- the list, seen as a finite map
-module _ (ms : List (BTreeMap ℕ Mode)) (t : map.FinMap word_holder_cmp Mode) (is : words_of ms ≡ t) where
+module _ (ms : List (List (ℕ × Mode))) (t : map.FinMap word_holder_cmp Mode) (is : words_of ms ≡ t) where
   -- nobody holds a word beyond the list
   pub none_beyond : (v n : ℕ) → length ms ≤ v → map.get t (word_holder v n) ≡ None
   none_beyond v n past =
       ap (λ s. map.get s (word_holder v n)) (sym is) ∙ get-words_of ms v n ∙ ap (λ o. held_in o n) (slice_get_past ms v past)
 
-  module _ (i : ℕ) (m : BTreeMap ℕ Mode) (inside : i < length ms) (read : m ≡ get_or ms i m) where
-    -- the map at the place, as it was read
+  module _ (i : ℕ) (m : List (ℕ × Mode)) (inside : i < length ms) (read : m ≡ get_or ms i m) where
+    -- the list at the place, as it was read
     there : slice_get ms i ≡ Some m
     there = slice_get_read ms (length ms) i m refl inside read
 
-    -- the modes of a word's holders are those of the map at its place
-    pub mode_there : (n : ℕ) → map.get t (word_holder i n) ≡ get nat_cmp m n
+    -- the modes of a word's holders are those of the list at its place
+    pub mode_there : (n : ℕ) → map.get t (word_holder i n) ≡ mode_among m n
     mode_there n = ap (λ s. map.get s (word_holder i n)) (sym is) ∙ get-words_of ms i n ∙ ap (λ o. held_in o n) there
 
-    module _ (k : BTreeMap ℕ Mode) where
-      -- another map with the same entries is put there
-      pub put_same : k.entries ≡ m.entries → words_of (set ms i k) ≡ t
-      put_same e = ap (λ es. map.from_entries es) (same_entries 0 i m k ms there e) ∙ is
+    module _ (k : List (ℕ × Mode)) where
+      -- the same list is put there
+      pub put_same : k ≡ m → words_of (set ms i k) ≡ t
+      put_same e = ap (λ l. words_of (set ms i l)) (e ∙ read) ∙ ap words_of (set-get_or ms i m) ∙ is
 
       -- one that has a mode at a transaction
-      pub put_mode : (tx : ℕ) (mode : Mode) → ((n : ℕ) → get nat_cmp k n ≡ cond (is_at (nat_cmp tx) n) (Some mode) (get nat_cmp m n))
+      pub put_mode : (tx : ℕ) (mode : Mode) → ((n : ℕ) → mode_among k n ≡ cond (is_at (nat_cmp tx) n) (Some mode) (mode_among m n))
           → words_of (set ms i k) ≡ map.insert t (word_holder i tx) mode
       put_mode tx mode h =
           map.same_map word_holder_total word_holder_exact (words_of (set ms i k)) (map.insert (words_of ms) (word_holder i tx) mode)
@@ -161,7 +154,7 @@ module _ (ms : List (BTreeMap ℕ Mode)) (t : map.FinMap word_holder_cmp Mode) (
           ∙ ap (λ s. map.insert s (word_holder i tx) mode) is
 
       -- one that has nothing at a transaction
-      pub put_none : (tx : ℕ) → ((n : ℕ) → get nat_cmp k n ≡ cond (is_at (nat_cmp tx) n) None (get nat_cmp m n))
+      pub put_none : (tx : ℕ) → ((n : ℕ) → mode_among k n ≡ cond (is_at (nat_cmp tx) n) None (mode_among m n))
           → words_of (set ms i k) ≡ map.remove t (word_holder i tx)
       put_none tx h =
           map.same_map word_holder_total word_holder_exact (words_of (set ms i k)) (map.remove (words_of ms) (word_holder i tx))

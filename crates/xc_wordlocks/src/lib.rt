@@ -12,6 +12,7 @@ mod refusal;
 mod releasing;
 #[cfg(test)]
 mod tests;
+mod word_holders;
 mod words;
 
 pub use claims::Claims;

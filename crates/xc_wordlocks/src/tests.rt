@@ -79,6 +79,15 @@ fn readers_share_and_writers_are_alone(rt: HostRuntime) -> Result<(), Fail> {
         Step::Claims(1, [writes(PIPE), writes(WORD_0)], met(PIPE, 7)),
         Step::Claims(1, [writes(WORD_0), writes(PIPE)], met(WORD_0, 3)),
     ];
+    // A reader between two others comes and goes.
+    let between = [
+        Step::Claims(5, [reads(WORD_0), reads(WORD_0)], Ok(())),
+        Step::Claims(3, [writes(WORD_0), writes(FILE)], met(WORD_0, 5)),
+    ];
+    let gone = [
+        Step::Claims(3, [writes(WORD_0), writes(FILE)], met(WORD_0, 7)),
+        Step::Claims(1, [writes(WORD_0), writes(WORD_1)], met(WORD_0, 3)),
+    ];
     // An end frees what was held, and nothing else.
     let freed = [
         Step::Asks(1, writes(FILE), None),
@@ -95,20 +104,20 @@ fn readers_share_and_writers_are_alone(rt: HostRuntime) -> Result<(), Fail> {
     let after = [
         Step::Claims(1, [reads(WORD_1), writes(WORD_1)], Ok(())),
         Step::Asks(2, reads(WORD_1), Some(1)),
-        Step::Asks(2, writes(PIPE), None),
+        // Behind the last reader a writer has what it wants.
+        Step::Claims(2, [writes(WORD_0), writes(PIPE)], Ok(())),
+        Step::Asks(1, reads(WORD_0), Some(2)),
     ];
     let mut claims = Claims::new(rt.alloc());
     play(&rt, &mut claims, &beside);
+    play(&rt, &mut claims, &between);
+    let twice = [reads(WORD_0), reads(WORD_0)];
+    end(&rt, &mut claims, 5, &twice, &[reads(WORD_0)])?;
+    play(&rt, &mut claims, &gone);
     let both = [reads(WORD_0), reads(FILE)];
     end(&rt, &mut claims, 3, &both, &both)?;
     play(&rt, &mut claims, &freed);
-    end(
-        &rt,
-        &mut claims,
-        9,
-        &[reads(WORD_0), reads(WORD_0)],
-        &[reads(WORD_0)],
-    )?;
+    end(&rt, &mut claims, 9, &twice, &[reads(WORD_0)])?;
     play(&rt, &mut claims, &alone);
     let log = [reads(WORD_0), reads(PIPE), writes(WORD_0), reads(WORD_0)];
     end(&rt, &mut claims, 7, &log, &[writes(WORD_0), reads(PIPE)])?;

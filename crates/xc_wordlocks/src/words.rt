@@ -1,15 +1,12 @@
 ghost use Rattle.std.specs.Prelude.{◌≡◌, ◌<◌, ◌≤◌, ◌+◌, ℕ, length, None, IfSome, IfNone, OnOk, OnErr};
-ghost use Rattle.std.specs.Ordering.{nat_cmp};
-ghost use Rattle.std.specs.BTreeMap.{get};
 ghost use Rattle.std.specs.FinMap as map;
 ghost use Rattle.xc_wordlocks.specs.Keys.{word_holder};
 ghost use Rattle.xc_wordlocks.specs.First.{IsFirstFrom};
-ghost use Rattle.xc_wordlocks.specs.Words.{words_of};
+ghost use Rattle.xc_wordlocks.specs.Words.{mode_among, words_of};
 
+use crate::word_holders::WordHolders;
 use std::alloc::Global;
-use std::collections::BTreeMap;
 use std::marker::Model;
-use std::ops::Bound;
 use xc_data::{Mode, NoMemory};
 
 /// Who holds which word, and in which mode. The holders of a word stand at its place in a list, since words are claimed most.
@@ -17,7 +14,7 @@ use xc_data::{Mode, NoMemory};
 pub struct Words {
     alloc: Global,
     // For each word up to the greatest that was claimed, who holds it.
-    holders: Vec<BTreeMap<u32, Mode>>,
+    holders: Vec<WordHolders>,
 }
 
 impl Model for Words {
@@ -34,13 +31,13 @@ impl Model for Words {
 }
 
 // Makes the list longer, up to a word. Nobody holds the words that are new.
-fn grow(holders: &mut Vec<BTreeMap<u32, Mode>>, alloc: Global, at: usize) -> Result<(), NoMemory>
+fn grow(holders: &mut Vec<WordHolders>, at: usize) -> Result<(), NoMemory>
     ensures reach { OnOk result (at < length holders.new.items) }
     ensures beyond { OnErr result (length holders.new.items ≤ at) }
     ensures same { words_of holders.new.items ≡ words_of holders.old.items }
 {
     while holders.len() <= at {
-        holders.push(BTreeMap::new(alloc))?;
+        holders.push(WordHolders::nobody())?;
     }
     Ok(())
 }
@@ -56,8 +53,8 @@ impl Words {
     }
 
     // The holders of a word, if the list reaches it.
-    fn holders_of(&self, at: u32) -> Option<&BTreeMap<u32, Mode>>
-        ensures some { IfSome result (λ m. (n : ℕ) → map.get self.now (word_holder at n) ≡ get nat_cmp m.now n) }
+    fn holders_of(&self, at: u32) -> Option<&WordHolders>
+        ensures some { IfSome result (λ m. (n : ℕ) → map.get self.now (word_holder at n) ≡ mode_among m.now n) }
         ensures none { IfNone result ((n : ℕ) → map.get self.now (word_holder at n) ≡ None) }
     {
         self.holders.get(at as usize)
@@ -66,7 +63,7 @@ impl Words {
     pub fn get(&self, at: u32, tx: u32) -> Option<Mode>
         ensures { result ≡ map.get self.now (word_holder at tx) }
     {
-        self.holders_of(at)?.get(&tx).copied()
+        self.holders_of(at)?.get(tx)
     }
 
     /// Only a new holder can want memory.
@@ -75,32 +72,28 @@ impl Words {
         ensures err { OnErr result (self.new ≡ self.old) }
         ensures absent { OnErr result (map.get self.old (word_holder at tx) ≡ None) }
     {
-        grow(&mut self.holders, self.alloc, at as usize)?;
-        self.holders[at as usize].insert(tx, mode)?;
-        Ok(())
+        grow(&mut self.holders, at as usize)?;
+        self.holders[at as usize].insert(self.alloc, tx, mode)
     }
 
     pub fn remove(&mut self, at: u32, tx: u32) -> Option<Mode>
         ensures value { result ≡ map.get self.old (word_holder at tx) }
         ensures removed { self.new ≡ map.remove self.old (word_holder at tx) }
     {
-        self.holders.get_mut(at as usize)?.remove(&tx)
+        self.holders.get_mut(at as usize)?.remove(tx)
     }
 
     /// The smallest holder of a word.
     pub fn first(&self, at: u32) -> Option<(u32, Mode)>
         ensures { IsFirstFrom (λ n. map.get self.now (word_holder at n)) 0 result }
     {
-        let (tx, mode) = self.holders_of(at)?.first_key_value()?;
-        Some((*tx, *mode))
+        self.holders_of(at)?.first()
     }
 
     /// The smallest holder of a word that is greater than this one.
     pub fn first_behind(&self, at: u32, tx: u32) -> Option<(u32, Mode)>
         ensures { IsFirstFrom (λ n. map.get self.now (word_holder at n)) (tx + 1) result }
     {
-        let behind = (Bound::Excluded(tx), Bound::Unbounded);
-        let (tx, mode) = self.holders_of(at)?.range(behind).next()?;
-        Some((*tx, *mode))
+        self.holders_of(at)?.first_behind(tx)
     }
 }

@@ -1,22 +1,20 @@
 use Rattle.std.proofs.Common.{◌≡◌, ℕ, Option, Some, None, IfSome, IfNone, List, Bor, ap, ◌∙◌}
-use Rattle.std.specs.BTreeMap.{BTreeMap, get}
 use Rattle.std.specs.FinMap as map
-use Rattle.std.specs.Ordering.{nat_cmp}
 use Rattle.std.specs.Slice.{IsItemAt}
 use Rattle.xc_data.specs.declared.claim.Mode.{Mode}
 use Rattle.xc_wordlocks.specs.Keys.{word_holder, word_holder_cmp}
-use Rattle.xc_wordlocks.specs.Words.{words_of}
+use Rattle.xc_wordlocks.specs.Words.{mode_among, words_of}
 use Rattle.xc_wordlocks.proofs.ByWord.{none_beyond, mode_there}
 use Rattle.xc_wordlocks.proofs.words.Words.holders_of.Goals as goal
 
-module _ (ms : List (BTreeMap ℕ Mode)) (t : map.FinMap word_holder_cmp Mode) (is : words_of ms ≡ t) (v : ℕ) where
-  -- the map at a word's place has its holders
-  some_at : (r : Option (Bor (BTreeMap ℕ Mode))) → IsItemAt ms v r → IfSome r (λ m. (n : ℕ) → map.get t (word_holder v n) ≡ get nat_cmp m.now n)
+module _ (ms : List (List (ℕ × Mode))) (t : map.FinMap word_holder_cmp Mode) (is : words_of ms ≡ t) (v : ℕ) where
+  -- the list at a word's place has its holders
+  some_at : (r : Option (Bor (List (ℕ × Mode)))) → IsItemAt ms v r → IfSome r (λ m. (n : ℕ) → map.get t (word_holder v n) ≡ mode_among m.now n)
   some_at None item = tt
   some_at (Some m) item = mode_there ms t is v m.now item.3.0 item.1
 
   -- where there is none, nobody holds the word
-  none_at : (r : Option (Bor (BTreeMap ℕ Mode))) → IsItemAt ms v r → IfNone r ((n : ℕ) → map.get t (word_holder v n) ≡ None)
+  none_at : (r : Option (Bor (List (ℕ × Mode)))) → IsItemAt ms v r → IfNone r ((n : ℕ) → map.get t (word_holder v n) ≡ None)
   none_at None item = λ n. none_beyond ms t is v n item.3
   none_at (Some m) item = tt
 

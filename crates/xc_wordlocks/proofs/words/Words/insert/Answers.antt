@@ -1,4 +1,5 @@
 use Rattle.std.proofs.Common.{◌∙◌}
+use Rattle.std.proofs.lemmas.Result.{on_ok_weaker, on_err_weaker}
 use Rattle.xc_wordlocks.proofs.Modes.{on_err}
 use Rattle.xc_wordlocks.proofs.ByWord.{none_beyond, mode_there, put_same, put_mode}
 use Rattle.xc_wordlocks.proofs.words.Words.insert.Goals as goal
@@ -8,19 +9,24 @@ returns-in_err-grow-clause-absent c =
     on_err c.from_residual.result
     (none_beyond c.grow.new.holders.items c.args.self.now (c.in_err-grow.ensures.same ∙ c.self.view_is) c.args.at c.args.tx c.in_err-grow.ensures.beyond)
 
-pub returns-in_err-insert-clause-err : goal.returns-in_err-insert-clause-err
-returns-in_err-insert-clause-err c =
-    on_err c.from_residual-in_err-insert.result
-    (put_same c.grow.new.holders.items c.args.self.now (c.in_ok-grow.ensures.same ∙ c.self.view_is) c.args.at c.index_mut.result.now
-    c.in_ok-grow.ensures.reach c.index_mut.ensures.value c.insert.new.self c.in_err-insert.ensures.err)
-
-pub returns-in_err-insert-clause-absent : goal.returns-in_err-insert-clause-absent
-returns-in_err-insert-clause-absent c =
-    on_err c.from_residual-in_err-insert.result
-    (mode_there c.grow.new.holders.items c.args.self.now (c.in_ok-grow.ensures.same ∙ c.self.view_is) c.args.at c.index_mut.result.now
-    c.in_ok-grow.ensures.reach c.index_mut.ensures.value c.args.tx ∙ c.in_err-insert.ensures.absent)
-
 pub returns-clause-ok : goal.returns-clause-ok
 returns-clause-ok c =
-    put_mode c.grow.new.holders.items c.args.self.now (c.in_ok-grow.ensures.same ∙ c.self.view_is) c.args.at c.index_mut.result.now
-    c.in_ok-grow.ensures.reach c.index_mut.ensures.value c.insert.new.self c.args.tx c.args.mode c.in_ok-insert.ensures.updates.0
+    on_ok_weaker c.insert.result
+    (put_mode c.grow.new.holders.items c.args.self.now (c.in_ok-grow.ensures.same ∙ c.self.view_is) c.args.at c.index_mut.result.now
+    c.in_ok-grow.ensures.reach c.index_mut.ensures.value c.insert.new.self c.args.tx c.args.mode)
+    c.insert.ensures.ok
+
+pub returns-clause-err : goal.returns-clause-err
+returns-clause-err c =
+    on_err_weaker c.insert.result
+    (put_same c.grow.new.holders.items c.args.self.now (c.in_ok-grow.ensures.same ∙ c.self.view_is) c.args.at c.index_mut.result.now
+    c.in_ok-grow.ensures.reach c.index_mut.ensures.value c.insert.new.self)
+    c.insert.ensures.err
+
+pub returns-clause-absent : goal.returns-clause-absent
+returns-clause-absent c =
+    on_err_weaker c.insert.result
+    (λ none.
+    mode_there c.grow.new.holders.items c.args.self.now (c.in_ok-grow.ensures.same ∙ c.self.view_is) c.args.at c.index_mut.result.now
+    c.in_ok-grow.ensures.reach c.index_mut.ensures.value c.args.tx ∙ none)
+    c.insert.ensures.absent

@@ -24,4 +24,4 @@ pub returns-clause-removed : goal.returns-clause-removed
 returns-clause-removed c =
     let item = c.in_ok-get_mut.ensures.item in
     put_none c.self.inside.holders.items c.args.self.now c.self.view_is c.args.at c.in_ok-get_mut.field-0.now item.3.0 item.1
-    c.remove.new.self c.args.tx c.remove.ensures.updates.0
+    c.remove.new.self c.args.tx c.remove.ensures.removed

@@ -1,0 +1,128 @@
+ghost use Rattle.std.specs.Prelude.{◌≡◌, ◌+◌, ℕ, [], ◌∷◌, Some, None, cond, IfOk, OnOk, OnErr};
+ghost use Rattle.std.specs.Ordering.{nat_cmp};
+ghost use Rattle.std.specs.BTreeMap.{is_at};
+ghost use Rattle.xc_wordlocks.specs.First.{IsFirstFrom};
+ghost use Rattle.xc_wordlocks.specs.Words.{mode_among};
+
+use std::alloc::Global;
+use std::collections::BTreeMap;
+use std::marker::Model;
+use std::ops::Bound;
+use xc_data::{Mode, NoMemory};
+
+// How the holders of a word stand.
+#[derive(Drop)]
+enum Form {
+    Nobody,
+    One(u32, Mode),
+    Many(BTreeMap<u32, Mode>),
+}
+
+/// The transactions that hold one word, each with its mode. One alone stands in its place; a tree is made for a second one, and
+/// stays. Contracts see them as a list.
+#[derive(Drop)]
+pub struct WordHolders {
+    form: Form,
+}
+
+impl Model for WordHolders {
+    ghost use Rattle.std.specs.Prelude.{ℕ, List};
+    ghost use Rattle.xc_data.specs.declared.claim.Mode.{Mode};
+    ghost use Rattle.xc_wordlocks.specs.Words.{listed};
+
+    ghost Value = { List (ℕ × Mode) };
+
+    ghost view = { λ a. listed a.form };
+}
+
+// A tree of two holders. If they are one, it has the second mode.
+fn both(alloc: Global, one: (u32, Mode), two: (u32, Mode)) -> Result<BTreeMap<u32, Mode>, NoMemory>
+    ensures { IfOk result (λ m. (n : ℕ) → mode_among m.entries n ≡ cond (is_at (nat_cmp two.0) n) (Some two.1) (mode_among (one ∷ []) n)) }
+{
+    let mut modes = BTreeMap::new(alloc);
+    modes.insert(one.0, one.1)?;
+    modes.insert(two.0, two.1)?;
+    Ok(modes)
+}
+
+impl WordHolders {
+    pub fn nobody() -> WordHolders
+        ensures { result ≡ [] }
+    {
+        WordHolders { form: Form::Nobody }
+    }
+
+    pub fn get(&self, tx: u32) -> Option<Mode>
+        ensures { result ≡ mode_among self.now tx }
+    {
+        match &self.form {
+            Form::One(holder, mode) if *holder == tx => Some(*mode),
+            Form::Many(modes) => modes.get(&tx).copied(),
+            Form::Nobody | Form::One(..) => None,
+        }
+    }
+
+    /// Only a new holder can want memory.
+    pub fn insert(&mut self, alloc: Global, tx: u32, mode: Mode) -> Result<(), NoMemory>
+        ensures ok { OnOk result ((n : ℕ) → mode_among self.new n ≡ cond (is_at (nat_cmp tx) n) (Some mode) (mode_among self.old n)) }
+        ensures err { OnErr result (self.new ≡ self.old) }
+        ensures absent { OnErr result (mode_among self.old tx ≡ None) }
+    {
+        match &mut self.form {
+            Form::Nobody => self.form = Form::One(tx, mode),
+            Form::One(holder, held) if *holder == tx => *held = mode,
+            Form::One(holder, held) => {
+                self.form = Form::Many(both(alloc, (*holder, *held), (tx, mode))?);
+            }
+            Form::Many(modes) => {
+                modes.insert(tx, mode)?;
+            }
+        }
+        Ok(())
+    }
+
+    /// It takes no memory.
+    pub fn remove(&mut self, tx: u32) -> Option<Mode>
+        ensures value { result ≡ mode_among self.old tx }
+        ensures removed { (n : ℕ) → mode_among self.new n ≡ cond (is_at (nat_cmp tx) n) None (mode_among self.old n) }
+    {
+        match &mut self.form {
+            Form::One(holder, mode) if *holder == tx => {
+                let mode = *mode;
+                self.form = Form::Nobody;
+                Some(mode)
+            }
+            Form::Many(modes) => modes.remove(&tx),
+            Form::Nobody | Form::One(..) => None,
+        }
+    }
+
+    /// The smallest holder.
+    pub fn first(&self) -> Option<(u32, Mode)>
+        ensures { IsFirstFrom (mode_among self.now) 0 result }
+    {
+        match &self.form {
+            Form::Nobody => None,
+            Form::One(holder, mode) => Some((*holder, *mode)),
+            Form::Many(modes) => {
+                let (holder, mode) = modes.first_key_value()?;
+                Some((*holder, *mode))
+            }
+        }
+    }
+
+    /// The smallest holder that is greater than this one.
+    pub fn first_behind(&self, tx: u32) -> Option<(u32, Mode)>
+        ensures { IsFirstFrom (mode_among self.now) (tx + 1) result }
+    {
+        match &self.form {
+            Form::One(holder, mode) if *holder > tx => Some((*holder, *mode)),
+            Form::Many(modes) => {
+                let behind = (Bound::Excluded(tx), Bound::Unbounded);
+                let (holder, mode) = modes.range(behind).next()?;
+                Some((*holder, *mode))
+            }
+            Form::Nobody | Form::One(..) => None,
+        }
+    }
+}
