@@ -1,2 +1,3 @@
 mod Digits
+mod Entries
 pub mod Settling

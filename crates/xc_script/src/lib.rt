@@ -9,6 +9,7 @@ mod job;
 mod silent;
 mod terms;
 mod value;
+mod values;
 
 pub use ask::Ask;
 pub use job::JobState;

@@ -6,11 +6,11 @@ ghost use Rattle.xc_script.specs.Ask.{set_to};
 ghost use Rattle.xc_script.specs.Position.{nothing_kept};
 ghost use Rattle.xc_script.specs.Slots.{with_end};
 
+use crate::values::Values;
 use std::alloc::Global;
 use std::marker::Model;
 use xc_data::{Chunk, Ident, LateEnd, NoMemory};
 use xc_failure::Slots;
-use xc_maps::IdentMap;
 
 /// What a variable holds.
 #[derive(Clone, Drop)]
@@ -23,8 +23,8 @@ pub enum Value {
 /// What a job knows: the variables that hold something, and its slots.
 #[derive(Drop)]
 pub struct Variables {
-    values: IdentMap<Value>,
     slots: Slots,
+    values: Values,
 }
 
 impl Model for Variables {
@@ -44,8 +44,8 @@ impl Variables {
         ensures { result ≡ nothing_kept }
     {
         Variables {
-            values: IdentMap::new(alloc),
             slots: Slots::new(alloc),
+            values: Values::new(alloc),
         }
     }
 
@@ -54,8 +54,8 @@ impl Variables {
         ensures { IfOk result (λ variables. variables ≡ record { values = map.empty; slots = unset slots.now }) }
     {
         Ok(Variables {
-            values: IdentMap::new(alloc),
             slots: Slots::unset(alloc, slots)?,
+            values: Values::new(alloc),
         })
     }
 
@@ -102,8 +102,8 @@ impl Variables {
         ensures { IfOk result (λ copy. copy ≡ self.now) }
     {
         Ok(Variables {
-            values: self.values.copied()?,
             slots: self.slots.copied()?,
+            values: self.values.copied()?,
         })
     }
 }
