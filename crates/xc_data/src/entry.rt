@@ -42,6 +42,16 @@ pub enum Cause {
     NoMemory,
 }
 
+/// That a running transaction is to be revoked: an older one waits for what it holds.
+#[derive(Clone, Copy, Debug, PartialEq, Eq)]
+pub struct Mark {
+    pub object: Object,
+    /// The number of the older one.
+    pub by: u32,
+    /// How long the journal was when that one met it.
+    pub at: u32,
+}
+
 /// Why a transaction was aborted, and how each of its compensations ended.
 #[derive(Debug, Drop)]
 pub struct Report {

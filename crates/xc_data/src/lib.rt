@@ -25,7 +25,7 @@ pub use chunk::Chunk;
 pub use claim::{Claim, Mode};
 pub use entry::{
     CallList, Cause, Entry, Event, HeldList, JobEnd, JobLine, JobList, JobNumbers, KeptItem,
-    KeptList, LateList, Outcome, ReplyList, Report, Text, Turn,
+    KeptList, LateList, Mark, Outcome, ReplyList, Report, Text, Turn,
 };
 pub use ident::Ident;
 pub use items::Items;
