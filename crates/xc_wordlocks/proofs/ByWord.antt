@@ -1,67 +1,42 @@
 -- What the list of the words' holders says of the finite map that contracts see.
-use Rattle.std.proofs.Common.{◌≡◌, ◌≢◌, ℕ, zero, suc, ◌+◌, ◌<◌, ◌≤◌, Bool, true, false, cond, Option, Some, None, List, [], ◌∷◌, ◌++◌, length}
+use Rattle.std.proofs.Common.{◌≡◌, ◌≢◌, ℕ, zero, suc, ◌+◌, ◌<◌, ◌≤◌, cond, Option, Some, None, List, [], ◌∷◌, ◌++◌, length}
 use Rattle.std.proofs.Common.{set, get_or, refl, ap, sym, ◌∙◌, subst, arith}
 use Rattle.std.specs.Prelude.{slice_get}
 use Rattle.std.specs.declared.cmp.Ordering.{Ordering}
 use Rattle.std.specs.declared.cmp.Ordering.TheVariants.{Less, Equal, Greater}
 use Rattle.std.specs.Ordering.{nat_cmp, ordering_then, is_eq, eq_by_cmp}
-use Rattle.std.specs.Cmp.{nat_cmp_total, ranked, tied_itself, eq_by_cmp_equiv}
+use Rattle.std.specs.Cmp.{nat_cmp_total, ranked, eq_by_cmp_equiv}
 use Rattle.std.specs.BTreeMap.{is_at}
-use Rattle.std.specs.Map.{lookup}
 use Rattle.std.specs.FinMap as map
 use Rattle.std.proofs.lemmas.Map.Lookups.{exact_unsigned}
 use Rattle.std.proofs.lemmas.Option.{slice_get_past, slice_get_within, slice_get_read}
 use Rattle.std.proofs.lemmas.List.{set-get_or}
 use Rattle.xc_data.specs.declared.claim.Mode.{Mode}
-use Rattle.xc_maps.proofs.Laws.{tied}
 use Rattle.xc_maps.proofs.Maps.{get-lookup}
 use Rattle.xc_wordlocks.specs.Keys.{WordHolder, word_holder, word_holder_cmp}
-use Rattle.xc_wordlocks.specs.Words.{mode_among, entries_at, entries_from, words_of}
+use Rattle.xc_wordlocks.specs.Rows.{mode_among, entries_at}
+use Rattle.xc_wordlocks.specs.Words.{entries_from, words_of}
 use Rattle.xc_wordlocks.proofs.Orders.{word_holder_total, word_holder_exact}
+use Rattle.xc_wordlocks.proofs.Rows.{found_in, held_in, own, passed}
 
 -- ---- one entry of the map is one of the list at its word's place
--- holders of two words aren't one
-apart : (v w : ℕ) (o r : Ordering) → nat_cmp v w ≡ o → v ≢ w → is_eq (ordering_then o r) ≡ false
-apart v w Less r e ne = refl
-apart v w Equal r e ne = absurd (ne (exact_unsigned v w e))
-apart v w Greater r e ne = refl
-
 -- the mode of a transaction at a word, in a list of entries
-abbrev found_in : ℕ → ℕ → List (WordHolder × Mode) → Option Mode
-found_in v n es = lookup (is_at (word_holder_cmp (word_holder v n))) es
-
--- holders of another word are passed over
-passed : (v w n : ℕ) (es : List (ℕ × Mode)) (rest : List (WordHolder × Mode)) → v ≢ w → found_in v n (entries_at w es ++ rest) ≡ found_in v n rest
-passed v w n [] rest ne = refl
-passed v w n (e ∷ es) rest ne =
-    ap (λ b. cond b (Some e.1) (found_in v n (entries_at w es ++ rest))) (apart v w (nat_cmp v w) (nat_cmp n e.0) refl ne) ∙ passed v w n es rest ne
-
--- holders of the word itself are found by their transactions
-own : (v n : ℕ) (es : List (ℕ × Mode)) (rest : List (WordHolder × Mode)) → found_in v n rest ≡ None
-    → found_in v n (entries_at v es ++ rest) ≡ mode_among es n
-own v n [] rest none = none
-own v n (e ∷ es) rest none =
-    ap (λ r. cond (is_eq (ordering_then r (nat_cmp n e.0))) (Some e.1) (found_in v n (entries_at v es ++ rest))) (tied_itself nat_cmp_total v)
-    ∙ ap (cond (is_at (nat_cmp n) e.0) (Some e.1)) (own v n es rest none)
+abbrev found_at : ℕ → ℕ → List (WordHolder × Mode) → Option Mode
+found_at = found_in nat_cmp
 
 -- nothing is found of a word before all
-before : (v w n : ℕ) (ms : List (List (ℕ × Mode))) → v < w → found_in v n (entries_from w ms) ≡ None
+before : (v w n : ℕ) (ms : List (List (ℕ × Mode))) → v < w → found_at v n (entries_from w ms) ≡ None
 before v w n [] lt = refl
-before v w n (m ∷ ms) lt = passed v w n m (entries_from (w + 1) ms) (λ e. absurd (omega arith)) ∙ before v (w + 1) n ms (omega arith)
-
--- the mode of a transaction in the list at a place, if there is one
-abbrev held_in : Option (List (ℕ × Mode)) → ℕ → Option Mode
-held_in None n = None
-held_in (Some m) n = mode_among m n
+before v w n (m ∷ ms) lt = passed nat_cmp exact_unsigned v w n m (entries_from (w + 1) ms) (λ e. absurd (omega arith)) ∙ before v (w + 1) n ms (omega arith)
 
 -- what is found of a word is in the list at its place
-placed : (v w i n : ℕ) (ms : List (List (ℕ × Mode))) → v ≡ w + i → found_in v n (entries_from w ms) ≡ held_in (slice_get ms i) n
+placed : (v w i n : ℕ) (ms : List (List (ℕ × Mode))) → v ≡ w + i → found_at v n (entries_from w ms) ≡ held_in (slice_get ms i) n
 placed v w i n [] e = refl
 placed v w zero n (m ∷ ms) e =
     let same : w ≡ v = omega arith in
-    ap (λ u. found_in v n (entries_from u (m ∷ ms))) same ∙ own v n m (entries_from (v + 1) ms) (before v (v + 1) n ms (omega arith))
+    ap (λ u. found_at v n (entries_from u (m ∷ ms))) same ∙ own nat_cmp nat_cmp_total v n m (entries_from (v + 1) ms) (before v (v + 1) n ms (omega arith))
 placed v w (suc i) n (m ∷ ms) e =
-    passed v w n m (entries_from (w + 1) ms) (λ same. absurd (omega arith)) ∙ placed v (w + 1) i n ms (omega arith)
+    passed nat_cmp exact_unsigned v w n m (entries_from (w + 1) ms) (λ same. absurd (omega arith)) ∙ placed v (w + 1) i n ms (omega arith)
 
 -- the finite map has at a holder what the list at the word's place has at the transaction
 get-words_of : (ms : List (List (ℕ × Mode))) (v n : ℕ) → map.get (words_of ms) (word_holder v n) ≡ held_in (slice_get ms v) n
@@ -160,15 +135,3 @@ module _ (ms : List (List (ℕ × Mode))) (t : map.FinMap word_holder_cmp Mode) 
           map.same_map word_holder_total word_holder_exact (words_of (set ms i k)) (map.remove (words_of ms) (word_holder i tx))
           (λ q. changed ms i m k there tx None h q ∙ sym (map.get-remove word_holder_total (words_of ms) (word_holder i tx) q))
           ∙ ap (λ s. map.remove s (word_holder i tx)) is
-
--- what isn't there is taken out
-none_at : (b : Bool) (o : Option Mode) → (b ≡ true → o ≡ None) → cond b None o ≡ o
-none_at true o h = sym (h refl)
-none_at false o h = refl
-
--- a map without an entry is the same without it
-pub removed_absent : (t : map.FinMap word_holder_cmp Mode) (h : WordHolder) → map.get t h ≡ None → map.remove t h ≡ t
-removed_absent t h none =
-    map.same_map word_holder_total word_holder_exact (map.remove t h) t
-    (λ q. map.get-remove word_holder_total t h q ∙ none_at (eq_by_cmp word_holder_cmp q h) (map.get t q)
-    (λ b. ap (map.get t) (tied word_holder_total word_holder_exact q h b) ∙ none))

@@ -146,7 +146,9 @@ member [] o m is = absurd (cc)
 member (h ∷ hs) o m is = member_by h hs o m (is_object h.object o) refl is (member hs o m)
 
 -- ---- lists with each object once
-count_cons : (o p : Object) (os : List Object) (b : Bool) → is_object o p ≡ b → count_by (is_object o) (p ∷ os) ≡ (0 + cond b 1 0) + count_by (is_object o) os
+-- an object in front counts where it is the one
+pub count_cons : (o p : Object) (os : List Object) (b : Bool) → is_object o p ≡ b
+    → count_by (is_object o) (p ∷ os) ≡ (0 + cond b 1 0) + count_by (is_object o) os
 count_cons o p os b e =
     sum_by-append (λ x. cond (is_object o x) 1 0) (p ∷ []) os ∙ ap (λ x. (0 + cond x 1 0) + count_by (is_object o) os) e
 
@@ -155,14 +157,17 @@ counts_by : (o p : Object) (os : List Object) (b : Bool) → is_object o p ≡ b
 counts_by o p os true e either rest = let n = count_cons o p os true e in omega (arith, n)
 counts_by o p os false e either rest = let n = count_cons o p os false e in let m = rest either in omega (arith, n, m)
 
-any_counts : (o : Object) (os : List Object) → has os o ≡ true → 1 ≤ count_by (is_object o) os
+-- an object that is there counts
+pub any_counts : (o : Object) (os : List Object) → has os o ≡ true → 1 ≤ count_by (is_object o) os
 any_counts o [] e = absurd (cc)
 any_counts o (p ∷ os) e = counts_by o p os (is_object o p) refl e (any_counts o os)
 
-once_rest : (p : Object) (os : List Object) → AreOnceAtMost (p ∷ os) → AreOnceAtMost os
+-- the rest of a list with each object once is one
+pub once_rest : (p : Object) (os : List Object) → AreOnceAtMost (p ∷ os) → AreOnceAtMost os
 once_rest p os once o = let n = count_cons o p os (is_object o p) refl in let m = once o in omega (arith, n, m)
 
-once_here : (p : Object) (os : List Object) → AreOnceAtMost (p ∷ os) → has os p ≡ true → ⊥
+-- the first object of such a list does not come again
+pub once_here : (p : Object) (os : List Object) → AreOnceAtMost (p ∷ os) → has os p ≡ true → ⊥
 once_here p os once there =
     let n = count_cons p p os true (itself p) in
     let m = once p in

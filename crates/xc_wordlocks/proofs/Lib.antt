@@ -1,7 +1,9 @@
 pub mod Orders
 pub mod Modes
-pub mod Ranges
+pub mod Rows
 pub mod ByWord
+pub mod ByRow
+pub mod Once
 pub mod Claimed
 pub mod Places
 pub mod Whole

@@ -10,8 +10,7 @@ use Rattle.xc_data.specs.Claims.{is_object}
 use Rattle.xc_maps.proofs.Laws as laws
 use Rattle.xc_wordlocks.specs.declared.key.Kind.{Kind}
 use Rattle.xc_wordlocks.specs.declared.key.Kind.TheVariants as kind
-use Rattle.xc_wordlocks.specs.declared.key.Holder.{Holder}
-use Rattle.xc_wordlocks.specs.Keys.{WordHolder, kind_of, holder_of, holder_cmp, word_holder, word_holder_cmp}
+use Rattle.xc_wordlocks.specs.Keys.{WordHolder, Holder, kind_of, holder_of, holder_cmp, word_holder, word_holder_cmp}
 use Rattle.xc_wordlocks.specs.Table.{Table, mode_at, mode_of, set_entry, set_at, set_mode}
 use Rattle.xc_wordlocks.proofs.Orders.{holder_total, holder_exact, word_holder_total, word_holder_exact}
 use Rattle.xc_wordlocks.proofs.Orders.{object_of, kind_of-object_of, kind_of-same, same_object, other_object}
@@ -37,7 +36,7 @@ none_there (Some x) e = absurd (cc)
 pub same_table : (s t : Table) → ((n : ℕ) (o : Object) → mode_of s n o ≡ mode_of t n o) → s ≡ t
 same_table s t same =
     let words = map.same_map word_holder_total word_holder_exact s.words t.words (λ h. at_kind h.1 (kind.Word h.0)) in
-    let others = map.same_map holder_total holder_exact s.others t.others (λ h. at_kind h.tx (kind.Other h.object)) in
+    let others = map.same_map holder_total holder_exact s.others t.others (λ h. at_kind h.1 (kind.Other h.0)) in
     λ i. record { words = words i; others = others i }
   where
     at_kind : (n : ℕ) (k : Kind) → mode_at s n k ≡ mode_at t n k
@@ -74,7 +73,7 @@ at_elsewhere t (kind.Word a) (kind.Word b) tx n m ne =
     (λ e. ne (ap (λ (h : WordHolder). kind.Word h.0) e) (ap (λ (h : WordHolder). h.1) e))
 at_elsewhere t (kind.Other a) (kind.Other b) tx n m ne =
     entry_elsewhere holder_total holder_exact t.others (holder_of a tx) (holder_of b n) m
-    (λ e. ne (ap (λ (h : Holder). kind.Other h.object) e) (ap (λ (h : Holder). h.tx) e))
+    (λ e. ne (ap (λ (h : Holder). kind.Other h.0) e) (ap (λ (h : Holder). h.1) e))
 at_elsewhere t (kind.Word a) (kind.Other b) tx n m ne = refl
 at_elsewhere t (kind.Other a) (kind.Word b) tx n m ne = refl
 

@@ -1,8 +1,6 @@
 -- The orders of holders, and what kinds and objects have to do with each other.
-use Rattle.std.proofs.Common.{◌≡◌, ◌≢◌, Bool, true, false, refl, ap, sym, ◌∙◌, subst, arith}
-use Rattle.std.specs.declared.cmp.Ordering.{Ordering}
-use Rattle.std.specs.declared.cmp.Ordering.TheVariants.{Less, Equal, Greater}
-use Rattle.std.specs.Ordering.{nat_cmp, ordering_then}
+use Rattle.std.proofs.Common.{◌≡◌, ◌≢◌, true, false, refl, ap, sym, ◌∙◌, subst, arith}
+use Rattle.std.specs.Ordering.{nat_cmp}
 use Rattle.std.specs.Cmp.{IsTotalOrder}
 use Rattle.std.specs.Cmp.Lexicographic.{same_text}
 use Rattle.std.proofs.lemmas.Cmp.{nat_list_eq_equiv, nat_cmp_total, on_total, then_total}
@@ -16,11 +14,9 @@ use Rattle.xc_wordlocks.specs.declared.key.Kind.{Kind}
 use Rattle.xc_wordlocks.specs.declared.key.Kind.TheVariants as kind
 use Rattle.xc_wordlocks.specs.declared.key.Other.{Other}
 use Rattle.xc_wordlocks.specs.declared.key.Other.TheVariants as other
-use Rattle.xc_wordlocks.specs.contracts.key.OtherPartialEq.TheImpl as other_eq
-use Rattle.xc_wordlocks.specs.contracts.key.OtherOrd.TheImpl as other_ord
 use Rattle.xc_wordlocks.specs.contracts.key.OtherOrd.TheImpl.Laws as other_laws
-use Rattle.xc_wordlocks.specs.contracts.key.HolderOrd.TheImpl.Laws as holder_laws
-use Rattle.xc_wordlocks.specs.Keys.{kind_of, holder_cmp, word_holder_cmp}
+use Rattle.xc_wordlocks.specs.Keys.{kind_of, other_cmp, holder_cmp, word_holder_cmp}
+use Rattle.xc_wordlocks.specs.Hashed.{is_other}
 
 -- ---- objects
 same_num : (n m : Num) → is_object (object.File n) (object.File m) ≡ true → n ≡ m
@@ -89,11 +85,7 @@ pub kind_of-same : (a b : Object) → kind_of a ≡ kind_of b → a ≡ b
 kind_of-same a b e = sym (object_of-kind_of a) ∙ ap object_of e ∙ object_of-kind_of b
 
 -- ---- the orders
--- the order of objects that aren't words
-abbrev pub other_cmp : Other → Other → Ordering
-other_cmp = other_ord.ghosts.cmp
-
--- it is total
+-- the order of objects that aren't words is total
 pub other_total : IsTotalOrder other_cmp
 other_total = other_laws.total-law
 
@@ -103,7 +95,7 @@ word_holder_total = then_total (on_total (λ h. h.0) nat_cmp_total) (on_total (�
 
 -- the order of the other holders is total
 pub holder_total : IsTotalOrder holder_cmp
-holder_total = holder_laws.total-law
+holder_total = then_total (on_total (λ h. h.0) other_total) (on_total (λ h. h.1) nat_cmp_total)
 
 -- objects that compare as equal are the same
 pub other_exact : CmpEqualImpliesEq other_cmp
@@ -114,27 +106,15 @@ other_exact (other.Pair a) (other.Pair b) e = ap other.Pair (num_exact a b e)
 other_exact other.Jobs other.Jobs e = refl
 other_exact _ _ e = cc
 
-both_equal : (r s : Ordering) → ordering_then r s ≡ Equal → (r ≡ Equal) × (s ≡ Equal)
-both_equal Equal s e = (refl, e)
-both_equal Less s e = cc
-both_equal Greater s e = cc
-
 -- holders of words that compare as equal are the same
 pub word_holder_exact : CmpEqualImpliesEq word_holder_cmp
 word_holder_exact = exact_pairs nat_cmp nat_cmp exact_unsigned exact_unsigned
 
 -- other holders that compare as equal are the same
 pub holder_exact : CmpEqualImpliesEq holder_cmp
-holder_exact a b e =
-    let equal = both_equal (other_cmp a.object b.object) (nat_cmp a.tx b.tx) e in
-    let object_same = other_exact a.object b.object equal.0 in
-    let tx_same = exact_unsigned a.tx b.tx equal.1 in
-    λ i. record { object = object_same i; tx = tx_same i }
+holder_exact = exact_pairs other_cmp nat_cmp other_exact exact_unsigned
 
 -- ---- objects that aren't words and are told apart
-abbrev pub is_other : Other → Other → Bool
-is_other = other_eq.ghosts.eq
-
 same_file : (n m : Num) → is_other (other.File n) (other.File m) ≡ true → n ≡ m
 same_file n m e = grind arith
 
@@ -150,7 +130,8 @@ same_other a b e = cc
 file_itself : (n : Num) → is_other (other.File n) (other.File n) ≡ true
 file_itself n = grind arith
 
-other_itself : (o : Other) → is_other o o ≡ true
+-- the test calls one equal to itself
+pub other_itself : (o : Other) → is_other o o ≡ true
 other_itself (other.Name n) = nat_list_eq_equiv.refl n
 other_itself (other.File n) = file_itself n
 other_itself (other.Pipe n) = file_itself n

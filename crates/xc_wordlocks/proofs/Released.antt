@@ -10,7 +10,7 @@ use Rattle.std.proofs.lemmas.List.Sums.{fold-append}
 use Rattle.xc_data.specs.declared.object.Object.{Object}
 use Rattle.xc_data.specs.declared.claim.Mode.{Mode}
 use Rattle.xc_data.specs.declared.claim.Claim.{Claim}
-use Rattle.xc_data.specs.Claims.{claim, is_object, merged, holding_one, holding, held_of, objects}
+use Rattle.xc_data.specs.Claims.{claim, is_object, merged, holding_one, objects}
 use Rattle.xc_wordlocks.specs.Released.{with_one, each_once, claims_on}
 use Rattle.xc_wordlocks.specs.Table.{Table, KeepsOthers, has, mode_of, set_mode}
 use Rattle.xc_wordlocks.proofs.Claimed.{is_object-swap, left-cons, take-more, without}
@@ -27,20 +27,12 @@ merged_objects c (h ∷ hs) =
     ap (λ o. o ∷ objects (map (merged c) hs)) (merged_object c h (is_object c.object h.object) refl) ∙ ap (λ os. h.object ∷ os) (merged_objects c hs)
 
 -- behind one claim, and behind several
-one_objects : (held : List Claim) (c : Claim) → objects (holding_one held c) ≡ with_one (objects held) c.object
+pub one_objects : (held : List Claim) (c : Claim) → objects (holding_one held c) ≡ with_one (objects held) c.object
 one_objects held c = by (has (objects held) c.object)
   where
     by : (b : Bool) → objects (if b then map (merged c) held else held ++ c ∷ []) ≡ (if b then objects held else objects held ++ c.object ∷ [])
     by true = merged_objects c held
     by false = map-append (λ (d : Claim). d.object) held (c ∷ [])
-
-all_objects : (held claims : List Claim) → objects (holding held claims) ≡ fold with_one (objects held) (objects claims)
-all_objects held [] = refl
-all_objects held (c ∷ cs) = all_objects (holding_one held c) cs ∙ ap (λ os. fold with_one os (objects cs)) (one_objects held c)
-
--- what is held is on the objects of the claims, each once
-pub held_objects : (claims : List Claim) → objects (held_of claims) ≡ each_once (objects claims)
-held_objects claims = all_objects [] claims
 
 -- an object behind others adds itself alone
 with_has : (os : List Object) (p o : Object) (b : Bool) → has os p ≡ b → has (if b then os else os ++ p ∷ []) o ≡ (has os o || has (p ∷ []) o)
@@ -65,10 +57,6 @@ fold_has os (p ∷ ps) o =
 -- a list has what it has with each object once
 pub once_has : (os : List Object) (o : Object) → has (each_once os) o ≡ has os o
 once_has os o = fold_has [] os o
-
--- what is held is on an object where a claim is
-pub held_has : (claims : List Claim) (o : Object) → has (objects (held_of claims)) o ≡ has (objects claims) o
-held_has claims o = ap (λ os. has os o) (held_objects claims) ∙ once_has (objects claims) o
 
 -- ---- the claims on objects
 -- claims in these modes are those on their objects

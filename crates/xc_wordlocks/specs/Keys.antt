@@ -11,9 +11,8 @@ use Rattle.xc_wordlocks.specs.declared.key.Kind.{Kind}
 use Rattle.xc_wordlocks.specs.declared.key.Kind.TheVariants as kind
 use Rattle.xc_wordlocks.specs.declared.key.Other.{Other}
 use Rattle.xc_wordlocks.specs.declared.key.Other.TheVariants as other
-use Rattle.xc_wordlocks.specs.declared.key.Holder.{Holder}
-use Rattle.xc_wordlocks.specs.contracts.key.Holder as holder_row
-use Rattle.xc_wordlocks.specs.contracts.key.HolderOrd.TheImpl as holder_ord
+use Rattle.xc_wordlocks.specs.contracts.key.Other as other_row
+use Rattle.xc_wordlocks.specs.contracts.key.OtherOrd.TheImpl as other_ord
 
 -- an object as a word or another
 abbrev pub kind_of : Object → Kind
@@ -32,17 +31,25 @@ WordHolder = ℕ × ℕ
 abbrev pub word_holder : ℕ → ℕ → WordHolder
 word_holder at n = (at, n)
 
+-- another object and a transaction that holds it
+abbrev pub Holder : Type 0
+Holder = Other × ℕ
+
 -- a transaction as the holder of another object
 abbrev pub holder_of : Other → ℕ → Holder
-holder_of o n = record { object = o; tx = n }
+holder_of o n = (o, n)
 
 -- by word, and then by transaction
 abbrev pub word_holder_cmp : WordHolder → WordHolder → Ordering
 word_holder_cmp a b = ordering_then (nat_cmp a.0 b.0) (nat_cmp a.1 b.1)
 
+-- the order of objects that aren't words
+abbrev pub other_cmp : Other → Other → Ordering
+other_cmp = other_ord.ghosts.cmp
+
 -- by object, and then by transaction
 abbrev pub holder_cmp : Holder → Holder → Ordering
-holder_cmp = holder_ord.ghosts.cmp
+holder_cmp a b = ordering_then (other_cmp a.0 b.0) (nat_cmp a.1 b.1)
 
 -- how a proof stores the holder of a word
 abbrev pub coded_word_holder : Coded WordHolder
@@ -50,7 +57,7 @@ coded_word_holder = coded× coded_ℕ coded_ℕ
 
 -- how a proof stores the holder of another object
 abbrev pub coded_holder : Coded Holder
-coded_holder = holder_row.the_row.coded
+coded_holder = coded× other_row.the_row.coded coded_ℕ
 
 -- how a proof stores a mode
 abbrev pub coded_mode : Coded Mode

@@ -1,9 +1,11 @@
 pub mod First
+pub mod Hashed
 pub mod Held
 pub mod Keys
 pub mod Met
 pub mod Others
 pub mod Placing
 pub mod Released
+pub mod Rows
 pub mod Table
 pub mod Words

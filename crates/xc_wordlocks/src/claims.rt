@@ -1,4 +1,4 @@
-ghost use Rattle.std.specs.Prelude.{◌≡◌, ℕ, All, MatchOption, MatchResult, None, OnOk, OnErr, IfErr, if◌then◌else◌};
+ghost use Rattle.std.specs.Prelude.{◌≡◌, ◌<◌, ◌≤◌, ◌+◌, ℕ, length, All, MatchOption, MatchResult, None, OnOk, OnErr, IfErr, if◌then◌else◌};
 ghost use Rattle.xc_data.specs.Claims.{objects};
 ghost use Rattle.xc_data.specs.declared.object.Object.{Object};
 ghost use Rattle.xc_wordlocks.specs.Table.{AreCompatible, Holds, KeepsOthers, claimed, has, mode_of};
@@ -8,9 +8,12 @@ use crate::ClaimErr;
 use crate::holders::Holders;
 use crate::holding::Holding;
 use crate::placing::hold_all;
+use crate::reading::first_other;
 use crate::releasing::take_all;
+use crate::steps::Steps;
 use std::alloc::Global;
-use std::marker::Model;
+use std::marker::{Brand, Model};
+use std::sync::ledger::{Blank, Ledger};
 use xc_data::{Claim, HeldList, Items};
 
 /// Which transaction holds which object, and in which mode. Contracts see it by `mode_of`.
@@ -49,7 +52,7 @@ impl Claims {
         ensures met { MatchOption result (IsNotMet self.now tx claim.now) (IsMet self.now claim.now tx) }
         ensures coherent { AreCompatible self.now }
     {
-        let (holder, mode) = self.holders.first_other(&claim.object, tx)?;
+        let (holder, mode) = first_other::<Brand>(&self.holders, &claim.object, tx, Blank::new(1))?;
         if mode.is_compatible(claim.mode) {
             None
         } else {
@@ -83,7 +86,7 @@ impl Claims {
         ensures coherent { AreCompatible self.new }
     {
         self.check(claims, tx)?;
-        hold_all(&mut self.holders, self.alloc, claims, tx)?;
+        hold_all::<Brand>(&mut self.holders, self.alloc, claims, tx, Blank::new(1))?;
         Ok(())
     }
 
@@ -96,8 +99,39 @@ impl Claims {
         ensures others { KeepsOthers tx self.old self.new }
         ensures coherent { AreCompatible self.new }
     {
+        self.release_uncounted::<Brand>(tx, held, Blank::new(1))
+    }
+
+    // The same, with steps that nobody reads.
+    fn release_uncounted<L: Ledger>(&mut self, tx: u32, held: Holding, blank: Blank) -> HeldList
+        requires name { blank.name ≡ L.name }
+        requires parts { blank.parts ≡ L.parts }
+        requires one { 0 < blank.parts }
+        ensures freed { (o : Object) → mode_of self.new tx o ≡ (if has (objects held.items) o then None else mode_of self.old tx o) }
+        ensures released { Holds self.old tx held.items → (o : Object) → mode_of self.new tx o ≡ None }
+        ensures held { Holds self.old tx held.items → result ≡ held.items }
+        ensures others { KeepsOthers tx self.old self.new }
+        ensures coherent { AreCompatible self.new }
+    {
+        self.release_counted(tx, held, &mut Steps::<L>::new(blank))
+    }
+
+    /// The same, in at most as many steps as objects are listed.
+    pub fn release_counted<L: Ledger>(
+        &mut self,
+        tx: u32,
+        held: Holding,
+        steps: &mut Steps<L>,
+    ) -> HeldList
+        ensures freed { (o : Object) → mode_of self.new tx o ≡ (if has (objects held.items) o then None else mode_of self.old tx o) }
+        ensures released { Holds self.old tx held.items → (o : Object) → mode_of self.new tx o ≡ None }
+        ensures held { Holds self.old tx held.items → result ≡ held.items }
+        ensures others { KeepsOthers tx self.old self.new }
+        ensures coherent { AreCompatible self.new }
+        ensures cost { steps.new ≤ steps.old + length held.items }
+    {
         let mut claims = held.into_claims();
-        take_all(&mut self.holders, &mut claims, tx);
+        take_all(&mut self.holders, &mut claims, tx, steps);
         Items::from_vec(claims).trimmed()
     }
 }

@@ -1,27 +1,28 @@
-ghost use Rattle.std.specs.Prelude.{◌≡◌, ◌<◌, ◌≤◌, ◌++◌, ◌^◌, [], length, OnOk};
-ghost use Rattle.xc_data.specs.Claims.{held_of, holding};
-ghost use Rattle.xc_data.specs.declared.claim.Claim.{Claim};
-ghost use Rattle.xc_wordlocks.specs.Held.{HasRoomFor};
+ghost use Rattle.std.specs.Prelude.{◌≡◌, ◌<◌, ◌≤◌, ◌+◌, ◌^◌, [], length, OnOk};
+ghost use Rattle.xc_data.specs.Claims.{AreOnceAtMost, is_object, holding, holding_one, objects};
+ghost use Rattle.xc_wordlocks.specs.Held.{HasRoomFor, IsPlaceOf};
 
 use std::alloc::Global;
 use std::marker::Model;
-use xc_data::{Claim, NoMemory};
+use xc_data::{Claim, NoMemory, Object};
 use xc_journal::Roomy;
 
-/// The claims of a transaction's calls, in their order. Contracts see what they hold: each object once, where it was first claimed,
-/// in the strongest mode in which it was.
+/// What the claims of a transaction's calls hold: each object once, where it was first claimed, in the strongest mode in which it
+/// was. So a release costs what is held, however often it was claimed; a claim walks what is held already.
 #[derive(Drop)]
 pub struct Holding {
     claims: Roomy<Claim>,
 }
 
 impl Model for Holding {
-    ghost use Rattle.xc_data.specs.Claims.{held_of};
+    ghost use Rattle.xc_data.specs.Claims.{AreOnceAtMost, objects};
     ghost use Rattle.xc_wordlocks.specs.Held.{Held};
 
     ghost Value = { Held };
 
-    ghost view = { λ h. record { items = held_of h.claims.items; spare = h.claims.spare } };
+    ghost view = { λ h. record { items = h.claims.items; spare = h.claims.spare } };
+
+    ghost invariant = { λ h. AreOnceAtMost (objects h.claims.items) };
 }
 
 impl Holding {
@@ -48,23 +49,62 @@ impl Holding {
         requires { HasRoomFor self.old claims.now }
         ensures { self.new.items ≡ holding self.old.items claims.now }
     {
-        enter_all(&mut self.claims, claims);
+        hold_each(&mut self.claims, claims);
     }
 
-    /// The claims themselves, all of them. It takes no memory.
+    /// The claims themselves. It takes no memory.
     pub(crate) fn into_claims(self) -> Vec<Claim>
-        ensures { held_of result.items ≡ self.items }
+        ensures items { result.items ≡ self.items }
+        ensures once { AreOnceAtMost (objects result.items) }
     {
         self.claims.into_items().into_vec()
     }
 }
 
-// Enters claims behind the others.
-fn enter_all(log: &mut Roomy<Claim>, claims: &[Claim])
-    requires { length claims.now ≤ log.old.spare }
-    ensures { log.new.items ≡ log.old.items ++ claims.now }
+fn is_on(claim: &Claim, object: &Object) -> bool
+    ensures { result ≡ is_object object.now claim.now.object }
+{
+    *object == claim.object
+}
+
+// Where a claim on an object stands in what is held.
+fn place_of(held: &[Claim], object: &Object) -> Option<usize>
+    ensures { IsPlaceOf held.now object.now result }
+{
+    for at in 0..held.len() {
+        if is_on(&held[at], object) {
+            return Some(at);
+        }
+    }
+    None
+}
+
+// One claim more is held, into the room for it.
+fn hold_one(held: &mut Roomy<Claim>, claim: &Claim)
+    requires once { AreOnceAtMost (objects held.old.items) }
+    requires room { 1 ≤ held.old.spare }
+    ensures items { held.new.items ≡ holding_one held.old.items claim.now }
+    ensures once { AreOnceAtMost (objects held.new.items) }
+    ensures spare { held.old.spare ≤ held.new.spare + 1 }
+{
+    match place_of(held.as_slice(), &claim.object) {
+        Some(at) => {
+            let mut held_claim = *held.get(at);
+            held_claim.mode = held_claim.mode.stronger(claim.mode);
+            held.set(at, held_claim);
+        }
+        None => held.enter(*claim),
+    }
+}
+
+// More claims are held, into the room for them.
+fn hold_each(held: &mut Roomy<Claim>, claims: &[Claim])
+    requires once { AreOnceAtMost (objects held.old.items) }
+    requires room { length claims.now ≤ held.old.spare }
+    ensures items { held.new.items ≡ holding held.old.items claims.now }
+    ensures once { AreOnceAtMost (objects held.new.items) }
 {
     for claim in claims {
-        log.enter(*claim);
+        hold_one(held, claim);
     }
 }

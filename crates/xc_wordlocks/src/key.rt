@@ -1,7 +1,7 @@
 use xc_data::{Name, Num, Object};
 
-/// An object that isn't a word, in an order: by its kind, and then by what it names.
-#[derive(Clone, Copy, Debug, PartialEq, Eq, PartialOrd, Ord)]
+/// An object that isn't a word. Contracts see them in an order: by kind, and then by what they name.
+#[derive(Clone, Copy, PartialEq, Eq, PartialOrd, Ord, Hash)]
 pub enum Other {
     Name(Name),
     File(Num),
@@ -15,13 +15,6 @@ pub enum Other {
 pub enum Kind {
     Word(u32),
     Other(Other),
-}
-
-/// A transaction that holds an object that isn't a word. The holders of one object stand next to each other.
-#[derive(Clone, Copy, Debug, PartialEq, Eq, PartialOrd, Ord)]
-pub struct Holder {
-    pub object: Other,
-    pub tx: u32,
 }
 
 impl From<Object> for Kind {

@@ -6,13 +6,16 @@ mod holders;
 mod holding;
 mod key;
 mod law;
+mod object_holders;
 mod others;
 mod placing;
+mod raising;
+mod reading;
 mod refusal;
 mod releasing;
+mod steps;
 #[cfg(test)]
 mod tests;
-mod word_holders;
 mod words;
 
 pub use claims::Claims;
@@ -22,3 +25,4 @@ pub use law::{
     a_mode_in_a_list_is_a_member_s, a_row_follows_the_held_list,
 };
 pub use refusal::ClaimErr;
+pub use steps::Steps;

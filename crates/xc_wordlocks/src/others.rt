@@ -1,31 +1,36 @@
-ghost use Rattle.std.specs.Prelude.{◌≡◌, ◌+◌, ℕ, None, OnOk, OnErr};
+ghost use Rattle.std.specs.Prelude.{◌≡◌, ℕ, None, IfSome, IfNone, OnOk, OnErr};
 ghost use Rattle.std.specs.FinMap as map;
 ghost use Rattle.xc_wordlocks.specs.Keys.{holder_of};
-ghost use Rattle.xc_wordlocks.specs.First.{IsFirstFrom};
+ghost use Rattle.xc_wordlocks.specs.Rows.{mode_among};
 
-use crate::key::{Holder, Other};
+use crate::key::Other;
+use crate::object_holders::ObjectHolders;
 use std::alloc::Global;
-use std::collections::BTreeMap;
+use std::collections::HashMap;
 use std::marker::Model;
-use std::ops::Bound;
 use xc_data::{Mode, NoMemory};
 
-/// Who holds which object that isn't a word, and in which mode.
+/// Who holds which object that isn't a word, and in which mode. An object has a row while somebody holds it.
 #[derive(Drop)]
 pub struct Others {
-    modes: BTreeMap<Holder, Mode>,
+    alloc: Global,
+    // The seed is fixed, and nobody walks the rows.
+    rows: HashMap<Other, ObjectHolders>,
 }
 
 impl Model for Others {
     ghost use Rattle.std.specs.FinMap as map;
     ghost use Rattle.xc_data.specs.declared.claim.Mode.{Mode};
     ghost use Rattle.xc_wordlocks.specs.Keys.{holder_cmp, coded_holder, coded_mode};
+    ghost use Rattle.xc_wordlocks.specs.Hashed.{AreApart, others_of};
 
     ghost Value = { map.FinMap holder_cmp Mode };
 
     ghost coded = { map.code coded_holder coded_mode };
 
-    ghost view = { λ a. map.from_entries a.modes.entries };
+    ghost view = { λ a. others_of a.rows.entries };
+
+    ghost invariant = { λ a. AreApart a.rows.entries };
 }
 
 impl Others {
@@ -33,14 +38,17 @@ impl Others {
         ensures { result ≡ map.empty }
     {
         Others {
-            modes: BTreeMap::new(alloc),
+            alloc,
+            rows: HashMap::new(alloc),
         }
     }
 
-    pub fn get(&self, object: Other, tx: u32) -> Option<Mode>
-        ensures { result ≡ map.get self.now (holder_of object tx) }
+    /// The holders of an object, if there are any.
+    pub fn holders_of(&self, object: Other) -> Option<&ObjectHolders>
+        ensures some { IfSome result (λ m. (n : ℕ) → map.get self.now (holder_of object n) ≡ mode_among m.now n) }
+        ensures none { IfNone result ((n : ℕ) → map.get self.now (holder_of object n) ≡ None) }
     {
-        self.modes.get(&Holder { object, tx }).copied()
+        self.rows.get(&object)
     }
 
     /// Only a new holder can want memory.
@@ -49,8 +57,13 @@ impl Others {
         ensures err { OnErr result (self.new ≡ self.old) }
         ensures absent { OnErr result (map.get self.old (holder_of object tx) ≡ None) }
     {
-        self.modes.insert(Holder { object, tx }, mode)?;
-        Ok(())
+        if let Some(holders) = self.rows.get_mut(&object) {
+            return holders.insert(self.alloc, tx, mode);
+        }
+        match self.rows.insert(object, ObjectHolders::one(tx, mode)) {
+            Ok(_) => Ok(()),
+            Err(_) => Err(NoMemory),
+        }
     }
 
     /// Gives the mode that was there. It takes no memory.
@@ -58,31 +71,11 @@ impl Others {
         ensures value { result ≡ map.get self.old (holder_of object tx) }
         ensures removed { self.new ≡ map.remove self.old (holder_of object tx) }
     {
-        self.modes.remove(&Holder { object, tx })
-    }
-
-    /// The smallest holder of an object.
-    pub fn first(&self, object: Other) -> Option<(u32, Mode)>
-        ensures { IsFirstFrom (λ n. map.get self.now (holder_of object n)) 0 result }
-    {
-        let (holder, mode) = self.modes.range(Holder { object, tx: 0 }..).next()?;
-        if holder.object == object {
-            Some((holder.tx, *mode))
-        } else {
-            None
+        let holders = self.rows.get_mut(&object)?;
+        let mode = holders.remove(tx);
+        if holders.is_empty() {
+            self.rows.remove(&object);
         }
-    }
-
-    /// The smallest holder of an object that is greater than this one.
-    pub fn first_behind(&self, object: Other, tx: u32) -> Option<(u32, Mode)>
-        ensures { IsFirstFrom (λ n. map.get self.now (holder_of object n)) (tx + 1) result }
-    {
-        let behind = (Bound::Excluded(Holder { object, tx }), Bound::Unbounded);
-        let (holder, mode) = self.modes.range(behind).next()?;
-        if holder.object == object {
-            Some((holder.tx, *mode))
-        } else {
-            None
-        }
+        mode
     }
 }

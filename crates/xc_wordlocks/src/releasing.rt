@@ -1,23 +1,31 @@
-ghost use Rattle.std.specs.Prelude.{◌≡◌, None, if◌then◌else◌};
+ghost use Rattle.std.specs.Prelude.{◌≡◌, ◌+◌, None, length, if◌then◌else◌};
 ghost use Rattle.xc_data.specs.Claims.{objects};
 ghost use Rattle.xc_data.specs.declared.object.Object.{Object};
 ghost use Rattle.xc_wordlocks.specs.Released.{claims_on, each_once};
 ghost use Rattle.xc_wordlocks.specs.Table.{KeepsOthers, has, mode_of};
 
 use crate::holders::Holders;
+use crate::steps::Steps;
+use std::sync::ledger::Ledger;
 use xc_data::Claim;
 
 /// Takes out of the table what the claims are on. Leaves each object once, at its first claim, in the mode in which it was held.
-/// It takes no memory.
-pub fn take_all(holders: &mut Holders, claims: &mut Vec<Claim>, tx: u32)
+/// A step for each claim. It takes no memory.
+pub fn take_all<L: Ledger>(
+    holders: &mut Holders,
+    claims: &mut Vec<Claim>,
+    tx: u32,
+    steps: &mut Steps<L>,
+)
     ensures own { (o : Object) → mode_of holders.new tx o ≡ (if has (objects claims.old.items) o then None else mode_of holders.old tx o) }
     ensures others { KeepsOthers tx holders.old holders.new }
     ensures taken { claims.new.items ≡ claims_on (mode_of holders.old tx) (each_once (objects claims.old.items)) }
+    ensures cost { steps.new ≡ steps.old + length claims.old.items }
 {
     let mut count = 0;
     for at in 0..claims.len() {
         let mut claim = claims[at];
-        if let Some(mode) = holders.remove(claim.object, tx) {
+        if let Some(mode) = holders.take(claim.object, tx, steps) {
             claim.mode = mode;
             claims[count] = claim;
             count += 1;

@@ -1,10 +1,10 @@
-ghost use Rattle.std.specs.Prelude.{◌≡◌, ◌<◌, ◌≤◌, ◌+◌, ℕ, length, None, IfSome, IfNone, OnOk, OnErr};
+ghost use Rattle.std.specs.Prelude.{◌≡◌, ◌<◌, ◌≤◌, ℕ, length, None, IfSome, IfNone, OnOk, OnErr};
 ghost use Rattle.std.specs.FinMap as map;
 ghost use Rattle.xc_wordlocks.specs.Keys.{word_holder};
-ghost use Rattle.xc_wordlocks.specs.First.{IsFirstFrom};
-ghost use Rattle.xc_wordlocks.specs.Words.{mode_among, words_of};
+ghost use Rattle.xc_wordlocks.specs.Rows.{mode_among};
+ghost use Rattle.xc_wordlocks.specs.Words.{words_of};
 
-use crate::word_holders::WordHolders;
+use crate::object_holders::ObjectHolders;
 use std::alloc::Global;
 use std::marker::Model;
 use xc_data::{Mode, NoMemory};
@@ -14,7 +14,7 @@ use xc_data::{Mode, NoMemory};
 pub struct Words {
     alloc: Global,
     // For each word up to the greatest that was claimed, who holds it.
-    holders: Vec<WordHolders>,
+    holders: Vec<ObjectHolders>,
 }
 
 impl Model for Words {
@@ -31,13 +31,13 @@ impl Model for Words {
 }
 
 // Makes the list longer, up to a word. Nobody holds the words that are new.
-fn grow(holders: &mut Vec<WordHolders>, at: usize) -> Result<(), NoMemory>
+fn grow(holders: &mut Vec<ObjectHolders>, at: usize) -> Result<(), NoMemory>
     ensures reach { OnOk result (at < length holders.new.items) }
     ensures beyond { OnErr result (length holders.new.items ≤ at) }
     ensures same { words_of holders.new.items ≡ words_of holders.old.items }
 {
     while holders.len() <= at {
-        holders.push(WordHolders::nobody())?;
+        holders.push(ObjectHolders::nobody())?;
     }
     Ok(())
 }
@@ -52,18 +52,12 @@ impl Words {
         }
     }
 
-    // The holders of a word, if the list reaches it.
-    fn holders_of(&self, at: u32) -> Option<&WordHolders>
+    /// The holders of a word, if the list reaches it.
+    pub fn holders_of(&self, at: u32) -> Option<&ObjectHolders>
         ensures some { IfSome result (λ m. (n : ℕ) → map.get self.now (word_holder at n) ≡ mode_among m.now n) }
         ensures none { IfNone result ((n : ℕ) → map.get self.now (word_holder at n) ≡ None) }
     {
         self.holders.get(at as usize)
-    }
-
-    pub fn get(&self, at: u32, tx: u32) -> Option<Mode>
-        ensures { result ≡ map.get self.now (word_holder at tx) }
-    {
-        self.holders_of(at)?.get(tx)
     }
 
     /// Only a new holder can want memory.
@@ -81,19 +75,5 @@ impl Words {
         ensures removed { self.new ≡ map.remove self.old (word_holder at tx) }
     {
         self.holders.get_mut(at as usize)?.remove(tx)
-    }
-
-    /// The smallest holder of a word.
-    pub fn first(&self, at: u32) -> Option<(u32, Mode)>
-        ensures { IsFirstFrom (λ n. map.get self.now (word_holder at n)) 0 result }
-    {
-        self.holders_of(at)?.first()
-    }
-
-    /// The smallest holder of a word that is greater than this one.
-    pub fn first_behind(&self, at: u32, tx: u32) -> Option<(u32, Mode)>
-        ensures { IsFirstFrom (λ n. map.get self.now (word_holder at n)) (tx + 1) result }
-    {
-        self.holders_of(at)?.first_behind(tx)
     }
 }

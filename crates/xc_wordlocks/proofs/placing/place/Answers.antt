@@ -6,12 +6,12 @@ use Rattle.xc_wordlocks.proofs.Places.{placed_new}
 use Rattle.xc_wordlocks.proofs.placing.place.Goals as goal
 
 pub returns-clause-ok : goal.returns-clause-ok
-returns-clause-ok c =
+returns-clause-ok g c =
     let was = c.args.holders.now in
     let claim = c.args.claim.now in
     let lacks : mode_of was c.args.tx claim.object ≡ None =
-    none_there (mode_of was c.args.tx claim.object) (ap is_some (sym c.get.ensures) ∙ sym c.is_some.ensures ∙ c.if-is_some.false) in (
+    none_there (mode_of was c.args.tx claim.object) (ap is_some (sym c.mode_held.ensures) ∙ sym c.is_some.ensures ∙ c.if-is_some.false) in (
       claim.object ∷ [],
       c.push_reserved.ensures.items ∙ ap (λ xs. xs ++ claim.object ∷ []) c.reserve.ensures.items,
-      subst (λ (t : Table). Placed c.args.tx (claim ∷ []) was t (claim.object ∷ [])) (sym c.in_ok-insert.ensures.ok) (placed_new c.args.tx claim was lacks),
+      subst (λ (t : Table). Placed c.args.tx (claim ∷ []) was t (claim.object ∷ [])) (sym c.in_ok-put.ensures.ok) (placed_new c.args.tx claim was lacks),
     )

@@ -8,7 +8,7 @@ use Rattle.xc_wordlocks.proofs.Places.{placed-append, taken_back}
 use Rattle.xc_wordlocks.proofs.placing.place_all.Goals as goal
 
 pub loop-claim-preserved : goal.loop-claim-preserved
-loop-claim-preserved c =
+loop-claim-preserved g c =
     let claims = c.args.claims.now in
     let i = c.loop-claim.claim-index in
     let one = c.claim-item.result ∷ [] in
@@ -20,11 +20,11 @@ loop-claim-preserved c =
     c.loop-claim.invariant more.2))
 
 pub returns-in-Err-clause-err : goal.returns-in-Err-clause-err
-returns-in-Err-clause-err c =
+returns-in-Err-clause-err g c =
     let i = c.loop-claim.claim-index in
-    taken_back c.args.tx (take i c.args.claims.now) c.args.holders.now c.loop-claim.holders c.remove_all.new.self c.loop-claim.added.items
+    taken_back c.args.tx (take i c.args.claims.now) c.args.holders.now c.loop-claim.holders c.take_back.new.holders c.loop-claim.added.items
     c.loop-claim.invariant
-    (λ o. c.remove_all.ensures.own o
+    (λ o. c.take_back.ensures.own o
     ∙ ap₂ (λ (l : List Object) (t : Table). cond (has l o) None (mode_of t c.args.tx o)) (c.as_slice.ensures ∙ c.in-Err.ensures.err_added)
     c.in-Err.ensures.err)
-    (λ n o ne. c.remove_all.ensures.others n o ne ∙ ap (λ (t : Table). mode_of t n o) c.in-Err.ensures.err)
+    (λ n o ne. c.take_back.ensures.others n o ne ∙ ap (λ (t : Table). mode_of t n o) c.in-Err.ensures.err)

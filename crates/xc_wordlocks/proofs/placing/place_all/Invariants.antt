@@ -4,4 +4,4 @@ use Rattle.xc_wordlocks.proofs.placing.place_all.Given as goal
 
 -- the claims so far have their places
 abbrev pub invariant-loop-claim : goal.invariant-loop-claim
-invariant-loop-claim l = Placed l.tx (take l.claim-index l.claims) l.fn.holders l.holders l.added.items
+invariant-loop-claim g l = Placed l.tx (take l.claim-index l.claims) l.fn.holders l.holders l.added.items

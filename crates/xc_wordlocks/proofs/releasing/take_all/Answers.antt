@@ -10,30 +10,39 @@ use Rattle.xc_wordlocks.proofs.releasing.take_all.Goals as goal
 use Rattle.xc_wordlocks.proofs.releasing.take_all.Goals.{in-Some, in_default}
 
 pub loop-at-preserved : goal.loop-at-preserved
-loop-at-preserved c =
+loop-at-preserved g c =
     let items = c.loop-at.claims.items in
     let count = c.loop-at.count in
     let at = c.loop-at.at in
     let item = c.index-claim.result.now in
-    let t = c.loop-at.invariant in
+    let t = c.loop-at.invariant.taking in
     let within : at < length items = omega (arith, c.args.claims.now.ok.0) in
     let front = λ (m : Option Mode). take count items ++ claim_in m item.object in
     let more = taking_more c.args.tx c.args.holders.now c.loop-at.holders c.args.claims.now.items items at count t item within c.index-claim.ensures in
-    subst (λ (now : Table). Taking c.args.tx c.args.holders.now now c.args.claims.now.items c.match-remove.claims.items (at + 1) c.match-remove.count)
-    (sym c.remove.ensures.removed)
-    (elim c.match-remove.branch [
-      | in-Some w ↦
-          let kept : Claim = record item { mode = w.in-Some.mode } in
-          let items_are : c.match-remove.claims.items ≡ set items count kept = ap (λ (v : Vec Claim). v.items) w.claims-is in
-          let more_count = w.count-is in
-          more c.match-remove.claims.items c.match-remove.count
-          (ap₂ take w.count-is items_are ∙ take_more_set items count kept (omega arith) ∙ ap front w.in-Some.ensures.value)
-          (ap (drop (at + 1)) items_are ∙ drop-set-lt (at + 1) items count kept (omega arith)) (omega arith)
-          (ap length items_are ∙ length-set items count kept)
-      | in_default w ↦
-          let items_are : c.match-remove.claims.items ≡ items = ap (λ (v : Vec Claim). v.items) w.claims-is in
-          let same_count = w.count-is in
-          more c.match-remove.claims.items c.match-remove.count
-          (ap₂ take w.count-is items_are ∙ sym (append-nil (take count items)) ∙ ap front w.in_default.ensures.value)
-          (ap (drop (at + 1)) items_are) (omega arith) (ap length items_are)
-    ])
+    record {
+      taking =
+          subst (λ (now : Table). Taking c.args.tx c.args.holders.now now c.args.claims.now.items c.match-take.claims.items (at + 1) c.match-take.count)
+          (sym c.take.ensures.removed)
+          (elim c.match-take.branch [
+            | in-Some w ↦
+                let kept : Claim = record item { mode = w.in-Some.mode } in
+                let items_are : c.match-take.claims.items ≡ set items count kept = ap (λ (v : Vec Claim). v.items) w.claims-is in
+                let more_count = w.count-is in
+                more c.match-take.claims.items c.match-take.count
+                (ap₂ take w.count-is items_are ∙ take_more_set items count kept (omega arith) ∙ ap front w.in-Some.ensures.value)
+                (ap (drop (at + 1)) items_are ∙ drop-set-lt (at + 1) items count kept (omega arith)) (omega arith)
+                (ap length items_are ∙ length-set items count kept)
+            | in_default w ↦
+                let items_are : c.match-take.claims.items ≡ items = ap (λ (v : Vec Claim). v.items) w.claims-is in
+                let same_count = w.count-is in
+                more c.match-take.claims.items c.match-take.count
+                (ap₂ take w.count-is items_are ∙ sym (append-nil (take count items)) ∙ ap front w.in_default.ensures.value)
+                (ap (drop (at + 1)) items_are) (omega arith) (ap length items_are)
+          ]);
+      cost = c.take.ensures.cost ∙ ap (λ n. n + 1) c.loop-at.invariant.cost ∙ omega arith;
+    }
+
+pub returns-clause-cost : goal.returns-clause-cost
+returns-clause-cost g c =
+    let all : c.loop-at.at ≡ length c.args.claims.now.items = omega (arith, c.args.claims.now.ok.0, c.loop-at.auto.at-end, c.loop-at-test.false) in
+    c.loop-at.invariant.cost ∙ ap (λ n. c.args.steps.now + n) all

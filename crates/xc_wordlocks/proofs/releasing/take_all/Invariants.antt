@@ -1,6 +1,11 @@
+use Rattle.std.proofs.Common.{◌≡◌, ◌+◌}
 use Rattle.xc_wordlocks.proofs.Released.{Taking}
 use Rattle.xc_wordlocks.proofs.releasing.take_all.Given as goal
 
--- the claims so far are done
+-- the claims so far are done, in a step each
 abbrev pub invariant-loop-at : goal.invariant-loop-at
-invariant-loop-at l = Taking l.tx l.fn.holders l.holders l.fn.claims.items l.claims.items l.at l.count
+invariant-loop-at g l =
+    record {
+      taking : Taking l.tx l.fn.holders l.holders l.fn.claims.items l.claims.items l.at l.count;
+      cost : l.steps ≡ l.fn.steps + l.at;
+    }

@@ -1,19 +1,47 @@
-use Rattle.std.proofs.Common.{ap, sym, ◌∙◌}
-use Rattle.std.specs.FinMap as map
-use Rattle.xc_data.specs.declared.claim.Mode.{Mode}
-use Rattle.xc_maps.proofs.Maps.{get-lookup, removed}
-use Rattle.xc_wordlocks.specs.Keys.{holder_of, holder_cmp}
+use Rattle.std.proofs.Common.{rules, Some, None, IsSome, refl, ap, sym, ◌∙◌, subst}
+use Rattle.xc_wordlocks.specs.Keys.{holder_of}
+use Rattle.xc_wordlocks.specs.Hashed.{others_of}
 use Rattle.xc_wordlocks.proofs.Orders.{holder_total, holder_exact}
+use Rattle.xc_wordlocks.proofs.Rows.{held_in, removed_absent}
+use Rattle.xc_wordlocks.proofs.ByRow.{got, lacks, put_same, taken}
 use Rattle.xc_wordlocks.proofs.others.Others.remove.Goals as goal
 
-pub returns-clause-value : goal.returns-clause-value
-returns-clause-value c =
-    let holder = holder_of c.args.object c.args.tx in
-    c.remove.ensures.value ∙ sym (get-lookup holder_total c.self.inside.modes.entries holder)
-    ∙ ap (λ (m : map.FinMap holder_cmp Mode). map.get m holder) c.self.view_is
+pub returns-in_err-holders-clause-value : goal.returns-in_err-holders-clause-value
+returns-in_err-holders-clause-value c =
+    c.from_residual.ensures
+    ∙ sym (lacks c.self.inside.rows.entries c.args.self.now c.self.view_is c.self.invariant c.args.object c.in_err-holders.ensures.value c.args.tx)
 
-pub returns-clause-removed : goal.returns-clause-removed
-returns-clause-removed c =
-    let holder = holder_of c.args.object c.args.tx in
-    removed holder_total holder_exact c.self.inside.modes.entries c.remove.new.self.entries holder c.remove.ensures.updates.0
-    ∙ ap (λ (m : map.FinMap holder_cmp Mode). map.remove m holder) c.self.view_is
+pub returns-in_err-holders-clause-removed : goal.returns-in_err-holders-clause-removed
+returns-in_err-holders-clause-removed c =
+    ap (λ m. others_of m.entries) c.get_mut.follows.holds-at-none ∙ c.self.view_is
+    ∙ sym (removed_absent holder_total holder_exact c.args.self.now (holder_of c.args.object c.args.tx)
+    (lacks c.self.inside.rows.entries c.args.self.now c.self.view_is c.self.invariant c.args.object c.in_err-holders.ensures.value c.args.tx))
+
+pub returns-then-is_empty-clause-value : goal.returns-then-is_empty-clause-value
+returns-then-is_empty-clause-value c =
+    c.remove-mode.ensures.value ∙ ap (λ m. held_in m c.args.tx) c.in_ok-holders.ensures.value
+    ∙ got c.self.inside.rows.entries c.args.self.now c.self.view_is c.self.invariant c.args.object c.args.tx
+
+-- a row that nobody is left in goes, which isn't seen
+pub returns-then-is_empty-clause-removed : goal.returns-then-is_empty-clause-removed
+returns-then-is_empty-clause-removed c =
+    let rows = (c.get_mut.follows.lender c.remove-mode.new.self).entries in
+    let wrote = c.get_mut.follows.holds c.remove-mode.new.self in
+    let row = wrote.3 (subst IsSome c.in_ok-holders.ensures.value refl) in
+    let without = taken c.self.inside.rows.entries rows c.args.self.now c.self.view_is c.self.invariant wrote.4 c.args.object (Some c.remove-mode.new.self)
+    row.0 c.args.tx c.in_ok-holders.holders.now c.in_ok-holders.ensures.value c.remove-mode.ensures.removed in
+    let gone = put_same rows c.remove.new.self.entries _ without wrote.4 c.remove.ensures.unique c.args.object None c.remove.ensures.updates.0
+    (λ n. ap (λ es. held_in (Some es) n) (sym (c.is_empty.ensures.0 c.if-is_empty.true)) ∙ ap (λ m. held_in m n) (sym row.1)) in
+    search (rules, gone)
+
+pub returns-else-is_empty-clause-value : goal.returns-else-is_empty-clause-value
+returns-else-is_empty-clause-value c =
+    c.remove-mode.ensures.value ∙ ap (λ m. held_in m c.args.tx) c.in_ok-holders.ensures.value
+    ∙ got c.self.inside.rows.entries c.args.self.now c.self.view_is c.self.invariant c.args.object c.args.tx
+
+pub returns-else-is_empty-clause-removed : goal.returns-else-is_empty-clause-removed
+returns-else-is_empty-clause-removed c =
+    let wrote = c.get_mut.follows.holds c.remove-mode.new.self in
+    taken c.self.inside.rows.entries (c.get_mut.follows.lender c.remove-mode.new.self).entries c.args.self.now c.self.view_is c.self.invariant wrote.4
+    c.args.object (Some c.remove-mode.new.self) (wrote.3 (subst IsSome c.in_ok-holders.ensures.value refl)).0 c.args.tx
+    c.in_ok-holders.holders.now c.in_ok-holders.ensures.value c.remove-mode.ensures.removed

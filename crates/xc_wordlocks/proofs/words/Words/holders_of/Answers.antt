@@ -3,7 +3,8 @@ use Rattle.std.specs.FinMap as map
 use Rattle.std.specs.Slice.{IsItemAt}
 use Rattle.xc_data.specs.declared.claim.Mode.{Mode}
 use Rattle.xc_wordlocks.specs.Keys.{word_holder, word_holder_cmp}
-use Rattle.xc_wordlocks.specs.Words.{mode_among, words_of}
+use Rattle.xc_wordlocks.specs.Rows.{mode_among}
+use Rattle.xc_wordlocks.specs.Words.{words_of}
 use Rattle.xc_wordlocks.proofs.ByWord.{none_beyond, mode_there}
 use Rattle.xc_wordlocks.proofs.words.Words.holders_of.Goals as goal
 

@@ -1,6 +1,8 @@
 use Rattle.std.proofs.Common.{sym, ◌∙◌}
 use Rattle.xc_wordlocks.specs.Keys.{word_holder}
-use Rattle.xc_wordlocks.proofs.ByWord.{none_beyond, mode_there, put_none, removed_absent}
+use Rattle.xc_wordlocks.proofs.ByWord.{none_beyond, mode_there, put_none}
+use Rattle.xc_wordlocks.proofs.Orders.{word_holder_total, word_holder_exact}
+use Rattle.xc_wordlocks.proofs.Rows.{removed_absent}
 use Rattle.xc_wordlocks.proofs.words.Words.remove.Goals as goal
 
 pub returns-in_err-get_mut-clause-value : goal.returns-in_err-get_mut-clause-value
@@ -11,7 +13,7 @@ returns-in_err-get_mut-clause-value c =
 pub returns-in_err-get_mut-clause-removed : goal.returns-in_err-get_mut-clause-removed
 returns-in_err-get_mut-clause-removed c =
     c.self.view_is
-    ∙ sym (removed_absent c.args.self.now (word_holder c.args.at c.args.tx)
+    ∙ sym (removed_absent word_holder_total word_holder_exact c.args.self.now (word_holder c.args.at c.args.tx)
     (none_beyond c.self.inside.holders.items c.args.self.now c.self.view_is c.args.at c.args.tx c.in_err-get_mut.ensures.item.3))
 
 pub returns-clause-value : goal.returns-clause-value

@@ -1,8 +1,8 @@
-ghost use Rattle.std.specs.Prelude.{◌≡◌, ◌+◌, ℕ, [], ◌∷◌, Some, None, cond, IfOk, OnOk, OnErr};
+ghost use Rattle.std.specs.Prelude.{◌≡◌, ◌↔◌, ◌+◌, ℕ, [], ◌∷◌, Some, None, IsTrue, cond, IfOk, OnOk, OnErr};
 ghost use Rattle.std.specs.Ordering.{nat_cmp};
 ghost use Rattle.std.specs.BTreeMap.{is_at};
 ghost use Rattle.xc_wordlocks.specs.First.{IsFirstFrom};
-ghost use Rattle.xc_wordlocks.specs.Words.{mode_among};
+ghost use Rattle.xc_wordlocks.specs.Rows.{mode_among};
 
 use std::alloc::Global;
 use std::collections::BTreeMap;
@@ -10,7 +10,7 @@ use std::marker::Model;
 use std::ops::Bound;
 use xc_data::{Mode, NoMemory};
 
-// How the holders of a word stand.
+// How the holders of an object stand.
 #[derive(Drop)]
 enum Form {
     Nobody,
@@ -18,17 +18,17 @@ enum Form {
     Many(BTreeMap<u32, Mode>),
 }
 
-/// The transactions that hold one word, each with its mode. One alone stands in its place; a tree is made for a second one, and
+/// The transactions that hold one object, each with its mode. One alone stands in its place; a tree is made for a second one, and
 /// stays. Contracts see them as a list.
 #[derive(Drop)]
-pub struct WordHolders {
+pub struct ObjectHolders {
     form: Form,
 }
 
-impl Model for WordHolders {
+impl Model for ObjectHolders {
     ghost use Rattle.std.specs.Prelude.{ℕ, List};
     ghost use Rattle.xc_data.specs.declared.claim.Mode.{Mode};
-    ghost use Rattle.xc_wordlocks.specs.Words.{listed};
+    ghost use Rattle.xc_wordlocks.specs.Rows.{listed};
 
     ghost Value = { List (ℕ × Mode) };
 
@@ -45,11 +45,31 @@ fn both(alloc: Global, one: (u32, Mode), two: (u32, Mode)) -> Result<BTreeMap<u3
     Ok(modes)
 }
 
-impl WordHolders {
-    pub fn nobody() -> WordHolders
+impl ObjectHolders {
+    pub fn nobody() -> ObjectHolders
         ensures { result ≡ [] }
     {
-        WordHolders { form: Form::Nobody }
+        ObjectHolders { form: Form::Nobody }
+    }
+
+    /// One transaction alone. It takes no memory.
+    pub fn one(tx: u32, mode: Mode) -> ObjectHolders
+        ensures { result ≡ (tx, mode) ∷ [] }
+    {
+        ObjectHolders {
+            form: Form::One(tx, mode),
+        }
+    }
+
+    /// Whether nobody holds it.
+    pub fn is_empty(&self) -> bool
+        ensures { IsTrue result ↔ (self.now ≡ []) }
+    {
+        match &self.form {
+            Form::Nobody => true,
+            Form::One(..) => false,
+            Form::Many(modes) => modes.is_empty(),
+        }
     }
 
     pub fn get(&self, tx: u32) -> Option<Mode>

@@ -1,0 +1,37 @@
+ghost use Rattle.std.specs.Prelude.{◌≡◌, [], ◌∷◌, All, IsSome};
+ghost use Rattle.xc_data.specs.declared.object.Object.{Object};
+ghost use Rattle.xc_data.specs.declared.claim.Claim.{Claim};
+ghost use Rattle.xc_wordlocks.specs.Table.{KeepsOthers, claimed, mode_of};
+
+use crate::holders::Holders;
+use crate::reading::mode_held;
+use crate::steps::Steps;
+use std::sync::ledger::Ledger;
+use xc_data::Claim;
+
+// The transaction holds the object in the stronger of both modes. It takes no memory.
+fn raise<L: Ledger>(holders: &mut Holders, claim: &Claim, tx: u32, steps: &mut Steps<L>)
+    requires { IsSome (mode_of holders.old tx claim.now.object) }
+    ensures own { (o : Object) → mode_of holders.new tx o ≡ claimed (mode_of holders.old tx o) (claim.now ∷ []) o }
+    ensures others { KeepsOthers tx holders.old holders.new }
+{
+    let was = mode_held(holders, claim.object, tx, steps);
+    let mode = match was {
+        Some(was) => was.stronger(claim.mode),
+        None => claim.mode,
+    };
+    if was != Some(mode) {
+        let _ = holders.put(claim.object, tx, mode, steps);
+    }
+}
+
+/// Gives what the transaction holds the modes of these claims. It takes no memory.
+pub fn raise_all<L: Ledger>(holders: &mut Holders, claims: &[Claim], tx: u32, steps: &mut Steps<L>)
+    requires { All (λ (c : Claim). IsSome (mode_of holders.old tx c.object)) claims.now }
+    ensures own { (o : Object) → mode_of holders.new tx o ≡ claimed (mode_of holders.old tx o) claims.now o }
+    ensures others { KeepsOthers tx holders.old holders.new }
+{
+    for claim in claims {
+        raise(holders, claim, tx, steps);
+    }
+}
