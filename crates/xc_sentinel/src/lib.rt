@@ -1,0 +1,12 @@
+//! Claims with the active transactions that make them: an older one revokes a younger one that holds what it claims.
+#![tactic(auto)]
+
+mod keys;
+mod seat;
+mod seats;
+mod sentinels;
+#[cfg(test)]
+mod tests;
+
+pub use seat::{Seat, Verdict};
+pub use sentinels::Sentinels;

@@ -1,0 +1,172 @@
+ghost use Rattle.std.specs.Prelude.{◌≡◌, ◌≤◌, ◌+◌, ℕ, length, Some, None, OnOk, OnErr, is_some, true};
+ghost use Rattle.xc_data.specs.declared.object.Object.{Object};
+ghost use Rattle.xc_wordlocks.specs.Table.{Holds, KeepsOthers, mode_of};
+
+use crate::seat::{Seat, Verdict};
+use crate::seats::Seats;
+use std::alloc::Global;
+use std::sync::ledger::Ledger;
+use xc_data::{Claim, HeldList, Mark, NoMemory};
+use xc_wordlocks::{ClaimErr, Claims, Holding, Steps};
+
+/// Claims, and the active transactions that make them: who runs, and who was told by an older one to give way.
+///
+/// Contracts see the claims by `mode_of`, and an active transaction by its number (`seat_in`). Whether what is held is held by active
+/// ones is the caller's to keep: who has no seat is no younger than anybody, and is never waited for.
+#[derive(Drop)]
+pub struct Sentinels {
+    claims: Claims,
+    seats: Seats,
+}
+
+impl Sentinels {
+    ghost use Rattle.xc_sentinel.specs.Seating.{KeepsSeats, SetsSeat, seat_in};
+    ghost use Rattle.xc_sentinel.specs.Asking.{IsAnswer, IsYounger, changed, mark_of, marked_seat, settled};
+
+    /// Nothing is held, and nobody is active. It takes no memory.
+    pub fn new(alloc: Global) -> Sentinels
+        ensures nothing { (n : ℕ) (o : Object) → mode_of result.claims n o ≡ None }
+        ensures nobody { (n : ℕ) → seat_in result.seats n ≡ None }
+    {
+        Sentinels {
+            claims: Claims::new(alloc),
+            seats: Seats::new(alloc),
+        }
+    }
+
+    /// The transaction is active and running from now on. Its rank is the number of its first attempt.
+    pub fn begin(&mut self, tx: u32, rank: u32) -> Result<(), NoMemory>
+        requires { seat_in self.old.seats tx ≡ None }
+        ensures claims { self.new.claims ≡ self.old.claims }
+        ensures ok { OnOk result (SetsSeat self.old.seats self.new.seats tx (Some (record { rank = rank; running = true; mark = None }))) }
+        ensures err { OnErr result (KeepsSeats self.old.seats self.new.seats) }
+    {
+        self.seats.insert(tx, rank)
+    }
+
+    /// A transaction that claimed nothing is no longer active. It takes no memory.
+    pub fn withdraw(&mut self, tx: u32)
+        ensures claims { self.new.claims ≡ self.old.claims }
+        ensures seats { SetsSeat self.old.seats self.new.seats tx None }
+    {
+        self.seats.remove(tx);
+    }
+
+    /// The transaction is no longer running: it commits or undoes. It takes no memory.
+    pub fn settle(&mut self, tx: u32)
+        ensures claims { self.new.claims ≡ self.old.claims }
+        ensures seats { SetsSeat self.old.seats self.new.seats tx (changed settled (seat_in self.old.seats tx)) }
+    {
+        if let Some(seat) = self.seats.get(tx) {
+            self.seats.set(
+                tx,
+                Seat {
+                    rank: seat.rank,
+                    running: false,
+                    mark: seat.mark,
+                },
+            );
+        }
+    }
+
+    // Whether both are active and the holder is the younger.
+    fn is_younger(&self, tx: u32, holder: u32) -> bool
+        ensures yes { result ≡ true → IsYounger (seat_in self.now.seats tx) (seat_in self.now.seats holder) }
+        ensures no { IsYounger (seat_in self.now.seats tx) (seat_in self.now.seats holder) → result ≡ true }
+    {
+        match (self.seats.get(tx), self.seats.get(holder)) {
+            (Some(mine), Some(its)) => mine.rank < its.rank,
+            _ => false,
+        }
+    }
+
+    // A running transaction without a mark takes this one.
+    fn mark(&mut self, holder: u32, mark: &Mark)
+        ensures claims { self.new.claims ≡ self.old.claims }
+        ensures seats { SetsSeat self.old.seats self.new.seats holder
+            (changed (λ seat. marked_seat seat mark.now) (seat_in self.old.seats holder)) }
+    {
+        if let Some(seat) = self.seats.get(holder) {
+            if seat.running && seat.mark.is_none() {
+                self.seats.set(
+                    holder,
+                    Seat {
+                        rank: seat.rank,
+                        running: true,
+                        mark: Some(*mark),
+                    },
+                );
+            }
+        }
+    }
+
+    /// The transaction claims, at a place in the journal. The first claim that is met decides: where there is patience and the holder
+    /// is younger, the holder is marked, and the transaction waits for it. Of several marks a transaction keeps the first.
+    pub fn ask(&mut self, claims: &[Claim], tx: u32, patient: bool, at: u32) -> Verdict
+        ensures { IsAnswer self.old self.new claims.now tx patient at result }
+    {
+        match self.claims.claim(claims, tx) {
+            Ok(()) => Verdict::Granted,
+            Err(ClaimErr::NoMemory) => Verdict::NoMemory,
+            Err(ClaimErr::Met { object, holder }) => {
+                if patient && self.is_younger(tx, holder) {
+                    let mark = Mark { object, by: tx, at };
+                    self.mark(holder, &mark);
+                    Verdict::Busy {
+                        object: mark.object,
+                        holder,
+                    }
+                } else {
+                    Verdict::Conflict { object, holder }
+                }
+            }
+        }
+    }
+
+    /// The mark of a transaction, which then has to give way. It takes no memory.
+    pub fn doomed(&self, tx: u32) -> Option<Mark>
+        ensures { result ≡ mark_of (seat_in self.now.seats tx) }
+    {
+        match self.seats.get(tx) {
+            Some(seat) => seat.mark,
+            None => None,
+        }
+    }
+
+    /// Whether a transaction has begun and not ended. It takes no memory.
+    pub fn active(&self, tx: u32) -> bool
+        ensures { result ≡ is_some (seat_in self.now.seats tx) }
+    {
+        self.seats.get(tx).is_some()
+    }
+
+    /// The transaction's claims go, which are those of the list, and its activity. Gives what it held. It takes no memory.
+    pub fn end(&mut self, tx: u32, held: Holding) -> HeldList
+        requires { Holds self.old.claims tx held.items }
+        ensures released { (o : Object) → mode_of self.new.claims tx o ≡ None }
+        ensures held { result ≡ held.items }
+        ensures others { KeepsOthers tx self.old.claims self.new.claims }
+        ensures seats { SetsSeat self.old.seats self.new.seats tx None }
+    {
+        self.seats.remove(tx);
+        self.claims.release_all(tx, held)
+    }
+
+    /// The same, in at most as many steps as it held objects.
+    pub fn end_counted<L: Ledger>(
+        &mut self,
+        tx: u32,
+        held: Holding,
+        steps: &mut Steps<L>,
+    ) -> HeldList
+        requires { Holds self.old.claims tx held.items }
+        ensures released { (o : Object) → mode_of self.new.claims tx o ≡ None }
+        ensures held { result ≡ held.items }
+        ensures others { KeepsOthers tx self.old.claims self.new.claims }
+        ensures seats { SetsSeat self.old.seats self.new.seats tx None }
+        ensures cost { steps.new ≤ steps.old + length held.items }
+    {
+        self.seats.remove(tx);
+        self.claims.release_counted(tx, held, steps)
+    }
+}
