@@ -70,7 +70,7 @@ all_solid tx r [] solid = solid
 all_solid tx r (c ∷ asked) solid = all_solid tx (step tx r c) asked (All-append Solid r.taken _ solid (taken_solid c.call r.me _))
 
 -- ---- how much is in the pipe or the pair of an item
-abbrev filled : World → KeptItem → ℕ
+abbrev pub filled : World → KeptItem → ℕ
 filled w (Bytes num bytes) = length (pipe_of w num).held
 filled w (Message num side bytes) = length (pair_of w num).first + length (pair_of w num).second
 
@@ -80,7 +80,8 @@ in_pipe o = length (unwrap_or o empty_pipe).held
 abbrev in_pair : Option Pair → ℕ
 in_pair o = length (unwrap_or o empty_pair).first + length (unwrap_or o empty_pair).second
 
-filled_alike : (w v : World) (k : KeptItem) → AgreeAt w v (item_object k) → filled w k ≡ filled v k
+-- the same in worlds that agree there
+pub filled_alike : (w v : World) (k : KeptItem) → AgreeAt w v (item_object k) → filled w k ≡ filled v k
 filled_alike w v (Bytes num bytes) e = ap in_pipe e
 filled_alike w v (Message num side bytes) e = ap in_pair e
 
@@ -170,11 +171,13 @@ effect_empty w (undo.Tail file from after n) j (Message num side bytes) e = e
 effect_empty w (undo.Made name file) j (Bytes num bytes) e = e
 effect_empty w (undo.Made name file) j (Message num side bytes) e = e
 
-remains_empty : (w : World) (us : List (Undo × ℕ)) (k : KeptItem) → filled w k ≡ 0 → filled (with_remains w us) k ≡ 0
+-- behind several
+pub remains_empty : (w : World) (us : List (Undo × ℕ)) (k : KeptItem) → filled w k ≡ 0 → filled (with_remains w us) k ≡ 0
 remains_empty w [] k e = e
 remains_empty w ((u, j) ∷ us) k e = remains_empty (with_effect w u j) us k (effect_empty w u j k e)
 
-new_empty : (w : World) (n : ℕ) (k : KeptItem) → ((i : ℕ) → IsFree w (num n i)) → IsNumbered n (item_object k) → filled w k ≡ 0
+-- and what has a number that nothing has is empty
+pub new_empty : (w : World) (n : ℕ) (k : KeptItem) → ((i : ℕ) → IsFree w (num n i)) → IsNumbered n (item_object k) → filled w k ≡ 0
 new_empty w n (Bytes q bytes) free e = ap in_pipe (subst (λ tx. finite.get w.pipes (num tx q.k) ≡ None) (sym e) (free q.k).pipe)
 new_empty w n (Message q side bytes) free e = ap in_pair (subst (λ tx. finite.get w.pairs (num tx q.k) ≡ None) (sym e) (free q.k).pair)
 

@@ -138,20 +138,24 @@ module _ (s : Standing) (job : ℕ) (t : Tx) (older : List Undo) (u : Undo) (end
   owns : AgreeOn (Own t) (given_back s.now t.taken) (with_remains s.state (effects t))
   owns = subst (λ p. AgreeOn (Own t) (returned s.now t p) (left s.state t p)) phase (h.flights job t active).owns
 
-  of_record : (P : Undo → Type 0) → All P (ran s.state t).trail → P u
+  -- what is true of all its records is true of this one
+  pub of_record : (P : Undo → Type 0) → All P (ran s.state t).trail → P u
   of_record P all = last_of P older u (subst (All P) newest (all_front P t.pending (map (λ (r : Ending). r.0) t.ended) (subst (All P) inside.trail all)))
 
-  record_own : All (Own t) (objects_of u)
+  -- it owns what it speaks of
+  pub record_own : All (Own t) (objects_of u)
   record_own = of_record (λ v. All (Own t) (objects_of v)) (trail_own s.state t inside.covers)
 
-  not_taken : (o : Object) → Contains (objects_of u) o → All (λ k. item_object k ≢ o) t.taken
+  -- and took nothing from there
+  pub not_taken : (o : Object) → Contains (objects_of u) o → All (λ k. item_object k ≢ o) t.taken
   not_taken o at =
       All-weaker (λ k. IsNumbered t.number (item_object k) → ⊥) (λ k. item_object k ≢ o)
       (λ k elsewhere. All-contains (λ p. item_object k ≢ p) (objects_of u) o (all_away t.number u k
       (of_record (Coined t.number) (trail_coined s.state t)) elsewhere) at)
       t.taken (subst (All (λ k. IsNumbered t.number (item_object k) → ⊥)) inside.taken (taken_elsewhere s.state t inside sound))
 
-  there : (o : Object) → Contains (objects_of u) o → AgreeAt s.now (with_remains s.state (effects t)) o
+  -- what it speaks of is there as its records tell: none of it was taken
+  pub there : (o : Object) → Contains (objects_of u) o → AgreeAt s.now (with_remains s.state (effects t)) o
   there o at =
       agree_on s.now (given_back s.now t.taken) (with_remains s.state (effects t)) o (given_away s.now t.taken o (not_taken o at))
       (owns o (All-contains (Own t) (objects_of u) o record_own at))

@@ -1,5 +1,5 @@
--- The calls that scripts have so far take no data, and their records tell all that they do.
-use Rattle.std.proofs.Common.{◌≡◌, true, false, ℕ, [], ◌∷◌, refl, ap, ◌∙◌}
+-- Calls that take no data: their records tell all that they do at the host.
+use Rattle.std.proofs.Common.{◌≡◌, false, ℕ, [], refl, ap, ◌∙◌}
 use Rattle.xc_data.specs.declared.call.Answer.{Answer}
 use Rattle.xc_data.specs.declared.call.Call.{Call}
 use Rattle.xc_data.specs.declared.call.Call.TheVariants as call
@@ -13,20 +13,14 @@ use Rattle.xc_world.specs.Ends.{with_remains}
 use Rattle.xc_world.specs.Run.{taken_by}
 use Rattle.xc_world.specs.Trail.{recorded}
 use Rattle.xc_world.proofs.EffectsCalls.{act-leads}
-use Rattle.xc_story.specs.Rows.{is_built}
 
--- they take no data
-pub built-taken : (c : Call) (me : Private) (r : Reply) → is_built c ≡ true → taken_by c me r ≡ []
-built-taken (call.XReadPipe h n) me r is = cc
-built-taken (call.XRecvmsg h) me r is = cc
-built-taken _ me r is = refl
-
-built-untaken : (c : Call) → is_built c ≡ true → takes_data c ≡ false
-built-untaken (call.XReadPipe h n) is = cc is
-built-untaken (call.XRecvmsg h) is = cc is
-built-untaken _ is = refl
+-- nothing is to be given back of them
+pub untaken : (c : Call) (me : Private) (r : Reply) → takes_data c ≡ false → taken_by c me r ≡ []
+untaken (call.XReadPipe h n) me r is = cc is
+untaken (call.XRecvmsg h) me r is = cc is
+untaken _ me r is = refl
 
 -- one that leaves no record changes nothing at the host
-pub unrecorded : (w : World) (me : Private) (tx : ℕ) (c : Call) (a : Answer) → is_built c ≡ true → recorded w me tx c (act w me tx c a).reply ≡ []
+pub unrecorded : (w : World) (me : Private) (tx : ℕ) (c : Call) (a : Answer) → takes_data c ≡ false → recorded w me tx c (act w me tx c a).reply ≡ []
     → contents_of (act w me tx c a).world ≡ contents_of w
-unrecorded w me tx c a is none = ap contents_of (act-leads w me tx c a (built-untaken c is)) ∙ ap (λ us. contents_of (with_remains w (whole us))) none
+unrecorded w me tx c a is none = ap contents_of (act-leads w me tx c a is) ∙ ap (λ us. contents_of (with_remains w (whole us))) none

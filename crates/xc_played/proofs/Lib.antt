@@ -1,12 +1,17 @@
 pub mod AtRest
 pub mod BuiltCalls
+pub mod ClaimedThere
 pub mod FlownJobs
 pub mod FlownLists
+pub mod Grown
+pub mod NewEmpty
 pub mod NewNumbers
 pub mod NextLate
 pub mod NextRecord
 pub mod Noted
 pub mod OpenFiles
+pub mod StartedOrder
+pub mod StartedWorld
 pub mod TurnAborts
 pub mod TurnBack
 pub mod TurnCalls

@@ -1,14 +1,15 @@
 -- What the newest record without an end of an undoing transaction tells of is there.
 use Rattle.std.proofs.Common.{◌≡◌, ℕ, ◌+◌, ◌≤◌, true, is_some, List, [], ◌∷◌, ◌++◌, Option, None, Some, length, map, unwrap_or, append_assoc}
 use Rattle.std.proofs.Common.{ap, sym, ◌∙◌, subst}
-use Rattle.std.specs.Prelude.{All, slice_get}
+use Rattle.std.specs.Prelude.{All, Contains, slice_get}
 use Rattle.std.specs.FinMap as finite
-use Rattle.std.proofs.lemmas.List.Elements.{All-head, All-tail, All-weaker}
+use Rattle.std.proofs.lemmas.List.Elements.{All-head, All-tail, All-weaker, All-contains_itself}
 use Rattle.xc_data.specs.declared.entry.Cause.{Cause}
 use Rattle.xc_data.specs.declared.object.Num.{Num}
 use Rattle.xc_data.specs.declared.object.Object.TheVariants as object
 use Rattle.xc_data.specs.declared.undo.Undo.{Undo}
 use Rattle.xc_data.specs.declared.undo.Undo.TheVariants.{Bytes, Tail, Made, Moved, NewPipe, NewPair}
+use Rattle.xc_data.specs.declared.undo.UndoEnd.TheVariants.{Blocked}
 use Rattle.xc_data.specs.Standing.{objects_of}
 use Rattle.xc_compensate.specs.Records.{way_of}
 use Rattle.xc_host.specs.Contents.{world_of, contents_of}
@@ -16,20 +17,13 @@ use Rattle.xc_world.specs.World.{World, file_of}
 use Rattle.xc_world.specs.Ends.{Ending, remains, with_remains}
 use Rattle.xc_world.specs.Effects.{whole, AreMadeIn, IsCovered}
 use Rattle.xc_world.specs.Laws.{AgreeAt}
-use Rattle.xc_world.specs.Own.{AgreeOn}
 use Rattle.xc_world.proofs.EffectsUndone.{record-covered}
 use Rattle.xc_story.specs.declared.phase.Phase.TheVariants.{Undoing}
 use Rattle.xc_story.specs.Setting.{Setting}
 use Rattle.xc_story.specs.Seen.{SeenTx, SeenJob, Now, active_of}
-use Rattle.xc_flight.specs.Active.{Own}
-use Rattle.xc_flight.specs.Flight.{left, returned}
-use Rattle.xc_flight.proofs.Frames.{trail_own}
-use Rattle.xc_played.specs.Flying.{flown, flown_phase, state_of, world_now, AreFlying}
-use Rattle.xc_played.proofs.FlownJobs.{flight_there, made_there}
-
-one_of : {X : Type 0} (P : X → Type 0) (xs : List X) (x : X) (ys : List X) → All P (xs ++ x ∷ ys) → P x
-one_of P [] x ys all = All-head P x ys all
-one_of P (z ∷ xs) x ys all = one_of P xs x ys (All-tail P z (xs ++ x ∷ ys) all)
+use Rattle.xc_flight.proofs.Undoing.{there as record_there}
+use Rattle.xc_played.specs.Flying.{flown, flown_phase, standing, state_of, world_now, AreFlying}
+use Rattle.xc_played.proofs.FlownJobs.{flies_there, made_there, sound_there}
 
 -- a file that is there, and has so many bytes
 abbrev Reaches : World → Num → ℕ → Type 0
@@ -64,15 +58,13 @@ covered_now s now all at job tx c older u there active undoes pending way =
     let t = flown job.me (all.unnoted at) tx in
     let w = (state_of s now).world in
     let newer = map (λ (r : Ending). r.0) tx.undo.ended in
-    let flight = flight_there s now all at job tx there active in
     let split : tx.undo.pending ++ newer ≡ older ++ u ∷ newer = ap (λ us. us ++ newer) pending ∙ append_assoc older (u ∷ []) newer in
-    let mine : All (Own t) (objects_of u) =
-    one_of (λ r. All (Own t) (objects_of r)) older u newer
-    (subst (All (λ r. All (Own t) (objects_of r))) (flight.inside.trail ∙ split) (trail_own w t flight.inside.covers)) in
-    let owns : AgreeOn (Own t) (world_now s now) (with_remains w (whole tx.undo.pending ++ remains tx.undo.ended)) =
-    subst (λ p. AgreeOn (Own t) (returned (world_now s now) t (flown_phase p)) (left w t (flown_phase p))) undoes flight.owns in
+    let standing_now = standing s now all.unnoted in
     let stood = with_remains w (whole (older ++ u ∷ []) ++ remains tx.undo.ended) in
-    let same : AgreeOn (Own t) (world_now s now) stood =
-    subst (λ us. AgreeOn (Own t) (world_now s now) (with_remains w (whole us ++ remains tx.undo.ended))) pending owns in
-    covered_there (world_now s now) stood u (All-weaker (Own t) (AgreeAt (world_now s now) stood) same (objects_of u) mine)
+    let same : All (AgreeAt (world_now s now) stood) (objects_of u) =
+    subst (λ us. All (AgreeAt (world_now s now) (with_remains w (whole us ++ remains tx.undo.ended))) (objects_of u)) pending
+    (All-weaker (Contains (objects_of u)) (AgreeAt (world_now s now) (with_remains w (whole tx.undo.pending ++ remains tx.undo.ended)))
+    (record_there standing_now at t older u (Blocked 0) all.flies (flies_there s now all at job tx there active) (ap flown_phase undoes)
+    (sound_there s now all at job tx there active) pending) (objects_of u) (All-contains_itself (objects_of u))) in
+    covered_there (world_now s now) stood u same
     (record-covered w older u tx.undo.ended (subst (AreMadeIn w) split (made_there s now all at job tx there active)) way)

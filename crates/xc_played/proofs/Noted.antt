@@ -78,7 +78,8 @@ end_so w began us tx Running i = none_done (ran_at w began tx) tx i.no_late_ends
 end_so w began us tx Committing i = subst (λ (r : Ran). EndSo r tx) (ap (goes_on tx.number (ran_at w began tx)) i.all_noted) (i.ends, i.fits)
 end_so w began us tx (Undoing c) none = none_done (ran_at w began tx) tx none
 
-module _ (s : Setting) (now : Now) (told : AreTold s (length now.words) now.journal now.jobs) (all : AreFlying s now) (at : ℕ) (job : SeenJob) (tx : SeenTx)
+module _ (s : Setting) (now : Now) (told : AreTold s (length now.words) now.marks now.journal now.jobs) (all : AreFlying s now) (at : ℕ)
+    (job : SeenJob) (tx : SeenTx)
     (there : slice_get now.jobs at ≡ Some job) (active : active_of job ≡ Some tx) where
   fresh : job.me ≡ beginning job.me.places
   fresh =

@@ -1,9 +1,11 @@
 -- The files that a running transaction has open are there, whoever holds them.
 use Rattle.std.proofs.Common.{◌≡◌, ℕ, ◌+◌, ◌≤◌, ◌⊎◌, inl, inr, ⊎_elim, zero, suc, true, is_some, List, [], ◌∷◌, ◌++◌, Option, Some, None, length, map}
-use Rattle.std.proofs.Common.{unwrap_or, ap, sym, subst, refl, arith}
+use Rattle.std.proofs.Common.{unwrap_or, ap, sym, ◌∙◌, subst, refl, arith}
 use Rattle.std.specs.Prelude.{slice_get}
 use Rattle.std.specs.FinMap as finite
 use Rattle.std.proofs.lemmas.Bool.Decides.{leb_tells}
+use Rattle.xc_data.specs.declared.entry.KeptItem.{KeptItem}
+use Rattle.xc_data.specs.declared.entry.KeptItem.TheVariants.{Bytes, Message}
 use Rattle.xc_data.specs.declared.object.Num.{Num}
 use Rattle.xc_data.specs.declared.object.Object.TheVariants as object
 use Rattle.xc_data.specs.declared.private.Place.{Place}
@@ -16,7 +18,7 @@ use Rattle.xc_file.specs.Calls.{IsOpenIn}
 use Rattle.xc_host.specs.Contents.{Contents}
 use Rattle.xc_world.specs.World.{World}
 use Rattle.xc_world.specs.Sound.{IsFit, IsKnown, IsSound}
-use Rattle.xc_world.specs.Run.{Ran, asked_of}
+use Rattle.xc_world.specs.Run.{Ran, asked_of, given_back}
 use Rattle.xc_world.specs.Ends.{Ending, remains, with_remains}
 use Rattle.xc_world.specs.Effects.{whole, AreMadeIn}
 use Rattle.xc_world.specs.Laws.{AgreeAt}
@@ -57,6 +59,12 @@ open_there c w place.Vacant stays known files = tt
 open_there c w (place.File num at) stays known files = stays num (known, files num)
 open_there c w (place.Pipe num) stays known files = tt
 open_there c w (place.Pair num side) stays known files = tt
+
+-- what is given back changes no file
+given_files : (w : World) (items : List KeptItem) (num : Num) → finite.get w.files num ≡ finite.get (given_back w items).files num
+given_files w [] num = refl
+given_files w (Bytes pipe bytes ∷ items) num = given_files w items num
+given_files w (Message pair side bytes ∷ items) num = given_files w items num
 
 -- ---- records that stand whole remain as if all of them were blocked
 abbrev blocked : List Undo → List Ending
@@ -131,7 +139,7 @@ module _ (s : Setting) (now : Now) (all : AreFlying s now) (at : ℕ) (job : See
       → finite.get now.contents.files num ≡ finite.get (left state mine p).files num
   returned_file num Running e = e
   returned_file num Committing e = e
-  returned_file num Undoing e = e
+  returned_file num Undoing e = given_files (world_now s now) tx.taken num ∙ e
 
   -- and where it owns the file, so the station has it
   pub owned_within : (num : Num) → IsWithin (finite.get state.files num) → Own mine (object.File num) → IsWithin (finite.get now.contents.files num)

@@ -1,13 +1,11 @@
 -- The entry of an aborted transaction keeps all flights.
-use Rattle.std.proofs.Common.{◌≡◌, ◌≢◌, ℕ, inl, List, [], ◌∷◌, ◌++◌, refl, ap, sym, ◌∙◌, subst, Option, Some, None}
+use Rattle.std.proofs.Common.{◌≡◌, ◌≢◌, ℕ, inl, List, [], ◌∷◌, ◌++◌, refl, ap, sym, ◌∙◌, subst, Some, None}
 use Rattle.std.specs.Prelude.{All, Contains, map, slice_get, slice_set}
 use Rattle.std.proofs.lemmas.List.Elements.{All-weaker, All-contains_itself}
-use Rattle.std.specs.FinMap as finite
 use Rattle.xc_data.specs.declared.entry.Cause.{Cause}
-use Rattle.xc_data.specs.declared.object.Num.{Num}
+use Rattle.xc_data.specs.declared.entry.KeptItem.{KeptItem}
+use Rattle.xc_data.specs.declared.entry.KeptItem.TheVariants.{Bytes as Bytes', Message}
 use Rattle.xc_data.specs.declared.private.Private.{Private}
-use Rattle.xc_data.specs.declared.undo.Undo.{Undo}
-use Rattle.xc_data.specs.declared.undo.Undo.TheVariants.{Bytes, Tail, Made, Moved, NewPipe, NewPair}
 use Rattle.xc_data.specs.Claims.{objects}
 use Rattle.xc_host.specs.Contents.{Contents}
 use Rattle.xc_world.specs.World.{World, beginning}
@@ -15,13 +13,12 @@ use Rattle.xc_world.specs.Effects.{AreMadeIn, whole}
 use Rattle.xc_world.specs.Ends.{Ending, remains, with_remains}
 use Rattle.xc_world.specs.Laws.{AgreeAt}
 use Rattle.xc_world.specs.Own.{KeepsBut}
-use Rattle.xc_world.specs.Run.{asked_of}
-use Rattle.xc_world.specs.Trail.{move_name, with_effect}
+use Rattle.xc_world.specs.Run.{asked_of, gives, given_back}
 use Rattle.xc_world.proofs.Bodies.{body_alike_begun}
 use Rattle.xc_story.specs.declared.phase.Phase.TheVariants.{Undoing}
 use Rattle.xc_story.specs.Setting.{Setting}
 use Rattle.xc_story.specs.Progress.{Progress}
-use Rattle.xc_story.specs.Seen.{SeenTx, SeenJob, Active, active_of}
+use Rattle.xc_story.specs.Seen.{SeenTx, SeenJob, Active, active_of, with_kept}
 use Rattle.xc_flight.specs.Active.{Tx, Own}
 use Rattle.xc_flight.specs.Active as flight
 use Rattle.xc_flight.specs.Standing.{Standing, Flies, InFlight, IsActive, AreSound, IsIdleSound, entered}
@@ -34,37 +31,25 @@ use Rattle.xc_played.specs.Flying.{flown, flown_phase, ran_at}
 use Rattle.xc_played.proofs.FlownLists.{flown_there, is_active}
 use Rattle.xc_played.proofs.TurnBack.{records_so}
 use Rattle.xc_played.proofs.TurnEnters.{Leads, GivesSame, apart_of}
+use Rattle.std.proofs.Common.{append-nil}
+use Rattle.xc_played.proofs.TurnLists.{map-put_same}
+use Rattle.xc_played.proofs.StartedWorld.{remains_base}
 use Rattle.xc_played.proofs.TurnParts.{Flying, standing_in, world_in}
 
--- ---- what stands changes no word and no job
-abbrev SameBase : World → World → Type 0
-SameBase w v = (v.words ≡ w.words) × (v.started ≡ w.started)
-
-moved_base : (w : World) (from to : List ℕ) (o : Option Num) → SameBase w (move_name w from to o)
-moved_base w from to None = (refl, refl)
-moved_base w from to (Some num) = (refl, refl)
-
-effect_base : (w : World) (u : Undo) (k : ℕ) → SameBase w (with_effect w u k)
-effect_base w (Bytes file at before after n) k = (refl, refl)
-effect_base w (Tail file from after n) k = (refl, refl)
-effect_base w (Made name num) k = (refl, refl)
-effect_base w (Moved from to) k = moved_base w from to (finite.get w.names from)
-effect_base w (NewPipe num) k = (refl, refl)
-effect_base w (NewPair num) k = (refl, refl)
-
-remains_base : (w : World) (us : List (Undo × ℕ)) → SameBase w (with_remains w us)
-remains_base w [] = (refl, refl)
-remains_base w ((u, k) ∷ us) =
-    let one = effect_base w u k in
-    let more = remains_base (with_effect w u k) us in
-    (more.0 ∙ one.0, more.1 ∙ one.1)
+-- ---- what is given back is given back to the host's contents alone
+given_in : (w : World) (words : List ℕ) (contents : Contents) (started : List (List ℕ)) (items : List KeptItem)
+    → given_back (world_in w words contents started) items ≡ world_in w words (with_kept contents items) started
+given_in w words contents started [] = refl
+given_in w words contents started (Bytes' pipe bytes ∷ items) = ap (λ v. gives v (Bytes' pipe bytes)) (given_in w words contents started items)
+given_in w words contents started (Message pair side bytes ∷ items) = ap (λ v. gives v (Message pair side bytes)) (given_in w words contents started items)
 
 -- ---- an abort enters
-module _ (s : Setting) (p : Progress) (words : List ℕ) (contents : Contents) (jobs : List SeenJob) (next at : ℕ) (job : SeenJob) (tx : SeenTx) (c : Cause)
+module _ (s : Setting) (p : Progress) (words : List ℕ) (contents : Contents) (started : List (List ℕ)) (jobs : List SeenJob) (next at : ℕ) (job : SeenJob)
+    (tx : SeenTx) (c : Cause)
     (there : slice_get jobs at ≡ Some job) (doing : job.doing ≡ Active tx) (undoes : tx.phase ≡ Undoing c) (none : tx.undo.pending ≡ [])
-    (f : Flying s p words contents jobs next) where
+    (f : Flying s p words contents started jobs next) where
   abbrev standing : Standing
-  standing = standing_in p.state.world (world_in p.state.world words contents) f.unnoted jobs next
+  standing = standing_in p.state.world (world_in p.state.world words contents started) f.unnoted jobs next
 
   abbrev tx_flown : Tx
   tx_flown = flown job.me (f.unnoted at) tx
@@ -80,10 +65,13 @@ module _ (s : Setting) (p : Progress) (words : List ℕ) (contents : Contents) (
 
   made : AreMadeIn p.state.world (map (λ r. r.0) tx.undo.ended)
   made = subst (λ us. AreMadeIn p.state.world (us ++ map (λ (r : Ending). r.0) tx.undo.ended)) none
-      (records_so s p words contents jobs next at job tx there doing f)
+      (records_so s p words contents started jobs next at job tx there doing f)
 
-  sound_behind : AreSound (entered standing at behind standing.now)
-  sound_behind = abort_sound standing at tx_flown flies standing.now f.sound made
+  abbrev returned : World
+  returned = given_back standing.now tx.taken
+
+  sound_behind : AreSound (entered standing at behind returned)
+  sound_behind = abort_sound standing at tx_flown flies returned f.sound made
 
   -- what remains is its own
   keeps : KeepsBut (Own tx_flown) p.state.world behind
@@ -98,7 +86,7 @@ module _ (s : Setting) (p : Progress) (words : List ℕ) (contents : Contents) (
       let its = flown other.me (f.unnoted j) u in
       let flies_there = flown_there f.unnoted jobs j other u here is in
       let touched = (ran_at w other.me u).touched in
-      let apart = apart_of s p words contents jobs next at j job other tx u there doing here is ne f in
+      let apart = apart_of s p words contents started jobs next at j job other tx u there doing here is ne f in
       let agree : All (AgreeAt w behind) (objects touched) =
       All-weaker (Contains (objects touched)) (AgreeAt w behind) (λ o sees. keeps.others o (apart o (inl sees))) (objects touched)
       (All-contains_itself (objects touched)) in
@@ -109,22 +97,28 @@ module _ (s : Setting) (p : Progress) (words : List ℕ) (contents : Contents) (
   -- what it leads to
   pub abort_leads : (p' : Progress) (job' : SeenJob) → p'.state.world ≡ behind
       → p'.state.handles ≡ map (λ (job : SeenJob). job.me.places) (slice_set jobs at job')
-      → ((j : ℕ) → j ≢ at → slice_get p'.jobs j ≡ slice_get p.jobs j) → job'.me ≡ job.me
+      → ((j : ℕ) → j ≢ at → slice_get p'.jobs j ≡ slice_get p.jobs j) → job'.me ≡ job.me → job'.block ≡ job.block
       → ((j : ℕ) (other : SeenJob) → slice_get jobs j ≡ Some other → other.me ≡ beginning other.me.places)
-      → Leads p p' standing jobs at job'
-  abort_leads p' job' is handles followings me fresh =
+      → Leads p p' (record standing { now = world_in p.state.world words (with_kept contents tx.taken) started }) jobs [] at job'
+  abort_leads p' job' is handles followings me block fresh =
       let w = p.state.world in
       let sound = f.sound at tx_flown active in
       let after = aborted standing at tx_flown f.flies active (ap flown_phase undoes) sound none in
+      let now : returned ≡ world_in w words (with_kept contents tx.taken) started = given_in w words contents started tx.taken in
       record {
-        flies = subst (λ v. InFlight (entered standing at v standing.now)) (sym is) after;
-        sound = subst (λ v. AreSound (entered standing at v standing.now)) (sym is) sound_behind;
+        flies = subst (λ v. InFlight (entered standing at v (world_in w words (with_kept contents tx.taken) started))) (sym is)
+            (subst (λ v. InFlight (entered standing at behind v)) now after);
+        sound = subst (λ v. AreSound (entered standing at v (world_in w words (with_kept contents tx.taken) started))) (sym is)
+            (subst (λ v. AreSound (entered standing at behind v)) now sound_behind);
         others = λ places idle. subst (λ v. IsIdleSound v next places) (sym is) (abort_idle standing at tx_flown flies places made idle);
         own = subst (λ v. IsIdleSound v next job'.me.places) (sym is) (subst (λ (m : Private). IsIdleSound behind next m.places) (sym me)
-            (own_after_abort standing at tx_flown standing.now sound made after));
-        started = sym (ap (λ (v : World). v.started) is ∙ (remains_base w (remains tx.undo.ended)).1);
-        handles = handles;
-        followings = followings;
+            (own_after_abort standing at tx_flown returned sound made after));
+        started = ap (λ (v : World). v.started) is ∙ (remains_base w (remains tx.undo.ended)).1 ∙ f.live
+            ∙ sym (map-put_same (λ (job : SeenJob). job.block) jobs at job' job there block)
+            ∙ ap (map (λ (job : SeenJob). job.block)) (sym (append-nil (slice_set jobs at job')));
+        handles = handles ∙ ap (map (λ (job : SeenJob). job.me.places)) (sym (append-nil (slice_set jobs at job')));
+        followings = λ j ne low. followings j ne;
+        new = tt;
         bodies = λ j other u ne here does. subst (λ v. GivesSame (ran_at w other.me u) (ran_at v other.me u)) (sym is)
             (abort_bodies j other u (fresh j other here) ne here does);
       }

@@ -85,20 +85,22 @@ undone_in v (NewPair num) (Failed done faults) = refl
 undone_in v u (Blocked by) = refl
 
 -- its records were made one after another
-pub records_so : (s : Setting) (p : Progress) (words : List ℕ) (contents : Contents) (jobs : List SeenJob) (next at : ℕ) (job : SeenJob) (tx : SeenTx)
-    → slice_get jobs at ≡ Some job → job.doing ≡ Active tx → Flying s p words contents jobs next
+pub records_so : (s : Setting) (p : Progress) (words : List ℕ) (contents : Contents) (started : List (List ℕ)) (jobs : List SeenJob) (next at : ℕ)
+    (job : SeenJob) (tx : SeenTx)
+    → slice_get jobs at ≡ Some job → job.doing ≡ Active tx → Flying s p words contents started jobs next
     → AreMadeIn p.state.world (tx.undo.pending ++ map (λ r. r.0) tx.undo.ended)
-records_so s p words contents jobs next at job tx there doing f =
+records_so s p words contents started jobs next at job tx there doing f =
     let t = flown job.me (f.unnoted at) tx in
     let active = flown_there f.unnoted jobs at job tx there doing in
-    records_made (standing_in p.state.world (world_in p.state.world words contents) f.unnoted jobs next) at t f.flies active (f.sound at t active)
+    records_made (standing_in p.state.world (world_in p.state.world words contents started) f.unnoted jobs next) at t f.flies active (f.sound at t active)
 
 -- ---- turns
-module _ (s : Setting) (p : Progress) (words : List ℕ) (contents : Contents) (jobs : List SeenJob) (next at : ℕ) (job : SeenJob) (place : Position)
+module _ (s : Setting) (p : Progress) (words : List ℕ) (contents : Contents) (started : List (List ℕ)) (jobs : List SeenJob) (next at : ℕ)
+    (job : SeenJob) (place : Position)
     (tx : SeenTx)
-    (there : slice_get jobs at ≡ Some job) (doing : job.doing ≡ Active tx) (f : Flying s p words contents jobs next) where
+    (there : slice_get jobs at ≡ Some job) (doing : job.doing ≡ Active tx) (f : Flying s p words contents started jobs next) where
   abbrev standing : Standing
-  standing = standing_in p.state.world (world_in p.state.world words contents) f.unnoted jobs next
+  standing = standing_in p.state.world (world_in p.state.world words contents started) f.unnoted jobs next
 
   abbrev tx_flown : Tx
   tx_flown = flown job.me (f.unnoted at) tx
@@ -124,18 +126,19 @@ module _ (s : Setting) (p : Progress) (words : List ℕ) (contents : Contents) (
 
   -- it turns back
   pub back_keeps : (c : Cause) → tx.phase ≡ Running
-      → Flying s p words contents (slice_set jobs at (with_tx job place (record tx { phase = Undoing c }))) next
+      → Flying s p words contents started (slice_set jobs at (with_tx job place (record tx { phase = Undoing c }))) next
   back_keeps c runs =
-      goes_on s p words words contents contents jobs next at (f.unnoted at) job place tx (record tx { phase = Undoing c }) there doing refl f
+      goes_on s p words words contents contents started started jobs next at (f.unnoted at) job place tx (record tx { phase = Undoing c }) there doing refl f
       (turns_back standing at tx_flown f.flies active (running runs) (f.sound at tx_flown active))
       (none_unnoted (Undoing c) (asked_of_tx s (slice_get p.jobs at) (record tx { phase = Undoing c })) (f.unnoted at) (noted_so runs))
       (holds_at ran (asked_of_tx s (slice_get p.jobs at) (record tx { phase = Undoing c })) (Undoing c) tx.held (held runs))
 
   -- it commits
   pub commit_keeps : tx.phase ≡ Running
-      → Flying s p (overlaid words tx.writes) contents (slice_set jobs at (with_tx job place (record tx { phase = Committing }))) next
+      → Flying s p (overlaid words tx.writes) contents started (slice_set jobs at (with_tx job place (record tx { phase = Committing }))) next
   commit_keeps runs =
-      goes_on s p words (overlaid words tx.writes) contents contents jobs next at (f.unnoted at) job place tx (record tx { phase = Committing }) there
+      goes_on s p words (overlaid words tx.writes) contents contents started started jobs next at (f.unnoted at) job place tx
+      (record tx { phase = Committing }) there
       doing refl f (commits standing at tx_flown f.flies active (running runs))
       (none_unnoted Committing (asked_of_tx s (slice_get p.jobs at) (record tx { phase = Committing })) (f.unnoted at) (noted_so runs))
       (held runs)
@@ -144,17 +147,18 @@ module _ (s : Setting) (p : Progress) (words : List ℕ) (contents : Contents) (
   pub tried_keeps : (c : Cause) (older : List Undo) (u : Undo) (end : UndoEnd) (contents' : Contents) → tx.phase ≡ Undoing c
       → tx.undo.pending ≡ older ++ u ∷ [] → IsLegalEnd s.rules.undo_tries u end (way_of older u tx.undo)
       → contents' ≡ contents_of (undone_to (world_of contents) u end)
-      → Flying s p words contents'
+      → Flying s p words contents' started
       (slice_set jobs at (with_tx job place (record tx { undo = record { pending = older; ended = (u, end) ∷ tx.undo.ended } }))) next
   tried_keeps c older u end contents' undoes newest legal effect =
       let w = p.state.world in
       let tx' : SeenTx = record tx { undo = record { pending = older; ended = (u, end) ∷ tx.undo.ended } } in
       let sound = f.sound at tx_flown active in
-      let made = records_so s p words contents jobs next at job tx there doing f in
+      let made = records_so s p words contents started jobs next at job tx there doing f in
       let done = newest_undone standing at tx_flown older u end
       (record { all = f.flies; active = active; phase = ap flown_phase undoes }) sound made newest s.rules.undo_tries legal in
-      let leads : undone_to standing.now u end ≡ world_in w words contents' = undone_in standing.now u end ∙ ap (world_in w words) (sym effect) in
-      goes_on s p words words contents contents' jobs next at (f.unnoted at) job place tx tx' there doing refl f
+      let leads : undone_to standing.now u end ≡ world_in w words contents' started =
+      undone_in standing.now u end ∙ ap (λ cs. world_in w words cs started) (sym effect) in
+      goes_on s p words words contents contents' started started jobs next at (f.unnoted at) job place tx tx' there doing refl f
       (subst (λ v. InFlight (turned standing at (Some (flown job.me (f.unnoted at) tx')) v)) leads done)
       (subst (λ a. IsUnnoted tx.phase a (f.unnoted at)) (asked_same s (slice_get p.jobs at) tx tx' refl)
       (f.was_asked at job tx there (ap active_in doing)))

@@ -33,7 +33,7 @@ use Rattle.xc_story.specs.Told.{asked_of_tx}
 use Rattle.xc_story.specs.Truth.{AsksEach}
 use Rattle.xc_story.specs.declared.phase.Phase.TheVariants.{Running}
 use Rattle.xc_story.specs.Seen.{SeenTx, SeenJob, Active, active_in}
-use Rattle.xc_story.specs.Rows.{HasNoRival, Parts, Does, is_built, noting, parts_of, stored_by, with_tx, seen}
+use Rattle.xc_story.specs.Rows.{HasNoRival, Parts, Does, noting, parts_of, stored_by, with_tx, seen}
 use Rattle.xc_flight.specs.Active.{Tx, Own, HoldTheSame}
 use Rattle.xc_flight.specs.Active as flight
 use Rattle.xc_flight.specs.Flight.{IsRunning, IsPhase}
@@ -43,7 +43,6 @@ use Rattle.xc_flight.specs.Turns as turns
 use Rattle.xc_flight.proofs.Claiming.{merged_held}
 use Rattle.xc_flight.proofs.Together.{called_with_claims}
 use Rattle.xc_played.specs.Flying.{flown, flown_phase, ran_at}
-use Rattle.xc_played.proofs.BuiltCalls.{built-taken}
 use Rattle.xc_played.proofs.FlownLists.{flown_there, none_unnoted}
 use Rattle.xc_played.proofs.TurnParts.{Flying, world_in, standing_in, goes_on}
 use Rattle.xc_played.proofs.TurnRivals.{no_rivals}
@@ -88,13 +87,14 @@ stored_own me count c own within = All-nil (λ (s : ℕ × ℕ). own (object.Wor
 -- what the step to it shows
 pub record Stepping (from to : World) (tx : SeenTx) (c : Call) (reply : Reply) (parts : Parts) : Type 0 where
   pub does : Does from to (parts_of tx) parts c reply
-  pub built : is_built c ≡ true
   pub ended : parts.undo.ended ≡ tx.undo.ended
 
-module _ (w : World) (words : List ℕ) (was is : Contents) (us : List Asked) (job : SeenJob) (tx : SeenTx) (c : Call) (reply : Reply) (parts : Parts)
-    (go : Stepping (seen (record w { words = words }) was tx.writes) (seen (record w { words = words }) is parts.stores) tx c reply parts) where
+module _ (w : World) (words : List ℕ) (was is : Contents) (started : List (List ℕ)) (us : List Asked) (job : SeenJob) (tx : SeenTx) (c : Call)
+    (reply : Reply) (parts : Parts)
+    (go : Stepping (seen (record w { words = words; started = started }) was tx.writes) (seen (record w { words = words; started = started }) is parts.stores)
+    tx c reply parts) where
   abbrev now : World
-  now = world_in w words was
+  now = world_in w words was started
 
   abbrev claims : List Claim
   claims = claims_of c tx.me (length words)
@@ -105,7 +105,7 @@ module _ (w : World) (words : List ℕ) (was is : Contents) (us : List Asked) (j
   abbrev after : SeenTx
   after = noting tx c reply claims parts
 
-  acts : did now (claiming t after.held) (asked_with c reply) ≡ step_to (seen (record w { words = words }) is parts.stores) parts.me reply
+  acts : did now (claiming t after.held) (asked_with c reply) ≡ step_to (seen (record w { words = words; started = started }) is parts.stores) parts.me reply
   acts = go.does.step
 
   noted_so : noting_in_flight now (claiming t after.held) (asked_with c reply) parts.stores ≡ flown job.me us after
@@ -130,13 +130,13 @@ module _ (w : World) (words : List ℕ) (was is : Contents) (us : List Asked) (j
           ≡ parts.undo.pending
       pending = ap (λ (s : Stepped). tx.undo.pending ++ recorded (turns.seen now t) tx.me tx.number c s.reply) acts ∙ sym go.does.records
 
-      taken : taken_by c tx.me (did now (claiming t after.held) (asked_with c reply)).reply ≡ []
-      taken = built-taken c tx.me (did now (claiming t after.held) (asked_with c reply)).reply go.built
+      taken : tx.taken ++ taken_by c tx.me (did now (claiming t after.held) (asked_with c reply)).reply ≡ tx.taken ++ taken_by c tx.me reply
+      taken = ap (λ (s : Stepped). tx.taken ++ taken_by c tx.me s.reply) acts
 
       late : tx.late ++ kept_call c tx.me (did now (claiming t after.held) (asked_with c reply)).reply ≡ tx.late ++ kept_call c tx.me reply
       late = ap (λ (s : Stepped). tx.late ++ kept_call c tx.me s.reply) acts
 
-  moved_so : after_call now t (asked_with c reply) ≡ world_in w words is
+  moved_so : after_call now t (asked_with c reply) ≡ world_in w words is started
   moved_so = ap (λ (s : Stepped). record s.world { words = words }) acts
 
 -- what is held behind two lists of claims
@@ -144,12 +144,14 @@ pub holding-more : (a b : List Claim) → holding (held_of a) b ≡ held_of (a +
 holding-more a b = sym (fold-append holding_one [] a b)
 
 -- ---- the turn
-module _ (s : Setting) (p : Progress) (words : List ℕ) (was is : Contents) (jobs : List SeenJob) (next at : ℕ) (job : SeenJob) (place : Position) (tx : SeenTx)
+module _ (s : Setting) (p : Progress) (words : List ℕ) (was is : Contents) (started : List (List ℕ)) (jobs : List SeenJob) (next at : ℕ) (job : SeenJob)
+    (place : Position) (tx : SeenTx)
     (c : Call) (reply : Reply) (parts : Parts) (there : slice_get jobs at ≡ Some job) (doing : job.doing ≡ Active tx) (runs : tx.phase ≡ Running)
-    (go : Stepping (seen (record p.state.world { words = words }) was tx.writes) (seen (record p.state.world { words = words }) is parts.stores)
-    tx c reply parts) (f : Flying s p words was jobs next) where
+    (go : Stepping (seen (record p.state.world { words = words; started = started }) was tx.writes)
+    (seen (record p.state.world { words = words; started = started }) is parts.stores)
+    tx c reply parts) (f : Flying s p words was started jobs next) where
   abbrev standing : Standing
-  standing = standing_in p.state.world (world_in p.state.world words was) f.unnoted jobs next
+  standing = standing_in p.state.world (world_in p.state.world words was started) f.unnoted jobs next
 
   abbrev tx_flown : Tx
   tx_flown = flown job.me (f.unnoted at) tx
@@ -196,10 +198,10 @@ module _ (s : Setting) (p : Progress) (words : List ℕ) (was is : Contents) (jo
       more o (inr numbered) = inr numbered
 
   flies : All (HasNoRival jobs at) claimed → parts.stores ≡ tx.writes ++ stored_by (length words) c
-      → InFlight (turned standing at (Some (flown job.me (f.unnoted at) behind)) (world_in p.state.world words is))
+      → InFlight (turned standing at (Some (flown job.me (f.unnoted at) behind)) (world_in p.state.world words is started))
   flies alone stores =
       let w = p.state.world in
-      let did_so = acts w words was is (f.unnoted at) job tx c reply parts go in
+      let did_so = acts w words was is started (f.unnoted at) job tx c reply parts go in
       let noted : IsNoted standing.now (claiming tx_flown behind.held) (asked_with c reply) parts.stores = record {
         told = ap (λ (x : Stepped). answer_of x.reply) did_so;
         words = sym (ap (λ (x : Stepped). x.world.words) did_so);
@@ -207,9 +209,10 @@ module _ (s : Setting) (p : Progress) (words : List ℕ) (was is : Contents) (jo
       } in
       let done = called_with_claims standing at tx_flown (asked_with c reply) behind.held parts.stores f.flies active running (f.sound at tx_flown active)
       (no_rivals w standing.now f.unnoted jobs next at claimed alone) same go.does.fits noted in
-      subst (λ x. InFlight (turned standing at (Some (flown job.me (f.unnoted at) behind)) x)) (moved_so w words was is (f.unnoted at) job tx c reply parts go)
+      subst (λ x. InFlight (turned standing at (Some (flown job.me (f.unnoted at) behind)) x))
+      (moved_so w words was is started (f.unnoted at) job tx c reply parts go)
       (subst (λ x. InFlight (turned standing at (Some x) (after_call standing.now tx_flown (asked_with c reply))))
-      (noted_so w words was is (f.unnoted at) job tx c reply parts go) done)
+      (noted_so w words was is started (f.unnoted at) job tx c reply parts go) done)
 
   held_behind : length tx.calls ≡ length tx.replies → behind.held ≡ held_of (ran_at p.state.world job.me behind).touched
   held_behind count =
@@ -225,8 +228,8 @@ module _ (s : Setting) (p : Progress) (words : List ℕ) (was is : Contents) (jo
 
   -- a call keeps all
   pub calls_keep : All (HasNoRival jobs at) claimed → parts.stores ≡ tx.writes ++ stored_by (length words) c → length tx.calls ≡ length tx.replies
-      → Flying s p words is (slice_set jobs at (with_tx job place behind)) next
+      → Flying s p words is started (slice_set jobs at (with_tx job place behind)) next
   calls_keep alone stores count =
-      goes_on s p words words was is jobs next at (f.unnoted at) job place tx behind there doing refl f (flies alone stores)
+      goes_on s p words words was is started started jobs next at (f.unnoted at) job place tx behind there doing refl f (flies alone stores)
       (none_unnoted tx.phase (asked_of_tx s (slice_get p.jobs at) behind) (f.unnoted at) flies_so.all_noted)
       (subst (λ ph. HoldsFor (ran_at p.state.world job.me behind) (asked_of_tx s (slice_get p.jobs at) behind) ph behind.held) (sym runs) (held_behind count))

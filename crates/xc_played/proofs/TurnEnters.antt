@@ -1,10 +1,9 @@
 -- The entry of an active transaction keeps all flights.
-use Rattle.std.proofs.Common.{⊎_elim, ◌≡◌, ◌≢◌, ℕ, inl, inr, List, [], ◌++◌, length, refl, ap, sym, ◌∙◌, subst, Some, None}
+use Rattle.std.proofs.Common.{◌≡◌, ◌≢◌, ℕ, inl, inr, List, [], ◌++◌, length, refl, ap, sym, ◌∙◌, subst, Some, None}
 use Rattle.std.specs.Prelude.{map, slice_get, slice_set}
 use Rattle.xc_data.specs.declared.claim.Claim.{Claim}
 use Rattle.xc_data.specs.declared.entry.Cause.TheVariants as cause
 use Rattle.xc_data.specs.declared.object.Object.{Object}
-use Rattle.xc_data.specs.declared.object.Object.TheVariants as object
 use Rattle.xc_data.specs.declared.private.Place.{Place as Handle}
 use Rattle.xc_data.specs.Claims.{held_of}
 use Rattle.xc_host.specs.Contents.{Contents}
@@ -12,7 +11,7 @@ use Rattle.xc_script.specs.declared.ask.Ask.{Ask}
 use Rattle.xc_script.specs.declared.ask.Ask.TheVariants as ask
 use Rattle.xc_world.specs.World.{World}
 use Rattle.xc_world.specs.Modes.{claims_of}
-use Rattle.xc_world.specs.Own.{AgreeOn, Sees, Owns}
+use Rattle.xc_world.specs.Own.{Sees, Owns}
 use Rattle.xc_world.specs.Run.{Ran, asked_of, goes_on}
 use Rattle.xc_world.proofs.Bodies.{keeps_touched}
 use Rattle.xc_world.proofs.Runs.{other_run_apart}
@@ -26,16 +25,23 @@ use Rattle.xc_story.specs.Truth.{IsPartOf, next_claims}
 use Rattle.xc_story.specs.Seen.{SeenTx, SeenJob, Active, active_of}
 use Rattle.xc_flight.specs.Active.{Tx, Has, Own, Covers}
 use Rattle.xc_flight.specs.Active as flight
-use Rattle.xc_flight.specs.Flight.{IsCommitting, IsPhase, ran, left, returned}
+use Rattle.xc_flight.specs.Flight.{IsCommitting, IsPhase, ran, left}
 use Rattle.xc_flight.specs.Standing.{Standing, InFlight, IsActive, AreSound, HasSome, OwnSome, IsIdleSound, entered}
 use Rattle.xc_flight.specs.Turns.{after_commit}
-use Rattle.xc_flight.proofs.Basics.{own_decide, owns_own}
+use Rattle.xc_flight.proofs.Basics.{owns_own}
 use Rattle.xc_flight.proofs.Ending.{committed, left_run}
-use Rattle.xc_flight.proofs.Frames.{left_keeps}
 use Rattle.xc_flight.proofs.Sounding.{sound_after, idle_after, own_after}
 use Rattle.xc_played.specs.Flying.{IsUnnoted, flown, flown_jobs, flown_phase, ran_at}
 use Rattle.xc_played.proofs.FlownLists.{flown-put, flown_there, is_active, none_flown, put_elsewhere, put_in}
 use Rattle.xc_played.proofs.TurnLists.{map-put_same}
+use Rattle.std.proofs.Common.{◌<◌, take}
+use Rattle.std.proofs.Math.Seq.{take-length}
+use Rattle.std.proofs.lemmas.List.{map-append}
+use Rattle.xc_world.specs.Run.{lates, late_asked_of}
+use Rattle.xc_story.specs.LateCalls.{started_late}
+use Rattle.xc_played.proofs.Grown.{AreNew, grown_cases, grown_flies, grown_sound}
+use Rattle.xc_played.proofs.StartedWorld.{body_started, ended_start}
+use Rattle.xc_played.proofs.TurnLists.{inside}
 use Rattle.xc_played.proofs.TurnParts.{Flying, world_in, standing_in, put_cases}
 
 -- ---- what others hold, in another world
@@ -61,41 +67,45 @@ holds_alike r q next (Undoing (cause.Revoked object by at)) held g e = e ∙ ap 
 holds_alike r q next (Undoing cause.NoMemory) held g e =
     (e.0, subst (IsPartOf e.0) (wanted_alike r q next g.me g.count) e.1, e.2 ∙ ap (λ t. held_of (t ++ e.0)) g.touched)
 
--- ---- an entry, by what it leads to
-pub record Leads (p p' : Progress) (st : Standing) (jobs : List SeenJob) (at : ℕ) (job' : SeenJob) : Type 0 where
+-- ---- an entry, by what it leads to; the station's world is this one then, and these jobs come behind
+pub record Leads (p p' : Progress) (st : Standing) (jobs more : List SeenJob) (at : ℕ) (job' : SeenJob) : Type 0 where
   pub flies : InFlight (entered st at p'.state.world st.now)
   pub sound : AreSound (entered st at p'.state.world st.now)
   pub others : (places : List Handle) → IsIdleSound p.state.world st.next places → IsIdleSound p'.state.world st.next places
   pub own : IsIdleSound p'.state.world st.next job'.me.places
-  pub started : p.state.world.started ≡ p'.state.world.started
-  pub handles : p'.state.handles ≡ map (λ (job : SeenJob). job.me.places) (slice_set jobs at job')
-  pub followings : (j : ℕ) → j ≢ at → slice_get p'.jobs j ≡ slice_get p.jobs j
+  pub started : p'.state.world.started ≡ map (λ (job : SeenJob). job.block) (slice_set jobs at job' ++ more)
+  pub handles : p'.state.handles ≡ map (λ (job : SeenJob). job.me.places) (slice_set jobs at job' ++ more)
+  pub followings : (j : ℕ) → j ≢ at → j < length jobs → slice_get p'.jobs j ≡ slice_get p.jobs j
+  pub new : AreNew job'.me.places more
   pub bodies : (j : ℕ) (other : SeenJob) (u : SeenTx) → j ≢ at → slice_get jobs j ≡ Some other → active_of other ≡ Some u
       → GivesSame (ran_at p.state.world other.me u) (ran_at p'.state.world other.me u)
 
 -- it keeps all
-pub enters : (s : Setting) (p p' : Progress) (words : List ℕ) (contents : Contents) (jobs : List SeenJob) (next at : ℕ) (job job' : SeenJob)
-    → slice_get jobs at ≡ Some job → active_of job' ≡ None → job'.block ≡ job.block → (f : Flying s p words contents jobs next)
-    → Leads p p' (standing_in p.state.world (world_in p.state.world words contents) f.unnoted jobs next) jobs at job'
-    → Flying s p' words contents (slice_set jobs at job') next
-enters s p p' words contents jobs next at job job' there none block f l =
+pub enters : (s : Setting) (p p' : Progress) (words : List ℕ) (contents contents' : Contents) (started : List (List ℕ)) (jobs more : List SeenJob)
+    (next at : ℕ) (job job' : SeenJob)
+    → slice_get jobs at ≡ Some job → active_of job' ≡ None → (f : Flying s p words contents started jobs next)
+    → Leads p p' (standing_in p.state.world (world_in p.state.world words contents' started) f.unnoted jobs next) jobs more at job'
+    → Flying s p' words contents' started (slice_set jobs at job' ++ more) next
+enters s p p' words contents contents' started jobs more next at job job' there none f l =
     let w = p.state.world in
     let w' = p'.state.world in
-    let now : world_in w words contents ≡ world_in w' words contents = λ i. record {
+    let now : world_in w words contents' started ≡ world_in w' words contents' started = λ i. record {
       words = words;
-      names = contents.names;
-      files = contents.files;
-      pipes = contents.pipes;
-      pairs = contents.pairs;
-      started = l.started i;
+      names = contents'.names;
+      files = contents'.files;
+      pipes = contents'.pipes;
+      pairs = contents'.pairs;
+      started = started;
       blocks = l.flies.blocks i;
     } in
     let unnoted = put_in f.unnoted at [] in
     let active : slice_set (flown_jobs f.unnoted jobs) at None ≡ flown_jobs unnoted (slice_set jobs at job') =
     ap (slice_set (flown_jobs f.unnoted jobs) at) (sym (none_flown job'.me [] job'.doing none)) ∙ sym (flown-put f.unnoted jobs at [] job') in
-    let same : entered (standing_in w (world_in w words contents) f.unnoted jobs next) at w' (world_in w words contents)
-    ≡ standing_in w' (world_in w' words contents) unnoted (slice_set jobs at job') next =
+    let same : entered (standing_in w (world_in w words contents started) f.unnoted jobs next) at w' (world_in w words contents' started)
+    ≡ standing_in w' (world_in w' words contents' started) unnoted (slice_set jobs at job') next =
     λ i. record { state = w'; now = now i; active = active i; next = next } in
+    let set_jobs = slice_set jobs at job' in
+    let behind = standing_in w' (world_in w' words contents' started) unnoted set_jobs next in
     let Asked_so : ℕ → SeenJob → Type 0 = λ j other. (u : SeenTx) → active_of other ≡ Some u
     → IsUnnoted u.phase (asked_of_tx s (slice_get p'.jobs j) u) (unnoted j) in
     let Idle_so : ℕ → SeenJob → Type 0 = λ j other. active_of other ≡ None → IsIdleSound w' next other.me.places in
@@ -103,28 +113,33 @@ enters s p p' words contents jobs next at job job' there none block f l =
     → HoldsFor (ran_at w' other.me u) (asked_of_tx s (slice_get p'.jobs j) u) u.phase u.held in
     record {
       unnoted = unnoted;
-      was_asked = λ j other u e a. put_cases jobs at job job' Asked_so there (λ u e. absurd (cc (none, e)))
-          (λ j other ne e u a. subst (λ o. IsUnnoted u.phase (asked_of_tx s o u) (unnoted j)) (sym (l.followings j ne))
-          (subst (IsUnnoted u.phase (asked_of_tx s (slice_get p.jobs j) u)) (sym (put_elsewhere f.unnoted at j [] ne)) (f.was_asked j other u e a)))
-          j other e u a;
-      flies = subst InFlight same l.flies;
-      sound = subst AreSound same l.sound;
-      idle = put_cases jobs at job job' Idle_so there (λ e. l.own) (λ j other ne e lacks. l.others other.me.places (f.idle j other e lacks));
+      was_asked =
+          λ j other u e a. grown_cases job'.me.places set_jobs more Asked_so l.new (put_cases jobs at job job' Asked_so there (λ u e. absurd (cc (none, e)))
+          (λ j other ne e u a. subst (λ o. IsUnnoted u.phase (asked_of_tx s o u) (unnoted j)) (sym (l.followings j ne (inside jobs j other e)))
+          (subst (IsUnnoted u.phase (asked_of_tx s (slice_get p.jobs j) u)) (sym (put_elsewhere f.unnoted at j [] ne)) (f.was_asked j other u e a))))
+          (λ j other is u a. (let lacks = is.none in absurd (cc (lacks, a)))) j other e u a;
+      flies = grown_flies job'.me.places behind unnoted set_jobs more l.new (subst InFlight same l.flies);
+      sound = grown_sound job'.me.places behind unnoted set_jobs more l.new (subst AreSound same l.sound);
+      idle = grown_cases job'.me.places set_jobs more Idle_so l.new
+          (put_cases jobs at job job' Idle_so there (λ e. l.own) (λ j other ne e lacks. l.others other.me.places (f.idle j other e lacks)))
+          (λ j other is lacks. subst (IsIdleSound w' next) (sym is.handles) l.own);
       handles = l.handles;
-      started = sym l.started ∙ f.started ∙ sym (map-put_same (λ (job : SeenJob). job.block) jobs at job' job there block);
-      holds = λ j other u e a. put_cases jobs at job job' Holds_so there (λ u e. absurd (cc (none, e)))
-          (λ j other ne e u a. subst (λ o. HoldsFor (ran_at w' other.me u) (asked_of_tx s o u) u.phase u.held) (sym (l.followings j ne))
+      live = l.started;
+      blocks = sym l.flies.blocks ∙ f.blocks;
+      holds = λ j other u e a. grown_cases job'.me.places set_jobs more Holds_so l.new (put_cases jobs at job job' Holds_so there (λ u e. absurd (cc (none, e)))
+          (λ j other ne e u a. subst (λ o. HoldsFor (ran_at w' other.me u) (asked_of_tx s o u) u.phase u.held) (sym (l.followings j ne (inside jobs j other e)))
           (holds_alike (ran_at w other.me u) (ran_at w' other.me u) (asked_of_tx s (slice_get p.jobs j) u) u.phase u.held (l.bodies j other u ne e a)
-          (f.holds j other u e a)))
-          j other e u a;
+          (f.holds j other u e a))))
+          (λ j other is u a. (let lacks = is.none in absurd (cc (lacks, a)))) j other e u a;
     }
 
 -- ---- what one has and another owns
-pub apart_of : (s : Setting) (p : Progress) (words : List ℕ) (contents : Contents) (jobs : List SeenJob) (next at j : ℕ) (job other : SeenJob) (tx u : SeenTx)
+pub apart_of : (s : Setting) (p : Progress) (words : List ℕ) (contents : Contents) (started : List (List ℕ)) (jobs : List SeenJob) (next at j : ℕ)
+    (job other : SeenJob) (tx u : SeenTx)
     → slice_get jobs at ≡ Some job → job.doing ≡ Active tx → slice_get jobs j ≡ Some other → other.doing ≡ Active u → j ≢ at
-    → (f : Flying s p words contents jobs next) → (o : Object)
+    → (f : Flying s p words contents started jobs next) → (o : Object)
     → Sees u.number (ran_at p.state.world other.me u).touched o → Own (flown job.me (f.unnoted at) tx) o → ⊥
-apart_of s p words contents jobs next at j job other tx u there doing here does ne f o sees owns =
+apart_of s p words contents started jobs next at j job other tx u there doing here does ne f o sees owns =
     let v = flown other.me (f.unnoted j) u in
     let mine = flown_there f.unnoted jobs at job tx there doing in
     let its = flown_there f.unnoted jobs j other u here does in
@@ -139,10 +154,11 @@ apart_of s p words contents jobs next at j job other tx u there doing here does 
     has_so covers (inr numbered) = inr numbered
 
 -- ---- a commit enters
-module _ (s : Setting) (p : Progress) (words : List ℕ) (contents : Contents) (jobs : List SeenJob) (next at : ℕ) (job : SeenJob) (tx : SeenTx)
-    (there : slice_get jobs at ≡ Some job) (doing : job.doing ≡ Active tx) (f : Flying s p words contents jobs next) where
+module _ (s : Setting) (p : Progress) (words : List ℕ) (contents : Contents) (started : List (List ℕ)) (jobs : List SeenJob) (next at : ℕ)
+    (job : SeenJob) (tx : SeenTx)
+    (there : slice_get jobs at ≡ Some job) (doing : job.doing ≡ Active tx) (f : Flying s p words contents started jobs next) where
   abbrev standing : Standing
-  standing = standing_in p.state.world (world_in p.state.world words contents) f.unnoted jobs next
+  standing = standing_in p.state.world (world_in p.state.world words contents started) f.unnoted jobs next
 
   abbrev tx_flown : Tx
   tx_flown = flown job.me (f.unnoted at) tx
@@ -172,30 +188,39 @@ module _ (s : Setting) (p : Progress) (words : List ℕ) (contents : Contents) (
   run_leads : tx.phase ≡ Committing → length tx.ends ≡ length tx.late → left p.state.world tx_flown flight.Committing ≡ behind
   run_leads commits done = left_run p.state.world tx_flown (f.flies.flights at tx_flown active).inside (ap flown_phase commits) done
 
-  -- it starts nothing
-  commit_started : tx.phase ≡ Committing → length tx.ends ≡ length tx.late → p.state.world.started ≡ behind.started
+  -- it starts what its late calls did
+  commit_started : tx.phase ≡ Committing → length tx.ends ≡ length tx.late → behind.started ≡ p.state.world.started ++ started_late tx.late tx.ends
   commit_started commits done =
-      let flies = f.flies.flights at tx_flown active in
-      let there_so : AgreeOn (Own tx_flown) standing.now (left p.state.world tx_flown flight.Committing) =
-      subst (λ q. AgreeOn (Own tx_flown) (returned standing.now tx_flown q) (left p.state.world tx_flown q)) (ap flown_phase commits) flies.owns in
-      ⊎_elim (there_so object.Jobs) ((left_keeps p.state.world tx_flown flies.inside flight.Committing).others object.Jobs) (own_decide tx_flown object.Jobs)
-      ∙ ap (λ (v : World). v.started) (run_leads commits done)
+      let w = p.state.world in
+      let i = (f.flies.flights at tx_flown active).inside in
+      let phase : IsCommitting w tx_flown = subst (IsPhase w tx_flown) (ap flown_phase commits) i.phase in
+      let none = body_started w tx_flown i (f.sound at tx_flown active) in
+      let body : run_body.world.started ≡ w.started = ap (λ (r : Ran). r.world.started) (sym (all_noted commits)) ∙ none in
+      let late : run_body.late ≡ tx.late = i.late in
+      let whole : take (length tx.ends) run_body.late ≡ run_body.late = ap (λ l. take (length tx.ends) l) late ∙ ap (λ n. take n tx.late) done
+      ∙ take-length tx.late ∙ sym late in
+      let ended : (lates run_body.world (late_asked_of run_body.late tx.ends)).ends ≡ tx.ends =
+      ap (λ l. (lates run_body.world (late_asked_of l tx.ends)).ends) (sym whole)
+      ∙ ap (λ (r : Ran). (lates r.world (late_asked_of (take (length tx.ends) r.late) tx.ends)).ends) (sym (all_noted commits)) ∙ phase.ends in
+      ended_start run_body.world run_body.late tx.ends ended ∙ (λ k. body k ++ started_late (late k) tx.ends)
 
   commit_bodies : (j : ℕ) (other : SeenJob) (u : SeenTx) → tx.phase ≡ Committing → length tx.ends ≡ length tx.late → j ≢ at
       → slice_get jobs j ≡ Some other → active_of other ≡ Some u → GivesSame (ran_at p.state.world other.me u) (ran_at behind other.me u)
   commit_bodies j other u commits done ne here does =
       let w = p.state.world in
       let alike = other_run_apart w other.me job.me u.number tx.number (asked_of u.calls u.replies) (asked_of tx.calls tx.replies) tx.ends
-      (λ o sees owns. apart_of s p words contents jobs next at j job other tx u there doing here (is_active other.doing u does) ne f o sees
+      (λ o sees owns. apart_of s p words contents started jobs next at j job other tx u there doing here (is_active other.doing u does) ne f o sees
       (own_so commits o owns)) in
       let after = committed standing at tx_flown f.flies active (ap flown_phase commits) done in
       record { me = alike.gave.me; touched = alike.gave.touched; count = alike.left.count ∙ sym f.flies.count ∙ after.count ∙ sym alike.right.count }
 
   -- what it leads to
-  pub commit_leads : (p' : Progress) (job' : SeenJob) → tx.phase ≡ Committing → length tx.ends ≡ length tx.late → p'.state.world ≡ behind
-      → p'.state.handles ≡ map (λ (job : SeenJob). job.me.places) (slice_set jobs at job') → ((j : ℕ) → j ≢ at → slice_get p'.jobs j ≡ slice_get p.jobs j)
-      → job'.me.places ≡ tx.me.places → Leads p p' standing jobs at job'
-  commit_leads p' job' commits done is handles followings places =
+  pub commit_leads : (p' : Progress) (job' : SeenJob) (more : List SeenJob) → tx.phase ≡ Committing → length tx.ends ≡ length tx.late → p'.state.world ≡ behind
+      → p'.state.handles ≡ map (λ (job : SeenJob). job.me.places) (slice_set jobs at job' ++ more)
+      → ((j : ℕ) → j ≢ at → j < length jobs → slice_get p'.jobs j ≡ slice_get p.jobs j)
+      → job'.me.places ≡ tx.me.places → job'.block ≡ job.block → started_late tx.late tx.ends ≡ map (λ (job : SeenJob). job.block) more
+      → AreNew job'.me.places more → Leads p p' standing jobs more at job'
+  commit_leads p' job' more commits done is handles followings places block blocks new =
       let w = p.state.world in
       let phase = ap flown_phase commits in
       let after = committed standing at tx_flown f.flies active phase done in
@@ -206,9 +231,12 @@ module _ (s : Setting) (p : Progress) (words : List ℕ) (contents : Contents) (
         others = λ places sound. subst (λ v. IsIdleSound v next places) (sym is) (idle_after standing at tx_flown f.flies f.sound active phase places sound);
         own = subst (λ v. IsIdleSound v next job'.me.places) (sym is) (subst (IsIdleSound behind next) (sym places)
             (own_after standing at tx_flown f.flies f.sound active phase standing.now after));
-        started = commit_started commits done ∙ ap (λ (v : World). v.started) (sym is);
+        started = ap (λ (v : World). v.started) is ∙ commit_started commits done
+            ∙ (λ k. (f.live ∙ sym (map-put_same (λ (job : SeenJob). job.block) jobs at job' job there block)) k ++ blocks k)
+            ∙ sym (map-append (λ (job : SeenJob). job.block) (slice_set jobs at job') more);
         handles = handles;
         followings = followings;
+        new = new;
         bodies = λ j other u ne here does. subst (λ v. GivesSame (ran_at w other.me u) (ran_at v other.me u)) (sym is)
             (commit_bodies j other u commits done ne here does);
       }

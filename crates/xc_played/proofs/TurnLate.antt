@@ -29,18 +29,20 @@ use Rattle.xc_played.proofs.NextLate.{late_split}
 use Rattle.xc_played.proofs.TurnParts.{Flying, world_in, standing_in, asked_same, goes_on}
 
 -- an answer fits a late call by what the host has alone
-late_fits_in : (w : World) (words : List ℕ) (contents : Contents) (c : LateCall) (a : LateAnswer)
-    → late_fits (world_of contents) c a ≡ late_fits (world_in w words contents) c a
-late_fits_in w words contents c late_answer.Fine = refl
-late_fits_in w words contents (WritePipe num bytes) (late_answer.Fault n) = refl
-late_fits_in w words contents (WritePipe num bytes) (late_answer.NoMemory n) = refl
-late_fits_in w words contents c a = refl
+late_fits_in : (w : World) (words : List ℕ) (contents : Contents) (started : List (List ℕ)) (c : LateCall) (a : LateAnswer)
+    → late_fits (world_of contents) c a ≡ late_fits (world_in w words contents started) c a
+late_fits_in w words contents started c late_answer.Fine = refl
+late_fits_in w words contents started (WritePipe num bytes) (late_answer.Fault n) = refl
+late_fits_in w words contents started (WritePipe num bytes) (late_answer.NoMemory n) = refl
+late_fits_in w words contents started c a = refl
 
-module _ (s : Setting) (p : Progress) (words : List ℕ) (was is : Contents) (jobs : List SeenJob) (next at : ℕ) (job : SeenJob) (place : Position) (tx : SeenTx)
-    (there : slice_get jobs at ≡ Some job) (doing : job.doing ≡ Active tx) (commits : tx.phase ≡ Committing) (f : Flying s p words was jobs next)
-    (call : LateCall) (end : LateEnd) (does : DoesLate was is call end) where
+module _ (s : Setting) (p : Progress) (words : List ℕ) (was is : Contents) (started started' : List (List ℕ)) (jobs : List SeenJob) (next at : ℕ)
+    (job : SeenJob) (place : Position) (tx : SeenTx)
+    (there : slice_get jobs at ≡ Some job) (doing : job.doing ≡ Active tx) (commits : tx.phase ≡ Committing) (f : Flying s p words was started jobs next)
+    (call : LateCall) (end : LateEnd) (fits : IsTrue (late_fits (world_in p.state.world words was started) call (late_answer_of end)))
+    (ends_so : late (world_in p.state.world words was started) call (late_answer_of end) ≡ ends (world_in p.state.world words is started') end) where
   abbrev standing : Standing
-  standing = standing_in p.state.world (world_in p.state.world words was) f.unnoted jobs next
+  standing = standing_in p.state.world (world_in p.state.world words was started) f.unnoted jobs next
 
   abbrev tx_flown : Tx
   tx_flown = flown job.me (f.unnoted at) tx
@@ -51,9 +53,6 @@ module _ (s : Setting) (p : Progress) (words : List ℕ) (was is : Contents) (jo
   active : IsActive standing at tx_flown
   active = flown_there f.unnoted jobs at job tx there doing
 
-  ends_so : late standing.now call (late_answer_of end) ≡ ends (world_in p.state.world words is) end
-  ends_so = does.step (record p.state.world { words = words })
-
   -- it is the next one of those that have no end
   done_so : (calls : List LateCall) → late_left tx ≡ call ∷ calls → length tx.ends ≤ length tx.late
       → IsDoneLate standing.now tx_flown call (late_answer_of end)
@@ -63,18 +62,25 @@ module _ (s : Setting) (p : Progress) (words : List ℕ) (was is : Contents) (jo
         rest = calls;
         split = late_split tx call calls left;
         done = length-take-le (length tx.ends) tx.late few;
-        fit = subst IsTrue (late_fits_in p.state.world words was call (late_answer_of end)) does.fits;
+        fit = fits;
         told = ap (λ (e : Ended). late_answer_of e.end) ends_so;
       }
 
   -- it keeps all
   pub late_keeps : (calls : List LateCall) → late_left tx ≡ call ∷ calls → length tx.ends ≤ length tx.late
-      → Flying s p words is (slice_set jobs at (with_tx job place after)) next
+      → Flying s p words is started' (slice_set jobs at (with_tx job place after)) next
   late_keeps calls left few =
-      let behind : InFlight (turned standing at (Some (flown job.me (f.unnoted at) after)) (world_in p.state.world words is)) =
+      let behind : InFlight (turned standing at (Some (flown job.me (f.unnoted at) after)) (world_in p.state.world words is started')) =
       subst (λ (e : Ended). InFlight (turned standing at (Some (with_end tx_flown e.end)) e.world)) ends_so
       (does_late standing at tx_flown call (late_answer_of end) f.flies active (ap flown_phase commits) (done_so calls left few)) in
       let asked = asked_same s (slice_get p.jobs at) tx after refl in
-      goes_on s p words words was is jobs next at (f.unnoted at) job place tx after there doing refl f behind
+      goes_on s p words words was is started started' jobs next at (f.unnoted at) job place tx after there doing refl f behind
       (subst (λ a. IsUnnoted tx.phase a (f.unnoted at)) asked (f.was_asked at job tx there (ap active_in doing)))
       (subst (λ a. HoldsFor (ran_at p.state.world job.me tx) a tx.phase tx.held) asked (f.holds at job tx there (ap active_in doing)))
+
+-- one that is done at the host
+pub host_late : (w : World) (words : List ℕ) (was is : Contents) (started : List (List ℕ)) (call : LateCall) (end : LateEnd) → DoesLate was is call end
+    → IsTrue (late_fits (world_in w words was started) call (late_answer_of end))
+    × (late (world_in w words was started) call (late_answer_of end) ≡ ends (world_in w words is started) end)
+host_late w words was is started call end does =
+    (subst IsTrue (late_fits_in w words was started call (late_answer_of end)) does.fits, does.step (record w { words = words; started = started }))

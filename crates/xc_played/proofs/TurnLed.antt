@@ -1,8 +1,6 @@
 -- What one entry more leads to.
-use Rattle.std.proofs.Common.{◌≡◌, ◌≢◌, true, ℕ, ◌+◌, ◌-◌, List, [], ◌∷◌, ◌++◌, length, ap, sym, ◌∙◌, arith, Some}
-use Rattle.std.specs.List.{list_all}
+use Rattle.std.proofs.Common.{◌≡◌, ◌≢◌, zero, suc, refl, ap₂, length-set, ℕ, ◌+◌, ◌-◌, ◌<◌, List, [], ◌∷◌, ◌++◌, length, ap, sym, ◌∙◌, arith, Some}
 use Rattle.std.specs.Prelude.{map, replicate, slice_get, slice_set, unwrap_or}
-use Rattle.std.proofs.lemmas.List.{append-nil}
 use Rattle.std.proofs.lemmas.List.Sums.{fold_push}
 use Rattle.xc_data.specs.declared.call.Asked.{Asked}
 use Rattle.xc_data.specs.declared.entry.Cause.{Cause}
@@ -14,14 +12,23 @@ use Rattle.xc_data.specs.declared.private.Place.{Place as Handle}
 use Rattle.xc_text.specs.declared.script.Script.{Script}
 use Rattle.xc_world.specs.World.{beginning, no_handles}
 use Rattle.xc_world.specs.Run.{asked_of, body, run}
-use Rattle.xc_story.specs.Progress.{Following, Progress, untried, private_of, committed_job, started_job}
+use Rattle.xc_story.specs.Progress.{Following, Progress, untried, private_of, committed_job}
 use Rattle.xc_story.specs.Progress.{following_abort, after_outcome, after_following, words_left, after_entry, opening_progress, progress_of}
 use Rattle.xc_story.specs.Seen.{SeenTx, SeenJob}
-use Rattle.xc_story.specs.Rows.{entry_of, is_built}
-use Rattle.xc_story.proofs.KeptCalls.{kept_starts}
+use Rattle.xc_story.specs.LateCalls.{started_late, thread_asked, thread_in}
+use Rattle.xc_story.specs.Rows.{entry_of, started_job as seen_started}
+use Rattle.xc_story.proofs.StartedCalls.{started_same}
+use Rattle.xc_script.specs.Slots.{kept_of}
+use Rattle.xc_played.proofs.Grown.{started_handles}
+use Rattle.std.proofs.lemmas.List.{map-append}
 use Rattle.xc_flight.specs.Turns.{after_commit as world_after_commit, after_abort as world_after_abort}
 use Rattle.xc_played.specs.Flying.{flown, ran_at}
 use Rattle.xc_played.proofs.TurnLists.{get_put_other, get_map, map-put, map-put_same}
+
+get_in_front : {A : Type 0} (xs ys : List A) (j : ℕ) → j < length xs → slice_get (xs ++ ys) j ≡ slice_get xs j
+get_in_front [] ys j low = absurd (omega (arith, low))
+get_in_front (x ∷ xs) ys zero low = refl
+get_in_front (x ∷ xs) ys (suc j) low = get_in_front xs ys j (omega (arith, low))
 
 -- one entry more
 pub progress-more : (script : Script) (journal : List Entry) (e : Entry)
@@ -68,22 +75,24 @@ module _ (script : Script) (p : Progress) (f : Following) (jobs : List SeenJob) 
       ∙ ap (λ m. (run p.state.world m tx.number (asked_of tx.calls tx.replies) tx.ends).late.world) private_is
 
   -- the handles are those of its end
-  pub commit_handles : (job' : SeenJob) → list_all is_built tx.calls ≡ true → (ran_at p.state.world job.me tx).me ≡ tx.me → job'.me.places ≡ tx.me.places
-      → (after_entry script p committed).state.handles ≡ map (λ (job : SeenJob). job.me.places) (slice_set jobs at job')
-  commit_handles job' built me places =
+  pub commit_handles : (job' : SeenJob) → map thread_in tx.late ≡ map thread_asked (kept_of tx.calls tx.replies) → (ran_at p.state.world job.me tx).me ≡ tx.me
+      → job'.me.places ≡ tx.me.places → (after_entry script p committed).state.handles
+      ≡ map (λ (job : SeenJob). job.me.places) (slice_set jobs at job' ++ map (seen_started script job') (started_late tx.late tx.ends))
+  commit_handles job' kept me places =
       let end : Private → List Handle = λ m. (body p.state.world m tx.number (asked_of tx.calls tx.replies)).me.places in
       let mine : end (private_of p.state (at + 1)) ≡ job'.me.places = ap end private_is ∙ ap (λ (m : Private). m.places) me ∙ sym places in
       ap (λ (q : Progress). q.state.handles) (led_by (Committed tx.ends))
-      ∙ (λ i. slice_set (handles i) (back_one at i) (mine i) ++ replicate (length (kept_starts tx.calls tx.replies tx.ends built i)) (mine i))
-      ∙ append-nil (slice_set (map places_of jobs) at job'.me.places) ∙ sym (map-put places_of jobs at job')
+      ∙ (λ i. slice_set (handles i) (back_one at i) (mine i)
+      ++ replicate (length (sym (started_same tx.late (kept_of tx.calls tx.replies) tx.ends kept) i)) (mine i))
+      ∙ ap₂ (λ a b. a ++ b) (sym (map-put places_of jobs at job')) (started_handles script job' (started_late tx.late tx.ends))
+      ∙ sym (map-append places_of (slice_set jobs at job') (map (seen_started script job') (started_late tx.late tx.ends)))
 
   -- the other jobs stay
-  pub commit_followings : list_all is_built tx.calls ≡ true → (j : ℕ) → j ≢ at → slice_get (after_entry script p committed).jobs j ≡ slice_get p.jobs j
-  commit_followings built j ne =
-      let to = started_job script (committed_job script f.job tx.calls tx.replies tx.ends) (p.entered + 1) in
+  pub commit_followings : (j : ℕ) → j ≢ at → j < length p.jobs → slice_get (after_entry script p committed).jobs j ≡ slice_get p.jobs j
+  commit_followings j ne low =
+      let many = length-set p.jobs (at + 1 - 1) behind in
       ap (λ (q : Progress). slice_get q.jobs j) (led_by (Committed tx.ends))
-      ∙ (λ i. slice_get (slice_set p.jobs (at + 1 - 1) behind ++ map to (kept_starts tx.calls tx.replies tx.ends built i)) j)
-      ∙ ap (λ l. slice_get l j) (append-nil (slice_set p.jobs (at + 1 - 1) behind)) ∙ others_follow behind j ne
+      ∙ get_in_front (slice_set p.jobs (at + 1 - 1) behind) _ j (omega (arith, low, many)) ∙ others_follow behind j ne
 
   -- ---- of an abort
   abbrev aborted : Cause → Entry

@@ -1,5 +1,5 @@
 -- A station's jobs in flight, behind a journal that has led somewhere.
-use Rattle.std.proofs.Common.{◌≡◌, ◌≢◌, ℕ, ◌+◌, ◌<◌, ◌≤◌, List, [], length, refl, ap, sym, ◌∙◌, subst, arith, Option, Some, None}
+use Rattle.std.proofs.Common.{◌++◌, ◌≡◌, ◌≢◌, ℕ, ◌+◌, ◌<◌, ◌≤◌, List, [], length, refl, ap, sym, ◌∙◌, subst, arith, Option, Some, None}
 use Rattle.std.specs.Prelude.{map, slice_get, slice_set}
 use mathlib.Core.Logic.{dite}
 use native.Mathlib.Decide.{ℕ_discrete}
@@ -13,41 +13,42 @@ use Rattle.xc_story.specs.Progress.{Following, Progress, progress_of}
 use Rattle.xc_story.specs.Played.{HoldsFor}
 use Rattle.xc_story.specs.Told.{asked_of_tx, AreTold, IsJobTold}
 use Rattle.xc_story.specs.Truth.{next_of}
-use Rattle.xc_story.specs.Seen.{SeenTx, SeenJob, Active, Now, active_of, begun_count}
+use Rattle.xc_story.specs.Seen.{SeenTx, SeenJob, Active, Now, active_in, active_of, begun_count}
 use Rattle.xc_story.specs.Rows.{new_tx, with_tx}
 use Rattle.xc_flight.specs.Active.{Tx}
 use Rattle.xc_flight.specs.Standing.{Standing, InFlight, AreSound, IsIdleSound, begun, turned}
 use Rattle.xc_flight.specs.Turns.{starting}
 use Rattle.xc_flight.proofs.Rows.{begins}
 use Rattle.xc_flight.proofs.Together.{begin_sound, step_sound}
-use Rattle.xc_played.specs.Flying.{AreFlying, IsUnnoted, flown, flown_jobs, ran_at}
+use Rattle.xc_played.specs.Flying.{AreFlying, IsUnnoted, flown, flown_in, flown_jobs, ran_at}
 use Rattle.xc_played.proofs.FlownLists.{flown-at, flown-count, flown-put, flown-put_same, flown_there, none_flown, put_elsewhere, put_here, put_in}
 use Rattle.xc_played.proofs.TurnLists.{get_put_same, get_put_other, map-put_same, found_at, inside}
 
--- a world with these words and contents
-abbrev pub world_in : World → List ℕ → Contents → World
-world_in w words contents = record (with_contents w contents) { words = words }
+-- a world with these words and contents, and these started jobs
+abbrev pub world_in : World → List ℕ → Contents → List (List ℕ) → World
+world_in w words contents started = record (with_contents w contents) { words = words; started = started }
 
 -- the jobs in flight over it
 abbrev pub standing_in : World → World → (ℕ → List Asked) → List SeenJob → ℕ → Standing
 standing_in w now unnoted jobs next = record { state = w; now = now; active = flown_jobs unnoted jobs; next = next }
 
 -- what is true of them, behind a journal that has led here
-pub record Flying (s : Setting) (p : Progress) (words : List ℕ) (contents : Contents) (jobs : List SeenJob) (next : ℕ) : Type 0 where
+pub record Flying (s : Setting) (p : Progress) (words : List ℕ) (contents : Contents) (started : List (List ℕ)) (jobs : List SeenJob) (next : ℕ) : Type 0 where
   pub unnoted : ℕ → List Asked
   pub was_asked : (at : ℕ) (job : SeenJob) (tx : SeenTx) → slice_get jobs at ≡ Some job → active_of job ≡ Some tx
       → IsUnnoted tx.phase (asked_of_tx s (slice_get p.jobs at) tx) (unnoted at)
-  pub flies : InFlight (standing_in p.state.world (world_in p.state.world words contents) unnoted jobs next)
-  pub sound : AreSound (standing_in p.state.world (world_in p.state.world words contents) unnoted jobs next)
+  pub flies : InFlight (standing_in p.state.world (world_in p.state.world words contents started) unnoted jobs next)
+  pub sound : AreSound (standing_in p.state.world (world_in p.state.world words contents started) unnoted jobs next)
   pub idle : (at : ℕ) (job : SeenJob) → slice_get jobs at ≡ Some job → active_of job ≡ None → IsIdleSound p.state.world next job.me.places
   pub handles : p.state.handles ≡ map (λ (job : SeenJob). job.me.places) jobs
-  pub started : p.state.world.started ≡ map (λ (job : SeenJob). job.block) jobs
+  pub live : p.state.world.started ≡ map (λ (job : SeenJob). job.block) jobs
+  pub blocks : p.state.world.blocks ≡ s.script.outline.jobs ++ s.script.outline.bodies
   pub holds : (at : ℕ) (job : SeenJob) (tx : SeenTx) → slice_get jobs at ≡ Some job → active_of job ≡ Some tx
       → HoldsFor (ran_at p.state.world job.me tx) (asked_of_tx s (slice_get p.jobs at) tx) tx.phase tx.held
 
 -- of a station
 pub flying_of : (s : Setting) (now : Now) → AreFlying s now
-    → Flying s (progress_of s.script now.journal) now.words now.contents now.jobs (begun_count now + 1)
+    → Flying s (progress_of s.script now.journal) now.words now.contents now.started now.jobs (begun_count now + 1)
 flying_of s now f =
     record {
       unnoted = f.unnoted;
@@ -56,12 +57,13 @@ flying_of s now f =
       sound = f.sound;
       idle = f.idle;
       handles = f.handles;
-      started = f.started;
+      live = f.started;
+      blocks = f.blocks;
       holds = f.holds;
     }
 
 -- and back
-pub flying_from : (s : Setting) (now : Now) → Flying s (progress_of s.script now.journal) now.words now.contents now.jobs (begun_count now + 1)
+pub flying_from : (s : Setting) (now : Now) → Flying s (progress_of s.script now.journal) now.words now.contents now.started now.jobs (begun_count now + 1)
     → AreFlying s now
 flying_from s now f =
     record {
@@ -71,7 +73,8 @@ flying_from s now f =
       sound = f.sound;
       idle = f.idle;
       handles = f.handles;
-      started = f.started;
+      started = f.live;
+      blocks = f.blocks;
       holds = f.holds;
     }
 
@@ -82,7 +85,7 @@ pub record Follows (s : Setting) (begun entered : ℕ) (p : Progress) (at : ℕ)
   pub told : IsJobTold s begun entered following job
 
 -- each job is told
-pub told_at : (s : Setting) (words : ℕ) (now : Now) (at : ℕ) (job : SeenJob) → AreTold s words now.journal now.jobs → slice_get now.jobs at ≡ Some job
+pub told_at : (s : Setting) (words : ℕ) (now : Now) (at : ℕ) (job : SeenJob) → AreTold s words now.marks now.journal now.jobs → slice_get now.jobs at ≡ Some job
     → Follows s (begun_count now) (length now.journal) (progress_of s.script now.journal) at job
 told_at s words now at job told there =
     let lt = inside now.jobs at job there in
@@ -114,13 +117,14 @@ put_cases jobs at job job' P there mine others j other e = dite (ℕ_discrete j 
     (λ (ne : j ≢ at). others j other ne (sym (get_put_other jobs at j job' ne) ∙ e))
 
 -- it keeps all, where it keeps the flights
-pub changed : (s : Setting) (p : Progress) (words words' : List ℕ) (contents contents' : Contents) (jobs : List SeenJob) (next next' at : ℕ)
+pub changed : (s : Setting) (p : Progress) (words words' : List ℕ) (contents contents' : Contents) (started started' : List (List ℕ))
+    (jobs : List SeenJob) (next next' at : ℕ)
     (us : List Asked) (job job' : SeenJob) → slice_get jobs at ≡ Some job → next ≤ next' → job'.me ≡ job.me → job'.block ≡ job.block
-    → (f : Flying s p words contents jobs next)
-    → InFlight (standing_in p.state.world (world_in p.state.world words' contents') (put_in f.unnoted at us) (slice_set jobs at job') next')
-    → AreSound (standing_in p.state.world (world_in p.state.world words' contents') (put_in f.unnoted at us) (slice_set jobs at job') next')
-    → Right s p next' at us job' → Flying s p words' contents' (slice_set jobs at job') next'
-changed s p words words' contents contents' jobs next next' at us job job' there le me block f flies sound right =
+    → (f : Flying s p words contents started jobs next)
+    → InFlight (standing_in p.state.world (world_in p.state.world words' contents' started') (put_in f.unnoted at us) (slice_set jobs at job') next')
+    → AreSound (standing_in p.state.world (world_in p.state.world words' contents' started') (put_in f.unnoted at us) (slice_set jobs at job') next')
+    → Right s p next' at us job' → Flying s p words' contents' started' (slice_set jobs at job') next'
+changed s p words words' contents contents' started started' jobs next next' at us job job' there le me block f flies sound right =
     let w = p.state.world in
     let Idle_so : ℕ → SeenJob → Type 0 = λ j other. active_of other ≡ None → IsIdleSound w next' other.me.places in
     let Holds_so : ℕ → SeenJob → Type 0 = λ j other. (u : SeenTx) → active_of other ≡ Some u
@@ -137,7 +141,8 @@ changed s p words words' contents contents' jobs next next' at us job job' there
       sound = sound;
       idle = put_cases jobs at job job' Idle_so there right.idle (λ j other ne e none m low. f.idle j other e none m (omega (arith, low, le)));
       handles = f.handles ∙ sym (map-put_same (λ (job : SeenJob). job.me.places) jobs at job' job there (ap (λ (m : Private). m.places) me));
-      started = f.started ∙ sym (map-put_same (λ (job : SeenJob). job.block) jobs at job' job there block);
+      live = f.live ∙ sym (map-put_same (λ (job : SeenJob). job.block) jobs at job' job there block);
+      blocks = f.blocks;
       holds = λ j other u e a. put_cases jobs at job job' Holds_so there right.holds (λ j other ne e u a. f.holds j other u e a) j other e u a;
     }
 
@@ -146,10 +151,11 @@ active_one : (job : SeenJob) (place : Position) (tx u : SeenTx) → active_of (w
 active_one job place tx u e = cc e
 
 -- what is true of an active transaction
-pub right_active : (s : Setting) (p : Progress) (next at : ℕ) (us : List Asked) (job : SeenJob) (place : Position) (tx : SeenTx)
+pub right_active : (s : Setting) (p : Progress) (next at : ℕ) (us : List Asked) (job : SeenJob) (place : Position) (tx : SeenTx) (busy : ℕ)
     → IsUnnoted tx.phase (asked_of_tx s (slice_get p.jobs at) tx) us
-    → HoldsFor (ran_at p.state.world job.me tx) (asked_of_tx s (slice_get p.jobs at) tx) tx.phase tx.held → Right s p next at us (with_tx job place tx)
-right_active s p next at us job place tx asked holds =
+    → HoldsFor (ran_at p.state.world job.me tx) (asked_of_tx s (slice_get p.jobs at) tx) tx.phase tx.held
+    → Right s p next at us (record (with_tx job place tx) { busy = busy })
+right_active s p next at us job place tx busy asked holds =
     let w = p.state.world in
     record {
       was_asked = λ u e. subst (λ (v : SeenTx). IsUnnoted v.phase (asked_of_tx s (slice_get p.jobs at) v) us) (active_one job place tx u e) asked;
@@ -159,27 +165,28 @@ right_active s p next at us job place tx asked holds =
     }
 
 -- it keeps all, where it keeps the flights
-pub goes_on : (s : Setting) (p : Progress) (words words' : List ℕ) (contents contents' : Contents) (jobs : List SeenJob) (next at : ℕ) (us : List Asked)
+pub goes_on : (s : Setting) (p : Progress) (words words' : List ℕ) (contents contents' : Contents) (started started' : List (List ℕ)) (jobs : List SeenJob)
+    (next at : ℕ) (us : List Asked)
     (job : SeenJob) (place : Position) (tx tx' : SeenTx) → slice_get jobs at ≡ Some job → job.doing ≡ Active tx → tx'.number ≡ tx.number
-    → (f : Flying s p words contents jobs next)
-    → InFlight (turned (standing_in p.state.world (world_in p.state.world words contents) f.unnoted jobs next) at (Some (flown job.me us tx'))
-    (world_in p.state.world words' contents'))
+    → (f : Flying s p words contents started jobs next)
+    → InFlight (turned (standing_in p.state.world (world_in p.state.world words contents started) f.unnoted jobs next) at (Some (flown job.me us tx'))
+    (world_in p.state.world words' contents' started'))
     → IsUnnoted tx'.phase (asked_of_tx s (slice_get p.jobs at) tx') us
     → HoldsFor (ran_at p.state.world job.me tx') (asked_of_tx s (slice_get p.jobs at) tx') tx'.phase tx'.held
-    → Flying s p words' contents' (slice_set jobs at (with_tx job place tx')) next
-goes_on s p words words' contents contents' jobs next at us job place tx tx' there is number f flies asked holds =
+    → Flying s p words' contents' started' (slice_set jobs at (with_tx job place tx')) next
+goes_on s p words words' contents contents' started started' jobs next at us job place tx tx' there is number f flies asked holds =
     let w = p.state.world in
     let job' : SeenJob = with_tx job place tx' in
     let put : flown_jobs (put_in f.unnoted at us) (slice_set jobs at job') ≡ slice_set (flown_jobs f.unnoted jobs) at (Some (flown job.me us tx')) =
     flown-put f.unnoted jobs at us job' in
     let behind : (active : List (Option Tx)) → Standing =
-    λ (active : List (Option Tx)). record { state = w; now = world_in w words' contents'; active = active; next = next } in
-    let sound = step_sound (standing_in w (world_in w words contents) f.unnoted jobs next) at (flown job.me (f.unnoted at) tx) (flown job.me us tx')
-    (world_in w words' contents') f.sound (flown_there f.unnoted jobs at job tx there is) number refl in
-    changed s p words words' contents contents' jobs next next at us job job' there (omega arith) refl refl f
+    λ (active : List (Option Tx)). record { state = w; now = world_in w words' contents' started'; active = active; next = next } in
+    let sound = step_sound (standing_in w (world_in w words contents started) f.unnoted jobs next) at (flown job.me (f.unnoted at) tx) (flown job.me us tx')
+    (world_in w words' contents' started') f.sound (flown_there f.unnoted jobs at job tx there is) number refl in
+    changed s p words words' contents contents' started started' jobs next next at us job job' there (omega arith) refl refl f
     (subst (λ active. InFlight (behind active)) (sym put) flies)
     (subst (λ active. AreSound (behind active)) (sym put) sound)
-    (right_active s p next at us job place tx' asked holds)
+    (right_active s p next at us job place tx' job.busy asked holds)
 
 -- ---- an idle job
 -- what is true of a job without a transaction
@@ -193,41 +200,66 @@ right_idle s p next at us job none sound =
     }
 
 -- it goes on without one
-pub rests : (s : Setting) (p : Progress) (words : List ℕ) (contents : Contents) (jobs : List SeenJob) (next at : ℕ) (job job' : SeenJob)
+pub rests : (s : Setting) (p : Progress) (words : List ℕ) (contents : Contents) (started : List (List ℕ)) (jobs : List SeenJob)
+    (next at : ℕ) (job job' : SeenJob)
     → slice_get jobs at ≡ Some job → active_of job ≡ None → active_of job' ≡ None → job'.me ≡ job.me → job'.block ≡ job.block
-    → Flying s p words contents jobs next → Flying s p words contents (slice_set jobs at job') next
-rests s p words contents jobs next at job job' there none none' me block f =
+    → Flying s p words contents started jobs next → Flying s p words contents started (slice_set jobs at job') next
+rests s p words contents started jobs next at job job' there none none' me block f =
     let w = p.state.world in
     let same : flown_jobs (put_in f.unnoted at []) (slice_set jobs at job') ≡ flown_jobs f.unnoted jobs =
     flown-put_same f.unnoted jobs at [] job job' there
     (none_flown job'.me [] job'.doing none' ∙ sym (none_flown job.me (f.unnoted at) job.doing none)) in
     let behind : (active : List (Option Tx)) → Standing =
-    λ (active : List (Option Tx)). record { state = w; now = world_in w words contents; active = active; next = next } in
-    changed s p words words contents contents jobs next next at [] job job' there (omega arith) me block f
+    λ (active : List (Option Tx)). record { state = w; now = world_in w words contents started; active = active; next = next } in
+    changed s p words words contents contents started started jobs next next at [] job job' there (omega arith) me block f
     (subst (λ active. InFlight (behind active)) (sym same) f.flies)
     (subst (λ active. AreSound (behind active)) (sym same) f.sound)
     (right_idle s p next at [] job' none' (subst (λ (m : Private). IsIdleSound w next m.places) (sym me) (f.idle at job there none)))
 
+-- it does what it did: it passed silent statements, or was told to wait
+pub waits : (s : Setting) (p : Progress) (words : List ℕ) (contents : Contents) (started : List (List ℕ)) (jobs : List SeenJob)
+    (next at : ℕ) (job job' : SeenJob)
+    → slice_get jobs at ≡ Some job → job'.doing ≡ job.doing → job'.me ≡ job.me → job'.block ≡ job.block
+    → Flying s p words contents started jobs next → Flying s p words contents started (slice_set jobs at job') next
+waits s p words contents started jobs next at job job' there doing me block f =
+    let w = p.state.world in
+    let us = f.unnoted at in
+    let same : flown_jobs (put_in f.unnoted at us) (slice_set jobs at job') ≡ flown_jobs f.unnoted jobs =
+    flown-put_same f.unnoted jobs at us job job' there (λ i. flown_in (me i) us (doing i)) in
+    let behind : (active : List (Option Tx)) → Standing =
+    λ (active : List (Option Tx)). record { state = w; now = world_in w words contents started; active = active; next = next } in
+    let was : (o : Option SeenTx) → active_of job' ≡ o → active_of job ≡ o = λ o e. sym (ap active_in doing) ∙ e in
+    changed s p words words contents contents started started jobs next next at us job job' there (omega arith) me block f
+    (subst (λ active. InFlight (behind active)) (sym same) f.flies)
+    (subst (λ active. AreSound (behind active)) (sym same) f.sound)
+    (record {
+      was_asked = λ u e. f.was_asked at job u there (was (Some u) e);
+      idle = λ none. subst (λ (m : Private). IsIdleSound w next m.places) (sym me) (f.idle at job there (was None none));
+      holds = λ u e. subst (λ (m : Private). HoldsFor (ran_at w m u) (asked_of_tx s (slice_get p.jobs at) u) u.phase u.held) (sym me)
+          (f.holds at job u there (was (Some u) e));
+    })
+
 -- its next transaction begins
-pub begins_next : (s : Setting) (p : Progress) (words : List ℕ) (contents : Contents) (jobs : List SeenJob) (next at : ℕ) (job : SeenJob) (place : Position)
+pub begins_next : (s : Setting) (p : Progress) (words : List ℕ) (contents : Contents) (started : List (List ℕ)) (jobs : List SeenJob) (next at : ℕ)
+    (job : SeenJob) (place : Position)
     (rank began : ℕ) → slice_get jobs at ≡ Some job → active_of job ≡ None → job.me ≡ beginning job.me.places
-    → Flying s p words contents jobs next
-    → Flying s p words contents (slice_set jobs at (with_tx job place (new_tx next rank began job.me))) (next + 1)
-begins_next s p words contents jobs next at job place rank began there none fresh f =
+    → Flying s p words contents started jobs next
+    → Flying s p words contents started (slice_set jobs at (record (with_tx job place (new_tx next rank began job.me)) { busy = 0 })) (next + 1)
+begins_next s p words contents started jobs next at job place rank began there none fresh f =
     let w = p.state.world in
     let tx : SeenTx = new_tx next rank began job.me in
-    let job' : SeenJob = with_tx job place tx in
-    let st = standing_in w (world_in w words contents) f.unnoted jobs next in
+    let job' : SeenJob = record (with_tx job place tx) { busy = 0 } in
+    let st = standing_in w (world_in w words contents started) f.unnoted jobs next in
     let lt : at < length st.active = (let a = inside jobs at job there in omega (arith, a, flown-count f.unnoted jobs)) in
     let put : flown_jobs (put_in f.unnoted at []) (slice_set jobs at job') ≡ slice_set (flown_jobs f.unnoted jobs) at (Some (flown job.me [] tx)) =
     flown-put f.unnoted jobs at [] job' in
     let behind : (active : List (Option Tx)) → Standing =
-    λ (active : List (Option Tx)). record { state = w; now = world_in w words contents; active = active; next = next + 1 } in
+    λ (active : List (Option Tx)). record { state = w; now = world_in w words contents started; active = active; next = next + 1 } in
     let flies = begins st at job.me f.flies lt
     (flown-at f.unnoted jobs at job there ∙ none_flown job.me (f.unnoted at) job.doing none) in
     let sound : AreSound (begun st at (starting next job.me)) = subst (λ m. AreSound (begun st at (starting next m))) (sym fresh)
     (begin_sound st at job.me.places f.sound lt (f.idle at job there none)) in
-    changed s p words words contents contents jobs next (next + 1) at [] job job' there (omega arith) refl refl f
+    changed s p words words contents contents started started jobs next (next + 1) at [] job job' there (omega arith) refl refl f
     (subst (λ active. InFlight (behind active)) (sym put) flies)
     (subst (λ active. AreSound (behind active)) (sym put) sound)
-    (right_active s p (next + 1) at [] job place tx tt refl)
+    (right_active s p (next + 1) at [] job place tx 0 tt refl)

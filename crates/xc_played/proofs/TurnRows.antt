@@ -13,36 +13,47 @@ use Rattle.xc_host.specs.Contents.{Contents}
 use Rattle.xc_script.specs.Ask.{asks, walk_from}
 use Rattle.xc_script.specs.Position.{Position}
 use Rattle.xc_txmem.specs.Overlay.{overlaid}
+use Rattle.xc_data.specs.declared.entry.Mark.{Mark}
 use Rattle.xc_story.specs.declared.phase.Phase.TheVariants.{Running, Committing, Undoing}
 use Rattle.xc_story.specs.Setting.{Setting}
 use Rattle.xc_story.specs.Progress.{Progress, progress_of, after_entry}
 use Rattle.xc_story.specs.Told.{asked_of_tx, AreTold, IsCommitting, IsDoing, IsInPhase, IsRunning, IsUnderway}
-use Rattle.xc_story.specs.Seen.{SeenTx, SeenJob, Doing, Active, Now, active_in, active_of, actives, begun_count, entering, late_left, rank_of, with_job}
-use Rattle.xc_story.specs.Rows.{asked_at, behind_abort, behind_commit, beginning_job, claims_at, entry_of, noting, seen, wanting, with_tx}
-use Rattle.xc_story.specs.Rows.{Calls, Conflicts, Commits, Compensates, EndsLate, TurnsBack, Wants}
+use Rattle.xc_story.specs.Seen.{SeenTx, SeenJob, Doing, Active, Now, active_in, active_of, actives, begun_count, entering, late_left, rank_of}
+use Rattle.xc_story.specs.Seen.{revoked, with_job, with_kept}
+use Rattle.xc_story.specs.Rows.{asked_at, behind_abort, behind_commit, beginning_at, beginning_job, claims_at, entry_of, noting, seen, wanting, with_tx}
+use Rattle.xc_story.specs.Rows.{Calls, Conflicts, Revokes, Commits, Compensates, EndsLate, EntersAborted, TurnsBack, Wants}
 use Rattle.xc_played.specs.Flying.{AreFlying, flown}
 use Rattle.xc_played.proofs.TurnAborts.{abort_leads}
 use Rattle.xc_played.proofs.FlownLists.{flown_there}
 use Rattle.xc_played.proofs.TurnBack.{back_keeps, commit_keeps, tried_keeps}
 use Rattle.xc_played.proofs.TurnCalls.{Stepping, asks-count, calls_keep}
 use Rattle.xc_played.proofs.TurnEnters.{commit_leads, enters}
-use Rattle.xc_played.proofs.TurnLate.{late_keeps}
+use Rattle.xc_played.proofs.Grown.{idle_actives, started_new, started_their_blocks}
+use Rattle.xc_played.proofs.StartedWorld.{starts_there}
+use Rattle.xc_played.proofs.TurnLate.{host_late, late_keeps}
 use Rattle.xc_played.proofs.TurnLed.{progress-more, commit_world, commit_handles, commit_followings, abort_world, abort_handles, abort_followings}
 use Rattle.xc_played.proofs.TurnLists.{picked-put, size}
-use Rattle.xc_played.proofs.TurnParts.{Flying, Follows, begins_next, flying_from, flying_of, rests, told_at}
+use Rattle.std.proofs.Common.{append-nil}
+use Rattle.xc_data.specs.declared.call.LateCall.TheVariants.{Thread}
+use Rattle.xc_story.specs.LateCalls.{started_late}
+use Rattle.xc_story.specs.Rows.{Starts, started_jobs}
+use Rattle.xc_story.specs.Seen.{joined}
+use Rattle.xc_played.proofs.TurnParts.{world_in, Flying, Follows, begins_next, flying_from, flying_of, rests, told_at, waits}
 use Rattle.xc_played.proofs.TurnWants.{wants_so}
 
 -- ---- a station behind a turn
 -- from its parts
-pub flies_so : (s : Setting) (now : Now) (p : Progress) (words : List ℕ) (contents : Contents) (jobs : List SeenJob) (next : ℕ)
-    → progress_of s.script now.journal ≡ p → now.words ≡ words → now.contents ≡ contents → now.jobs ≡ jobs → begun_count now + 1 ≡ next
-    → Flying s p words contents jobs next → AreFlying s now
-flies_so s now p words contents jobs next led was is put count f =
-    flying_from s now (subst (λ q. Flying s q now.words now.contents now.jobs (begun_count now + 1)) (sym led)
-    (subst (λ w. Flying s p w now.contents now.jobs (begun_count now + 1)) (sym was)
-    (subst (λ c. Flying s p words c now.jobs (begun_count now + 1)) (sym is)
-    (subst (λ j. Flying s p words contents j (begun_count now + 1)) (sym put)
-    (subst (λ n. Flying s p words contents jobs n) (sym count) f)))))
+pub flies_so : (s : Setting) (now : Now) (p : Progress) (words : List ℕ) (contents : Contents) (started : List (List ℕ)) (jobs : List SeenJob) (next : ℕ)
+    → progress_of s.script now.journal ≡ p → now.words ≡ words → now.contents ≡ contents → now.started ≡ started → now.jobs ≡ jobs
+    → begun_count now + 1 ≡ next
+    → Flying s p words contents started jobs next → AreFlying s now
+flies_so s now p words contents started jobs next led was is begun put count f =
+    flying_from s now (subst (λ q. Flying s q now.words now.contents now.started now.jobs (begun_count now + 1)) (sym led)
+    (subst (λ w. Flying s p w now.contents now.started now.jobs (begun_count now + 1)) (sym was)
+    (subst (λ c. Flying s p words c now.started now.jobs (begun_count now + 1)) (sym is)
+    (subst (λ bs. Flying s p words contents bs now.jobs (begun_count now + 1)) (sym begun)
+    (subst (λ j. Flying s p words contents started j (begun_count now + 1)) (sym put)
+    (subst (λ n. Flying s p words contents started jobs n) (sym count) f))))))
 
 -- how many have begun where one job is put
 count_put : (jobs : List SeenJob) (at : ℕ) (job job' : SeenJob) → slice_get jobs at ≡ Some job
@@ -52,13 +63,13 @@ count_put jobs at job job' there = picked-put active_of jobs at job' job there
 -- where the journal stays, and as many are active
 row_kept : (s : Setting) (old new : Now) (at : ℕ) (job job' : SeenJob) → slice_get old.jobs at ≡ Some job → size (active_of job') ≡ size (active_of job)
     → new.journal ≡ old.journal → new.jobs ≡ slice_set old.jobs at job'
-    → Flying s (progress_of s.script old.journal) new.words new.contents (slice_set old.jobs at job') (begun_count old + 1) → AreFlying s new
+    → Flying s (progress_of s.script old.journal) new.words new.contents new.started (slice_set old.jobs at job') (begun_count old + 1) → AreFlying s new
 row_kept s old new at job job' there same journal put f =
     let count = count_put old.jobs at job job' there in
     let many : length (actives new.jobs) ≡ length (actives (slice_set old.jobs at job')) = ap (λ js. length (actives js)) put in
     let entries : length new.journal ≡ length old.journal = ap length journal in
-    flies_so s new (progress_of s.script old.journal) new.words new.contents (slice_set old.jobs at job') (begun_count old + 1)
-    (ap (progress_of s.script) journal) refl refl put (omega (arith, count, many, entries, same)) f
+    flies_so s new (progress_of s.script old.journal) new.words new.contents new.started (slice_set old.jobs at job') (begun_count old + 1)
+    (ap (progress_of s.script) journal) refl refl refl put (omega (arith, count, many, entries, same)) f
 
 -- a job behind its abort
 pub record IsBack (job job' : SeenJob) : Type 0 where
@@ -75,24 +86,24 @@ abort_left job tx (cause.Revoked object by when) = record { none = refl; block =
 
 -- ---- of one job
 module _ (s : Setting) (old : Now) (at : ℕ) (job : SeenJob) (there : slice_get old.jobs at ≡ Some job)
-    (told : AreTold s (length old.words) old.journal old.jobs) (flying : AreFlying s old) where
+    (told : AreTold s (length old.words) old.marks old.journal old.jobs) (flying : AreFlying s old) where
   abbrev before : Progress
   before = progress_of s.script old.journal
 
-  f : Flying s before old.words old.contents old.jobs (begun_count old + 1)
+  f : Flying s before old.words old.contents old.started old.jobs (begun_count old + 1)
   f = flying_of s old flying
 
   follows : Follows s (begun_count old) (length old.journal) before at job
   follows = told_at s (length old.words) old at job told there
 
   -- ---- an idle job
-  pub row_begins : active_of job ≡ None → AreFlying s (with_job old at (beginning_job old job))
+  pub row_begins : active_of job ≡ None → AreFlying s (beginning_at old at job)
   row_begins none =
-      let new = with_job old at (beginning_job old job) in
+      let new = beginning_at old at job in
       let count = count_put old.jobs at job (beginning_job old job) there in
       let was : size (active_of job) ≡ 0 = ap size none in
-      flies_so s new before old.words old.contents new.jobs (begun_count old + 1 + 1) refl refl refl refl (omega (arith, count, was))
-      (begins_next s before old.words old.contents old.jobs (begun_count old + 1) at job (record job.place { begun = job.place.variables })
+      flies_so s new before old.words old.contents old.started new.jobs (begun_count old + 1 + 1) refl refl refl refl refl (omega (arith, count, was))
+      (begins_next s before old.words old.contents old.started old.jobs (begun_count old + 1) at job (record job.place { begun = job.place.variables })
       (rank_of job.attempts (begun_count old + 1)) (length old.journal) there none follows.told.fresh f)
 
   -- a job without a transaction ends
@@ -100,7 +111,15 @@ module _ (s : Setting) (old : Now) (at : ℕ) (job : SeenJob) (there : slice_get
   row_ends d none none' =
       let job' : SeenJob = record job { doing = d } in
       row_kept s old (with_job old at job') at job job' there (ap size none' ∙ ap size (sym none)) refl refl
-      (rests s before old.words old.contents old.jobs (begun_count old + 1) at job job' there none none' refl refl f)
+      (rests s before old.words old.contents old.started old.jobs (begun_count old + 1) at job job' there none none' refl refl f)
+
+  -- a job is told to wait
+  pub row_waits : (new : Now) (job' : SeenJob) → job'.doing ≡ job.doing → job'.me ≡ job.me → job'.block ≡ job.block
+      → new ≡ record old { jobs = slice_set old.jobs at job'; marks = new.marks } → AreFlying s new
+  row_waits new job' doing me block is =
+      subst (AreFlying s) (sym is) (row_kept s old (record old { jobs = slice_set old.jobs at job'; marks = new.marks }) at job job' there
+      (ap (λ d. size (active_in d)) doing) refl refl
+      (waits s before old.words old.contents old.started old.jobs (begun_count old + 1) at job job' there doing me block f))
 
   -- ---- an active transaction
   module _ (tx : SeenTx) (doing : job.doing ≡ Active tx) where
@@ -118,36 +137,47 @@ module _ (s : Setting) (old : Now) (at : ℕ) (job : SeenJob) (there : slice_get
         let running : IsRunning s follows.following job.place tx = subst (IsInPhase s follows.following job.place tx) runs underway.phase in
         ap (λ o. asked_of_tx s o tx) follows.at_place ∙ ap asks (sym running.ahead)
 
+    as_new : (new : Now) (jobs : List SeenJob) → new.words ≡ old.words → new.started ≡ old.started
+        → Flying s before old.words new.contents old.started jobs (begun_count old + 1)
+        → Flying s before new.words new.contents new.started jobs (begun_count old + 1)
+    as_new new jobs words begun f =
+        subst (λ ws. Flying s before ws new.contents new.started jobs (begun_count old + 1)) (sym words)
+        (subst (λ bs. Flying s before old.words new.contents bs jobs (begun_count old + 1)) (sym begun) f)
+
     kept : (new : Now) (place : Position) (tx' : SeenTx) → new.journal ≡ old.journal → new.jobs ≡ slice_set old.jobs at (with_tx job place tx')
-        → Flying s before new.words new.contents (slice_set old.jobs at (with_tx job place tx')) (begun_count old + 1) → AreFlying s new
+        → Flying s before new.words new.contents new.started (slice_set old.jobs at (with_tx job place tx')) (begun_count old + 1) → AreFlying s new
     kept new place tx' = row_kept s old new at job (with_tx job place tx') there (sym one)
 
     -- a call
     pub row_calls : (new : Now) (c : Call) → IsTrue s.tells → tx.phase ≡ Running → Calls s at old job tx c new → AreFlying s new
     row_calls new c tells runs row =
         let w = before.state.world in
-        let at_words = record w { words = old.words } in
+        let at_words = record w { words = old.words; started = old.started } in
         let go : Stepping (seen at_words old.contents tx.writes) (seen at_words new.contents row.parts.stores) tx c row.reply row.parts = record {
           does = row.does tells at_words refl;
-          built = row.built;
           ended = ap (λ (u : Records). u.ended) row.undo;
         } in
         let count = asks-count (walk_from s.script follows.following.job) tx.calls tx.replies underway.asked in
-        let done = calls_keep s before old.words old.contents new.contents old.jobs (begun_count old + 1) at job row.place tx c row.reply row.parts there doing
+        let done = calls_keep s before old.words old.contents new.contents old.started old.jobs (begun_count old + 1) at job row.place tx c row.reply
+        row.parts there doing
         runs go f row.free row.stores count in
         let next : SeenTx = noting tx c row.reply (claims_at old tx c) row.parts in
-        kept new row.place next row.journal row.jobs
-        (subst (λ ws. Flying s before ws new.contents (slice_set old.jobs at (with_tx job row.place next)) (begun_count old + 1)) (sym row.words) done)
+        kept new row.place next (ap (λ (n : Now). n.journal) row.behind) (ap (λ (n : Now). n.jobs) row.behind)
+        (as_new new (slice_set old.jobs at (with_tx job row.place next)) (ap (λ (n : Now). n.words) row.behind) (ap (λ (n : Now). n.started) row.behind) done)
 
     -- the way back begins
     row_back : (c : Cause) (place : Position) → tx.phase ≡ Running → AreFlying s (with_job old at (with_tx job place (record tx { phase = Undoing c })))
     row_back c place runs =
         kept (with_job old at (with_tx job place (record tx { phase = Undoing c }))) place (record tx { phase = Undoing c }) refl refl
-        (back_keeps s before old.words old.contents old.jobs (begun_count old + 1) at job place tx there doing f c runs)
+        (back_keeps s before old.words old.contents old.started old.jobs (begun_count old + 1) at job place tx there doing f c runs)
 
     -- at a holder
     pub row_conflicts : (new : Now) (c : Call) → tx.phase ≡ Running → Conflicts s at old job tx c new → AreFlying s new
     row_conflicts new c runs row = subst (AreFlying s) (sym row.behind) (row_back (cause.Conflict row.object row.holder (length old.journal)) row.place runs)
+
+    -- where it is marked
+    pub row_revokes : (new : Now) (m : Mark) → tx.phase ≡ Running → Revokes s at old job tx m new → AreFlying s new
+    row_revokes new m runs row = subst (AreFlying s) (sym row) (row_back (revoked m) job.place runs)
 
     -- where the abort is asked
     pub row_turns_back : (new : Now) → tx.phase ≡ Running → TurnsBack s at old job tx new → AreFlying s new
@@ -158,14 +188,14 @@ module _ (s : Setting) (old : Now) (at : ℕ) (job : SeenJob) (there : slice_get
     row_commits new runs row = subst (AreFlying s) (sym row.behind)
         (kept (record (with_job old at (with_tx job row.place (record tx { phase = Committing }))) { words = overlaid old.words tx.writes })
         row.place (record tx { phase = Committing }) refl refl
-        (commit_keeps s before old.words old.contents old.jobs (begun_count old + 1) at job row.place tx there doing f runs))
+        (commit_keeps s before old.words old.contents old.started old.jobs (begun_count old + 1) at job row.place tx there doing f runs))
 
     -- where memory was wanting
     pub row_wants : (new : Now) → IsTrue s.tells → tx.phase ≡ Running → Wants s at old job tx new → AreFlying s new
     row_wants new tells runs row =
         let next : SeenTx = wanting tx row.left row.held in
-        kept new row.place next row.journal row.jobs
-        (subst (λ ws. Flying s before ws new.contents (slice_set old.jobs at (with_tx job row.place next)) (begun_count old + 1)) (sym row.words)
+        kept new row.place next (ap (λ (n : Now). n.journal) row.behind) (ap (λ (n : Now). n.jobs) row.behind)
+        (as_new new (slice_set old.jobs at (with_tx job row.place next)) (ap (λ (n : Now). n.words) row.behind) (ap (λ (n : Now). n.started) row.behind)
         (wants_so s before old new (begun_count old + 1) at job row.place tx there doing f runs (asked_here runs) (asked_at s job.place) row.left row.held refl
         row.holds (row.contents tells)))
 
@@ -173,9 +203,10 @@ module _ (s : Setting) (old : Now) (at : ℕ) (job : SeenJob) (there : slice_get
     pub row_compensates : (new : Now) (c : Cause) → IsTrue s.tells → tx.phase ≡ Undoing c → Compensates s at old job tx new → AreFlying s new
     row_compensates new c tells undoes row =
         let tx' : SeenTx = record tx { undo = record { pending = row.older; ended = (row.tried, row.end) ∷ tx.undo.ended } } in
-        kept new job.place tx' row.journal row.jobs
-        (subst (λ ws. Flying s before ws new.contents (slice_set old.jobs at (with_tx job job.place tx')) (begun_count old + 1)) (sym row.words)
-        (tried_keeps s before old.words old.contents old.jobs (begun_count old + 1) at job job.place tx there doing f c row.older row.tried row.end new.contents
+        kept new job.place tx' (ap (λ (n : Now). n.journal) row.behind) (ap (λ (n : Now). n.jobs) row.behind)
+        (as_new new (slice_set old.jobs at (with_tx job job.place tx')) (ap (λ (n : Now). n.words) row.behind) (ap (λ (n : Now). n.started) row.behind)
+        (tried_keeps s before old.words old.contents old.started old.jobs (begun_count old + 1) at job job.place tx there doing f c row.older row.tried
+        row.end new.contents
         undoes row.newest row.legal (row.effect tells)))
 
     committing : tx.phase ≡ Committing → IsCommitting s follows.following job.place tx
@@ -186,27 +217,46 @@ module _ (s : Setting) (old : Now) (at : ℕ) (job : SeenJob) (there : slice_get
         → EndsLate s at old job tx call new → AreFlying s new
     row_ends_late new call calls tells commits left row =
         let tx' : SeenTx = record tx { ends = tx.ends ++ row.end ∷ [] } in
-        kept new job.place tx' row.journal row.jobs
-        (subst (λ ws. Flying s before ws new.contents (slice_set old.jobs at (with_tx job job.place tx')) (begun_count old + 1)) (sym row.words)
-        (late_keeps s before old.words old.contents new.contents old.jobs (begun_count old + 1) at job job.place tx there doing commits f call row.end
-        (row.does tells) calls left (committing commits).few_ends))
+        let done = host_late before.state.world old.words old.contents new.contents old.started call row.end (row.does tells) in
+        kept new job.place tx' (ap (λ (n : Now). n.journal) row.behind) (ap (λ (n : Now). n.jobs) row.behind)
+        (as_new new (slice_set old.jobs at (with_tx job job.place tx')) (ap (λ (n : Now). n.words) row.behind) (ap (λ (n : Now). n.started) row.behind)
+        (late_keeps s before old.words old.contents new.contents old.started old.started old.jobs (begun_count old + 1) at job job.place tx there
+        doing commits f
+        call row.end done.0 done.1 calls left (committing commits).few_ends))
+
+    -- one that starts a job
+    pub row_starts : (new : Now) (block : List ℕ) (calls : List LateCall) → tx.phase ≡ Committing → late_left tx ≡ Thread block ∷ calls
+        → Starts s at old job tx block new → AreFlying s new
+    row_starts new block calls commits left row =
+        let tx' : SeenTx = record tx { ends = tx.ends ++ row.end ∷ [] } in
+        let jobs = slice_set old.jobs at (with_tx job job.place tx') in
+        let next = begun_count old + 1 in
+        let now = world_in before.state.world old.words old.contents old.started in
+        let done = starts_there s.script now block f.blocks row.end new.started row.starts in
+        let flown = late_keeps s before old.words old.contents old.contents old.started new.started old.jobs next at job job.place tx there doing commits f
+        (Thread block) row.end done.fits done.step calls left (committing commits).few_ends in
+        kept new job.place tx' (ap (λ (n : Now). n.journal) row.behind) (ap (λ (n : Now). n.jobs) row.behind)
+        (subst (λ ws. Flying s before ws new.contents new.started jobs next) (sym (ap (λ (n : Now). n.words) row.behind))
+        (subst (λ cs. Flying s before old.words cs new.started jobs next) (sym (ap (λ (n : Now). n.contents) row.behind)) flown))
 
     -- ---- an entry
-    entered_so : (job' : SeenJob) (e : Entry) → active_of job' ≡ None
-        → Flying s (after_entry s.script before e) old.words old.contents (slice_set old.jobs at job') (begun_count old + 1)
-        → AreFlying s (entering old at job' e)
-    entered_so job' e none flown =
-        let new = entering old at job' e in
+    entered_so : (job' : SeenJob) (e : Entry) (contents : Contents) (more : List SeenJob) → active_of job' ≡ None
+        → actives (slice_set old.jobs at job' ++ more) ≡ actives (slice_set old.jobs at job')
+        → Flying s (after_entry s.script before e) old.words contents old.started (slice_set old.jobs at job' ++ more) (begun_count old + 1)
+        → AreFlying s (joined (record (entering old at job' e) { contents = contents }) more)
+    entered_so job' e contents more none same flown =
+        let new : Now = joined (record (entering old at job' e) { contents = contents }) more in
         let count = count_put old.jobs at job job' there in
         let none_now : size (active_of job') ≡ 0 = ap size none in
         let was = one in
-        let more = length-append old.journal (e ∷ []) in
-        flies_so s new (after_entry s.script before e) old.words old.contents new.jobs (begun_count old + 1) (progress-more s.script old.journal e)
-        refl refl refl (omega (arith, count, none_now, was, more)) flown
+        let active : length (actives new.jobs) ≡ length (actives (slice_set old.jobs at job')) = ap length same in
+        let longer = length-append old.journal (e ∷ []) in
+        flies_so s new (after_entry s.script before e) old.words contents old.started new.jobs (begun_count old + 1) (progress-more s.script old.journal e)
+        refl refl refl refl (omega (arith, count, none_now, was, longer, active)) flown
 
     -- of a commit, behind its last late call
     pub row_commit_enters : tx.phase ≡ Committing → late_left tx ≡ []
-        → AreFlying s (entering old at (behind_commit job tx) (entry_of tx at (Committed tx.ends)))
+        → AreFlying s (joined (entering old at (behind_commit job tx) (entry_of tx at (Committed tx.ends))) (started_jobs s.script job tx))
     row_commit_enters commits none =
         let fresh = follows.told.fresh in
         let next = begun_count old + 1 in
@@ -215,28 +265,38 @@ module _ (s : Setting) (old : Now) (at : ℕ) (job : SeenJob) (there : slice_get
         let few = (committing commits).few_ends in
         let done : length tx.ends ≡ length tx.late = omega (arith, length-drop (length tx.ends) tx.late, ap length none, few) in
         let job' = behind_commit job tx in
+        let blocks = started_late tx.late tx.ends in
+        let more = started_jobs s.script job tx in
         let me = (f.flies.flights at (flown job.me (f.unnoted at) tx) (flown_there f.unnoted old.jobs at job tx there doing)).inside.me in
-        entered_so job' e refl
-        (enters s before (after_entry s.script before e) old.words old.contents old.jobs next at job job' there refl refl f
-        (commit_leads s before old.words old.contents old.jobs next at job tx there doing f (after_entry s.script before e) job' commits done
+        let many = told.count in
+        entered_so job' e old.contents more refl (idle_actives job'.me.places (slice_set old.jobs at job') more (started_new s.script job' blocks))
+        (enters s before (after_entry s.script before e) old.words old.contents old.contents old.started old.jobs more next at job job' there refl f
+        (commit_leads s before old.words old.contents old.started old.jobs next at job tx there doing f (after_entry s.script before e) job' more commits done
         (commit_world s.script before g old.jobs at job tx there follows.at_place fresh f.handles (f.unnoted at))
-        (commit_handles s.script before g old.jobs at job tx there follows.at_place fresh f.handles job' underway.built me refl)
-        (commit_followings s.script before g old.jobs at job tx there follows.at_place fresh f.handles underway.built) refl))
+        (commit_handles s.script before g old.jobs at job tx there follows.at_place fresh f.handles job' underway.kept me refl)
+        (λ j ne low. commit_followings s.script before g old.jobs at job tx there follows.at_place fresh f.handles j ne (omega (arith, low, many))) refl refl
+        (started_their_blocks s.script job' blocks) (started_new s.script job' blocks)))
 
     -- of an abort
-    pub row_abort_enters : (c : Cause) → tx.phase ≡ Undoing c → tx.undo.pending ≡ []
-        → AreFlying s (entering old at (behind_abort job tx c) (entry_of tx at (Aborted (record { cause = c; records = tx.undo.ended }))))
-    row_abort_enters c undoes none =
+    pub row_abort_enters : (new : Now) (c : Cause) → IsTrue s.tells → tx.phase ≡ Undoing c → tx.undo.pending ≡ []
+        → EntersAborted s at old job tx c new → AreFlying s new
+    row_abort_enters new c tells undoes none row =
         let fresh = follows.told.fresh in
         let next = begun_count old + 1 in
         let g = follows.following in
         let e = entry_of tx at (Aborted (record { cause = c; records = tx.undo.ended })) in
         let job' = behind_abort job tx c in
         let back = abort_left job tx c in
-        entered_so job' e back.none
-        (enters s before (after_entry s.script before e) old.words old.contents old.jobs next at job job' there back.none back.block f
-        (abort_leads s before old.words old.contents old.jobs next at job tx c there doing undoes none f (after_entry s.script before e) job'
+        let kept_jobs : Now → List SeenJob → Now = λ n js. record n { jobs = js } in
+        let there_now = record (entering old at job' e) { contents = with_kept old.contents tx.taken } in
+        let nil = append-nil (slice_set old.jobs at job') in
+        subst (AreFlying s) (ap (kept_jobs there_now) nil
+        ∙ sym (row.behind ∙ ap (λ contents. record (entering old at job' e) { contents = contents }) (row.returned tells)))
+        (entered_so job' e (with_kept old.contents tx.taken) [] back.none (ap actives nil)
+        (enters s before (after_entry s.script before e) old.words old.contents (with_kept old.contents tx.taken) old.started old.jobs [] next at job job'
+        there back.none f
+        (abort_leads s before old.words old.contents old.started old.jobs next at job tx c there doing undoes none f (after_entry s.script before e) job'
         (abort_world s.script before g old.jobs at job tx there follows.at_place fresh f.handles (f.unnoted at) c)
         (abort_handles s.script before g old.jobs at job tx there follows.at_place fresh f.handles c job' back.me)
-        (abort_followings s.script before g old.jobs at job tx there follows.at_place fresh f.handles c) back.me
-        (λ j other at_j. (told_at s (length old.words) old j other told at_j).told.fresh)))
+        (abort_followings s.script before g old.jobs at job tx there follows.at_place fresh f.handles c) back.me back.block
+        (λ j other at_j. (told_at s (length old.words) old j other told at_j).told.fresh))))

@@ -1,7 +1,8 @@
 -- A turn keeps the flights of all, whatever its row.
-use Rattle.std.proofs.Common.{◌≡◌, ℕ, inl, inr, List, [], ◌∷◌, length, refl, ap, sym, subst, IsTrue, Some}
-use Rattle.std.specs.Prelude.{slice_get}
+use Rattle.std.proofs.Common.{◌≡◌, ℕ, inl, inr, List, [], ◌∷◌, length, refl, ap, sym, ◌∙◌, subst, IsTrue, None, Some}
+use Rattle.std.specs.Prelude.{Option, slice_get, slice_set}
 use Rattle.xc_data.specs.declared.call.LateCall.{LateCall}
+use Rattle.xc_data.specs.declared.call.LateCall.TheVariants.{Thread}
 use Rattle.xc_data.specs.declared.entry.Cause.{Cause}
 use Rattle.xc_data.specs.declared.entry.JobEnd.TheVariants as job_end
 use Rattle.xc_data.specs.declared.entry.Turn.{Turn}
@@ -9,22 +10,31 @@ use Rattle.xc_data.specs.declared.entry.Turn.TheVariants as turn
 use Rattle.xc_data.specs.declared.undo.Undo.{Undo}
 use Rattle.xc_script.specs.declared.ask.Ask.{Ask}
 use Rattle.xc_script.specs.declared.ask.Ask.TheVariants as ask
+use Rattle.xc_data.specs.declared.entry.Mark.{Mark}
 use Rattle.xc_story.specs.declared.phase.Phase.{Phase}
 use Rattle.xc_story.specs.declared.phase.Phase.TheVariants.{Running, Committing, Undoing}
 use Rattle.xc_story.specs.Setting.{Setting}
 use Rattle.xc_story.specs.Told.{AreTold}
-use Rattle.xc_story.specs.Seen.{SeenTx, SeenJob, Doing, Idle, Active, Starved, Ended, Now, active_in, late_left}
-use Rattle.xc_story.specs.Rows.{IsTurn, TurnOf, IdleTurn, ActiveTurn, RunningTurn, AskedTurn, CommittingTurn, LateTurn, UndoingTurn, BackTurn, StarvedTurn}
+use Rattle.xc_story.specs.Seen.{SeenTx, SeenJob, Doing, Idle, Active, Starved, Ended, Now, active_in, late_left, waiting}
+use Rattle.xc_story.specs.Rows.{with_tx, IsTurn, TurnOf, IdleTurn, ActiveTurn, MarkedTurn, RunningTurn, AskedTurn, CommittingTurn, LateTurn, NextLate}
+use Rattle.xc_story.specs.Rows.{UndoingTurn, BackTurn, StarvedTurn}
 use Rattle.xc_played.specs.Flying.{AreFlying}
-use Rattle.xc_played.proofs.TurnRows.{row_begins, row_ends, row_calls, row_conflicts, row_turns_back, row_commits, row_wants}
-use Rattle.xc_played.proofs.TurnRows.{row_compensates, row_ends_late, row_commit_enters, row_abort_enters}
+use Rattle.xc_played.proofs.TurnRows.{row_begins, row_ends, row_calls, row_conflicts, row_turns_back, row_commits, row_wants, row_waits, row_revokes}
+use Rattle.xc_played.proofs.TurnRows.{row_compensates, row_ends_late, row_starts, row_commit_enters, row_abort_enters}
+
+-- only a job and the marks changed
+waits_only : (old new : Now) (at : ℕ) (job' : SeenJob) (marks : ℕ → Option Mark) → new ≡ record old { jobs = slice_set old.jobs at job'; marks = marks }
+    → new ≡ record old { jobs = slice_set old.jobs at job'; marks = new.marks }
+waits_only old new at job' marks is =
+    is ∙ ap (λ (ms : ℕ → Option Mark). record old { jobs = slice_set old.jobs at job'; marks = ms }) (sym (ap (λ (n : Now). n.marks) is))
 
 module _ (s : Setting) (old : Now) (at : ℕ) (job : SeenJob) (there : slice_get old.jobs at ≡ Some job)
-    (told : AreTold s (length old.words) old.journal old.jobs) (flying : AreFlying s old) (tells : IsTrue s.tells) (new : Now) where
+    (told : AreTold s (length old.words) old.marks old.journal old.jobs) (flying : AreFlying s old) (tells : IsTrue s.tells) (new : Now) where
   idle_flies : (answer : Turn) → job.doing ≡ Idle → IdleTurn s at old job answer new → AreFlying s new
   idle_flies (turn.Ended end) doing row = subst (AreFlying s) (sym row.1) (row_ends s old at job there told flying (Ended end) (ap active_in doing) refl)
   idle_flies turn.Went doing row = subst (AreFlying s) (sym row.1) (row_begins s old at job there told flying (ap active_in doing))
-  idle_flies (turn.Busy object holder) doing row = absurd row
+  idle_flies (turn.Busy object number) doing row =
+      row_waits s old at job there told flying new (waiting job) refl refl refl (waits_only old new at (waiting job) old.marks row.1)
   idle_flies turn.NoMemory doing row = absurd row
 
   starved_flies : (answer : Turn) → job.doing ≡ Starved → StarvedTurn at old job answer new → AreFlying s new
@@ -48,12 +58,26 @@ module _ (s : Setting) (old : Now) (at : ℕ) (job : SeenJob) (there : slice_get
     running_flies : (answer : Turn) → tx.phase ≡ Running → RunningTurn s at old job tx answer new → AreFlying s new
     running_flies turn.Went runs row = asked_flies _ runs row
     running_flies turn.NoMemory runs row = row_wants s old at job there told flying tx doing new tells runs row
-    running_flies (turn.Busy object holder) runs row = absurd row
+    running_flies (turn.Busy object holder) runs row =
+        row_waits s old at job there told flying new (waiting (with_tx job row.place tx)) (sym doing) refl refl
+        (waits_only old new at (waiting (with_tx job row.place tx)) _ row.behind)
     running_flies (turn.Ended end) runs row = absurd row
 
+    marked_flies : (m : Option Mark) (answer : Turn) → tx.phase ≡ Running → MarkedTurn s at old job tx m answer new → AreFlying s new
+    marked_flies None answer runs row = running_flies answer runs row
+    marked_flies (Some m) turn.Went runs row = row_revokes s old at job there told flying tx doing new m runs row
+    marked_flies (Some m) turn.NoMemory runs row = absurd row
+    marked_flies (Some m) (turn.Busy object holder) runs row = absurd row
+    marked_flies (Some m) (turn.Ended end) runs row = absurd row
+
+    next_flies : (call : LateCall) (calls : List LateCall) → tx.phase ≡ Committing → late_left tx ≡ call ∷ calls → NextLate s at old job tx call new
+        → AreFlying s new
+    next_flies (Thread block) calls commits some row = row_starts s old at job there told flying tx doing new block calls commits some row
+    next_flies call calls commits some row = row_ends_late s old at job there told flying tx doing new call calls tells commits some row
+
     late_flies : (left : List LateCall) → tx.phase ≡ Committing → late_left tx ≡ left → LateTurn s at old job tx left new → AreFlying s new
-    late_flies [] commits none row = subst (AreFlying s) (sym row) (row_commit_enters s old at job there told flying tx doing commits none)
-    late_flies (call ∷ calls) commits some row = row_ends_late s old at job there told flying tx doing new call calls tells commits some row
+    late_flies [] commits none row = subst (AreFlying s) (sym row.0) (row_commit_enters s old at job there told flying tx doing commits none)
+    late_flies (call ∷ calls) commits some row = next_flies call calls commits some row
 
     committing_flies : (answer : Turn) → tx.phase ≡ Committing → CommittingTurn s at old job tx answer new → AreFlying s new
     committing_flies turn.Went commits row = late_flies (late_left tx) commits refl row
@@ -62,7 +86,7 @@ module _ (s : Setting) (old : Now) (at : ℕ) (job : SeenJob) (there : slice_get
     committing_flies (turn.Ended end) commits row = absurd row
 
     back_flies : (c : Cause) (pending : List Undo) → tx.phase ≡ Undoing c → tx.undo.pending ≡ pending → BackTurn s at old job tx c pending new → AreFlying s new
-    back_flies c [] undoes none row = subst (AreFlying s) (sym row) (row_abort_enters s old at job there told flying tx doing c undoes none)
+    back_flies c [] undoes none row = row_abort_enters s old at job there told flying tx doing new c tells undoes none row
     back_flies c (u ∷ pending) undoes some row = row_compensates s old at job there told flying tx doing new c tells undoes row
 
     undoing_flies : (c : Cause) (answer : Turn) → tx.phase ≡ Undoing c → UndoingTurn s at old job tx c answer new → AreFlying s new
@@ -72,7 +96,7 @@ module _ (s : Setting) (old : Now) (at : ℕ) (job : SeenJob) (there : slice_get
     undoing_flies c (turn.Ended end) undoes row = absurd row
 
     active_flies : (p : Phase) (answer : Turn) → tx.phase ≡ p → ActiveTurn s at old job tx p answer new → AreFlying s new
-    active_flies Running answer is row = running_flies answer is row
+    active_flies Running answer is row = marked_flies (old.marks tx.number) answer is row
     active_flies Committing answer is row = committing_flies answer is row
     active_flies (Undoing c) answer is row = undoing_flies c answer is row
 
@@ -84,5 +108,5 @@ module _ (s : Setting) (old : Now) (at : ℕ) (job : SeenJob) (there : slice_get
 
 -- a turn of one job keeps the flights of all
 pub turn_flies : (s : Setting) (at : ℕ) (old new : Now) (answer : Turn) → IsTrue s.tells → IsTurn s at old answer new
-    → AreTold s (length old.words) old.journal old.jobs → AreFlying s old → AreFlying s new
+    → AreTold s (length old.words) old.marks old.journal old.jobs → AreFlying s old → AreFlying s new
 turn_flies s at old new answer tells t told flying = doing_flies s old at t.job t.stands told flying tells new t.job.doing answer refl t.row

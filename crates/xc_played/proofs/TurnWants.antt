@@ -1,5 +1,5 @@
 -- A transaction that turns back for want of memory keeps all flights.
-use Rattle.std.proofs.Common.{◌≡◌, ℕ, true, inl, inr, List, [], ◌∷◌, ◌++◌, length, refl, ap, sym, ◌∙◌, subst, Some}
+use Rattle.std.proofs.Common.{◌≡◌, ℕ, inl, inr, List, [], ◌∷◌, ◌++◌, length, refl, ap, sym, ◌∙◌, subst, Some}
 use Rattle.std.specs.Prelude.{All, slice_get, slice_set}
 use Rattle.std.proofs.lemmas.List.{append-nil}
 use Rattle.xc_data.specs.declared.call.Answer.{Answer}
@@ -12,7 +12,7 @@ use Rattle.xc_data.specs.Claims.{holding, held_of}
 use Rattle.xc_host.specs.Contents.{Contents, contents_of}
 use Rattle.xc_script.specs.declared.ask.Ask.{Ask}
 use Rattle.xc_script.specs.declared.ask.Ask.TheVariants as ask
-use Rattle.xc_script.specs.Position.{Position, walk_of}
+use Rattle.xc_script.specs.Position.{Position}
 use Rattle.xc_world.specs.World.{World}
 use Rattle.xc_world.specs.Modes.{claims_of}
 use Rattle.xc_world.specs.Run.{Ran, asked_of}
@@ -24,7 +24,7 @@ use Rattle.xc_story.specs.Played.{HoldsFor}
 use Rattle.xc_story.specs.Told.{asked_of_tx}
 use Rattle.xc_story.specs.Truth.{IsPartOf, next_claims}
 use Rattle.xc_story.specs.Seen.{SeenTx, SeenJob, Active, Now, active_in}
-use Rattle.xc_story.specs.Rows.{DoesPart, HasNoRival, HoldsWanting, IsLeft, asked_at, claims_at, is_built, parts_of, seen, wanting, with_tx}
+use Rattle.xc_story.specs.Rows.{DoesPart, HasNoRival, HoldsWanting, IsLeft, asked_at, claims_at, parts_of, seen, wanting, with_tx}
 use Rattle.xc_flight.specs.Active.{Tx, HoldTheSame}
 use Rattle.xc_flight.specs.Active as flight
 use Rattle.xc_flight.specs.Standing.{Standing, InFlight, IsActive, turned}
@@ -34,8 +34,7 @@ use Rattle.xc_flight.proofs.Claiming.{back_held, claimed, covers_through, merged
 use Rattle.xc_flight.proofs.Together.{call_granted, two_turns}
 use Rattle.xc_flight.proofs.Undoing.{turns_back, wants}
 use Rattle.xc_played.specs.Flying.{IsUnnoted, flown, flown_phase, ran_at}
-use Rattle.xc_story.proofs.AskedCalls.{asked_built}
-use Rattle.xc_played.proofs.BuiltCalls.{built-taken, unrecorded}
+use Rattle.xc_played.proofs.BuiltCalls.{untaken, unrecorded}
 use Rattle.xc_played.proofs.FlownLists.{flown_there, none_unnoted}
 use Rattle.xc_played.proofs.TurnBack.{back_keeps}
 use Rattle.xc_played.proofs.TurnCalls.{holding-more}
@@ -51,18 +50,19 @@ part_itself (x ∷ xs) = inl (refl, part_itself xs)
 abbrev pub asked_by : Call → Answer → Asked
 asked_by c answer = record { call = c; answer = answer }
 
-module _ (s : Setting) (p : Progress) (words : List ℕ) (contents : Contents) (jobs : List SeenJob) (next at : ℕ) (job : SeenJob) (place : Position)
+module _ (s : Setting) (p : Progress) (words : List ℕ) (contents : Contents) (started : List (List ℕ)) (jobs : List SeenJob) (next at : ℕ)
+    (job : SeenJob) (place : Position)
     (tx : SeenTx)
-    (there : slice_get jobs at ≡ Some job) (doing : job.doing ≡ Active tx) (f : Flying s p words contents jobs next) (runs : tx.phase ≡ Running) where
+    (there : slice_get jobs at ≡ Some job) (doing : job.doing ≡ Active tx) (f : Flying s p words contents started jobs next) (runs : tx.phase ≡ Running) where
   -- it leaves nothing, and holds no more
-  pub wants_keeps : Flying s p words contents (slice_set jobs at (with_tx job place (wanting tx [] tx.held))) next
+  pub wants_keeps : Flying s p words contents started (slice_set jobs at (with_tx job place (wanting tx [] tx.held))) next
   wants_keeps =
-      subst (λ us. Flying s p words contents
+      subst (λ us. Flying s p words contents started
       (slice_set jobs at (with_tx job place (record tx { phase = Undoing cause.NoMemory; undo = record tx.undo { pending = us } }))) next)
-      (sym (append-nil tx.undo.pending)) (back_keeps s p words contents jobs next at job place tx there doing f cause.NoMemory runs)
+      (sym (append-nil tx.undo.pending)) (back_keeps s p words contents started jobs next at job place tx there doing f cause.NoMemory runs)
 
   abbrev standing : Standing
-  standing = standing_in p.state.world (world_in p.state.world words contents) f.unnoted jobs next
+  standing = standing_in p.state.world (world_in p.state.world words contents started) f.unnoted jobs next
 
   abbrev tx_flown : Tx
   tx_flown = flown job.me (f.unnoted at) tx
@@ -132,14 +132,14 @@ module _ (s : Setting) (p : Progress) (words : List ℕ) (contents : Contents) (
           (claims, subst (IsPartOf claims) wanted (part_itself claims), ap (λ l. holding l claims) held_so ∙ holding-more ran.touched claims)
 
       wanter_keeps : (us : List Asked) (contents' : Contents)
-          → InFlight (turned standing at (Some (flown job.me us wanter)) (world_in p.state.world words contents'))
+          → InFlight (turned standing at (Some (flown job.me us wanter)) (world_in p.state.world words contents' started))
           → IsUnnoted (Undoing cause.NoMemory) (asked_of_tx s (slice_get p.jobs at) wanter) us
-          → Flying s p words contents' (slice_set jobs at (with_tx job place wanter)) next
+          → Flying s p words contents' started (slice_set jobs at (with_tx job place wanter)) next
       wanter_keeps us contents' flies was =
-          goes_on s p words words contents contents' jobs next at us job place tx wanter there doing refl f flies was wanter_holds
+          goes_on s p words words contents contents' started started jobs next at us job place tx wanter there doing refl f flies was wanter_holds
 
     -- it leaves nothing, behind its claims
-    pub wants_claims_keeps : Flying s p words contents (slice_set jobs at (with_tx job place (wanting tx [] all_held))) next
+    pub wants_claims_keeps : Flying s p words contents started (slice_set jobs at (with_tx job place (wanting tx [] all_held))) next
     wants_claims_keeps =
         wanter_keeps [] (f.unnoted at) contents
         (subst (λ us. InFlight (turned standing at (Some (flown job.me (f.unnoted at)
@@ -149,8 +149,9 @@ module _ (s : Setting) (p : Progress) (words : List ℕ) (contents : Contents) (
         (is_running standing at tx_flown f.flies active running).all_noted)
 
     -- the call did its part, with this answer, and these records are left
-    module _ (left : List Undo) (answer : Answer) (contents' : Contents) (is : is_built c ≡ true)
-        (does : DoesPart (seen (record p.state.world { words = words }) contents tx.writes) (seen (record p.state.world { words = words }) contents' tx.writes)
+    module _ (left : List Undo) (answer : Answer) (contents' : Contents)
+        (does : DoesPart (seen (record p.state.world { words = words; started = started }) contents tx.writes)
+        (seen (record p.state.world { words = words; started = started }) contents' tx.writes)
         (parts_of tx) (asked_by c answer) left) where
       abbrev asked_last : Asked
       asked_last = asked_by c answer
@@ -168,14 +169,14 @@ module _ (s : Setting) (p : Progress) (words : List ℕ) (contents : Contents) (
       wanter_is : wanting_in_flight mid.now claimant asked_last ≡ flown job.me (asked_last ∷ []) (wanting tx left all_held)
       wanter_is = λ i. record (flown job.me (asked_last ∷ []) (wanting tx left all_held)) {
         pending = tx.undo.pending ++ sym does.records i;
-        taken = built-taken c tx.me (did mid.now claimant asked_last).reply is i;
+        taken = (ap (λ items. tx.taken ++ items) (untaken c tx.me (did mid.now claimant asked_last).reply does.untaken) ∙ append-nil tx.taken) i;
       }
 
-      part_there : after_call mid.now claimant asked_last ≡ world_in p.state.world words contents'
+      part_there : after_call mid.now claimant asked_last ≡ world_in p.state.world words contents' started
       part_there = ap (λ (v : World). record v { words = words }) (sym does.world)
 
       -- it keeps all
-      pub wants_part_keeps : Flying s p words contents' (slice_set jobs at (with_tx job place (wanting tx left all_held))) next
+      pub wants_part_keeps : Flying s p words contents' started (slice_set jobs at (with_tx job place (wanting tx left all_held))) next
       wants_part_keeps =
           let wanter : SeenTx = wanting tx left all_held in
           wanter_keeps left (asked_last ∷ []) contents'
@@ -185,19 +186,19 @@ module _ (s : Setting) (p : Progress) (words : List ℕ) (contents : Contents) (
 
 -- ---- whatever it left
 module _ (s : Setting) (p : Progress) (old new : Now) (next at : ℕ) (job : SeenJob) (place : Position) (tx : SeenTx) (there : slice_get old.jobs at ≡ Some job)
-    (doing : job.doing ≡ Active tx) (f : Flying s p old.words old.contents old.jobs next) (runs : tx.phase ≡ Running)
+    (doing : job.doing ≡ Active tx) (f : Flying s p old.words old.contents old.started old.jobs next) (runs : tx.phase ≡ Running)
     (asks : asked_of_tx s (slice_get p.jobs at) tx ≡ asked_at s job.place) where
   abbrev Wanting : List Undo → List Claim → Contents → Type 0
-  Wanting left held contents = Flying s p old.words contents (slice_set old.jobs at (with_tx job place (wanting tx left held))) next
+  Wanting left held contents = Flying s p old.words contents old.started (slice_set old.jobs at (with_tx job place (wanting tx left held))) next
 
   -- a call that left nothing changed nothing at the host
   same_there : (a : Ask) → asked_at s job.place ≡ a → IsLeft old new (parts_of tx) a [] → new.contents ≡ old.contents
   same_there a asked (inl none) = none.1
   same_there (ask.Call c) asked (inr (answer, does)) =
-      let w = record p.state.world { words = old.words } in
+      let w = record p.state.world { words = old.words; started = old.started } in
       let d = does w refl in
       ap contents_of d.world
-      ∙ unrecorded (seen w old.contents tx.writes) tx.me tx.number c answer (asked_built (walk_of s.script job.place) c asked) (sym d.records)
+      ∙ unrecorded (seen w old.contents tx.writes) tx.me tx.number c answer d.untaken (sym d.records)
   same_there ask.Commit asked (inr part) = absurd part
   same_there ask.Abort asked (inr part) = absurd part
   same_there ask.End asked (inr part) = absurd part
@@ -209,7 +210,7 @@ module _ (s : Setting) (p : Progress) (old new : Now) (next at : ℕ) (job : See
       subst (Wanting left held) (sym (same_there a asked (subst (IsLeft old new (parts_of tx) a) same.0 leaves)))
       (subst (λ h. Wanting left h old.contents) (sym same.1)
       (subst (λ us. Wanting us tx.held old.contents) (sym same.0)
-      (wants_keeps s p old.words old.contents old.jobs next at job place tx there doing f runs)))
+      (wants_keeps s p old.words old.contents old.started old.jobs next at job place tx there doing f runs)))
 
   -- it keeps all
   pub wants_so : (a : Ask) (left : List Undo) (held : List Claim) → asked_at s job.place ≡ a → HoldsWanting old at tx a left held
@@ -219,11 +220,11 @@ module _ (s : Setting) (p : Progress) (old new : Now) (next at : ℕ) (job : See
       subst (Wanting left held) (sym none.1)
       (subst (λ h. Wanting left h old.contents) (sym more.1)
       (subst (λ us. Wanting us (holding tx.held (claims_at old tx c)) old.contents) (sym none.0)
-      (wants_claims_keeps s p old.words old.contents old.jobs next at job place tx there doing f runs c (asks ∙ asked) more.0)))
+      (wants_claims_keeps s p old.words old.contents old.started old.jobs next at job place tx there doing f runs c (asks ∙ asked) more.0)))
   wants_so (ask.Call c) left held asked (inr more) (inr (answer, does)) =
       subst (λ h. Wanting left h new.contents) (sym more.1)
-      (wants_part_keeps s p old.words old.contents old.jobs next at job place tx there doing f runs c (asks ∙ asked) more.0 left answer new.contents
-      (asked_built (walk_of s.script job.place) c asked) (does (record p.state.world { words = old.words }) refl))
+      (wants_part_keeps s p old.words old.contents old.started old.jobs next at job place tx there doing f runs c (asks ∙ asked) more.0 left answer new.contents
+      (does (record p.state.world { words = old.words; started = old.started }) refl))
   wants_so ask.Commit left held asked same leaves = wants_same ask.Commit left held asked same leaves
   wants_so ask.Abort left held asked same leaves = wants_same ask.Abort left held asked same leaves
   wants_so ask.End left held asked same leaves = wants_same ask.End left held asked same leaves

@@ -1,6 +1,6 @@
 -- What is true of a station between two turns over a host that tells: each active transaction flies over the plain
 -- machine's world, where the journal left it.
-use Rattle.std.specs.Prelude.{◌≡◌, ℕ, suc, ◌+◌, List, [], ◌∷◌, map, slice_get, Option}
+use Rattle.std.specs.Prelude.{◌≡◌, ℕ, suc, ◌+◌, ◌++◌, List, [], ◌∷◌, map, slice_get, Option}
 use Rattle.std.specs.declared.option.Option.TheVariants.{None, Some}
 use Rattle.xc_data.specs.declared.call.Asked.{Asked}
 use Rattle.xc_data.specs.declared.entry.Cause.TheVariants as cause
@@ -8,7 +8,13 @@ use Rattle.xc_data.specs.declared.private.Private.{Private}
 use Rattle.xc_host.specs.Contents.{with_contents}
 use Rattle.xc_script.specs.declared.ask.Ask.{Ask}
 use Rattle.xc_script.specs.declared.ask.Ask.TheVariants as ask
-use Rattle.xc_world.specs.World.{World, State}
+use Rattle.xc_data.specs.declared.entry.KeptItem.{KeptItem}
+use Rattle.xc_data.specs.declared.entry.KeptItem.TheVariants.{Bytes, Message}
+use Rattle.xc_data.specs.declared.object.Object.{Object}
+use Rattle.xc_data.specs.declared.object.Object.TheVariants as object
+use Rattle.xc_data.specs.declared.undo.Undo.{Undo}
+use Rattle.xc_data.specs.declared.undo.Undo.TheVariants.{NewPipe, NewPair}
+use Rattle.xc_world.specs.World.{World, State, pipe_of, pair_of}
 use Rattle.xc_world.specs.Run.{Ran, asked_of, body}
 use Rattle.xc_story.specs.declared.phase.Phase.{Phase as TurnPhase}
 use Rattle.xc_story.specs.declared.phase.Phase.TheVariants as phase
@@ -34,7 +40,7 @@ IsUnnoted p next [] = Unit {0}
 IsUnnoted (phase.Undoing cause.NoMemory) (ask.Call call) (asked ∷ []) = asked.call ≡ call
 IsUnnoted p next unnoted = ⊥
 
--- an active transaction whose job's private state at the begin was this, with what isn't noted; no call takes data so far
+-- an active transaction whose job's private state at the begin was this, with what isn't noted
 abbrev pub flown : Private → List Asked → SeenTx → Tx
 flown began unnoted tx =
     record {
@@ -49,7 +55,7 @@ flown began unnoted tx =
       writes = tx.writes;
       pending = tx.undo.pending;
       ended = tx.undo.ended;
-      taken = [];
+      taken = tx.taken;
       late = tx.late;
       late_ends = tx.ends;
     }
@@ -68,9 +74,9 @@ flown_jobs unnoted (job ∷ jobs) = flown_in job.me (unnoted 0) job.doing ∷ fl
 abbrev pub state_of : Setting → Now → State
 state_of s now = (progress_of s.script now.journal).state
 
--- the station's world: its words, and what the host tells
+-- the station's world: its words, what the host tells with the kept data in front, and all jobs that were started
 abbrev pub world_now : Setting → Now → World
-world_now s now = record (with_contents (state_of s now).world now.contents) { words = now.words }
+world_now s now = record (with_contents (state_of s now).world now.contents) { words = now.words; started = now.started }
 
 -- all together
 abbrev pub standing : Setting → Now → (ℕ → List Asked) → Standing
@@ -86,6 +92,17 @@ standing s now unnoted =
 abbrev pub ran_at : World → Private → SeenTx → Ran
 ran_at w began tx = body w began tx.number (asked_of tx.calls tx.replies)
 
+-- ---- the pipe or the pair from which an item was taken
+abbrev pub taken_from : KeptItem → Object
+taken_from (Bytes pipe bytes) = object.Pipe pipe
+taken_from (Message pair side bytes) = object.Pair pair
+
+-- ---- what a record made is empty
+abbrev pub IsEmptyNew : World → Undo → Type 0
+IsEmptyNew w (NewPipe num) = (pipe_of w num).held ≡ []
+IsEmptyNew w (NewPair num) = ((pair_of w num).first ≡ []) × ((pair_of w num).second ≡ [])
+IsEmptyNew w _ = Unit {0}
+
 -- ---- between two turns: the jobs' transactions fly, and beside it what an entry and a begin need
 pub record AreFlying (s : Setting) (now : Now) : Type 0 where
   -- what isn't noted, by the places of jobs: at most a call that was asked
@@ -100,6 +117,8 @@ pub record AreFlying (s : Setting) (now : Now) : Type 0 where
   -- the handles and the blocks of the jobs are those that the journal leads to
   pub handles : (state_of s now).handles ≡ map (λ (job : SeenJob). job.me.places) now.jobs
   pub started : (state_of s now).world.started ≡ map (λ (job : SeenJob). job.block) now.jobs
+  -- and the script's blocks stay
+  pub blocks : (state_of s now).world.blocks ≡ s.script.outline.jobs ++ s.script.outline.bodies
   -- each active one holds what its calls claimed, in the order in which they did
   pub holds : (at : ℕ) (job : SeenJob) (tx : SeenTx) → slice_get now.jobs at ≡ Some job → active_of job ≡ Some tx
       → HoldsFor (ran_at (state_of s now).world job.me tx) (asked_of_tx s (slice_get (progress_of s.script now.journal).jobs at) tx)

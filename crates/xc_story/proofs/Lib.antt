@@ -1,2 +1,3 @@
 pub mod AskedCalls
 pub mod KeptCalls
+pub mod StartedCalls

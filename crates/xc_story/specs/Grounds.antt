@@ -1,21 +1,22 @@
--- Conflicts that name a holder.
-use Rattle.std.specs.Prelude.{◌≡◌, ◌≢◌, ◌⊎◌, ℕ, ◌≤◌, Bool, false, List, length, get_or, slice_get, Option, Contains, IsTrue}
+-- Conflicts that name a holder, and revocations that name an older transaction.
+use Rattle.std.specs.Prelude.{◌≡◌, ◌≢◌, ◌⊎◌, ℕ, ◌<◌, ◌≤◌, Bool, false, List, ◌++◌, length, get_or, slice_get, Option, Contains, IsTrue}
 use Rattle.std.specs.declared.option.Option.TheVariants.{None, Some}
 use Rattle.xc_data.specs.Claims.{compatible}
 use Rattle.xc_data.specs.declared.object.Object.{Object}
 use Rattle.xc_data.specs.declared.claim.Claim.{Claim}
 use Rattle.xc_data.specs.declared.entry.Cause.{Cause}
-use Rattle.xc_data.specs.declared.entry.Cause.TheVariants.{Conflict}
+use Rattle.xc_data.specs.declared.entry.Cause.TheVariants.{Conflict, Revoked}
 
--- what a conflict is judged by: an entry, or an active transaction
+-- what a conflict or a revocation is judged by: an entry, or an active transaction
 pub record Part : Type 0 where
   pub number : ℕ
   pub job : ℕ
+  pub rank : ℕ
   pub began : ℕ
   pub held : List Claim
   -- what the call claims that it is asked next
   pub wanted : List Claim
-  -- why it is aborted, where it is
+  -- why it is aborted, or will be at its next turn, where it is
   pub cause : Option Cause
 
 module _ (log : List Part) (active : List (Option Part)) where
@@ -23,16 +24,19 @@ module _ (log : List Part) (active : List (Option Part)) where
   abbrev pub Stands : ℕ → Part → Type 0
   Stands at who = ((p : ℕ) × (slice_get log p ≡ Some who) × (at ≤ p)) ⊎ ((j : ℕ) × (get_or active j None ≡ Some who))
 
-  -- a transaction of another job that had begun by then, hadn't ended, and holds the object
-  pub record Holder (object : Object) (holder at job : ℕ) : Type 0 where
+  -- the transaction of this number, of another job, that had begun by then and hadn't ended
+  pub record Other (number at job : ℕ) : Type 0 where
     pub who : Part
     pub stands : Stands at who
-    pub numbered : who.number ≡ holder
+    pub numbered : who.number ≡ number
     pub other : who.job ≢ job
     pub began : who.began ≤ at
-    pub claim : Claim
-    pub names : claim.object ≡ object
-    pub holds : Contains who.held claim
+
+-- one of these claims is of this object
+pub record Holds (held : List Claim) (object : Object) : Type 0 where
+  pub claim : Claim
+  pub names : claim.object ≡ object
+  pub among : Contains held claim
 
 -- among these claims one is of the same object, and the two don't go together
 abbrev pub Clashes : List Claim → Claim → Type 0
@@ -44,12 +48,24 @@ module _ (tells : Bool) (log : List Part) (active : List (Option Part)) where
   pub record Ground (place : ℕ) (e : Part) (object : Object) (holder at : ℕ) : Type 0 where
     pub before : e.began ≤ at
     pub within : at ≤ place
-    pub named : Holder log active object holder at e.job
-    pub clash : IsTrue tells → Clashes e.wanted named.claim
+    pub named : Other log active holder at e.job
+    pub holds : Holds named.who.held object
+    pub clash : IsTrue tells → Clashes e.wanted holds.claim
+
+  -- a revocation of the one at this place: it had begun by then, holds the object, and names an older transaction; over a
+  -- host that tells, that one holds what this one holds, or the call that it was asked next touches it
+  pub record Revocation (place : ℕ) (e : Part) (object : Object) (by at : ℕ) : Type 0 where
+    pub before : e.began ≤ at
+    pub within : at ≤ place
+    pub named : Other log active by at e.job
+    pub older : named.who.rank < e.rank
+    pub holds : Holds e.held object
+    pub clash : IsTrue tells → Clashes (named.who.held ++ named.who.wanted) holds.claim
 
   -- why one is aborted is grounded
   abbrev pub IsGrounded : ℕ → Part → Option Cause → Type 0
   IsGrounded place e (Some (Conflict object holder at)) = Ground place e object holder at
+  IsGrounded place e (Some (Revoked object by at)) = Revocation place e object by at
   IsGrounded place e _ = Unit {0}
 
 -- of all, those in the journal and the active ones, by job

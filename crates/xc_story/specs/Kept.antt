@@ -9,6 +9,7 @@ use Rattle.xc_story.specs.Told.{AreTold}
 use Rattle.xc_story.specs.Spoken.{AreSpoken}
 use Rattle.xc_story.specs.Holding.{AreApart}
 use Rattle.xc_story.specs.Counted.{AreCounted}
+use Rattle.xc_story.specs.Started.{AreStarted}
 
 -- the rules allow an attempt and a try, and the script was read
 pub record IsSet (s : Setting) : Type 0 where
@@ -16,12 +17,13 @@ pub record IsSet (s : Setting) : Type 0 where
   pub attempts : 1 ≤ s.rules.attempts
   pub tries : 1 ≤ s.rules.undo_tries
 
--- the stories, the words, what is held, and the count of the host's faults, which was `faults` at the start
+-- the stories, the words, what is held, the count of the host's faults, which was `faults` at the start, and the started jobs
 pub record IsKept (s : Setting) (faults : ℕ) (now : Now) : Type 0 where
-  pub told : AreTold s (length now.words) now.journal now.jobs
+  pub told : AreTold s (length now.words) now.marks now.journal now.jobs
   pub spoken : AreSpoken (progress_of s.script now.journal).words now.words now.jobs
   pub apart : AreApart now.jobs
   pub counted : AreCounted faults now
+  pub started : AreStarted now
 
 -- ---- jobs that have ended
 -- it has ended

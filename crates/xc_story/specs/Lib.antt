@@ -13,6 +13,8 @@ pub mod Rows
 pub mod Seen
 pub mod Setting
 pub mod Spoken
+pub mod Started
 pub mod Told
 pub mod Truth
+pub mod Waiting
 pub mod WordCalls

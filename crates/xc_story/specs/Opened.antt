@@ -2,24 +2,28 @@
 use Rattle.std.specs.Prelude.{◌≡◌, ℕ, List, [], map}
 use Rattle.std.specs.declared.option.Option.TheVariants.{None}
 use Rattle.xc_text.specs.declared.script.Script.{Script}
-use Rattle.xc_world.specs.World.{beginning, no_handles}
+use Rattle.xc_world.specs.Opening.{opening_handles}
+use Rattle.xc_world.specs.World.{beginning}
 use Rattle.xc_script.specs.Ask.{fresh_job, block_place}
 use Rattle.xc_script.specs.Position.{at_begin}
 use Rattle.xc_story.specs.Seen.{SeenJob, Idle, Now}
 
--- the job of a block at its begin
+-- the job of a block at its begin, with the prologue's handles
 abbrev pub opened_job : Script → List ℕ → SeenJob
 opened_job script block =
     record {
       block = block;
-      me = beginning no_handles;
+      me = beginning (opening_handles script.outline);
       place = at_begin (fresh_job script (block_place script block));
       attempts = None;
+      busy = 0;
       doing = Idle;
     }
 
--- the script's words, an empty journal, and its jobs before their first transactions
+-- the script's words, an empty journal, its jobs before their first transactions, which alone are started, and no mark
 pub record IsOpening (script : Script) (now : Now) : Type 0 where
   pub words : now.words ≡ script.outline.words
   pub journal : now.journal ≡ []
   pub jobs : now.jobs ≡ map (opened_job script) script.outline.jobs
+  pub started : now.started ≡ script.outline.jobs
+  pub marks : (n : ℕ) → now.marks n ≡ None

@@ -1,5 +1,5 @@
 -- What an active transaction noted, on the plain machine.
-use Rattle.std.specs.Prelude.{◌≡◌, ℕ, ◌+◌, List, [], ◌++◌, length, map, take, slice_get, IsTrue}
+use Rattle.std.specs.Prelude.{◌≡◌, ℕ, ◌+◌, List, ◌++◌, length, map, take, slice_get, IsTrue}
 use Rattle.xc_data.specs.Claims.{held_of}
 use Rattle.xc_data.specs.declared.claim.Claim.{Claim}
 use Rattle.xc_data.specs.declared.undo.Undo.{Undo}

@@ -1,6 +1,6 @@
 -- What a journal has led to: the plain machine's state, and where each started job stands.
 use Rattle.std.specs.Prelude.{ℕ, ◌+◌, ◌-◌, Bool, true, false, List, [], ◌∷◌, ◌++◌, length, map}
-use Rattle.std.specs.Prelude.{slice_get, slice_set, replicate, Option, unwrap_or, if◌then◌else◌}
+use Rattle.std.specs.Prelude.{slice_get, slice_set, replicate, Option, unwrap_or}
 use Rattle.std.specs.declared.option.Option.TheVariants.{None, Some}
 use Rattle.std.specs.List.{fold}
 use Rattle.xc_data.specs.declared.call.Call.{Call}
@@ -103,10 +103,14 @@ committed_state state job run blocks =
 abbrev pub handed_on : Script → Variables → Variables
 handed_on script variables = record (no_variables script) { values = variables.values }
 
+-- a job of a block that was started by one with these variables
+abbrev pub started_from : Script → Variables → List ℕ → Job
+started_from script variables block = record { block = block_place script block; next = 0; variables = handed_on script variables }
+
 -- the job of a block that was started
 abbrev pub started_job : Script → Job → ℕ → List ℕ → Following
 started_job script starter since block =
-    untried block (record { block = block_place script block; next = 0; variables = handed_on script starter.variables }) since
+    untried block (started_from script starter.variables block) since
 
 -- the job behind a commit: at its next transaction, where the slots of the kept calls have taken their ends
 abbrev pub committed_job : Script → Job → List Call → List Reply → List LateEnd → Job

@@ -1,7 +1,9 @@
 -- The table of turns: from one moment to the next, a row for each thing that a job may do.
-use Rattle.std.specs.Prelude.{◌≡◌, ◌≢◌, ◌⊎◌, ℕ, ◌+◌, ◌<◌, ◌≤◌, Bool, true, false, List, [], ◌∷◌, ◌++◌, length, slice_get, slice_set}
+use Rattle.std.specs.Prelude.{◌≡◌, ◌≢◌, ◌⊎◌, ℕ, ◌+◌, ◌<◌, ◌≤◌, Bool, true, false, List, [], ◌∷◌, ◌++◌, length, slice_get}
 use Rattle.std.specs.Prelude.{All, Contains, IsSome, IsTrue}
-use Rattle.std.specs.Prelude.{Option, nat_lt, if◌then◌else◌}
+use Rattle.std.specs.Prelude.{Option, map, nat_eq, nat_lt, if◌then◌else◌}
+use Rattle.std.specs.Cmp.Lexicographic.{pointwise}
+use Rattle.std.specs.List.{list_any}
 use Rattle.std.specs.declared.option.Option.TheVariants.{None, Some}
 use Rattle.xc_data.specs.Claims.{compatible, holding}
 use Rattle.xc_data.specs.Counts.{CountsFault, CountsFaults}
@@ -9,7 +11,9 @@ use Rattle.xc_data.specs.Faults.{is_fault_reply, is_fault_end, end_faults}
 use Rattle.xc_data.specs.declared.call.Answer.{Answer}
 use Rattle.xc_data.specs.declared.call.Answer.TheVariants as answer
 use Rattle.xc_data.specs.declared.call.LateCall.{LateCall}
+use Rattle.xc_data.specs.declared.call.LateCall.TheVariants.{Thread}
 use Rattle.xc_data.specs.declared.call.LateEnd.{LateEnd}
+use Rattle.xc_data.specs.declared.call.LateEnd.TheVariants as late_end
 use Rattle.xc_data.specs.declared.call.Asked.{Asked}
 use Rattle.xc_data.specs.declared.call.Call.{Call}
 use Rattle.xc_data.specs.declared.call.Call.TheVariants as call
@@ -31,6 +35,7 @@ use Rattle.xc_data.specs.declared.undo.UndoEnd.{UndoEnd}
 use Rattle.xc_compensate.specs.Records.{Records, way_of}
 use Rattle.xc_deferred.specs.Does.{DoesLate}
 use Rattle.xc_host.specs.Contents.{Contents, contents_of, with_contents, world_of}
+use Rattle.xc_text.specs.declared.script.Script.{Script}
 use Rattle.xc_text.specs.declared.script.Statement.{Statement}
 use Rattle.xc_script.specs.declared.ask.Ask.{Ask}
 use Rattle.xc_script.specs.declared.ask.Ask.TheVariants as ask
@@ -42,19 +47,23 @@ use Rattle.xc_world.specs.World.{World, beginning}
 use Rattle.xc_world.specs.Act.{act}
 use Rattle.xc_world.specs.Act.Step.{step_to}
 use Rattle.xc_world.specs.Ends.{IsLegalEnd}
-use Rattle.xc_world.specs.Effects.{undone_to}
+use Rattle.xc_world.specs.Effects.{takes_data, undone_to}
 use Rattle.xc_world.specs.Fits.{fits, answer_of}
 use Rattle.xc_world.specs.Late.{is_late, kept_call}
 use Rattle.xc_world.specs.Modes.{claims_of}
+use Rattle.xc_world.specs.Run.{taken_by}
 use Rattle.xc_world.specs.Trail.{recorded}
 use Rattle.xc_story.specs.declared.phase.Attempts.{Attempts}
+use Rattle.xc_data.specs.declared.entry.Mark.{Mark}
 use Rattle.xc_story.specs.declared.phase.Phase.{Phase}
 use Rattle.xc_story.specs.declared.phase.Phase.TheVariants.{Running, Committing, Undoing}
 use Rattle.xc_story.specs.Setting.{Setting}
 use Rattle.xc_story.specs.WordCalls.{IsWordStep}
-use Rattle.xc_story.specs.LateCalls.{waits}
+use Rattle.xc_story.specs.LateCalls.{waits, started_late}
+use Rattle.xc_story.specs.Progress.{started_from}
 use Rattle.xc_story.specs.Seen.{SeenTx, SeenJob, Doing, Idle, Active, Starved, Ended, Now}
-use Rattle.xc_story.specs.Seen.{active_of, begun_count, failures, late_left, rank_of, with_job, entering}
+use Rattle.xc_story.specs.Seen.{active_of, begun_count, failures, late_left, rank_of, with_job, with_kept, entering, joined}
+use Rattle.xc_story.specs.Seen.{revoked, unmarked, waiting, Touches}
 
 -- ---- where a job stands
 -- its next transaction, where one is left
@@ -81,11 +90,43 @@ pub record IsSamePosition (s : Setting) (old new : Position) : Type 0 where
 abbrev pub with_tx : SeenJob → Position → SeenTx → SeenJob
 with_tx job place tx = record job { place = place; doing = Active tx }
 
+-- this transaction is the active one of the job in this place
+abbrev pub IsActiveAt : List SeenJob → ℕ → SeenTx → Type 0
+IsActiveAt jobs j tx = (job : SeenJob) × (slice_get jobs j ≡ Some job) × (active_of job ≡ Some tx)
+
 -- ---- an idle job
+-- this cause names this transaction, for this object
+abbrev pub Names : Cause → Object → ℕ → Type 0
+Names (cause.Conflict met holder at) object number = (met ≡ object) × (holder ≡ number)
+Names (cause.Revoked met by at) object number = (met ≡ object) × (by ≡ number)
+Names _ object number = ⊥
+
+-- the last attempt's does, where one failed
+abbrev pub NamesLast : Option Attempts → Object → ℕ → Type 0
+NamesLast None object number = ⊥
+NamesLast (Some a) object number = Names a.last object number
+
+-- a transaction of this number is active
+abbrev pub IsActiveNumber : List SeenJob → ℕ → Type 0
+IsActiveNumber jobs number = (j : ℕ) × (tx : SeenTx) × IsActiveAt jobs j tx × (tx.number ≡ number)
+
+-- it waits for the transaction that ended its last attempt: that one is active, and patience is left
+pub record IsWaiting (s : Setting) (now : Now) (job : SeenJob) (object : Object) (number : ℕ) : Type 0 where
+  pub left : IsSome (body_at s job.place)
+  pub attempts : failures job.attempts < s.rules.attempts
+  pub named : NamesLast job.attempts object number
+  pub active : IsActiveNumber now.jobs number
+  pub patient : job.busy < s.rules.patience
+
+-- it waits for nobody
+abbrev pub IsFree : Setting → Now → SeenJob → Type 0
+IsFree s now job = (object : Object) (number : ℕ) → IsWaiting s now job object number → ⊥
+
 -- its next transaction may begin
 pub record IsReady (s : Setting) (now : Now) (job : SeenJob) : Type 0 where
   pub left : IsSome (body_at s job.place)
   pub attempts : failures job.attempts < s.rules.attempts
+  pub free : IsFree s now job
   pub room : begun_count now < 10000
 
 -- a transaction that has just begun
@@ -99,6 +140,7 @@ new_tx number rank began me =
       me = me;
       writes = [];
       undo = record { pending = []; ended = [] };
+      taken = [];
       calls = [];
       replies = [];
       held = [];
@@ -110,7 +152,13 @@ new_tx number rank began me =
 abbrev pub beginning_job : Now → SeenJob → SeenJob
 beginning_job now job =
     let number = begun_count now + 1 in
-    with_tx job (record job.place { begun = job.place.variables }) (new_tx number (rank_of job.attempts number) (length now.journal) job.me)
+    let tx = new_tx number (rank_of job.attempts number) (length now.journal) job.me in
+    record (with_tx job (record job.place { begun = job.place.variables }) tx) { busy = 0 }
+
+-- the station behind a begin: the new transaction has no mark
+abbrev pub beginning_at : Now → ℕ → SeenJob → Now
+beginning_at now at job =
+    record (with_job now at (beginning_job now job)) { marks = unmarked now.marks (begun_count now + 1) }
 
 -- it was tried as often as the rules allow, the last time with this cause
 abbrev pub IsSpent : Setting → Option Attempts → Cause → Type 0
@@ -122,21 +170,18 @@ abbrev pub IsEnding : Setting → Now → SeenJob → JobEnd → Type 0
 IsEnding s now job job_end.Done = body_at s job.place ≡ None
 IsEnding s now job (job_end.GaveUp c) = IsSome (body_at s job.place) × IsSpent s job.attempts c
 IsEnding s now job job_end.JournalFull =
-    IsSome (body_at s job.place) × (failures job.attempts < s.rules.attempts) × (10000 ≤ begun_count now)
+    IsSome (body_at s job.place) × (failures job.attempts < s.rules.attempts) × IsFree s now job × (10000 ≤ begun_count now)
 IsEnding s now job job_end.NoMemory = IsSome (body_at s job.place)
 
 module _ (s : Setting) (at : ℕ) (old : Now) (job : SeenJob) where
-  -- an idle job ends, or its next transaction begins
+  -- an idle job ends, waits, or its next transaction begins
   abbrev pub IdleTurn : Turn → Now → Type 0
   IdleTurn (turn.Ended end) new = IsEnding s old job end × (new ≡ with_job old at (record job { doing = Ended end }))
-  IdleTurn turn.Went new = IsReady s old job × (new ≡ with_job old at (beginning_job old job))
+  IdleTurn turn.Went new = IsReady s old job × (new ≡ beginning_at old at job)
+  IdleTurn (turn.Busy object number) new = IsWaiting s old job object number × (new ≡ with_job old at (waiting job))
   IdleTurn _ new = ⊥
 
 -- ---- claims of a running transaction against what others hold
--- this transaction is the active one of the job in this place
-abbrev pub IsActiveAt : List SeenJob → ℕ → SeenTx → Type 0
-IsActiveAt jobs j tx = (job : SeenJob) × (slice_get jobs j ≡ Some job) × (active_of job ≡ Some tx)
-
 -- it holds the claimed object in a mode that doesn't go together with the claimed one
 abbrev pub HoldsAgainst : SeenTx → Claim → Type 0
 HoldsAgainst tx c = (d : Claim) × Contains tx.held d × (d.object ≡ c.object) × (compatible c.mode d.mode ≡ false)
@@ -164,6 +209,15 @@ pub record IsFirstMet (jobs : List SeenJob) (at : ℕ) (claims : List Claim) (ob
   pub free : All (HasNoRival jobs at) front
   pub names : met.object ≡ object
   pub rival : IsRival jobs at met holder
+
+-- what becomes of a transaction's mark: a running one without a mark takes this one
+abbrev pub mark_behind : Phase → Option Mark → Mark → Option Mark
+mark_behind Running None new = Some new
+mark_behind phase kept new = kept
+
+-- the marks, where this transaction takes this one
+abbrev pub marked : (ℕ → Option Mark) → SeenTx → Mark → ℕ → Option Mark
+marked marks tx new n = if nat_eq n tx.number then mark_behind tx.phase (marks n) new else marks n
 
 -- ---- a running transaction makes the call that is asked
 -- the calls that scripts have so far
@@ -211,13 +265,15 @@ module _ (words : List ℕ) (was is : Contents) where
 abbrev pub parts_of : SeenTx → Parts
 parts_of tx = record { number = tx.number; me = tx.me; stores = tx.writes; undo = tx.undo }
 
--- the transaction behind a call: noted with its reply, what it claimed held, and kept for the commit where it replied so
+-- the transaction behind a call: noted with its reply, what it claimed held, what it took from a pipe or a pair noted,
+-- and kept for the commit where it replied so
 abbrev pub noting : SeenTx → Call → Reply → List Claim → Parts → SeenTx
 noting tx call reply claims parts =
     record tx {
       me = parts.me;
       writes = parts.stores;
       undo = parts.undo;
+      taken = tx.taken ++ taken_by call tx.me reply;
       calls = tx.calls ++ call ∷ [];
       replies = tx.replies ++ reply ∷ [];
       held = holding tx.held claims;
@@ -247,16 +303,13 @@ module _ (s : Setting) (at : ℕ) (old : Now) (job : SeenJob) (tx : SeenTx) wher
     pub reply : Reply
     pub place : Position
     pub parts : Parts
-    pub jobs : new.jobs ≡ slice_set old.jobs at (with_tx job place (noting tx call reply (claims_at old tx call) parts))
-    pub words : new.words ≡ old.words
-    pub journal : new.journal ≡ old.journal
+    pub behind : Touches old at (with_tx job place (noting tx call reply (claims_at old tx call) parts)) new
     -- the job stands behind the reply
     pub begin : IsSameBegin job.place place
     pub walk : walk_of s.script place ≡ answered (walk_of s.script job.place) reply
     pub nearer : job.place.at < place.at
-    -- it is kept for the commit or done now, and one of those that scripts have so far
+    -- it is kept for the commit or done now
     pub in_time : IsReplyInTime tx.me tx.number call reply
-    pub built : is_built call ≡ true
     -- the older records stay, and at most one comes behind them
     pub made : List Undo
     pub one : length made ≤ 1
@@ -271,15 +324,33 @@ module _ (s : Setting) (at : ℕ) (old : Now) (job : SeenJob) (tx : SeenTx) wher
     -- over a host that tells, all is the plain machine's
     pub does : IsTrue s.tells → DoesIn old.words old.contents new.contents (parts_of tx) parts call reply
 
-  -- a claim of the call meets a holder: the transaction undoes
+  -- a claim of the call meets a holder, which isn't younger, or for which no patience is left: the transaction undoes
   pub record Conflicts (call : Call) (new : Now) : Type 0 where
     pub object : Object
     pub holder : ℕ
     pub met : IsFirstMet old.jobs at (claims_at old tx call) object holder
+    pub stops : (met.rival.rival.rank ≤ tx.rank) ⊎ (s.rules.patience ≤ job.busy)
     pub place : Position
     pub same : IsSamePosition s job.place place
     pub behind : new
         ≡ with_job old at (with_tx job place (record tx { phase = Undoing (cause.Conflict object holder (length old.journal)) }))
+
+  -- a claim of the call meets a younger holder, and patience is left: the transaction waits, and the holder is marked
+  pub record Waits (object : Object) (holder : ℕ) (new : Now) : Type 0 where
+    pub call : Call
+    pub asked : asked_at s job.place ≡ ask.Call call
+    pub met : IsFirstMet old.jobs at (claims_at old tx call) object holder
+    pub younger : tx.rank < met.rival.rival.rank
+    pub patient : job.busy < s.rules.patience
+    pub place : Position
+    pub same : IsSamePosition s job.place place
+    pub behind : new ≡ record (with_job old at (waiting (with_tx job place tx))) {
+      marks = marked old.marks met.rival.rival (record { object = object; by = tx.number; at = length old.journal });
+    }
+
+  -- it is revoked, as its mark says
+  abbrev pub Revokes : Mark → Now → Type 0
+  Revokes m new = new ≡ with_job old at (with_tx job job.place (record tx { phase = Undoing (revoked m) }))
 
   -- it goes over to its commit: its stores are written
   pub record Commits (new : Now) : Type 0 where
@@ -295,8 +366,10 @@ module _ (s : Setting) (at : ℕ) (old : Now) (job : SeenJob) (tx : SeenTx) wher
     pub same : IsSamePosition s job.place place
     pub behind : new ≡ with_job old at (with_tx job place (record tx { phase = Undoing cause.Asked }))
 
--- from one world to another a call did its part, with this answer, before memory was wanting; these records are left of it
+-- from one world to another a call did its part, with this answer, before memory was wanting; these records are left of it.
+-- One that takes data gives it back, and did nothing
 pub record DoesPart (from to : World) (parts : Parts) (asked : Asked) (left : List Undo) : Type 0 where
+  pub untaken : takes_data asked.call ≡ false
   pub fits : IsTrue (fits from parts.me parts.number asked.call asked.answer)
   pub world : to ≡ (act from parts.me parts.number asked.call asked.answer).world
   pub records : left ≡ recorded from parts.me parts.number asked.call (act from parts.me parts.number asked.call asked.answer).reply
@@ -341,10 +414,7 @@ module _ (s : Setting) (at : ℕ) (old : Now) (job : SeenJob) (tx : SeenTx) wher
     pub one : length left ≤ 1
     pub held : List Claim
     pub holds : HoldsWanting old at tx (asked_at s job.place) left held
-    pub jobs : new.jobs ≡ slice_set old.jobs at (with_tx job place (wanting tx left held))
-    pub words : new.words ≡ old.words
-    pub journal : new.journal ≡ old.journal
-    pub faults : new.faults ≡ old.faults
+    pub behind : new ≡ record (with_job old at (with_tx job place (wanting tx left held))) { contents = new.contents }
     pub contents : IsTrue s.tells → IsLeft old new (parts_of tx) (asked_at s job.place) left
 
   -- by what is asked
@@ -354,11 +424,18 @@ module _ (s : Setting) (at : ℕ) (old : Now) (job : SeenJob) (tx : SeenTx) wher
   AskedTurn ask.Abort new = TurnsBack s at old job tx new
   AskedTurn ask.End new = ⊥
 
-  -- a running transaction does what is asked, or memory is wanting
+  -- a running transaction does what is asked, waits, or memory is wanting
   abbrev pub RunningTurn : Turn → Now → Type 0
   RunningTurn turn.Went new = AskedTurn (asked_at s job.place) new
+  RunningTurn (turn.Busy object holder) new = Waits s at old job tx object holder new
   RunningTurn turn.NoMemory new = Wants new
   RunningTurn _ new = ⊥
+
+  -- but where it is marked
+  abbrev pub MarkedTurn : Option Mark → Turn → Now → Type 0
+  MarkedTurn None answer new = RunningTurn answer new
+  MarkedTurn (Some m) turn.Went new = Revokes s at old job tx m new
+  MarkedTurn (Some m) _ new = ⊥
 
 -- ---- what a transaction leaves at its end
 -- the entry of a transaction that ended so, of the job in this place
@@ -376,17 +453,38 @@ entry_of tx at outcome =
     }
 
 -- ---- late calls
+-- the script has this block
+abbrev pub is_block_in : Script → List ℕ → Bool
+is_block_in script block = list_any (λ name. pointwise nat_eq name block) (script.outline.jobs ++ script.outline.bodies)
+
+-- how a call ends that starts a job of this block: from these blocks of started jobs to those
+abbrev pub IsStart : Script → List (List ℕ) → List ℕ → LateEnd → List (List ℕ) → Type 0
+IsStart script was block late_end.Done is = (is_block_in script block ≡ true) × (length was < 1000) × (is ≡ was ++ block ∷ [])
+IsStart script was block late_end.NoScript is = (is_block_in script block ≡ false) × (is ≡ was)
+IsStart script was block (late_end.Full n) is = (is_block_in script block ≡ true) × (1000 ≤ length was) × (n ≡ 0) × (is ≡ was)
+IsStart script was block (late_end.NoMemory n) is = (n ≡ 0) × (is ≡ was)
+IsStart script was block _ is = ⊥
+
 module _ (s : Setting) (at : ℕ) (old : Now) (job : SeenJob) (tx : SeenTx) where
   -- the next late call is done, in the order in which they were made, under the claims of its transaction
   pub record EndsLate (call : LateCall) (new : Now) : Type 0 where
     pub end : LateEnd
-    pub jobs : new.jobs ≡ slice_set old.jobs at (with_tx job job.place (record tx { ends = tx.ends ++ end ∷ [] }))
-    pub words : new.words ≡ old.words
-    pub journal : new.journal ≡ old.journal
+    pub behind : Touches old at (with_tx job job.place (record tx { ends = tx.ends ++ end ∷ [] })) new
     -- a fault exactly where the host's count rose
     pub cause : CountsFault (is_fault_end end) old.faults new.faults
     -- over a host that tells, its end and what it did are the plain machine's
     pub does : IsTrue s.tells → DoesLate old.contents new.contents call end
+
+  -- the next late call starts a job, which is live from the entry on; no host is called
+  pub record Starts (block : List ℕ) (new : Now) : Type 0 where
+    pub end : LateEnd
+    pub behind : new ≡ record (with_job old at (with_tx job job.place (record tx { ends = tx.ends ++ end ∷ [] }))) { started = new.started }
+    pub starts : IsStart s.script old.started block end new.started
+
+  -- by the call
+  abbrev pub NextLate : LateCall → Now → Type 0
+  NextLate (Thread block) new = Starts block new
+  NextLate call new = EndsLate call new
 
 -- ---- entries
 -- behind a commit a job is at its next transaction, with the variables and the handles of this one's end, and where the
@@ -402,6 +500,7 @@ behind_commit job tx =
         variables = with_ends job.place.variables (kept_of tx.calls tx.replies) tx.ends;
       });
       attempts = None;
+      busy = 0;
       doing = Idle;
     }
 
@@ -410,31 +509,53 @@ abbrev pub attempts_with : Option Attempts → SeenTx → Cause → Attempts
 attempts_with attempts tx c = record { first = tx.rank; failed = failures attempts + 1; last = c }
 
 -- behind an abort the handles and the variables are those of the begin. A transaction that aborted itself is passed;
--- one that met a holder is tried again; for want of memory nothing more is asked
+-- one that met a holder or was revoked is tried again; for want of memory nothing more is asked
 abbrev pub behind_abort : SeenJob → SeenTx → Cause → SeenJob
 behind_abort job tx cause.Asked =
     record job {
       place = at_begin (record { block = job.place.block; next = job.place.next + 1; variables = job.place.begun });
       attempts = None;
+      busy = 0;
       doing = Idle;
     }
-behind_abort job tx cause.NoMemory = record job { doing = Starved }
+behind_abort job tx cause.NoMemory = record job { busy = 0; doing = Starved }
 behind_abort job tx c =
     record job {
       place = at_begin (record { block = job.place.block; next = job.place.next; variables = job.place.begun });
       attempts = Some (attempts_with job.attempts tx c);
+      busy = 0;
       doing = Idle;
     }
 
--- a committed transaction, each of whose late calls has its end, enters
-abbrev pub EntersCommitted : ℕ → Now → SeenJob → SeenTx → Now → Type 0
-EntersCommitted at old job tx new = new ≡ entering old at (behind_commit job tx) (entry_of tx at (Committed tx.ends))
+-- a job that was started: it begins with its starter's handles and variables behind the commit
+abbrev pub started_job : Script → SeenJob → List ℕ → SeenJob
+started_job script starter block =
+    record {
+      block = block;
+      me = starter.me;
+      place = at_begin (started_from script starter.place.variables block);
+      attempts = None;
+      busy = 0;
+      doing = Idle;
+    }
+
+-- the jobs that a transaction started
+abbrev pub started_jobs : Script → SeenJob → SeenTx → List SeenJob
+started_jobs script job tx = map (started_job script (behind_commit job tx)) (started_late tx.late tx.ends)
+
+-- a committed transaction, each of whose late calls has its end, enters, and the jobs that it started are live: no more
+-- than 1,000 are
+module _ (s : Setting) (at : ℕ) (old : Now) (job : SeenJob) (tx : SeenTx) where
+  abbrev pub EntersCommitted : Now → Type 0
+  EntersCommitted new =
+      (new ≡ joined (entering old at (behind_commit job tx) (entry_of tx at (Committed tx.ends))) (started_jobs s.script job tx))
+      × (length new.jobs ≤ 1000)
 
 module _ (s : Setting) (at : ℕ) where
   -- by the late calls that have no end yet
   abbrev pub LateTurn : Now → SeenJob → SeenTx → List LateCall → Now → Type 0
-  LateTurn old job tx [] new = EntersCommitted at old job tx new
-  LateTurn old job tx (call ∷ calls) new = EndsLate s at old job tx call new
+  LateTurn old job tx [] new = EntersCommitted s at old job tx new
+  LateTurn old job tx (call ∷ calls) new = NextLate s at old job tx call new
 
   -- a committing transaction
   abbrev pub CommittingTurn : Now → SeenJob → SeenTx → Turn → Now → Type 0
@@ -454,21 +575,23 @@ module _ (s : Setting) (at : ℕ) (old : Now) (job : SeenJob) (tx : SeenTx) wher
     pub faults : CountsFaults (end_faults end) old.faults new.faults
     -- the host did what the end says
     pub effect : IsTrue s.tells → new.contents ≡ contents_of (undone_to (world_of old.contents) tried end)
-    pub jobs : new.jobs ≡ slice_set old.jobs at
-        (with_tx job job.place (record tx { undo = record { pending = older; ended = (tried, end) ∷ tx.undo.ended } }))
-    pub words : new.words ≡ old.words
-    pub journal : new.journal ≡ old.journal
+    pub behind : Touches old at
+        (with_tx job job.place (record tx { undo = record { pending = older; ended = (tried, end) ∷ tx.undo.ended } })) new
 
-module _ (at : ℕ) (old : Now) (job : SeenJob) (tx : SeenTx) where
-  -- an aborted transaction, each of whose records has its end, enters
-  abbrev pub EntersAborted : Cause → Now → Type 0
-  EntersAborted c new =
-      new ≡ entering old at (behind_abort job tx c) (entry_of tx at (Aborted (record { cause = c; records = tx.undo.ended })))
+module _ (s : Setting) (at : ℕ) (old : Now) (job : SeenJob) (tx : SeenTx) where
+  -- an aborted transaction, each of whose records has its end, gives back what it took, and enters
+  pub record EntersAborted (c : Cause) (new : Now) : Type 0 where
+    pub behind : new ≡ record (entering old at (behind_abort job tx c)
+        (entry_of tx at (Aborted (record { cause = c; records = tx.undo.ended })))) {
+          contents = new.contents;
+        }
+    -- over a host that tells, it is in front of what is there
+    pub returned : IsTrue s.tells → new.contents ≡ with_kept old.contents tx.taken
 
 module _ (s : Setting) (at : ℕ) where
   -- by the records that have no end yet
   abbrev pub BackTurn : Now → SeenJob → SeenTx → Cause → List Undo → Now → Type 0
-  BackTurn old job tx c [] new = EntersAborted at old job tx c new
+  BackTurn old job tx c [] new = EntersAborted s at old job tx c new
   BackTurn old job tx c (u ∷ pending) new = Compensates s at old job tx new
 
   -- an undoing transaction
@@ -485,7 +608,7 @@ StarvedTurn at old job _ new = ⊥
 module _ (s : Setting) (at : ℕ) where
   -- a job with an active transaction, by the transaction's phase
   abbrev pub ActiveTurn : Now → SeenJob → SeenTx → Phase → Turn → Now → Type 0
-  ActiveTurn old job tx Running answer new = RunningTurn s at old job tx answer new
+  ActiveTurn old job tx Running answer new = MarkedTurn s at old job tx (old.marks tx.number) answer new
   ActiveTurn old job tx Committing answer new = CommittingTurn s at old job tx answer new
   ActiveTurn old job tx (Undoing c) answer new = UndoingTurn s at old job tx c answer new
 

@@ -1,5 +1,5 @@
 -- A station between two turns, as plain data.
-use Rattle.std.specs.Prelude.{ℕ, ◌+◌, List, [], ◌∷◌, ◌++◌, length, slice_set, Option}
+use Rattle.std.specs.Prelude.{◌≡◌, ℕ, ◌+◌, List, [], ◌∷◌, ◌++◌, length, nat_eq, slice_set, Option, if◌then◌else◌}
 use Rattle.std.specs.List.{filter_map}
 use Rattle.std.specs.declared.option.Option.TheVariants.{None, Some}
 use Rattle.xc_data.specs.declared.call.Call.{Call}
@@ -7,14 +7,19 @@ use Rattle.xc_data.specs.declared.call.Reply.{Reply}
 use Rattle.xc_data.specs.declared.call.LateCall.{LateCall}
 use Rattle.xc_data.specs.declared.call.LateEnd.{LateEnd}
 use Rattle.xc_data.specs.declared.claim.Claim.{Claim}
+use Rattle.xc_data.specs.declared.entry.Cause.{Cause}
+use Rattle.xc_data.specs.declared.entry.Cause.TheVariants.{Revoked}
 use Rattle.xc_data.specs.declared.entry.Entry.{Entry}
 use Rattle.xc_data.specs.declared.entry.JobEnd.{JobEnd}
+use Rattle.xc_data.specs.declared.entry.KeptItem.{KeptItem}
 use Rattle.xc_data.specs.declared.private.Private.{Private}
 use Rattle.xc_compensate.specs.Records.{Records}
 use Rattle.xc_deferred.specs.Queue.{Queue, left}
-use Rattle.xc_host.specs.Contents.{Contents}
+use Rattle.xc_host.specs.Contents.{Contents, contents_of, world_of}
 use Rattle.xc_script.specs.Position.{Position}
+use Rattle.xc_world.specs.Run.{given_back}
 use Rattle.xc_story.specs.declared.phase.Attempts.{Attempts}
+use Rattle.xc_data.specs.declared.entry.Mark.{Mark}
 use Rattle.xc_story.specs.declared.phase.Phase.{Phase}
 
 -- an active transaction, with what its entry will say
@@ -30,6 +35,8 @@ pub record SeenTx : Type 0 where
   pub writes : List (ℕ × ℕ)
   -- what its calls did at the host
   pub undo : Records
+  -- what its calls took from pipes and pairs, the oldest first
+  pub taken : List KeptItem
   pub calls : List Call
   pub replies : List Reply
   pub held : List Claim
@@ -53,15 +60,21 @@ pub record SeenJob : Type 0 where
   pub place : Position
   -- the attempts at its next transaction that ended in a conflict, where there were some
   pub attempts : Option Attempts
+  -- how often it was told to wait since its last begin or entry
+  pub busy : ℕ
   pub doing : Doing
 
--- a station: its words, what the host tells, how often the host has failed, the journal, and the jobs from number 1 on
+-- a station: its words, what the host tells with the kept data in front of it, how often the host has failed, the
+-- journal, the jobs from number 1 on that are live or have ended, the blocks of all that were started, those not yet live
+-- behind, and the marks of transactions that are to be revoked, by their numbers
 pub record Now : Type 0 where
   pub words : List ℕ
   pub contents : Contents
   pub faults : ℕ
   pub journal : List Entry
   pub jobs : List SeenJob
+  pub started : List (List ℕ)
+  pub marks : ℕ → Option Mark
 
 -- ---- active transactions
 -- the active one, where there is one
@@ -108,6 +121,31 @@ rank_of (Some a) number = a.first
 abbrev pub with_job : Now → ℕ → SeenJob → Now
 with_job now at job = record now { jobs = slice_set now.jobs at job }
 
--- and with one entry more
+-- with another job in one place, where the host was called: what it tells, and how often it has failed, is as it says
+abbrev pub Touches : Now → ℕ → SeenJob → Now → Type 0
+Touches old at job new = new ≡ record (with_job old at job) { contents = new.contents; faults = new.faults }
+
+-- these contents with kept data in front, each item before those behind it
+abbrev pub with_kept : Contents → List KeptItem → Contents
+with_kept contents items = contents_of (given_back (world_of contents) items)
+
+-- the cause of a marked one's abort
+abbrev pub revoked : Mark → Cause
+revoked m = Revoked m.object m.by m.at
+
+-- the marks without that of this transaction
+abbrev pub unmarked : (ℕ → Option Mark) → ℕ → ℕ → Option Mark
+unmarked marks number n = if nat_eq n number then None else marks n
+
+-- and with one entry more, whose transaction has no mark any more
 abbrev pub entering : Now → ℕ → SeenJob → Entry → Now
-entering now at job entry = record (with_job now at job) { journal = now.journal ++ entry ∷ [] }
+entering now at job entry =
+    record (with_job now at job) { journal = now.journal ++ entry ∷ []; marks = unmarked now.marks entry.tx }
+
+-- and with more jobs, which have the next numbers
+abbrev pub joined : Now → List SeenJob → Now
+joined now more = record now { jobs = now.jobs ++ more }
+
+-- the job, told to wait once more
+abbrev pub waiting : SeenJob → SeenJob
+waiting job = record job { busy = job.busy + 1 }

@@ -2,7 +2,6 @@
 use Rattle.std.specs.Prelude.{◌≡◌, ℕ, ◌+◌, ◌<◌, ◌≤◌, true, false, List, [], ◌∷◌, ◌++◌, length, map, slice_get, unwrap_or}
 use Rattle.std.specs.Prelude.{IsSome, IsPermutation, Contains}
 use Rattle.std.specs.Prelude.{Option}
-use Rattle.std.specs.List.{list_all}
 use Rattle.std.specs.declared.option.Option.TheVariants.{None, Some}
 use Rattle.xc_data.specs.declared.claim.Claim.{Claim}
 use Rattle.xc_data.specs.declared.entry.Cause.{Cause}
@@ -15,6 +14,7 @@ use Rattle.xc_world.specs.World.{beginning}
 use Rattle.xc_world.specs.Ends.{AreLegal}
 use Rattle.xc_world.specs.Modes.{claims_of}
 use Rattle.xc_story.specs.declared.phase.Attempts.{Attempts}
+use Rattle.xc_data.specs.declared.entry.Mark.{Mark}
 use Rattle.xc_story.specs.declared.phase.Phase.{Phase}
 use Rattle.xc_story.specs.declared.phase.Phase.TheVariants.{Running, Committing, Undoing}
 use Rattle.xc_story.specs.Setting.{Setting}
@@ -23,8 +23,8 @@ use Rattle.xc_script.specs.Slots.{kept_of}
 use Rattle.xc_story.specs.Progress.{Following, opening_progress, progress_of}
 use Rattle.xc_story.specs.Truth.{AsksEach, AreTrue, IsCauseOf, counting, next_of, parts_of}
 use Rattle.xc_story.specs.Ending.{IsEnd}
-use Rattle.xc_story.specs.Rows.{is_built}
-use Rattle.xc_story.specs.Seen.{SeenTx, SeenJob, Doing, Idle, Active, Starved, Ended, actives, active_of}
+use Rattle.xc_story.specs.LateCalls.{thread_asked, thread_in}
+use Rattle.xc_story.specs.Seen.{SeenTx, SeenJob, Doing, Idle, Active, Starved, Ended, actives, active_of, revoked}
 
 -- ---- an active transaction, as a part of its job's story
 -- the job stands in its next transaction, and keeps the variables of its begin
@@ -72,11 +72,9 @@ pub record IsUnderway (s : Setting) (f : Following) (place : Position) (tx : See
   -- it began behind its job's entry before
   pub since : f.since ≤ tx.began
   pub standing : IsStanding f place
-  -- its calls are the script's, and its late calls are as many as were kept for the commit
+  -- its calls are the script's, and its late calls are as many as were kept for the commit, and start the same blocks
   pub asked : AsksEach (walk_from s.script f.job) tx.calls tx.replies
-  pub kept : length tx.late ≡ length (kept_of tx.calls tx.replies)
-  -- they are of those that scripts have so far: none starts a job
-  pub built : list_all is_built tx.calls ≡ true
+  pub kept : map thread_in tx.late ≡ map thread_asked (kept_of tx.calls tx.replies)
   pub stored : tx.me.stored ≤ 16384
   pub phase : IsInPhase s f place tx tx.phase
 
@@ -122,49 +120,53 @@ pub record AreBegins (journal : List Entry) (begins : List (ℕ × ℕ)) : Type 
   pub order : (a b : ℕ × ℕ) → Contains begins a → Contains begins b → a.0 < b.0 → a.1 ≤ b.1
   pub by_now : (a : ℕ × ℕ) → Contains begins a → a.1 ≤ length journal
 
--- ---- what conflicts are judged by, of active transactions
+-- ---- what conflicts and revocations are judged by, of active transactions
 -- what the call claims that it is asked next
 abbrev pub wanted_by : ℕ → SeenTx → Ask → List Claim
 wanted_by words tx (ask.Call call) = claims_of call tx.me words
 wanted_by words tx _ = []
 
--- why it undoes, where it does
-abbrev pub cause_of_phase : Phase → Option Cause
-cause_of_phase (Undoing c) = Some c
-cause_of_phase _ = None
+-- why it undoes, or will at its next turn where it is marked
+abbrev pub cause_of_phase : Option Mark → Phase → Option Cause
+cause_of_phase (Some m) Running = Some (revoked m)
+cause_of_phase mark (Undoing c) = Some c
+cause_of_phase _ _ = None
 
 -- what it is asked behind its replies
 abbrev pub asked_of_tx : Setting → Option Following → SeenTx → Ask
 asked_of_tx s None tx = ask.End
 asked_of_tx s (Some f) tx = next_of s.script f tx.replies
 
--- an active transaction of the job of this number
-abbrev pub part_under_way : Setting → ℕ → Option Following → ℕ → SeenTx → Part
-part_under_way s words f number tx =
-    record {
-      number = tx.number;
-      job = number;
-      began = tx.began;
-      held = tx.held;
-      wanted = wanted_by words tx (asked_of_tx s f tx);
-      cause = cause_of_phase tx.phase;
-    }
+-- `words` is the number of words
+module _ (s : Setting) (words : ℕ) (marks : ℕ → Option Mark) where
+  -- an active transaction of the job of this number
+  abbrev pub part_under_way : Option Following → ℕ → SeenTx → Part
+  part_under_way f number tx =
+      record {
+        number = tx.number;
+        job = number;
+        rank = tx.rank;
+        began = tx.began;
+        held = tx.held;
+        wanted = wanted_by words tx (asked_of_tx s f tx);
+        cause = cause_of_phase (marks tx.number) tx.phase;
+      }
 
--- a job's active transaction, where it has one
-abbrev pub active_part : Setting → ℕ → Option Following → ℕ → Option SeenTx → Option Part
-active_part s words f number None = None
-active_part s words f number (Some tx) = Some (part_under_way s words f number tx)
+  -- a job's active transaction, where it has one
+  abbrev pub active_part : Option Following → ℕ → Option SeenTx → Option Part
+  active_part f number None = None
+  active_part f number (Some tx) = Some (part_under_way f number tx)
 
--- of each job, from this number on; the first list is what the journal tells of them
-abbrev pub active_parts : Setting → ℕ → ℕ → List Following → List SeenJob → List (Option Part)
-active_parts s words number followings [] = []
-active_parts s words number [] (job ∷ jobs) = active_part s words None number (active_of job) ∷ active_parts s words (number + 1) [] jobs
-active_parts s words number (f ∷ followings) (job ∷ jobs) =
-    active_part s words (Some f) number (active_of job) ∷ active_parts s words (number + 1) followings jobs
+  -- of each job, from this number on; the first list is what the journal tells of them
+  abbrev pub active_parts : ℕ → List Following → List SeenJob → List (Option Part)
+  active_parts number followings [] = []
+  active_parts number [] (job ∷ jobs) = active_part None number (active_of job) ∷ active_parts (number + 1) [] jobs
+  active_parts number (f ∷ followings) (job ∷ jobs) =
+      active_part (Some f) number (active_of job) ∷ active_parts (number + 1) followings jobs
 
 -- ---- all together
 -- `words` is the number of words
-pub record AreTold (s : Setting) (words : ℕ) (journal : List Entry) (jobs : List SeenJob) : Type 0 where
+pub record AreTold (s : Setting) (words : ℕ) (marks : ℕ → Option Mark) (journal : List Entry) (jobs : List SeenJob) : Type 0 where
   pub entries : AreTrue s (opening_progress s.script) journal
   -- the jobs are those that the journal tells
   pub count : length (progress_of s.script journal).jobs ≡ length jobs
@@ -173,4 +175,4 @@ pub record AreTold (s : Setting) (words : ℕ) (journal : List Entry) (jobs : Li
       → IsJobTold s (length journal + length (actives jobs)) (length journal) f job
   pub begins : AreBegins journal (begins_of journal jobs)
   pub few : length journal + length (actives jobs) ≤ 10000
-  pub grounded : AreGrounded s.tells (parts_of s journal) (active_parts s words 1 (progress_of s.script journal).jobs jobs)
+  pub grounded : AreGrounded s.tells (parts_of s journal) (active_parts s words marks 1 (progress_of s.script journal).jobs jobs)

@@ -47,13 +47,13 @@ AsksEach walk (call ∷ calls) (reply ∷ replies) = (asks walk ≡ ask.Call cal
 abbrev pub next_of : Script → Following → List Reply → Ask
 next_of script f replies = asks (all_answered (walk_from script f.job) replies)
 
--- what an aborted transaction is asked: an abort, a call where it met a holder, or for want of memory whatever comes
--- next. Revocations come with waiting
+-- what an aborted transaction is asked: an abort, a call where it met a holder, or whatever comes next where it was
+-- revoked or memory was wanting
 abbrev pub IsCauseOf : Cause → Ask → Type 0
 IsCauseOf cause.Asked next = next ≡ ask.Abort
 IsCauseOf (cause.Conflict object holder at) next = is_call next ≡ true
 IsCauseOf cause.NoMemory next = Unit {0}
-IsCauseOf (cause.Revoked object by at) next = ⊥
+IsCauseOf (cause.Revoked object by at) next = Unit {0}
 
 -- what is asked behind the last reply: a committed transaction's commit, with an end for each call that was
 -- kept; or what led to the abort, whose compensations each have a legal end
@@ -178,7 +178,7 @@ abbrev pub BeginInOrder : List Entry → Type 0
 BeginInOrder journal =
     (i j : ℕ) (a b : Entry) → slice_get journal i ≡ Some a → slice_get journal j ≡ Some b → a.tx < b.tx → a.began ≤ b.began
 
--- ---- conflicts
+-- ---- conflicts and revocations
 -- what the job is asked behind the entry's replies, where it is started
 abbrev pub asked_behind : Script → Option Following → List Reply → Ask
 asked_behind script None replies = ask.End
@@ -189,12 +189,13 @@ abbrev pub cause_in : Outcome → Option Cause
 cause_in (Committed late) = None
 cause_in (Aborted report) = Some report.cause
 
--- what a conflict is judged by, of an entry behind those before it
+-- what it is judged by, of an entry behind those before it
 abbrev pub part_of : Setting → Progress → Entry → Part
 part_of s p e =
     record {
       number = e.tx;
       job = e.job;
+      rank = e.rank;
       began = e.began;
       held = e.held;
       wanted = next_claims (body_of p.state e) (asked_behind s.script (following_of p e) e.replies);
@@ -215,7 +216,7 @@ pub record IsTrueJournal (s : Setting) (journal : List Entry) : Type 0 where
   pub entries : AreTrue s (opening_progress s.script) journal
   pub numbers : IsPermutation (numbers_of journal) (counting 1 (length journal))
   pub begins : BeginInOrder journal
-  -- each conflict names a holder
+  -- each conflict names a holder, and each revocation an older transaction
   pub grounded : AreGrounded s.tells (parts_of s journal) []
 
 -- ---- transactions one after another

@@ -14,7 +14,8 @@ use Rattle.xc_story.specs.Holding.{AreApart}
 use Rattle.xc_story.specs.Rows.{IsTurn, IsActiveAt, HasNoRival}
 use Rattle.xc_turns.proofs.Jobs.{active_is, active_before}
 use Rattle.xc_turns.proofs.HeldClaims.{GoesWith, either_way, goes_all, once_all}
-use Rattle.xc_turns.proofs.TurnKinds.{HoldsOn, Kind, rests, begins, moves, enters, kind_of}
+use Rattle.xc_turns.proofs.Grown.{apart_grown}
+use Rattle.xc_turns.proofs.TurnKinds.{HoldsOn, Kind, rests, begins, moves, stays, enters, kind_of}
 
 -- ---- one job changed
 -- its transaction may stand in this place beside the others
@@ -105,8 +106,13 @@ kind_apart s at old new job stands apart (moves k) =
     (apart_set old.jobs at job k.behind stands apart
     (one_new old.jobs at (active_of k.behind) k.tx k.after
     (held_on old.jobs at k.was.held k.tx.held (as_held old.jobs at k.was apart (job, stands, k.before)) k.held)))
+kind_apart s at old new job stands apart (stays k) =
+    subst AreApart (sym k.sets.jobs)
+    (apart_set old.jobs at job k.behind stands apart
+    (one_new old.jobs at (active_of k.behind) k.tx k.after (as_held old.jobs at k.tx apart (job, stands, k.before))))
 kind_apart s at old new job stands apart (enters k) =
-    subst AreApart (sym k.sets.jobs) (apart_set old.jobs at job k.behind stands apart (none_new old.jobs at (active_of k.behind) k.after))
+    subst AreApart (sym k.jobs) (apart_grown (slice_set old.jobs at k.behind) k.more k.idle
+    (apart_set old.jobs at job k.behind stands apart (none_new old.jobs at (active_of k.behind) k.after)))
 
 -- a turn keeps apart what active transactions hold
 pub apart_kept : (s : Setting) (at : ℕ) (old new : Now) (answer : Turn) → IsTurn s at old answer new → AreApart old.jobs → AreApart new.jobs

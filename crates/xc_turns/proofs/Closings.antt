@@ -9,9 +9,9 @@ use Rattle.xc_data.specs.declared.entry.Cause.{Cause}
 use Rattle.xc_data.specs.declared.entry.Cause.TheVariants as cause
 use Rattle.xc_data.specs.declared.entry.Entry.{Entry}
 use Rattle.xc_data.specs.declared.entry.JobLine.{JobLine}
-use Rattle.xc_data.specs.declared.object.Object.{Object}
+use Rattle.xc_data.specs.declared.entry.Mark.{Mark}
 use Rattle.xc_story.specs.Setting.{Setting}
-use Rattle.xc_story.specs.Grounds.{Part, Stands, Ground, IsGrounded, AreGrounded}
+use Rattle.xc_story.specs.Grounds.{Part, Stands, Other, IsGrounded, AreGrounded}
 use Rattle.xc_story.specs.Progress.{Following, progress_of}
 use Rattle.xc_story.specs.Truth.{IsTrueJournal, counting, numbers_of, parts_of}
 use Rattle.xc_story.specs.Ending.{AreEnds, IsEnd}
@@ -54,17 +54,19 @@ entry_there journal i e at =
     )
 
 -- ---- conflicts
-parts_none : (s : Setting) (words number : ℕ) (followings : List Following) (jobs : List SeenJob) (lines : List JobLine) → AreLinesOf jobs lines
-    → (j : ℕ) → get_or (active_parts s words number followings jobs) j None ≡ None
-parts_none s words number [] [] lines are zero = refl
-parts_none s words number [] [] lines are (suc j) = refl
-parts_none s words number (f ∷ fs) [] lines are zero = refl
-parts_none s words number (f ∷ fs) [] lines are (suc j) = refl
-parts_none s words number fs (job ∷ jobs) [] are j = absurd are
-parts_none s words number [] (job ∷ jobs) (line ∷ lines) are zero = ap (active_part s words None number) (line_none line job job.doing are.0)
-parts_none s words number [] (job ∷ jobs) (line ∷ lines) are (suc j) = parts_none s words (number + 1) [] jobs lines are.1 j
-parts_none s words number (f ∷ fs) (job ∷ jobs) (line ∷ lines) are zero = ap (active_part s words (Some f) number) (line_none line job job.doing are.0)
-parts_none s words number (f ∷ fs) (job ∷ jobs) (line ∷ lines) are (suc j) = parts_none s words (number + 1) fs jobs lines are.1 j
+parts_none : (s : Setting) (words : ℕ) (marks : ℕ → Option Mark) (number : ℕ) (followings : List Following) (jobs : List SeenJob) (lines : List JobLine)
+    → AreLinesOf jobs lines
+    → (j : ℕ) → get_or (active_parts s words marks number followings jobs) j None ≡ None
+parts_none s words marks number [] [] lines are zero = refl
+parts_none s words marks number [] [] lines are (suc j) = refl
+parts_none s words marks number (f ∷ fs) [] lines are zero = refl
+parts_none s words marks number (f ∷ fs) [] lines are (suc j) = refl
+parts_none s words marks number fs (job ∷ jobs) [] are j = absurd are
+parts_none s words marks number [] (job ∷ jobs) (line ∷ lines) are zero = ap (active_part s words marks None number) (line_none line job job.doing are.0)
+parts_none s words marks number [] (job ∷ jobs) (line ∷ lines) are (suc j) = parts_none s words marks (number + 1) [] jobs lines are.1 j
+parts_none s words marks number (f ∷ fs) (job ∷ jobs) (line ∷ lines) are zero =
+    ap (active_part s words marks (Some f) number) (line_none line job job.doing are.0)
+parts_none s words marks number (f ∷ fs) (job ∷ jobs) (line ∷ lines) are (suc j) = parts_none s words marks (number + 1) fs jobs lines are.1 j
 
 -- none of these parts is there
 abbrev AreNone : List (Option Part) → Type 0
@@ -74,32 +76,39 @@ stands_logged : (log : List Part) (active : List (Option Part)) (at : ℕ) (who 
 stands_logged log active at who none (inl there) = inl there
 stands_logged log active at who none (inr (j, there)) = absurd (let h : ◌≡◌ {A = Option Part} None (Some who) = sym (none j) ∙ there in cc)
 
-ground_logged : (tells : Bool) (log : List Part) (active : List (Option Part)) (place : ℕ) (e : Part) (object : Object) (holder at : ℕ) → AreNone active
-    → Ground tells log active place e object holder at → Ground tells log [] place e object holder at
-ground_logged tells log active place e object holder at none g =
-    let n = g.named in
+other_logged : (log : List Part) (active : List (Option Part)) (number at job : ℕ) → AreNone active → Other log active number at job
+    → Other log [] number at job
+other_logged log active number at job none n =
     record {
-      before = g.before;
-      within = g.within;
-      named = record {
-        who = n.who;
-        stands = stands_logged log active at n.who none n.stands;
-        numbered = n.numbered;
-        other = n.other;
-        began = n.began;
-        claim = n.claim;
-        names = n.names;
-        holds = n.holds;
-      };
-      clash = g.clash;
+      who = n.who;
+      stands = stands_logged log active at n.who none n.stands;
+      numbered = n.numbered;
+      other = n.other;
+      began = n.began;
     }
 
 grounded_logged : (tells : Bool) (log : List Part) (active : List (Option Part)) (place : ℕ) (e : Part) (c : Option Cause) → AreNone active
     → IsGrounded tells log active place e c → IsGrounded tells log [] place e c
+unfolding other_logged
 grounded_logged tells log active place e None none h = h
 grounded_logged tells log active place e (Some cause.Asked) none h = h
-grounded_logged tells log active place e (Some (cause.Conflict object holder at)) none h = ground_logged tells log active place e object holder at none h
-grounded_logged tells log active place e (Some (cause.Revoked object by at)) none h = h
+grounded_logged tells log active place e (Some (cause.Conflict object holder at)) none g =
+    record {
+      before = g.before;
+      within = g.within;
+      named = other_logged log active holder at e.job none g.named;
+      holds = g.holds;
+      clash = g.clash;
+    }
+grounded_logged tells log active place e (Some (cause.Revoked object by at)) none g =
+    record {
+      before = g.before;
+      within = g.within;
+      named = other_logged log active by at e.job none g.named;
+      older = g.older;
+      holds = g.holds;
+      clash = g.clash;
+    }
 grounded_logged tells log active place e (Some cause.NoMemory) none h = h
 
 all_logged : (tells : Bool) (log : List Part) (active : List (Option Part)) → AreNone active → AreGrounded tells log active → AreGrounded tells log []
@@ -111,9 +120,10 @@ all_logged tells log active none g =
 
 -- ---- the journal
 -- where each job has ended the journal is true
-pub journal_true : (s : Setting) (words : ℕ) (journal : List Entry) (jobs : List SeenJob) (lines : List JobLine) → AreTold s words journal jobs
+pub journal_true : (s : Setting) (words : ℕ) (marks : ℕ → Option Mark) (journal : List Entry) (jobs : List SeenJob) (lines : List JobLine)
+    → AreTold s words marks journal jobs
     → AreLinesOf jobs lines → IsTrueJournal s journal
-journal_true s words journal jobs lines told are =
+journal_true s words marks journal jobs lines told are =
     let begins : AreBegins journal (map entry_begin journal) =
     subst (AreBegins journal) (begins_there journal jobs (none_active jobs (none_there jobs lines are))) told.begins in
     let many : length (map entry_begin journal) ≡ length journal = length-map journal entry_begin in
@@ -122,8 +132,8 @@ journal_true s words journal jobs lines told are =
       numbers = subst (λ n. IsPermutation (numbers_of journal) (counting 1 n)) many
           (subst (λ ns. IsPermutation ns (counting 1 (length (map entry_begin journal)))) (numbers_there journal) begins.numbers);
       begins = λ i j a b ea eb less. begins.order (entry_begin a) (entry_begin b) (entry_there journal i a ea) (entry_there journal j b eb) less;
-      grounded = all_logged s.tells (parts_of s journal) (active_parts s words 1 (progress_of s.script journal).jobs jobs)
-          (parts_none s words 1 (progress_of s.script journal).jobs jobs lines are) told.grounded;
+      grounded = all_logged s.tells (parts_of s journal) (active_parts s words marks 1 (progress_of s.script journal).jobs jobs)
+          (parts_none s words marks 1 (progress_of s.script journal).jobs jobs lines are) told.grounded;
     }
 
 -- ---- the ends
@@ -149,9 +159,10 @@ ends_are s begun entered (f ∷ fs) (job ∷ jobs) (line ∷ lines) count told a
     )
 
 -- where each job has ended it has the end of its story
-pub ends_told : (s : Setting) (words : ℕ) (journal : List Entry) (jobs : List SeenJob) (lines : List JobLine) → AreTold s words journal jobs
+pub ends_told : (s : Setting) (words : ℕ) (marks : ℕ → Option Mark) (journal : List Entry) (jobs : List SeenJob) (lines : List JobLine)
+    → AreTold s words marks journal jobs
     → AreLinesOf jobs lines → AreEnds s (length journal) (progress_of s.script journal).jobs lines
-ends_told s words journal jobs lines told are =
+ends_told s words marks journal jobs lines told are =
     let fs = (progress_of s.script journal).jobs in
     let begun : length journal + length (actives jobs) ≡ length journal = omega (arith, ap length (none_active jobs (none_there jobs lines are))) in
     subst (λ n. AreEnds s n fs lines) begun

@@ -1,6 +1,6 @@
 -- Each row of the table of turns keeps the count of the host's faults that of the recorded ones.
-use Rattle.std.proofs.Common.{◌≡◌, ℕ, ◌+◌, length, inl, inr, Some, List, [], ◌∷◌, ◌++◌, refl, ap, sym, ◌∙◌, subst, arith, cond}
-use Rattle.std.specs.Prelude.{slice_get, slice_set, count_by, sum_by}
+use Rattle.std.proofs.Common.{◌≡◌, ℕ, ◌+◌, length, inl, inr, None, Some, List, [], ◌∷◌, ◌++◌, refl, ap, sym, ◌∙◌, subst, arith, cond}
+use Rattle.std.specs.Prelude.{Option, slice_get, slice_set, count_by, sum_by}
 use Rattle.std.proofs.lemmas.List.Sums.{sum_by-cons, sum_by_push}
 use Rattle.xc_compensate.specs.Records.{Records}
 use Rattle.xc_data.specs.Counts.{CountsFaults}
@@ -17,24 +17,30 @@ use Rattle.xc_data.specs.declared.entry.Turn.TheVariants as turn
 use Rattle.xc_data.specs.declared.undo.Undo.{Undo}
 use Rattle.xc_script.specs.declared.ask.Ask.{Ask}
 use Rattle.xc_script.specs.declared.ask.Ask.TheVariants as ask
+use Rattle.xc_host.specs.Contents.{Contents}
+use Rattle.xc_data.specs.declared.entry.Mark.{Mark}
 use Rattle.xc_story.specs.declared.phase.Phase.{Phase}
 use Rattle.xc_story.specs.declared.phase.Phase.TheVariants.{Running, Committing, Undoing}
 use Rattle.xc_story.specs.Setting.{Setting}
 use Rattle.xc_story.specs.Progress.{Following, progress_of}
-use Rattle.xc_story.specs.Seen.{SeenTx, SeenJob, Doing, Idle, Active, Starved, Ended, Now, active_in, active_of, actives, late_left, with_job, entering}
+use Rattle.xc_story.specs.Seen.{SeenTx, SeenJob, Doing, Idle, Active, Starved, Ended, Now, active_in, active_of, actives, late_left, revoked, waiting}
+use Rattle.xc_story.specs.Seen.{with_job, entering}
 use Rattle.xc_story.specs.Rows.{asked_at, beginning_job, claims_at, noting, wanting, with_tx, entry_of, behind_commit, behind_abort}
-use Rattle.xc_story.specs.Rows.{Calls, EndsLate, LateTurn, Compensates}
-use Rattle.xc_story.specs.Rows.{IdleTurn, AskedTurn, RunningTurn, CommittingTurn, BackTurn, UndoingTurn, StarvedTurn, ActiveTurn, TurnOf, IsTurn}
+use Rattle.xc_story.specs.Rows.{Calls, LateTurn, Compensates, started_jobs}
+use Rattle.xc_story.specs.Rows.{IdleTurn, AskedTurn, MarkedTurn, RunningTurn, CommittingTurn, BackTurn, UndoingTurn, StarvedTurn, ActiveTurn, TurnOf, IsTurn}
 use Rattle.xc_story.specs.Told.{IsCommitting, IsInPhase, IsUndoing, IsDoing, AreTold}
 use Rattle.xc_story.specs.Counted.{tx_faults, recorded_faults, AreCounted}
 use Rattle.xc_turns.proofs.Lists.{get_beside}
 use Rattle.xc_turns.proofs.Jobs.{behind_abort_none}
+use Rattle.xc_story.specs.LateCalls.{started_late}
+use Rattle.xc_turns.proofs.Grown.{grown_actives, started_idle}
+use Rattle.xc_turns.proofs.LateEnds.{Ends, next_ends}
 use Rattle.xc_turns.proofs.CountedSums.{adds, sum_set, counts_sum, fault_as_count}
 
 -- ---- by its phase a transaction has ended records or late ends
 -- the job's story, with what its phase says
-in_phase : (s : Setting) (at : ℕ) (now : Now) (job : SeenJob) (tx : SeenTx) → slice_get now.jobs at ≡ Some job → job.doing ≡ Active tx
-    → AreTold s (length now.words) now.journal now.jobs → (f : Following) × IsInPhase s f job.place tx tx.phase
+pub in_phase : (s : Setting) (at : ℕ) (now : Now) (job : SeenJob) (tx : SeenTx) → slice_get now.jobs at ≡ Some job → job.doing ≡ Active tx
+    → AreTold s (length now.words) now.marks now.journal now.jobs → (f : Following) × IsInPhase s f job.place tx tx.phase
 in_phase s at now job tx stands is told =
     let f = get_beside (progress_of s.script now.journal).jobs now.jobs at job told.count stands in
     let j = told.jobs_told at f.0 job f.1 stands in
@@ -43,15 +49,15 @@ in_phase s at now job tx stands is told =
 
 -- a committing one has no ended record
 none_ended : (s : Setting) (at : ℕ) (now : Now) (job : SeenJob) (tx : SeenTx) → slice_get now.jobs at ≡ Some job → job.doing ≡ Active tx
-    → tx.phase ≡ Committing → AreTold s (length now.words) now.journal now.jobs → tx.undo.ended ≡ []
+    → tx.phase ≡ Committing → AreTold s (length now.words) now.marks now.journal now.jobs → tx.undo.ended ≡ []
 none_ended s at now job tx stands is commits told =
     let phase = in_phase s at now job tx stands is told in
     let committing : IsCommitting s phase.0 job.place tx = subst (IsInPhase s phase.0 job.place tx) commits phase.1 in
     committing.none
 
 -- an undoing one has no end of a late call
-none_late : (s : Setting) (at : ℕ) (now : Now) (job : SeenJob) (tx : SeenTx) (c : Cause) → slice_get now.jobs at ≡ Some job → job.doing ≡ Active tx
-    → tx.phase ≡ Undoing c → AreTold s (length now.words) now.journal now.jobs → tx.ends ≡ []
+pub none_late : (s : Setting) (at : ℕ) (now : Now) (job : SeenJob) (tx : SeenTx) (c : Cause) → slice_get now.jobs at ≡ Some job → job.doing ≡ Active tx
+    → tx.phase ≡ Undoing c → AreTold s (length now.words) now.marks now.journal now.jobs → tx.ends ≡ []
 none_late s at now job tx c stands is undoes told =
     let phase = in_phase s at now job tx stands is told in
     let undoing : IsUndoing s phase.0 tx c = subst (IsInPhase s phase.0 job.place tx) undoes phase.1 in
@@ -62,20 +68,20 @@ moved : (a b x y n m k : ℕ) → b + x ≡ a + y → m + y ≡ n + x + k → n 
 moved a b x y n m k sums parts = omega arith
 
 module _ (s : Setting) (at from : ℕ) (old : Now) (job : SeenJob) (new : Now) (stands : slice_get old.jobs at ≡ Some job)
-    (told : AreTold s (length old.words) old.journal old.jobs) (h : AreCounted from old) where
+    (told : AreTold s (length old.words) old.marks old.journal old.jobs) (h : AreCounted from old) where
   -- what a job's transaction has recorded
   abbrev part : SeenJob → ℕ
   part x = adds tx_faults (active_of x)
 
   -- so many faults more, in the journal and in this job
-  more_counted : (job' : SeenJob) (k : ℕ) → new.jobs ≡ slice_set old.jobs at job'
+  more_counted : (job' : SeenJob) (k : ℕ) → actives new.jobs ≡ actives (slice_set old.jobs at job')
       → sum_by entry_faults new.journal + part job' ≡ sum_by entry_faults old.journal + part job + k → CountsFaults k old.faults new.faults
       → AreCounted from new
   more_counted job' k jobs parts cause =
       let total : recorded_faults old + k ≡ recorded_faults new =
       moved (sum_by tx_faults (actives old.jobs)) (sum_by tx_faults (actives (slice_set old.jobs at job'))) (part job) (part job')
       (sum_by entry_faults old.journal) (sum_by entry_faults new.journal) k (sum_set tx_faults old.jobs at job job' stands) parts
-      ∙ ap (λ js. sum_by entry_faults new.journal + sum_by tx_faults (actives js)) (sym jobs) in
+      ∙ ap (λ txs. sum_by entry_faults new.journal + sum_by tx_faults txs) (sym jobs) in
       subst (λ n. CountsFaults n from new.faults) total (counts_sum (recorded_faults old) k from old.faults new.faults h cause)
 
   -- as many as before
@@ -83,24 +89,28 @@ module _ (s : Setting) (at from : ℕ) (old : Now) (job : SeenJob) (new : Now) (
       → AreCounted from new
   still_counted job' jobs journal faults same =
       let sums : sum_by entry_faults new.journal ≡ sum_by entry_faults old.journal = ap (sum_by entry_faults) journal in
-      more_counted job' 0 jobs (omega (arith, sums, same)) faults
+      more_counted job' 0 (ap actives jobs) (omega (arith, sums, same)) faults
 
   -- only a job changed
   with_counted : (job' : SeenJob) → new ≡ with_job old at job' → part job' ≡ part job → AreCounted from new
   with_counted job' is same = still_counted job' (ap (λ (n : Now). n.jobs) is) (ap (λ (n : Now). n.journal) is) (ap (λ (n : Now). n.faults) is) same
 
   -- an entry takes over what its transaction recorded
-  entered_counted : (job' : SeenJob) (e : Entry) → new ≡ entering old at job' e → part job' ≡ 0 → entry_faults e ≡ part job → AreCounted from new
-  entered_counted job' e is none same =
+  entered_counted : (job' : SeenJob) (e : Entry) (contents : Contents) (jobs : List SeenJob)
+      → new ≡ record (entering old at job' e) { contents = contents; jobs = jobs } → actives jobs ≡ actives (slice_set old.jobs at job') → part job' ≡ 0
+      → entry_faults e ≡ part job → AreCounted from new
+  entered_counted job' e contents jobs is put none same =
       let sums : sum_by entry_faults new.journal ≡ sum_by entry_faults old.journal + entry_faults e =
       ap (λ (n : Now). sum_by entry_faults n.journal) is ∙ sum_by_push entry_faults old.journal e in
-      more_counted job' 0 (ap (λ (n : Now). n.jobs) is) (omega (arith, sums, none, same)) (ap (λ (n : Now). n.faults) is)
+      more_counted job' 0 (ap (λ (n : Now). actives n.jobs) is ∙ put) (omega (arith, sums, none, same)) (ap (λ (n : Now). n.faults) is)
 
   -- ---- no active transaction
   by_idle : job.doing ≡ Idle → (answer : Turn) → IdleTurn s at old job answer new → AreCounted from new
   by_idle is (turn.Ended end) row = with_counted (record job { doing = Ended end }) row.1 (ap (λ d. adds tx_faults (active_in d)) (sym is))
-  by_idle is turn.Went row = with_counted (beginning_job old job) row.1 (ap (λ d. adds tx_faults (active_in d)) (sym is))
-  by_idle is (turn.Busy object holder) row = absurd row
+  by_idle is turn.Went row =
+      still_counted (beginning_job old job) (ap (λ (n : Now). n.jobs) row.1) (ap (λ (n : Now). n.journal) row.1) (ap (λ (n : Now). n.faults) row.1)
+      (ap (λ d. adds tx_faults (active_in d)) (sym is))
+  by_idle is (turn.Busy object number) row = with_counted (waiting job) row.1 refl
   by_idle is turn.NoMemory row = absurd row
 
   by_starved : job.doing ≡ Starved → (answer : Turn) → StarvedTurn at old job answer new → AreCounted from new
@@ -125,9 +135,9 @@ module _ (s : Setting) (at from : ℕ) (old : Now) (job : SeenJob) (new : Now) (
         let replies : count_by is_fault_reply (tx.replies ++ row.reply ∷ []) ≡ count_by is_fault_reply tx.replies + one =
         sum_by_push (λ r. cond (is_fault_reply r) 1 0) tx.replies row.reply in
         let ended : sum_by undo_faults row.parts.undo.ended ≡ sum_by undo_faults tx.undo.ended = ap (λ (u : Records). sum_by undo_faults u.ended) row.undo in
-        let sums : sum_by entry_faults new.journal ≡ sum_by entry_faults old.journal = ap (sum_by entry_faults) row.journal in
+        let sums : sum_by entry_faults new.journal ≡ sum_by entry_faults old.journal = ap (λ (n : Now). sum_by entry_faults n.journal) row.behind in
         let was = recorded in
-        more_counted (with_tx job row.place tx') one row.jobs (omega (arith, replies, ended, sums, was))
+        more_counted (with_tx job row.place tx') one (ap (λ (n : Now). actives n.jobs) row.behind) (omega (arith, replies, ended, sums, was))
         (fault_as_count (is_fault_reply row.reply) old.faults new.faults row.cause)
 
     by_ask : (a : Ask) → AskedTurn s at old job tx a new → AreCounted from new
@@ -144,27 +154,37 @@ module _ (s : Setting) (at from : ℕ) (old : Now) (job : SeenJob) (new : Now) (
     by_running : (answer : Turn) → RunningTurn s at old job tx answer new → AreCounted from new
     by_running turn.Went row = by_ask (asked_at s job.place) row
     by_running turn.NoMemory row =
-        still_counted (with_tx job row.place (wanting tx row.left row.held)) row.jobs row.journal row.faults recorded
-    by_running (turn.Busy object holder) row = absurd row
+        still_counted (with_tx job row.place (wanting tx row.left row.held)) (ap (λ (n : Now). n.jobs) row.behind) (ap (λ (n : Now). n.journal) row.behind)
+        (ap (λ (n : Now). n.faults) row.behind) recorded
+    by_running (turn.Busy object holder) row =
+        still_counted (waiting (with_tx job row.place tx)) (ap (λ (n : Now). n.jobs) row.behind) (ap (λ (n : Now). n.journal) row.behind)
+        (ap (λ (n : Now). n.faults) row.behind) recorded
     by_running (turn.Ended end) row = absurd row
 
+    by_mark : (m : Option Mark) (answer : Turn) → MarkedTurn s at old job tx m answer new → AreCounted from new
+    by_mark None answer row = by_running answer row
+    by_mark (Some m) turn.Went row = with_counted (with_tx job job.place (record tx { phase = Undoing (revoked m) })) row recorded
+    by_mark (Some m) _ row = absurd row
+
     -- ---- one that commits
-    late_counted : (call : LateCall) → EndsLate s at old job tx call new → AreCounted from new
-    late_counted call row =
+    late_counted : Ends at old job tx new → AreCounted from new
+    late_counted row =
         let one = cond (is_fault_end row.end) 1 0 in
         let ends : count_by is_fault_end (tx.ends ++ row.end ∷ []) ≡ count_by is_fault_end tx.ends + one =
         sum_by_push (λ e. cond (is_fault_end e) 1 0) tx.ends row.end in
         let sums : sum_by entry_faults new.journal ≡ sum_by entry_faults old.journal = ap (sum_by entry_faults) row.journal in
         let was = recorded in
-        more_counted (with_tx job job.place (record tx { ends = tx.ends ++ row.end ∷ [] })) one row.jobs (omega (arith, ends, sums, was))
+        more_counted (with_tx job job.place (record tx { ends = tx.ends ++ row.end ∷ [] })) one (ap actives row.jobs) (omega (arith, ends, sums, was))
         (fault_as_count (is_fault_end row.end) old.faults new.faults row.cause)
 
     by_late : tx.phase ≡ Committing → (calls : List LateCall) → LateTurn s at old job tx calls new → AreCounted from new
     by_late commits [] row =
         let none : sum_by undo_faults tx.undo.ended ≡ 0 = ap (sum_by undo_faults) (none_ended s at old job tx stands is commits told) in
         let was = recorded in
-        entered_counted (behind_commit job tx) (entry_of tx at (Committed tx.ends)) row refl (omega (arith, none, was))
-    by_late commits (call ∷ calls) row = late_counted call row
+        entered_counted (behind_commit job tx) (entry_of tx at (Committed tx.ends)) old.contents _ row.0
+        (grown_actives (slice_set old.jobs at (behind_commit job tx)) (started_jobs s.script job tx)
+        (started_idle s.script (behind_commit job tx) (started_late tx.late tx.ends))) refl (omega (arith, none, was))
+    by_late commits (call ∷ calls) row = late_counted (next_ends s at old job tx new call row)
 
     by_committing : tx.phase ≡ Committing → (answer : Turn) → CommittingTurn s at old job tx answer new → AreCounted from new
     by_committing commits turn.Went row = by_late commits (late_left tx) row
@@ -178,15 +198,16 @@ module _ (s : Setting) (at from : ℕ) (old : Now) (job : SeenJob) (new : Now) (
         let undo : Records = record { pending = row.older; ended = (row.tried, row.end) ∷ tx.undo.ended } in
         let ended : sum_by undo_faults ((row.tried, row.end) ∷ tx.undo.ended) ≡ end_faults row.end + sum_by undo_faults tx.undo.ended =
         sum_by-cons undo_faults (row.tried, row.end) tx.undo.ended in
-        let sums : sum_by entry_faults new.journal ≡ sum_by entry_faults old.journal = ap (sum_by entry_faults) row.journal in
+        let sums : sum_by entry_faults new.journal ≡ sum_by entry_faults old.journal = ap (λ (n : Now). sum_by entry_faults n.journal) row.behind in
         let was = recorded in
-        more_counted (with_tx job job.place (record tx { undo = undo })) (end_faults row.end) row.jobs (omega (arith, ended, sums, was)) row.faults
+        more_counted (with_tx job job.place (record tx { undo = undo })) (end_faults row.end) (ap (λ (n : Now). actives n.jobs) row.behind)
+        (omega (arith, ended, sums, was)) row.faults
 
     by_records : (c : Cause) → tx.phase ≡ Undoing c → (pending : List Undo) → BackTurn s at old job tx c pending new → AreCounted from new
     by_records c undoes [] row =
         let none : count_by is_fault_end tx.ends ≡ 0 = ap (count_by is_fault_end) (none_late s at old job tx c stands is undoes told) in
         let was = recorded in
-        entered_counted (behind_abort job tx c) (entry_of tx at (Aborted (record { cause = c; records = tx.undo.ended }))) row
+        entered_counted (behind_abort job tx c) (entry_of tx at (Aborted (record { cause = c; records = tx.undo.ended }))) new.contents _ row.behind refl
         (ap (adds tx_faults) (behind_abort_none job tx c)) (omega (arith, none, was))
     by_records c undoes (u ∷ pending) row = tried_counted row
 
@@ -197,7 +218,7 @@ module _ (s : Setting) (at from : ℕ) (old : Now) (job : SeenJob) (new : Now) (
     by_undoing c undoes (turn.Ended end) row = absurd row
 
     by_phase : (p : Phase) → tx.phase ≡ p → (answer : Turn) → ActiveTurn s at old job tx p answer new → AreCounted from new
-    by_phase Running e answer row = by_running answer row
+    by_phase Running e answer row = by_mark (old.marks tx.number) answer row
     by_phase Committing e answer row = by_committing e answer row
     by_phase (Undoing c) e answer row = by_undoing c e answer row
 
@@ -209,5 +230,5 @@ module _ (s : Setting) (at from : ℕ) (old : Now) (job : SeenJob) (new : Now) (
 
 -- a turn keeps the count
 pub turn_keeps_count : (s : Setting) (at from : ℕ) (old new : Now) (answer : Turn) → IsTurn s at old answer new
-    → AreTold s (length old.words) old.journal old.jobs → AreCounted from old → AreCounted from new
+    → AreTold s (length old.words) old.marks old.journal old.jobs → AreCounted from old → AreCounted from new
 turn_keeps_count s at from old new answer t told h = by_doing s at from old t.job new t.stands told h t.job.doing refl answer t.row

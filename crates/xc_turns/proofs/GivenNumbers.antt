@@ -8,6 +8,7 @@ use Rattle.std.proofs.lemmas.List.{map-append}
 use Rattle.std.proofs.lemmas.List.Sorted.{Contains-permutation, IsPermutation-sym}
 use Rattle.std.proofs.lemmas.Map.Keys.{IsDistinct-head, IsDistinct-tail, IsDistinct-cons, IsDistinct-IsPermutation}
 use Rattle.xc_data.specs.declared.entry.Entry.{Entry}
+use Rattle.xc_data.specs.declared.entry.Mark.{Mark}
 use Rattle.xc_story.specs.Setting.{Setting}
 use Rattle.xc_story.specs.Truth.{counting}
 use Rattle.xc_story.specs.Seen.{SeenTx, SeenJob, active_of, actives}
@@ -108,14 +109,16 @@ numbers_differ journal jobs are =
     (subst (IsDistinct nat_eq) (map-append (λ (b : ℕ × ℕ). b.0) entered (map active_begin (actives jobs))) all)
 
 -- two active transactions of one number stand in one place
-pub given_once : (s : Setting) (words : ℕ) (journal : List Entry) (jobs : List SeenJob) → AreTold s words journal jobs → (i j : ℕ) (t u : SeenTx)
+pub given_once : (s : Setting) (words : ℕ) (marks : ℕ → Option Mark) (journal : List Entry) (jobs : List SeenJob) → AreTold s words marks journal jobs
+    → (i j : ℕ) (t u : SeenTx)
     → IsActiveAt jobs i t → IsActiveAt jobs j u → t.number ≡ u.number → i ≡ j
-given_once s words journal jobs told i j t u = one_place jobs i j t u (numbers_differ journal jobs told.begins)
+given_once s words marks journal jobs told i j t u = one_place jobs i j t u (numbers_differ journal jobs told.begins)
 
 -- an active transaction's number is one of as many as have begun
-pub given_by_now : (s : Setting) (words : ℕ) (journal : List Entry) (jobs : List SeenJob) → AreTold s words journal jobs → (i : ℕ) (t : SeenTx)
+pub given_by_now : (s : Setting) (words : ℕ) (marks : ℕ → Option Mark) (journal : List Entry) (jobs : List SeenJob) → AreTold s words marks journal jobs
+    → (i : ℕ) (t : SeenTx)
     → IsActiveAt jobs i t → (1 ≤ t.number) × (t.number ≤ length journal + length (actives jobs))
-given_by_now s words journal jobs told i t active =
+given_by_now s words marks journal jobs told i t active =
     let begins = begins_of journal jobs in
     let at = active_begun journal jobs i t active in
     let above = counting_above 1 (length begins) t.number

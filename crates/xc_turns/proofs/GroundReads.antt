@@ -10,51 +10,87 @@ use Rattle.xc_script.specs.declared.ask.Ask.{Ask}
 use Rattle.xc_script.specs.declared.ask.Ask.TheVariants as ask
 use Rattle.xc_world.specs.Modes.{claims_of}
 use Rattle.xc_world.specs.Run.{Ran}
+use Rattle.xc_data.specs.declared.entry.Mark.{Mark}
 use Rattle.xc_story.specs.Setting.{Setting}
 use Rattle.xc_story.specs.Seen.{SeenTx, SeenJob, active_of}
 use Rattle.xc_story.specs.Grounds.{Part}
 use Rattle.xc_story.specs.Progress.{Following, Progress, with_job, following_of, after_outcome, after_following, after_entry}
 use Rattle.xc_story.specs.Truth.{asked_behind, next_claims}
-use Rattle.xc_story.specs.Told.{active_part, active_parts, asked_of_tx, wanted_by}
+use Rattle.xc_story.specs.Rows.{IsActiveAt}
+use Rattle.xc_story.specs.Told.{active_part, active_parts, asked_of_tx, cause_of_phase, part_under_way, wanted_by}
 use Rattle.xc_turns.proofs.Lists.{get_set_other, get_inside}
 
 -- ---- active transactions by job
-abbrev read_part : Setting → ℕ → Option Following → ℕ → Option SeenJob → Option Part
-read_part s words f number None = None
-read_part s words f number (Some job) = active_part s words f number (active_of job)
+module _ (s : Setting) (words : ℕ) (marks : ℕ → Option Mark) where
+  abbrev read_part : Option Following → ℕ → Option SeenJob → Option Part
+  read_part f number None = None
+  read_part f number (Some job) = active_part s words marks f number (active_of job)
 
-active_read : (s : Setting) (words number : ℕ) (fs : List Following) (jobs : List SeenJob) (j n : ℕ) → number + j ≡ n
-    → get_or (active_parts s words number fs jobs) j None ≡ read_part s words (slice_get fs j) n (slice_get jobs j)
-active_read s words number [] [] j n e = refl
-active_read s words number (f ∷ fs) [] j n e = refl
-active_read s words number [] (job ∷ jobs) zero n e =
-    ap (λ (k : ℕ). active_part s words None k (active_of job)) (let same : number ≡ n = omega arith in same)
-active_read s words number [] (job ∷ jobs) (suc j) n e = active_read s words (number + 1) [] jobs j n (omega arith)
-active_read s words number (f ∷ fs) (job ∷ jobs) zero n e =
-    ap (λ (k : ℕ). active_part s words (Some f) k (active_of job)) (let same : number ≡ n = omega arith in same)
-active_read s words number (f ∷ fs) (job ∷ jobs) (suc j) n e = active_read s words (number + 1) fs jobs j n (omega arith)
+  active_read : (number : ℕ) (fs : List Following) (jobs : List SeenJob) (j n : ℕ) → number + j ≡ n
+      → get_or (active_parts s words marks number fs jobs) j None ≡ read_part (slice_get fs j) n (slice_get jobs j)
+  active_read number [] [] j n e = refl
+  active_read number (f ∷ fs) [] j n e = refl
+  active_read number [] (job ∷ jobs) zero n e =
+      ap (λ (k : ℕ). active_part s words marks None k (active_of job)) (let same : number ≡ n = omega arith in same)
+  active_read number [] (job ∷ jobs) (suc j) n e = active_read (number + 1) [] jobs j n (omega arith)
+  active_read number (f ∷ fs) (job ∷ jobs) zero n e =
+      ap (λ (k : ℕ). active_part s words marks (Some f) k (active_of job)) (let same : number ≡ n = omega arith in same)
+  active_read number (f ∷ fs) (job ∷ jobs) (suc j) n e = active_read (number + 1) fs jobs j n (omega arith)
 
--- a job's
-pub part_read : (s : Setting) (words : ℕ) (fs : List Following) (jobs : List SeenJob) (j : ℕ) (job : SeenJob) (o : Option SeenTx)
-    → slice_get jobs j ≡ Some job → active_of job ≡ o
-    → get_or (active_parts s words 1 fs jobs) j None ≡ active_part s words (slice_get fs j) (j + 1) o
-part_read s words fs jobs j job o stands is =
-    active_read s words 1 fs jobs j (j + 1) (omega arith) ∙ ap (read_part s words (slice_get fs j) (j + 1)) stands
-    ∙ ap (active_part s words (slice_get fs j) (j + 1)) is
+  -- a job's
+  pub part_read : (fs : List Following) (jobs : List SeenJob) (j : ℕ) (job : SeenJob) (o : Option SeenTx)
+      → slice_get jobs j ≡ Some job → active_of job ≡ o
+      → get_or (active_parts s words marks 1 fs jobs) j None ≡ active_part s words marks (slice_get fs j) (j + 1) o
+  part_read fs jobs j job o stands is =
+      active_read 1 fs jobs j (j + 1) (omega arith) ∙ ap (read_part (slice_get fs j) (j + 1)) stands
+      ∙ ap (active_part s words marks (slice_get fs j) (j + 1)) is
 
--- where a job stays, and what is told of it or nothing is there
-pub part_elsewhere : (s : Setting) (words : ℕ) (fs fs' : List Following) (jobs jobs' : List SeenJob) (j : ℕ) → slice_get jobs' j ≡ slice_get jobs j
+-- a part is that of an active transaction
+pub part_there : (s : Setting) (words : ℕ) (marks : ℕ → Option Mark) (fs : List Following) (jobs : List SeenJob) (j : ℕ) (a : Part)
+    → get_or (active_parts s words marks 1 fs jobs) j None ≡ Some a
+    → (tx : SeenTx) × IsActiveAt jobs j tx × (part_under_way s words marks (slice_get fs j) (j + 1) tx ≡ a)
+part_there s words marks fs jobs j a got =
+    by_job (slice_get jobs j) refl (sym (active_read s words marks 1 fs jobs j (j + 1) (omega arith)) ∙ got)
+  where
+    by_tx : (job : SeenJob) (o : Option SeenTx) → slice_get jobs j ≡ Some job → active_of job ≡ o
+        → active_part s words marks (slice_get fs j) (j + 1) o ≡ Some a
+        → (tx : SeenTx) × IsActiveAt jobs j tx × (part_under_way s words marks (slice_get fs j) (j + 1) tx ≡ a)
+    by_tx job None there has e = cc e
+    by_tx job (Some tx) there has e = (tx, (job, there, has), cc e)
+
+    by_job : (o : Option SeenJob) → slice_get jobs j ≡ o → read_part s words marks (slice_get fs j) (j + 1) o ≡ Some a
+        → (tx : SeenTx) × IsActiveAt jobs j tx × (part_under_way s words marks (slice_get fs j) (j + 1) tx ≡ a)
+    by_job None there e = cc e
+    by_job (Some job) there e = by_tx job (active_of job) there refl e
+
+-- with other marks a transaction has the same part, where its own mark stays
+part_marked : (s : Setting) (words : ℕ) (marks marks' : ℕ → Option Mark) (f : Option Following) (n : ℕ) (o : Option SeenTx)
+    → ((tx : SeenTx) → o ≡ Some tx → marks' tx.number ≡ marks tx.number) → active_part s words marks' f n o ≡ active_part s words marks f n o
+part_marked s words marks marks' f n None same = refl
+part_marked s words marks marks' f n (Some tx) same =
+    ap (λ (m : Option Mark). Some (record (part_under_way s words marks f n tx) { cause = cause_of_phase m tx.phase })) (same tx refl)
+
+read_marked : (s : Setting) (words : ℕ) (marks marks' : ℕ → Option Mark) (f : Option Following) (n : ℕ) (o : Option SeenJob)
+    → ((job : SeenJob) (tx : SeenTx) → o ≡ Some job → active_of job ≡ Some tx → marks' tx.number ≡ marks tx.number)
+    → read_part s words marks' f n o ≡ read_part s words marks f n o
+read_marked s words marks marks' f n None same = refl
+read_marked s words marks marks' f n (Some job) same = part_marked s words marks marks' f n (active_of job) (λ tx e. same job tx refl e)
+
+-- where a job and its transaction's mark stay, and what is told of it or nothing is there
+pub part_elsewhere : (s : Setting) (words : ℕ) (marks marks' : ℕ → Option Mark) (fs fs' : List Following) (jobs jobs' : List SeenJob) (j : ℕ)
+    → slice_get jobs' j ≡ slice_get jobs j → ((tx : SeenTx) → IsActiveAt jobs j tx → marks' tx.number ≡ marks tx.number)
     → (slice_get fs' j ≡ slice_get fs j) ⊎ (slice_get jobs j ≡ None)
-    → get_or (active_parts s words 1 fs' jobs') j None ≡ get_or (active_parts s words 1 fs jobs) j None
-part_elsewhere s words fs fs' jobs jobs' j same told =
-    active_read s words 1 fs' jobs' j (j + 1) (omega arith) ∙ ap (read_part s words (slice_get fs' j) (j + 1)) same ∙ by_told told
-    ∙ sym (active_read s words 1 fs jobs j (j + 1) (omega arith))
+    → get_or (active_parts s words marks' 1 fs' jobs') j None ≡ get_or (active_parts s words marks 1 fs jobs) j None
+part_elsewhere s words marks marks' fs fs' jobs jobs' j same unmarked told =
+    active_read s words marks' 1 fs' jobs' j (j + 1) (omega arith) ∙ ap (read_part s words marks' (slice_get fs' j) (j + 1)) same ∙ by_told told
+    ∙ read_marked s words marks marks' (slice_get fs j) (j + 1) (slice_get jobs j) (λ job tx there has. unmarked tx (job, there, has))
+    ∙ sym (active_read s words marks 1 fs jobs j (j + 1) (omega arith))
   where
     by_told : (slice_get fs' j ≡ slice_get fs j) ⊎ (slice_get jobs j ≡ None)
-        → read_part s words (slice_get fs' j) (j + 1) (slice_get jobs j) ≡ read_part s words (slice_get fs j) (j + 1) (slice_get jobs j)
-    by_told (inl e) = ap (λ (f : Option Following). read_part s words f (j + 1) (slice_get jobs j)) e
+        → read_part s words marks' (slice_get fs' j) (j + 1) (slice_get jobs j) ≡ read_part s words marks' (slice_get fs j) (j + 1) (slice_get jobs j)
+    by_told (inl e) = ap (λ (f : Option Following). read_part s words marks' f (j + 1) (slice_get jobs j)) e
     by_told (inr none) =
-        ap (read_part s words (slice_get fs' j) (j + 1)) none ∙ sym (ap (read_part s words (slice_get fs j) (j + 1)) none)
+        ap (read_part s words marks' (slice_get fs' j) (j + 1)) none ∙ sym (ap (read_part s words marks' (slice_get fs j) (j + 1)) none)
 
 -- ---- jobs behind an entry
 -- another job stays as it is told

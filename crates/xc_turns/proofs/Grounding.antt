@@ -1,12 +1,13 @@
--- A turn keeps each conflict grounded: it names a holder.
-use Rattle.std.proofs.Common.{◌≡◌, ◌≢◌, ◌⊎◌, inl, inr, ℕ, ◌+◌, ◌-◌, ◌<◌, ◌≤◌, false, List, [], ◌∷◌, ◌++◌, length, get_or, refl, ap, sym, ◌∙◌, subst, arith}
-use Rattle.std.specs.Prelude.{Contains, IsTrue, Option, slice_get, slice_set}
+-- A turn keeps each conflict and each revocation grounded: it names a holder, or an older transaction.
+use Rattle.std.proofs.Common.{◌≡◌, ◌≢◌, ◌⊎◌, inl, inr, ℕ, ◌+◌, ◌-◌, ◌<◌, ◌≤◌, Bool, List, [], ◌∷◌, ◌++◌, length, get_or, refl, ap, sym, ◌∙◌, subst}
+use Rattle.std.proofs.Common.{arith, length-set}
+use Rattle.std.specs.Prelude.{Contains, IsTrue, Option, slice_get, slice_set, if◌then◌else◌}
 use Rattle.std.specs.declared.option.Option.TheVariants.{None, Some}
 use Rattle.std.proofs.lemmas.Option.{slice_get_cases}
 use Rattle.std.proofs.lemmas.List.Elements.{Contains-append_right}
+use borrow.Author.Tests.{eq-eqb, ne_eqb}
 use mathlib.Core.Logic.{dite}
 use native.Mathlib.Decide.{ℕ_discrete}
-use Rattle.xc_data.specs.Claims.{compatible}
 use Rattle.xc_data.specs.declared.private.Private.{Private}
 use Rattle.xc_world.specs.Modes.{claims_of}
 use Rattle.xc_data.specs.declared.claim.Claim.{Claim}
@@ -15,32 +16,60 @@ use Rattle.xc_data.specs.declared.entry.Cause.{Cause}
 use Rattle.xc_data.specs.declared.entry.Cause.TheVariants as cause
 use Rattle.xc_data.specs.declared.entry.Entry.{Entry}
 use Rattle.xc_data.specs.declared.entry.Turn.{Turn}
+use Rattle.xc_data.specs.declared.call.Call.{Call}
 use Rattle.xc_script.specs.declared.ask.Ask.{Ask}
 use Rattle.xc_script.specs.declared.ask.Ask.TheVariants as ask
 use Rattle.xc_script.specs.Ask.{asks}
 use Rattle.xc_script.specs.Position.{Position}
-use Rattle.xc_story.specs.declared.phase.Phase.TheVariants.{Running}
+use Rattle.xc_data.specs.declared.entry.Mark.{Mark}
+use Rattle.xc_story.specs.declared.phase.Phase.{Phase}
+use Rattle.xc_story.specs.declared.phase.Phase.TheVariants.{Running, Committing, Undoing}
 use Rattle.xc_story.specs.Setting.{Setting}
-use Rattle.xc_story.specs.Seen.{SeenTx, SeenJob, Doing, Idle, Active, Starved, Ended, Now, active_in, active_of}
-use Rattle.xc_story.specs.Rows.{IsTurn, IsActiveAt, IsRival, asked_at, claims_at, entry_of}
-use Rattle.xc_story.specs.Grounds.{Part, Holder, Ground, IsGrounded, AreGrounded}
+use Rattle.xc_story.specs.Seen.{SeenTx, SeenJob, Doing, Idle, Active, Starved, Ended, Now, active_in, active_of, revoked, unmarked}
+use Rattle.xc_story.specs.Rows.{IsTurn, IsActiveAt, IsFirstMet, IsRival, asked_at, claims_at, entry_of, mark_behind, marked}
+use Rattle.xc_story.specs.Grounds.{Part, Other, Holds, Ground, IsGrounded, AreGrounded}
 use Rattle.xc_story.specs.Progress.{Following, Progress, progress_of, following_of, after_entry}
 use Rattle.xc_story.specs.Truth.{next_of, part_of, parts_of}
 use Rattle.xc_story.specs.Played.{IsPlayedSoFar, ran_behind}
 use Rattle.xc_story.specs.Told.{AreTold, IsDoing, IsUnderway, IsInPhase, IsRunning, active_begin, active_part, active_parts, part_under_way}
 use Rattle.xc_story.specs.Told.{asked_of_tx, cause_of_phase, wanted_by}
-use Rattle.xc_turns.proofs.Lists.{contains_first, get_beside, get_set_same, get_set_other, not_both}
+use Rattle.xc_turns.proofs.Lists.{contains_first, get_beside, get_front, get_inside, get_set_same, get_set_other, not_both}
 use Rattle.xc_turns.proofs.Progressing.{parts_length, parts_more, progress-more}
 use Rattle.xc_turns.proofs.StoryBegins.{active_begun}
-use Rattle.xc_turns.proofs.HeldClaims.{AreCovered, covered_same, covered_all}
+use Rattle.xc_turns.proofs.HeldClaims.{AreCovered, covered_same, covered_all, claims_covered, covered_parts, covered_front, covered_back}
 use Rattle.xc_turns.proofs.GroundSteps.{Follows, follows_itself, ground_as, grounds_go_on, grounds_enter}
-use Rattle.xc_turns.proofs.GroundReads.{part_read, part_elsewhere, jobs_elsewhere, wanted_same}
-use Rattle.xc_turns.proofs.TurnKinds.{HoldsOn, IsNoConflict, Meets, CauseOn, same, free, meets}
-use Rattle.xc_turns.proofs.TurnKinds.{Rests, Begins, Moves, Enters, Kind, rests, begins, moves, enters, kind_of}
+use Rattle.xc_turns.proofs.GivenNumbers.{given_once, given_by_now}
+use Rattle.xc_turns.proofs.Jobs.{active_same, active_was, active_is, active_here, active_before, active_after}
+use Rattle.xc_turns.proofs.GroundReads.{part_read, part_there, part_elsewhere, jobs_elsewhere, wanted_same}
+use Rattle.xc_turns.proofs.TurnKinds.{AsksOn, HoldsOn, IsNoConflict, Meets, CauseOn, same, free, meets, cause_on, undoing_is}
+use Rattle.xc_turns.proofs.Grown.{grown_active}
+use Rattle.xc_turns.proofs.TurnKinds.{Rests, Begins, Moves, Stays, Enters, Kind, rests, begins, moves, stays, enters, kind_of}
 
--- all conflicts of these entries and jobs are grounded
-abbrev AreAllGrounded : Setting → ℕ → List Entry → List SeenJob → Type 0
-AreAllGrounded s words journal jobs = AreGrounded s.tells (parts_of s journal) (active_parts s words 1 (progress_of s.script journal).jobs jobs)
+-- all conflicts and revocations of these entries and jobs are grounded
+abbrev AreAllGrounded : Setting → ℕ → (ℕ → Option Mark) → List Entry → List SeenJob → Type 0
+AreAllGrounded s words marks journal jobs =
+    AreGrounded s.tells (parts_of s journal) (active_parts s words marks 1 (progress_of s.script journal).jobs jobs)
+
+-- ---- marks
+unmarked_other : (marks : ℕ → Option Mark) (number n : ℕ) → (n ≡ number → ⊥) → unmarked marks number n ≡ marks n
+unmarked_other marks number n ne = ap (λ (b : Bool). if b then None else marks n) (ne_eqb n number ne)
+
+unmarked_itself : (marks : ℕ → Option Mark) (number : ℕ) → unmarked marks number number ≡ None
+unmarked_itself marks number = ap (λ (b : Bool). if b then None else marks number) (eq-eqb number number refl)
+
+marked_other : (marks : ℕ → Option Mark) (tx : SeenTx) (new : Mark) (n : ℕ) → (n ≡ tx.number → ⊥) → marked marks tx new n ≡ marks n
+marked_other marks tx new n ne = ap (λ (b : Bool). if b then mark_behind tx.phase (marks n) new else marks n) (ne_eqb n tx.number ne)
+
+marked_itself : (marks : ℕ → Option Mark) (tx : SeenTx) (new : Mark) (n : ℕ) → n ≡ tx.number → marked marks tx new n ≡ mark_behind tx.phase (marks n) new
+marked_itself marks tx new n e = ap (λ (b : Bool). if b then mark_behind tx.phase (marks n) new else marks n) (eq-eqb n tx.number e)
+
+-- a mark stays, or a running transaction takes the new one
+mark_cases : (p : Phase) (kept : Option Mark) (new : Mark)
+    → (mark_behind p kept new ≡ kept) ⊎ ((p ≡ Running) × (mark_behind p kept new ≡ Some new))
+mark_cases Running None new = inr (refl, refl)
+mark_cases Running (Some m) new = inl refl
+mark_cases Committing kept new = inl refl
+mark_cases (Undoing c) kept new = inl refl
 
 -- ---- what is told of an active transaction
 underway : (s : Setting) (begun : ℕ) (f : Following) (job : SeenJob) (was : SeenTx) (d : Doing) → active_in d ≡ Some was → IsDoing s begun f job d
@@ -57,9 +86,13 @@ asked_there s f place was told running =
     let at : IsRunning s f place was = subst (IsInPhase s f place was) running told.phase in
     sym (ap asks at.ahead)
 
+none_or : (o : Option Part) → ((a : Part) → o ≡ Some a → ⊥) → o ≡ None
+none_or None none = refl
+none_or (Some a) none = absurd (none a refl)
+
 -- ---- a turn of the job in this place
 module _ (s : Setting) (at : ℕ) (old new : Now) (job : SeenJob) (stands : slice_get old.jobs at ≡ Some job)
-    (told : AreTold s (length old.words) old.journal old.jobs) where
+    (told : AreTold s (length old.words) old.marks old.journal old.jobs) where
   abbrev words : ℕ
   words = length old.words
 
@@ -82,60 +115,81 @@ module _ (s : Setting) (at : ℕ) (old new : Now) (job : SeenJob) (stands : slic
   log = parts_of s old.journal
 
   abbrev before : List (Option Part)
-  before = active_parts s words 1 led.jobs old.jobs
+  before = active_parts s words old.marks 1 led.jobs old.jobs
 
-  abbrev behind_of : SeenJob → List (Option Part)
-  behind_of behind = active_parts s words 1 led.jobs (slice_set old.jobs at behind)
+  abbrev behind_of : (ℕ → Option Mark) → SeenJob → List (Option Part)
+  behind_of marks behind = active_parts s words marks 1 led.jobs (slice_set old.jobs at behind)
 
-  abbrev part_here : SeenTx → Part
-  part_here tx = part_under_way s words led_here (at + 1) tx
+  abbrev part_here : (ℕ → Option Mark) → SeenTx → Part
+  part_here marks tx = part_under_way s words marks led_here (at + 1) tx
 
-  here_before : (o : Option SeenTx) → active_of job ≡ o → get_or before at None ≡ active_part s words led_here (at + 1) o
-  here_before o e = part_read s words led.jobs old.jobs at job o stands e
+  here_before : (o : Option SeenTx) → active_of job ≡ o → get_or before at None ≡ active_part s words old.marks led_here (at + 1) o
+  here_before o e = part_read s words old.marks led.jobs old.jobs at job o stands e
 
-  here_after : (behind : SeenJob) (o : Option SeenTx) → active_of behind ≡ o
-      → get_or (behind_of behind) at None ≡ active_part s words led_here (at + 1) o
-  here_after behind o e = part_read s words led.jobs (slice_set old.jobs at behind) at behind o (get_set_same old.jobs at job behind stands) e
+  here_after : (marks : ℕ → Option Mark) (behind : SeenJob) (o : Option SeenTx) → active_of behind ≡ o
+      → get_or (behind_of marks behind) at None ≡ active_part s words marks led_here (at + 1) o
+  here_after marks behind o e =
+      part_read s words marks led.jobs (slice_set old.jobs at behind) at behind o (get_set_same old.jobs at job behind stands) e
 
-  is_part : (parts : List (Option Part)) (tx : SeenTx) (b : Part) → get_or parts at None ≡ Some (part_here tx) → get_or parts at None ≡ Some b
-      → part_here tx ≡ b
-  is_part parts tx b e got = let both : Some (part_here tx) ≡ Some b = sym e ∙ got in cc
+  is_part : (parts : List (Option Part)) (a b : Part) → get_or parts at None ≡ Some a → get_or parts at None ≡ Some b → a ≡ b
+  is_part parts a b e got = let both : Some a ≡ Some b = sym e ∙ got in cc
+
+  -- the marks of the others stay
+  abbrev MarksElsewhere : (ℕ → Option Mark) → Type 0
+  MarksElsewhere marks = (j : ℕ) (tx : SeenTx) → j ≢ at → IsActiveAt old.jobs j tx → marks tx.number ≡ old.marks tx.number
 
   -- ---- no transaction enters
-  go_at : (behind : SeenJob) → ((a : Part) → get_or before at None ≡ Some a → (b : Part) × Follows a b × (get_or (behind_of behind) at None ≡ Some b))
-      → ((b : Part) → get_or (behind_of behind) at None ≡ Some b → IsGrounded s.tells log before (length log) b b.cause)
-      → AreGrounded s.tells log (behind_of behind)
-  go_at behind own new = grounds_go_on s.tells log before (behind_of behind) (record { kept = kept; fresh = fresh }) told.grounded
+  go_at : (marks : ℕ → Option Mark) (behind : SeenJob) → MarksElsewhere marks
+      → ((a : Part) → get_or before at None ≡ Some a → (b : Part) × Follows s.tells a b × (get_or (behind_of marks behind) at None ≡ Some b))
+      → ((b : Part) → get_or (behind_of marks behind) at None ≡ Some b → IsGrounded s.tells log before (length log) b b.cause)
+      → AreGrounded s.tells log (behind_of marks behind)
+  go_at marks behind others own new = grounds_go_on s.tells log before (behind_of marks behind) (record { kept = kept; fresh = fresh }) told.grounded
     where
-      elsewhere : (j : ℕ) → j ≢ at → get_or (behind_of behind) j None ≡ get_or before j None
+      elsewhere : (j : ℕ) → j ≢ at → get_or (behind_of marks behind) j None ≡ get_or before j None
       elsewhere j away =
-          part_elsewhere s words led.jobs led.jobs old.jobs (slice_set old.jobs at behind) j (get_set_other old.jobs at j behind away) (inl refl)
+          part_elsewhere s words old.marks marks led.jobs led.jobs old.jobs (slice_set old.jobs at behind) j (get_set_other old.jobs at j behind away)
+          (λ tx active. others j tx away active) (inl refl)
 
-      kept : (j : ℕ) (a : Part) → get_or before j None ≡ Some a → (b : Part) × Follows a b × (get_or (behind_of behind) j None ≡ Some b)
+      kept : (j : ℕ) (a : Part) → get_or before j None ≡ Some a
+          → (b : Part) × Follows s.tells a b × (get_or (behind_of marks behind) j None ≡ Some b)
       kept j a got = dite (ℕ_discrete j at)
           (λ (here : j ≡ at).
           let next = own a (ap (λ (k : ℕ). get_or before k None) (sym here) ∙ got) in
-          (next.0, next.1, ap (λ (k : ℕ). get_or (behind_of behind) k None) here ∙ next.2))
-          (λ (away : j ≢ at). (a, follows_itself a, elsewhere j away ∙ got))
+          (next.0, next.1, ap (λ (k : ℕ). get_or (behind_of marks behind) k None) here ∙ next.2))
+          (λ (away : j ≢ at). (a, follows_itself s.tells a, elsewhere j away ∙ got))
 
-      fresh : (j : ℕ) (b : Part) → get_or (behind_of behind) j None ≡ Some b → IsGrounded s.tells log before (length log) b b.cause
+      fresh : (j : ℕ) (b : Part) → get_or (behind_of marks behind) j None ≡ Some b → IsGrounded s.tells log before (length log) b b.cause
       fresh j b got = dite (ℕ_discrete j at)
-          (λ (here : j ≡ at). new b (ap (λ (k : ℕ). get_or (behind_of behind) k None) (sym here) ∙ got))
+          (λ (here : j ≡ at). new b (ap (λ (k : ℕ). get_or (behind_of marks behind) k None) (sym here) ∙ got))
           (λ (away : j ≢ at). told.grounded.actives j b (sym (elsewhere j away) ∙ got))
 
-  rests_grounded : (k : Rests at old job new) → AreGrounded s.tells log (behind_of k.behind)
+  rests_grounded : (k : Rests at old job new) → AreGrounded s.tells log (behind_of old.marks k.behind)
   rests_grounded k =
-      go_at k.behind (λ a got. absurd (not_both (get_or before at None) a (here_before None k.before) got))
-      (λ b got. absurd (not_both (get_or (behind_of k.behind) at None) b (here_after k.behind None k.after) got))
+      go_at old.marks k.behind (λ j tx away active. refl) (λ a got. absurd (not_both (get_or before at None) a (here_before None k.before) got))
+      (λ b got. absurd (not_both (get_or (behind_of old.marks k.behind) at None) b (here_after old.marks k.behind None k.after) got))
 
-  begins_grounded : (k : Begins at old job new) → AreGrounded s.tells log (behind_of k.behind)
-  begins_grounded k = go_at k.behind (λ a got. absurd (not_both (get_or before at None) a (here_before None k.before) got)) fresh
+  -- a new one is not marked, and has no number of another
+  begins_grounded : (k : Begins at old job new) → AreGrounded s.tells log (behind_of (unmarked old.marks k.tx.number) k.behind)
+  begins_grounded k =
+      go_at marks k.behind others (λ a got. absurd (not_both (get_or before at None) a (here_before None k.before) got)) fresh
     where
-      fresh : (b : Part) → get_or (behind_of k.behind) at None ≡ Some b → IsGrounded s.tells log before (length log) b b.cause
+      marks : ℕ → Option Mark
+      marks = unmarked old.marks k.tx.number
+
+      others : MarksElsewhere marks
+      others j tx away active =
+          let few = given_by_now s words old.marks old.journal old.jobs told j tx active in
+          let low = few.1 in
+          let number = k.number in
+          unmarked_other old.marks k.tx.number tx.number (λ e. omega arith)
+
+      fresh : (b : Part) → get_or (behind_of marks k.behind) at None ≡ Some b → IsGrounded s.tells log before (length log) b b.cause
       fresh b got =
+          let none : cause_of_phase (marks k.tx.number) k.tx.phase ≡ None =
+          ap (λ m. cause_of_phase m k.tx.phase) (unmarked_itself old.marks k.tx.number) ∙ ap (cause_of_phase None) k.running in
           subst (λ (x : Part). IsGrounded s.tells log before (length log) x x.cause)
-          (is_part (behind_of k.behind) k.tx b (here_after k.behind (Some k.tx) k.after) got)
-          (subst (IsGrounded s.tells log before (length log) (part_here k.tx)) (sym k.forward) tt)
+          (is_part (behind_of marks k.behind) (part_here marks k.tx) b (here_after marks k.behind (Some k.tx) k.after) got)
+          (subst (IsGrounded s.tells log before (length log) (part_here marks k.tx)) (sym none) tt)
 
   -- ---- an active one goes on
   -- what it is asked next depends on its private state and its replies alone
@@ -155,91 +209,259 @@ module _ (s : Setting) (at : ℕ) (old new : Now) (job : SeenJob) (stands : slic
 
   no_conflict : (e : Part) (why : Option Cause) → IsNoConflict why → IsGrounded s.tells log before (length log) e why
   no_conflict e (Some (cause.Conflict object holder from)) none = absurd none
+  no_conflict e (Some (cause.Revoked object by from)) none = absurd none
   no_conflict e _ none = tt
 
-  -- the one that it meets holds the object
-  rival_holds : (c : Claim) (object : Object) (holder : ℕ) → c.object ≡ object → IsRival old.jobs at c holder
-      → (h : Holder log before object holder (length old.journal) (at + 1)) × (c.object ≡ h.claim.object) × (compatible c.mode h.claim.mode ≡ false)
+  -- the one that it meets is another
+  rival_named : (j number : ℕ) (rival : SeenTx) → IsActiveAt old.jobs j rival → rival.number ≡ number → j ≢ at
+      → Other log before number (length old.journal) (at + 1)
+  rival_named j number rival active numbered other =
+      let there = active in
+      record {
+        who = part_under_way s words old.marks (slice_get led.jobs j) (j + 1) rival;
+        stands = inr (j, part_read s words old.marks led.jobs old.jobs j there.0 (Some rival) there.1 there.2);
+        numbered = numbered;
+        other = λ (e : j + 1 ≡ at + 1). other (omega arith);
+        began = by_now j rival active;
+      }
+
+  -- and holds the object
+  rival_holds : (c : Claim) (object : Object) (holder : ℕ) → c.object ≡ object → (r : IsRival old.jobs at c holder) → Holds r.rival.held object
   rival_holds c object holder names r =
-      let there = r.active in
       let holds = r.holds in
-      let other = r.other in (
-        record {
-          who = part_under_way s words (slice_get led.jobs r.place) (r.place + 1) r.rival;
-          stands = inr (r.place, part_read s words led.jobs old.jobs r.place there.0 (Some r.rival) there.1 there.2);
-          numbered = r.numbered;
-          other = λ (e : r.place + 1 ≡ at + 1). other (omega arith);
-          began = by_now r.place r.rival r.active;
-          claim = holds.0;
-          names = holds.2 ∙ names;
-          holds = holds.1;
-        },
-        sym holds.2,
-        holds.3,
-      )
+      record { claim = holds.0; names = holds.2 ∙ names; among = holds.1 }
 
   -- what it is asked next claims the object
-  met_wants : (was tx : SeenTx) → active_of job ≡ Some was → (m : Meets s at old job was tx)
-      → wanted_by words tx (asked_of_tx s led_here tx) ≡ claims_at old was m.call
-  met_wants was tx active m =
+  asked_wants : (was tx : SeenTx) → active_of job ≡ Some was → tx.me ≡ was.me → tx.replies ≡ was.replies → (call : Call)
+      → asked_at s job.place ≡ ask.Call call → was.phase ≡ Running → wanted_by words tx (asked_of_tx s led_here tx) ≡ claims_at old was call
+  asked_wants was tx active me replies call asked running =
       let f = following in
       let there = told.jobs_told at f.0 job f.1 stands in
       let going = underway s _ f.0 job was job.doing active there.doing in
-      wanted_on led_here was tx m.me m.replies
+      wanted_on led_here was tx me replies
       ∙ ap (λ (o : Option Following). wanted_by words was (asked_of_tx s o was)) f.1
-      ∙ ap (wanted_by words was) (asked_there s f.0 job.place was going m.running ∙ m.asked)
+      ∙ ap (wanted_by words was) (asked_there s f.0 job.place was going running ∙ asked)
+
+  -- the claim that meets is one of those
+  met_listed : (claims : List Claim) (object : Object) (holder : ℕ) → (met : IsFirstMet old.jobs at claims object holder) → Contains claims met.met
+  met_listed claims object holder met =
+      subst (λ (cs : List Claim). Contains cs met.met) (sym met.split)
+      (Contains-append_right met.front (met.met ∷ met.rest) met.met (contains_first met.met met.rest))
 
   -- so the conflict is grounded
   met_grounded : (was tx : SeenTx) → active_of job ≡ Some was → tx.began ≡ was.began → (m : Meets s at old job was tx)
-      → Ground s.tells log before (length log) (part_here tx) m.object m.holder (length old.journal)
+      → Ground s.tells log before (length log) (part_here old.marks tx) m.object m.holder (length old.journal)
+  unfolding rival_named rival_holds
   met_grounded was tx active began m =
       let met = m.met in
-      let holds = rival_holds met.met m.object m.holder met.names met.rival in
+      let rival = met.rival in
+      let holds = rival.holds in
       let early = by_now at was (job, stands, active) in
       let count = parts_length s old.journal in
-      let listed = Contains-append_right met.front (met.met ∷ met.rest) met.met (contains_first met.met met.rest) in
-      let claimed = sym met.split ∙ sym (met_wants was tx active m) in
+      let claimed = sym (asked_wants was tx active m.me m.replies m.call m.asked m.running) in
       record {
         before = omega arith;
         within = omega arith;
-        named = holds.0;
-        clash = λ t. (met.met, subst (λ (cs : List Claim). Contains cs met.met) claimed listed, holds.1, holds.2);
+        named = rival_named rival.place m.holder rival.rival rival.active rival.numbered rival.other;
+        holds = rival_holds met.met m.object m.holder met.names rival;
+        clash = λ t. (
+          met.met,
+          subst (λ (cs : List Claim). Contains cs met.met) claimed (met_listed (claims_at old was m.call) m.object m.holder met),
+          sym holds.2,
+          holds.3,
+        );
       }
 
-  -- its cause is the old one, none that names a holder, or this
-  why_grounded : (was tx : SeenTx) → active_of job ≡ Some was → tx.began ≡ was.began → CauseOn s at old job was tx
-      → IsGrounded s.tells log before (length log) (part_here tx) (cause_of_phase tx.phase)
-  why_grounded was tx active began (same k) =
-      subst (IsGrounded s.tells log before (length log) (part_here tx)) (sym (ap cause_of_phase k.phase))
-      (ground_as s.tells log before (part_here was) (part_here tx) (cause_of_phase was.phase)
-      (record { job = refl; began = began; wanted = λ t. wanted_on led_here was tx k.me k.replies })
-      (told.grounded.actives at (part_here was) (here_before (Some was) active)))
-  why_grounded was tx active began (free none) = no_conflict (part_here tx) (cause_of_phase tx.phase) none
-  why_grounded was tx active began (meets m) =
-      subst (IsGrounded s.tells log before (length log) (part_here tx)) (sym (ap cause_of_phase m.phase)) (met_grounded was tx active began m)
+  -- its cause is the old one, none that names another, or this
+  why_grounded : (was tx : SeenTx) → active_of job ≡ Some was → tx.rank ≡ was.rank → tx.began ≡ was.began → AreCovered was.held tx.held
+      → CauseOn s at old job was tx → IsGrounded s.tells log before (length log) (part_here old.marks tx) (cause_on old tx)
+  why_grounded was tx active rank began held (same k) =
+      subst (IsGrounded s.tells log before (length log) (part_here old.marks tx)) (sym k.cause)
+      (ground_as s.tells log before (part_here old.marks was) (part_here old.marks tx) (cause_on old was)
+      (record { job = refl; rank = rank; began = began; held = held; wanted = λ t. wanted_on led_here was tx k.me k.replies })
+      (told.grounded.actives at (part_here old.marks was) (here_before (Some was) active)))
+  why_grounded was tx active rank began held (free none) = no_conflict (part_here old.marks tx) (cause_on old tx) none
+  why_grounded was tx active rank began held (meets m) =
+      subst (IsGrounded s.tells log before (length log) (part_here old.marks tx))
+      (sym (ap (cause_of_phase (old.marks tx.number)) m.phase ∙ undoing_is (old.marks tx.number) _)) (met_grounded was tx active began m)
 
   covered_on : (was held : List Claim) → HoldsOn old.jobs at was held → AreCovered was held
   covered_on was held (inl e) = covered_same was held e
   covered_on was held (inr more) = subst (AreCovered was) (sym more.2) (covered_all was more.0)
 
-  moves_grounded : (k : Moves s at old job new) → AreGrounded s.tells log (behind_of k.behind)
-  moves_grounded k = go_at k.behind own fresh
-    where
-      follows : Follows (part_here k.was) (part_here k.tx)
-      follows = record { number = k.number; job = refl; began = k.began; held = covered_on k.was.held k.tx.held k.held }
+  -- what it holds or wants it goes on to hold or want
+  reach_on : (was tx : SeenTx) → active_of job ≡ Some was → AreCovered was.held tx.held → AsksOn s old job was tx
+      → AreCovered ((part_here old.marks was).held ++ (part_here old.marks was).wanted) ((part_here old.marks tx).held ++ (part_here old.marks tx).wanted)
+  reach_on was tx active held (inl stays_asked) =
+      let a = part_here old.marks was in
+      let b = part_here old.marks tx in
+      covered_parts a.held a.wanted (b.held ++ b.wanted) (covered_front a.held b.held b.wanted held)
+      (covered_back a.wanted b.held b.wanted (covered_same a.wanted b.wanted (wanted_on led_here was tx stays_asked.0 stays_asked.1)))
+  reach_on was tx active held (inr done) =
+      let a = part_here old.marks was in
+      let b = part_here old.marks tx in
+      let claims = claims_at old was done.call in
+      let claimed : AreCovered claims b.held = subst (AreCovered claims) (sym done.held) (claims_covered was.held claims) in
+      covered_parts a.held a.wanted (b.held ++ b.wanted) (covered_front a.held b.held b.wanted held)
+      (covered_front a.wanted b.held b.wanted
+      (subst (λ (cs : List Claim). AreCovered cs b.held) (sym (asked_wants was was active refl refl done.call done.asked done.running)) claimed))
 
-      own : (a : Part) → get_or before at None ≡ Some a → (b : Part) × Follows a b × (get_or (behind_of k.behind) at None ≡ Some b)
+  moves_grounded : (k : Moves s at old job new) → AreGrounded s.tells log (behind_of old.marks k.behind)
+  moves_grounded k = go_at old.marks k.behind (λ j tx away active. refl) own fresh
+    where
+      held : AreCovered k.was.held k.tx.held
+      held = covered_on k.was.held k.tx.held k.held
+
+      follows : Follows s.tells (part_here old.marks k.was) (part_here old.marks k.tx)
+      follows = record {
+        number = k.number;
+        job = refl;
+        rank = k.rank;
+        began = k.began;
+        held = held;
+        reach = λ t. reach_on k.was k.tx k.before held k.wants;
+      }
+
+      own : (a : Part) → get_or before at None ≡ Some a
+          → (b : Part) × Follows s.tells a b × (get_or (behind_of old.marks k.behind) at None ≡ Some b)
       own a got = (
-        part_here k.tx,
-        subst (λ (x : Part). Follows x (part_here k.tx)) (is_part before k.was a (here_before (Some k.was) k.before) got) follows,
-        here_after k.behind (Some k.tx) k.after,
+        part_here old.marks k.tx,
+        subst (λ (x : Part). Follows s.tells x (part_here old.marks k.tx))
+            (is_part before (part_here old.marks k.was) a (here_before (Some k.was) k.before) got) follows,
+        here_after old.marks k.behind (Some k.tx) k.after,
       )
 
-      fresh : (b : Part) → get_or (behind_of k.behind) at None ≡ Some b → IsGrounded s.tells log before (length log) b b.cause
+      fresh : (b : Part) → get_or (behind_of old.marks k.behind) at None ≡ Some b → IsGrounded s.tells log before (length log) b b.cause
       fresh b got =
           subst (λ (x : Part). IsGrounded s.tells log before (length log) x x.cause)
-          (is_part (behind_of k.behind) k.tx b (here_after k.behind (Some k.tx) k.after) got)
-          (why_grounded k.was k.tx k.before k.began k.why)
+          (is_part (behind_of old.marks k.behind) (part_here old.marks k.tx) b (here_after old.marks k.behind (Some k.tx) k.after) got)
+          (why_grounded k.was k.tx k.before k.rank k.began held k.why)
+
+  -- ---- one waits, and another is marked
+  module _ (k : Stays s at old job new) where
+    abbrev rival : SeenTx
+    rival = k.waits.met.rival.rival
+
+    abbrev its_mark : Mark
+    its_mark = record { object = k.object; by = k.tx.number; at = length old.journal }
+
+    abbrev marks_behind : ℕ → Option Mark
+    marks_behind = marked old.marks rival its_mark
+
+    -- all transactions are as before
+    active_still : (j : ℕ) (tx : SeenTx) → IsActiveAt (slice_set old.jobs at k.behind) j tx → IsActiveAt old.jobs j tx
+    active_still j tx a = dite (ℕ_discrete j at)
+        (λ (here : j ≡ at).
+        let is = active_is old.jobs at job stands k.behind tx (subst (λ n. IsActiveAt (slice_set old.jobs at k.behind) n tx) here a) in
+        subst (λ n. IsActiveAt old.jobs n tx) (sym here) (job, stands, k.before ∙ sym k.after ∙ is))
+        (λ (away : j ≢ at). active_before old.jobs at j k.behind tx away a)
+
+    active_again : (j : ℕ) (tx : SeenTx) → IsActiveAt old.jobs j tx → IsActiveAt (slice_set old.jobs at k.behind) j tx
+    active_again j tx a = dite (ℕ_discrete j at)
+        (λ (here : j ≡ at).
+        let was = active_was old.jobs at job stands tx (subst (λ n. IsActiveAt old.jobs n tx) here a) in
+        subst (λ n. IsActiveAt (slice_set old.jobs at k.behind) n tx) (sym here)
+        (active_here old.jobs at job stands k.behind tx (k.after ∙ sym k.before ∙ was)))
+        (λ (away : j ≢ at). active_after old.jobs at j k.behind tx away a)
+
+    abbrev part_at : (ℕ → Option Mark) → ℕ → SeenTx → Part
+    part_at marks j tx = part_under_way s words marks (slice_get led.jobs j) (j + 1) tx
+
+    old_part : (j : ℕ) (tx : SeenTx) → IsActiveAt old.jobs j tx → get_or before j None ≡ Some (part_at old.marks j tx)
+    old_part j tx a = let there = a in part_read s words old.marks led.jobs old.jobs j there.0 (Some tx) there.1 there.2
+
+    new_part : (j : ℕ) (tx : SeenTx) → IsActiveAt old.jobs j tx → get_or (behind_of marks_behind k.behind) j None ≡ Some (part_at marks_behind j tx)
+    new_part j tx a =
+        let there = active_again j tx a in
+        part_read s words marks_behind led.jobs (slice_set old.jobs at k.behind) j there.0 (Some tx) there.1 there.2
+
+    -- the one that is marked
+    rival_grounded : IsGrounded s.tells log before (length log) (part_at marks_behind k.waits.met.rival.place rival) (Some (revoked its_mark))
+    unfolding rival_holds
+    rival_grounded =
+        let met = k.waits.met in
+        let r = met.rival in
+        let holds = r.holds in
+        let early = by_now r.place rival r.active in
+        let count = parts_length s old.journal in
+        let own = part_here old.marks k.tx in
+        let claims = claims_at old k.tx k.waits.call in
+        let wants = asked_wants k.tx k.tx k.before refl refl k.waits.call k.waits.asked k.running in
+        let listed : Contains own.wanted met.met =
+        subst (λ (cs : List Claim). Contains cs met.met) (sym wants) (met_listed claims k.object k.holder met) in
+        let other = r.other in
+        record {
+          before = omega arith;
+          within = omega arith;
+          named = record {
+            who = own;
+            stands = inr (at, here_before (Some k.tx) k.before);
+            numbered = refl;
+            other = λ (e : at + 1 ≡ r.place + 1). other (let h : r.place ≡ at = omega arith in h);
+            began = by_now at k.tx (job, stands, k.before);
+          };
+          older = k.waits.younger;
+          holds = rival_holds met.met k.object k.holder met.names r;
+          clash = λ t. (met.met, Contains-append_right own.held own.wanted met.met listed, sym holds.2, holds.3);
+        }
+
+    marked_grounded : (j : ℕ) (tx : SeenTx) → j ≡ k.waits.met.rival.place → tx ≡ rival
+        → IsGrounded s.tells log before (length log) (part_at marks_behind j tx) (Some (revoked its_mark))
+    marked_grounded j tx one is =
+        subst (λ (x : SeenTx). IsGrounded s.tells log before (length log) (part_at marks_behind j x) (Some (revoked its_mark))) (sym is)
+        (subst (λ (n : ℕ). IsGrounded s.tells log before (length log) (part_at marks_behind n rival) (Some (revoked its_mark))) (sym one) rival_grounded)
+
+    -- all others are as before
+    unmarked_grounded : (j : ℕ) (tx : SeenTx) → IsActiveAt old.jobs j tx → marks_behind tx.number ≡ old.marks tx.number
+        → IsGrounded s.tells log before (length log) (part_at marks_behind j tx) (cause_of_phase (marks_behind tx.number) tx.phase)
+    unmarked_grounded j tx active kept_mark =
+        subst (λ m. IsGrounded s.tells log before (length log) (part_at marks_behind j tx) (cause_of_phase m tx.phase)) (sym kept_mark)
+        (ground_as s.tells log before (part_at old.marks j tx) (part_at marks_behind j tx) (cause_on old tx)
+        (record { job = refl; rank = refl; began = refl; held = covered_same tx.held tx.held refl; wanted = λ t. refl })
+        (told.grounded.actives j (part_at old.marks j tx) (old_part j tx active)))
+
+    stays_grounded : AreGrounded s.tells log (behind_of marks_behind k.behind)
+    stays_grounded = grounds_go_on s.tells log before (behind_of marks_behind k.behind) (record { kept = kept; fresh = fresh }) told.grounded
+      where
+        kept : (j : ℕ) (a : Part) → get_or before j None ≡ Some a
+            → (b : Part) × Follows s.tells a b × (get_or (behind_of marks_behind k.behind) j None ≡ Some b)
+        kept j a got =
+            let (tx, active, is) = part_there s words old.marks led.jobs old.jobs j a got in (
+              part_at marks_behind j tx,
+              subst (λ (x : Part). Follows s.tells x (part_at marks_behind j tx)) is
+                  (record {
+                    number = refl;
+                    job = refl;
+                    rank = refl;
+                    began = refl;
+                    held = covered_same tx.held tx.held refl;
+                    reach = λ t. covered_same _ _ refl;
+                  }),
+              new_part j tx active,
+            )
+
+        by_number : (j : ℕ) (tx : SeenTx) → IsActiveAt old.jobs j tx
+            → IsGrounded s.tells log before (length log) (part_at marks_behind j tx) (cause_of_phase (marks_behind tx.number) tx.phase)
+        by_number j tx active = dite (ℕ_discrete tx.number rival.number)
+            (λ (here : tx.number ≡ rival.number).
+            let is = marked_itself old.marks rival its_mark tx.number here in
+            elim (mark_cases rival.phase (old.marks tx.number) its_mark) [
+              | inl kept_mark ↦ unmarked_grounded j tx active (is ∙ kept_mark)
+              | inr new_mark ↦
+                  let r = k.waits.met.rival in
+                  let one : j ≡ r.place = given_once s words old.marks old.journal old.jobs told j r.place tx rival active r.active here in
+                  let its : tx ≡ rival = active_same old.jobs r.place tx rival (subst (λ n. IsActiveAt old.jobs n tx) one active) r.active in
+                  let runs : tx.phase ≡ Running = ap (λ (x : SeenTx). x.phase) its ∙ new_mark.0 in
+                  let why : cause_of_phase (marks_behind tx.number) tx.phase ≡ Some (revoked its_mark) =
+                  ap (λ m. cause_of_phase m tx.phase) (is ∙ new_mark.1) ∙ ap (cause_of_phase (Some its_mark)) runs in
+                  subst (IsGrounded s.tells log before (length log) (part_at marks_behind j tx)) (sym why) (marked_grounded j tx one its)
+            ])
+            (λ (away : tx.number ≢ rival.number). unmarked_grounded j tx active (marked_other old.marks rival its_mark tx.number away))
+
+        fresh : (j : ℕ) (b : Part) → get_or (behind_of marks_behind k.behind) j None ≡ Some b → IsGrounded s.tells log before (length log) b b.cause
+        fresh j b got =
+            let (tx, active, is) = part_there s words marks_behind led.jobs (slice_set old.jobs at k.behind) j b got in
+            subst (λ (x : Part). IsGrounded s.tells log before (length log) x x.cause) is (by_number j tx (active_still j tx active))
 
   -- ---- an active one enters
   module _ (k : Enters at old job new)
@@ -250,28 +472,43 @@ module _ (s : Setting) (at : ℕ) (old new : Now) (job : SeenJob) (stands : slic
     abbrev led_on : Progress
     led_on = after_entry s.script led entry
 
+    abbrev jobs_on : List SeenJob
+    jobs_on = slice_set old.jobs at k.behind ++ k.more
+
     abbrev behind_entry : List (Option Part)
-    behind_entry = active_parts s words 1 led_on.jobs (slice_set old.jobs at k.behind)
+    behind_entry = active_parts s words (unmarked old.marks k.tx.number) 1 led_on.jobs jobs_on
 
     gone : get_or behind_entry at None ≡ None
     gone =
-        part_read s words led_on.jobs (slice_set old.jobs at k.behind) at k.behind None (get_set_same old.jobs at job k.behind stands) k.after
+        part_read s words (unmarked old.marks k.tx.number) led_on.jobs jobs_on at k.behind None
+        (get_front (slice_set old.jobs at k.behind) k.more at k.behind (get_set_same old.jobs at job k.behind stands)) k.after
 
-    told_elsewhere : (j : ℕ) → j ≢ at → (slice_get led_on.jobs j ≡ slice_get led.jobs j) ⊎ (slice_get old.jobs j ≡ None)
-    told_elsewhere j away = by_cases (slice_get_cases old.jobs j).1
+    was_active : (j : ℕ) (tx : SeenTx) → j ≢ at → IsActiveAt jobs_on j tx → IsActiveAt old.jobs j tx
+    was_active j tx away active = active_before old.jobs at j k.behind tx away (grown_active (slice_set old.jobs at k.behind) k.more k.idle j tx active)
+
+    elsewhere : (j : ℕ) → j ≢ at → get_or behind_entry j None ≡ get_or before j None
+    elsewhere j away = by_cases (slice_get_cases old.jobs j).1
       where
         by_cases : ((x : SeenJob) × (j < length old.jobs) × (slice_get old.jobs j ≡ Some x) × (get_or old.jobs j x ≡ x))
             ⊎ ((length old.jobs ≤ j) × (slice_get old.jobs j ≡ None))
-            → (slice_get led_on.jobs j ≡ slice_get led.jobs j) ⊎ (slice_get old.jobs j ≡ None)
+            → get_or behind_entry j None ≡ get_or before j None
         by_cases (inl there) =
             let low = there.1 in
-            inl (jobs_elsewhere s.script led entry j (λ (e : j ≡ at + 1 - 1). away (omega arith)) (omega (arith, told.count)))
-        by_cases (inr past) = inr past.1
-
-    elsewhere : (j : ℕ) → j ≢ at → get_or behind_entry j None ≡ get_or before j None
-    elsewhere j away =
-        part_elsewhere s words led.jobs led_on.jobs old.jobs (slice_set old.jobs at k.behind) j (get_set_other old.jobs at j k.behind away)
-        (told_elsewhere j away)
+            let many = length-set old.jobs at k.behind in
+            part_elsewhere s words old.marks (unmarked old.marks k.tx.number) led.jobs led_on.jobs old.jobs jobs_on j
+            (get_inside (slice_set old.jobs at k.behind) k.more j (omega (arith, low, many)) ∙ get_set_other old.jobs at j k.behind away)
+            (λ tx active. unmarked_other old.marks k.tx.number tx.number
+            (λ e. away (given_once s words old.marks old.journal old.jobs told j at tx k.tx active (job, stands, k.before) e)))
+            (inl (jobs_elsewhere s.script led entry j (λ (e : j ≡ at + 1 - 1). away (omega arith)) (omega (arith, told.count))))
+        by_cases (inr past) =
+            none_or (get_or behind_entry j None)
+            (λ a got. let (tx, active, is) = part_there s words (unmarked old.marks k.tx.number) led_on.jobs jobs_on j a got in
+            not_there tx (was_active j tx away active))
+            ∙ sym (none_or (get_or before j None)
+            (λ a got. let (tx, active, is) = part_there s words old.marks led.jobs old.jobs j a got in not_there tx active))
+          where
+            not_there : (tx : SeenTx) → IsActiveAt old.jobs j tx → ⊥
+            not_there tx (x, there, has) = let none = past.1 in cc (none, there)
 
     -- where the host tells, the entry wants what the transaction did
     entry_wants : IsTrue s.tells → (part_of s led entry).wanted ≡ wanted_by words k.tx (asked_of_tx s led_here k.tx)
@@ -282,50 +519,64 @@ module _ (s : Setting) (at : ℕ) (old new : Now) (job : SeenJob) (stands : slic
 
     entry_grounded : AreGrounded s.tells (log ++ part_of s led entry ∷ []) behind_entry
     entry_grounded =
-        grounds_enter s.tells log before behind_entry at (part_here k.tx) (part_of s led entry)
+        grounds_enter s.tells log before behind_entry at (part_here old.marks k.tx) (part_of s led entry)
         (record {
           before = here_before (Some k.tx) k.before;
           after = gone;
           others = elsewhere;
-          follows = record { number = refl; job = refl; began = refl; held = covered_same k.tx.held k.tx.held refl };
-          judged = record { job = refl; began = refl; wanted = entry_wants };
+          follows = record {
+            number = refl;
+            job = refl;
+            rank = refl;
+            began = refl;
+            held = covered_same k.tx.held k.tx.held refl;
+            reach = λ t. covered_same _ _ (ap (λ (cs : List Claim). k.tx.held ++ cs) (entry_wants t));
+          };
+          judged = record { job = refl; rank = refl; began = refl; held = covered_same k.tx.held k.tx.held refl; wanted = entry_wants };
           cause = k.why;
         })
         told.grounded
 
-    enters_grounded : AreAllGrounded s words (old.journal ++ entry ∷ []) (slice_set old.jobs at k.behind)
+    enters_grounded : AreAllGrounded s words (unmarked old.marks k.tx.number) (old.journal ++ entry ∷ []) jobs_on
     enters_grounded =
         subst
         (λ (ps : List Part). AreGrounded s.tells ps
-        (active_parts s words 1 (progress_of s.script (old.journal ++ entry ∷ [])).jobs (slice_set old.jobs at k.behind)))
+        (active_parts s words (unmarked old.marks k.tx.number) 1 (progress_of s.script (old.journal ++ entry ∷ [])).jobs jobs_on))
         (sym (parts_more s old.journal entry))
         (subst (λ (p : Progress). AreGrounded s.tells (log ++ part_of s led entry ∷ [])
-        (active_parts s words 1 p.jobs (slice_set old.jobs at k.behind)))
+        (active_parts s words (unmarked old.marks k.tx.number) 1 p.jobs jobs_on))
         (sym (progress-more s.script old.journal entry)) entry_grounded)
 
 -- ---- each kind of turn
-restated : (s : Setting) (words words' : ℕ) (journal journal' : List Entry) (jobs jobs' : List SeenJob) → words' ≡ words → journal' ≡ journal → jobs' ≡ jobs
-    → AreAllGrounded s words journal jobs → AreAllGrounded s words' journal' jobs'
-restated s words words' journal journal' jobs jobs' e f g all =
-    subst (λ (n : ℕ). AreAllGrounded s n journal' jobs') (sym e)
-    (subst (λ (es : List Entry). AreAllGrounded s words es jobs') (sym f) (subst (λ (js : List SeenJob). AreAllGrounded s words journal js) (sym g) all))
+restated : (s : Setting) (words words' : ℕ) (marks marks' : ℕ → Option Mark) (journal journal' : List Entry) (jobs jobs' : List SeenJob)
+    → words' ≡ words → marks' ≡ marks → journal' ≡ journal → jobs' ≡ jobs
+    → AreAllGrounded s words marks journal jobs → AreAllGrounded s words' marks' journal' jobs'
+restated s words words' marks marks' journal journal' jobs jobs' e m f g all =
+    subst (λ (n : ℕ). AreAllGrounded s n marks' journal' jobs') (sym e)
+    (subst (λ (ms : ℕ → Option Mark). AreAllGrounded s words ms journal' jobs') (sym m)
+    (subst (λ (es : List Entry). AreAllGrounded s words marks es jobs') (sym f)
+    (subst (λ (js : List SeenJob). AreAllGrounded s words marks journal js) (sym g) all)))
 
 kind_grounded : (s : Setting) (at : ℕ) (old new : Now) (job : SeenJob) → slice_get old.jobs at ≡ Some job
     → (IsTrue s.tells → (tx : SeenTx) → IsActiveAt old.jobs at tx → IsPlayedSoFar s (length old.words) (progress_of s.script old.journal) at tx)
-    → AreTold s (length old.words) old.journal old.jobs → Kind s at old job new → AreAllGrounded s (length new.words) new.journal new.jobs
+    → AreTold s (length old.words) old.marks old.journal old.jobs → Kind s at old job new
+    → AreAllGrounded s (length new.words) new.marks new.journal new.jobs
 kind_grounded s at old new job stands played told (rests k) =
-    restated s _ _ _ _ _ _ k.sets.words k.journal k.sets.jobs (rests_grounded s at old new job stands told k)
+    restated s _ _ _ _ _ _ _ _ k.sets.words k.marks k.journal k.sets.jobs (rests_grounded s at old new job stands told k)
 kind_grounded s at old new job stands played told (begins k) =
-    restated s _ _ _ _ _ _ k.sets.words k.journal k.sets.jobs (begins_grounded s at old new job stands told k)
+    restated s _ _ _ _ _ _ _ _ k.sets.words k.marks k.journal k.sets.jobs (begins_grounded s at old new job stands told k)
 kind_grounded s at old new job stands played told (moves k) =
-    restated s _ _ _ _ _ _ k.sets.words k.journal k.sets.jobs (moves_grounded s at old new job stands told k)
+    restated s _ _ _ _ _ _ _ _ k.sets.words k.marks k.journal k.sets.jobs (moves_grounded s at old new job stands told k)
+kind_grounded s at old new job stands played told (stays k) =
+    restated s _ _ _ _ _ _ _ _ k.sets.words (ap (λ (n : Now). n.marks) k.waits.behind) k.journal k.sets.jobs
+    (stays_grounded s at old new job stands told k)
 kind_grounded s at old new job stands played told (enters k) =
-    restated s _ _ _ _ _ _ k.sets.words k.journal k.sets.jobs (enters_grounded s at old new job stands told k played)
+    restated s _ _ _ _ _ _ _ _ k.words k.marks k.journal k.jobs (enters_grounded s at old new job stands told k played)
 
--- behind a turn each conflict names a holder
+-- behind a turn each conflict names a holder, and each revocation an older transaction
 pub grounds_kept : (s : Setting) (at : ℕ) (old new : Now) (answer : Turn) → IsTurn s at old answer new
     → (IsTrue s.tells → (tx : SeenTx) → IsActiveAt old.jobs at tx → IsPlayedSoFar s (length old.words) (progress_of s.script old.journal) at tx)
-    → AreTold s (length old.words) old.journal old.jobs
-    → AreGrounded s.tells (parts_of s new.journal) (active_parts s (length new.words) 1 (progress_of s.script new.journal).jobs new.jobs)
+    → AreTold s (length old.words) old.marks old.journal old.jobs
+    → AreGrounded s.tells (parts_of s new.journal) (active_parts s (length new.words) new.marks 1 (progress_of s.script new.journal).jobs new.jobs)
 grounds_kept s at old new answer t played told =
     kind_grounded s at old new t.job t.stands played told (kind_of s at old new answer t)

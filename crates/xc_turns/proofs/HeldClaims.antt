@@ -1,9 +1,10 @@
 -- What is held behind more claims: nothing twice, nothing weaker, and nothing but what was held or claimed.
-use Rattle.std.proofs.Common.{◌≡◌, ◌+◌, ◌≤◌, Bool, true, false, cond, List, [], ◌∷◌, ◌++◌, refl, ap, ap₂, sym, ◌∙◌, subst, arith}
+use Rattle.std.proofs.Common.{◌≡◌, ◌+◌, ◌≤◌, ◌||◌, inl, inr, Bool, true, false, cond, List, [], ◌∷◌, ◌++◌, refl, ap, ap₂, sym, ◌∙◌, subst, arith}
 use Rattle.std.specs.Prelude.{All, Contains, map, count_by, if◌then◌else◌}
 use Rattle.std.proofs.lemmas.Bool.{or_parts}
 use Rattle.std.proofs.lemmas.List.Sums.{sum_by-append}
 use Rattle.std.proofs.lemmas.List.Elements.{All-append, All-map, All-weaker, All-cons, All-nil, All-head, All-tail, Contains-append_left}
+use Rattle.std.proofs.lemmas.List.Elements.{Contains-append_right, Contains-append_cases}
 use Rattle.xc_data.specs.declared.object.Object.{Object}
 use Rattle.xc_data.specs.declared.claim.Mode.{Mode}
 use Rattle.xc_data.specs.declared.claim.Mode.TheVariants.{Shared, Exclusive}
@@ -12,7 +13,7 @@ use Rattle.xc_data.specs.Claims.{is_object, objects, compatible, stronger, merge
 use Rattle.xc_world.proofs.Bodies.{objects_append}
 use Rattle.xc_world.proofs.Holding.{has}
 use Rattle.xc_world.proofs.Objects.{same_object}
-use Rattle.xc_turns.proofs.Lists.{contains_map}
+use Rattle.xc_turns.proofs.Lists.{contains_first, contains_later, contains_cons, contains_map}
 
 -- ---- modes
 -- which of two claims goes together with the other doesn't matter
@@ -85,6 +86,68 @@ pub covered_all : (held claims : List Claim) → AreCovered held (holding held c
 covered_all held [] = covered_same held held refl
 covered_all held (new ∷ claims) =
     covered_both held (holding_one held new) (holding (holding_one held new) claims) (covered_one held new) (covered_all (holding_one held new) claims)
+
+-- ---- each new claim is held
+clash_with_new : (k m n : Mode) → compatible k n ≡ false → compatible k (stronger m n) ≡ false
+clash_with_new k Shared n e = e
+clash_with_new Shared Exclusive n e = refl
+clash_with_new Exclusive Exclusive n e = refl
+
+merged_covers : (new h : Claim) → is_object new.object h.object ≡ true → IsCovered new (merged new h)
+merged_covers new h e =
+    subst (IsCovered new) (sym (ap (λ (b : Bool). if b then record h { mode = stronger h.mode new.mode } else h) e))
+    (record { object = sym (same_object new.object h.object e); mode = λ k clash. clash_with_new k h.mode new.mode clash })
+
+new_among : (new : Claim) (held : List Claim) → has (objects held) new.object ≡ true → (d : Claim) × Contains (map (merged new) held) d × IsCovered new d
+new_among new [] e = cc
+new_among new (h ∷ held) e = by_test (new_among new held) (is_object new.object h.object) refl
+  where
+    by_test : (has (objects held) new.object ≡ true → (d : Claim) × Contains (map (merged new) held) d × IsCovered new d)
+        → (b : Bool) → is_object new.object h.object ≡ b → (d : Claim) × Contains (map (merged new) (h ∷ held)) d × IsCovered new d
+    by_test behind true is = (merged new h, contains_first (merged new h) (map (merged new) held), merged_covers new h is)
+    by_test behind false is =
+        let later = behind (sym (ap (λ b. b || has (objects held) new.object) is) ∙ e) in
+        (later.0, contains_later (merged new h) (map (merged new) held) later.0 later.1, later.2)
+
+covered_new : (held : List Claim) (new : Claim) → (d : Claim) × Contains (holding_one held new) d × IsCovered new d
+covered_new held new = by_test (has (objects held) new.object) refl
+  where
+    by_test : (b : Bool) → has (objects held) new.object ≡ b
+        → (d : Claim) × Contains (if b then map (merged new) held else held ++ new ∷ []) d × IsCovered new d
+    by_test true e = new_among new held e
+    by_test false e = (new, Contains-append_right held (new ∷ []) new (contains_first new []), covered_itself new)
+
+-- behind more claims each of them is held
+pub claims_covered : (held claims : List Claim) → AreCovered claims (holding held claims)
+claims_covered held claims = record { each = each held claims }
+  where
+    each : (held claims : List Claim) (c : Claim) → Contains claims c → (d : Claim) × Contains (holding held claims) d × IsCovered c d
+    each held [] c at = absurd (omega (arith, at.1))
+    each held (new ∷ claims) c at =
+        elim (contains_cons new claims c at) [
+          | inl here ↦
+              let one = covered_new held new in
+              let more = (covered_all (holding_one held new) claims).each one.0 one.1 in
+              (more.0, more.1, subst (λ (x : Claim). IsCovered x more.0) here (covered_then new one.0 more.0 one.2 more.2))
+          | inr later ↦ each (holding_one held new) claims c later
+        ]
+
+-- of two lists
+pub covered_parts : (a b c : List Claim) → AreCovered a c → AreCovered b c → AreCovered (a ++ b) c
+covered_parts a b c f g = record {
+  each = λ x at. elim (Contains-append_cases a b x at) [
+    | inl first ↦ f.each x first
+    | inr second ↦ g.each x second
+  ];
+}
+
+-- in a longer list
+pub covered_front : (a b more : List Claim) → AreCovered a b → AreCovered a (b ++ more)
+covered_front a b more f = record { each = λ x at. let y = f.each x at in (y.0, Contains-append_left b more y.0 y.1, y.2) }
+
+-- and what is covered is also with more in front
+pub covered_back : (a more b : List Claim) → AreCovered a b → AreCovered a (more ++ b)
+covered_back a more b f = record { each = λ x at. let y = f.each x at in (y.0, Contains-append_right more b y.0 y.1, y.2) }
 
 -- ---- nothing but what was held or claimed
 -- it goes together with each of these claims that is on its object

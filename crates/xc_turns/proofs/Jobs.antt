@@ -28,6 +28,15 @@ module _ (jobs : List SeenJob) (at : ℕ) (job : SeenJob) (stands : slice_get jo
   pub active_here : (job' : SeenJob) (t : SeenTx) → active_of job' ≡ Some t → IsActiveAt (slice_set jobs at job') at t
   active_here job' t is = (job', get_set_same jobs at job job' stands, is)
 
+-- in one place there is one
+pub active_same : (jobs : List SeenJob) (j : ℕ) (t u : SeenTx) → IsActiveAt jobs j t → IsActiveAt jobs j u → t ≡ u
+active_same jobs j t u a b =
+    let there = a.1 in
+    let here = b.1 in
+    let job : a.0 ≡ b.0 = cc (there, here) in
+    let both : Some t ≡ Some u = sym a.2 ∙ ap active_of job ∙ b.2 in
+    cc both
+
 -- elsewhere those that are active were so
 pub active_before : (jobs : List SeenJob) (at j : ℕ) (job' : SeenJob) (t : SeenTx) → j ≢ at → IsActiveAt (slice_set jobs at job') j t → IsActiveAt jobs j t
 active_before jobs at j job' t ne a = (a.0, sym (get_set_other jobs at j job' ne) ∙ a.1, a.2)

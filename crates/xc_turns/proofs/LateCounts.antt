@@ -1,9 +1,10 @@
 -- Calls that are kept for the commit: one late call for each.
-use Rattle.std.proofs.Common.{◌≡◌, ℕ, ◌+◌, ◌<◌, ◌≤◌, Bool, true, false, List, [], ◌∷◌, ◌++◌, length, refl, ap, ap₂, sym, ◌∙◌, arith, length-append, length-drop}
-use Rattle.std.specs.Prelude.{◌||◌, ◌&&◌, not, drop, take, if◌then◌else◌}
-use Rattle.std.specs.List.{list_all}
-use Rattle.std.proofs.lemmas.List.Folds.{list_all-append}
+use Rattle.std.proofs.Common.{◌≡◌, ℕ, ◌+◌, ◌<◌, ◌≤◌, Bool, true, false, List, [], ◌∷◌, ◌++◌, length, refl, ap, ap₂, sym, ◌∙◌, arith, length-append}
+use Rattle.std.proofs.Common.{length-drop, map}
+use Rattle.std.specs.Prelude.{◌||◌, not, drop, take, if◌then◌else◌}
+use Rattle.std.specs.declared.option.Option.TheVariants.{None}
 use Rattle.std.proofs.Math.Seq.{take-length}
+use Rattle.std.proofs.lemmas.List.{length-map, map-append}
 use Rattle.xc_data.specs.declared.call.Call.{Call}
 use Rattle.xc_data.specs.declared.call.Call.TheVariants as call
 use Rattle.xc_data.specs.declared.call.LateCall.{LateCall}
@@ -19,28 +20,28 @@ use Rattle.xc_world.specs.Checks.{is_bad_handle, is_file, is_pipe, is_pair}
 use Rattle.xc_world.specs.Act.Step.{Stepped, step_to}
 use Rattle.xc_world.specs.Late.{is_late, kept_call, late_call, sync_of, write_pipe_of, shutdown_of, send_of}
 use Rattle.xc_script.specs.Slots.{kept_of}
-use Rattle.xc_story.specs.LateCalls.{waits}
-use Rattle.xc_story.specs.Rows.{IsReplyInTime, is_built}
+use Rattle.xc_story.specs.LateCalls.{waits, thread_asked, thread_in}
+use Rattle.xc_story.specs.Rows.{IsReplyInTime}
 
--- ---- one late call for each
-sync_one : (p : Place) → not (is_file p) ≡ false → length (sync_of p) ≡ 1
+-- ---- one late call for each, which starts the same block
+sync_one : (p : Place) → not (is_file p) ≡ false → map thread_in (sync_of p) ≡ None ∷ []
 sync_one (place.File num at) good = refl
 sync_one _ good = cc good
 
-write_one : (p : Place) (bytes : List ℕ) → not (is_pipe p) ≡ false → length (write_pipe_of p bytes) ≡ 1
+write_one : (p : Place) (bytes : List ℕ) → not (is_pipe p) ≡ false → map thread_in (write_pipe_of p bytes) ≡ None ∷ []
 write_one (place.Pipe num) bytes good = refl
 write_one _ bytes good = cc good
 
-shutdown_one : (p : Place) → not (is_pipe p || is_pair p) ≡ false → length (shutdown_of p) ≡ 1
+shutdown_one : (p : Place) → not (is_pipe p || is_pair p) ≡ false → map thread_in (shutdown_of p) ≡ None ∷ []
 shutdown_one (place.Pipe num) good = refl
 shutdown_one (place.Pair num side) good = refl
 shutdown_one _ good = cc good
 
-send_one : (p : Place) (bytes : List ℕ) → not (is_pair p) ≡ false → length (send_of p bytes) ≡ 1
+send_one : (p : Place) (bytes : List ℕ) → not (is_pair p) ≡ false → map thread_in (send_of p bytes) ≡ None ∷ []
 send_one (place.Pair num side) bytes good = refl
 send_one _ bytes good = cc good
 
-waiting_one : (c : Call) (me : Private) → waits c ≡ true → is_bad_handle c me ≡ false → length (late_call c me) ≡ 1
+waiting_one : (c : Call) (me : Private) → waits c ≡ true → is_bad_handle c me ≡ false → map thread_in (late_call c me) ≡ thread_asked c ∷ []
 waiting_one (call.XUnlink name slot) me kept good = refl
 waiting_one (call.XSync h slot) me kept good = sync_one (place_of me.places h) good
 waiting_one (call.XWritePipe h bytes slot) me kept good = write_one (place_of me.places h) bytes good
@@ -54,15 +55,15 @@ passed true w me s late = cc late
 passed false w me s late = refl
 
 late_one : (w : World) (me : Private) (number : ℕ) (c : Call) (r : Reply) → IsReplyInTime me number c r → is_late r ≡ true
-    → length (late_call c me) ≡ 1
+    → map thread_in (late_call c me) ≡ thread_asked c ∷ []
 late_one w me number c r in_time late = by_test (waits c) refl
   where
-    by_test : (b : Bool) → waits c ≡ b → length (late_call c me) ≡ 1
+    by_test : (b : Bool) → waits c ≡ b → map thread_in (late_call c me) ≡ thread_asked c ∷ []
     by_test true kept = waiting_one c me kept (passed (is_bad_handle c me) w me _ (ap is_late (sym (in_time.kept kept w)) ∙ late))
     by_test false now = let no : true ≡ false = sym late ∙ in_time.now now in cc no
 
-kept_one : (me : Private) (c : Call) (r : Reply) → (is_late r ≡ true → length (late_call c me) ≡ 1)
-    → length (kept_call c me r) ≡ length (if is_late r then c ∷ [] else [])
+kept_one : (me : Private) (c : Call) (r : Reply) → (is_late r ≡ true → map thread_in (late_call c me) ≡ thread_asked c ∷ [])
+    → map thread_in (kept_call c me r) ≡ map thread_asked (if is_late r then c ∷ [] else [])
 kept_one me c reply.Late one = one refl
 kept_one me c _ one = refl
 
@@ -70,10 +71,14 @@ at_most_one : (b : Bool) (c : Call) → length (if b then c ∷ [] else []) ≤ 
 at_most_one true c = omega arith
 at_most_one false c = omega arith
 
+-- late calls that start what kept calls would are as many
+pub as_many : (late : List LateCall) (kept : List Call) → map thread_in late ≡ map thread_asked kept → length late ≡ length kept
+as_many late kept e = sym (length-map late thread_in) ∙ ap length e ∙ length-map kept thread_asked
+
 -- a call leaves one late call at most
 pub kept_few : (w : World) (me : Private) (number : ℕ) (c : Call) (r : Reply) → IsReplyInTime me number c r → length (kept_call c me r) ≤ 1
 kept_few w me number c r in_time =
-    omega (arith, kept_one me c r (late_one w me number c r in_time), at_most_one (is_late r) c)
+    omega (arith, as_many (kept_call c me r) (if is_late r then c ∷ [] else []) (kept_one me c r (late_one w me number c r in_time)), at_most_one (is_late r) c)
 
 kept_front : (b : Bool) (c : Call) (kept last more : List Call) → more ≡ kept ++ last
     → (if b then c ∷ more else more) ≡ (if b then c ∷ kept else kept) ++ last
@@ -90,19 +95,13 @@ kept-more (d ∷ calls) (q ∷ replies) c r e =
     kept_front (is_late q) d (kept_of calls replies) (if is_late r then c ∷ [] else []) (kept_of (calls ++ c ∷ []) (replies ++ r ∷ []))
     (kept-more calls replies c r (omega arith))
 
--- late calls are as many as calls were kept, with one call more too
+-- late calls start what kept calls would, with one call more too
 pub late-more : (w : World) (me : Private) (number : ℕ) (late : List LateCall) (calls : List Call) (replies : List Reply) (c : Call) (r : Reply)
-    → IsReplyInTime me number c r → length calls ≡ length replies → length late ≡ length (kept_of calls replies)
-    → length (late ++ kept_call c me r) ≡ length (kept_of (calls ++ c ∷ []) (replies ++ r ∷ []))
+    → IsReplyInTime me number c r → length calls ≡ length replies → map thread_in late ≡ map thread_asked (kept_of calls replies)
+    → map thread_in (late ++ kept_call c me r) ≡ map thread_asked (kept_of (calls ++ c ∷ []) (replies ++ r ∷ []))
 late-more w me number late calls replies c r in_time each same =
-    length-append late (kept_call c me r) ∙ ap₂ (λ m n. m + n) same (kept_one me c r (late_one w me number c r in_time))
-    ∙ sym (length-append (kept_of calls replies) (if is_late r then c ∷ [] else [])) ∙ ap length (sym (kept-more calls replies c r each))
-
--- ---- calls that scripts have so far
--- with one more such call all are
-pub built-more : (calls : List Call) (c : Call) → list_all is_built calls ≡ true → is_built c ≡ true → list_all is_built (calls ++ c ∷ []) ≡ true
-built-more calls c all one =
-    list_all-append is_built calls (c ∷ []) ∙ ap₂ (λ x y. x && (y && true)) all one
+    map-append thread_in late (kept_call c me r) ∙ ap₂ (λ m n. m ++ n) same (kept_one me c r (late_one w me number c r in_time))
+    ∙ sym (map-append thread_asked (kept_of calls replies) (if is_late r then c ∷ [] else [])) ∙ ap (map thread_asked) (sym (kept-more calls replies c r each))
 
 -- ---- ends
 -- where one is left there are fewer ends

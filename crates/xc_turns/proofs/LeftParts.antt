@@ -60,8 +60,8 @@ none_failed a t r = ap (λ x. x * t + r + 1) (let h : a - 0 ≡ a = omega arith 
 
 idle_is : (s : Setting) (at : ℕ) (bodies : List (List Statement)) → doing_turns s 0 at bodies Idle ≡ bodies_turns s bodies + 1
 idle_is s at [] = refl
-idle_is s at (body ∷ bodies) = none_failed s.rules.attempts (attempt_turns body) (bodies_turns s bodies)
-    ∙ ap (λ n. n + 1) (sym (sum_by-cons (λ b. s.rules.attempts * attempt_turns b) body bodies))
+idle_is s at (body ∷ bodies) = none_failed s.rules.attempts (attempt_turns s body) (bodies_turns s bodies)
+    ∙ ap (λ n. n + 1) (sym (sum_by-cons (λ b. s.rules.attempts * attempt_turns s b) body bodies))
 
 one_more : (a f t : ℕ) → f < a → (a - f) * t ≡ t + (a - (f + 1)) * t
 one_more a f t h =
@@ -85,28 +85,35 @@ idle_some s failed at [] = omega arith
 idle_some s failed at (body ∷ bodies) = omega arith
 
 -- of one with an active transaction more
-pub active_some : (s : Setting) (failed at : ℕ) (bodies : List (List Statement)) (tx : SeenTx) → 1 < doing_turns s failed at bodies (Active tx)
+pub active_some : (s : Setting) (failed at : ℕ) (bodies : List (List Statement)) (tx : SeenTx)
+    → (s.rules.patience - 0) + 1 < doing_turns s failed at bodies (Active tx)
 active_some s failed at [] tx = omega (arith, two_left 0 at tx tx.phase)
 active_some s failed at (body ∷ bodies) tx = omega (arith, two_left (length body) at tx tx.phase)
 
 -- ---- each kind of turn
 -- a transaction begins
 pub begun_falls : (s : Setting) (failed at : ℕ) (bodies : List (List Statement)) (number rank began : ℕ) (me : Private) → failed < s.rules.attempts
-    → (bodies ≡ [] → ⊥) → doing_turns s failed at bodies (Active (new_tx number rank began me)) < doing_turns s failed at bodies Idle
+    → (bodies ≡ [] → ⊥)
+    → (s.rules.patience - 0) + doing_turns s failed at bodies (Active (new_tx number rank began me)) < doing_turns s failed at bodies Idle
 begun_falls s failed at [] number rank began me few some = absurd (some refl)
-begun_falls s failed at (body ∷ bodies) number rank began me few some = omega (arith, one_more s.rules.attempts failed (attempt_turns body) few)
+begun_falls s failed at (body ∷ bodies) number rank began me few some = omega (arith, one_more s.rules.attempts failed (attempt_turns s body) few)
 
 -- the transaction is passed
 pub passed_falls : (s : Setting) (failed at : ℕ) (bodies : List (List Statement)) (tx : SeenTx)
-    → doing_turns s 0 0 (rest_of bodies) Idle < doing_turns s failed at bodies (Active tx)
+    → (s.rules.patience - 0) + doing_turns s 0 0 (rest_of bodies) Idle < doing_turns s failed at bodies (Active tx)
 passed_falls s failed at [] tx = omega (arith, two_left 0 at tx tx.phase)
 passed_falls s failed at (body ∷ bodies) tx = omega (arith, idle_is s 0 bodies, two_left (length body) at tx tx.phase)
 
 -- it is tried again
 pub again_falls : (s : Setting) (failed at : ℕ) (bodies : List (List Statement)) (tx : SeenTx)
-    → doing_turns s (failed + 1) 0 bodies Idle < doing_turns s failed at bodies (Active tx)
+    → (s.rules.patience - 0) + doing_turns s (failed + 1) 0 bodies Idle < doing_turns s failed at bodies (Active tx)
 again_falls s failed at [] tx = omega (arith, two_left 0 at tx tx.phase)
 again_falls s failed at (body ∷ bodies) tx = omega (arith, two_left (length body) at tx tx.phase)
+
+stays_below : (n at later : ℕ) (tx : SeenTx) (p : Phase) → p ≡ Running → at ≤ later → phase_turns n later tx p ≤ phase_turns n at tx p
+stays_below n at later tx Running runs after = omega arith
+stays_below n at later tx Committing runs after = cc
+stays_below n at later tx (Undoing c) runs after = cc
 
 -- it goes on
 pub on_falls : (s : Setting) (failed at later : ℕ) (bodies : List (List Statement)) (tx next : SeenTx)
@@ -115,6 +122,12 @@ pub on_falls : (s : Setting) (failed at later : ℕ) (bodies : List (List Statem
     → doing_turns s failed later bodies (Active next) < doing_turns s failed at bodies (Active tx)
 on_falls s failed at later [] tx next falls = omega (arith, falls 0 refl)
 on_falls s failed at later (body ∷ bodies) tx next falls = omega (arith, falls (length body) refl)
+
+-- it passes silent statements at most
+pub on_stays : (s : Setting) (failed at later : ℕ) (bodies : List (List Statement)) (tx : SeenTx) → tx.phase ≡ Running → at ≤ later
+    → doing_turns s failed later bodies (Active tx) ≤ doing_turns s failed at bodies (Active tx)
+on_stays s failed at later [] tx runs after = let less = stays_below 0 at later tx tx.phase runs after in omega arith
+on_stays s failed at later (body ∷ bodies) tx runs after = let less = stays_below (length body) at later tx tx.phase runs after in omega arith
 
 -- ---- an active transaction
 -- with one record and one late call more at most

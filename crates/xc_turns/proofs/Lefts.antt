@@ -2,8 +2,8 @@
 use Rattle.std.proofs.Common.{◌≡◌, ℕ, ◌+◌, ◌-◌, ◌<◌, ◌≤◌, List, [], ◌∷◌, ◌++◌, length, drop}
 use Rattle.std.proofs.Common.{refl, ap, sym, ◌∙◌, subst, arith, inl, inr, length-append}
 use Rattle.std.proofs.lemmas.List.{drop_all}
-use Rattle.std.specs.Prelude.{slice_get, slice_set, sum_by, unwrap_or}
-use Rattle.std.specs.declared.option.Option.TheVariants.{Some}
+use Rattle.std.specs.Prelude.{Option, slice_get, slice_set, sum_by, unwrap_or}
+use Rattle.std.specs.declared.option.Option.TheVariants.{None, Some}
 use Rattle.xc_data.specs.declared.call.Call.{Call}
 use Rattle.xc_data.specs.declared.call.LateCall.{LateCall}
 use Rattle.xc_data.specs.declared.claim.Claim.{Claim}
@@ -11,7 +11,7 @@ use Rattle.xc_data.specs.declared.entry.Cause.{Cause}
 use Rattle.xc_data.specs.declared.entry.Cause.TheVariants as cause
 use Rattle.xc_data.specs.declared.entry.Entry.{Entry}
 use Rattle.xc_data.specs.declared.entry.JobEnd.TheVariants as job_end
-use Rattle.xc_data.specs.declared.entry.Outcome.TheVariants.{Committed, Aborted}
+use Rattle.xc_data.specs.declared.entry.Outcome.TheVariants.{Aborted}
 use Rattle.xc_data.specs.declared.entry.Turn.{Turn}
 use Rattle.xc_data.specs.declared.entry.Turn.TheVariants as turn
 use Rattle.xc_data.specs.declared.undo.Undo.{Undo}
@@ -20,31 +20,95 @@ use Rattle.xc_host.specs.Contents.{world_of}
 use Rattle.xc_text.specs.declared.script.Statement.{Statement}
 use Rattle.xc_script.specs.declared.ask.Ask.{Ask}
 use Rattle.xc_script.specs.declared.ask.Ask.TheVariants as ask
-use Rattle.xc_script.specs.Ask.{transactions_at}
+use Rattle.xc_script.specs.Ask.{block_place, transactions_at, transactions_of}
 use Rattle.xc_script.specs.Position.{Position}
 use Rattle.xc_world.specs.Late.{kept_call}
+use Rattle.xc_host.specs.Contents.{Contents}
+use Rattle.xc_data.specs.declared.entry.Mark.{Mark}
 use Rattle.xc_story.specs.declared.phase.Phase.{Phase}
 use Rattle.xc_story.specs.declared.phase.Phase.TheVariants.{Running, Committing, Undoing}
 use Rattle.xc_story.specs.Setting.{Setting}
 use Rattle.xc_story.specs.Seen.{SeenTx, SeenJob, Doing, Idle, Active, Starved, Ended, Now, failures, begun_count, late_left, rank_of, entering}
-use Rattle.xc_story.specs.Rows.{IsTurn, TurnOf, IdleTurn, ActiveTurn, RunningTurn, AskedTurn, CommittingTurn, UndoingTurn, BackTurn, StarvedTurn}
+use Rattle.xc_story.specs.Seen.{revoked, waiting}
+use Rattle.xc_story.specs.Rows.{IsTurn, TurnOf, IdleTurn, ActiveTurn, MarkedTurn, RunningTurn, AskedTurn, CommittingTurn, UndoingTurn, BackTurn, StarvedTurn}
 use Rattle.xc_story.specs.Rows.{Calls, HoldsWanting, IsSameBegin, LateTurn, asked_at, body_at}
 use Rattle.xc_story.specs.Rows.{IsSamePosition, entry_of, noting, wanting, claims_at, with_tx, beginning_job, behind_commit, behind_abort}
-use Rattle.xc_story.specs.Measure.{phase_turns, doing_turns, job_turns, turns_left}
+use Rattle.xc_story.specs.Measure.{attempt_turns, bodies_turns, phase_turns, doing_turns, job_turns, most_turns, turns_left}
 use Rattle.xc_turns.proofs.Lists.{sum_set_place}
 use Rattle.xc_turns.proofs.LateCounts.{kept_few, left_less, left_more, left_some}
 use Rattle.xc_turns.proofs.LeftParts.{active_some, ended_is, first_of, first_there, idle_some, rest_there, some_there, starved_is}
-use Rattle.xc_turns.proofs.LeftParts.{again_falls, begun_falls, called_less, late_less, on_falls, passed_falls, tried_less, turned_less, wanting_less}
+use Rattle.std.proofs.Common.{◌*◌, zero, suc, map, length-set}
+use Rattle.std.proofs.Math.Nat.{add-mul}
+use Rattle.std.proofs.lemmas.List.Sums.{sum_by-append, sum_by-cons, sum_by-le}
+use Rattle.std.proofs.lemmas.List.Elements.{All-nil, All-cons}
+use Rattle.std.specs.Prelude.{All}
+use Rattle.xc_text.specs.declared.script.Block.{Block}
+use Rattle.xc_story.specs.LateCalls.{started_late}
+use Rattle.xc_story.specs.Rows.{started_job, started_jobs}
+use Rattle.xc_turns.proofs.LateEnds.{next_ends}
+use Rattle.xc_turns.proofs.LeftParts.{again_falls, begun_falls, called_less, late_less, on_falls, on_stays, passed_falls, tried_less, turned_less, wanting_less}
 
 -- ---- one job of all
 one_falls : (f : SeenJob → ℕ) (jobs : List SeenJob) (at : ℕ) (was is : SeenJob) → slice_get jobs at ≡ Some was → f is < f was
     → sum_by f (slice_set jobs at is) < sum_by f jobs
 one_falls f jobs at was is e less = let parts = sum_set_place f jobs at was is e in omega arith
 
+-- the turns of those that may still be started
+abbrev still_started : Setting → List SeenJob → ℕ
+still_started s jobs = (1000 - length jobs) * most_turns s
+
+sum_less : (a b c d : ℕ) → a < b → c ≡ d → a + c < b + d
+sum_less a b c d less same = omega arith
+
+sums_less : (all old put more still was much : ℕ) → put < old → all ≡ put + more → more ≤ much → was ≡ still + much → all + still < old + was
+sums_less all old put more still was much less sum few split = omega arith
+
 falls_by : (s : Setting) (at : ℕ) (old new : Now) (was is : SeenJob) → slice_get old.jobs at ≡ Some was → new.jobs ≡ slice_set old.jobs at is
     → job_turns s is < job_turns s was → turns_left s new < turns_left s old
 falls_by s at old new was is e same less =
-    subst (λ jobs. sum_by (job_turns s) jobs < turns_left s old) (sym same) (one_falls (job_turns s) old.jobs at was is e less)
+    subst (λ jobs. sum_by (job_turns s) jobs + still_started s jobs < turns_left s old) (sym same)
+    (sum_less (sum_by (job_turns s) (slice_set old.jobs at is)) (sum_by (job_turns s) old.jobs) (still_started s (slice_set old.jobs at is))
+    (still_started s old.jobs) (one_falls (job_turns s) old.jobs at was is e less) (ap (λ n. (1000 - n) * most_turns s) (length-set old.jobs at is)))
+
+-- and as many jobs more are live that might have been started
+joins_by : (s : Setting) (at : ℕ) (old new : Now) (was is : SeenJob) (more : List SeenJob) → slice_get old.jobs at ≡ Some was
+    → new.jobs ≡ slice_set old.jobs at is ++ more → length new.jobs ≤ 1000 → All (λ x. job_turns s x ≤ most_turns s) more
+    → job_turns s is < job_turns s was → turns_left s new < turns_left s old
+joins_by s at old new was is more e same few small less =
+    let f = job_turns s in
+    let jobs = slice_set old.jobs at is in
+    let many : length (jobs ++ more) ≡ length old.jobs + length more =
+    length-append jobs more ∙ ap (λ n. n + length more) (length-set old.jobs at is) in
+    let most = length (jobs ++ more) in
+    let all : most ≤ 1000 = subst (λ js. length js ≤ 1000) same few in
+    let room : 1000 - length old.jobs ≡ (1000 - most) + length more = omega (arith, many, all) in
+    let split : still_started s old.jobs ≡ still_started s (jobs ++ more) + length more * most_turns s =
+    ap (λ n. n * most_turns s) room ∙ add-mul (1000 - most) (length more) (most_turns s) in
+    subst (λ js. sum_by f js + still_started s js < turns_left s old) (sym same)
+    (sums_less (sum_by f (jobs ++ more)) (sum_by f old.jobs) (sum_by f jobs) (sum_by f more) (still_started s (jobs ++ more)) (still_started s old.jobs)
+    (length more * most_turns s) (one_falls f old.jobs at was is e less) (sum_by-append f jobs more) (sum_by-le f (most_turns s) more small) split)
+
+-- no job that was started has more turns than that
+idle_turns : (s : Setting) (at : ℕ) (bodies : List (List Statement)) → doing_turns s 0 at bodies Idle ≡ bodies_turns s bodies + 1
+idle_turns s at [] = refl
+idle_turns s at (body ∷ bodies) =
+    let all : s.rules.attempts - 0 ≡ s.rules.attempts = omega arith in
+    ap (λ n. n * attempt_turns s body + bodies_turns s bodies + 1) all
+    ∙ ap (λ n. n + 1) (sym (sum_by-cons (λ b. s.rules.attempts * attempt_turns s b) body bodies))
+
+block_few : (s : Setting) (blocks : List Block) (k : ℕ)
+    → bodies_turns s (transactions_of (slice_get blocks k)) ≤ sum_by (λ (b : Block). bodies_turns s b.transactions) blocks
+block_few s [] k = omega arith
+block_few s (b ∷ blocks) zero = omega (arith, sum_by-cons (λ (b : Block). bodies_turns s b.transactions) b blocks)
+block_few s (b ∷ blocks) (suc k) = omega (arith, sum_by-cons (λ (b : Block). bodies_turns s b.transactions) b blocks, block_few s blocks k)
+
+started_few : (s : Setting) (starter : SeenJob) (blocks : List (List ℕ)) → All (λ x. job_turns s x ≤ most_turns s) (map (started_job s.script starter) blocks)
+started_few s starter [] = All-nil (λ x. job_turns s x ≤ most_turns s)
+started_few s starter (block ∷ blocks) =
+    let mine = started_job s.script starter block in
+    let turns = idle_turns s mine.place.at (transactions_at s.script (block_place s.script block)) in
+    let few = block_few s s.script.blocks (block_place s.script block) in
+    All-cons (λ x. job_turns s x ≤ most_turns s) mine (map (started_job s.script starter) blocks) (omega (arith, turns, few)) (started_few s starter blocks)
 
 -- the bodies from a place on
 abbrev bodies_at : Setting → Position → List (List Statement)
@@ -54,7 +118,19 @@ bodies_at s place = drop place.next (transactions_at s.script place.block)
 below_doing : (s : Setting) (job : SeenJob) (d : Doing) (n : ℕ) → job.doing ≡ d
     → n < doing_turns s (failures job.attempts) job.place.at (bodies_at s job.place) d → n < job_turns s job
 below_doing s job d n is less =
-    subst (λ e. n < doing_turns s (failures job.attempts) job.place.at (bodies_at s job.place) e) (sym is) less
+    let lt = subst (λ e. n < doing_turns s (failures job.attempts) job.place.at (bodies_at s job.place) e) (sym is) less in omega arith
+
+-- the same with the patience that is left
+below_same : (s : Setting) (job : SeenJob) (d : Doing) (n : ℕ) → job.doing ≡ d
+    → n < doing_turns s (failures job.attempts) job.place.at (bodies_at s job.place) d → (s.rules.patience - job.busy) + n < job_turns s job
+below_same s job d n is less =
+    let lt = subst (λ e. n < doing_turns s (failures job.attempts) job.place.at (bodies_at s job.place) e) (sym is) less in omega arith
+
+-- where it is told to wait less patience is left
+below_waiting : (s : Setting) (job : SeenJob) (d : Doing) (n : ℕ) → job.doing ≡ d → job.busy < s.rules.patience
+    → n ≤ doing_turns s (failures job.attempts) job.place.at (bodies_at s job.place) d → (s.rules.patience - (job.busy + 1)) + n < job_turns s job
+below_waiting s job d n is patient less =
+    let le = subst (λ e. n ≤ doing_turns s (failures job.attempts) job.place.at (bodies_at s job.place) e) (sym is) less in omega arith
 
 -- ---- an idle job
 idle_falls : (s : Setting) (at : ℕ) (old new : Now) (job : SeenJob) (answer : Turn) → slice_get old.jobs at ≡ Some job → job.doing ≡ Idle
@@ -66,10 +142,13 @@ idle_falls s at old new job turn.Went stands is (ready, same) =
     (length old.journal) job.me ready.attempts (some_there (transactions_at s.script job.place.block) job.place.next ready.left)))
 idle_falls s at old new job (turn.Ended end) stands is (ending, same) =
     let bodies = bodies_at s job.place in
-    let none : job_turns s (record job { doing = Ended end }) ≡ 0 = ended_is s (failures job.attempts) job.place.at bodies end in
     falls_by s at old new job (record job { doing = Ended end }) stands (ap (λ (n : Now). n.jobs) same)
-    (subst (λ n. n < job_turns s job) (sym none) (below_doing s job Idle 0 is (idle_some s (failures job.attempts) job.place.at bodies)))
-idle_falls s at old new job (turn.Busy object holder) stands is h = absurd h
+    (subst (λ n. (s.rules.patience - job.busy) + n < job_turns s job) (sym (ended_is s (failures job.attempts) job.place.at bodies end))
+    (below_same s job Idle 0 is (idle_some s (failures job.attempts) job.place.at bodies)))
+idle_falls s at old new job (turn.Busy object number) stands is (waits, same) =
+    let now_left = doing_turns s (failures job.attempts) job.place.at (bodies_at s job.place) job.doing in
+    falls_by s at old new job (waiting job) stands (ap (λ (n : Now). n.jobs) same)
+    (below_waiting s job job.doing now_left refl waits.patient (omega arith))
 idle_falls s at old new job turn.NoMemory stands is h = absurd h
 
 -- ---- a job with an active transaction that goes on
@@ -79,11 +158,12 @@ goes_on : (s : Setting) (at : ℕ) (old new : Now) (job : SeenJob) (place : Posi
     → phase_turns n place.at next next.phase < phase_turns n job.place.at tx tx.phase)
     → turns_left s new < turns_left s old
 goes_on s at old new job place tx next stands is jobs begin falls =
-    let moved : job_turns s (with_tx job place next) ≡ doing_turns s (failures job.attempts) place.at (bodies_at s job.place) (Active next) =
+    let moved : doing_turns s (failures job.attempts) place.at (bodies_at s place) (Active next)
+    ≡ doing_turns s (failures job.attempts) place.at (bodies_at s job.place) (Active next) =
     λ i. doing_turns s (failures job.attempts) place.at (drop (begin.next i) (transactions_at s.script (begin.block i))) (Active next) in
     falls_by s at old new job (with_tx job place next) stands jobs
-    (subst (λ n. n < job_turns s job) (sym moved)
-    (below_doing s job (Active tx) (doing_turns s (failures job.attempts) place.at (bodies_at s job.place) (Active next)) is
+    (subst (λ n. (s.rules.patience - job.busy) + n < job_turns s job) (sym moved)
+    (below_same s job (Active tx) (doing_turns s (failures job.attempts) place.at (bodies_at s job.place) (Active next)) is
     (on_falls s (failures job.attempts) job.place.at place.at (bodies_at s job.place) tx next falls)))
 
 -- ---- a call
@@ -107,7 +187,7 @@ call_falls s at old new job tx call stands is runs asked c =
     let records : length c.parts.undo.pending ≡ length tx.undo.pending + length c.made =
     ap (λ (u : Records). length u.pending) c.undo ∙ length-append tx.undo.pending c.made in
     let one = c.one in
-    goes_on s at old new job c.place tx noted stands is c.jobs c.begin
+    goes_on s at old new job c.place tx noted stands is (ap (λ (n : Now). n.jobs) c.behind) c.begin
     (λ n e. called_less n job.place.at c.place.at tx noted runs refl c.nearer (omega (arith, asked_before s job.place call asked)) (omega arith)
     (left_more tx.late (kept_call call tx.me c.reply) (length tx.ends) (kept_few (world_of old.contents) tx.me tx.number call c.reply c.in_time)))
 
@@ -145,33 +225,54 @@ running_falls : (s : Setting) (at : ℕ) (old new : Now) (job : SeenJob) (tx : S
     → job.doing ≡ Active tx → tx.phase ≡ Running → RunningTurn s at old job tx answer new → turns_left s new < turns_left s old
 running_falls s at old new job tx turn.Went stands is runs h = ask_falls s at old new job tx (asked_at s job.place) stands is runs refl h
 running_falls s at old new job tx turn.NoMemory stands is runs c =
-    goes_on s at old new job c.place tx (wanting tx c.left c.held) stands is c.jobs c.same.begin
+    goes_on s at old new job c.place tx (wanting tx c.left c.held) stands is (ap (λ (n : Now). n.jobs) c.behind) c.same.begin
     (λ n e. subst (λ m. m + 2 < phase_turns n job.place.at tx tx.phase) (sym (length-append tx.undo.pending c.left))
     (wanting_less n job.place.at (length c.left) tx tx.phase runs
     (subst (λ m. length c.left ≤ m - job.place.at) (sym e) (left_before s at old job.place tx (asked_at s job.place) c.left c.held refl c.one c.holds))))
-running_falls s at old new job tx (turn.Busy object holder) stands is runs h = absurd h
+running_falls s at old new job tx (turn.Busy object holder) stands is runs w =
+    let moved : doing_turns s (failures job.attempts) w.place.at (bodies_at s w.place) (Active tx)
+    ≡ doing_turns s (failures job.attempts) w.place.at (bodies_at s job.place) (Active tx) =
+    λ i. doing_turns s (failures job.attempts) w.place.at (drop (w.same.begin.next i) (transactions_at s.script (w.same.begin.block i))) (Active tx) in
+    falls_by s at old new job (waiting (with_tx job w.place tx)) stands (ap (λ (n : Now). n.jobs) w.behind)
+    (subst (λ n. (s.rules.patience - (job.busy + 1)) + n < job_turns s job) (sym moved)
+    (below_waiting s job (Active tx) (doing_turns s (failures job.attempts) w.place.at (bodies_at s job.place) (Active tx)) is w.patient
+    (on_stays s (failures job.attempts) job.place.at w.place.at (bodies_at s job.place) tx runs w.same.at)))
 running_falls s at old new job tx (turn.Ended end) stands is runs h = absurd h
 
+-- a marked one turns back
+marked_falls : (s : Setting) (at : ℕ) (old new : Now) (job : SeenJob) (tx : SeenTx) (m : Option Mark) (answer : Turn) → slice_get old.jobs at ≡ Some job
+    → job.doing ≡ Active tx → tx.phase ≡ Running → MarkedTurn s at old job tx m answer new → turns_left s new < turns_left s old
+marked_falls s at old new job tx None answer stands is runs h = running_falls s at old new job tx answer stands is runs h
+marked_falls s at old new job tx (Some m) turn.Went stands is runs same =
+    turn_falls s at old new job job.place tx (record tx { phase = Undoing (revoked m) }) stands is runs (ap (λ (n : Now). n.jobs) same)
+    (record { begin = record { block = refl; next = refl; begun = refl }; walk = refl; at = omega arith }) (λ e. cc) refl refl
+marked_falls s at old new job tx (Some m) turn.NoMemory stands is runs h = absurd h
+marked_falls s at old new job tx (Some m) (turn.Busy object holder) stands is runs h = absurd h
+marked_falls s at old new job tx (Some m) (turn.Ended end) stands is runs h = absurd h
+
 -- ---- an entry
-enters : (s : Setting) (at : ℕ) (old new : Now) (job next : SeenJob) (tx : SeenTx) (entry : Entry) → slice_get old.jobs at ≡ Some job
-    → job.doing ≡ Active tx → new ≡ entering old at next entry
+enters : (s : Setting) (at : ℕ) (old new : Now) (job next : SeenJob) (tx : SeenTx) (entry : Entry) (contents : Contents) → slice_get old.jobs at ≡ Some job
+    → job.doing ≡ Active tx → new ≡ record (entering old at next entry) { contents = contents }
     → job_turns s next < doing_turns s (failures job.attempts) job.place.at (bodies_at s job.place) (Active tx) → turns_left s new < turns_left s old
-enters s at old new job next tx entry stands is same less =
+enters s at old new job next tx entry contents stands is same less =
     falls_by s at old new job next stands (ap (λ (n : Now). n.jobs) same) (below_doing s job (Active tx) (job_turns s next) is less)
 
 passes : (s : Setting) (job : SeenJob) (tx : SeenTx)
-    → doing_turns s 0 0 (drop (job.place.next + 1) (transactions_at s.script job.place.block)) Idle
+    → (s.rules.patience - 0) + doing_turns s 0 0 (drop (job.place.next + 1) (transactions_at s.script job.place.block)) Idle
     < doing_turns s (failures job.attempts) job.place.at (bodies_at s job.place) (Active tx)
 passes s job tx =
-    subst (λ bs. doing_turns s 0 0 bs Idle < doing_turns s (failures job.attempts) job.place.at (bodies_at s job.place) (Active tx))
+    subst (λ bs. (s.rules.patience - 0) + doing_turns s 0 0 bs Idle < doing_turns s (failures job.attempts) job.place.at (bodies_at s job.place) (Active tx))
     (sym (rest_there (transactions_at s.script job.place.block) job.place.next))
     (passed_falls s (failures job.attempts) job.place.at (bodies_at s job.place) tx)
 
 late_falls : (s : Setting) (at : ℕ) (old new : Now) (job : SeenJob) (tx : SeenTx) (calls : List LateCall) → slice_get old.jobs at ≡ Some job
     → job.doing ≡ Active tx → tx.phase ≡ Committing → late_left tx ≡ calls → LateTurn s at old job tx calls new → turns_left s new < turns_left s old
 late_falls s at old new job tx [] stands is commits none same =
-    enters s at old new job (behind_commit job tx) tx (entry_of tx at (Committed tx.ends)) stands is same (passes s job tx)
-late_falls s at old new job tx (call ∷ calls) stands is commits some t =
+    joins_by s at old new job (behind_commit job tx) (started_jobs s.script job tx) stands (ap (λ (n : Now). n.jobs) same.0) same.1
+    (started_few s (behind_commit job tx) (started_late tx.late tx.ends)) (below_doing s job (Active tx) (job_turns s (behind_commit job tx)) is
+    (passes s job tx))
+late_falls s at old new job tx (call ∷ calls) stands is commits some row =
+    let t = next_ends s at old job tx new call row in
     let next : SeenTx = record tx { ends = tx.ends ++ t.end ∷ [] } in
     goes_on s at old new job job.place tx next stands is t.jobs (record { block = refl; next = refl; begun = refl })
     (λ n e. late_less n job.place.at tx next tx.phase commits (left_less tx.late tx.ends t.end (left_some tx.late tx.ends call calls some)))
@@ -189,7 +290,7 @@ abort_less s job tx cause.Asked = passes s job tx
 abort_less s job tx cause.NoMemory =
     let bodies = bodies_at s job.place in
     let failed = failures job.attempts in
-    subst (λ n. n < doing_turns s failed job.place.at bodies (Active tx)) (sym (starved_is s failed job.place.at bodies))
+    subst (λ n. (s.rules.patience - 0) + n < doing_turns s failed job.place.at bodies (Active tx)) (sym (starved_is s failed job.place.at bodies))
     (active_some s failed job.place.at bodies tx)
 abort_less s job tx (cause.Conflict object holder at) = again_falls s (failures job.attempts) job.place.at (bodies_at s job.place) tx
 abort_less s job tx (cause.Revoked object by at) = again_falls s (failures job.attempts) job.place.at (bodies_at s job.place) tx
@@ -198,11 +299,12 @@ abort_less s job tx (cause.Revoked object by at) = again_falls s (failures job.a
 back_falls : (s : Setting) (at : ℕ) (old new : Now) (job : SeenJob) (tx : SeenTx) (c : Cause) (pending : List Undo) → slice_get old.jobs at ≡ Some job
     → job.doing ≡ Active tx → tx.phase ≡ Undoing c → BackTurn s at old job tx c pending new → turns_left s new < turns_left s old
 back_falls s at old new job tx c [] stands is undoes same =
-    enters s at old new job (behind_abort job tx c) tx (entry_of tx at (Aborted (record { cause = c; records = tx.undo.ended }))) stands is same
+    enters s at old new job (behind_abort job tx c) tx (entry_of tx at (Aborted (record { cause = c; records = tx.undo.ended }))) new.contents stands is
+    same.behind
     (abort_less s job tx c)
 back_falls s at old new job tx c (u ∷ pending) stands is undoes t =
     let next : SeenTx = record tx { undo = record { pending = t.older; ended = (t.tried, t.end) ∷ tx.undo.ended } } in
-    goes_on s at old new job job.place tx next stands is t.jobs (record { block = refl; next = refl; begun = refl })
+    goes_on s at old new job job.place tx next stands is (ap (λ (n : Now). n.jobs) t.behind) (record { block = refl; next = refl; begun = refl })
     (λ n e. tried_less n job.place.at c tx next t.tried tx.phase undoes t.newest)
 
 undoing_falls : (s : Setting) (at : ℕ) (old new : Now) (job : SeenJob) (tx : SeenTx) (c : Cause) (answer : Turn) → slice_get old.jobs at ≡ Some job
@@ -215,7 +317,8 @@ undoing_falls s at old new job tx c (turn.Ended end) stands is undoes h = absurd
 -- ---- all rows
 active_falls : (s : Setting) (at : ℕ) (old new : Now) (job : SeenJob) (tx : SeenTx) (p : Phase) (answer : Turn) → slice_get old.jobs at ≡ Some job
     → job.doing ≡ Active tx → tx.phase ≡ p → ActiveTurn s at old job tx p answer new → turns_left s new < turns_left s old
-active_falls s at old new job tx Running answer stands is phase h = running_falls s at old new job tx answer stands is phase h
+active_falls s at old new job tx Running answer stands is phase h =
+    marked_falls s at old new job tx (old.marks tx.number) answer stands is phase h
 active_falls s at old new job tx Committing answer stands is phase h = commit_falls s at old new job tx answer stands is phase h
 active_falls s at old new job tx (Undoing c) answer stands is phase h = undoing_falls s at old new job tx c answer stands is phase h
 
@@ -224,10 +327,9 @@ starved_falls : (s : Setting) (at : ℕ) (old new : Now) (job : SeenJob) (answer
 starved_falls s at old new job (turn.Ended job_end.NoMemory) stands is same =
     let bodies = bodies_at s job.place in
     let failed = failures job.attempts in
-    let none : job_turns s (record job { doing = Ended job_end.NoMemory }) ≡ 0 = ended_is s failed job.place.at bodies job_end.NoMemory in
     falls_by s at old new job (record job { doing = Ended job_end.NoMemory }) stands (ap (λ (n : Now). n.jobs) same)
-    (subst (λ n. n < job_turns s job) (sym none)
-    (below_doing s job Starved 0 is (omega (arith, starved_is s failed job.place.at bodies))))
+    (subst (λ n. (s.rules.patience - job.busy) + n < job_turns s job) (sym (ended_is s failed job.place.at bodies job_end.NoMemory))
+    (below_same s job Starved 0 is (omega (arith, starved_is s failed job.place.at bodies))))
 starved_falls s at old new job (turn.Ended job_end.Done) stands is h = absurd h
 starved_falls s at old new job (turn.Ended (job_end.GaveUp c)) stands is h = absurd h
 starved_falls s at old new job (turn.Ended job_end.JournalFull) stands is h = absurd h

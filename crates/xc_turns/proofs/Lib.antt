@@ -7,9 +7,11 @@ pub mod GivenNumbers
 pub mod GroundReads
 pub mod GroundSteps
 pub mod Grounding
+pub mod Grown
 pub mod HeldClaims
 pub mod Jobs
 pub mod LateCounts
+pub mod LateEnds
 pub mod LeftParts
 pub mod Lefts
 pub mod Lists
@@ -20,6 +22,7 @@ pub mod SpokenLists
 pub mod SpokenRows
 pub mod SpokenTurns
 pub mod SpokenTx
+pub mod StartedTurns
 pub mod StoryAsks
 pub mod StoryBegins
 pub mod StoryEnds
@@ -29,3 +32,4 @@ pub mod StoryRows
 pub mod StoryStart
 pub mod StoryTurns
 pub mod TurnKinds
+pub mod Waits

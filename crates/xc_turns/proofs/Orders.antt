@@ -3,7 +3,7 @@ use Rattle.std.proofs.Common.{◌≡◌, ℕ, ◌+◌, ◌≤◌, inl, inr, List
 use Rattle.std.proofs.Common.{refl, ap, sym, ◌∙◌, subst, arith, true, false, not}
 use Rattle.std.proofs.lemmas.List.Elements.{All-nil, All-cons, All-append, All-weaker}
 use Rattle.std.proofs.lemmas.Option.{get_or_from_slice_get, slice_get_within}
-use Rattle.std.specs.Prelude.{slice_get, slice_set, Option, All}
+use Rattle.std.specs.Prelude.{slice_get, slice_set, nat_eq, Bool, Option, All, if◌then◌else◌}
 use Rattle.std.specs.declared.option.Option.TheVariants.{None, Some}
 use mathlib.Core.Logic.{dite}
 use native.Mathlib.Decide.{ℕ_discrete}
@@ -19,18 +19,24 @@ use Rattle.xc_data.specs.declared.call.LateCall.{LateCall}
 use Rattle.xc_text.specs.declared.script.Script.{Script}
 use Rattle.xc_script.specs.declared.ask.Ask.{Ask}
 use Rattle.xc_script.specs.declared.ask.Ask.TheVariants as ask
+use Rattle.xc_host.specs.Contents.{Contents}
+use Rattle.xc_data.specs.declared.entry.Mark.{Mark}
 use Rattle.xc_story.specs.declared.phase.Phase.{Phase}
 use Rattle.xc_story.specs.declared.phase.Phase.TheVariants.{Running, Committing, Undoing}
 use Rattle.xc_story.specs.Setting.{Setting}
 use Rattle.xc_story.specs.Truth.{AreInOrder, JobsRise, IsSerial, is_alone, is_tried_again}
-use Rattle.xc_story.specs.Seen.{SeenTx, SeenJob, Doing, Idle, Active, Starved, Ended, Now, active_in, active_of, actives, begun_count, late_left}
-use Rattle.xc_story.specs.Seen.{rank_of, entering}
-use Rattle.xc_story.specs.Rows.{IsTurn, TurnOf, IdleTurn, ActiveTurn, RunningTurn, AskedTurn, CommittingTurn, UndoingTurn, BackTurn, StarvedTurn}
+use Rattle.xc_story.specs.Seen.{SeenTx, SeenJob, Doing, Idle, Active, Starved, Ended, Now, active_in, active_of, actives, begun_count, late_left, joined}
+use Rattle.xc_story.specs.Seen.{rank_of, entering, unmarked, waiting}
+use Rattle.xc_story.specs.Rows.{IsTurn, TurnOf, IdleTurn, ActiveTurn, MarkedTurn, RunningTurn, AskedTurn, CommittingTurn, UndoingTurn, BackTurn, StarvedTurn}
 use Rattle.xc_story.specs.Rows.{LateTurn, IsActiveAt, asked_at, entry_of, noting, wanting, claims_at, with_tx, new_tx, beginning_job, behind_commit}
 use Rattle.xc_story.specs.Rows.{behind_abort}
 use Rattle.xc_story.specs.Opened.{IsOpening}
 use Rattle.xc_story.specs.Alone.{AreAlone, MeetsNobody}
 use Rattle.xc_turns.proofs.Lists.{get_cases}
+use Rattle.xc_story.specs.LateCalls.{started_late}
+use Rattle.xc_story.specs.Rows.{started_jobs}
+use Rattle.xc_turns.proofs.Grown.{AreIdle, grown_active, started_idle}
+use Rattle.xc_turns.proofs.LateEnds.{next_ends}
 use Rattle.xc_turns.proofs.Jobs.{active_is, active_before, behind_abort_none, none_active, opened_rests}
 
 -- ---- a journal with one entry more
@@ -65,6 +71,21 @@ rise_more journal e most rise before last i j a b ea eb less =
 abbrev IsNext : ℕ → SeenTx → Type 0
 IsNext entered tx = (tx.number ≡ entered + 1) × (tx.began ≡ entered) × MeetsNobody tx.phase
 
+-- no transaction is marked
+abbrev HasNoMarks : Now → Type 0
+HasNoMarks now = (n : ℕ) → now.marks n ≡ None
+
+-- nor is one behind a turn that marks none
+none_marked : (old new : Now) → new.marks ≡ old.marks → HasNoMarks old → HasNoMarks new
+none_marked old new same none n = ap (λ (marks : ℕ → Option Mark). marks n) same ∙ none n
+
+none_left : (marks : ℕ → Option Mark) (number : ℕ) → ((n : ℕ) → marks n ≡ None) → (n : ℕ) → unmarked marks number n ≡ None
+none_left marks number none n = by_test (nat_eq n number)
+  where
+    by_test : (b : Bool) → (if b then None else marks n) ≡ None
+    by_test true = refl
+    by_test false = none n
+
 -- a job's active transaction is the next
 next_of : (at : ℕ) (old : Now) (job : SeenJob) (tx : SeenTx) → slice_get old.jobs at ≡ Some job → job.doing ≡ Active tx → AreAlone old at
     → IsNext (length old.journal) tx
@@ -81,32 +102,35 @@ own_is at old new was is tx stands same active = active_is old.jobs at was stand
 
 -- the job stands otherwise, and nothing enters
 stays_so : (at : ℕ) (old new : Now) (was is : SeenJob) → slice_get old.jobs at ≡ Some was → new.jobs ≡ slice_set old.jobs at is
-    → new.journal ≡ old.journal → ((tx : SeenTx) → active_of is ≡ Some tx → IsNext (length old.journal) tx) → AreAlone old at → AreAlone new at
-stays_so at old new was is stands jobs journal next alone =
+    → new.journal ≡ old.journal → HasNoMarks new → ((tx : SeenTx) → active_of is ≡ Some tx → IsNext (length old.journal) tx)
+    → AreAlone old at → AreAlone new at
+stays_so at old new was is stands jobs journal marks next alone =
     record {
       serial = subst (λ j. IsSerial j) (sym journal) alone.serial;
       before = subst (λ j. All (λ (e : Entry). e.job ≤ at + 1) j) (sym journal) alone.before;
       others = others_stay at old new was is jobs alone;
       mine = λ tx active. subst (λ (j : List Entry). IsNext (length j) tx) (sym journal) (next tx (own_is at old new was is tx stands jobs active));
+      unmarked = marks;
     }
 
 -- its transaction is this one
 goes_on : (at : ℕ) (old new : Now) (was is : SeenJob) (tx : SeenTx) → slice_get old.jobs at ≡ Some was → new.jobs ≡ slice_set old.jobs at is
-    → new.journal ≡ old.journal → is.doing ≡ Active tx → IsNext (length old.journal) tx → AreAlone old at → AreAlone new at
-goes_on at old new was is tx stands jobs journal has next alone =
-    stays_so at old new was is stands jobs journal
+    → new.journal ≡ old.journal → HasNoMarks new → is.doing ≡ Active tx → IsNext (length old.journal) tx → AreAlone old at → AreAlone new at
+goes_on at old new was is tx stands jobs journal marks has next alone =
+    stays_so at old new was is stands jobs journal marks
     (λ other e. let same : tx ≡ other = let h = ap active_in has in cc in subst (IsNext (length old.journal)) same next) alone
 
 -- it has none
 rests : (at : ℕ) (old new : Now) (was is : SeenJob) → slice_get old.jobs at ≡ Some was → new.jobs ≡ slice_set old.jobs at is
-    → new.journal ≡ old.journal → active_of is ≡ None → AreAlone old at → AreAlone new at
-rests at old new was is stands jobs journal none alone =
-    stays_so at old new was is stands jobs journal (λ other e. absurd (let h : ◌≡◌ {A = Option SeenTx} None (Some other) = sym none ∙ e in cc)) alone
+    → new.journal ≡ old.journal → HasNoMarks new → active_of is ≡ None → AreAlone old at → AreAlone new at
+rests at old new was is stands jobs journal marks none alone =
+    stays_so at old new was is stands jobs journal marks (λ other e. absurd (let h : ◌≡◌ {A = Option SeenTx} None (Some other) = sym none ∙ e in cc)) alone
 
 -- its transaction enters
-enters : (at : ℕ) (old new : Now) (was is : SeenJob) (e : Entry) → slice_get old.jobs at ≡ Some was → new ≡ entering old at is e → active_of is ≡ None
+enters : (at : ℕ) (old new : Now) (was is : SeenJob) (e : Entry) (contents : Contents) → slice_get old.jobs at ≡ Some was
+    → new ≡ record (entering old at is e) { contents = contents } → active_of is ≡ None
     → (e.tx ≡ length old.journal + 1) × (e.began ≡ length old.journal) × (is_alone e.outcome ≡ true) × (e.job ≡ at + 1) → AreAlone old at → AreAlone new at
-enters at old new was is e stands same none fits alone =
+enters at old new was is e contents stands same none fits alone =
     let jobs : new.jobs ≡ slice_set old.jobs at is = ap (λ (n : Now). n.jobs) same in
     let journal : new.journal ≡ old.journal ++ e ∷ [] = ap (λ (n : Now). n.journal) same in
     let P : Entry → Type 0 = λ x. x.job ≤ at + 1 in
@@ -122,6 +146,18 @@ enters at old new was is e stands same none fits alone =
       before = subst (λ j. All P j) (sym journal) before;
       others = others_stay at old new was is jobs alone;
       mine = λ tx active. absurd (let h : ◌≡◌ {A = Option SeenTx} None (Some tx) = sym none ∙ own_is at old new was is tx stands jobs active in cc);
+      unmarked = λ n. ap (λ (now : Now). now.marks n) same ∙ none_left old.marks e.tx alone.unmarked n;
+    }
+
+-- jobs without transactions come behind
+alone_joined : (at : ℕ) (now : Now) (more : List SeenJob) → AreIdle more → AreAlone now at → AreAlone (joined now more) at
+alone_joined at now more idle alone =
+    record {
+      serial = alone.serial;
+      before = alone.before;
+      others = λ j tx active. alone.others j tx (grown_active now.jobs more idle j tx active);
+      mine = λ tx active. alone.mine tx (grown_active now.jobs more idle at tx active);
+      unmarked = alone.unmarked;
     }
 
 -- ---- each row
@@ -133,11 +169,15 @@ idle_row s at old new job turn.Went stands is (ready, same) alone =
     let same_job : job ≡ here.0 = let a = here.1 in cc in
     let h : ◌≡◌ {A = Option SeenTx} None (Some tx) = ap active_in (sym is) ∙ ap active_of same_job ∙ here.2 in cc)) in
     let tx : SeenTx = new_tx (begun_count old + 1) (rank_of job.attempts (begun_count old + 1)) (length old.journal) job.me in
-    goes_on at old new job (beginning_job old job) tx stands (ap (λ (n : Now). n.jobs) same) (ap (λ (n : Now). n.journal) same) refl
+    goes_on at old new job (beginning_job old job) tx stands (ap (λ (n : Now). n.jobs) same) (ap (λ (n : Now). n.journal) same)
+    (λ n. ap (λ (now : Now). now.marks n) same ∙ none_left old.marks (begun_count old + 1) alone.unmarked n) refl
     (omega (arith, first), refl, tt) alone
 idle_row s at old new job (turn.Ended end) stands is (ending, same) alone =
-    rests at old new job (record job { doing = Ended end }) stands (ap (λ (n : Now). n.jobs) same) (ap (λ (n : Now). n.journal) same) refl alone
-idle_row s at old new job (turn.Busy object holder) stands is h alone = absurd h
+    rests at old new job (record job { doing = Ended end }) stands (ap (λ (n : Now). n.jobs) same) (ap (λ (n : Now). n.journal) same)
+    (none_marked old new (ap (λ (n : Now). n.marks) same) alone.unmarked) refl alone
+idle_row s at old new job (turn.Busy object number) stands is (waits, same) alone =
+    rests at old new job (waiting job) stands (ap (λ (n : Now). n.jobs) same) (ap (λ (n : Now). n.journal) same)
+    (none_marked old new (ap (λ (n : Now). n.marks) same) alone.unmarked) (ap active_in is) alone
 idle_row s at old new job turn.NoMemory stands is h alone = absurd h
 
 ask_row : (s : Setting) (at : ℕ) (old new : Now) (job : SeenJob) (tx : SeenTx) (a : Ask) → slice_get old.jobs at ≡ Some job → job.doing ≡ Active tx
@@ -145,18 +185,21 @@ ask_row : (s : Setting) (at : ℕ) (old new : Now) (job : SeenJob) (tx : SeenTx)
 ask_row s at old new job tx (ask.Call call) stands is (inl c) alone =
     let next = next_of at old job tx stands is alone in
     let noted : SeenTx = noting tx call c.reply (claims_at old tx call) c.parts in
-    goes_on at old new job (with_tx job c.place noted) noted stands c.jobs c.journal refl next alone
+    goes_on at old new job (with_tx job c.place noted) noted stands (ap (λ (n : Now). n.jobs) c.behind) (ap (λ (n : Now). n.journal) c.behind)
+    (none_marked old new (ap (λ (n : Now). n.marks) c.behind) alone.unmarked) refl next alone
 ask_row s at old new job tx (ask.Call call) stands is (inr c) alone =
     let r = c.met.rival in absurd (r.other (alone.others r.place r.rival r.active))
 ask_row s at old new job tx ask.Commit stands is c alone =
     let next = next_of at old job tx stands is alone in
     let tx' : SeenTx = record tx { phase = Committing } in
-    goes_on at old new job (with_tx job c.place tx') tx' stands (ap (λ (n : Now). n.jobs) c.behind) (ap (λ (n : Now). n.journal) c.behind) refl
+    goes_on at old new job (with_tx job c.place tx') tx' stands (ap (λ (n : Now). n.jobs) c.behind) (ap (λ (n : Now). n.journal) c.behind)
+    (none_marked old new (ap (λ (n : Now). n.marks) c.behind) alone.unmarked) refl
     (next.0, next.1, tt) alone
 ask_row s at old new job tx ask.Abort stands is c alone =
     let next = next_of at old job tx stands is alone in
     let tx' : SeenTx = record tx { phase = Undoing cause.Asked } in
-    goes_on at old new job (with_tx job c.place tx') tx' stands (ap (λ (n : Now). n.jobs) c.behind) (ap (λ (n : Now). n.journal) c.behind) refl
+    goes_on at old new job (with_tx job c.place tx') tx' stands (ap (λ (n : Now). n.jobs) c.behind) (ap (λ (n : Now). n.journal) c.behind)
+    (none_marked old new (ap (λ (n : Now). n.marks) c.behind) alone.unmarked) refl
     (next.0, next.1, refl) alone
 ask_row s at old new job tx ask.End stands is h alone = absurd h
 
@@ -166,19 +209,32 @@ running_row s at old new job tx turn.Went stands is h alone = ask_row s at old n
 running_row s at old new job tx turn.NoMemory stands is c alone =
     let next = next_of at old job tx stands is alone in
     let tx' : SeenTx = wanting tx c.left c.held in
-    goes_on at old new job (with_tx job c.place tx') tx' stands c.jobs c.journal refl (next.0, next.1, refl) alone
-running_row s at old new job tx (turn.Busy object holder) stands is h alone = absurd h
+    goes_on at old new job (with_tx job c.place tx') tx' stands (ap (λ (n : Now). n.jobs) c.behind) (ap (λ (n : Now). n.journal) c.behind)
+    (none_marked old new (ap (λ (n : Now). n.marks) c.behind) alone.unmarked) refl (next.0, next.1, refl) alone
+running_row s at old new job tx (turn.Busy object holder) stands is w alone =
+    let r = w.met.rival in absurd (r.other (alone.others r.place r.rival r.active))
 running_row s at old new job tx (turn.Ended end) stands is h alone = absurd h
+
+marked_row : (s : Setting) (at : ℕ) (old new : Now) (job : SeenJob) (tx : SeenTx) (m : Option Mark) (answer : Turn) → slice_get old.jobs at ≡ Some job
+    → job.doing ≡ Active tx → old.marks tx.number ≡ m → MarkedTurn s at old job tx m answer new → AreAlone old at → AreAlone new at
+marked_row s at old new job tx None answer stands is has h alone = running_row s at old new job tx answer stands is h alone
+marked_row s at old new job tx (Some m) answer stands is has h alone =
+    absurd (let e : ◌≡◌ {A = Option Mark} None (Some m) = sym (alone.unmarked tx.number) ∙ has in cc)
 
 late_row : (s : Setting) (at : ℕ) (old new : Now) (job : SeenJob) (tx : SeenTx) (calls : List LateCall) → slice_get old.jobs at ≡ Some job
     → job.doing ≡ Active tx → LateTurn s at old job tx calls new → AreAlone old at → AreAlone new at
 late_row s at old new job tx [] stands is same alone =
     let next = next_of at old job tx stands is alone in
-    enters at old new job (behind_commit job tx) (entry_of tx at (Committed tx.ends)) stands same refl (next.0, next.1, refl, refl) alone
-late_row s at old new job tx (call ∷ calls) stands is t alone =
+    let mid = entering old at (behind_commit job tx) (entry_of tx at (Committed tx.ends)) in
+    let more = started_jobs s.script job tx in
+    subst (λ n. AreAlone n at) (sym same.0)
+    (alone_joined at mid more (started_idle s.script (behind_commit job tx) (started_late tx.late tx.ends))
+    (enters at old mid job (behind_commit job tx) (entry_of tx at (Committed tx.ends)) old.contents stands refl refl (next.0, next.1, refl, refl) alone))
+late_row s at old new job tx (call ∷ calls) stands is row alone =
+    let t = next_ends s at old job tx new call row in
     let next = next_of at old job tx stands is alone in
     let tx' : SeenTx = record tx { ends = tx.ends ++ t.end ∷ [] } in
-    goes_on at old new job (with_tx job job.place tx') tx' stands t.jobs t.journal refl next alone
+    goes_on at old new job (with_tx job job.place tx') tx' stands t.jobs t.journal (none_marked old new t.marks alone.unmarked) refl next alone
 
 commit_row : (s : Setting) (at : ℕ) (old new : Now) (job : SeenJob) (tx : SeenTx) (answer : Turn) → slice_get old.jobs at ≡ Some job
     → job.doing ≡ Active tx → CommittingTurn s at old job tx answer new → AreAlone old at → AreAlone new at
@@ -192,12 +248,13 @@ back_row : (s : Setting) (at : ℕ) (old new : Now) (job : SeenJob) (tx : SeenTx
 back_row s at old new job tx c [] stands is undoes same alone =
     let next = next_of at old job tx stands is alone in
     let lone : is_tried_again c ≡ false = subst MeetsNobody undoes next.2 in
-    enters at old new job (behind_abort job tx c) (entry_of tx at (Aborted (record { cause = c; records = tx.undo.ended }))) stands same
+    enters at old new job (behind_abort job tx c) (entry_of tx at (Aborted (record { cause = c; records = tx.undo.ended }))) new.contents stands same.behind
     (behind_abort_none job tx c) (next.0, next.1, ap not lone, refl) alone
 back_row s at old new job tx c (u ∷ pending) stands is undoes t alone =
     let next = next_of at old job tx stands is alone in
     let tx' : SeenTx = record tx { undo = record { pending = t.older; ended = (t.tried, t.end) ∷ tx.undo.ended } } in
-    goes_on at old new job (with_tx job job.place tx') tx' stands t.jobs t.journal refl next alone
+    goes_on at old new job (with_tx job job.place tx') tx' stands (ap (λ (n : Now). n.jobs) t.behind) (ap (λ (n : Now). n.journal) t.behind)
+    (none_marked old new (ap (λ (n : Now). n.marks) t.behind) alone.unmarked) refl next alone
 
 undoing_row : (s : Setting) (at : ℕ) (old new : Now) (job : SeenJob) (tx : SeenTx) (c : Cause) (answer : Turn) → slice_get old.jobs at ≡ Some job
     → job.doing ≡ Active tx → tx.phase ≡ Undoing c → UndoingTurn s at old job tx c answer new → AreAlone old at → AreAlone new at
@@ -208,14 +265,16 @@ undoing_row s at old new job tx c (turn.Ended end) stands is undoes h alone = ab
 
 active_row : (s : Setting) (at : ℕ) (old new : Now) (job : SeenJob) (tx : SeenTx) (p : Phase) (answer : Turn) → slice_get old.jobs at ≡ Some job
     → job.doing ≡ Active tx → tx.phase ≡ p → ActiveTurn s at old job tx p answer new → AreAlone old at → AreAlone new at
-active_row s at old new job tx Running answer stands is phase h alone = running_row s at old new job tx answer stands is h alone
+active_row s at old new job tx Running answer stands is phase h alone =
+    marked_row s at old new job tx (old.marks tx.number) answer stands is refl h alone
 active_row s at old new job tx Committing answer stands is phase h alone = commit_row s at old new job tx answer stands is h alone
 active_row s at old new job tx (Undoing c) answer stands is phase h alone = undoing_row s at old new job tx c answer stands is phase h alone
 
 starved_row : (at : ℕ) (old new : Now) (job : SeenJob) (answer : Turn) → slice_get old.jobs at ≡ Some job → StarvedTurn at old job answer new
     → AreAlone old at → AreAlone new at
 starved_row at old new job (turn.Ended job_end.NoMemory) stands same alone =
-    rests at old new job (record job { doing = Ended job_end.NoMemory }) stands (ap (λ (n : Now). n.jobs) same) (ap (λ (n : Now). n.journal) same) refl alone
+    rests at old new job (record job { doing = Ended job_end.NoMemory }) stands (ap (λ (n : Now). n.jobs) same) (ap (λ (n : Now). n.journal) same)
+    (none_marked old new (ap (λ (n : Now). n.marks) same) alone.unmarked) refl alone
 starved_row at old new job (turn.Ended job_end.Done) stands h alone = absurd h
 starved_row at old new job (turn.Ended (job_end.GaveUp c)) stands h alone = absurd h
 starved_row at old new job (turn.Ended job_end.JournalFull) stands h alone = absurd h
@@ -246,6 +305,7 @@ alone_opened script now o =
       before = subst (λ j. All (λ (e : Entry). e.job ≤ 0 + 1) j) (sym o.journal) (All-nil (λ (e : Entry). e.job ≤ 0 + 1));
       others = λ j tx active. absurd (rests j tx active);
       mine = λ tx active. absurd (rests 0 tx active);
+      unmarked = o.marks;
     }
 
 -- where the job has no active transaction a later one may go on
@@ -258,4 +318,5 @@ alone_later now at later alone rests after =
       before = All-weaker (λ (e : Entry). e.job ≤ at + 1) (λ (e : Entry). e.job ≤ later + 1) (λ e le. omega arith) now.journal alone.before;
       others = λ j tx active. absurd (none j tx active);
       mine = λ tx active. absurd (none later tx active);
+      unmarked = alone.unmarked;
     }

@@ -1,6 +1,6 @@
 -- Each row of the table of turns keeps the words.
 use Rattle.std.proofs.Common.{◌≡◌, ℕ, ◌+◌, length, inl, inr, Some, None, List, [], ◌∷◌, ◌++◌, refl, ap, sym, ◌∙◌, subst}
-use Rattle.std.specs.Prelude.{slice_get, slice_set}
+use Rattle.std.specs.Prelude.{Option, slice_get, slice_set}
 use Rattle.xc_compensate.specs.Records.{Records}
 use Rattle.xc_data.specs.declared.call.Call.{Call}
 use Rattle.xc_data.specs.declared.call.LateCall.{LateCall}
@@ -19,20 +19,25 @@ use Rattle.xc_script.specs.declared.ask.Ask.{Ask}
 use Rattle.xc_script.specs.declared.ask.Ask.TheVariants as ask
 use Rattle.xc_script.specs.Position.{Position}
 use Rattle.xc_world.specs.Own.{Sees, Owns}
+use Rattle.xc_data.specs.declared.entry.Mark.{Mark}
 use Rattle.xc_story.specs.declared.phase.Phase.{Phase}
 use Rattle.xc_story.specs.declared.phase.Phase.TheVariants.{Running, Committing, Undoing}
 use Rattle.xc_story.specs.Setting.{Setting}
 use Rattle.xc_story.specs.Progress.{words_left, progress_of}
-use Rattle.xc_story.specs.Seen.{SeenTx, SeenJob, Doing, Idle, Active, Starved, Ended, Now, active_in, active_of, begun_count, late_left, rank_of, with_job}
+use Rattle.xc_story.specs.Seen.{SeenTx, SeenJob, Doing, Idle, Active, Starved, Ended, Now, active_in, active_of, begun_count, late_left, rank_of}
+use Rattle.xc_story.specs.Seen.{revoked, waiting, with_job}
 use Rattle.xc_story.specs.Rows.{asked_at, new_tx, beginning_job, claims_at, noting, wanting, with_tx, entry_of, behind_commit, behind_abort}
-use Rattle.xc_story.specs.Rows.{Calls, Conflicts, HoldsWanting, Wants, EndsLate, LateTurn, Compensates, EntersAborted}
-use Rattle.xc_story.specs.Rows.{IdleTurn, AskedTurn, RunningTurn, CommittingTurn, BackTurn, UndoingTurn, StarvedTurn, ActiveTurn, TurnOf, IsTurn}
+use Rattle.xc_story.specs.Rows.{Calls, Conflicts, HoldsWanting, Wants, LateTurn, started_jobs, Compensates, EntersAborted}
+use Rattle.xc_story.specs.Rows.{IdleTurn, AskedTurn, MarkedTurn, RunningTurn, CommittingTurn, BackTurn, UndoingTurn, StarvedTurn, ActiveTurn, TurnOf, IsTurn}
 use Rattle.xc_story.specs.Holding.{AreApart}
 use Rattle.xc_story.specs.Spoken.{HasSpoken, AreSpoken}
 use Rattle.xc_turns.proofs.Jobs.{behind_abort_none}
 use Rattle.xc_turns.proofs.Progressing.{progress-more}
 use Rattle.xc_turns.proofs.SpokenClaims.{sees_still, owns_still}
 use Rattle.xc_turns.proofs.SpokenTx.{begun_spoken, turned_spoken, tried_spoken, called_spoken}
+use Rattle.xc_story.specs.LateCalls.{started_late}
+use Rattle.xc_turns.proofs.Grown.{spoken_grown, started_idle}
+use Rattle.xc_turns.proofs.LateEnds.{Ends, next_ends}
 use Rattle.xc_turns.proofs.SpokenRows.{IsQuiet, Speaks, quiet_turn, commits_turn, late_turn, enters_turn}
 
 -- the words of a station are those that its journal and its active transactions made
@@ -87,9 +92,10 @@ module _ (s : Setting) (at : ℕ) (old : Now) (job : SeenJob) (new : Now) (stand
       let number = begun_count old + 1 in
       let tx = new_tx number (rank_of job.attempts number) (length old.journal) job.me in
       let job' = beginning_job old job in
-      subst (KeepsWords s) (sym row.1) (quiet_turn before old.words old.jobs at job stands h job' (idle_quiet job (ap active_in is))
+      kept_words s old new _ (ap (λ (n : Now). n.jobs) row.1) (ap (λ (n : Now). n.words) row.1) (ap (λ (n : Now). n.journal) row.1)
+      (quiet_turn before old.words old.jobs at job stands h job' (idle_quiet job (ap active_in is))
       (active_quiet job' tx refl (running_is_none Running refl)) (active_speaks before job' tx refl (begun_spoken before _ _ _ _)))
-  by_idle is (turn.Busy object holder) row = absurd row
+  by_idle is (turn.Busy object number) row = subst (KeepsWords s) (sym row.1) (idles (waiting job) (ap active_in is) (ap active_in is))
   by_idle is turn.NoMemory row = absurd row
 
   by_starved : job.doing ≡ Starved → (answer : Turn) → StarvedTurn at old job answer new → KeepsWords s new
@@ -126,7 +132,7 @@ module _ (s : Setting) (at : ℕ) (old : Now) (job : SeenJob) (new : Now) (stand
     call_kept : (call : Call) → tx.phase ≡ Running → Calls s at old job tx call new → KeepsWords s new
     call_kept call runs row =
         let tx' = noting tx call row.reply (claims_at old tx call) row.parts in
-        kept_words s old new _ row.jobs row.words row.journal
+        kept_words s old new _ (ap (λ (n : Now). n.jobs) row.behind) (ap (λ (n : Now). n.words) row.behind) (ap (λ (n : Now). n.journal) row.behind)
         (goes_on row.place tx' (running_is_none tx.phase runs) (running_is_none tx'.phase runs)
         (called_spoken before old.words old.jobs at job tx stands active runs h call row.reply row.parts row.free row.stores row.spoken))
 
@@ -163,7 +169,7 @@ module _ (s : Setting) (at : ℕ) (old : Now) (job : SeenJob) (new : Now) (stand
     want_kept : (a : Ask) → tx.phase ≡ Running → (row : Wants s at old job tx new) → HoldsWanting old at tx a row.left row.held → KeepsWords s new
     want_kept a runs row holds =
         let tx' = wanting tx row.left row.held in
-        kept_words s old new _ row.jobs row.words row.journal
+        kept_words s old new _ (ap (λ (n : Now). n.jobs) row.behind) (ap (λ (n : Now). n.words) row.behind) (ap (λ (n : Now). n.journal) row.behind)
         (goes_on row.place tx' (running_is_none tx.phase runs) (undoing_is_none tx'.phase cause.NoMemory refl)
         (tried_spoken before (record tx { phase = Undoing cause.NoMemory; held = row.held }) tx'.undo
         (turned_spoken before tx cause.NoMemory row.held (held_still a row.left row.held holds) (owned_still a row.left row.held holds) said)))
@@ -171,23 +177,35 @@ module _ (s : Setting) (at : ℕ) (old : Now) (job : SeenJob) (new : Now) (stand
     by_running : tx.phase ≡ Running → (answer : Turn) → RunningTurn s at old job tx answer new → KeepsWords s new
     by_running runs turn.Went row = by_ask runs (asked_at s job.place) row
     by_running runs turn.NoMemory row = want_kept (asked_at s job.place) runs row row.holds
-    by_running runs (turn.Busy object holder) row = absurd row
+    by_running runs (turn.Busy object holder) row =
+        let job' = waiting (with_tx job row.place tx) in
+        kept_words s old new _ (ap (λ (n : Now). n.jobs) row.behind) (ap (λ (n : Now). n.words) row.behind) (ap (λ (n : Now). n.journal) row.behind)
+        (quiet_turn before old.words old.jobs at job stands h job' (active_quiet job tx active (running_is_none tx.phase runs))
+        (active_quiet job' tx refl (running_is_none tx.phase runs)) (active_speaks before job' tx refl said))
     by_running runs (turn.Ended end) row = absurd row
 
+    by_mark : tx.phase ≡ Running → (m : Option Mark) (answer : Turn) → MarkedTurn s at old job tx m answer new → KeepsWords s new
+    by_mark runs None answer row = by_running runs answer row
+    by_mark runs (Some m) turn.Went row = subst (KeepsWords s) (sym row) (turns_back job.place (revoked m) runs)
+    by_mark runs (Some m) _ row = absurd row
+
     -- ---- one that commits
-    late_kept : (call : LateCall) → EndsLate s at old job tx call new → KeepsWords s new
-    late_kept call row =
+    late_kept : Ends at old job tx new → KeepsWords s new
+    late_kept row =
         let ends = tx.ends ++ row.end ∷ [] in
         kept_words s old new _ row.jobs row.words row.journal
         (late_turn before old.words old.jobs at job stands h tx active apart ends (with_tx job job.place (record tx { ends = ends })) refl)
 
     by_late : tx.phase ≡ Committing → (calls : List LateCall) → LateTurn s at old job tx calls new → KeepsWords s new
-    by_late commits (call ∷ calls) row = late_kept call row
+    by_late commits (call ∷ calls) row = late_kept (next_ends s at old job tx new call row)
     by_late commits [] row =
         let e = entry_of tx at (Committed tx.ends) in
-        subst (KeepsWords s) (sym row) (subst (λ ws. AreSpoken ws old.words (slice_set old.jobs at (behind_commit job tx)))
-        (sym (words_entered s.script old.journal e))
-        (enters_turn before old.words old.jobs at job stands h tx active apart commits (behind_commit job tx) refl))
+        let jobs = slice_set old.jobs at (behind_commit job tx) in
+        let more = started_jobs s.script job tx in
+        subst (KeepsWords s) (sym row.0) (subst (λ ws. AreSpoken ws old.words (jobs ++ more)) (sym (words_entered s.script old.journal e))
+        (spoken_grown (words_left before tx.calls (Committed tx.ends)) old.words jobs more
+        (started_idle s.script (behind_commit job tx) (started_late tx.late tx.ends))
+        (enters_turn before old.words old.jobs at job stands h tx active apart commits (behind_commit job tx) refl)))
 
     by_committing : tx.phase ≡ Committing → (answer : Turn) → CommittingTurn s at old job tx answer new → KeepsWords s new
     by_committing commits turn.Went row = by_late commits (late_left tx) row
@@ -196,19 +214,19 @@ module _ (s : Setting) (at : ℕ) (old : Now) (job : SeenJob) (new : Now) (stand
     by_committing commits (turn.Ended end) row = absurd row
 
     -- ---- one on its way back
-    abort_kept : (c : Cause) → tx.phase ≡ Undoing c → EntersAborted at old job tx c new → KeepsWords s new
+    abort_kept : (c : Cause) → tx.phase ≡ Undoing c → EntersAborted s at old job tx c new → KeepsWords s new
     abort_kept c undoes row =
         let e = entry_of tx at (Aborted (record { cause = c; records = tx.undo.ended })) in
         let job' = behind_abort job tx c in
         let none = behind_abort_none job tx c in
-        subst (KeepsWords s) (sym row) (subst (λ ws. AreSpoken ws old.words (slice_set old.jobs at job')) (sym (words_entered s.script old.journal e))
+        subst (KeepsWords s) (sym row.behind) (subst (λ ws. AreSpoken ws old.words (slice_set old.jobs at job')) (sym (words_entered s.script old.journal e))
         (quiet_turn before old.words old.jobs at job stands h job' (active_quiet job tx active (undoing_is_none tx.phase c undoes))
         (idle_quiet job' none) (idle_speaks before job' none)))
 
     tried_kept : (c : Cause) → tx.phase ≡ Undoing c → Compensates s at old job tx new → KeepsWords s new
     tried_kept c undoes row =
         let undo : Records = record { pending = row.older; ended = (row.tried, row.end) ∷ tx.undo.ended } in
-        kept_words s old new _ row.jobs row.words row.journal
+        kept_words s old new _ (ap (λ (n : Now). n.jobs) row.behind) (ap (λ (n : Now). n.words) row.behind) (ap (λ (n : Now). n.journal) row.behind)
         (goes_on job.place (record tx { undo = undo }) (undoing_is_none tx.phase c undoes) (undoing_is_none tx.phase c undoes)
         (tried_spoken before tx undo said))
 
@@ -223,7 +241,7 @@ module _ (s : Setting) (at : ℕ) (old : Now) (job : SeenJob) (new : Now) (stand
     by_undoing c undoes (turn.Ended end) row = absurd row
 
     by_phase : (p : Phase) → tx.phase ≡ p → (answer : Turn) → ActiveTurn s at old job tx p answer new → KeepsWords s new
-    by_phase Running e answer row = by_running e answer row
+    by_phase Running e answer row = by_mark e (old.marks tx.number) answer row
     by_phase Committing e answer row = by_committing e answer row
     by_phase (Undoing c) e answer row = by_undoing c e answer row
 

@@ -1,58 +1,69 @@
 -- A transaction enters the journal, and its job goes on behind it.
-use Rattle.std.proofs.Common.{◌≡◌, ℕ, ◌+◌, ◌≤◌, List, [], ◌∷◌, ◌++◌, length, refl, ap, sym, ◌∙◌, subst, arith, length-append, length-set}
-use Rattle.std.specs.Prelude.{Option, slice_get, slice_set, unwrap_or}
+use Rattle.std.proofs.Common.{◌≡◌, ℕ, ◌+◌, ◌≤◌, List, [], ◌∷◌, ◌++◌, length, zero, suc, refl, ap, ap₂, sym, ◌∙◌, subst, arith, length-append, length-set}
+use Rattle.std.specs.Prelude.{IsPermutation, Option, map, slice_get, slice_set, unwrap_or}
 use Rattle.std.specs.declared.option.Option.TheVariants.{None, Some}
 use Rattle.std.proofs.lemmas.List.Sorted.{length_permutation}
 use Rattle.xc_data.specs.declared.entry.Cause.{Cause}
 use Rattle.xc_data.specs.declared.entry.Cause.TheVariants as cause
 use Rattle.xc_data.specs.declared.entry.Entry.{Entry}
+use Rattle.xc_world.specs.World.{beginning}
 use Rattle.xc_script.specs.Ask.{Job, Variables, Walk}
 use Rattle.xc_script.specs.Position.{at_begin}
 use Rattle.xc_script.specs.Slots.{kept_of, with_ends}
 use Rattle.xc_story.specs.declared.phase.Attempts.{Attempts}
 use Rattle.xc_story.specs.declared.phase.Phase.TheVariants.{Committing}
 use Rattle.xc_story.specs.Setting.{Setting}
-use Rattle.xc_story.specs.Progress.{Following, Progress, after_entry, following_abort, progress_of}
+use Rattle.xc_story.specs.Progress.{Following, Progress, after_entry, following_abort, progress_of, started_from, started_job as progress_started}
 use Rattle.xc_story.specs.Truth.{IsTrueEntry}
 use Rattle.xc_story.specs.Seen.{SeenTx, SeenJob, Active, Idle, active_of}
-use Rattle.xc_story.specs.Rows.{attempts_with, behind_abort, behind_commit, entry_of}
+use Rattle.xc_story.specs.Rows.{attempts_with, behind_abort, behind_commit, entry_of, started_job}
 use Rattle.xc_story.specs.Told.{AreAttempts, IsCommitting, IsDoing, IsInPhase, IsJobTold, IsUnderway, active_begin, begins_of, entry_begin}
+use Rattle.xc_turns.proofs.Grown.{AreIdle, grown_actives}
 use Rattle.xc_turns.proofs.Lists.{get_set_same, get_set_other}
 use Rattle.xc_turns.proofs.Progressing.{progress-more, true-more}
 use Rattle.xc_turns.proofs.StoryBegins.{begins_count, begins_entered, begins_moved}
-use Rattle.xc_turns.proofs.StoryJobs.{AreJobsTold, AreToldBut, begun_in, told_in_place}
+use Rattle.xc_turns.proofs.StoryJobs.{AreJobsTold, AreToldBut, begun_in, told_append, told_in_place}
 use Rattle.xc_turns.proofs.StoryRows.{attempts_count}
 use Rattle.xc_turns.proofs.StoryEntries.{aborted_by, gone_on}
 
 -- ---- an entry behind the journal
--- all is told behind it, where its job is
-pub enters : (s : Setting) (journal : List Entry) (jobs : List SeenJob) (at : ℕ) (job next : SeenJob) (tx : SeenTx) (e : Entry) (f g : Following)
+-- all is told behind it, where its job is, and the jobs that it started
+pub enters : (s : Setting) (journal : List Entry) (jobs more : List SeenJob) (at : ℕ) (job next : SeenJob) (tx : SeenTx) (e : Entry) (f g : Following)
+    (gs : List Following)
     → slice_get jobs at ≡ Some job → active_of job ≡ Some tx → active_of next ≡ None → entry_begin e ≡ active_begin tx
     → slice_get (progress_of s.script journal).jobs at ≡ Some f
-    → (after_entry s.script (progress_of s.script journal) e).jobs ≡ slice_set (progress_of s.script journal).jobs at g
+    → (after_entry s.script (progress_of s.script journal) e).jobs ≡ slice_set (progress_of s.script journal).jobs at g ++ gs
+    → length gs ≡ length more → AreIdle more → AreJobsTold s (begun_in journal jobs) (length journal + 1) gs more
     → IsTrueEntry s (progress_of s.script journal) e → IsJobTold s (begun_in journal jobs) (length journal + 1) g next
-    → AreToldBut s journal jobs → AreToldBut s (journal ++ e ∷ []) (slice_set jobs at next)
-enters s journal jobs at job next tx e f g stands some none same got leads one mine told =
+    → AreToldBut s journal jobs → AreToldBut s (journal ++ e ∷ []) (slice_set jobs at next ++ more)
+enters s journal jobs more_jobs at job next tx e f g gs stands some none same got leads even idle started one mine told =
     let p = progress_of s.script journal in
     let fs = p.jobs in
     let n = begun_in journal jobs in
-    let next_jobs = slice_set jobs at next in
-    let more = begins_entered journal jobs at job next tx e stands some none same in
+    let set_jobs = slice_set jobs at next in
+    let next_jobs = set_jobs ++ more_jobs in
+    let more : IsPermutation (begins_of journal jobs) (begins_of (journal ++ e ∷ []) next_jobs) =
+    subst (λ ts. IsPermutation (begins_of journal jobs) (map entry_begin (journal ++ e ∷ []) ++ map active_begin ts))
+    (sym (grown_actives set_jobs more_jobs idle))
+    (begins_entered journal jobs at job next tx e stands some none same) in
     let length_is : length (journal ++ e ∷ []) ≡ length journal + 1 = length-append journal (e ∷ []) in
     let as_many : length (begins_of (journal ++ e ∷ []) next_jobs) ≡ length (begins_of journal jobs) =
     length_permutation (begins_of journal jobs) (begins_of (journal ++ e ∷ []) next_jobs) more in
     let count : begun_in (journal ++ e ∷ []) next_jobs ≡ n =
     sym (begins_count (journal ++ e ∷ []) next_jobs) ∙ as_many ∙ begins_count journal jobs in
-    let led : (progress_of s.script (journal ++ e ∷ [])).jobs ≡ slice_set fs at g = ap (λ (q : Progress). q.jobs) (progress-more s.script journal e) ∙ leads in
-    let all : AreJobsTold s n (length journal + 1) (slice_set fs at g) next_jobs =
-    told_in_place s n n (length journal) (length journal + 1) fs (slice_set fs at g) jobs at job next g (omega arith) (omega arith) stands
-    (get_set_same fs at f g got) (λ j ne. get_set_other fs at j g ne) mine told.jobs_told in
+    let led : (progress_of s.script (journal ++ e ∷ [])).jobs ≡ slice_set fs at g ++ gs =
+    ap (λ (q : Progress). q.jobs) (progress-more s.script journal e) ∙ leads in
+    let set_count : length (slice_set fs at g) ≡ length set_jobs = length-set fs at g ∙ told.count ∙ sym (length-set jobs at next) in
+    let all : AreJobsTold s n (length journal + 1) (slice_set fs at g ++ gs) next_jobs =
+    told_append s n (length journal + 1) (slice_set fs at g) gs set_jobs more_jobs set_count
+    (told_in_place s n n (length journal) (length journal + 1) fs (slice_set fs at g) jobs at job next g (omega arith) (omega arith) stands
+    (get_set_same fs at f g got) (λ j ne. get_set_other fs at j g ne) mine told.jobs_told) started in
     record {
       entries = true-more s journal e told.entries one;
-      count = ap length led ∙ length-set fs at g ∙ told.count ∙ sym (length-set jobs at next);
+      count = ap length led ∙ length-append (slice_set fs at g) gs ∙ ap₂ (λ a b. a + b) set_count even ∙ sym (length-append set_jobs more_jobs);
       jobs_told = subst (λ gs. AreJobsTold s (begun_in (journal ++ e ∷ []) next_jobs) (length (journal ++ e ∷ [])) gs next_jobs) (sym led)
-          (subst (λ k. AreJobsTold s k (length (journal ++ e ∷ [])) (slice_set fs at g) next_jobs) (sym count)
-          (subst (λ k. AreJobsTold s n k (slice_set fs at g) next_jobs) (sym length_is) all));
+          (subst (λ k. AreJobsTold s k (length (journal ++ e ∷ [])) (slice_set fs at g ++ gs) next_jobs) (sym count)
+          (subst (λ k. AreJobsTold s n k (slice_set fs at g ++ gs) next_jobs) (sym length_is) all));
       begins = begins_moved journal (journal ++ e ∷ []) (begins_of journal jobs) (begins_of (journal ++ e ∷ []) next_jobs) more (omega arith) told.begins;
       few = subst (λ k. k ≤ 10000) (sym count) told.few;
     }
@@ -80,6 +91,28 @@ committed_told s begun entered led f job tx active commits count told =
       few = omega arith;
       doing = (refl, ap at_begin same);
     }
+
+-- and the jobs that it started
+pub started_told : (s : Setting) (begun entered led : ℕ) (starter : Job) (behind : SeenJob) (blocks : List (List ℕ)) → led ≡ entered
+    → behind.me ≡ beginning behind.me.places → behind.place.variables ≡ starter.variables
+    → AreJobsTold s begun (entered + 1) (map (progress_started s.script starter (led + 1)) blocks) (map (started_job s.script behind) blocks)
+started_told s begun entered led starter behind [] count fresh same at f job got there = cc got
+started_told s begun entered led starter behind (block ∷ blocks) count fresh same zero f job got there =
+    let g = progress_started s.script starter (led + 1) block in
+    let mine = started_job s.script behind block in
+    let is_f : g ≡ f = cc got in
+    let is_job : mine ≡ job = cc there in
+    let told : IsJobTold s begun (entered + 1) g mine = record {
+      block = refl;
+      fresh = fresh;
+      since = omega arith;
+      attempts = (refl, refl);
+      few = omega arith;
+      doing = (refl, ap (λ variables. at_begin (started_from s.script variables block)) same);
+    } in
+    subst (λ h. IsJobTold s begun (entered + 1) h job) is_f (subst (IsJobTold s begun (entered + 1) g) is_job told)
+started_told s begun entered led starter behind (block ∷ blocks) count fresh same (suc at) f job got there =
+    started_told s begun entered led starter behind blocks count fresh same at f job got there
 
 -- the same attempts
 attempts_same : (f g : Following) (o : Option Attempts) → g.first ≡ f.first → g.failed ≡ f.failed → AreAttempts f o → AreAttempts g o
@@ -127,6 +160,7 @@ behind_attempt job tx c =
     record job {
       place = at_begin (record { block = job.place.block; next = job.place.next; variables = job.place.begun });
       attempts = Some (attempts_with job.attempts tx c);
+      busy = 0;
       doing = Idle;
     }
 

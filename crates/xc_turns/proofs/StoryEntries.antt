@@ -1,9 +1,7 @@
 -- The entry of a transaction that ends is true behind a true journal, and what the journal leads to with it.
 use Rattle.std.proofs.Common.{◌≡◌, ℕ, ◌+◌, ◌-◌, ◌<◌, ◌≤◌, Bool, true, false, IsTrue, List, [], ◌++◌, length, map, ap, sym, ◌∙◌, subst}
 use Rattle.std.proofs.Common.{arith}
-use Rattle.std.proofs.Common.{append-nil}
 use Rattle.std.specs.Prelude.{slice_get, slice_set, take, if◌then◌else◌}
-use Rattle.std.specs.List.{list_all}
 use Rattle.std.specs.declared.option.Option.TheVariants.{Some}
 use Rattle.xc_data.specs.declared.call.LateCall.{LateCall}
 use Rattle.xc_data.specs.declared.claim.Claim.{Claim}
@@ -16,6 +14,7 @@ use Rattle.xc_text.specs.declared.script.Script.{Script}
 use Rattle.xc_script.specs.declared.ask.Ask.{Ask}
 use Rattle.xc_script.specs.Ask.{asks}
 use Rattle.xc_script.specs.Position.{Position}
+use Rattle.xc_script.specs.Slots.{kept_of}
 use Rattle.xc_world.specs.Ends.{AreLegal, Ending}
 use Rattle.xc_world.specs.Run.{Ran, late_asked_of, lates, lates_fit}
 use Rattle.xc_story.specs.declared.phase.Phase.{Phase}
@@ -26,11 +25,12 @@ use Rattle.xc_story.specs.Progress.{Following, Progress, after_entry, after_foll
 use Rattle.xc_story.specs.Progress.{committed_job, started_job, untried}
 use Rattle.xc_story.specs.Truth.{AreRecords, IsHeldAt, IsPlayed, IsTrueEntry, is_tried_again, next_of}
 use Rattle.xc_story.specs.Seen.{SeenTx, late_left}
-use Rattle.xc_story.specs.Rows.{entry_of, is_built}
+use Rattle.xc_story.specs.LateCalls.{started_late, thread_asked, thread_in}
+use Rattle.xc_story.specs.Rows.{entry_of}
 use Rattle.xc_story.specs.Told.{IsCommitting, IsInPhase, IsUndoing, IsUnderway, asked_of_tx}
 use Rattle.xc_story.specs.Played.{HoldsFor, IsPlayedSoFar, RecordsFor, ran_behind}
-use Rattle.xc_story.proofs.KeptCalls.{kept_starts}
-use Rattle.xc_turns.proofs.LateCounts.{left_none, take_all}
+use Rattle.xc_story.proofs.StartedCalls.{started_same}
+use Rattle.xc_turns.proofs.LateCounts.{as_many, left_none, take_all}
 
 -- ---- the entry of the job in one place
 -- the number behind a place leads back to it
@@ -78,7 +78,7 @@ commit_true s words p f at place tx got commits none under began said played =
           rank = under.rank;
           failures = let lt = under.attempts in omega arith;
           calls = under.asked;
-          asked = (ap asks (sym committing.ahead) ∙ committing.asked, all ∙ under.kept);
+          asked = (ap asks (sym committing.ahead) ∙ committing.asked, all ∙ as_many tx.late (kept_of tx.calls tx.replies) under.kept);
         };
         words = said;
         played = λ t. commit_played s words p at tx (next_of s.script f tx.replies) commits all (played t);
@@ -89,16 +89,23 @@ commit_true s words p f at place tx got commits none under began said played =
 abbrev pub gone_on : Script → ℕ → Following → SeenTx → Following
 gone_on script entered f tx = untried f.block (committed_job script f.job tx.calls tx.replies tx.ends) (entered + 1)
 
--- it goes on in its place behind a commit
+-- the jobs that it started
+abbrev pub started_on : Script → ℕ → Following → SeenTx → List Following
+started_on script entered f tx =
+    map (started_job script (committed_job script f.job tx.calls tx.replies tx.ends) (entered + 1)) (started_late tx.late tx.ends)
+
+-- it goes on in its place behind a commit, and those that it started stand behind
 pub commit_leads : (script : Script) (p : Progress) (f : Following) (at : ℕ) (tx : SeenTx) → slice_get p.jobs at ≡ Some f
-    → list_all is_built tx.calls ≡ true → (after_entry script p (entry_of tx at (Committed tx.ends))).jobs ≡ slice_set p.jobs at (gone_on script p.entered f tx)
-commit_leads script p f at tx got built =
+    → map thread_in tx.late ≡ map thread_asked (kept_of tx.calls tx.replies)
+    → (after_entry script p (entry_of tx at (Committed tx.ends))).jobs
+    ≡ slice_set p.jobs at (gone_on script p.entered f tx) ++ started_on script p.entered f tx
+commit_leads script p f at tx got kept =
     let e = entry_of tx at (Committed tx.ends) in
     let g = gone_on script p.entered f tx in
     let more = started_job script (committed_job script f.job tx.calls tx.replies tx.ends) (p.entered + 1) in
     ap (λ o. (after_following script p e o).jobs) (entry_following p at tx (Committed tx.ends) f got)
-    ∙ ap (λ bs. slice_set p.jobs (at + 1 - 1) g ++ map more bs) (kept_starts tx.calls tx.replies tx.ends built)
-    ∙ append-nil (slice_set p.jobs (at + 1 - 1) g) ∙ ap (λ i. slice_set p.jobs i g) (place_of_number at)
+    ∙ ap (λ bs. slice_set p.jobs (at + 1 - 1) g ++ map more bs) (sym (started_same tx.late (kept_of tx.calls tx.replies) tx.ends kept))
+    ∙ ap (λ i. slice_set p.jobs i g ++ started_on script p.entered f tx) (place_of_number at)
 
 -- ---- an abort
 -- its outcome

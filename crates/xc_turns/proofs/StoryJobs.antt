@@ -1,6 +1,6 @@
 -- The stories of all jobs, where one job goes on in its place.
-use Rattle.std.proofs.Common.{◌≡◌, ◌≢◌, ℕ, ◌+◌, ◌<◌, ◌≤◌, List, ◌∷◌, ◌++◌, length, map, suc, refl, ap, sym, ◌∙◌, subst, arith, length-set}
-use Rattle.std.specs.Prelude.{slice_get, slice_set}
+use Rattle.std.proofs.Common.{◌≡◌, ◌≢◌, ℕ, ◌+◌, ◌<◌, ◌≤◌, List, ◌∷◌, ◌++◌, length, map, zero, suc, [], refl, ap, sym, ◌∙◌, subst, arith, length-set}
+use Rattle.std.specs.Prelude.{Option, slice_get, slice_set}
 use Rattle.std.specs.declared.option.Option.TheVariants.{None, Some}
 use Rattle.std.specs.Option.{option_map}
 use Rattle.std.proofs.lemmas.List.Sorted.{length_permutation}
@@ -9,6 +9,7 @@ use native.Mathlib.Decide.{ℕ_discrete}
 use Rattle.xc_data.specs.declared.entry.Entry.{Entry}
 use Rattle.xc_data.specs.declared.entry.JobEnd.{JobEnd}
 use Rattle.xc_data.specs.declared.entry.JobEnd.TheVariants as job_end
+use Rattle.xc_data.specs.declared.entry.Mark.{Mark}
 use Rattle.xc_story.specs.Setting.{Setting}
 use Rattle.xc_story.specs.Grounds.{AreGrounded}
 use Rattle.xc_story.specs.Progress.{Following, opening_progress, progress_of}
@@ -37,14 +38,16 @@ pub record AreToldBut (s : Setting) (journal : List Entry) (jobs : List SeenJob)
   pub few : begun_in journal jobs ≤ 10000
 
 -- it is a part of what is true between two turns
-pub told_but : (s : Setting) (words : ℕ) (journal : List Entry) (jobs : List SeenJob) → AreTold s words journal jobs → AreToldBut s journal jobs
-told_but s words journal jobs told =
+pub told_but : (s : Setting) (words : ℕ) (marks : ℕ → Option Mark) (journal : List Entry) (jobs : List SeenJob) → AreTold s words marks journal jobs
+    → AreToldBut s journal jobs
+told_but s words marks journal jobs told =
     record { entries = told.entries; count = told.count; jobs_told = told.jobs_told; begins = told.begins; few = told.few }
 
 -- and with the grounds it is all of it
-pub told_whole : (s : Setting) (words : ℕ) (journal : List Entry) (jobs : List SeenJob) → AreToldBut s journal jobs
-    → AreGrounded s.tells (parts_of s journal) (active_parts s words 1 (progress_of s.script journal).jobs jobs) → AreTold s words journal jobs
-told_whole s words journal jobs told grounded =
+pub told_whole : (s : Setting) (words : ℕ) (marks : ℕ → Option Mark) (journal : List Entry) (jobs : List SeenJob) → AreToldBut s journal jobs
+    → AreGrounded s.tells (parts_of s journal) (active_parts s words marks 1 (progress_of s.script journal).jobs jobs)
+    → AreTold s words marks journal jobs
+told_whole s words marks journal jobs told grounded =
     record { entries = told.entries; count = told.count; jobs_told = told.jobs_told; begins = told.begins; few = told.few; grounded = grounded }
 
 -- ---- a job that stays as it was
@@ -89,6 +92,22 @@ told_in_place s begun begun' entered entered' fs gs jobs at job next g le longer
     (λ ne.
     told_later s begun begun' entered entered' f there le longer
     (told j f there (sym (others j ne) ∙ got_f) (sym (get_set_other jobs at j next ne) ∙ got)))
+
+told_first : (s : Setting) (begun entered : ℕ) (f : Following) (fs : List Following) (job : SeenJob) (jobs : List SeenJob)
+    → ((g : Following) (x : SeenJob) → slice_get (f ∷ fs) 0 ≡ Some g → slice_get (job ∷ jobs) 0 ≡ Some x → IsJobTold s begun entered g x)
+    → AreJobsTold s begun entered fs jobs → AreJobsTold s begun entered (f ∷ fs) (job ∷ jobs)
+told_first s begun entered f fs job jobs one rest zero g x got_g got = one g x got_g got
+told_first s begun entered f fs job jobs one rest (suc at) g x got_g got = rest at g x got_g got
+
+-- and with more jobs behind
+pub told_append : (s : Setting) (begun entered : ℕ) (fs gs : List Following) (jobs more : List SeenJob) → length fs ≡ length jobs
+    → AreJobsTold s begun entered fs jobs → AreJobsTold s begun entered gs more → AreJobsTold s begun entered (fs ++ gs) (jobs ++ more)
+told_append s begun entered [] gs [] more count told rest = rest
+told_append s begun entered [] gs (job ∷ jobs) more count told rest = absurd (omega (arith, count))
+told_append s begun entered (f ∷ fs) gs [] more count told rest = absurd (omega (arith, count))
+told_append s begun entered (f ∷ fs) gs (job ∷ jobs) more count told rest =
+    told_first s begun entered f (fs ++ gs) job (jobs ++ more) (told 0)
+    (told_append s begun entered fs gs jobs more (omega (arith, count)) (λ i h y got_h got_y. told (suc i) h y got_h got_y) rest)
 
 -- ---- a turn that enters nothing
 -- one that begins nothing either

@@ -1,5 +1,5 @@
 -- Each row of the table that enters nothing goes on with its job's story.
-use Rattle.std.proofs.Common.{◌≡◌, ℕ, ◌+◌, ◌<◌, ◌≤◌, true, false, List, [], ◌∷◌, ◌++◌, length, refl, ap, sym, ◌∙◌, subst, arith, length-append}
+use Rattle.std.proofs.Common.{◌≡◌, ℕ, ◌+◌, ◌<◌, ◌≤◌, false, List, [], ◌∷◌, ◌++◌, length, refl, ap, sym, ◌∙◌, subst, arith, length-append}
 use Rattle.std.specs.Prelude.{IsSome, Option, unwrap_or}
 use Rattle.std.specs.declared.option.Option.TheVariants.{None, Some}
 use Rattle.xc_data.specs.declared.call.Call.{Call}
@@ -24,12 +24,12 @@ use Rattle.xc_story.specs.Setting.{Setting}
 use Rattle.xc_story.specs.Progress.{Following}
 use Rattle.xc_story.specs.Truth.{IsCauseOf, next_of}
 use Rattle.xc_story.specs.Ending.{IsEnd}
-use Rattle.xc_story.specs.Seen.{SeenTx, SeenJob, Idle, Active, Starved, Ended, Now, begun_count, failures, rank_of}
-use Rattle.xc_story.specs.Rows.{IsEnding, IsReady, IsReplyInTime, IsSameBegin, IsSamePosition, IsSpent, Parts, asked_at, beginning_job, body_at, is_built}
+use Rattle.xc_story.specs.Seen.{SeenTx, SeenJob, Doing, Idle, Active, Starved, Ended, Now, begun_count, failures, rank_of, waiting}
+use Rattle.xc_story.specs.Rows.{IsEnding, IsReady, IsReplyInTime, IsSameBegin, IsSamePosition, IsSpent, Parts, asked_at, beginning_job, body_at}
 use Rattle.xc_story.specs.Rows.{new_tx, noting, with_tx}
 use Rattle.xc_story.specs.Told.{AreAttempts, IsDoing, IsInPhase, IsCommitting, IsJobTold, IsRunning, IsStanding, IsUndoing, IsUnderway}
 use Rattle.xc_turns.proofs.StoryAsks.{answered-more, asks-more, asks-count}
-use Rattle.xc_turns.proofs.LateCounts.{late-more, built-more}
+use Rattle.xc_turns.proofs.LateCounts.{late-more}
 
 -- ---- an idle job
 -- the attempts that the journal tells are as many as the job counts
@@ -57,7 +57,7 @@ end_told s now f job (job_end.GaveUp c) ending are goes place =
     (goes, subst (λ (p : Position). IsSome (body_at s p)) place ending.0, given_up s f job.attempts c ending.1 are)
 end_told s now f job job_end.JournalFull ending are goes place =
     let few : length f.failed < s.rules.attempts = let lt = ending.1 in let same = attempts_count f job.attempts are in omega arith in
-    (goes, subst (λ (p : Position). IsSome (body_at s p)) place ending.0, few, ending.2)
+    (goes, subst (λ (p : Position). IsSome (body_at s p)) place ending.0, few, ending.3)
 end_told s now f job job_end.NoMemory ending are goes place = subst (λ (p : Position). IsSome (body_at s p)) place ending
 
 -- an idle job that ends
@@ -73,6 +73,18 @@ ended_told s now entered f job end idle ending told =
       few = told.few;
       doing = end_told s now f job end ending told.attempts goes place;
     }
+
+-- a job that is told to wait
+pub waiting_told : (s : Setting) (begun entered : ℕ) (f : Following) (job : SeenJob) → IsJobTold s begun entered f job
+    → IsJobTold s begun entered f (waiting job)
+waiting_told s begun entered f job told =
+    record { block = told.block; fresh = told.fresh; since = told.since; attempts = told.attempts; few = told.few; doing = waiting_doing job.doing told.doing }
+  where
+    waiting_doing : (d : Doing) → IsDoing s begun f job d → IsDoing s begun f (waiting job) d
+    waiting_doing Idle h = h
+    waiting_doing (Active tx) h = h
+    waiting_doing Starved h = h
+    waiting_doing (Ended end) h = h
 
 -- a transaction that begins
 begun_underway : (s : Setting) (now : Now) (f : Following) (job : SeenJob) → IsReady s now job → AreAttempts f job.attempts
@@ -94,7 +106,6 @@ begun_underway s now f job ready are goes place since fresh =
       };
       asked = refl;
       kept = refl;
-      built = refl;
       stored = omega arith;
       phase = record { ahead = ap (λ (p : Position). walk_of s.script (record p { begun = p.variables })) place; none = refl; no_ends = refl };
     }
@@ -141,9 +152,9 @@ running_phase s f place tx runs under = subst (IsInPhase s f place tx) runs unde
 pub called_underway : (w : World) (s : Setting) (f : Following) (old new : Position) (tx : SeenTx) (call : Call) (reply : Reply) (claims : List Claim)
     (parts : Parts) (made : List Undo)
     → tx.phase ≡ Running → asks (walk_of s.script old) ≡ ask.Call call → IsSameBegin old new → walk_of s.script new ≡ answered (walk_of s.script old) reply
-    → IsReplyInTime tx.me tx.number call reply → is_built call ≡ true → parts.undo ≡ record tx.undo { pending = tx.undo.pending ++ made }
+    → IsReplyInTime tx.me tx.number call reply → parts.undo ≡ record tx.undo { pending = tx.undo.pending ++ made }
     → parts.me.stored ≤ 16384 → IsUnderway s f old tx → IsUnderway s f new (noting tx call reply claims parts)
-called_underway w s f old new tx call reply claims parts made runs asked same behind in_time built undo stored under =
+called_underway w s f old new tx call reply claims parts made runs asked same behind in_time undo stored under =
     let running = running_phase s f old tx runs under in
     let begin = walk_from s.script f.job in
     let is : asks (all_answered begin tx.replies) ≡ ask.Call call = ap asks (sym running.ahead) ∙ asked in
@@ -161,7 +172,6 @@ called_underway w s f old new tx call reply claims parts made runs asked same be
       standing = same_standing f old new same under.standing;
       asked = asks-more begin tx.calls tx.replies call reply under.asked is;
       kept = late-more w tx.me tx.number tx.late tx.calls tx.replies call reply in_time (asks-count begin tx.calls tx.replies under.asked) under.kept;
-      built = built-more tx.calls call under.built built;
       stored = stored;
       phase = subst (IsInPhase s f new (noting tx call reply claims parts)) (sym runs) phase;
     }
@@ -182,13 +192,31 @@ back_underway s f old new tx c undo held ended runs same caused under =
       standing = same_standing f old new same.begin under.standing;
       asked = under.asked;
       kept = under.kept;
-      built = under.built;
       stored = under.stored;
       phase = record {
         caused = caused (ap asks (sym running.ahead));
         legal = subst (λ ends. AreLegal s.rules.undo_tries (length undo.pending + 1) ends) (sym (ended ∙ running.none)) tt;
         no_ends = running.no_ends;
       };
+    }
+
+-- passed silent statements at most
+pub same_underway : (s : Setting) (f : Following) (old new : Position) (tx : SeenTx) → tx.phase ≡ Running → IsSamePosition s old new
+    → IsUnderway s f old tx → IsUnderway s f new tx
+same_underway s f old new tx runs same under =
+    let running = running_phase s f old tx runs under in
+    let phase : IsRunning s f new tx = record { ahead = same.walk ∙ running.ahead; none = running.none; no_ends = running.no_ends } in
+    record {
+      goes_on = under.goes_on;
+      left = under.left;
+      attempts = under.attempts;
+      rank = under.rank;
+      since = under.since;
+      standing = same_standing f old new same.begin under.standing;
+      asked = under.asked;
+      kept = under.kept;
+      stored = under.stored;
+      phase = subst (IsInPhase s f new tx) (sym runs) phase;
     }
 
 -- over to its commit
@@ -205,7 +233,6 @@ commits_underway s f old new tx runs same settled asked under =
       standing = same_standing f old new same.begin under.standing;
       asked = under.asked;
       kept = under.kept;
-      built = under.built;
       stored = under.stored;
       phase = record {
         ahead = same.walk ∙ running.ahead;
@@ -238,7 +265,6 @@ ended_underway s f place tx end commits some under =
       standing = under.standing;
       asked = under.asked;
       kept = under.kept;
-      built = under.built;
       stored = under.stored;
       phase = subst (IsInPhase s f place next) (sym commits) phase;
     }
@@ -265,7 +291,6 @@ tried_underway s f place tx c older u end undoes newest legal under =
       standing = under.standing;
       asked = under.asked;
       kept = under.kept;
-      built = under.built;
       stored = under.stored;
       phase = subst (IsInPhase s f place next) (sym undoes) phase;
     }

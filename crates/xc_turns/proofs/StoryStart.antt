@@ -1,12 +1,13 @@
 -- Before the first turn all is true that is true between two turns.
-use Rattle.std.proofs.Common.{◌≡◌, ℕ, ◌+◌, ◌≤◌, List, [], ◌∷◌, length, map, zero, suc, refl, sym, ◌∙◌, subst, arith}
-use Rattle.std.specs.Prelude.{get_or, slice_get, sum_by}
+use Rattle.std.proofs.Common.{◌≡◌, ℕ, ◌+◌, ◌≤◌, List, [], ◌∷◌, length, map, zero, suc, refl, ap, sym, ◌∙◌, subst, arith}
+use Rattle.std.specs.Prelude.{Option, get_or, slice_get, sum_by}
 use Rattle.std.specs.declared.option.Option.TheVariants.{None, Some}
 use Rattle.std.proofs.lemmas.List.{length-map}
 use Rattle.std.proofs.lemmas.List.Sorted.{IsPermutation-refl}
 use Rattle.xc_data.specs.Counts.{CountsFaults}
 use Rattle.xc_text.specs.declared.script.Script.{Script}
 use Rattle.xc_script.specs.Ask.{block_place, fresh_job}
+use Rattle.xc_data.specs.declared.entry.Mark.{Mark}
 use Rattle.xc_story.specs.Setting.{Setting}
 use Rattle.xc_story.specs.Grounds.{Part}
 use Rattle.xc_story.specs.Progress.{Following, progress_of, untried}
@@ -17,6 +18,7 @@ use Rattle.xc_story.specs.Opened.{IsOpening, opened_job}
 use Rattle.xc_story.specs.Seen.{SeenTx, SeenJob, Now, actives}
 use Rattle.xc_story.specs.Spoken.{AreSpoken}
 use Rattle.xc_story.specs.Told.{AreBegins, AreTold, IsJobTold, active_begin, active_parts}
+use Rattle.xc_story.specs.Started.{starting}
 use Rattle.xc_turns.proofs.Jobs.{none_active, opened_rests}
 
 -- a job of a script that hasn't begun
@@ -51,14 +53,14 @@ opened_told s begun entered (name ∷ names) zero f job got_f got =
 opened_told s begun entered (name ∷ names) (suc at) f job got_f got = opened_told s begun entered names at f job got_f got
 
 -- no conflict has to be grounded
-none_wanted : (s : Setting) (words number : ℕ) (fs : List Following) (names : List (List ℕ)) (j : ℕ) (e : Part)
-    → get_or (active_parts s words number fs (opened_jobs s.script names)) j None ≡ Some e → ⊥
-none_wanted s words number [] [] j e got = cc
-none_wanted s words number (f ∷ fs) [] j e got = cc
-none_wanted s words number [] (name ∷ names) zero e got = cc
-none_wanted s words number [] (name ∷ names) (suc j) e got = none_wanted s words (number + 1) [] names j e got
-none_wanted s words number (f ∷ fs) (name ∷ names) zero e got = cc
-none_wanted s words number (f ∷ fs) (name ∷ names) (suc j) e got = none_wanted s words (number + 1) fs names j e got
+none_wanted : (s : Setting) (words : ℕ) (marks : ℕ → Option Mark) (number : ℕ) (fs : List Following) (names : List (List ℕ)) (j : ℕ) (e : Part)
+    → get_or (active_parts s words marks number fs (opened_jobs s.script names)) j None ≡ Some e → ⊥
+none_wanted s words marks number [] [] j e got = cc
+none_wanted s words marks number (f ∷ fs) [] j e got = cc
+none_wanted s words marks number [] (name ∷ names) zero e got = cc
+none_wanted s words marks number [] (name ∷ names) (suc j) e got = none_wanted s words marks (number + 1) [] names j e got
+none_wanted s words marks number (f ∷ fs) (name ∷ names) zero e got = cc
+none_wanted s words marks number (f ∷ fs) (name ∷ names) (suc j) e got = none_wanted s words marks (number + 1) fs names j e got
 
 none_begun : AreBegins [] []
 none_begun =
@@ -68,8 +70,8 @@ none_begun =
       by_now = λ a in_a. absurd (let none = in_a.1 in omega arith);
     }
 
-start_told : (s : Setting) (words : ℕ) → AreTold s words [] (opened_jobs s.script s.script.outline.jobs)
-start_told s words =
+start_told : (s : Setting) (words : ℕ) (marks : ℕ → Option Mark) → AreTold s words marks [] (opened_jobs s.script s.script.outline.jobs)
+start_told s words marks =
     let names = s.script.outline.jobs in
     let jobs = opened_jobs s.script names in
     record {
@@ -80,7 +82,7 @@ start_told s words =
       few = subst (λ (txs : List SeenTx). 0 + length txs ≤ 10000) (sym (none_opened s.script names)) (omega arith);
       grounded = record {
         entries = λ i e got. cc;
-        actives = λ j e got. absurd (none_wanted s words 1 (progress_of s.script []).jobs names j e got);
+        actives = λ j e got. absurd (none_wanted s words marks 1 (progress_of s.script []).jobs names j e got);
       };
     }
 
@@ -104,16 +106,24 @@ start_counted : (script : Script) (names : List (List ℕ)) (faults : ℕ) → C
 start_counted script names faults =
     subst (λ (txs : List SeenTx). CountsFaults (0 + sum_by tx_faults txs) faults faults) (sym (none_opened script names)) refl
 
+start_started : (script : Script) (names : List (List ℕ))
+    → length names ≡ length (opened_jobs script names) + sum_by starting (actives (opened_jobs script names))
+start_started script names =
+    let none = ap (sum_by starting) (none_opened script names) in
+    let many : length (opened_jobs script names) ≡ length names = length-map names (opened_job script) in
+    omega (arith, none, many)
+
 -- a start keeps all
-pub start_kept : (s : Setting) (now : Now) → IsOpening s.script now → IsKept s now.faults now
-start_kept s now opening =
+pub start_kept : (s : Setting) (now : Now) → length s.script.outline.jobs ≤ 1000 → IsOpening s.script now → IsKept s now.faults now
+start_kept s now few opening =
     let names = s.script.outline.jobs in
-    let first : Now = record now { words = s.script.outline.words; journal = []; jobs = opened_jobs s.script names } in
-    let same : now ≡ first = λ i. record now { words = opening.words i; journal = opening.journal i; jobs = opening.jobs i } in
+    let first : Now = record now { words = s.script.outline.words; journal = []; jobs = opened_jobs s.script names; started = names } in
+    let same : now ≡ first = λ i. record now { words = opening.words i; journal = opening.journal i; jobs = opening.jobs i; started = opening.started i } in
     let kept : IsKept s now.faults first = record {
-      told = start_told s (length s.script.outline.words);
+      told = start_told s (length s.script.outline.words) now.marks;
       spoken = start_spoken s.script names s.script.outline.words;
       apart = start_apart s.script names;
       counted = start_counted s.script names now.faults;
+      started = record { count = start_started s.script names; few = few };
     } in
     subst (IsKept s now.faults) (sym same) kept

@@ -1,7 +1,7 @@
 -- Each turn goes on with the stories of all jobs.
 use Rattle.std.proofs.Common.{◌≡◌, inl, inr, ℕ, ◌+◌, ◌≤◌, IsTrue, List, [], ◌∷◌, ◌++◌, length, refl, ap, sym, ◌∙◌, subst, arith}
-use Rattle.std.specs.Prelude.{slice_get, slice_set}
-use Rattle.std.specs.declared.option.Option.TheVariants.{Some}
+use Rattle.std.specs.Prelude.{Option, slice_get, slice_set}
+use Rattle.std.specs.declared.option.Option.TheVariants.{None, Some}
 use Rattle.std.specs.Option.{option_map}
 use Rattle.xc_data.specs.declared.call.Call.{Call}
 use Rattle.xc_data.specs.declared.call.LateCall.{LateCall}
@@ -13,19 +13,23 @@ use Rattle.xc_data.specs.declared.entry.JobEnd.TheVariants as job_end
 use Rattle.xc_data.specs.declared.entry.Outcome.TheVariants.{Committed}
 use Rattle.xc_data.specs.declared.entry.Turn.{Turn}
 use Rattle.xc_data.specs.declared.entry.Turn.TheVariants as turn
+use Rattle.xc_data.specs.declared.object.Object.{Object}
 use Rattle.xc_data.specs.declared.undo.Undo.{Undo}
 use Rattle.xc_host.specs.Contents.{world_of}
 use Rattle.xc_script.specs.declared.ask.Ask.{Ask}
 use Rattle.xc_script.specs.declared.ask.Ask.TheVariants as ask
 use Rattle.xc_script.specs.Position.{Position, is_call}
+use Rattle.xc_data.specs.declared.entry.Mark.{Mark}
 use Rattle.xc_story.specs.declared.phase.Phase.{Phase}
 use Rattle.xc_story.specs.declared.phase.Phase.TheVariants.{Running, Committing, Undoing}
 use Rattle.xc_story.specs.Setting.{Setting}
 use Rattle.xc_story.specs.WordCalls.{AreWordReplies}
 use Rattle.xc_story.specs.Progress.{Following, following_abort, progress_of}
-use Rattle.xc_story.specs.Seen.{SeenTx, SeenJob, Doing, Idle, Active, Starved, Ended, Now, active_in, begun_count, late_left, rank_of}
+use Rattle.xc_story.specs.Seen.{SeenTx, SeenJob, Doing, Idle, Active, Starved, Ended, Now, active_in, begun_count, late_left, rank_of, revoked, waiting}
 use Rattle.xc_story.specs.Rows.{ActiveTurn, AskedTurn, BackTurn, Calls, Commits, Compensates, Conflicts, IdleTurn, IsActiveAt, IsEnding, IsReady, IsTurn}
-use Rattle.xc_story.specs.Rows.{EndsLate, LateTurn, StarvedTurn, TurnOf, TurnsBack, Wants, asked_at, behind_abort, behind_commit, beginning_job}
+use Rattle.xc_story.specs.Rows.{MarkedTurn, Revokes, RunningTurn, Waits}
+use Rattle.xc_story.specs.Rows.{LateTurn, NextLate, started_job, started_jobs, StarvedTurn, TurnOf, TurnsBack, Wants, asked_at, behind_abort}
+use Rattle.xc_story.specs.Rows.{behind_commit, beginning_job}
 use Rattle.xc_story.specs.Rows.{claims_at, entry_of, new_tx, noting, wanting, with_tx}
 use Rattle.xc_story.specs.Grounds.{AreGrounded}
 use Rattle.xc_story.specs.Truth.{parts_of}
@@ -38,10 +42,16 @@ use Rattle.xc_turns.proofs.Progressing.{entered-all}
 use Rattle.xc_turns.proofs.StoryBegins.{active_begun}
 use Rattle.xc_turns.proofs.StoryJobs.{AreToldBut, begins_in, goes_on, told_but, told_whole}
 use Rattle.xc_turns.proofs.StoryRows.{active_told, back_underway, begun_told, called_underway, commits_underway, ended_told, ended_underway, starved_told}
-use Rattle.xc_turns.proofs.StoryRows.{tried_underway}
+use Rattle.xc_turns.proofs.StoryRows.{same_underway, tried_underway, waiting_told}
 use Rattle.xc_turns.proofs.LateCounts.{left_some}
-use Rattle.xc_turns.proofs.StoryEntries.{abort_leads, abort_true, aborted_by, commit_leads, commit_true, gone_on}
-use Rattle.xc_turns.proofs.StoryEnds.{aborted_told, committed_told, enters}
+use Rattle.xc_turns.proofs.StoryEntries.{started_on, abort_leads, abort_true, aborted_by, commit_leads, commit_true, gone_on}
+use Rattle.std.proofs.Common.{append-nil}
+use Rattle.std.proofs.lemmas.List.{length-map}
+use Rattle.xc_story.specs.LateCalls.{started_late}
+use Rattle.xc_story.specs.Progress.{committed_job, started_job as progress_started}
+use Rattle.xc_turns.proofs.Grown.{started_idle}
+use Rattle.xc_turns.proofs.LateEnds.{next_ends}
+use Rattle.xc_turns.proofs.StoryEnds.{started_told, aborted_told, committed_told, enters}
 
 -- the same journal and jobs
 told_as : (s : Setting) (journal journal' : List Entry) (jobs jobs' : List SeenJob) → journal' ≡ journal → jobs' ≡ jobs → AreToldBut s journal jobs
@@ -80,7 +90,10 @@ module _ (s : Setting) (at : ℕ) (old new : Now) (job : SeenJob) (b : Before s 
   idle_row : (answer : Turn) → job.doing ≡ Idle → IdleTurn s at old job answer new → After
   idle_row (turn.Ended end) idle row = ended_row end idle row.0 (ap (λ (n : Now). n.journal) row.1) (ap (λ (n : Now). n.jobs) row.1)
   idle_row turn.Went idle row = begun_row idle row.0 (ap (λ (n : Now). n.journal) row.1) (ap (λ (n : Now). n.jobs) row.1)
-  idle_row (turn.Busy object holder) idle row = absurd row
+  idle_row (turn.Busy object number) idle row =
+      told_as s old.journal new.journal (slice_set old.jobs at (waiting job)) new.jobs (ap (λ (n : Now). n.journal) row.1) (ap (λ (n : Now). n.jobs) row.1)
+      (goes_on s old.journal old.jobs at job (waiting job) b.stands refl
+      (λ f told. waiting_told s (begun_count old) (length old.journal) f job told) b.told)
   idle_row turn.NoMemory idle row = absurd row
 
   starved_row : (answer : Turn) → job.doing ≡ Starved → StarvedTurn at old job answer new → After
@@ -111,8 +124,8 @@ module _ (s : Setting) (at : ℕ) (old new : Now) (job : SeenJob) (b : Before s 
   called_row tx call active runs asked row =
       active_row row.place tx (noting tx call row.reply (claims_at old tx call) row.parts) active refl
       (λ f under. called_underway (world_of old.contents) s f job.place row.place tx call row.reply (claims_at old tx call) row.parts row.made runs asked
-      row.begin row.walk row.in_time row.built row.undo row.stored under)
-      row.journal row.jobs
+      row.begin row.walk row.in_time row.undo row.stored under)
+      (ap (λ (n : Now). n.journal) row.behind) (ap (λ (n : Now). n.jobs) row.behind)
 
   conflict_row : (tx : SeenTx) (call : Call) → job.doing ≡ Active tx → tx.phase ≡ Running → asked_at s job.place ≡ ask.Call call
       → Conflicts s at old job tx call new → After
@@ -121,6 +134,24 @@ module _ (s : Setting) (at : ℕ) (old new : Now) (job : SeenJob) (b : Before s 
       active_row row.place tx (record tx { phase = Undoing c }) active refl
       (λ f under. back_underway s f job.place row.place tx c tx.undo tx.held refl runs row.same (λ next. ap is_call (next ∙ asked)) under)
       (ap (λ (n : Now). n.journal) row.behind) (ap (λ (n : Now). n.jobs) row.behind)
+
+  -- it is told to wait
+  waits_row : (tx : SeenTx) (object : Object) (holder : ℕ) → job.doing ≡ Active tx → tx.phase ≡ Running → Waits s at old job tx object holder new → After
+  waits_row tx object holder active runs row =
+      let next : SeenJob = with_tx job row.place tx in
+      told_as s old.journal new.journal (slice_set old.jobs at (waiting next)) new.jobs (ap (λ (n : Now). n.journal) row.behind)
+      (ap (λ (n : Now). n.jobs) row.behind)
+      (goes_on s old.journal old.jobs at job (waiting next) b.stands (ap (option_map active_begin) (sym (ap active_in active)))
+      (λ f told. waiting_told s (begun_count old) (length old.journal) f next
+      (active_told s (begun_count old) (length old.journal) f job row.place tx tx active (same_underway s f job.place row.place tx runs row.same) told)) b.told)
+
+  -- it is revoked
+  revoked_row : (tx : SeenTx) (m : Mark) → job.doing ≡ Active tx → tx.phase ≡ Running → Revokes s at old job tx m new → After
+  revoked_row tx m active runs row =
+      active_row job.place tx (record tx { phase = Undoing (revoked m) }) active refl
+      (λ f under. back_underway s f job.place job.place tx (revoked m) tx.undo tx.held refl runs
+      (record { begin = record { block = refl; next = refl; begun = refl }; walk = refl; at = omega arith }) (λ next. tt) under)
+      (ap (λ (n : Now). n.journal) row) (ap (λ (n : Now). n.jobs) row)
 
   commits_row : (tx : SeenTx) → job.doing ≡ Active tx → tx.phase ≡ Running → asked_at s job.place ≡ ask.Commit → Commits s at old job tx new → After
   commits_row tx active runs asked row =
@@ -138,18 +169,21 @@ module _ (s : Setting) (at : ℕ) (old new : Now) (job : SeenJob) (b : Before s 
   wants_row tx active runs row =
       let next = wanting tx row.left row.held in
       active_row row.place tx next active refl
-      (λ f under. back_underway s f job.place row.place tx cause.NoMemory next.undo row.held refl runs row.same (λ asked. tt) under) row.journal row.jobs
+      (λ f under. back_underway s f job.place row.place tx cause.NoMemory next.undo row.held refl runs row.same (λ asked. tt) under)
+      (ap (λ (n : Now). n.journal) row.behind) (ap (λ (n : Now). n.jobs) row.behind)
 
   late_row : (tx : SeenTx) (call : LateCall) (calls : List LateCall) → job.doing ≡ Active tx → tx.phase ≡ Committing → late_left tx ≡ call ∷ calls
-      → EndsLate s at old job tx call new → After
-  late_row tx call calls active commits some row =
+      → NextLate s at old job tx call new → After
+  late_row tx call calls active commits some next =
+      let row = next_ends s at old job tx new call next in
       active_row job.place tx (record tx { ends = tx.ends ++ row.end ∷ [] }) active refl
       (λ f under. ended_underway s f job.place tx row.end commits (left_some tx.late tx.ends call calls some) under) row.journal row.jobs
 
   tried_row : (tx : SeenTx) (c : Cause) → job.doing ≡ Active tx → tx.phase ≡ Undoing c → Compensates s at old job tx new → After
   tried_row tx c active undoes row =
       active_row job.place tx (record tx { undo = record { pending = row.older; ended = (row.tried, row.end) ∷ tx.undo.ended } }) active refl
-      (λ f under. tried_underway s f job.place tx c row.older row.tried row.end undoes row.newest row.legal under) row.journal row.jobs
+      (λ f under. tried_underway s f job.place tx c row.older row.tried row.end undoes row.newest row.legal under) (ap (λ (n : Now). n.journal) row.behind)
+      (ap (λ (n : Now). n.jobs) row.behind)
 
   asked_row : (tx : SeenTx) (a : Ask) → job.doing ≡ Active tx → tx.phase ≡ Running → asked_at s job.place ≡ a → AskedTurn s at old job tx a new → After
   asked_row tx (ask.Call call) active runs asked (inl row) = called_row tx call active runs asked row
@@ -157,6 +191,19 @@ module _ (s : Setting) (at : ℕ) (old new : Now) (job : SeenJob) (b : Before s 
   asked_row tx ask.Commit active runs asked row = commits_row tx active runs asked row
   asked_row tx ask.Abort active runs asked row = turned_row tx active runs asked row
   asked_row tx ask.End active runs asked row = absurd row
+
+  running_row : (tx : SeenTx) (answer : Turn) → job.doing ≡ Active tx → tx.phase ≡ Running → RunningTurn s at old job tx answer new → After
+  running_row tx turn.Went active is row = asked_row tx (asked_at s job.place) active is refl row
+  running_row tx turn.NoMemory active is row = wants_row tx active is row
+  running_row tx (turn.Busy object holder) active is row = waits_row tx object holder active is row
+  running_row tx (turn.Ended end) active is row = absurd row
+
+  marked_row : (tx : SeenTx) (m : Option Mark) (answer : Turn) → job.doing ≡ Active tx → tx.phase ≡ Running → MarkedTurn s at old job tx m answer new → After
+  marked_row tx None answer active is row = running_row tx answer active is row
+  marked_row tx (Some m) turn.Went active is row = revoked_row tx m active is row
+  marked_row tx (Some m) turn.NoMemory active is row = absurd row
+  marked_row tx (Some m) (turn.Busy object holder) active is row = absurd row
+  marked_row tx (Some m) (turn.Ended end) active is row = absurd row
 
   -- ---- a transaction that enters
   -- it is active
@@ -178,23 +225,32 @@ module _ (s : Setting) (at : ℕ) (old new : Now) (job : SeenJob) (b : Before s 
   follows = get_beside (progress_of s.script old.journal).jobs old.jobs at job b.told.count b.stands
 
   commit_row : (tx : SeenTx) → job.doing ≡ Active tx → tx.phase ≡ Committing → late_left tx ≡ []
-      → new.journal ≡ old.journal ++ entry_of tx at (Committed tx.ends) ∷ [] → new.jobs ≡ slice_set old.jobs at (behind_commit job tx) → After
+      → new.journal ≡ old.journal ++ entry_of tx at (Committed tx.ends) ∷ [] → new.jobs ≡ slice_set old.jobs at (behind_commit job tx) ++ started_jobs
+      s.script job tx → After
   commit_row tx active commits none journal jobs =
       let p = progress_of s.script old.journal in
       let e = entry_of tx at (Committed tx.ends) in
       let (f, got) = follows in
       let told = b.told.jobs_told at f job got b.stands in
       let under : IsUnderway s f job.place tx = subst (IsDoing s (begun_count old) f job) active told.doing in
-      told_as s (old.journal ++ e ∷ []) new.journal (slice_set old.jobs at (behind_commit job tx)) new.jobs journal jobs
-      (enters s old.journal old.jobs at job (behind_commit job tx) tx e f (gone_on s.script p.entered f tx) b.stands
-      (ap active_in active) refl refl got (commit_leads s.script p f at tx got under.built)
+      let starter = committed_job s.script f.job tx.calls tx.replies tx.ends in
+      let blocks = started_late tx.late tx.ends in
+      let gone = committed_told s (begun_count old) (length old.journal) p.entered f job tx active commits (entered-all s.script old.journal) told in
+      let variables : (behind_commit job tx).place.variables ≡ starter.variables = ap (λ (place : Position). place.variables) gone.doing.1 in
+      told_as s (old.journal ++ e ∷ []) new.journal (slice_set old.jobs at (behind_commit job tx) ++ started_jobs s.script job tx) new.jobs journal jobs
+      (enters s old.journal old.jobs (started_jobs s.script job tx) at job (behind_commit job tx) tx e f (gone_on s.script p.entered f tx)
+      (started_on s.script p.entered f tx) b.stands
+      (ap active_in active) refl refl got (commit_leads s.script p f at tx got under.kept)
+      (length-map blocks (progress_started s.script starter (p.entered + 1)) ∙ sym (length-map blocks (started_job s.script (behind_commit job tx))))
+      (started_idle s.script (behind_commit job tx) blocks)
+      (started_told s (begun_count old) (length old.journal) p.entered starter (behind_commit job tx) blocks (entered-all s.script old.journal) refl variables)
       (commit_true s (length old.words) p f at job.place tx got commits none under (began_by_now tx active) (replies_said tx active)
       (λ t. b.played t tx (is_active tx active)))
-      (committed_told s (begun_count old) (length old.journal) p.entered f job tx active commits (entered-all s.script old.journal) told) b.told)
+      gone b.told)
 
   left_row : (tx : SeenTx) (calls : List LateCall) → job.doing ≡ Active tx → tx.phase ≡ Committing → late_left tx ≡ calls
       → LateTurn s at old job tx calls new → After
-  left_row tx [] active commits none row = commit_row tx active commits none (ap (λ (n : Now). n.journal) row) (ap (λ (n : Now). n.jobs) row)
+  left_row tx [] active commits none row = commit_row tx active commits none (ap (λ (n : Now). n.journal) row.0) (ap (λ (n : Now). n.jobs) row.0)
   left_row tx (call ∷ calls) active commits some row = late_row tx call calls active commits some row
 
   abort_row : (tx : SeenTx) (c : Cause) → job.doing ≡ Active tx → tx.phase ≡ Undoing c → tx.undo.pending ≡ []
@@ -205,24 +261,24 @@ module _ (s : Setting) (at : ℕ) (old new : Now) (job : SeenJob) (b : Before s 
       let (f, got) = follows in
       let told = b.told.jobs_told at f job got b.stands in
       let under : IsUnderway s f job.place tx = subst (IsDoing s (begun_count old) f job) active told.doing in
+      let nil = append-nil (slice_set old.jobs at (behind_abort job tx c)) in
       told_as s (old.journal ++ e ∷ []) new.journal (slice_set old.jobs at (behind_abort job tx c)) new.jobs journal jobs
-      (enters s old.journal old.jobs at job (behind_abort job tx c) tx e f (following_abort p.entered f e c) b.stands
-      (ap active_in active) (behind_abort_none job tx c) refl got (abort_leads s.script p f at tx c got)
+      (subst (λ js. AreToldBut s (old.journal ++ e ∷ []) js) nil (enters s old.journal old.jobs [] at job (behind_abort job tx c) tx e f
+      (following_abort p.entered f e c) [] b.stands
+      (ap active_in active) (behind_abort_none job tx c) refl got
+      (abort_leads s.script p f at tx c got ∙ sym (append-nil (slice_set p.jobs at (following_abort p.entered f e c)))) refl tt (λ j g other none. cc none)
       (abort_true s (length old.words) p f at job.place tx c got undoes none under (began_by_now tx active) (replies_said tx active)
       (λ t. b.played t tx (is_active tx active)))
-      (aborted_told s (begun_count old) (length old.journal) p.entered at f job tx c active (entered-all s.script old.journal) told) b.told)
+      (aborted_told s (begun_count old) (length old.journal) p.entered at f job tx c active (entered-all s.script old.journal) told) b.told))
 
   back_row : (tx : SeenTx) (c : Cause) (pending : List Undo) → job.doing ≡ Active tx → tx.phase ≡ Undoing c → tx.undo.pending ≡ pending
       → BackTurn s at old job tx c pending new → After
-  back_row tx c [] active undoes none row = abort_row tx c active undoes none (ap (λ (n : Now). n.journal) row) (ap (λ (n : Now). n.jobs) row)
+  back_row tx c [] active undoes none row = abort_row tx c active undoes none (ap (λ (n : Now). n.journal) row.behind) (ap (λ (n : Now). n.jobs) row.behind)
   back_row tx c (u ∷ pending) active undoes some row = tried_row tx c active undoes row
 
   -- ---- all rows
   phase_row : (tx : SeenTx) (phase : Phase) (answer : Turn) → job.doing ≡ Active tx → tx.phase ≡ phase → ActiveTurn s at old job tx phase answer new → After
-  phase_row tx Running turn.Went active is row = asked_row tx (asked_at s job.place) active is refl row
-  phase_row tx Running turn.NoMemory active is row = wants_row tx active is row
-  phase_row tx Running (turn.Busy object holder) active is row = absurd row
-  phase_row tx Running (turn.Ended end) active is row = absurd row
+  phase_row tx Running answer active is row = marked_row tx (old.marks tx.number) answer active is row
   phase_row tx Committing turn.Went active is row = left_row tx (late_left tx) active is refl row
   phase_row tx Committing turn.NoMemory active is row = absurd row
   phase_row tx Committing (turn.Busy object holder) active is row = absurd row
@@ -251,9 +307,9 @@ turn_told s at old new answer turned spoken played told =
 pub a_turn_keeps_the_stories_but : (s : Setting) (at : ℕ) (old new : Now) (answer : Turn) → IsTurn s at old answer new
     → AreSpoken (progress_of s.script old.journal).words old.words old.jobs
     → (IsTrue s.tells → (tx : SeenTx) → IsActiveAt old.jobs at tx → IsPlayedSoFar s (length old.words) (progress_of s.script old.journal) at tx)
-    → AreTold s (length old.words) old.journal old.jobs
-    → AreGrounded s.tells (parts_of s new.journal) (active_parts s (length new.words) 1 (progress_of s.script new.journal).jobs new.jobs)
-    → AreTold s (length new.words) new.journal new.jobs
+    → AreTold s (length old.words) old.marks old.journal old.jobs
+    → AreGrounded s.tells (parts_of s new.journal) (active_parts s (length new.words) new.marks 1 (progress_of s.script new.journal).jobs new.jobs)
+    → AreTold s (length new.words) new.marks new.journal new.jobs
 a_turn_keeps_the_stories_but s at old new answer turned spoken played told grounded =
-    told_whole s (length new.words) new.journal new.jobs
-    (turn_told s at old new answer turned spoken played (told_but s (length old.words) old.journal old.jobs told)) grounded
+    told_whole s (length new.words) new.marks new.journal new.jobs
+    (turn_told s at old new answer turned spoken played (told_but s (length old.words) old.marks old.journal old.jobs told)) grounded

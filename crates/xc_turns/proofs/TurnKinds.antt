@@ -1,5 +1,5 @@
 -- What a turn changes of active transactions: of what they hold, and of why they undo.
-use Rattle.std.proofs.Common.{◌≡◌, ◌⊎◌, inl, inr, ℕ, List, [], ◌∷◌, ◌++◌, length, refl, ap, sym, ◌∙◌, subst}
+use Rattle.std.proofs.Common.{◌≡◌, ◌⊎◌, inl, inr, ℕ, ◌+◌, List, [], ◌∷◌, ◌++◌, length, refl, ap, sym, ◌∙◌, subst}
 use Rattle.std.specs.Prelude.{All, Option, slice_set}
 use Rattle.std.specs.declared.option.Option.TheVariants.{None, Some}
 use Rattle.xc_data.specs.Claims.{holding}
@@ -18,15 +18,22 @@ use Rattle.xc_data.specs.declared.undo.Undo.{Undo}
 use Rattle.xc_script.specs.declared.ask.Ask.{Ask}
 use Rattle.xc_script.specs.declared.ask.Ask.TheVariants as ask
 use Rattle.xc_txmem.proofs.Overlays.{overlay_count}
+use Rattle.xc_host.specs.Contents.{Contents}
+use Rattle.xc_data.specs.declared.entry.Mark.{Mark}
 use Rattle.xc_story.specs.declared.phase.Phase.{Phase}
 use Rattle.xc_story.specs.declared.phase.Phase.TheVariants.{Running, Committing, Undoing}
 use Rattle.xc_story.specs.Setting.{Setting}
-use Rattle.xc_story.specs.Seen.{SeenTx, SeenJob, Doing, Idle, Active, Starved, Ended, Now, active_in, active_of, entering, late_left}
+use Rattle.xc_story.specs.Seen.{SeenTx, SeenJob, Doing, Idle, Active, Starved, Ended, Now, active_in, active_of, begun_count, entering, late_left}
+use Rattle.xc_story.specs.Seen.{revoked, unmarked, waiting}
 use Rattle.xc_story.specs.Told.{cause_of_phase}
 use Rattle.xc_story.specs.Truth.{cause_in}
-use Rattle.xc_story.specs.Rows.{IsTurn, TurnOf, IdleTurn, StarvedTurn, ActiveTurn, RunningTurn, AskedTurn, CommittingTurn, UndoingTurn, BackTurn}
-use Rattle.xc_story.specs.Rows.{Calls, Conflicts, Commits, TurnsBack, Wants, HoldsWanting, LateTurn, EndsLate, Compensates}
+use Rattle.xc_story.specs.Rows.{IsTurn, TurnOf, IdleTurn, StarvedTurn, ActiveTurn, MarkedTurn, RunningTurn, AskedTurn, CommittingTurn, UndoingTurn, BackTurn}
+use Rattle.xc_story.specs.Rows.{Calls, Conflicts, Waits, Revokes, Commits, TurnsBack, Wants, HoldsWanting, LateTurn, Compensates, started_jobs}
 use Rattle.xc_story.specs.Rows.{HasNoRival, IsFirstMet, asked_at, claims_at, beginning_job, behind_commit, behind_abort, entry_of, noting, wanting, with_tx}
+use Rattle.xc_story.specs.LateCalls.{started_late}
+use Rattle.xc_turns.proofs.Grown.{AreIdle, started_idle}
+use Rattle.xc_turns.proofs.LateEnds.{Ends, next_ends}
+use Rattle.std.proofs.Common.{append-nil}
 use Rattle.xc_turns.proofs.Jobs.{behind_abort_none}
 
 -- ---- the kinds
@@ -40,10 +47,11 @@ pub record Rests (at : ℕ) (old : Now) (job : SeenJob) (new : Now) : Type 0 whe
   pub behind : SeenJob
   pub sets : Sets at old new behind
   pub journal : new.journal ≡ old.journal
+  pub marks : new.marks ≡ old.marks
   pub before : active_of job ≡ None
   pub after : active_of behind ≡ None
 
--- one begins: it holds nothing and doesn't undo
+-- one begins: it holds nothing, doesn't undo and isn't marked
 pub record Begins (at : ℕ) (old : Now) (job : SeenJob) (new : Now) : Type 0 where
   pub behind : SeenJob
   pub sets : Sets at old new behind
@@ -52,20 +60,38 @@ pub record Begins (at : ℕ) (old : Now) (job : SeenJob) (new : Now) : Type 0 wh
   pub tx : SeenTx
   pub after : active_of behind ≡ Some tx
   pub none : tx.held ≡ []
-  pub forward : cause_of_phase tx.phase ≡ None
+  pub running : tx.phase ≡ Running
+  pub number : tx.number ≡ begun_count old + 1
+  pub marks : new.marks ≡ unmarked old.marks tx.number
 
 -- what it holds stays, or claims come to it that nobody else holds against it
 abbrev pub HoldsOn : List SeenJob → ℕ → List Claim → List Claim → Type 0
 HoldsOn jobs at was held = (held ≡ was) ⊎ ((claims : List Claim) × All (HasNoRival jobs at) claims × (held ≡ holding was claims))
 
--- no conflict
+-- the call that it was asked is done: it holds what that claims
+pub record HoldsAsked (s : Setting) (old : Now) (job : SeenJob) (was tx : SeenTx) : Type 0 where
+  pub call : Call
+  pub asked : asked_at s job.place ≡ ask.Call call
+  pub running : was.phase ≡ Running
+  pub held : tx.held ≡ holding was.held (claims_at old was call)
+
+-- what it is asked stays, or the asked call is done
+abbrev pub AsksOn : Setting → Now → SeenJob → SeenTx → SeenTx → Type 0
+AsksOn s old job was tx = ((tx.me ≡ was.me) × (tx.replies ≡ was.replies)) ⊎ HoldsAsked s old job was tx
+
+-- no conflict and no revocation
 abbrev pub IsNoConflict : Option Cause → Type 0
 IsNoConflict (Some (cause.Conflict object holder at)) = ⊥
+IsNoConflict (Some (cause.Revoked object by at)) = ⊥
 IsNoConflict _ = Unit {0}
 
--- why it undoes stays, with all that it is judged by
-pub record IsSameCause (was tx : SeenTx) : Type 0 where
-  pub phase : tx.phase ≡ was.phase
+-- why it undoes, or is marked
+abbrev pub cause_on : Now → SeenTx → Option Cause
+cause_on now tx = cause_of_phase (now.marks tx.number) tx.phase
+
+-- that stays, with all that it is judged by
+pub record IsSameCause (old : Now) (was tx : SeenTx) : Type 0 where
+  pub cause : cause_on old tx ≡ cause_on old was
   pub me : tx.me ≡ was.me
   pub replies : tx.replies ≡ was.replies
 
@@ -83,8 +109,8 @@ pub record Meets (s : Setting) (at : ℕ) (old : Now) (job : SeenJob) (was tx : 
 
 -- it has the old cause, none that names a holder, or a new one that does
 pub data CauseOn (s : Setting) (at : ℕ) (old : Now) (job : SeenJob) (was tx : SeenTx) : Type 0 where
-  same : IsSameCause was tx → CauseOn s at old job was tx
-  free : IsNoConflict (cause_of_phase tx.phase) → CauseOn s at old job was tx
+  same : IsSameCause old was tx → CauseOn s at old job was tx
+  free : IsNoConflict (cause_on old tx) → CauseOn s at old job was tx
   meets : Meets s at old job was tx → CauseOn s at old job was tx
 
 -- an active transaction goes on
@@ -97,27 +123,68 @@ pub record Moves (s : Setting) (at : ℕ) (old : Now) (job : SeenJob) (new : Now
   pub before : active_of job ≡ Some was
   pub after : active_of behind ≡ Some tx
   pub number : tx.number ≡ was.number
+  pub rank : tx.rank ≡ was.rank
   pub began : tx.began ≡ was.began
   pub held : HoldsOn old.jobs at was.held tx.held
+  pub wants : AsksOn s old job was tx
   pub why : CauseOn s at old job was tx
+  pub marks : new.marks ≡ old.marks
 
--- an active transaction ends
-pub record Enters (at : ℕ) (old : Now) (job : SeenJob) (new : Now) : Type 0 where
+-- an active transaction stays as it is, and another one is marked
+pub record Stays (s : Setting) (at : ℕ) (old : Now) (job : SeenJob) (new : Now) : Type 0 where
   pub behind : SeenJob
   pub sets : Sets at old new behind
+  pub journal : new.journal ≡ old.journal
+  pub tx : SeenTx
+  pub before : active_of job ≡ Some tx
+  pub after : active_of behind ≡ Some tx
+  pub running : tx.phase ≡ Running
+  pub object : Object
+  pub holder : ℕ
+  pub waits : Waits s at old job tx object holder new
+
+-- an active transaction ends, and perhaps more jobs come
+pub record Enters (at : ℕ) (old : Now) (job : SeenJob) (new : Now) : Type 0 where
+  pub behind : SeenJob
+  pub more : List SeenJob
+  pub idle : AreIdle more
+  pub jobs : new.jobs ≡ slice_set old.jobs at behind ++ more
+  pub words : length new.words ≡ length old.words
   pub tx : SeenTx
   pub outcome : Outcome
   pub journal : new.journal ≡ old.journal ++ entry_of tx at outcome ∷ []
   pub before : active_of job ≡ Some tx
   pub after : active_of behind ≡ None
-  pub why : cause_in outcome ≡ cause_of_phase tx.phase
+  pub why : cause_in outcome ≡ cause_on old tx
+  pub marks : new.marks ≡ unmarked old.marks tx.number
 
 -- one of these
 pub data Kind (s : Setting) (at : ℕ) (old : Now) (job : SeenJob) (new : Now) : Type 0 where
   rests : Rests at old job new → Kind s at old job new
   begins : Begins at old job new → Kind s at old job new
   moves : Moves s at old job new → Kind s at old job new
+  stays : Stays s at old job new → Kind s at old job new
   enters : Enters at old job new → Kind s at old job new
+
+-- ---- causes by phase
+-- a running one without a mark has no cause
+no_cause : (m : Option Mark) (p : Phase) → m ≡ None → p ≡ Running → IsNoConflict (cause_of_phase m p)
+no_cause m p e f =
+    subst (λ n. IsNoConflict (cause_of_phase n p)) (sym e) (subst (λ q. IsNoConflict (cause_of_phase None q)) (sym f) tt)
+
+-- nor has one that commits or turns back by itself
+no_committing : (m : Option Mark) → IsNoConflict (cause_of_phase m Committing)
+no_committing None = tt
+no_committing (Some m) = tt
+
+committing_is : (m : Option Mark) → cause_of_phase m Committing ≡ None
+committing_is None = refl
+committing_is (Some m) = refl
+
+-- one that undoes has its own
+pub undoing_is : (m : Option Mark) (c : Cause) → cause_of_phase m (Undoing c) ≡ Some c
+undoing_is None c = refl
+undoing_is (Some m) c = refl
 
 -- ---- the rows
 module _ (s : Setting) (at : ℕ) (old : Now) (job : SeenJob) (new : Now) where
@@ -127,8 +194,18 @@ module _ (s : Setting) (at : ℕ) (old : Now) (job : SeenJob) (new : Now) where
         behind = record job { doing = Ended end };
         sets = record { jobs = ap (λ (n : Now). n.jobs) row.1; words = ap (λ (n : Now). length n.words) row.1 };
         journal = ap (λ (n : Now). n.journal) row.1;
+        marks = ap (λ (n : Now). n.marks) row.1;
         before = ap active_in e;
         after = refl;
+      })
+  idle_kind e (turn.Busy object number) row =
+      rests (record {
+        behind = waiting job;
+        sets = record { jobs = ap (λ (n : Now). n.jobs) row.1; words = ap (λ (n : Now). length n.words) row.1 };
+        journal = ap (λ (n : Now). n.journal) row.1;
+        marks = ap (λ (n : Now). n.marks) row.1;
+        before = ap active_in e;
+        after = ap active_in e;
       })
   idle_kind e turn.Went row =
       begins (record {
@@ -139,7 +216,9 @@ module _ (s : Setting) (at : ℕ) (old : Now) (job : SeenJob) (new : Now) where
         tx = _;
         after = refl;
         none = refl;
-        forward = refl;
+        running = refl;
+        number = refl;
+        marks = ap (λ (n : Now). n.marks) row.1;
       })
   idle_kind e _ row = absurd row
 
@@ -149,26 +228,31 @@ module _ (s : Setting) (at : ℕ) (old : Now) (job : SeenJob) (new : Now) where
         behind = record job { doing = Ended job_end.NoMemory };
         sets = record { jobs = ap (λ (n : Now). n.jobs) row; words = ap (λ (n : Now). length n.words) row };
         journal = ap (λ (n : Now). n.journal) row;
+        marks = ap (λ (n : Now). n.marks) row;
         before = ap active_in e;
         after = refl;
       })
   starved_kind e _ row = absurd row
 
   module _ (tx : SeenTx) (active : active_of job ≡ Some tx) where
-    calls_kind : (call : Call) → Calls s at old job tx call new → tx.phase ≡ Running → Kind s at old job new
-    calls_kind call row e =
+    calls_kind : (call : Call) → asked_at s job.place ≡ ask.Call call → Calls s at old job tx call new → tx.phase ≡ Running
+        → old.marks tx.number ≡ None → Kind s at old job new
+    calls_kind call asked row e free_of =
         moves (record {
           behind = with_tx job row.place (noting tx call row.reply (claims_at old tx call) row.parts);
-          sets = record { jobs = row.jobs; words = ap length row.words };
-          journal = row.journal;
+          sets = record { jobs = ap (λ (n : Now). n.jobs) row.behind; words = ap (λ (n : Now). length n.words) row.behind };
+          journal = ap (λ (n : Now). n.journal) row.behind;
           was = tx;
           tx = noting tx call row.reply (claims_at old tx call) row.parts;
           before = active;
           after = refl;
           number = refl;
+          rank = refl;
           began = refl;
           held = inr (claims_at old tx call, row.free, refl);
-          why = free (subst (λ (p : Phase). IsNoConflict (cause_of_phase p)) (sym e) tt);
+          wants = inr (record { call = call; asked = asked; running = e; held = refl });
+          why = free (no_cause (old.marks tx.number) tx.phase free_of e);
+          marks = ap (λ (n : Now). n.marks) row.behind;
         })
 
     conflict_kind : (call : Call) → asked_at s job.place ≡ ask.Call call → Conflicts s at old job tx call new → tx.phase ≡ Running → Kind s at old job new
@@ -183,8 +267,11 @@ module _ (s : Setting) (at : ℕ) (old : Now) (job : SeenJob) (new : Now) where
           before = active;
           after = refl;
           number = refl;
+          rank = refl;
           began = refl;
           held = inl refl;
+          wants = inl (refl, refl);
+          marks = ap (λ (n : Now). n.marks) row.behind;
           why = meets (record {
             call = call;
             asked = asked;
@@ -209,9 +296,54 @@ module _ (s : Setting) (at : ℕ) (old : Now) (job : SeenJob) (new : Now) where
           before = active;
           after = refl;
           number = refl;
+          rank = refl;
           began = refl;
           held = inl refl;
-          why = free tt;
+          wants = inl (refl, refl);
+          why = free (no_committing (old.marks tx.number));
+          marks = ap (λ (n : Now). n.marks) row.behind;
+        })
+
+    -- it is told to wait
+    waits_kind : (object : Object) (holder : ℕ) → Waits s at old job tx object holder new → tx.phase ≡ Running → Kind s at old job new
+    waits_kind object holder row e =
+        stays (record {
+          behind = waiting (with_tx job row.place tx);
+          sets = record { jobs = ap (λ (n : Now). n.jobs) row.behind; words = ap (λ (n : Now). length n.words) row.behind };
+          journal = ap (λ (n : Now). n.journal) row.behind;
+          tx = tx;
+          before = active;
+          after = refl;
+          running = e;
+          object = object;
+          holder = holder;
+          waits = row;
+        })
+
+    -- it is revoked, for the cause that it had
+    revokes_kind : (m : Mark) → Revokes s at old job tx m new → tx.phase ≡ Running → old.marks tx.number ≡ Some m → Kind s at old job new
+    revokes_kind m row e has =
+        let undoing : SeenTx = record tx { phase = Undoing (revoked m) } in
+        moves (record {
+          behind = with_tx job job.place undoing;
+          sets = record { jobs = ap (λ (n : Now). n.jobs) row; words = ap (λ (n : Now). length n.words) row };
+          journal = ap (λ (n : Now). n.journal) row;
+          was = tx;
+          tx = undoing;
+          before = active;
+          after = refl;
+          number = refl;
+          rank = refl;
+          began = refl;
+          held = inl refl;
+          wants = inl (refl, refl);
+          why = same (record {
+            cause = undoing_is (old.marks tx.number) (revoked m)
+                ∙ sym (ap (λ n. cause_of_phase n tx.phase) has ∙ ap (cause_of_phase (Some m)) e);
+            me = refl;
+            replies = refl;
+          });
+          marks = ap (λ (n : Now). n.marks) row;
         })
 
     turns_back_kind : TurnsBack s at old job tx new → Kind s at old job new
@@ -225,9 +357,12 @@ module _ (s : Setting) (at : ℕ) (old : Now) (job : SeenJob) (new : Now) where
           before = active;
           after = refl;
           number = refl;
+          rank = refl;
           began = refl;
           held = inl refl;
-          why = free tt;
+          wants = inl (refl, refl);
+          why = free (subst IsNoConflict (sym (undoing_is (old.marks tx.number) cause.Asked)) tt);
+          marks = ap (λ (n : Now). n.marks) row.behind;
         })
 
     wanting_held : (a : Ask) (left : List Undo) (held : List Claim) → HoldsWanting old at tx a left held → HoldsOn old.jobs at tx.held held
@@ -241,63 +376,84 @@ module _ (s : Setting) (at : ℕ) (old : Now) (job : SeenJob) (new : Now) where
     wants_kind row =
         moves (record {
           behind = with_tx job row.place (wanting tx row.left row.held);
-          sets = record { jobs = row.jobs; words = ap length row.words };
-          journal = row.journal;
+          sets = record { jobs = ap (λ (n : Now). n.jobs) row.behind; words = ap (λ (n : Now). length n.words) row.behind };
+          journal = ap (λ (n : Now). n.journal) row.behind;
           was = tx;
           tx = wanting tx row.left row.held;
           before = active;
           after = refl;
           number = refl;
+          rank = refl;
           began = refl;
           held = wanting_held (asked_at s job.place) row.left row.held row.holds;
-          why = free tt;
+          wants = inl (refl, refl);
+          why = free (subst IsNoConflict (sym (undoing_is (old.marks tx.number) cause.NoMemory)) tt);
+          marks = ap (λ (n : Now). n.marks) row.behind;
         })
 
-    asked_kind : (a : Ask) → asked_at s job.place ≡ a → AskedTurn s at old job tx a new → tx.phase ≡ Running → Kind s at old job new
-    asked_kind (ask.Call call) asked (inl row) e = calls_kind call row e
-    asked_kind (ask.Call call) asked (inr row) e = conflict_kind call asked row e
-    asked_kind ask.Commit asked row e = commits_kind row
-    asked_kind ask.Abort asked row e = turns_back_kind row
-    asked_kind ask.End asked row e = absurd row
+    asked_kind : (a : Ask) → asked_at s job.place ≡ a → AskedTurn s at old job tx a new → tx.phase ≡ Running
+        → old.marks tx.number ≡ None → Kind s at old job new
+    asked_kind (ask.Call call) asked (inl row) e free_of = calls_kind call asked row e free_of
+    asked_kind (ask.Call call) asked (inr row) e free_of = conflict_kind call asked row e
+    asked_kind ask.Commit asked row e free_of = commits_kind row
+    asked_kind ask.Abort asked row e free_of = turns_back_kind row
+    asked_kind ask.End asked row e free_of = absurd row
 
-    running_kind : (answer : Turn) → RunningTurn s at old job tx answer new → tx.phase ≡ Running → Kind s at old job new
-    running_kind turn.Went row e = asked_kind (asked_at s job.place) refl row e
-    running_kind turn.NoMemory row e = wants_kind row
-    running_kind _ row e = absurd row
+    running_kind : (answer : Turn) → RunningTurn s at old job tx answer new → tx.phase ≡ Running → old.marks tx.number ≡ None
+        → Kind s at old job new
+    running_kind turn.Went row e free_of = asked_kind (asked_at s job.place) refl row e free_of
+    running_kind (turn.Busy object holder) row e free_of = waits_kind object holder row e
+    running_kind turn.NoMemory row e free_of = wants_kind row
+    running_kind _ row e free_of = absurd row
+
+    marked_kind : (m : Option Mark) → old.marks tx.number ≡ m → (answer : Turn) → MarkedTurn s at old job tx m answer new → tx.phase ≡ Running
+        → Kind s at old job new
+    marked_kind None has answer row e = running_kind answer row e has
+    marked_kind (Some m) has turn.Went row e = revokes_kind m row e has
+    marked_kind (Some m) has _ row e = absurd row
 
     compensates_kind : Compensates s at old job tx new → Kind s at old job new
     compensates_kind row =
         let undone : SeenTx = record tx { undo = record { pending = row.older; ended = (row.tried, row.end) ∷ tx.undo.ended } } in
         moves (record {
           behind = with_tx job job.place undone;
-          sets = record { jobs = row.jobs; words = ap length row.words };
-          journal = row.journal;
+          sets = record { jobs = ap (λ (n : Now). n.jobs) row.behind; words = ap (λ (n : Now). length n.words) row.behind };
+          journal = ap (λ (n : Now). n.journal) row.behind;
           was = tx;
           tx = undone;
           before = active;
           after = refl;
           number = refl;
+          rank = refl;
           began = refl;
           held = inl refl;
-          why = same (record { phase = refl; me = refl; replies = refl });
+          wants = inl (refl, refl);
+          why = same (record { cause = refl; me = refl; replies = refl });
+          marks = ap (λ (n : Now). n.marks) row.behind;
         })
 
-    enters_kind : (behind : SeenJob) (outcome : Outcome) → new ≡ entering old at behind (entry_of tx at outcome) → active_of behind ≡ None
-        → cause_in outcome ≡ cause_of_phase tx.phase → Kind s at old job new
-    enters_kind behind outcome row after why =
+    enters_kind : (behind : SeenJob) (outcome : Outcome) (contents : Contents) (jobs_behind more : List SeenJob)
+        → new ≡ record (entering old at behind (entry_of tx at outcome)) { contents = contents; jobs = jobs_behind }
+        → jobs_behind ≡ slice_set old.jobs at behind ++ more → AreIdle more → active_of behind ≡ None
+        → cause_in outcome ≡ cause_on old tx → Kind s at old job new
+    enters_kind behind outcome contents jobs_behind more row jobs idle after why =
         enters (record {
           behind = behind;
-          sets = record { jobs = ap (λ (n : Now). n.jobs) row; words = ap (λ (n : Now). length n.words) row };
+          more = more;
+          idle = idle;
+          jobs = ap (λ (n : Now). n.jobs) row ∙ jobs;
+          words = ap (λ (n : Now). length n.words) row;
           tx = tx;
           outcome = outcome;
           journal = ap (λ (n : Now). n.journal) row;
           before = active;
           after = after;
           why = why;
+          marks = ap (λ (n : Now). n.marks) row;
         })
 
-    late_kind : (call : LateCall) → EndsLate s at old job tx call new → Kind s at old job new
-    late_kind call row =
+    late_kind : Ends at old job tx new → Kind s at old job new
+    late_kind row =
         let ended : SeenTx = record tx { ends = tx.ends ++ row.end ∷ [] } in
         moves (record {
           behind = with_tx job job.place ended;
@@ -308,14 +464,19 @@ module _ (s : Setting) (at : ℕ) (old : Now) (job : SeenJob) (new : Now) where
           before = active;
           after = refl;
           number = refl;
+          rank = refl;
           began = refl;
           held = inl refl;
-          why = same (record { phase = refl; me = refl; replies = refl });
+          wants = inl (refl, refl);
+          why = same (record { cause = refl; me = refl; replies = refl });
+          marks = row.marks;
         })
 
     left_kind : (calls : List LateCall) → LateTurn s at old job tx calls new → tx.phase ≡ Committing → Kind s at old job new
-    left_kind [] row e = enters_kind (behind_commit job tx) (Committed tx.ends) row refl (ap cause_of_phase (sym e))
-    left_kind (call ∷ calls) row e = late_kind call row
+    left_kind [] row e = enters_kind (behind_commit job tx) (Committed tx.ends) old.contents _ (started_jobs s.script job tx) row.0 refl
+        (started_idle s.script (behind_commit job tx) (started_late tx.late tx.ends)) refl
+        (sym (ap (cause_of_phase (old.marks tx.number)) e ∙ committing_is (old.marks tx.number)))
+    left_kind (call ∷ calls) row e = late_kind (next_ends s at old job tx new call row)
 
     committing_kind : (answer : Turn) → CommittingTurn s at old job tx answer new → tx.phase ≡ Committing → Kind s at old job new
     committing_kind turn.Went row e = left_kind (late_left tx) row e
@@ -323,8 +484,9 @@ module _ (s : Setting) (at : ℕ) (old : Now) (job : SeenJob) (new : Now) where
 
     back_kind : (c : Cause) (pending : List Undo) → BackTurn s at old job tx c pending new → tx.phase ≡ Undoing c → Kind s at old job new
     back_kind c [] row e =
-        enters_kind (behind_abort job tx c) (Aborted (record { cause = c; records = tx.undo.ended })) row (behind_abort_none job tx c)
-        (ap cause_of_phase (sym e))
+        enters_kind (behind_abort job tx c) (Aborted (record { cause = c; records = tx.undo.ended })) new.contents _ [] row.behind
+        (sym (append-nil (slice_set old.jobs at (behind_abort job tx c)))) tt (behind_abort_none job tx c)
+        (sym (ap (cause_of_phase (old.marks tx.number)) e ∙ undoing_is (old.marks tx.number) c))
     back_kind c (u ∷ pending) row e = compensates_kind row
 
     undoing_kind : (c : Cause) (answer : Turn) → UndoingTurn s at old job tx c answer new → tx.phase ≡ Undoing c → Kind s at old job new
@@ -332,7 +494,7 @@ module _ (s : Setting) (at : ℕ) (old : Now) (job : SeenJob) (new : Now) where
     undoing_kind c _ row e = absurd row
 
     active_kind : (phase : Phase) → tx.phase ≡ phase → (answer : Turn) → ActiveTurn s at old job tx phase answer new → Kind s at old job new
-    active_kind Running e answer row = running_kind answer row e
+    active_kind Running e answer row = marked_kind (old.marks tx.number) refl answer row e
     active_kind Committing e answer row = committing_kind answer row e
     active_kind (Undoing c) e answer row = undoing_kind c answer row e
 

@@ -9,5 +9,5 @@ ghost use Rattle.xc_story.specs.Counted.{AreCounted};
 /// A turn keeps the count of the host's faults that of the recorded ones.
 pub fn a_turn_keeps_the_count()
     ensures { (s : Setting) (at before : ℕ) (old new : Now) (answer : Turn) → IsTurn s at old answer new
-        → AreTold s (length old.words) old.journal old.jobs → AreCounted before old → AreCounted before new }
+        → AreTold s (length old.words) old.marks old.journal old.jobs → AreCounted before old → AreCounted before new }
 {}

@@ -11,9 +11,9 @@ ghost use Rattle.xc_story.specs.Ending.{AreEnds, IsComplete, all_done};
 
 /// Where each job has ended the journal is true, the words are its words, and each job has the end that its story has.
 pub fn where_all_have_ended_the_journal_is_true()
-    ensures journal { (s : Setting) (words : ℕ) (now : Now) (lines : List JobLine) → AreTold s words now.journal now.jobs
+    ensures journal { (s : Setting) (words : ℕ) (now : Now) (lines : List JobLine) → AreTold s words now.marks now.journal now.jobs
         → AreLinesOf now.jobs lines → IsTrueJournal s now.journal }
-    ensures ends { (s : Setting) (words : ℕ) (now : Now) (lines : List JobLine) → AreTold s words now.journal now.jobs
+    ensures ends { (s : Setting) (words : ℕ) (now : Now) (lines : List JobLine) → AreTold s words now.marks now.journal now.jobs
         → AreLinesOf now.jobs lines → AreEnds s (length now.journal) (progress_of s.script now.journal).jobs lines }
     ensures words { (before words : List ℕ) (jobs : List SeenJob) (lines : List JobLine) → AreSpoken before words jobs
         → AreLinesOf jobs lines → words ≡ before }

@@ -8,4 +8,6 @@ pub mod holding;
 pub mod measured;
 pub mod numbers;
 pub mod spoken;
+pub mod starting;
 pub mod stories;
+pub mod waiting;

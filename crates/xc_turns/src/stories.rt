@@ -1,4 +1,4 @@
-ghost use Rattle.std.specs.Prelude.{ℕ, length, true, IsTrue};
+ghost use Rattle.std.specs.Prelude.{ℕ, ◌≤◌, length, true, IsTrue};
 ghost use Rattle.xc_data.specs.declared.entry.Turn.{Turn};
 ghost use Rattle.xc_story.specs.Setting.{Setting};
 ghost use Rattle.xc_story.specs.Progress.{progress_of};
@@ -12,7 +12,7 @@ ghost use Rattle.xc_story.specs.Opened.{IsOpening};
 
 /// A start keeps what is true between two turns.
 pub fn a_start_is_kept()
-    ensures { (s : Setting) (now : Now) → IsOpening s.script now → IsKept s now.faults now }
+    ensures { (s : Setting) (now : Now) → length s.script.outline.jobs ≤ 1000 → IsOpening s.script now → IsKept s now.faults now }
 {}
 
 /// A turn keeps the stories of all jobs: the journal is true so far. Over a host that tells, what enters was played.
@@ -21,5 +21,5 @@ pub fn a_turn_keeps_the_stories()
         → AreSpoken (progress_of s.script old.journal).words old.words old.jobs
         → (IsTrue s.tells → (tx : SeenTx) → IsActiveAt old.jobs at tx
         → IsPlayedSoFar s (length old.words) (progress_of s.script old.journal) at tx)
-        → AreTold s (length old.words) old.journal old.jobs → AreTold s (length new.words) new.journal new.jobs }
+        → AreTold s (length old.words) old.marks old.journal old.jobs → AreTold s (length new.words) new.marks new.journal new.jobs }
 {}
