@@ -1,0 +1,5 @@
+pub mod Fronts
+pub mod Entering
+pub mod Sharing
+pub mod Passes
+pub mod Pairs

@@ -1,0 +1,65 @@
+-- What a pass keeps over an entering with one event, and over several.
+use Rattle.std.proofs.Common.{◌≡◌, ◌≢◌, ℕ, ◌+◌, ◌%◌, ◌^◌, ◌≤◌, ◌==◌, Bool, false, List, [], ◌++◌, Option, length, refl, sym, ap, ◌∙◌, subst}
+use Rattle.std.proofs.Common.{arith, append_assoc, if◌then◌else◌}
+use Rattle.std.proofs.lemmas.List.{append-nil}
+use Rattle.std.proofs.lemmas.Bool.{ne_eqb}
+use Rattle.xc_data.specs.declared.entry.Entry.{Entry}
+use Rattle.xc_data.specs.declared.entry.Event.{Event}
+use Rattle.xc_turnstile.specs.declared.view.View.{View}
+use Rattle.xc_turnstile.specs.Insides.{IsInside, IsNext, PassGoesOn, GainsEvent, Together}
+use Rattle.xc_turnstile.specs.Known.{Known}
+use Rattle.xc_turnstile.specs.Meanings.{Meaning}
+use Rattle.xc_turnstile.specs.Views.{BeginsWith, added, entered_view, event_of, left_view}
+use Rattle.xc_turnstile.proofs.Fronts.{starts_self, starts_trans}
+
+-- one more, modulo 2^64, is another number
+counts_on : (n : ℕ) → (n + 1) % 2 ^ 64 ≢ n
+counts_on n e = omega (arith, e)
+
+-- an event leads on from what was handed out
+module _ {X : Type 0} (m : Meaning X) (pass hold : Known) (x y : X) (event : Event) (inside : IsInside m pass hold x) (next : IsNext m x y event) where
+  -- the pass behind a leaving with y
+  pub gains : (left : Known) → left.table ≡ hold.table → left.view ≡ left_view (m.journal y) (m.count y) (m.last y) hold.view → GainsEvent pass left event
+  gains left table view =
+      let was : left.view ≡ left_view (m.journal y) (m.count y) (m.last y)
+      (entered_view (m.journal x) (m.count x) (record pass.view { lost = inside.lost })) =
+      view ∙ ap (left_view (m.journal y) (m.count y) (m.last y)) inside.view in
+      let new : (m.count y == m.count x) ≡ false = ne_eqb (m.count y) (m.count x) (λ e. counts_on (m.count x) (sym next.count ∙ e)) in
+      record {
+        goes = record {
+          table = table ∙ inside.table;
+          shares = ap (λ (v : View). v.shares) was;
+          origin = ap (λ (v : View). v.origin) was;
+          seen = subst (λ (es : List Entry). BeginsWith es pass.view.seen) (sym (ap (λ (v : View). v.seen) was))
+              (starts_trans (m.journal y) (m.journal x) pass.view.seen next.front inside.begins);
+          added = added (length (m.journal x)) (m.journal y);
+          mine = ap (λ (v : View). v.mine) was;
+        };
+        gains = ap (λ (v : View). v.events) was
+            ∙ (ap (λ (b : Bool). if b then pass.view.events else pass.view.events ++ event_of (m.last y)) new
+            ∙ ap (λ (o : Option Event). pass.view.events ++ event_of o) next.last);
+        won = ap (λ (v : View). v.won) was;
+        lost = subst (λ n. pass.view.lost ≤ n) (sym (ap (λ (v : View). v.lost) was)) inside.more;
+      }
+
+-- ---- several
+-- a pass goes on from itself
+pub goes_nowhere : (a : Known) → PassGoesOn a a
+goes_nowhere a =
+    record { table = refl; shares = refl; origin = refl; seen = starts_self a.view.seen; added = []; mine = sym (append-nil a.view.mine) }
+
+-- one way behind another
+pub goes_further : (a b c : Known) → PassGoesOn a b → PassGoesOn b c → PassGoesOn a c
+goes_further a b c p q =
+    record {
+      table = q.table ∙ p.table;
+      shares = q.shares ∙ p.shares;
+      origin = q.origin ∙ p.origin;
+      seen = starts_trans c.view.seen b.view.seen a.view.seen q.seen p.seen;
+      added = p.added ++ q.added;
+      mine = q.mine ∙ (ap (λ ps. ps ++ q.added) p.mine ∙ append_assoc a.view.mine p.added q.added);
+    }
+
+-- what goes on goes together
+pub goes_together : (a b : Known) → PassGoesOn a b → Together a b
+goes_together a b p = record { table = p.table; shares = p.shares; origin = p.origin; seen = p.seen }

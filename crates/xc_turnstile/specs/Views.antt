@@ -1,0 +1,150 @@
+-- What passes know, and how it changes.
+use Rattle.std.specs.Prelude.{◌≡◌, ◌==◌, ℕ, ◌+◌, ◌-◌, ◌/◌, ◌^◌, ◌≤◌, ◌⊎◌, nat_lt, true, false, List, [], ◌∷◌, ◌++◌, length, drop}
+use Rattle.std.specs.Prelude.{slice_get, Option, Some, None, if◌then◌else◌}
+use Rattle.xc_data.specs.declared.entry.Entry.{Entry}
+use Rattle.xc_data.specs.declared.entry.Event.{Event}
+use Rattle.xc_turnstile.specs.declared.view.Origin.{Origin}
+use Rattle.xc_turnstile.specs.declared.view.View.{View}
+
+-- the second journal is a front of the first
+abbrev pub BeginsWith : List Entry → List Entry → Type 0
+BeginsWith whole front = (more : List Entry) × (whole ≡ front ++ more)
+
+-- ---- entries with their places
+-- the entries with their places, from this place on
+abbrev pub numbered : ℕ → List Entry → List (ℕ × Entry)
+numbered n [] = []
+numbered n (e ∷ es) = (n, e) ∷ numbered (n + 1) es
+
+-- what was added behind the first n entries
+abbrev pub added : ℕ → List Entry → List (ℕ × Entry)
+added n journal = numbered n (drop n journal)
+
+-- each stands in the journal at its place
+abbrev pub AreAtPlaces : List Entry → List (ℕ × Entry) → Type 0
+AreAtPlaces journal [] = Unit {0}
+AreAtPlaces journal (p ∷ ps) = (slice_get journal p.0 ≡ Some p.1) × AreAtPlaces journal ps
+
+-- the places rise, from n on
+abbrev pub PlacesRise : ℕ → List (ℕ × Entry) → Type 0
+PlacesRise n [] = Unit {0}
+PlacesRise n (p ∷ ps) = (n ≤ p.0) × PlacesRise (p.0 + 1) ps
+
+-- this place is one of them
+abbrev pub HasPlace : ℕ → List (ℕ × Entry) → Type 0
+HasPlace k [] = ⊥
+HasPlace k (p ∷ ps) = (p.0 ≡ k) ⊎ HasPlace k ps
+
+-- it goes before the first of a greater place
+abbrev pub placed : ℕ × Entry → List (ℕ × Entry) → List (ℕ × Entry)
+placed p [] = p ∷ []
+placed p (q ∷ qs) = if nat_lt p.0 q.0 then p ∷ q ∷ qs else q ∷ placed p qs
+
+-- both lists in rising order
+abbrev pub placed_all : List (ℕ × Entry) → List (ℕ × Entry) → List (ℕ × Entry)
+placed_all [] qs = qs
+placed_all (p ∷ ps) qs = placed p (placed_all ps qs)
+
+-- ---- two histories
+abbrev pub longer : List Entry → List Entry → List Entry
+longer xs ys = if nat_lt (length xs) (length ys) then ys else xs
+
+-- the other of the two
+abbrev pub shorter : List Entry → List Entry → List Entry
+shorter xs ys = if nat_lt (length xs) (length ys) then xs else ys
+
+-- ---- passes
+-- the first pass
+abbrev pub first_view : Origin → List Entry → View
+first_view origin journal =
+    record {
+      seen = journal;
+      mine = [];
+      events = [];
+      origin = Some origin;
+      shares = 2 ^ 32;
+      lost = 0;
+      won = 0;
+      inside = false;
+      given = [];
+      counted = 0;
+      beside = [];
+    }
+
+-- a pass that has entered, with what was handed out
+abbrev pub entered_view : List Entry → ℕ → View → View
+entered_view journal count v = record v { inside = true; given = journal; counted = count; won = v.won + 1 }
+
+-- a pass that found another inside
+abbrev pub lost_view : View → View
+lost_view v = record v { lost = v.lost + 1 }
+
+-- an event, where there is one
+abbrev pub event_of : Option Event → List Event
+event_of None = []
+event_of (Some e) = e ∷ []
+
+-- a pass that has left with a value of this journal, count and last event
+abbrev pub left_view : List Entry → ℕ → Option Event → View → View
+left_view journal count last v =
+    record v {
+      seen = journal;
+      mine = v.mine ++ added (length v.given) journal;
+      events = if count == v.counted then v.events else v.events ++ event_of last;
+      inside = false;
+    }
+
+-- a pass that was split, and the one that was split off
+abbrev pub kept_half : View → View
+kept_half v = record v { shares = v.shares - v.shares / 2 }
+
+-- what is given away: half of the shares, with nothing of its own in it
+abbrev pub given_half : View → View
+given_half v =
+    record {
+      seen = v.seen;
+      mine = [];
+      events = [];
+      origin = v.origin;
+      shares = v.shares / 2;
+      lost = 0;
+      won = 0;
+      inside = false;
+      given = [];
+      counted = 0;
+      beside = v.beside;
+    }
+
+-- two passes that were met
+abbrev pub both : View → View → View
+both v w =
+    record {
+      seen = longer v.seen w.seen;
+      mine = placed_all v.mine w.mine;
+      events = v.events ++ w.events;
+      origin = v.origin;
+      shares = v.shares + w.shares;
+      lost = v.lost + w.lost;
+      won = v.won + w.won;
+      inside = false;
+      given = [];
+      counted = 0;
+      beside = shorter v.seen w.seen;
+    }
+
+-- a pass that is gone
+abbrev pub spent : View
+spent =
+    record {
+      seen = [];
+      mine = [];
+      events = [];
+      origin = None;
+      shares = 0;
+      lost = 0;
+      won = 0;
+      inside = false;
+      given = [];
+      counted = 0;
+      beside = [];
+    }

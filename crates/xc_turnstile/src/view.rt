@@ -1,0 +1,38 @@
+use std::collections::LinkedList;
+use xc_data::{Entry, Event};
+use xc_story::Rules;
+use xc_text::Script;
+
+/// What a value was started with. Contracts alone name it.
+#[derive(Drop)]
+pub struct Origin {
+    pub script: Script,
+    /// The host's count of faults then.
+    pub faults: u64,
+    pub rules: Rules,
+}
+
+/// What a pass knows. Contracts alone name it.
+pub struct View {
+    /// The longest beginning of the value's journal that it knows.
+    pub seen: LinkedList<Entry>,
+    /// The entries that were added while it held the value, with their places.
+    pub mine: LinkedList<(u64, Entry)>,
+    /// The events that were made while it held the value.
+    pub events: LinkedList<Event>,
+    /// What the value was started with; none only in a pass that is gone.
+    pub origin: Option<Origin>,
+    /// Its part of the right to close.
+    pub shares: u64,
+    /// How often it found another inside.
+    pub lost: u64,
+    /// How often it entered.
+    pub won: u64,
+    pub inside: bool,
+    /// The journal that was handed out when it last entered.
+    pub given: LinkedList<Entry>,
+    /// The count of events then.
+    pub counted: u64,
+    /// The shorter of the two journals that were seen, where it last met another pass.
+    pub beside: LinkedList<Entry>,
+}
