@@ -1,16 +1,26 @@
 -- An idle job that ends, or whose next transaction begins.
-use Rattle.std.proofs.Common.{◌≡◌, ◌+◌, ℕ, length, true, false, ap, sym, ◌∙◌, subst}
+use Rattle.std.proofs.Common.{◌≡◌, ◌+◌, ◌<◌, ℕ, Bool, length, true, false, refl, ap, sym, ◌∙◌, subst, is_some, IsSome}
+use Rattle.std.specs.Prelude.{Option}
+use Rattle.std.specs.declared.option.Option.TheVariants.{None, Some}
+use Rattle.xc_data.specs.declared.object.Object.{Object}
+use Rattle.xc_sentinel.specs.declared.seat.Seat.{Seat}
+use Rattle.xc_sentinel.specs.Seated.{Seats}
+use Rattle.xc_sentinel.specs.Seating.{KeepsSeats, seat_in}
 use Rattle.std.specs.Prelude.{Result, Ok, Err, OnOk, OnErr}
 use Rattle.std.specs.Result.{is_err}
 use Rattle.xc_data.specs.declared.entry.JobEnd.{JobEnd}
+use Rattle.xc_data.specs.declared.entry.Mark.{Mark}
 use Rattle.xc_data.specs.declared.entry.Turn.{Turn}
 use Rattle.xc_data.specs.declared.entry.Turn.TheVariants as turn
 use Rattle.xc_data.specs.declared.private.Private.{Private}
 use Rattle.xc_script.specs.Position.{Position}
 use Rattle.xc_story.specs.Setting.{Setting}
-use Rattle.xc_story.specs.Seen.{SeenTx, SeenJob, Active, Ended, Now, begun_count, rank_of, with_job}
-use Rattle.xc_story.specs.Rows.{IdleTurn, IsEnding, beginning_job, new_tx}
-use Rattle.xc_station.specs.Moments.{HasBegun}
+use Rattle.xc_story.specs.Seen.{SeenTx, SeenJob, Active, Ended, Now, begun_count, failures, rank_of, waiting, with_job}
+use Rattle.xc_story.specs.Rows.{IdleTurn, IsEnding, IsFree, IsWaiting, NamesLast, body_at, beginning_job, new_tx}
+use Rattle.xc_station.specs.declared.begin.Halt.{Halt}
+use Rattle.xc_station.specs.declared.begin.Halt.TheVariants.{End, Wait}
+use Rattle.xc_station.specs.Beginning.{IsDone, IsHalted, IsSeatBehind, IsStopped}
+use Rattle.xc_station.specs.Moments.{AreSeats, HasBegun, runs, seated_as}
 
 -- what an answer without an error tells
 pub where_ok : {A E P : Type 0} (r : Result A E) → is_err r ≡ false → OnOk r P → P
@@ -22,11 +32,43 @@ pub where_err : {A E P : Type 0} (r : Result A E) → is_err r ≡ true → OnEr
 where_err (Ok x) is p = cc
 where_err (Err e) is p = p
 
--- the job ends
-pub ends : (s : Setting) (at : ℕ) (now : Now) (job new : SeenJob) (answer : Turn) (end : JobEnd) → IsEnding s now job end
-    → new ≡ record job { doing = Ended end } → answer ≡ turn.Ended end → IdleTurn s at now job answer (with_job now at new)
-ends s at now job new answer end ending is given =
-    subst (λ t. IdleTurn s at now job t (with_job now at new)) (sym given) (ending, ap (with_job now at) is)
+-- the job ends, and the marks stay
+pub ends : (s : Setting) (at : ℕ) (now : Now) (job new : SeenJob) (answer : Turn) (end : JobEnd) (marks : ℕ → Option Mark) → now.marks ≡ marks
+    → IsEnding s now job end → new ≡ record job { doing = Ended end } → answer ≡ turn.Ended end
+    → IdleTurn s at now job answer (record (with_job now at new) { marks = marks })
+ends s at now job new answer end marks same ending is given =
+    subst (λ t. IdleTurn s at now job t (record (with_job now at new) { marks = marks })) (sym given)
+    (ending, λ i. record (with_job now at (is i)) { marks = sym same i })
+
+-- or waits
+pub waits_on : (s : Setting) (at : ℕ) (now : Now) (job new : SeenJob) (answer : Turn) (object : Object) (number : ℕ) (marks : ℕ → Option Mark)
+    → now.marks ≡ marks → IsWaiting s now job object number → new ≡ waiting job → answer ≡ turn.Busy object number
+    → IdleTurn s at now job answer (record (with_job now at new) { marks = marks })
+waits_on s at now job new answer object number marks same waits is given =
+    subst (λ t. IdleTurn s at now job t (record (with_job now at new) { marks = marks })) (sym given)
+    (waits, λ i. record (with_job now at (is i)) { marks = sym same i })
+
+-- by what keeps it from its next transaction
+pub stopped : (s : Setting) (at : ℕ) (now : Now) (job new : SeenJob) (halt : Halt) (answer : Turn) (marks : ℕ → Option Mark) → now.marks ≡ marks
+    → IsHalted s now job halt → IsStopped job new halt answer → IdleTurn s at now job answer (record (with_job now at new) { marks = marks })
+stopped s at now job new (End end) answer marks same halted is = ends s at now job new answer end marks same halted is.0 is.1
+stopped s at now job new (Wait object holder) answer marks same halted is = waits_on s at now job new answer object holder marks same halted is.0 is.1
+
+-- who stops or waits before a begin takes no seat
+pub stopped_seats : (number rank : ℕ) (seats : Seats) (job new : SeenJob) (halt : Halt) (answer : Turn) → IsStopped job new halt answer
+    → IsSeatBehind number rank seats seats answer
+stopped_seats number rank seats job new (End end) answer is = subst (IsSeatBehind number rank seats seats) (sym is.1) (λ n. refl)
+stopped_seats number rank seats job new (Wait object holder) answer is = subst (IsSeatBehind number rank seats seats) (sym is.1) (λ n. refl)
+
+-- nor does it go on
+pub stopped_there : (job new : SeenJob) (halt : Halt) (answer : Turn) → IsStopped job new halt answer → answer ≡ turn.Went → ⊥
+stopped_there job new (End end) answer is went = let bad : turn.Ended end ≡ turn.Went = sym is.1 ∙ went in cc bad
+stopped_there job new (Wait object holder) answer is went = let bad : turn.Busy object holder ≡ turn.Went = sym is.1 ∙ went in cc bad
+
+-- an idle job that can't have its room ends
+pub ended_seats : (number rank : ℕ) (old new : Seats) (end : JobEnd) (answer : Turn) → answer ≡ turn.Ended end → KeepsSeats old new
+    → IsSeatBehind number rank old new answer
+ended_seats number rank old new end answer is kept = subst (IsSeatBehind number rank old new) (sym is) kept
 
 -- so many transactions have begun
 pub all_begun : (now : Now) (entered entries active : ℕ) → HasBegun now entries active → entered ≡ entries → begun_count now ≡ entered + active
@@ -36,11 +78,47 @@ all_begun now entered entries active k len = λ i. (k.entered ∙ sym len) i + k
 pub begins : (now : Now) (job : SeenJob) (me : Private) (place : Position) (tx : SeenTx) (entered entries active rank : ℕ) → me ≡ job.me
     → HasBegun now entries active → entered ≡ entries
     → place ≡ record job.place { begun = job.place.variables } → rank ≡ rank_of job.attempts (entered + active + 1)
-    → tx ≡ new_tx (entered + active + 1) rank entered job.me → record job { me = me; place = place; doing = Active tx } ≡ beginning_job now job
+    → tx ≡ new_tx (entered + active + 1) rank entered job.me → record job { me = me; place = place; busy = 0; doing = Active tx } ≡ beginning_job now job
 begins now job me place tx entered entries active rank kept k len placed ranked begun =
     let number : entered + active + 1 ≡ begun_count now + 1 = ap (λ n. n + 1) (sym (all_begun now entered entries active k len)) in
     let rank' : rank ≡ rank_of job.attempts (begun_count now + 1) = ranked ∙ ap (rank_of job.attempts) number in
     let began = len ∙ sym k.entered in
     let tx' : tx ≡ new_tx (begun_count now + 1) (rank_of job.attempts (begun_count now + 1)) (length now.journal) job.me =
     begun ∙ (λ i. new_tx (number i) (rank' i) (began i) job.me) in
-    λ i. record job { me = kept i; place = placed i; doing = Active (tx' i) }
+    λ i. record job { me = kept i; place = placed i; busy = 0; doing = Active (tx' i) }
+
+-- ---- a job that may begin
+module _ (s : Setting) (now : Now) (job : SeenJob) (seats : Seats) (sat : AreSeats seats now.jobs) (left : IsSome (body_at s job.place))
+    (attempts : failures job.attempts < s.rules.attempts) where
+  seated : (o : Option Seat) (rank : ℕ) (running : Bool) → seated_as o ≡ Some (rank, running) → is_some o ≡ true
+  seated None rank running is = cc is
+  seated (Some seat) rank running is = refl
+
+  is_seated : (o : Option Seat) → is_some o ≡ true → (seat : Seat) × (seated_as o ≡ Some (seat.rank, seat.running))
+  is_seated None is = cc is
+  is_seated (Some seat) is = (seat, refl)
+
+  -- it waits for the active transaction that ended its last attempt
+  pub waits : (object : Object) (number : ℕ) → NamesLast job.attempts object number → is_some (seat_in seats number) ≡ true → job.busy < s.rules.patience
+      → IsWaiting s now job object number
+  waits object number named active patient =
+      let seat = is_seated (seat_in seats number) active in
+      record {
+        left = left;
+        attempts = attempts;
+        named = named;
+        active = sat.known number (seat.0.rank, seat.0.running) seat.1;
+        patient = patient;
+      }
+
+  -- it waits for nobody
+  pub free : IsDone job.attempts s.rules.patience job.busy seats → IsFree s now job
+  free done object number w =
+      let a = w.active in
+      done object number w.named w.patient (ap (λ n. is_some (seat_in seats n)) (sym a.3)
+      ∙ seated (seat_in seats a.1.number) a.1.rank (runs a.1.phase) (sat.held a.0 a.1 a.2))
+
+-- what is said to be there is there
+pub some_there : {A : Type 0} (o : Option A) → true ≡ is_some o → IsSome o
+some_there None is = cc is
+some_there (Some x) is = refl

@@ -4,6 +4,9 @@ use Rattle.std.specs.Prelude.{Option}
 use Rattle.std.specs.declared.option.Option.TheVariants.{None}
 use Rattle.xc_data.specs.declared.entry.Cause.{Cause}
 use Rattle.xc_data.specs.declared.entry.Cause.TheVariants as cause
+use Rattle.xc_data.specs.declared.entry.Turn.{Turn}
+use Rattle.xc_data.specs.declared.entry.Turn.TheVariants as turn
+use Rattle.xc_station.specs.Moments.{counted}
 use Rattle.xc_data.specs.declared.entry.Outcome.TheVariants.{Committed, Aborted}
 use Rattle.xc_data.specs.declared.private.Private.{Private}
 use Rattle.xc_compensate.specs.Records.{Records}
@@ -68,6 +71,13 @@ moves_on job tx place now is kept =
     let doing = sym (active_again job.tx now job.activity tx is) in
     λ i. record (seen_job job) { me = sym kept i; place = place; doing = doing i }
 
+-- a job that counts a wait does what it did
+pub counted_doing : (answer : Turn) (job : SeenJob) → (counted answer job).doing ≡ job.doing
+counted_doing (turn.Busy object holder) job = refl
+counted_doing turn.Went job = refl
+counted_doing turn.NoMemory job = refl
+counted_doing (turn.Ended end) job = refl
+
 -- a job whose transaction's records changed
 pub undo_behind : (job : Job) (tx : SeenTx) (undo : Records) → doing_of job ≡ Active tx
     → seen_job (record job { tx = record job.tx { undo = undo } }) ≡ with_tx (seen_job job) job.place (record tx { undo = undo })
@@ -82,13 +92,13 @@ late_behind job tx queue is =
     sym (moves_on job tx job.place (record job.tx { late = queue }) is refl)
     ∙ ap (λ (t : SeenTx). with_tx (seen_job job) job.place (with_queue t queue)) (its_active job tx is)
 
-idle_abort : (job : SeenJob) (tx : SeenTx) (c : Cause) → behind_abort (record job { doing = Idle }) tx c ≡ behind_abort job tx c
+idle_abort : (job : SeenJob) (tx : SeenTx) (c : Cause) → behind_abort (record job { busy = 0; doing = Idle }) tx c ≡ behind_abort job tx c
 idle_abort job tx cause.Asked = refl
 idle_abort job tx cause.NoMemory = refl
 idle_abort job tx _ = refl
 
 -- a job behind an abort, without its transaction before
-pub abort_behind : (old between new : SeenJob) (tx : SeenTx) (b c : Cause) → between ≡ record old { doing = Idle } → b ≡ c
+pub abort_behind : (old between new : SeenJob) (tx : SeenTx) (b c : Cause) → between ≡ record old { busy = 0; doing = Idle } → b ≡ c
     → new ≡ behind_abort between tx b → new ≡ behind_abort old tx c
 abort_behind old between new tx b c taken cause gone =
     gone ∙ ap (λ (job : SeenJob). behind_abort job tx b) taken ∙ idle_abort old tx b ∙ ap (behind_abort old tx) cause
@@ -114,7 +124,7 @@ pub commit_behind : (old : SeenJob) (t tx : SeenTx) (me : Private) (place : Posi
       next = old.place.next + 1;
       variables = with_ends old.place.variables (kept_of t.calls t.replies) t.ends;
     })
-    → attempts ≡ None → record old { me = me; place = place; attempts = attempts; doing = Idle } ≡ behind_commit old tx
+    → attempts ≡ None → record old { me = me; place = place; attempts = attempts; busy = 0; doing = Idle } ≡ behind_commit old tx
 commit_behind old t tx me place attempts same renewed passed none =
     let renewed' : me ≡ beginning tx.me.places = renewed ∙ ap (λ (u : SeenTx). beginning u.me.places) same in
     let passed' = passed ∙ ap (λ (u : SeenTx). at_begin (record {
@@ -122,4 +132,4 @@ commit_behind old t tx me place attempts same renewed passed none =
       next = old.place.next + 1;
       variables = with_ends old.place.variables (kept_of u.calls u.replies) u.ends;
     })) same in
-    λ i. record old { me = renewed' i; place = passed' i; attempts = none i; doing = Idle }
+    λ i. record old { me = renewed' i; place = passed' i; attempts = none i; busy = 0; doing = Idle }

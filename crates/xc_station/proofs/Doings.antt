@@ -26,6 +26,7 @@ use Rattle.xc_txmem.specs.Overlay.{overlaid}
 use Rattle.xc_world.specs.World.{World}
 use Rattle.xc_world.specs.Act.{act}
 use Rattle.xc_world.specs.Act.Step.{Stepped, step_to}
+use Rattle.xc_world.specs.Effects.{takes_data}
 use Rattle.xc_world.specs.Fits.{fits, answer_of}
 use Rattle.xc_world.specs.Late.{is_late, kept_call}
 use Rattle.xc_world.specs.Trail.{recorded}
@@ -62,7 +63,7 @@ framed_now : (tx : SeenTx) (parts : Parts) (c : Call) (r : Reply) → is_late r 
 framed_now tx parts c r now = ap (λ calls. record (framed tx parts) { late = calls }) (none_behind tx.late c tx.me r now)
 
 -- ---- a call on files
-module _ {H : Type 0} (model : HostModel H) (c : Call) (old new : Acting H) (other : is_word_call c ≡ false) where
+module _ {H : Type 0} (model : HostModel H) (c : Call) (old new : Acting H) (other : is_word_call c ≡ false) (untaken : takes_data c ≡ false) where
   -- it is done
   file_done : (reply : Reply) → IsFileCall model c (calling old) (calling new) (Ok reply) → new.tx ≡ with_parts old.tx c reply (parts_of new.tx)
       → new.tx.writes ≡ old.tx.writes → new.tx.me.stored ≤ 16384 → IsReplyInTime old.tx.me old.tx.number c reply → HasDone model c old new reply
@@ -95,7 +96,7 @@ module _ {H : Type 0} (model : HostModel H) (c : Call) (old new : Acting H) (oth
   part_left left (inl same) = inl same
   part_left left (inr part) =
       let over = λ (w : World). record w { words = overlaid w.words old.tx.writes } in
-      inr (part.answer, λ w at. record { fits = part.fits (over w); world = sym (part.world (over w)); records = part.records (over w) })
+      inr (part.answer, λ w at. record { untaken = untaken; fits = part.fits (over w); world = sym (part.world (over w)); records = part.records (over w) })
 
   -- memory is wanting
   file_left : (e : NoMemory) → IsFileCall model c (calling old) (calling new) (Err e) → new.tx ≡ framed old.tx (parts_of new.tx)
@@ -119,36 +120,37 @@ module _ {H : Type 0} (model : HostModel H) (c : Call) (old new : Acting H) (oth
 
 -- so it has acted; the transaction and the words are as before but for its private state and its records
 pub file_acted : {H : Type 0} (model : HostModel H) (c d : Call) (old new : Acting H) (r : Result Reply NoMemory) → c ≡ d → is_word_call d ≡ false
-    → waits d ≡ false → IsFileCall model d (calling old) (calling new) r → new.tx ≡ record old.tx { me = new.tx.me; undo = new.tx.undo }
+    → takes_data d ≡ false → waits d ≡ false → IsFileCall model d (calling old) (calling new) r → new.tx ≡ record old.tx { me = new.tx.me; undo = new.tx.undo }
     → new.tx.me.stored ≤ 16384 → IfOk r (λ reply. is_late reply ≡ false) → HasActed model c old new r
-file_acted model c d old new r is other at_once k frame stored now =
+file_acted model c d old new r is other untaken at_once k frame stored now =
     let writes = ap (λ (t : SeenTx). t.writes) frame in
     let whole : new.tx ≡ framed old.tx (parts_of new.tx) =
     frame ∙ ap (λ ws. record old.tx { me = new.tx.me; writes = ws; undo = new.tx.undo }) (sym writes) in
-    subst (λ (e : Call). HasActed model e old new r) (sym is) (file_answered model d old new other r k whole writes stored at_once now)
+    subst (λ (e : Call). HasActed model e old new r) (sym is) (file_answered model d old new other untaken r k whole writes stored at_once now)
 
 -- so has one at these handles, which are those of the transaction
 pub file_acted_at : {H : Type 0} (model : HostModel H) (c d : Call) (old new : Acting H) (me : Private) (r : Result Reply NoMemory) → me ≡ old.tx.me
-    → c ≡ d → is_word_call d ≡ false → waits d ≡ false → IsFileCall model d (record (calling old) { me = me }) (calling new) r
+    → c ≡ d → is_word_call d ≡ false → takes_data d ≡ false → waits d ≡ false → IsFileCall model d (record (calling old) { me = me }) (calling new) r
     → new.tx ≡ record old.tx { me = new.tx.me; undo = new.tx.undo } → new.tx.me.stored ≤ 16384 → IfOk r (λ reply. is_late reply ≡ false)
     → HasActed model c old new r
-file_acted_at model c d old new me r same is other at_once k =
-    file_acted model c d old new r is other at_once (subst (λ (m : Private). IsFileCall model d (record (calling old) { me = m }) (calling new) r) same k)
+file_acted_at model c d old new me r same is other untaken at_once k =
+    file_acted model c d old new r is other untaken at_once
+    (subst (λ (m : Private). IsFileCall model d (record (calling old) { me = m }) (calling new) r) same k)
 
 -- a call that reaches no host has acted
 pub alone_acted : {H : Type 0} (model : HostModel H) (c d : Call) (old : Acting H) (next : Private) (reply : Reply) → c ≡ d → is_word_call d ≡ false
-    → waits d ≡ false → StepsAlone d old.tx.me next reply → next.stored ≤ 16384 → is_late reply ≡ false
+    → takes_data d ≡ false → waits d ≡ false → StepsAlone d old.tx.me next reply → next.stored ≤ 16384 → is_late reply ≡ false
     → HasDone model c old (record old { tx = record old.tx { me = next } }) reply
-alone_acted model c d old next reply is other at_once alone stored now =
-    file_acted model c d old (record old { tx = record old.tx { me = next } }) (Ok reply) is other at_once
+alone_acted model c d old next reply is other untaken at_once alone stored now =
+    file_acted model c d old (record old { tx = record old.tx { me = next } }) (Ok reply) is other untaken at_once
     (alone_call model d (calling old) next reply alone) refl stored now
 
 -- so has one at these handles
 pub alone_acted_at : {H : Type 0} (model : HostModel H) (c d : Call) (old : Acting H) (next me : Private) (reply : Reply) → me ≡ old.tx.me → c ≡ d
-    → is_word_call d ≡ false → waits d ≡ false → StepsAlone d me next reply → next.stored ≤ 16384 → is_late reply ≡ false
+    → is_word_call d ≡ false → takes_data d ≡ false → waits d ≡ false → StepsAlone d me next reply → next.stored ≤ 16384 → is_late reply ≡ false
     → HasDone model c old (record old { tx = record old.tx { me = next } }) reply
-alone_acted_at model c d old next me reply same is other at_once alone =
-    alone_acted model c d old next reply is other at_once (subst (λ (m : Private). StepsAlone d m next reply) same alone)
+alone_acted_at model c d old next me reply same is other untaken at_once alone =
+    alone_acted model c d old next reply is other untaken at_once (subst (λ (m : Private). StepsAlone d m next reply) same alone)
 
 -- ---- a call that is kept for the commit
 -- a transaction at a host with other late calls
@@ -157,16 +159,16 @@ queueing a queue = record a { tx = with_queue a.tx queue }
 
 -- it has acted: the host is as it was
 pub kept_acted : {H : Type 0} (model : HostModel H) (c d : Call) (old : Acting H) (queue : Queue) (r : Result Reply NoMemory) → c ≡ d
-    → is_word_call d ≡ false → waits d ≡ true → IfOk r (λ reply. IsKept d old.tx.me (queue_of old.tx) queue reply)
+    → is_word_call d ≡ false → takes_data d ≡ false → waits d ≡ true → IfOk r (λ reply. IsKept d old.tx.me (queue_of old.tx) queue reply)
     → OnErr r (queue ≡ queue_of old.tx) → old.tx.me.stored ≤ 16384 → HasActed model c old (queueing old queue) r
-kept_acted model c d old queue (Ok reply) is other waiting kept err stored =
+kept_acted model c d old queue (Ok reply) is other untaken waiting kept err stored =
     subst (λ (e : Call). HasDone model e old (queueing old queue) reply) (sym is)
-    (file_done model d old (queueing old queue) other reply (alone_call model d (calling old) old.tx.me reply kept.alone)
+    (file_done model d old (queueing old queue) other untaken reply (alone_call model d (calling old) old.tx.me reply kept.alone)
     (ap (λ (q : Queue). (queueing old q).tx) kept.left) refl stored (record {
       kept = λ _ w. ap (λ (s : Stepped). s.reply) (sym (kept.alone.step w old.tx.number));
       now = λ at_once. absurd (cc (at_once, waiting));
     }))
-kept_acted model c d old queue (Err e) is other waiting kept err stored =
+kept_acted model c d old queue (Err e) is other untaken waiting kept err stored =
     record {
       left = [];
       one = omega arith;
@@ -177,10 +179,10 @@ kept_acted model c d old queue (Err e) is other waiting kept err stored =
 
 -- so has one at these handles
 pub kept_acted_at : {H : Type 0} (model : HostModel H) (c d : Call) (old : Acting H) (queue : Queue) (me : Private) (r : Result Reply NoMemory)
-    → me ≡ old.tx.me → c ≡ d → is_word_call d ≡ false → waits d ≡ true → IfOk r (λ reply. IsKept d me (queue_of old.tx) queue reply)
+    → me ≡ old.tx.me → c ≡ d → is_word_call d ≡ false → takes_data d ≡ false → waits d ≡ true → IfOk r (λ reply. IsKept d me (queue_of old.tx) queue reply)
     → OnErr r (queue ≡ queue_of old.tx) → old.tx.me.stored ≤ 16384 → HasActed model c old (queueing old queue) r
-kept_acted_at model c d old queue me r same is other waiting kept =
-    kept_acted model c d old queue r is other waiting
+kept_acted_at model c d old queue me r same is other untaken waiting kept =
+    kept_acted model c d old queue r is other untaken waiting
     (subst (λ (m : Private). IfOk r (λ reply. IsKept d m (queue_of old.tx) queue reply)) same kept)
 
 -- ---- a call on words
@@ -278,8 +280,9 @@ wants_value (Err e) r failed lasting nothing = let ok = lasting nothing in cc
 
 -- the call was done, and the handles are as before it: its part stands as it was left
 pub unanswered : {H : Type 0} (model : HostModel H) (c : Call) (old new behind : Acting H) (reply : Reply) → HasDone model c old new reply
+    → takes_data c ≡ false
     → behind ≡ record new { tx = record new.tx { me = old.tx.me } } → (value_in reply ≡ None → ⊥) → LeavesOff model c old behind
-unanswered model c old new behind reply d is brings =
+unanswered model c old new behind reply d untaken is brings =
     let writes : new.tx.writes ≡ old.tx.writes =
     d.stores ∙ ap (λ ws. old.tx.writes ++ ws) (no_value (length old.words) (overlaid old.words old.tx.writes) c reply d.spoken.gives brings)
     ∙ append_nil old.tx.writes in
@@ -297,6 +300,7 @@ unanswered model c old new behind reply d is brings =
         λ w at.
             let does = d.does tells w at in
             record {
+              untaken = untaken;
               fits = does.fits;
               world = ap (λ (ws : List (ℕ × ℕ)). seen w (model.contents new.host) ws) (sym writes) ∙ ap (λ (s : Stepped). s.world) (sym does.step);
               records = append_cancel_left old.tx.undo.pending d.made

@@ -51,8 +51,8 @@ pub true_end : (s : Setting) (faults : ℕ) (now : Now) (lines : List JobLine) �
     → IsTrueEnd s now.journal (record { words = now.words; contents = now.contents; lines = lines })
 true_end s faults now lines steady over =
     let told = steady.kept.told in
-    let journal = journal_true s (length now.words) now.journal now.jobs lines told over in
-    let ends = ends_told s (length now.words) now.journal now.jobs lines told over in
+    let journal = journal_true s (length now.words) now.marks now.journal now.jobs lines told over in
+    let ends = ends_told s (length now.words) now.marks now.journal now.jobs lines told over in
     record {
       journal = journal;
       words = words_left _ now.words now.jobs lines steady.kept.spoken over;

@@ -1,11 +1,14 @@
 -- What every turn leaves: another job in one place, and a journal that goes on.
-use Rattle.std.proofs.Common.{◌≡◌, inl, inr, ℕ, List, [], ◌∷◌, ap, sym, ◌∙◌}
+use Rattle.std.proofs.Common.{◌≡◌, inl, inr, ℕ, List, [], ◌∷◌, ◌++◌, refl, ap, sym, ◌∙◌}
 use Rattle.std.proofs.lemmas.List.{append-nil}
-use Rattle.std.specs.Prelude.{slice_set}
+use Rattle.std.specs.Prelude.{Option, slice_set}
+use Rattle.std.specs.declared.option.Option.TheVariants.{None, Some}
 use Rattle.xc_data.specs.declared.call.LateCall.{LateCall}
+use Rattle.xc_data.specs.declared.call.LateCall.TheVariants as late_call
 use Rattle.xc_data.specs.declared.entry.Cause.{Cause}
 use Rattle.xc_data.specs.declared.entry.Entry.{Entry}
 use Rattle.xc_data.specs.declared.entry.JobEnd.TheVariants as job_end
+use Rattle.xc_data.specs.declared.entry.Mark.{Mark}
 use Rattle.xc_data.specs.declared.entry.Outcome.TheVariants.{Committed, Aborted}
 use Rattle.xc_data.specs.declared.entry.Turn.{Turn}
 use Rattle.xc_data.specs.declared.entry.Turn.TheVariants as turn
@@ -14,79 +17,100 @@ use Rattle.xc_script.specs.declared.ask.Ask.{Ask}
 use Rattle.xc_script.specs.declared.ask.Ask.TheVariants as ask
 use Rattle.xc_story.specs.declared.phase.Phase.{Phase}
 use Rattle.xc_story.specs.declared.phase.Phase.TheVariants.{Running, Committing, Undoing}
+use Rattle.xc_story.specs.LateCalls.{thread_in}
 use Rattle.xc_story.specs.Setting.{Setting}
-use Rattle.xc_story.specs.Seen.{SeenTx, SeenJob, Doing, Idle, Active, Starved, Ended, Now, entering, late_left, with_job}
-use Rattle.xc_story.specs.Rows.{IsTurn, TurnOf, IdleTurn, ActiveTurn, RunningTurn, AskedTurn, CommittingTurn, LateTurn, UndoingTurn, BackTurn, StarvedTurn}
-use Rattle.xc_story.specs.Rows.{asked_at, behind_abort, behind_commit, beginning_job, entry_of, with_tx}
-use Rattle.xc_station.specs.Stations.{IsFrontOf}
-
--- the job in this place is another behind a turn
-pub record Leaves (at : ℕ) (old new : Now) : Type 0 where
-  pub behind : SeenJob
-  pub jobs : new.jobs ≡ slice_set old.jobs at behind
-  pub front : IsFrontOf old.journal new.journal
+use Rattle.xc_story.specs.Seen.{SeenTx, SeenJob, Doing, Idle, Active, Starved, Ended, Now, active_in, late_left, waiting}
+use Rattle.xc_story.specs.Rows.{IsActiveAt, IsTurn, TurnOf, IdleTurn, ActiveTurn, MarkedTurn, RunningTurn, AskedTurn, CommittingTurn, LateTurn, NextLate}
+use Rattle.xc_story.specs.Rows.{UndoingTurn, BackTurn, StarvedTurn, asked_at, behind_abort, behind_commit, beginning_job, entry_of}
+use Rattle.xc_station.specs.Stations.{ChangesOne}
+use Rattle.xc_station.proofs.Unstarted.{StartNone, next_none, none_joins}
 
 module _ (s : Setting) (at : ℕ) (old : Now) (job : SeenJob) (new : Now) where
-  still : (behind : SeenJob) → new.jobs ≡ slice_set old.jobs at behind → new.journal ≡ old.journal → Leaves at old new
+  still : (behind : SeenJob) → new.jobs ≡ slice_set old.jobs at behind → new.journal ≡ old.journal → ChangesOne at old new
   still behind jobs journal = record { behind = behind; jobs = jobs; front = ([], journal ∙ sym (append-nil old.journal)) }
 
-  alone : (behind : SeenJob) → new ≡ with_job old at behind → Leaves at old new
-  alone behind is = still behind (ap (λ (n : Now). n.jobs) is) (ap (λ (n : Now). n.journal) is)
+  -- a moment that is known whole: another job in this place, and the journal is as before
+  alone : (behind : SeenJob) (now : Now) → new ≡ now → now.jobs ≡ slice_set old.jobs at behind → now.journal ≡ old.journal → ChangesOne at old new
+  alone behind now is jobs journal = still behind (ap (λ (n : Now). n.jobs) is ∙ jobs) (ap (λ (n : Now). n.journal) is ∙ journal)
 
-  enters : (behind : SeenJob) (entry : Entry) → new ≡ entering old at behind entry → Leaves at old new
-  enters behind entry is =
-      record { behind = behind; jobs = ap (λ (n : Now). n.jobs) is; front = (entry ∷ [], ap (λ (n : Now). n.journal) is) }
+  enters : (behind : SeenJob) (entry : Entry) → new.jobs ≡ slice_set old.jobs at behind → new.journal ≡ old.journal ++ entry ∷ [] → ChangesOne at old new
+  enters behind entry jobs journal = record { behind = behind; jobs = jobs; front = (entry ∷ [], journal) }
 
-  idle_leaves : (answer : Turn) → IdleTurn s at old job answer new → Leaves at old new
-  idle_leaves (turn.Ended end) row = alone (record job { doing = Ended end }) row.1
-  idle_leaves turn.Went row = alone (beginning_job old job) row.1
-  idle_leaves _ row = absurd row
+  idle_leaves : (answer : Turn) → IdleTurn s at old job answer new → ChangesOne at old new
+  idle_leaves (turn.Ended end) row = alone (record job { doing = Ended end }) _ row.1 refl refl
+  idle_leaves (turn.Busy object number) row = alone (waiting job) _ row.1 refl refl
+  idle_leaves turn.Went row = alone (beginning_job old job) _ row.1 refl refl
+  idle_leaves turn.NoMemory row = absurd row
 
-  starved_leaves : (answer : Turn) → StarvedTurn at old job answer new → Leaves at old new
-  starved_leaves (turn.Ended job_end.NoMemory) row = alone (record job { doing = Ended job_end.NoMemory }) row
+  starved_leaves : (answer : Turn) → StarvedTurn at old job answer new → ChangesOne at old new
+  starved_leaves (turn.Ended job_end.NoMemory) row = alone (record job { doing = Ended job_end.NoMemory }) _ row refl refl
   starved_leaves _ row = absurd row
 
-  module _ (tx : SeenTx) where
-    asked_leaves : (asked : Ask) → AskedTurn s at old job tx asked new → Leaves at old new
-    asked_leaves (ask.Call call) (inl row) = still _ row.jobs row.journal
-    asked_leaves (ask.Call call) (inr row) = alone _ row.behind
-    asked_leaves ask.Commit row =
-        still (with_tx job row.place (record tx { phase = Committing })) (ap (λ (n : Now). n.jobs) row.behind) (ap (λ (n : Now). n.journal) row.behind)
-    asked_leaves ask.Abort row = alone _ row.behind
+  module _ (tx : SeenTx) (none : StartNone tx.late) where
+    asked_leaves : (asked : Ask) → AskedTurn s at old job tx asked new → ChangesOne at old new
+    asked_leaves (ask.Call call) (inl row) = alone _ _ row.behind refl refl
+    asked_leaves (ask.Call call) (inr row) = alone _ _ row.behind refl refl
+    asked_leaves ask.Commit row = alone _ _ row.behind refl refl
+    asked_leaves ask.Abort row = alone _ _ row.behind refl refl
     asked_leaves ask.End row = absurd row
 
-    running_leaves : (answer : Turn) → RunningTurn s at old job tx answer new → Leaves at old new
+    running_leaves : (answer : Turn) → RunningTurn s at old job tx answer new → ChangesOne at old new
     running_leaves turn.Went row = asked_leaves (asked_at s job.place) row
-    running_leaves turn.NoMemory row = still _ row.jobs row.journal
-    running_leaves _ row = absurd row
+    running_leaves (turn.Busy object holder) row = alone _ _ row.behind refl refl
+    running_leaves turn.NoMemory row = alone _ _ row.behind refl refl
+    running_leaves (turn.Ended end) row = absurd row
 
-    late_leaves : (late : List LateCall) → LateTurn s at old job tx late new → Leaves at old new
-    late_leaves [] row = enters (behind_commit job tx) (entry_of tx at (Committed tx.ends)) row
-    late_leaves (call ∷ late) row = still _ row.jobs row.journal
+    marked_leaves : (mark : Option Mark) (answer : Turn) → MarkedTurn s at old job tx mark answer new → ChangesOne at old new
+    marked_leaves None answer row = running_leaves answer row
+    marked_leaves (Some m) turn.Went row = alone _ _ row refl refl
+    marked_leaves (Some m) (turn.Busy object holder) row = absurd row
+    marked_leaves (Some m) turn.NoMemory row = absurd row
+    marked_leaves (Some m) (turn.Ended end) row = absurd row
 
-    committing_leaves : (answer : Turn) → CommittingTurn s at old job tx answer new → Leaves at old new
-    committing_leaves turn.Went row = late_leaves (late_left tx) row
+    next_leaves : (call : LateCall) → thread_in call ≡ None → NextLate s at old job tx call new → ChangesOne at old new
+    next_leaves (late_call.Thread block) starts row = cc starts
+    next_leaves (late_call.Unlink name) starts row = alone _ _ row.behind refl refl
+    next_leaves (late_call.Sync num) starts row = alone _ _ row.behind refl refl
+    next_leaves (late_call.WritePipe num bytes) starts row = alone _ _ row.behind refl refl
+    next_leaves (late_call.Shutdown object) starts row = alone _ _ row.behind refl refl
+    next_leaves (late_call.Send pair side bytes) starts row = alone _ _ row.behind refl refl
+
+    late_leaves : (late : List LateCall) → late_left tx ≡ late → LateTurn s at old job tx late new → ChangesOne at old new
+    late_leaves [] left row =
+        enters (behind_commit job tx) (entry_of tx at (Committed tx.ends))
+        (ap (λ (n : Now). n.jobs) row.0 ∙ ap (λ more. slice_set old.jobs at (behind_commit job tx) ++ more) (none_joins s job tx none)
+        ∙ append-nil (slice_set old.jobs at (behind_commit job tx)))
+        (ap (λ (n : Now). n.journal) row.0)
+    late_leaves (call ∷ late) left row = next_leaves call (next_none tx none call late left) row
+
+    committing_leaves : (answer : Turn) → CommittingTurn s at old job tx answer new → ChangesOne at old new
+    committing_leaves turn.Went row = late_leaves (late_left tx) refl row
     committing_leaves _ row = absurd row
 
-    back_leaves : (c : Cause) (pending : List Undo) → BackTurn s at old job tx c pending new → Leaves at old new
-    back_leaves c [] row = enters (behind_abort job tx c) (entry_of tx at (Aborted (record { cause = c; records = tx.undo.ended }))) row
-    back_leaves c (u ∷ pending) row = still _ row.jobs row.journal
+    back_leaves : (c : Cause) (pending : List Undo) → BackTurn s at old job tx c pending new → ChangesOne at old new
+    back_leaves c [] row =
+        enters (behind_abort job tx c) (entry_of tx at (Aborted (record { cause = c; records = tx.undo.ended })))
+        (ap (λ (n : Now). n.jobs) row.behind) (ap (λ (n : Now). n.journal) row.behind)
+    back_leaves c (u ∷ pending) row = alone _ _ row.behind refl refl
 
-    undoing_leaves : (c : Cause) (answer : Turn) → UndoingTurn s at old job tx c answer new → Leaves at old new
+    undoing_leaves : (c : Cause) (answer : Turn) → UndoingTurn s at old job tx c answer new → ChangesOne at old new
     undoing_leaves c turn.Went row = back_leaves c tx.undo.pending row
     undoing_leaves c _ row = absurd row
 
-    active_leaves : (phase : Phase) (answer : Turn) → ActiveTurn s at old job tx phase answer new → Leaves at old new
-    active_leaves Running answer row = running_leaves answer row
+    active_leaves : (phase : Phase) (answer : Turn) → ActiveTurn s at old job tx phase answer new → ChangesOne at old new
+    active_leaves Running answer row = marked_leaves (old.marks tx.number) answer row
     active_leaves Committing answer row = committing_leaves answer row
     active_leaves (Undoing c) answer row = undoing_leaves c answer row
 
-  doing_leaves : (d : Doing) (answer : Turn) → TurnOf s at old job d answer new → Leaves at old new
-  doing_leaves Idle answer row = idle_leaves answer row
-  doing_leaves (Active tx) answer row = active_leaves tx tx.phase answer row
-  doing_leaves Starved answer row = starved_leaves answer row
-  doing_leaves (Ended end) answer row = absurd row
+  doing_leaves : (d : Doing) → ((tx : SeenTx) → active_in d ≡ Some tx → StartNone tx.late) → (answer : Turn) → TurnOf s at old job d answer new
+      → ChangesOne at old new
+  doing_leaves Idle none answer row = idle_leaves answer row
+  doing_leaves (Active tx) none answer row = active_leaves tx (none tx refl) tx.phase answer row
+  doing_leaves Starved none answer row = starved_leaves answer row
+  doing_leaves (Ended end) none answer row = absurd row
 
--- each turn does
-pub turn_leaves : (s : Setting) (at : ℕ) (old new : Now) (answer : Turn) → IsTurn s at old answer new → Leaves at old new
-turn_leaves s at old new answer t = doing_leaves s at old t.job new t.job.doing answer t.row
+-- each turn does, where no transaction starts a job
+pub turn_leaves : (s : Setting) (at : ℕ) (old new : Now) (answer : Turn) → ((tx : SeenTx) → IsActiveAt old.jobs at tx → StartNone tx.late)
+    → IsTurn s at old answer new → ChangesOne at old new
+turn_leaves s at old new answer none t =
+    doing_leaves s at old t.job new t.job.doing (λ tx is. none tx (t.job, t.stands, is)) answer t.row

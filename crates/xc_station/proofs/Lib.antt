@@ -9,8 +9,11 @@ pub mod Placed
 pub mod Ready
 pub mod Rivals
 pub mod Rooms
+pub mod Seated
+pub mod Tracked
 pub mod RoomsKept
 pub mod RowsCalled
+pub mod RowsMarked
 pub mod RowsRun
 pub mod Runs
 pub mod Stages
@@ -18,4 +21,6 @@ pub mod Started
 pub mod Steady
 pub mod Touching
 pub mod TurnRows
+pub mod Unstarted
 pub mod WordActs
+pub mod WaitsKept

@@ -19,16 +19,19 @@ use Rattle.xc_txmem.specs.Overlay.{AreWithin}
 use Rattle.xc_text.specs.declared.script.Block.{Block}
 use Rattle.xc_text.specs.declared.script.Script.{Script}
 use Rattle.xc_text.specs.Scripts.{IsBlock}
-use Rattle.xc_script.specs.Ask.{transactions_of, transactions_at}
+use Rattle.xc_script.specs.Ask.{walk_from, transactions_of, transactions_at}
 use Rattle.xc_story.specs.declared.phase.Attempts.{Attempts}
 use Rattle.xc_story.specs.declared.rules.Rules.{Rules}
 use Rattle.xc_story.specs.Setting.{Setting, setting}
 use Rattle.xc_story.specs.WordCalls.{words_after, words_behind}
 use Rattle.xc_story.specs.Progress.{Following, Progress, after_entry, opening_progress, progress_of, words_left}
-use Rattle.xc_story.specs.Seen.{SeenTx, SeenJob, Active, Now, active_in, actives, failures, late_left}
+use Rattle.xc_story.specs.Seen.{SeenTx, SeenJob, Active, Now, active_in, actives, failures, late_left, Doing, Idle, Starved, Ended}
 use Rattle.xc_story.specs.Told.{AreAttempts, IsDoing, IsInPhase, IsUnderway}
 use Rattle.xc_story.specs.Rows.{IsActiveAt}
-use Rattle.xc_turns.proofs.GivenNumbers.{given_once}
+use Rattle.xc_turns.proofs.GivenNumbers.{given_by_now, given_once}
+use Rattle.xc_sentinel.specs.declared.seat.Seat.{Seat}
+use Rattle.xc_sentinel.specs.Seating.{seat_in}
+use Rattle.xc_station.proofs.Tracked.{nobody}
 use Rattle.xc_played.proofs.NewNumbers.{absent_now}
 use Rattle.xc_played.proofs.NextLate.{late_there}
 use Rattle.xc_played.proofs.NextRecord.{covered_now}
@@ -38,11 +41,12 @@ use Rattle.xc_station.specs.declared.job.Job.{Job}
 use Rattle.xc_station.specs.declared.job.Stage.{Stage}
 use Rattle.xc_station.specs.declared.job.Stage.TheVariants as stage
 use Rattle.xc_station.specs.Jobs.{doing_of, seen_job, seen_jobs}
-use Rattle.xc_station.specs.Moments.{AreSingle, CanRun, IsAt}
+use Rattle.xc_station.specs.Moments.{AreSingle, CanRun, IsAt, marks_of, runs, seated_as}
 use Rattle.xc_station.specs.Stations.{HasRooms, IsSteady, moment}
 use Rattle.xc_station.proofs.Placed.{get_map, length_set}
 use Rattle.xc_station.proofs.Rooms.{one_active}
 use Rattle.xc_station.proofs.Stages.{IsThere, committing_stage, running_stage, undoing_stage}
+use Rattle.xc_station.proofs.Unstarted.{StartNone, late_none}
 
 -- ---- the job's story
 get_beside : {A B : Type 0} (xs : List A) (ys : List B) (i : ℕ) (y : B) → length xs ≡ length ys → slice_get ys i ≡ Some y
@@ -71,6 +75,18 @@ module _ (s : Setting) (faults : ℕ) (now : Now) (steady : IsSteady s faults no
         attempts = tells.attempts;
         underway = subst (IsDoing s (length now.journal + length (actives now.jobs)) beside.0 job) does tells.doing;
       }
+
+active_does : (d : Doing) (tx : SeenTx) → active_in d ≡ Some tx → d ≡ Active tx
+active_does (Active t) tx is = let same : t ≡ tx = cc is in ap Active same
+active_does Idle tx is = cc is
+active_does Starved tx is = cc is
+active_does (Ended end) tx is = cc is
+
+-- it starts no job
+pub starts_none : (s : Setting) (faults : ℕ) (now : Now) → IsSteady s faults now → (at : ℕ) (tx : SeenTx) → IsActiveAt now.jobs at tx → StartNone tx.late
+starts_none s faults now steady at tx (job, stands, active) =
+    let t = telling s faults now steady at job tx stands (active_does job.doing tx active) in
+    late_none (walk_from s.script t.following.job) tx t.underway.asked t.underway.kept
 
 -- ---- its transaction is one of a few
 few_there : (blocks : List Block) (i : ℕ) → All IsBlock blocks → length (transactions_of (slice_get blocks i)) ≤ 1000
@@ -137,13 +153,18 @@ module _ (s : Setting) (faults : ℕ) (now : Now) (steady : IsSteady s faults no
       let same = failed_so t.following job.attempts t.attempts in
       omega (arith, less, same)
 
+unseated : (o : Option Seat) → seated_as o ≡ None → o ≡ None
+unseated None is = refl
+unseated (Some seat) is = cc is
+
 -- ---- what functions ask
 module _ {H : Type 0} (model : HostModel H) (shared : Shared H) (journal : List Entry) (jobs : List Job) (at : ℕ) (was : Job)
     (script : Script) (rules : Rules) (faults active spare : ℕ) (lines : Roomy JobLine)
     (steady : IsSteady (setting script rules model.tells) faults (moment model shared journal jobs))
-    (rooms : HasRooms shared.claims active spare (moment model shared journal jobs) lines) where
+    (rooms : HasRooms shared.sentinels active spare (moment model shared journal jobs) lines) where
   single : AreSingle (seen_jobs jobs)
-  single = given_once (setting script rules model.tells) (length shared.words) journal (seen_jobs jobs) steady.kept.told
+  single =
+      given_once (setting script rules model.tells) (length shared.words) (marks_of shared.sentinels.seats) journal (seen_jobs jobs) steady.kept.told
 
   -- a running job may go on
   pub may_run : IsThere jobs at stage.Running was → CanRun script model shared (seen_job was)
@@ -184,7 +205,9 @@ module _ {H : Type 0} (model : HostModel H) (shared : Shared H) (journal : List 
         contents = refl;
         faults = refl;
         stands = get_map seen_job jobs at was is.stands;
+        marks = refl;
         table = rooms.claims;
+        seats = rooms.seats;
         apart = steady.kept.apart;
         single = single;
       }
@@ -220,6 +243,21 @@ module _ {H : Type 0} (model : HostModel H) (shared : Shared H) (journal : List 
             late_there s now (steady.flying tells) at (seen_job was) mine.tx call calls there (ap active_in mine.doing) mine.phase left,
       )
 
+  -- the transaction of a job starts no job
+  pub none_here : (s : Stage) → IsThere jobs at s was → (tx : SeenTx) → doing_of was ≡ Active tx → StartNone tx.late
+  none_here s is tx does = starts_none (setting script rules model.tells) faults (moment model shared journal jobs) steady at tx
+      (seen_job was, get_map seen_job jobs at was is.stands, ap active_in does)
+
+  -- the next transaction has no seat yet
+  pub next_unseated : seat_in shared.sentinels.seats (length journal + active + 1) ≡ None
+  next_unseated =
+      let counted = rooms.count in
+      unseated (seat_in shared.sentinels.seats (length journal + active + 1))
+      (nobody (λ n. seated_as (seat_in shared.sentinels.seats n)) (λ (t : SeenTx). Some (t.rank, runs t.phase)) (seen_jobs jobs) rooms.seats
+      (length journal + active + 1)
+      (λ j t a. let few = (given_by_now (setting script rules model.tells) (length shared.words) (marks_of shared.sentinels.seats) journal (seen_jobs jobs)
+      steady.kept.told j t a).1 in omega (arith, few, counted)))
+
   -- numbers that fit, of a job with an active transaction
   pub fits_next : (s : Stage) (tx : SeenTx) → IsThere jobs at s was → doing_of was ≡ Active tx → was.place.next < 2 ^ 32
   fits_next s tx is does = few_next (setting script rules model.tells) faults (moment model shared journal jobs) steady at (seen_job was) tx
@@ -234,5 +272,5 @@ module _ {H : Type 0} (model : HostModel H) (shared : Shared H) (journal : List 
 
   -- each active one has its room
   pub has_room : (s : Stage) (tx : SeenTx) → IsThere jobs at s was → doing_of was ≡ Active tx → (1 ≤ active) × (1 ≤ spare)
-  has_room s tx is does = one_active shared.claims active spare (moment model shared journal jobs) lines at (seen_job was) tx
+  has_room s tx is does = one_active shared.sentinels active spare (moment model shared journal jobs) lines at (seen_job was) tx
       (get_map seen_job jobs at was is.stands) (ap active_in does) rooms

@@ -1,52 +1,78 @@
 -- What a station keeps beside its moment, behind each row.
-use Rattle.std.proofs.Common.{◌≡◌, ◌≢◌, inl, inr, ℕ, ◌+◌, ◌-◌, ◌≤◌, List, length, refl, ap, sym, ◌∙◌, subst, arith}
-use Rattle.std.specs.Prelude.{slice_get, slice_set}
+use Rattle.std.proofs.Common.{◌≡◌, ◌≢◌, inl, inr, ℕ, ◌+◌, ◌-◌, ◌<◌, ◌≤◌, Bool, true, List, length, refl, ap, sym, ◌∙◌, subst, arith}
+use Rattle.std.specs.Prelude.{Option, slice_get, slice_set}
 use Rattle.std.specs.declared.option.Option.TheVariants.{None, Some}
+use Rattle.xc_data.specs.declared.claim.Claim.{Claim}
 use Rattle.xc_data.specs.declared.entry.Cause.{Cause}
 use Rattle.xc_data.specs.declared.entry.Cause.TheVariants as cause
 use Rattle.xc_data.specs.declared.entry.Entry.{Entry}
 use Rattle.xc_data.specs.declared.entry.JobLine.{JobLine}
+use Rattle.xc_data.specs.declared.entry.Mark.{Mark}
 use Rattle.xc_data.specs.declared.entry.Turn.{Turn}
 use Rattle.xc_data.specs.declared.entry.Turn.TheVariants as turn
-use Rattle.xc_data.specs.declared.object.Object.{Object}
 use Rattle.xc_host.specs.Model.{HostModel}
 use Rattle.xc_journal.specs.Room.{Roomy}
 use Rattle.xc_script.specs.declared.ask.Ask.{Ask}
 use Rattle.xc_script.specs.declared.ask.Ask.TheVariants as ask
-use Rattle.xc_script.specs.Position.{Position}
-use Rattle.xc_wordlocks.specs.Table.{KeepsOthers, mode_of}
+use Rattle.xc_sentinel.specs.declared.sentinels.Sentinels.{Sentinels}
+use Rattle.xc_sentinel.specs.Seating.{KeepsSeats, SetsSeat, seat_in}
+use Rattle.xc_wordlocks.specs.Table.{Table, mode_in, mode_of}
 use Rattle.xc_story.specs.Setting.{Setting}
-use Rattle.xc_story.specs.Seen.{SeenTx, SeenJob, Active, Ended, Now, active_in, active_of, begun_count, rank_of, with_job}
-use Rattle.xc_story.specs.Rows.{AskedTurn, IdleTurn, RunningTurn, asked_at, beginning_job, behind_abort, new_tx, with_tx}
+use Rattle.xc_story.specs.Seen.{SeenTx, SeenJob, Active, Ended, Now, active_in, active_of, begun_count, rank_of, waiting, with_job}
+use Rattle.xc_story.specs.Rows.{AskedTurn, IdleTurn, IsActiveAt, MarkedTurn, RunningTurn, asked_at, beginning_job, behind_abort, new_tx}
 use Rattle.xc_story.specs.Told.{AreTold}
 use Rattle.xc_turns.proofs.GivenNumbers.{given_once, given_by_now}
 use Rattle.xc_station.specs.declared.calls.Shared.{Shared}
 use Rattle.xc_station.specs.declared.job.Job.{Job}
+use Rattle.xc_station.specs.Beginning.{IsSeatBehind}
 use Rattle.xc_station.specs.Jobs.{doing_of, seen_job, seen_jobs}
-use Rattle.xc_station.specs.Moments.{IsRow, moved}
+use Rattle.xc_station.specs.Moments.{Frees, IsRunningRow, marks_of, moved, runs, seated_as}
 use Rattle.xc_station.specs.Stations.{HasRooms, moment}
 use Rattle.xc_station.proofs.Placed.{ones, get_map, get_set, map_set}
-use Rattle.xc_station.proofs.Rooms.{rooms_set, table_begun, table_goes_on, table_released, table_still}
+use Rattle.xc_station.proofs.Rooms.{rooms_set}
+use Rattle.xc_station.proofs.Seated.{seat_there, seat_elsewhere}
+use Rattle.xc_station.proofs.Tracked.{nobody, tracked_begun, tracked_ended, tracked_on, tracked_still}
 
 -- ---- a running transaction goes on
--- the job that a row leaves in the place
-pub record GoesOn (old new : Now) (at : ℕ) (job : SeenJob) : Type 0 where
-  pub place : Position
-  pub tx : SeenTx
-  pub jobs : new.jobs ≡ slice_set old.jobs at (with_tx job place tx)
+-- the job that a row leaves in the place: its transaction has the same number and rank
+pub record GoesOn (old new : Now) (at : ℕ) (job : SeenJob) (tx : SeenTx) : Type 0 where
+  pub behind : SeenJob
+  pub tx' : SeenTx
+  pub doing : behind.doing ≡ Active tx'
+  pub number : tx'.number ≡ tx.number
+  pub rank : tx'.rank ≡ tx.rank
+  pub jobs : new.jobs ≡ slice_set old.jobs at behind
 
-asked_on : (s : Setting) (at : ℕ) (old : Now) (job : SeenJob) (tx : SeenTx) (a : Ask) (new : Now) → AskedTurn s at old job tx a new → GoesOn old new at job
-asked_on s at old job tx (ask.Call call) new (inl row) = record { place = row.place; tx = _; jobs = row.jobs }
-asked_on s at old job tx (ask.Call call) new (inr row) = record { place = row.place; tx = _; jobs = ap (λ (n : Now). n.jobs) row.behind }
-asked_on s at old job tx ask.Commit new row = record { place = row.place; tx = _; jobs = ap (λ (n : Now). n.jobs) row.behind }
-asked_on s at old job tx ask.Abort new row = record { place = row.place; tx = _; jobs = ap (λ (n : Now). n.jobs) row.behind }
+asked_on : (s : Setting) (at : ℕ) (old : Now) (job : SeenJob) (tx : SeenTx) (a : Ask) (new : Now) → AskedTurn s at old job tx a new
+    → GoesOn old new at job tx
+asked_on s at old job tx (ask.Call call) new (inl row) =
+    record { behind = _; tx' = _; doing = refl; number = refl; rank = refl; jobs = ap (λ (n : Now). n.jobs) row.behind }
+asked_on s at old job tx (ask.Call call) new (inr row) =
+    record { behind = _; tx' = _; doing = refl; number = refl; rank = refl; jobs = ap (λ (n : Now). n.jobs) row.behind }
+asked_on s at old job tx ask.Commit new row =
+    record { behind = _; tx' = _; doing = refl; number = refl; rank = refl; jobs = ap (λ (n : Now). n.jobs) row.behind }
+asked_on s at old job tx ask.Abort new row =
+    record { behind = _; tx' = _; doing = refl; number = refl; rank = refl; jobs = ap (λ (n : Now). n.jobs) row.behind }
 asked_on s at old job tx ask.End new row = absurd row
 
-goes_on : (s : Setting) (at : ℕ) (old : Now) (job : SeenJob) (tx : SeenTx) (answer : Turn) (new : Now) → RunningTurn s at old job tx answer new
-    → GoesOn old new at job
+-- a running transaction's turn keeps its number and its rank
+pub goes_on : (s : Setting) (at : ℕ) (old : Now) (job : SeenJob) (tx : SeenTx) (answer : Turn) (new : Now) → RunningTurn s at old job tx answer new
+    → GoesOn old new at job tx
 goes_on s at old job tx turn.Went new row = asked_on s at old job tx (asked_at s job.place) new row
-goes_on s at old job tx turn.NoMemory new row = record { place = row.place; tx = _; jobs = row.jobs }
-goes_on s at old job tx _ new row = absurd row
+goes_on s at old job tx turn.NoMemory new row =
+    record { behind = _; tx' = _; doing = refl; number = refl; rank = refl; jobs = ap (λ (n : Now). n.jobs) row.behind }
+goes_on s at old job tx (turn.Busy object holder) new row =
+    record { behind = _; tx' = _; doing = refl; number = refl; rank = refl; jobs = ap (λ (n : Now). n.jobs) row.behind }
+goes_on s at old job tx (turn.Ended end) new row = absurd row
+
+marked_on : (s : Setting) (at : ℕ) (old : Now) (job : SeenJob) (tx : SeenTx) (mark : Option Mark) (answer : Turn) (new : Now)
+    → MarkedTurn s at old job tx mark answer new → GoesOn old new at job tx
+marked_on s at old job tx None answer new row = goes_on s at old job tx answer new row
+marked_on s at old job tx (Some m) turn.Went new row =
+    record { behind = _; tx' = _; doing = refl; number = refl; rank = refl; jobs = ap (λ (n : Now). n.jobs) row }
+marked_on s at old job tx (Some m) (turn.Busy object holder) new row = absurd row
+marked_on s at old job tx (Some m) turn.NoMemory new row = absurd row
+marked_on s at old job tx (Some m) (turn.Ended end) new row = absurd row
 
 -- ---- behind an abort nothing is active
 pub back_none : (job : SeenJob) (tx : SeenTx) (c : Cause) → active_of (behind_abort job tx c) ≡ None
@@ -58,113 +84,169 @@ back_none job tx _ = refl
 -- ---- at the moments of a station
 module _ {H : Type 0} (model : HostModel H) (shared : Shared H) (journal : List Entry) (jobs : List Job) (at : ℕ) (was job : Job)
     (active spare : ℕ) (lines : Roomy JobLine) (stands : slice_get jobs at ≡ Some was)
-    (rooms : HasRooms shared.claims active spare (moment model shared journal jobs) lines) where
+    (rooms : HasRooms shared.sentinels active spare (moment model shared journal jobs) lines) where
   there : slice_get (seen_jobs jobs) at ≡ Some (seen_job was)
   there = get_map seen_job jobs at was stands
 
   -- neither has an active transaction
-  pub rooms_still : (journal' : List Entry) (spare' : ℕ) → active_of (seen_job was) ≡ None → active_of (seen_job job) ≡ None → spare ≤ spare'
-      → HasRooms shared.claims active spare' (moment model shared journal' (slice_set jobs at job)) lines
-  rooms_still journal' spare' none none' more =
-      rooms_set shared.claims shared.claims active active spare spare' (moment model shared journal jobs) (moment model shared journal'
-      (slice_set jobs at job)) lines at
+  pub rooms_still : (sentinels' : Sentinels) (journal' : List Entry) (spare' : ℕ) → sentinels'.claims ≡ shared.sentinels.claims
+      → KeepsSeats shared.sentinels.seats sentinels'.seats → active_of (seen_job was) ≡ None → active_of (seen_job job) ≡ None → spare ≤ spare'
+      → HasRooms sentinels' active spare' (moment model (record shared { sentinels = sentinels' }) journal' (slice_set jobs at job)) lines
+  rooms_still sentinels' journal' spare' same kept none none' more =
+      rooms_set shared.sentinels sentinels' active active spare spare' (moment model shared journal jobs)
+      (moment model (record shared { sentinels = sentinels' }) journal' (slice_set jobs at job)) lines at
       (seen_job was) (seen_job job) there (map_set seen_job jobs at job)
-      (table_still shared.claims shared.claims (seen_jobs jobs) at (seen_job was) (seen_job job) there rooms.claims refl none none')
+      (λ o. tracked_still (λ n. mode_of shared.sentinels.claims n o) (λ (t : SeenTx). mode_in t.held o) (seen_jobs jobs) (rooms.claims o)
+      (λ n. mode_of sentinels'.claims n o) at (seen_job was) (seen_job job) there (λ n. ap (λ (t : Table). mode_of t n o) same) none none')
+      (tracked_still (λ n. seated_as (seat_in shared.sentinels.seats n)) (λ (t : SeenTx). Some (t.rank, runs t.phase)) (seen_jobs jobs) rooms.seats
+      (λ n. seated_as (seat_in sentinels'.seats n)) at (seen_job was) (seen_job job) there (λ n. ap seated_as (kept n)) none none')
       (let a : ones (active_of (seen_job was)) ≡ 0 = ap ones none in let b : ones (active_of (seen_job job)) ≡ 0 = ap ones none' in omega (arith, a, b))
       (let room = rooms.room in omega (arith, room, more)) rooms
 
   -- an idle one's next has begun
-  pub rooms_begun : (s : Setting) (journal' : List Entry) (spare' : ℕ) → AreTold s (length shared.words) journal (seen_jobs jobs)
+  pub rooms_begun : (s : Setting) (sentinels' : Sentinels) (journal' : List Entry) (spare' : ℕ)
+      → AreTold s (length shared.words) (marks_of shared.sentinels.seats) journal (seen_jobs jobs)
+      → sentinels'.claims ≡ shared.sentinels.claims
+      → SetsSeat shared.sentinels.seats sentinels'.seats (length journal + active + 1)
+      (Some (record { rank = rank_of was.attempts (length journal + active + 1); running = true; mark = None }))
       → active_of (seen_job was) ≡ None → seen_job job ≡ beginning_job (moment model shared journal jobs) (seen_job was) → active + 1 ≤ spare'
-      → HasRooms shared.claims (active + 1) spare' (moment model shared journal' (slice_set jobs at job)) lines
-  rooms_begun s journal' spare' told none begins room =
+      → HasRooms sentinels' (active + 1) spare' (moment model (record shared { sentinels = sentinels' }) journal' (slice_set jobs at job)) lines
+  rooms_begun s sentinels' journal' spare' told same sets none begins room =
       let old = moment model shared journal jobs in
       let number = begun_count old + 1 in
+      let counted : length journal + active + 1 ≡ number = ap (λ n. length journal + n + 1) (sym rooms.count) in
       let tx : SeenTx = new_tx number (rank_of was.attempts number) (length journal) (seen_job was).me in
       let is : active_of (seen_job job) ≡ Some tx = ap active_of begins in
-      rooms_set shared.claims shared.claims active (active + 1) spare spare' old (moment model shared journal' (slice_set jobs at job)) lines at
+      let above : (j : ℕ) (t : SeenTx) → IsActiveAt (seen_jobs jobs) j t → t.number < number =
+      λ j t a. let few = (given_by_now s (length shared.words) (marks_of shared.sentinels.seats) journal (seen_jobs jobs) told j t a).1 in omega (arith, few) in
+      let sat : SetsSeat shared.sentinels.seats sentinels'.seats number (Some (record { rank = rank_of was.attempts number; running = true; mark = None })) =
+      subst (λ n. SetsSeat shared.sentinels.seats sentinels'.seats n (Some (record { rank = rank_of was.attempts n; running = true; mark = None })))
+      counted sets in
+      rooms_set shared.sentinels sentinels' active (active + 1) spare spare' old
+      (moment model (record shared { sentinels = sentinels' }) journal' (slice_set jobs at job)) lines at
       (seen_job was) (seen_job job) there (map_set seen_job jobs at job)
-      (table_begun shared.claims shared.claims (seen_jobs jobs) at (seen_job was) (seen_job job) there rooms.claims tx refl none is refl
-      (λ j t a. let few = (given_by_now s (length shared.words) journal (seen_jobs jobs) told j t a).1 in omega (arith, few)))
+      (λ o. tracked_begun (λ n. mode_of shared.sentinels.claims n o) (λ (t : SeenTx). mode_in t.held o) (seen_jobs jobs) (rooms.claims o)
+      (λ n. mode_of sentinels'.claims n o) at (seen_job was) (seen_job job) there tx none is
+      (ap (λ (t : Table). mode_of t number o) same
+      ∙ nobody (λ n. mode_of shared.sentinels.claims n o) (λ (t : SeenTx). mode_in t.held o) (seen_jobs jobs) (rooms.claims o) number above)
+      (λ n ne. ap (λ (t : Table). mode_of t n o) same) above)
+      (tracked_begun (λ n. seated_as (seat_in shared.sentinels.seats n)) (λ (t : SeenTx). Some (t.rank, runs t.phase)) (seen_jobs jobs) rooms.seats
+      (λ n. seated_as (seat_in sentinels'.seats n)) at (seen_job was) (seen_job job) there tx none is
+      (ap seated_as (seat_there shared.sentinels.seats sentinels'.seats number _ sat))
+      (λ n ne. ap seated_as (seat_elsewhere shared.sentinels.seats sentinels'.seats number _ sat n ne)) above)
       (let a : ones (active_of (seen_job was)) ≡ 0 = ap ones none in let b : ones (active_of (seen_job job)) ≡ 1 = ap ones is in omega (arith, a, b))
       room rooms
 
   -- a running one goes on
   pub rooms_running : (s : Setting) (shared' : Shared H) (answer : Turn)
-      → IsRow s (moment model shared journal jobs) (moved model shared' (seen_job job) (moment model shared journal jobs) at) at (seen_job was) answer
-      shared'.claims
-      → HasRooms shared'.claims active spare (moment model shared' journal (slice_set jobs at job)) lines
+      → IsRunningRow s (moment model shared journal jobs) (moved model shared' (seen_job job) (moment model shared journal jobs) at) at (seen_job was) answer
+      shared'.sentinels
+      → HasRooms shared'.sentinels active spare (moment model shared' journal (slice_set jobs at job)) lines
   rooms_running s shared' answer row =
       let old = moment model shared journal jobs in
-      let on = goes_on s at old (seen_job was) row.tx answer (moved model shared' (seen_job job) old at) row.row in
+      let on = marked_on s at old (seen_job was) row.tx (old.marks row.tx.number) answer (moved model shared' (seen_job job) old at) row.row in
       let here = get_set (seen_jobs jobs) at (seen_job was) (seen_job job) there in
-      let also = get_set (seen_jobs jobs) at (seen_job was) (with_tx (seen_job was) on.place on.tx) there in
+      let also = get_set (seen_jobs jobs) at (seen_job was) on.behind there in
       let both = ap (λ js. slice_get js at) on.jobs in
-      let one : seen_job job ≡ with_tx (seen_job was) on.place on.tx = cc (here, also, both) in
-      rooms_set shared.claims shared'.claims active active spare spare old (moment model shared' journal (slice_set jobs at job)) lines at
-      (seen_job was) (seen_job job) there (map_set seen_job jobs at job) row.table
+      let one : seen_job job ≡ on.behind = cc (here, also, both) in
+      rooms_set shared.sentinels shared'.sentinels active active spare spare old (moment model shared' journal (slice_set jobs at job)) lines at
+      (seen_job was) (seen_job job) there (map_set seen_job jobs at job) row.table row.seats
       (let a : ones (active_of (seen_job was)) ≡ 1 = ap (λ d. ones (active_in d)) row.doing in
-      let b : ones (active_of (seen_job job)) ≡ 1 = ap (λ j. ones (active_of j)) one in omega (arith, a, b))
+      let b : ones (active_of (seen_job job)) ≡ 1 = ap (λ j. ones (active_of j)) one ∙ ap (λ d. ones (active_in d)) on.doing in omega (arith, a, b))
       rooms.room rooms
 
   -- a committing or an undoing one goes on
-  pub rooms_going : (shared' : Shared H) (tx tx' : SeenTx) → shared'.claims ≡ shared.claims → doing_of was ≡ Active tx
-      → doing_of job ≡ Active tx'
-      → tx'.number ≡ tx.number → tx'.held ≡ tx.held → HasRooms shared'.claims active spare (moment model shared' journal (slice_set jobs at job)) lines
-  rooms_going shared' tx tx' same does does' number held =
-      rooms_set shared.claims shared'.claims active active spare spare (moment model shared journal jobs) (moment model shared' journal
-      (slice_set jobs at job)) lines at
+  pub rooms_going : (s : Setting) (shared' : Shared H) (tx tx' : SeenTx)
+      → AreTold s (length shared.words) (marks_of shared.sentinels.seats) journal (seen_jobs jobs)
+      → shared'.sentinels ≡ shared.sentinels → doing_of was ≡ Active tx → doing_of job ≡ Active tx'
+      → tx'.number ≡ tx.number → tx'.held ≡ tx.held → ◌≡◌ {A = ℕ × Bool} (tx'.rank, runs tx'.phase) (tx.rank, runs tx.phase)
+      → HasRooms shared'.sentinels active spare (moment model shared' journal (slice_set jobs at job)) lines
+  rooms_going s shared' tx tx' told same does does' number held seated =
+      let single = given_once s (length shared.words) (marks_of shared.sentinels.seats) journal (seen_jobs jobs) told in
+      let mine : IsActiveAt (seen_jobs jobs) at tx = (seen_job was, there, ap active_in does) in
+      rooms_set shared.sentinels shared'.sentinels active active spare spare (moment model shared journal jobs)
+      (moment model shared' journal (slice_set jobs at job)) lines at
       (seen_job was) (seen_job job) there (map_set seen_job jobs at job)
-      (table_goes_on shared.claims shared'.claims (seen_jobs jobs) at (seen_job was) (seen_job job) there rooms.claims tx tx' same (ap active_in does)
-      (ap active_in does')
-      number held)
+      (λ o. tracked_on (λ n. mode_of shared.sentinels.claims n o) (λ (t : SeenTx). mode_in t.held o) (seen_jobs jobs) (rooms.claims o)
+      (λ n. mode_of shared'.sentinels.claims n o) at (seen_job was) (seen_job job) there single tx (ap active_in does)
+      (λ n ne. ap (λ (t : Sentinels). mode_of t.claims n o) same) tx' (ap active_in does') number
+      (ap (λ (t : Sentinels). mode_of t.claims tx.number o) same ∙ (rooms.claims o).held at tx mine ∙ ap (λ (h : List Claim). mode_in h o) (sym held)))
+      (tracked_on (λ n. seated_as (seat_in shared.sentinels.seats n)) (λ (t : SeenTx). Some (t.rank, runs t.phase)) (seen_jobs jobs) rooms.seats
+      (λ n. seated_as (seat_in shared'.sentinels.seats n)) at (seen_job was) (seen_job job) there single tx (ap active_in does)
+      (λ n ne. ap (λ (t : Sentinels). seated_as (seat_in t.seats n)) same) tx' (ap active_in does') number
+      (ap (λ (t : Sentinels). seated_as (seat_in t.seats tx.number)) same ∙ rooms.seats.held at tx mine ∙ ap Some (sym seated)))
       (let a : ones (active_of (seen_job was)) ≡ 1 = ap (λ d. ones (active_in d)) does in
       let b : ones (active_of (seen_job job)) ≡ 1 = ap (λ d. ones (active_in d)) does' in omega (arith, a, b))
       rooms.room rooms
 
   -- one has entered
-  pub rooms_entered : (s : Setting) (shared' : Shared H) (journal' : List Entry) (spare' : ℕ) (tx : SeenTx) → AreTold s (length shared.words) journal
-      (seen_jobs jobs)
-      → doing_of was ≡ Active tx → active_of (seen_job job) ≡ None → ((o : Object) → mode_of shared'.claims tx.number o ≡ None)
-      → KeepsOthers tx.number shared.claims shared'.claims → 1 ≤ active → spare' + 1 ≡ spare
-      → HasRooms shared'.claims (active - 1) spare' (moment model shared' journal' (slice_set jobs at job)) lines
-  rooms_entered s shared' journal' spare' tx told does none freed others some less =
+  pub rooms_entered : (s : Setting) (shared' : Shared H) (journal' : List Entry) (spare' : ℕ) (tx : SeenTx)
+      → AreTold s (length shared.words) (marks_of shared.sentinels.seats) journal (seen_jobs jobs)
+      → doing_of was ≡ Active tx → active_of (seen_job job) ≡ None → Frees shared.sentinels shared'.sentinels tx.number → 1 ≤ active → spare' + 1 ≡ spare
+      → HasRooms shared'.sentinels (active - 1) spare' (moment model shared' journal' (slice_set jobs at job)) lines
+  rooms_entered s shared' journal' spare' tx told does none freed some less =
       let room = rooms.room in
-      rooms_set shared.claims shared'.claims active (active - 1) spare spare' (moment model shared journal jobs) (moment model shared' journal'
-      (slice_set jobs at job)) lines at
+      let single = given_once s (length shared.words) (marks_of shared.sentinels.seats) journal (seen_jobs jobs) told in
+      rooms_set shared.sentinels shared'.sentinels active (active - 1) spare spare' (moment model shared journal jobs)
+      (moment model shared' journal' (slice_set jobs at job)) lines at
       (seen_job was) (seen_job job) there (map_set seen_job jobs at job)
-      (table_released shared.claims shared'.claims (seen_jobs jobs) at (seen_job was) (seen_job job) there rooms.claims tx
-      (given_once s (length shared.words) journal (seen_jobs jobs) told) (ap active_in does) none freed others)
+      (λ o. tracked_ended (λ n. mode_of shared.sentinels.claims n o) (λ (t : SeenTx). mode_in t.held o) (seen_jobs jobs) (rooms.claims o)
+      (λ n. mode_of shared'.sentinels.claims n o) at (seen_job was) (seen_job job) there single tx (ap active_in does)
+      (λ n ne. freed.others n o ne) none (freed.released o))
+      (tracked_ended (λ n. seated_as (seat_in shared.sentinels.seats n)) (λ (t : SeenTx). Some (t.rank, runs t.phase)) (seen_jobs jobs) rooms.seats
+      (λ n. seated_as (seat_in shared'.sentinels.seats n)) at (seen_job was) (seen_job job) there single tx (ap active_in does)
+      (λ n ne. ap seated_as (seat_elsewhere shared.sentinels.seats shared'.sentinels.seats tx.number None freed.seats n ne)) none
+      (ap seated_as (seat_there shared.sentinels.seats shared'.sentinels.seats tx.number None freed.seats)))
       (let a : ones (active_of (seen_job was)) ≡ 1 = ap (λ d. ones (active_in d)) does in
       let b : ones (active_of (seen_job job)) ≡ 0 = ap ones none in omega (arith, a, b, some))
       (omega (arith, room, some, less)) rooms
 
   -- an idle one's turn sets what its row says
-  idle_set : (old : Now) (job' : SeenJob) → old.jobs ≡ seen_jobs jobs → with_job old at (seen_job job) ≡ with_job old at job' → seen_job job ≡ job'
-  idle_set old job' same e =
-      let stands' : slice_get old.jobs at ≡ Some (seen_job was) = ap (λ js. slice_get js at) same ∙ there in
-      let here = get_set old.jobs at (seen_job was) (seen_job job) stands' in
-      let also = get_set old.jobs at (seen_job was) job' stands' in
+  idle_set : (marks marks' : ℕ → Option Mark) (job' : SeenJob)
+      → record (with_job (moment model shared journal jobs) at (seen_job job)) { marks = marks }
+      ≡ record (with_job (moment model shared journal jobs) at job') { marks = marks' } → seen_job job ≡ job'
+  idle_set marks marks' job' e =
+      let here = get_set (seen_jobs jobs) at (seen_job was) (seen_job job) there in
+      let also = get_set (seen_jobs jobs) at (seen_job was) job' there in
       let both : Some (seen_job job) ≡ Some job' = sym here ∙ (ap (λ (now : Now). slice_get now.jobs at) e ∙ also) in
       cc both
 
-  -- an idle one's next has begun, by its row
-  pub rooms_idle_went : (s : Setting) (journal' : List Entry) (spare' : ℕ) (answer : Turn) → AreTold s (length shared.words) journal (seen_jobs jobs)
-      → active_of (seen_job was) ≡ None
-      → IdleTurn s at (moment model shared journal jobs) (seen_job was) answer (with_job (moment model shared journal jobs) at (seen_job job))
-      → answer ≡ turn.Went → active + 1 ≤ spare' → HasRooms shared.claims (active + 1) spare' (moment model shared journal' (slice_set jobs at job)) lines
-  rooms_idle_went s journal' spare' answer told none row went room =
-      let old = moment model shared journal jobs in
-      let begun = subst (λ a. IdleTurn s at old (seen_job was) a (with_job old at (seen_job job))) went row in
-      rooms_begun s journal' spare' told none (idle_set old (beginning_job old (seen_job was)) refl begun.1) room
+  module _ (s : Setting) (sentinels' : Sentinels) (journal' : List Entry) (spare' : ℕ) (answer : Turn) (none : active_of (seen_job was) ≡ None)
+      (row : IdleTurn s at (moment model shared journal jobs) (seen_job was) answer
+      (record (with_job (moment model shared journal jobs) at (seen_job job)) { marks = marks_of sentinels'.seats }))
+      (same : sentinels'.claims ≡ shared.sentinels.claims)
+      (sits : IsSeatBehind (length journal + active + 1) (rank_of was.attempts (length journal + active + 1)) shared.sentinels.seats sentinels'.seats answer)
+    where
+      -- an idle one's next has begun, by its row
+      pub rooms_idle_went : AreTold s (length shared.words) (marks_of shared.sentinels.seats) journal (seen_jobs jobs)
+          → answer ≡ turn.Went → active + 1 ≤ spare'
+          → HasRooms sentinels' (active + 1) spare' (moment model (record shared { sentinels = sentinels' }) journal' (slice_set jobs at job)) lines
+      rooms_idle_went told went room =
+          let old = moment model shared journal jobs in
+          let new = record (with_job old at (seen_job job)) { marks = marks_of sentinels'.seats } in
+          let begun = subst (λ a. IdleTurn s at old (seen_job was) a new) went row in
+          let number = length journal + active + 1 in
+          let sat = subst (IsSeatBehind number (rank_of was.attempts number) shared.sentinels.seats sentinels'.seats) went sits in
+          rooms_begun s sentinels' journal' spare' told same sat none
+          (idle_set (marks_of sentinels'.seats) _ (beginning_job old (seen_job was)) begun.1) room
 
-  -- or it has ended
-  pub rooms_idle_ended : (s : Setting) (journal' : List Entry) (spare' : ℕ) (answer : Turn) → active_of (seen_job was) ≡ None
-      → IdleTurn s at (moment model shared journal jobs) (seen_job was) answer (with_job (moment model shared journal jobs) at (seen_job job))
-      → answer ≢ turn.Went → spare ≤ spare' → HasRooms shared.claims active spare' (moment model shared journal' (slice_set jobs at job)) lines
-  rooms_idle_ended s journal' spare' (turn.Ended end) none row ended more =
-      let old = moment model shared journal jobs in
-      let none' : active_of (seen_job job) ≡ None = ap active_of (idle_set old (record (seen_job was) { doing = Ended end }) refl row.1) in
-      rooms_still journal' spare' none none' more
-  rooms_idle_ended s journal' spare' turn.Went none row ended more = absurd (ended refl)
-  rooms_idle_ended s journal' spare' _ none row ended more = absurd row
+      -- or it has ended, or waits
+      pub rooms_idle_halted : answer ≢ turn.Went → spare ≤ spare'
+          → HasRooms sentinels' active spare' (moment model (record shared { sentinels = sentinels' }) journal' (slice_set jobs at job)) lines
+      rooms_idle_halted halted more = by_answer answer refl row sits
+        where
+          by_answer : (a : Turn) → answer ≡ a
+              → IdleTurn s at (moment model shared journal jobs) (seen_job was) a
+              (record (with_job (moment model shared journal jobs) at (seen_job job)) { marks = marks_of sentinels'.seats })
+              → IsSeatBehind (length journal + active + 1) (rank_of was.attempts (length journal + active + 1)) shared.sentinels.seats sentinels'.seats a
+              → HasRooms sentinels' active spare' (moment model (record shared { sentinels = sentinels' }) journal' (slice_set jobs at job)) lines
+          by_answer (turn.Ended end) is row kept =
+              let none' : active_of (seen_job job) ≡ None =
+              ap active_of (idle_set (marks_of sentinels'.seats) _ (record (seen_job was) { doing = Ended end }) row.1) in
+              rooms_still sentinels' journal' spare' same kept none none' more
+          by_answer (turn.Busy object number) is row kept =
+              let none' : active_of (seen_job job) ≡ None =
+              ap active_of (idle_set (marks_of sentinels'.seats) _ (waiting (seen_job was)) row.1) ∙ none in
+              rooms_still sentinels' journal' spare' same kept none none' more
+          by_answer turn.Went is row kept = absurd (halted is)
+          by_answer turn.NoMemory is row kept = absurd row

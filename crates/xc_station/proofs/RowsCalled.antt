@@ -1,6 +1,6 @@
 -- Rows of the turn of a job whose transaction runs, of a call whose claims are granted: it is done, or memory is wanting.
 use Rattle.std.proofs.Common.{◌≡◌, ◌⊎◌, inl, inr, ℕ, ◌<◌, List, [], ◌∷◌, ◌++◌, length, IsTrue, refl, ap, sym, ◌∙◌, subst, arith}
-use Rattle.std.specs.Prelude.{All, slice_set}
+use Rattle.std.specs.Prelude.{All}
 use Rattle.xc_data.specs.Claims.{holding}
 use Rattle.xc_data.specs.Counts.{CountsFault}
 use Rattle.xc_data.specs.Faults.{is_fault_reply}
@@ -18,11 +18,11 @@ use Rattle.xc_script.specs.Ask.{asks, answered}
 use Rattle.xc_script.specs.Position.{Position, walk_of}
 use Rattle.xc_txmem.specs.Overlay.{overlaid}
 use Rattle.xc_world.specs.Modes.{claims_of}
-use Rattle.xc_wordlocks.specs.Table.{claimed, mode_in}
+use Rattle.xc_wordlocks.specs.Table.{claimed, mode_in, mode_of}
 use Rattle.xc_wordlocks.proofs.Held.{claimed-holding}
 use Rattle.xc_story.specs.declared.phase.Phase.TheVariants.{Undoing}
 use Rattle.xc_story.specs.Setting.{Setting}
-use Rattle.xc_story.specs.Seen.{SeenTx, SeenJob, Now, active_in}
+use Rattle.xc_story.specs.Seen.{SeenTx, SeenJob, Active, Now, active_in, with_job}
 use Rattle.xc_story.specs.WordCalls.{IsWordStep}
 use Rattle.xc_story.specs.Rows.{Calls, DoesIn, DoesPartIn, HasNoRival, HoldsWanting, IsActiveAt, IsLeft, IsSameBegin}
 use Rattle.xc_story.specs.Rows.{IsSamePosition, IsReplyInTime, Parts, RunningTurn, noting, parts_of, stored_by, wanting, with_tx}
@@ -31,9 +31,12 @@ use Rattle.xc_station.specs.declared.calls.Shared.{Shared}
 use Rattle.xc_station.specs.declared.tx.Tx.{Tx}
 use Rattle.xc_station.specs.Acting.{HasDone, LeavesOff, acting, leaving, with_parts}
 use Rattle.xc_station.specs.Jobs.{seen_tx}
-use Rattle.xc_station.specs.Moments.{HasTx, IsAt, IsGranted, IsRow, moved}
+use Rattle.xc_station.specs.Moments.{HasTx, IsAt, IsGranted, IsRow, counted, marks_of, moved}
 use Rattle.xc_station.proofs.RowsRun.{asked_before, asked_row}
-use Rattle.xc_station.proofs.Rivals.{none_met, table_behind}
+use Rattle.xc_station.proofs.Rivals.{none_met}
+use Rattle.xc_station.proofs.Seated.{marks_kept}
+use Rattle.xc_station.proofs.Tracked.{tracked_on}
+use Rattle.xc_station.proofs.Unstarted.{nothing_taken}
 
 -- the job stands behind the reply
 pub record IsBehind (s : Setting) (old new : Position) (reply : Reply) : Type 0 where
@@ -45,7 +48,7 @@ pub record IsBehind (s : Setting) (old new : Position) (reply : Reply) : Type 0 
 module _ {H : Type 0} (model : HostModel H) (s : Setting) (shared : Shared H) (now : Now) (at : ℕ) (job : SeenJob) (place : Position) (old : Tx)
     (here : IsAt model shared now at job) (has : HasTx s job place (seen_tx old)) (behind : Shared H) (mid : Tx) (call : Call)
     (words : behind.words ≡ shared.words) (asked : asks (walk_of s.script place) ≡ ask.Call call)
-    (g : IsGranted shared.claims behind.claims old mid (claims_of call old.me.value (length shared.words))) where
+    (g : IsGranted shared.sentinels behind.sentinels old mid (claims_of call old.me.value (length shared.words))) where
   active : IsActiveAt now.jobs at (seen_tx old)
   active = (job, here.stands, ap active_in has.doing)
 
@@ -53,24 +56,40 @@ module _ {H : Type 0} (model : HostModel H) (s : Setting) (shared : Shared H) (n
   claims_now = ap (λ n. claims_of call old.me.value n) (sym (ap length here.words))
 
   granted_free : All (HasNoRival now.jobs at) (claims_of call old.me.value (length now.words))
-  granted_free = subst (All (HasNoRival now.jobs at)) claims_now (none_met now.jobs at (seen_tx old) shared.claims here.table here.single here.apart active
+  granted_free =
+      subst (All (HasNoRival now.jobs at)) claims_now (none_met now.jobs at (seen_tx old) shared.sentinels.claims here.table here.single here.apart active
       (claims_of call old.me.value (length shared.words)) g.free)
 
   words_now : behind.words ≡ now.words
   words_now = words ∙ sym here.words
 
-  row_granted : (place' : Position) (tx : SeenTx) (answer : Turn) → tx.number ≡ old.number
+  marks_now : marks_of behind.sentinels.seats ≡ now.marks
+  marks_now = marks_kept shared.sentinels.seats behind.sentinels.seats g.seats ∙ sym here.marks
+
+  -- the host may have changed, and the job
+  touched : (job' : SeenJob) → moved model behind job' now at
+      ≡ record (with_job now at job') { contents = model.contents behind.host; faults = model.fault_count behind.host }
+  touched job' i = record (with_job now at job') {
+    words = words_now i;
+    contents = model.contents behind.host;
+    faults = model.fault_count behind.host;
+    marks = marks_now i;
+  }
+
+  row_granted : (job' : SeenJob) (tx : SeenTx) (answer : Turn) → job'.doing ≡ Active tx → tx.number ≡ old.number
       → tx.held ≡ holding old.held.items (claims_of call old.me.value (length shared.words))
-      → RunningTurn s at now job (seen_tx old) answer (moved model behind (with_tx job place' tx) now at)
-      → IsRow s now (moved model behind (with_tx job place' tx) now at) at job answer behind.claims
-  row_granted place' tx answer number held row =
+      → RunningTurn s at now job (seen_tx old) answer (moved model behind job' now at)
+      → IsRow s now (moved model behind job' now at) at job answer behind.sentinels.claims
+  row_granted job' tx answer doing number held row =
       let claims = claims_of call old.me.value (length shared.words) in
       record {
         tx = seen_tx old;
         doing = has.doing;
         row = row;
-        table = table_behind shared.claims behind.claims now.jobs at job (with_tx job place' tx) (seen_tx old) tx here.table here.single here.stands
-            (ap active_in has.doing) refl number g.others (λ o. g.row o ∙ ap (λ m. claimed m claims o) (here.table.held at (seen_tx old) o active)
+        table = λ o. tracked_on (λ n. mode_of shared.sentinels.claims n o) (λ (t : SeenTx). mode_in t.held o) now.jobs (here.table o)
+            (λ n. mode_of behind.sentinels.claims n o) at job job' here.stands here.single (seen_tx old) (ap active_in has.doing)
+            (λ n ne. g.others n o ne) tx (ap active_in doing) number
+            (g.row o ∙ ap (λ m. claimed m claims o) ((here.table o).held at (seen_tx old) active)
             ∙ claimed-holding old.held.items claims o ∙ ap (λ (h : List Claim). mode_in h o) (sym held));
       }
 
@@ -93,24 +112,26 @@ module _ {H : Type 0} (model : HostModel H) (s : Setting) (shared : Shared H) (n
         (subst (λ ws. Left ws (model.contents from) (parts_of (seen_tx mid))) words_now (l.contents (telling tells))))
 
     pub starved : (answer : Turn) → answer ≡ turn.NoMemory
-        → IsRow s now (moved model behind (with_tx job place' (seen_tx new)) now at) at job answer behind.claims
+        → IsRow s now (moved model behind (counted answer (with_tx job place' (seen_tx new))) now at) at job answer behind.sentinels.claims
     starved answer gives =
         let next = asked_before s job place (seen_tx old) (ask.Call call) has asked in
         let held = holding old.held.items (claims_of call old.me.value (length now.words)) in
         let moment = moved model behind (with_tx job place' (seen_tx new)) now at in
-        row_granted place' (seen_tx new) answer (ap (λ (t : SeenTx). t.number) left_as)
+        subst (λ a. IsRow s now (moved model behind (counted a (with_tx job place' (seen_tx new))) now at) at job a behind.sentinels.claims) (sym gives)
+        (row_granted (with_tx job place' (seen_tx new)) (seen_tx new) turn.NoMemory refl (ap (λ (t : SeenTx). t.number) left_as)
         (ap (λ (t : SeenTx). t.held) left_as ∙ ap (holding old.held.items) (sym claims_now))
-        (subst (λ a. RunningTurn s at now job (seen_tx old) a moment) (sym gives) (record {
+        (record {
           place = place';
           same = subst (IsSamePosition s job.place) (sym same) has.same;
           left = l.left;
           one = l.one;
           held = held;
           holds = subst (λ a. HoldsWanting now at (seen_tx old) a l.left held) (sym next) (inr (granted_free, refl));
-          jobs = ap (λ (t : SeenTx). slice_set now.jobs at (with_tx job place' t)) left_as;
-          words = words_now;
-          journal = refl;
-          faults = l.faults ∙ ap model.fault_count host ∙ sym here.faults;
+          behind = touched (with_tx job place' (seen_tx new))
+              ∙ (λ i. record (with_job now at (with_tx job place' (left_as i))) {
+                contents = model.contents behind.host;
+                faults = (l.faults ∙ ap model.fault_count host ∙ sym here.faults) i;
+              });
           contents = λ tells. subst (λ a. IsLeft now moment (parts_of (seen_tx old)) a l.left) (sym next) (left_now tells);
         }))
 
@@ -126,6 +147,8 @@ module _ {H : Type 0} (model : HostModel H) (s : Setting) (shared : Shared H) (n
 
     noted_as : seen_tx new ≡ noting (seen_tx old) call reply (claims_of call old.me.value (length now.words)) (parts_of (seen_tx done))
     noted_as = noted ∙ ap (λ (t : SeenTx). record t { calls = t.calls ++ call ∷ []; replies = t.replies ++ reply ∷ [] }) done_as
+        ∙ ap (λ taken. record (noting (seen_tx old) call reply (claims_of call old.me.value (length now.words)) (parts_of (seen_tx done))) { taken = taken })
+        (sym (nothing_taken call old.me.value reply (asked_built (walk_of s.script place) call asked)))
 
     writes_old : mid.writes ≡ old.writes
     writes_old = ap (λ (t : SeenTx). t.writes) g.held
@@ -149,9 +172,11 @@ module _ {H : Type 0} (model : HostModel H) (s : Setting) (shared : Shared H) (n
           reply = reply;
           place = place';
           parts = parts_of (seen_tx done);
-          jobs = ap (λ (t : SeenTx). slice_set now.jobs at (with_tx job place' t)) noted_as;
-          words = words_now;
-          journal = refl;
+          behind = touched (with_tx job place' (seen_tx new))
+              ∙ ap (λ (t : SeenTx). record (with_job now at (with_tx job place' t)) {
+                contents = model.contents behind.host;
+                faults = model.fault_count behind.host;
+              }) noted_as;
           begin = record {
             block = stands.begin.block ∙ has.same.begin.block;
             next = stands.begin.next ∙ has.same.begin.next;
@@ -160,7 +185,6 @@ module _ {H : Type 0} (model : HostModel H) (s : Setting) (shared : Shared H) (n
           walk = stands.walk ∙ ap (λ w. answered w reply) has.same.walk;
           nearer = (let far = stands.nearer in let near = has.same.at in omega arith);
           in_time = subst (λ (t : SeenTx). IsReplyInTime t.me t.number call reply) g.held d.in_time;
-          built = asked_built (walk_of s.script place) call asked;
           made = d.made;
           one = d.one;
           undo = d.undo ∙ ap (λ (t : SeenTx). record t.undo { pending = t.undo.pending ++ d.made }) g.held;
@@ -173,7 +197,7 @@ module _ {H : Type 0} (model : HostModel H) (s : Setting) (shared : Shared H) (n
         }
 
     -- so its turn is that of a call
-    pub called : IsRow s now (moved model behind (with_tx job place' (seen_tx new)) now at) at job turn.Went behind.claims
-    called = row_granted place' (seen_tx new) turn.Went (ap (λ (t : SeenTx). t.number) noted_as)
+    pub called : IsRow s now (moved model behind (with_tx job place' (seen_tx new)) now at) at job turn.Went behind.sentinels.claims
+    called = row_granted (with_tx job place' (seen_tx new)) (seen_tx new) turn.Went refl (ap (λ (t : SeenTx). t.number) noted_as)
         (ap (λ (t : SeenTx). t.held) noted_as ∙ ap (holding old.held.items) (sym claims_now))
         (asked_row s at now (moved model behind (with_tx job place' (seen_tx new)) now at) job place (seen_tx old) (ask.Call call) has asked (inl calls_now))

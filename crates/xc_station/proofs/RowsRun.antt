@@ -1,10 +1,14 @@
 -- Rows of the turn of a job whose transaction runs, but for calls whose claims are granted.
-use Rattle.std.proofs.Common.{◌≡◌, inl, inr, ℕ, List, [], length, refl, ap, sym, ◌∙◌, subst, arith}
-use Rattle.std.specs.Prelude.{Option, IsSome, Err, slice_set}
+use Rattle.std.proofs.Common.{◌≡◌, ◌⊎◌, inl, inr, ℕ, ◌<◌, ◌≤◌, Bool, true, false, List, [], length, refl, ap, sym, ◌∙◌, subst, arith}
+use Rattle.std.proofs.Math.Decide.{dec_le}
+use Rattle.std.specs.Prelude.{Option, IsSome, Err, nat_lt, slice_set}
 use Rattle.std.specs.declared.option.Option.TheVariants.{None, Some}
+use mathlib.Core.Logic.{dite}
+use borrow.Author.Tests.{ltb-false, ltb-true}
 use Rattle.xc_data.specs.declared.call.Call.{Call}
 use Rattle.xc_data.specs.declared.claim.Claim.{Claim}
 use Rattle.xc_data.specs.declared.entry.Cause.TheVariants as cause
+use Rattle.xc_data.specs.declared.entry.Mark.{Mark}
 use Rattle.xc_data.specs.declared.entry.Turn.{Turn}
 use Rattle.xc_data.specs.declared.entry.Turn.TheVariants as turn
 use Rattle.xc_data.specs.declared.object.Object.{Object}
@@ -15,26 +19,34 @@ use Rattle.xc_text.specs.declared.script.Script.{Script}
 use Rattle.xc_text.specs.declared.script.Statement.{Statement}
 use Rattle.xc_script.specs.Ask.{Walk, asks, asks_from, next_body}
 use Rattle.xc_script.specs.Position.{Position, job_of, walk_of, IsSettled}
+use Rattle.xc_sentinel.specs.declared.seat.Seat.{Seat}
+use Rattle.xc_sentinel.specs.declared.sentinels.Sentinels.{Sentinels}
+use Rattle.xc_sentinel.specs.Seating.{KeepsSeats, seat_in}
+use Rattle.xc_sentinel.specs.Asking.{IsYounger}
 use Rattle.xc_txmem.specs.Overlay.{overlaid}
 use Rattle.xc_world.specs.Modes.{claims_of}
-use Rattle.xc_wordlocks.specs.Table.{mode_in}
+use Rattle.xc_wordlocks.specs.Table.{Table, mode_in, mode_of}
+use Rattle.xc_wordlocks.specs.Met as met
 use Rattle.xc_story.specs.declared.phase.Phase.TheVariants.{Committing, Undoing}
 use Rattle.xc_story.specs.Setting.{Setting}
-use Rattle.xc_story.specs.Seen.{SeenTx, SeenJob, Now, Active, active_in, with_job}
+use Rattle.xc_story.specs.Seen.{SeenTx, SeenJob, Now, Active, active_in, waiting, with_job}
 use Rattle.xc_story.specs.Rows.{AskedTurn, HoldsWanting, IsActiveAt, IsFirstMet, IsSamePosition}
-use Rattle.xc_story.specs.Rows.{RunningTurn, wanting, with_tx}
+use Rattle.xc_story.specs.Rows.{RunningTurn, marked, wanting, with_tx}
 use Rattle.xc_station.specs.declared.calls.Shared.{Shared}
 use Rattle.xc_station.specs.declared.tx.Tx.{Tx}
 use Rattle.xc_station.specs.Jobs.{seen_tx}
-use Rattle.xc_station.specs.Moments.{HasClaimed, HasTx, IsAt, IsRefused, IsRow, IsTable, moved}
-use Rattle.xc_station.proofs.Rivals.{first_rival, table_behind}
+use Rattle.xc_station.specs.Moments.{AreTerms, HasClaimed, HasTx, IsAt, IsRefused, IsRow, IsToldToWait, counted, marks_of, moved, runs, seated_as}
+use Rattle.xc_station.proofs.Rivals.{first_rival}
+use Rattle.xc_station.proofs.Seated.{marks_kept, marks_marked}
+use Rattle.xc_station.proofs.Tracked.{tracked_on}
 use Rattle.xc_station.proofs.WordActs.{append_nil}
 
--- with words and host as before, a moment differs in one job alone
+-- with words and host as before, and these marks, a moment differs in one job alone
 moved_same : {H : Type 0} (model : HostModel H) (behind : Shared H) (now : Now) (at : ℕ) (job : SeenJob) → behind.words ≡ now.words
-    → model.contents behind.host ≡ now.contents → model.fault_count behind.host ≡ now.faults → moved model behind job now at ≡ with_job now at job
-moved_same model behind now at job words contents faults i =
-    record { words = words i; contents = contents i; faults = faults i; journal = now.journal; jobs = slice_set now.jobs at job }
+    → model.contents behind.host ≡ now.contents → model.fault_count behind.host ≡ now.faults → (marks : ℕ → Option Mark)
+    → marks_of behind.sentinels.seats ≡ marks → moved model behind job now at ≡ record (with_job now at job) { marks = marks }
+moved_same model behind now at job words contents faults marks same i =
+    record (with_job now at job) { words = words i; contents = contents i; faults = faults i; marks = same i }
 
 -- what is held stays
 as_before : (now : Now) (at : ℕ) (tx : SeenTx) (a : Ask) → HoldsWanting now at tx a [] tx.held
@@ -55,6 +67,11 @@ pub asked_row : (s : Setting) (at : ℕ) (now new : Now) (job : SeenJob) (place 
 asked_row s at now new job place tx a has asked row =
     subst (λ b. AskedTurn s at now job tx b new) (sym (asked_before s job place tx a has asked)) row
 
+-- where whoever has patience isn't younger, patience is spent or the holder isn't younger
+stopped : (n m busy patience : ℕ) (b : Bool) → nat_lt busy patience ≡ b → (nat_lt busy patience ≡ true → n < m → ⊥) → (m ≤ n) ⊎ (patience ≤ busy)
+stopped n m busy patience true is never = dite (dec_le m n) (λ (le : m ≤ n). inl le) (λ (above : m ≤ n → ⊥). absurd (never is (omega arith)))
+stopped n m busy patience false is never = inr (ltb-false busy patience is)
+
 -- ---- rows
 module _ {H : Type 0} (model : HostModel H) (s : Setting) (shared : Shared H) (now : Now) (at : ℕ) (job : SeenJob) (place : Position) (old : Tx)
     (here : IsAt model shared now at job) (has : HasTx s job place (seen_tx old)) where
@@ -62,18 +79,18 @@ module _ {H : Type 0} (model : HostModel H) (s : Setting) (shared : Shared H) (n
   active = (job, here.stands, ap active_in has.doing)
 
   -- a turn in which nothing is held more
-  row_same : (behind : Shared H) (place' : Position) (tx : SeenTx) (answer : Turn) → behind.claims ≡ shared.claims → tx.number ≡ old.number
-      → tx.held ≡ old.held.items → RunningTurn s at now job (seen_tx old) answer (moved model behind (with_tx job place' tx) now at)
-      → IsRow s now (moved model behind (with_tx job place' tx) now at) at job answer behind.claims
-  row_same behind place' tx answer claims number held row =
+  row_same : (behind : Shared H) (job' : SeenJob) (tx : SeenTx) (answer : Turn) → behind.sentinels.claims ≡ shared.sentinels.claims → job'.doing ≡ Active tx
+      → tx.number ≡ old.number → tx.held ≡ old.held.items → RunningTurn s at now job (seen_tx old) answer (moved model behind job' now at)
+      → IsRow s now (moved model behind job' now at) at job answer behind.sentinels.claims
+  row_same behind job' tx answer claims doing number held row =
       record {
         tx = seen_tx old;
         doing = has.doing;
         row = row;
-        table = subst (λ t. IsTable t (slice_set now.jobs at (with_tx job place' tx))) (sym claims)
-            (table_behind shared.claims shared.claims now.jobs at job (with_tx job place' tx) (seen_tx old) tx here.table here.single here.stands
-            (ap active_in has.doing) refl number (λ n o ne. refl)
-            (λ o. here.table.held at (seen_tx old) o active ∙ ap (λ (h : List Claim). mode_in h o) (sym held)));
+        table = λ o. tracked_on (λ n. mode_of shared.sentinels.claims n o) (λ (t : SeenTx). mode_in t.held o) now.jobs (here.table o)
+            (λ n. mode_of behind.sentinels.claims n o) at job job' here.stands here.single (seen_tx old) (ap active_in has.doing)
+            (λ n ne. ap (λ (t : Table). mode_of t n o) claims) tx (ap active_in doing) number
+            (ap (λ (t : Table). mode_of t old.number o) claims ∙ (here.table o).held at (seen_tx old) active ∙ ap (λ (h : List Claim). mode_in h o) (sym held));
       }
 
   -- ---- a claim is met
@@ -82,29 +99,103 @@ module _ {H : Type 0} (model : HostModel H) (s : Setting) (shared : Shared H) (n
   met_now call object holder met =
       subst (λ n. IsFirstMet now.jobs at (claims_of call old.me.value n) object holder) (sym (ap length here.words)) met
 
-  same_moment : (behind : Shared H) (job' : SeenJob) → behind.host ≡ shared.host → behind.words ≡ shared.words
-      → moved model behind job' now at ≡ with_job now at job'
-  same_moment behind job' host words = moved_same model behind now at job' (words ∙ sym here.words) (ap model.contents host ∙ sym here.contents)
-      (ap model.fault_count host ∙ sym here.faults)
+  same_moment : (behind : Shared H) (job' : SeenJob) → behind.host ≡ shared.host → behind.words ≡ shared.words → (marks : ℕ → Option Mark)
+      → marks_of behind.sentinels.seats ≡ marks → moved model behind job' now at ≡ record (with_job now at job') { marks = marks }
+  same_moment behind job' host words marks same = moved_same model behind now at job' (words ∙ sym here.words) (ap model.contents host ∙ sym here.contents)
+      (ap model.fault_count host ∙ sym here.faults) marks same
+
+  -- the seats stay, so nobody is marked
+  unmarked_moment : (behind : Shared H) (job' : SeenJob) → behind.host ≡ shared.host → behind.words ≡ shared.words
+      → KeepsSeats shared.sentinels.seats behind.sentinels.seats → moved model behind job' now at ≡ with_job now at job'
+  unmarked_moment behind job' host words kept = same_moment behind job' host words now.marks
+      (marks_kept shared.sentinels.seats behind.sentinels.seats kept ∙ sym here.marks)
+
+  -- whoever has a number has its seat
+  module _ (j : ℕ) (u : SeenTx) (there : IsActiveAt now.jobs j u) where
+    its_seat : seated_as (seat_in shared.sentinels.seats u.number) ≡ Some (u.rank, runs u.phase)
+    its_seat = here.seats.held j u there
+
+  younger_as : (mine its : Option Seat) (t u : SeenTx) → seated_as mine ≡ Some (t.rank, runs t.phase) → seated_as its ≡ Some (u.rank, runs u.phase)
+      → (IsYounger mine its → t.rank < u.rank) × (t.rank < u.rank → IsYounger mine its)
+  younger_as None its t u a b = absurd (let bad : ⊥ = cc a in bad)
+  younger_as (Some m) None t u a b = absurd (let bad : ⊥ = cc b in bad)
+  younger_as (Some m) (Some i) t u a b =
+      let mine : m.rank ≡ t.rank = let p : ◌≡◌ {A = ℕ × Bool} (m.rank, m.running) (t.rank, runs t.phase) = cc a in ap (λ (q : ℕ × Bool). q.0) p in
+      let its : i.rank ≡ u.rank = let p : ◌≡◌ {A = ℕ × Bool} (i.rank, i.running) (u.rank, runs u.phase) = cc b in ap (λ (q : ℕ × Bool). q.0) p in (
+        λ less. omega (arith, mine, its, less),
+        λ less. omega (arith, mine, its, less),
+      )
+
+  -- a rival is younger exactly where its seat is
+  younger : (claims : List Claim) (object : Object) (holder : ℕ) (met : IsFirstMet now.jobs at claims object holder)
+      → (IsYounger (seat_in shared.sentinels.seats old.number) (seat_in shared.sentinels.seats holder) → old.rank < met.rival.rival.rank)
+      × (old.rank < met.rival.rival.rank → IsYounger (seat_in shared.sentinels.seats old.number) (seat_in shared.sentinels.seats holder))
+  younger claims object holder met =
+      let rival = met.rival in
+      younger_as (seat_in shared.sentinels.seats old.number) (seat_in shared.sentinels.seats holder) (seen_tx old) rival.rival
+      (its_seat at (seen_tx old) active)
+      (ap (λ n. seated_as (seat_in shared.sentinels.seats n)) (sym rival.numbered) ∙ its_seat rival.place rival.rival rival.active)
+
+  rival_now : (call : Call) (object : Object) (holder : ℕ)
+      → met.IsFirstMet shared.sentinels.claims (claims_of call old.me.value (length shared.words)) old.number object holder
+      → IsFirstMet now.jobs at (claims_of call old.me.value (length now.words)) object holder
+  rival_now call object holder first =
+      met_now call object holder (first_rival now.jobs at (seen_tx old) shared.sentinels.claims here.table here.single here.apart active
+      (claims_of call old.me.value (length shared.words)) object holder first)
 
   -- another holds something against it
-  pub refused : (behind : Shared H) (new : Tx) (call : Call) (entered : ℕ) → behind.host ≡ shared.host → behind.words ≡ shared.words
-      → asks (walk_of s.script place) ≡ ask.Call call → length now.journal ≡ entered
-      → IsRefused shared.claims behind.claims old new (claims_of call old.me.value (length shared.words)) entered
-      → IsRow s now (moved model behind (with_tx job place (seen_tx new)) now at) at job turn.Went behind.claims
-  refused behind new call entered host words asked journal r =
+  pub refused : (behind : Shared H) (new : Tx) (call : Call) (patient : Bool) (entered : ℕ) → behind.host ≡ shared.host → behind.words ≡ shared.words
+      → asks (walk_of s.script place) ≡ ask.Call call → AreTerms s.rules now job patient entered
+      → IsRefused shared.sentinels behind.sentinels old new
+      (record { claims = claims_of call old.me.value (length shared.words); patient = patient; at = entered })
+      → IsRow s now (moved model behind (with_tx job place (seen_tx new)) now at) at job turn.Went behind.sentinels.claims
+  refused behind new call patient entered host words asked terms r =
       let undoing = λ (n : ℕ). record (seen_tx old) { phase = Undoing (cause.Conflict r.object r.holder n) } in
-      let is : seen_tx new ≡ undoing (length now.journal) = r.undoes ∙ ap undoing (sym journal) in
-      row_same behind place (seen_tx new) turn.Went r.same (ap (λ (t : SeenTx). t.number) r.undoes) (ap (λ (t : SeenTx). t.held) r.undoes)
+      let is : seen_tx new ≡ undoing (length now.journal) = r.undoes ∙ ap undoing (sym terms.entered) in
+      let met = rival_now call r.object r.holder r.conflict.met in
+      let kept : KeepsSeats shared.sentinels.seats behind.sentinels.seats = λ n. ap (λ (t : Sentinels). seat_in t.seats n) r.conflict.same in
+      row_same behind (with_tx job place (seen_tx new)) (seen_tx new) turn.Went (ap (λ (t : Sentinels). t.claims) r.conflict.same) refl
+      (ap (λ (t : SeenTx). t.number) r.undoes) (ap (λ (t : SeenTx). t.held) r.undoes)
       (asked_row s at now (moved model behind (with_tx job place (seen_tx new)) now at) job place (seen_tx old) (ask.Call call) has asked (inr (record {
         object = r.object;
         holder = r.holder;
-        met = met_now call r.object r.holder (first_rival now.jobs at (seen_tx old) shared.claims here.table here.single here.apart active
-            (claims_of call old.me.value (length shared.words)) r.object r.holder r.met);
+        met = met;
+        stops = stopped old.rank met.rival.rival.rank job.busy s.rules.patience (nat_lt job.busy s.rules.patience) refl (λ patient' less.
+            r.conflict.stops (terms.patience ∙ patient') ((younger _ r.object r.holder met).1 less));
         place = place;
         same = has.same;
-        behind = same_moment behind (with_tx job place (seen_tx new)) host words ∙ ap (λ (t : SeenTx). with_job now at (with_tx job place t)) is;
+        behind = unmarked_moment behind (with_tx job place (seen_tx new)) host words kept
+            ∙ ap (λ (t : SeenTx). with_job now at (with_tx job place t)) is;
       })))
+
+  -- a younger one does, and is waited for
+  pub told_to_wait : (behind : Shared H) (new : Tx) (call : Call) (patient : Bool) (entered : ℕ) (object : Object) (holder : ℕ) → behind.host ≡ shared.host
+      → behind.words ≡ shared.words → asks (walk_of s.script place) ≡ ask.Call call → AreTerms s.rules now job patient entered
+      → IsToldToWait shared.sentinels behind.sentinels old new
+      (record { claims = claims_of call old.me.value (length shared.words); patient = patient; at = entered }) object holder
+      → IsRow s now (moved model behind (waiting (with_tx job place (seen_tx new))) now at) at job (turn.Busy object holder) behind.sentinels.claims
+  told_to_wait behind new call patient entered object holder host words asked terms w =
+      let met = rival_now call object holder w.busy.met in
+      let rival = met.rival in
+      let mark : ℕ → Mark = λ n. record { object = object; by = old.number; at = n } in
+      let marks' : marks_of behind.sentinels.seats ≡ marked now.marks rival.rival (mark (length now.journal)) =
+      marks_marked shared.sentinels.seats behind.sentinels.seats holder (mark entered) w.busy.mark rival.rival rival.numbered
+      (ap (λ n. seated_as (seat_in shared.sentinels.seats n)) (sym rival.numbered) ∙ its_seat rival.place rival.rival rival.active)
+      ∙ ap (λ ms. marked ms rival.rival (mark entered)) (sym here.marks) ∙ ap (λ n. marked now.marks rival.rival (mark n)) (sym terms.entered) in
+      row_same behind (waiting (with_tx job place (seen_tx new))) (seen_tx new) (turn.Busy object holder) (ap (λ (t : Table). t) w.busy.table) refl
+      (ap (λ (t : SeenTx). t.number) w.still) (ap (λ (t : SeenTx). t.held) w.still)
+      (record {
+        call = call;
+        asked = asked_before s job place (seen_tx old) (ask.Call call) has asked;
+        met = met;
+        younger = (younger _ object holder met).0 w.busy.younger;
+        patient = ltb-true job.busy s.rules.patience (sym terms.patience ∙ w.busy.patience);
+        place = place;
+        same = has.same;
+        behind = same_moment behind (waiting (with_tx job place (seen_tx new))) host words (marked now.marks rival.rival (mark (length now.journal))) marks'
+            ∙ ap (λ (t : SeenTx). record (with_job now at (waiting (with_tx job place t))) { marks = marked now.marks rival.rival (mark (length now.journal)) })
+            w.still;
+      })
 
   -- ---- no claim is granted
   -- no record is left
@@ -113,65 +204,75 @@ module _ {H : Type 0} (model : HostModel H) (s : Setting) (shared : Shared H) (n
       (sym (append_nil old.undo.pending))
 
   -- memory is wanting before the claims
-  pub wants : (behind : Shared H) (new : Tx) (answer : Turn) → behind.host ≡ shared.host → behind.words ≡ shared.words → behind.claims ≡ shared.claims
+  pub wants : (behind : Shared H) (new : Tx) (answer : Turn) → behind.host ≡ shared.host → behind.words ≡ shared.words → behind.sentinels ≡ shared.sentinels
       → seen_tx new ≡ record (seen_tx old) { phase = Undoing cause.NoMemory } → answer ≡ turn.NoMemory
-      → IsRow s now (moved model behind (with_tx job place (seen_tx new)) now at) at job answer behind.claims
-  wants behind new answer host words claims is gives =
-      row_same behind place (seen_tx new) answer claims (ap (λ (t : SeenTx). t.number) is) (ap (λ (t : SeenTx). t.held) is)
-      (subst (λ a. RunningTurn s at now job (seen_tx old) a (moved model behind (with_tx job place (seen_tx new)) now at)) (sym gives) (record {
+      → IsRow s now (moved model behind (counted answer (with_tx job place (seen_tx new))) now at) at job answer behind.sentinels.claims
+  wants behind new answer host words same is gives =
+      let kept : KeepsSeats shared.sentinels.seats behind.sentinels.seats = λ n. ap (λ (t : Sentinels). seat_in t.seats n) same in
+      subst (λ a. IsRow s now (moved model behind (counted a (with_tx job place (seen_tx new))) now at) at job a behind.sentinels.claims) (sym gives)
+      (row_same behind (with_tx job place (seen_tx new)) (seen_tx new) turn.NoMemory (ap (λ (t : Sentinels). t.claims) same) refl
+      (ap (λ (t : SeenTx). t.number) is) (ap (λ (t : SeenTx). t.held) is)
+      (record {
         place = place;
         same = has.same;
         left = [];
         one = omega arith;
         held = old.held.items;
         holds = as_before now at (seen_tx old) (asks (walk_of s.script job.place));
-        jobs = ap (λ (t : SeenTx). slice_set now.jobs at (with_tx job place t)) (is ∙ without_record);
-        words = words ∙ sym here.words;
-        journal = refl;
-        faults = ap model.fault_count host ∙ sym here.faults;
+        behind = unmarked_moment behind (with_tx job place (seen_tx new)) host words kept
+            ∙ ap (λ (t : SeenTx). with_job now at (with_tx job place t)) (is ∙ without_record)
+            ∙ ap (λ c. record (with_job now at (with_tx job place (wanting (seen_tx old) [] old.held.items))) { contents = c })
+            (here.contents ∙ sym (ap model.contents host));
         contents = λ _. inl (refl, ap model.contents host ∙ sym here.contents);
       }))
 
   -- ---- the commit, and the abort that is asked
   -- its stores are written
-  pub commits : (behind : Shared H) (new : Tx) → behind.host ≡ shared.host → behind.words ≡ overlaid shared.words old.writes → behind.claims ≡ shared.claims
+  pub commits : (behind : Shared H) (new : Tx) → behind.host ≡ shared.host → behind.words ≡ overlaid shared.words old.writes
+      → behind.sentinels ≡ shared.sentinels
       → seen_tx new ≡ record (seen_tx old) { phase = Committing } → asks (walk_of s.script place) ≡ ask.Commit → IsSettled s.script place
-      → IsRow s now (moved model behind (with_tx job place (seen_tx new)) now at) at job turn.Went behind.claims
-  commits behind new host words claims is asked settled =
-      row_same behind place (seen_tx new) turn.Went claims (ap (λ (t : SeenTx). t.number) is) (ap (λ (t : SeenTx). t.held) is)
+      → IsRow s now (moved model behind (with_tx job place (seen_tx new)) now at) at job turn.Went behind.sentinels.claims
+  commits behind new host words same is asked settled =
+      row_same behind (with_tx job place (seen_tx new)) (seen_tx new) turn.Went (ap (λ (t : Sentinels). t.claims) same) refl
+      (ap (λ (t : SeenTx). t.number) is) (ap (λ (t : SeenTx). t.held) is)
       (asked_row s at now (moved model behind (with_tx job place (seen_tx new)) now at) job place (seen_tx old) ask.Commit has asked (record {
         place = place;
         same = has.same;
         settled = settled;
-        behind = λ i. record {
+        behind = λ i. record now {
           words = (words ∙ ap (λ (ws : List ℕ). overlaid ws old.writes) (sym here.words)) i;
           contents = (ap model.contents host ∙ sym here.contents) i;
           faults = (ap model.fault_count host ∙ sym here.faults) i;
-          journal = now.journal;
           jobs = slice_set now.jobs at (with_tx job place (is i));
+          marks = (ap (λ (t : Sentinels). marks_of t.seats) same ∙ sym here.marks) i;
         };
       }))
 
   -- the script asks its abort
-  pub turns_back : (behind : Shared H) (new : Tx) → behind.host ≡ shared.host → behind.words ≡ shared.words → behind.claims ≡ shared.claims
+  pub turns_back : (behind : Shared H) (new : Tx) → behind.host ≡ shared.host → behind.words ≡ shared.words → behind.sentinels ≡ shared.sentinels
       → seen_tx new ≡ record (seen_tx old) { phase = Undoing cause.Asked } → asks (walk_of s.script place) ≡ ask.Abort
-      → IsRow s now (moved model behind (with_tx job place (seen_tx new)) now at) at job turn.Went behind.claims
-  turns_back behind new host words claims is asked =
-      row_same behind place (seen_tx new) turn.Went claims (ap (λ (t : SeenTx). t.number) is) (ap (λ (t : SeenTx). t.held) is)
+      → IsRow s now (moved model behind (with_tx job place (seen_tx new)) now at) at job turn.Went behind.sentinels.claims
+  turns_back behind new host words same is asked =
+      row_same behind (with_tx job place (seen_tx new)) (seen_tx new) turn.Went (ap (λ (t : Sentinels). t.claims) same) refl
+      (ap (λ (t : SeenTx). t.number) is) (ap (λ (t : SeenTx). t.held) is)
       (asked_row s at now (moved model behind (with_tx job place (seen_tx new)) now at) job place (seen_tx old) ask.Abort has asked (record {
         place = place;
         same = has.same;
-        behind = same_moment behind (with_tx job place (seen_tx new)) host words ∙ ap (λ (t : SeenTx). with_job now at (with_tx job place t)) is;
+        behind = unmarked_moment behind (with_tx job place (seen_tx new)) host words (λ n. ap (λ (t : Sentinels). seat_in t.seats n) same)
+            ∙ ap (λ (t : SeenTx). with_job now at (with_tx job place t)) is;
       }))
 
   -- the claims failed
-  pub unclaimed : (behind : Shared H) (new : Tx) (call : Call) (entered : ℕ) (answer : Turn) → behind.host ≡ shared.host → behind.words ≡ shared.words
-      → asks (walk_of s.script place) ≡ ask.Call call → length now.journal ≡ entered
-      → HasClaimed shared.claims behind.claims old new (claims_of call old.me.value (length shared.words)) entered (Err answer)
-      → IsRow s now (moved model behind (with_tx job place (seen_tx new)) now at) at job answer behind.claims
-  unclaimed behind new call entered turn.Went host words asked journal r = refused behind new call entered host words asked journal r
-  unclaimed behind new call entered turn.NoMemory host words asked journal w = wants behind new turn.NoMemory host words w.same w.undoes refl
-  unclaimed behind new call entered _ host words asked journal r = absurd r
+  pub unclaimed : (behind : Shared H) (new : Tx) (call : Call) (patient : Bool) (entered : ℕ) (answer : Turn) → behind.host ≡ shared.host
+      → behind.words ≡ shared.words → asks (walk_of s.script place) ≡ ask.Call call → AreTerms s.rules now job patient entered
+      → HasClaimed shared.sentinels behind.sentinels old new
+      (record { claims = claims_of call old.me.value (length shared.words); patient = patient; at = entered }) (Err answer)
+      → IsRow s now (moved model behind (counted answer (with_tx job place (seen_tx new))) now at) at job answer behind.sentinels.claims
+  unclaimed behind new call patient entered turn.Went host words asked terms r = refused behind new call patient entered host words asked terms r
+  unclaimed behind new call patient entered (turn.Busy object holder) host words asked terms w =
+      told_to_wait behind new call patient entered object holder host words asked terms w
+  unclaimed behind new call patient entered turn.NoMemory host words asked terms w = wants behind new turn.NoMemory host words w.same w.undoes refl
+  unclaimed behind new call patient entered (turn.Ended end) host words asked terms r = absurd r
 
 -- ---- what is asked
 -- a transaction at a place that silent statements lead to

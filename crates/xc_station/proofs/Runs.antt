@@ -1,5 +1,5 @@
 -- Runs of turns.
-use Rattle.std.proofs.Common.{◌≡◌, ◌≢◌, ◌+◌, ◌-◌, ◌<◌, ◌≤◌, ℕ, zero, suc, Bool, true, false, List, [], ◌∷◌, ◌++◌, length, length-set}
+use Rattle.std.proofs.Common.{◌≡◌, ◌≢◌, ◌+◌, ◌-◌, ◌%◌, ◌^◌, ◌<◌, ◌≤◌, ℕ, zero, suc, Bool, true, false, List, [], ◌∷◌, ◌++◌, length, length-set}
 use Rattle.std.proofs.Common.{ap, sym, refl, ◌∙◌, subst, arith}
 use Rattle.std.proofs.Math.Decide.{dec_le}
 use Rattle.std.proofs.lemmas.Bool.{ne_eqb}
@@ -10,6 +10,7 @@ use Rattle.std.specs.Option.{option_map}
 use Rattle.std.specs.declared.option.Option.TheVariants.{None, Some}
 use mathlib.Core.Logic.{dite}
 use native.Mathlib.Decide.{ℕ_discrete}
+use Rattle.xc_data.specs.declared.entry.Event.{Event}
 use Rattle.xc_data.specs.declared.entry.Turn.{Turn}
 use Rattle.xc_data.specs.declared.undo.Undo.{Undo}
 use Rattle.xc_host.specs.Model.{HostModel}
@@ -22,8 +23,8 @@ use Rattle.xc_story.specs.Rows.{IsTurn, IsActiveAt}
 use Rattle.xc_turns.proofs.Orders.{alone_turned, alone_later}
 use Rattle.xc_station.specs.declared.job.Job.{Job}
 use Rattle.xc_station.specs.Jobs.{back_stage, goes_on, is_live, late_stage, phase_stage, seen_job, seen_jobs, stage_of}
-use Rattle.xc_station.specs.Stations.{GoesOn, IsNextOf, IsStepOf, KeepsOpening, Seen, TakeTurns, WorksOn, live_at, lives, now_of, numbers, setting_of, turns_of}
-use Rattle.xc_station.proofs.Leaving.{Leaves, turn_leaves}
+use Rattle.xc_station.specs.Stations.{ChangesOne, GoesOn, IsEvent, IsFrontOf, IsNextOf, IsStepOf, IsTried, KeepsEvents, KeepsOpening, KeepsOrigin}
+use Rattle.xc_station.specs.Stations.{Seen, TakeTurns, WorksOn, live_at, lives, noted, now_of, numbers, setting_of, turns_of}
 
 -- one run behind another
 pub goes_further : {H : Type 0} (a b c : Seen H) → GoesOn a b → GoesOn b c → GoesOn a c
@@ -36,6 +37,27 @@ goes_further a b c h k =
       );
       count = k.count ∙ h.count;
     }
+
+-- one run of turns of a job behind another
+pub works_further : {H : Type 0} (model : HostModel H) (job : ℕ) (a b c : Seen H) → WorksOn model job a b → WorksOn model job b c → WorksOn model job a c
+works_further model job a b c h k =
+    record {
+      taken = k.taken ∙ h.taken;
+      others = λ other away. k.others other away ∙ h.others other away;
+      alone = λ alone. k.alone (h.alone alone);
+    }
+
+-- one event behind what it tells of
+pub event_noted : {H : Type 0} (a b c : Seen H) (e : Event) → GoesOn a b → KeepsEvents a b → length b.journal ≤ 10000 → c ≡ noted b e → IsEvent a c e
+event_noted a b c e goes quiet few is =
+    subst (λ s. IsEvent a s e) (sym is)
+    (record {
+      origin = record { opening = goes.origin.opening; rules = goes.origin.rules };
+      front = goes.front;
+      few = few;
+      count = ap (λ n. (n + 1) % 18446744073709551616) quiet.events;
+      last = refl;
+    })
 
 -- ---- a turn
 seen_live : Option SeenJob → Bool
@@ -78,10 +100,8 @@ other_lives old new job behind positive jobs other away =
     (others_live old new (job - 1) behind jobs (other - 1) (λ same. away (omega arith))))
 
 module _ {H : Type 0} (model : HostModel H) (job : ℕ) (old new : Seen H) (answer : Turn) (kept : KeepsOpening old new)
-    (row : IsTurn (setting_of model old) (job - 1) (now_of model old) answer (now_of model new)) where
-  left : Leaves (job - 1) (now_of model old) (now_of model new)
-  left = turn_leaves _ _ _ _ _ row
-
+    (row : IsTurn (setting_of model old) (job - 1) (now_of model old) answer (now_of model new))
+    (left : ChangesOne (job - 1) (now_of model old) (now_of model new)) where
   pub turn_goes : GoesOn old new
   turn_goes =
       record {
@@ -181,6 +201,28 @@ pub taken_next : {H : Type 0} (model : HostModel H) (jobs : List ℕ) (k after :
     → TakeTurns model (drop k jobs) now end
 taken_next model jobs k after now next end one low step rest =
     taken_at model jobs k now next end low step (subst (λ n. TakeTurns model (drop n jobs) next end) one rest)
+
+-- a turn that was tried is a step of its job
+pub tried_steps : {H : Type 0} (model : HostModel H) (job : ℕ) (old new : Seen H) (live : Bool) (answer : Option Turn)
+    → IsTried model job old new live answer → IsStepOf model job old new live
+tried_steps model job old new true (Some answer) row = (answer, row)
+tried_steps model job old new true None row = absurd row
+tried_steps model job old new false (Some answer) row = absurd row
+tried_steps model job old new false None same = subst (λ s. s ≡ record old { events = s.events; last = s.last }) (sym same) refl
+
+-- an event behind others: the origin stays, and the journal goes on
+pub origin_further : {H : Type 0} (old mid new : Seen H) (e : Event) → KeepsOrigin old mid → IsEvent mid new e → KeepsOrigin old new
+origin_further old mid new e was is = record { opening = is.origin.opening ∙ was.opening; rules = is.origin.rules ∙ was.rules }
+
+-- the journal of one event more has the old one in front
+pub front_further : {H : Type 0} (old mid new : Seen H) (e : Event) → IsFrontOf old.journal mid.journal → IsEvent mid new e
+    → IsFrontOf old.journal new.journal
+front_further old mid new e was is =
+    (was.0 ++ is.front.0, is.front.1 ∙ ap (λ es. es ++ is.front.0) was.1 ∙ append_assoc old.journal was.0 is.front.0)
+
+-- and the count is one more
+pub counts_further : (old mid new k : ℕ) → mid % 2 ^ 64 ≡ (old + k) % 2 ^ 64 → new ≡ (mid + 1) % 2 ^ 64 → new % 2 ^ 64 ≡ (old + (k + 1)) % 2 ^ 64
+counts_further old mid new k was is = omega arith
 
 -- ---- rounds
 -- one turn more behind a list of them

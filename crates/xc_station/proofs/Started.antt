@@ -1,5 +1,12 @@
 -- A station before its first turn.
-use Rattle.std.proofs.Common.{◌≡◌, ℕ, ◌≤◌, List, [], ◌∷◌, length, map, refl, ap, sym, ◌∙◌, subst, arith, IsTrue}
+use Rattle.std.proofs.lemmas.List.Elements.{All-head, All-tail}
+use Rattle.xc_data.specs.declared.private.Place.{Place as Handle}
+use Rattle.xc_data.specs.declared.private.Place.TheVariants.{Vacant}
+use Rattle.xc_data.specs.declared.script.Opened.{Opened}
+use Rattle.xc_data.specs.declared.script.Opened.TheVariants as line
+use Rattle.xc_world.specs.Opening.{handles_of, opening_handles}
+use Rattle.xc_world.specs.World.{no_handles}
+use Rattle.std.proofs.Common.{◌≡◌, ℕ, ◌+◌, ◌-◌, ◌≤◌, List, [], ◌∷◌, ◌++◌, length, map, replicate, All, refl, ap, sym, ◌∙◌, subst, arith, IsTrue}
 use Rattle.std.proofs.lemmas.List.{length-map}
 use Rattle.std.specs.Prelude.{slice_get, zero, suc}
 use Rattle.std.specs.declared.option.Option.TheVariants.{None, Some}
@@ -9,14 +16,18 @@ use Rattle.xc_data.specs.declared.entry.JobLine.{JobLine}
 use Rattle.xc_host.specs.Contents.{opened}
 use Rattle.xc_journal.specs.Room.{Roomy}
 use Rattle.xc_text.specs.declared.script.Script.{Script}
-use Rattle.xc_text.specs.Scripts.{IsScript}
-use Rattle.xc_wordlocks.specs.Table.{Table, mode_of}
+use Rattle.xc_text.specs.Scripts.{IsScript, IsFileLine}
+use Rattle.xc_sentinel.specs.declared.sentinels.Sentinels.{Sentinels}
+use Rattle.xc_sentinel.specs.Seating.{seat_in}
+use Rattle.xc_wordlocks.specs.Table.{mode_of}
 use Rattle.xc_story.specs.Setting.{Setting}
 use Rattle.xc_story.specs.Seen.{SeenTx, SeenJob, Now, active_of, actives}
 use Rattle.xc_story.specs.Opened.{IsOpening, opened_job}
 use Rattle.xc_story.specs.Kept.{IsSet, IsKept}
 use Rattle.xc_turns.proofs.StoryStart.{start_kept}
 use Rattle.xc_played.proofs.TurnStart.{start_flies}
+use Rattle.xc_station.specs.Jobs.{blocks_of}
+use Rattle.xc_station.specs.Moments.{seated_as}
 use Rattle.xc_station.specs.Stations.{IsSteady, HasRooms}
 
 -- no job is active at its begin
@@ -33,24 +44,51 @@ none_there script (b ∷ blocks) zero tx job at is =
     cc
 none_there script (b ∷ blocks) (suc j) tx job at is = none_there script blocks j tx job at is
 
+-- a file has no handle at the opening
+no_handles_of : (k : ℕ) (objects : List Opened) → All IsFileLine objects → handles_of k objects ≡ []
+no_handles_of k [] all = refl
+no_handles_of k (line.File name bytes ∷ objects) all = no_handles_of (k + 1) objects (All-tail IsFileLine (line.File name bytes) objects all)
+no_handles_of k (line.Pipe bytes ∷ objects) all = absurd (All-head IsFileLine (line.Pipe bytes) objects all)
+no_handles_of k (line.Pair ∷ objects) all = absurd (All-head IsFileLine line.Pair objects all)
+
+-- so jobs open with none
+pub no_opening_handles : (script : Script) → IsScript script → opening_handles script.outline ≡ no_handles
+no_opening_handles script is =
+    ap (λ (handles : List Handle). handles ++ replicate (256 - length handles) Vacant) (no_handles_of 0 script.outline.prologue.objects is.files)
+
+-- the blocks of its jobs
+pub opened_blocks : (script : Script) (blocks : List (List ℕ)) (jobs : List SeenJob) → jobs ≡ map (opened_job script) blocks → blocks_of jobs ≡ blocks
+opened_blocks script blocks jobs are = ap blocks_of are ∙ each script blocks
+  where
+    each : (script : Script) (blocks : List (List ℕ)) → blocks_of (map (opened_job script) blocks) ≡ blocks
+    each script [] = refl
+    each script (b ∷ blocks) = ap (λ bs. b ∷ bs) (each script blocks)
+
 -- what is true of it
 pub started : (s : Setting) (faults : ℕ) (now : Now) → IsSet s → KeepsLimits s.script.outline → IsOpening s.script now → now.faults ≡ faults
     → (IsTrue s.tells → now.contents ≡ opened s.script.outline.prologue.objects) → IsSteady s faults now
-started s faults now set limits opening counted told = record {
-  set = set;
-  kept = subst (λ n. IsKept s n now) counted (start_kept s now opening);
-  flying = λ tells. start_flies s now set limits opening (told tells);
-}
+started s faults now set limits opening counted told =
+    let blocks = limits.blocks in
+    let few : length s.script.outline.jobs ≤ 1000 = omega (arith, blocks) in record {
+      set = set;
+      kept = subst (λ n. IsKept s n now) counted (start_kept s now few opening);
+      flying = λ tells. start_flies s now set limits opening (told tells);
+    }
 
 -- and its rooms
-pub roomy : (script : Script) (table : Table) (spare : ℕ) (now : Now) (lines : Roomy JobLine) → IsScript script → IsOpening script now
-    → ((n : ℕ) (o : Object) → mode_of table n o ≡ None) → length now.jobs ≤ lines.spare → lines.items ≡ [] → HasRooms table 0 spare now lines
-roomy script table spare now lines read opening empty room none =
+pub roomy : (script : Script) (sentinels : Sentinels) (spare : ℕ) (now : Now) (lines : Roomy JobLine) → IsScript script → IsOpening script now
+    → ((n : ℕ) (o : Object) → mode_of sentinels.claims n o ≡ None) → ((n : ℕ) → seat_in sentinels.seats n ≡ None) → length now.jobs ≤ lines.spare
+    → lines.items ≡ [] → HasRooms sentinels 0 spare now lines
+roomy script sentinels spare now lines read opening empty nobody room none =
     let blocks = script.outline.jobs in
     record {
-      claims = record {
-        held = λ j tx o active. absurd (none_there script blocks j tx active.0 (ap (λ jobs. slice_get jobs j) (sym opening.jobs) ∙ active.1) active.2);
-        known = λ n o mode holds. absurd (let no : None ≡ Some mode = sym (empty n o) ∙ holds in let bad : ⊥ = cc in bad);
+      claims = λ o. record {
+        held = λ j tx active. absurd (none_there script blocks j tx active.0 (ap (λ jobs. slice_get jobs j) (sym opening.jobs) ∙ active.1) active.2);
+        known = λ n mode holds. absurd (let no : None ≡ Some mode = sym (empty n o) ∙ holds in let bad : ⊥ = cc in bad);
+      };
+      seats = record {
+        held = λ j tx active. absurd (none_there script blocks j tx active.0 (ap (λ jobs. slice_get jobs j) (sym opening.jobs) ∙ active.1) active.2);
+        known = λ n x holds. absurd (let no : None ≡ Some x = sym (ap seated_as (nobody n)) ∙ holds in let bad : ⊥ = cc in bad);
       };
       few = subst (λ (n : ℕ). n ≤ 1000)
           (sym (ap length opening.jobs ∙ length-map blocks (opened_job script) ∙ ap length read.jobs ∙ length-map script.blocks (λ b. b.name)))

@@ -13,6 +13,7 @@ use Rattle.xc_turns.proofs.Apart.{apart_kept}
 use Rattle.xc_turns.proofs.CountedTurns.{turn_keeps_count}
 use Rattle.xc_turns.proofs.Grounding.{grounds_kept}
 use Rattle.xc_turns.proofs.Lefts.{measured}
+use Rattle.xc_turns.proofs.StartedTurns.{turn_keeps_started}
 use Rattle.xc_turns.proofs.SpokenTurns.{turn_keeps_words}
 use Rattle.xc_turns.proofs.StoryTurns.{a_turn_keeps_the_stories_but}
 use Rattle.xc_played.proofs.Noted.{played_there}
@@ -34,6 +35,7 @@ steady_kept s faults at old new answer steady turned =
         spoken = turn_keeps_words s at old new answer turned steady.kept.apart steady.kept.spoken;
         apart = apart_kept s at old new answer turned steady.kept.apart;
         counted = turn_keeps_count s at faults old new answer turned told steady.kept.counted;
+        started = turn_keeps_started s at old new answer turned told steady.kept.started;
       };
       flying = λ tells. turn_flies s at old new answer tells turned told (steady.flying tells);
     }

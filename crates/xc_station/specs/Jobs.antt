@@ -29,6 +29,7 @@ seen_tx tx =
       me = tx.me.value;
       writes = tx.writes;
       undo = tx.undo;
+      taken = [];
       calls = tx.calls.items;
       replies = tx.replies.items;
       held = tx.held.items;
@@ -54,11 +55,15 @@ doing_of job = seen_doing job.tx job.activity
 -- a job
 abbrev pub seen_job : Job → SeenJob
 seen_job job =
-    record { block = job.block; me = begun_of job.tx; place = job.place; attempts = job.attempts; doing = doing_of job }
+    record { block = job.block; me = begun_of job.tx; place = job.place; attempts = job.attempts; busy = job.busy; doing = doing_of job }
 
 -- all jobs
 abbrev pub seen_jobs : List Job → List SeenJob
 seen_jobs jobs = map seen_job jobs
+
+-- their blocks
+abbrev pub blocks_of : List SeenJob → List (List ℕ)
+blocks_of jobs = map (λ job. job.block) jobs
 
 -- the outcome of a transaction that ends in this phase, with the ends of its records and of its late calls
 abbrev pub outcome_in : Phase → List Ending → List LateEnd → Outcome

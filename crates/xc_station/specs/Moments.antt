@@ -1,11 +1,12 @@
 -- A moment of a station, as one job sees it: what all jobs share, and the job itself in its place.
-use Rattle.std.specs.Prelude.{◌≡◌, ℕ, List, length, slice_get, slice_set, All, IsSome, IsTrue, Result, Ok, Err}
+use Rattle.std.specs.Prelude.{◌≡◌, ℕ, Bool, true, false, List, length, nat_lt, slice_get, slice_set, All, IsSome, IsTrue, Option}
+use Rattle.std.specs.Prelude.{Result, Ok, Err}
 use Rattle.std.specs.declared.option.Option.TheVariants.{None, Some}
 use Rattle.xc_data.specs.Claims.{holding}
 use Rattle.xc_data.specs.declared.claim.Claim.{Claim}
-use Rattle.xc_data.specs.declared.claim.Mode.{Mode}
 use Rattle.xc_data.specs.declared.object.Object.{Object}
 use Rattle.xc_data.specs.declared.entry.Cause.TheVariants as cause
+use Rattle.xc_data.specs.declared.entry.Mark.{Mark}
 use Rattle.xc_data.specs.declared.entry.Turn.{Turn}
 use Rattle.xc_data.specs.declared.entry.Turn.TheVariants as turn
 use Rattle.xc_host.specs.Model.{HostModel}
@@ -13,34 +14,64 @@ use Rattle.xc_script.specs.Ask.{next_body}
 use Rattle.xc_script.specs.Position.{Position, job_of}
 use Rattle.xc_text.specs.declared.script.Script.{Script}
 use Rattle.xc_wordlocks.specs.Table.{Table, Holds, KeepsOthers, claimed, mode_in, mode_of}
-use Rattle.xc_wordlocks.specs.Met.{IsFirstMet, IsNotMet}
-use Rattle.xc_story.specs.declared.phase.Phase.TheVariants.{Undoing}
+use Rattle.xc_wordlocks.specs.Met.{IsNotMet}
+use Rattle.xc_sentinel.specs.declared.seat.Seat.{Seat}
+use Rattle.xc_sentinel.specs.Seated.{Seats}
+use Rattle.xc_sentinel.specs.declared.sentinels.Sentinels.{Sentinels}
+use Rattle.xc_sentinel.specs.Seating.{KeepsSeats, SetsSeat, seat_in}
+use Rattle.xc_sentinel.specs.Asking.{IsBusy, IsConflict, mark_of}
+use Rattle.xc_story.specs.declared.phase.Phase.{Phase}
+use Rattle.xc_story.specs.declared.phase.Phase.TheVariants.{Running, Committing, Undoing}
+use Rattle.xc_story.specs.declared.rules.Rules.{Rules}
 use Rattle.xc_story.specs.Setting.{Setting}
-use Rattle.xc_story.specs.Seen.{SeenTx, SeenJob, Active, Now, actives}
-use Rattle.xc_story.specs.Rows.{IsActiveAt, IsSamePosition, RunningTurn}
+use Rattle.xc_story.specs.Seen.{SeenTx, SeenJob, Active, Now, actives, waiting}
+use Rattle.xc_story.specs.Rows.{IsActiveAt, IsSamePosition, MarkedTurn, RunningTurn}
 use Rattle.xc_story.specs.Holding.{AreApart}
 use Rattle.xc_station.specs.declared.calls.Shared.{Shared}
 use Rattle.xc_station.specs.declared.tx.Tx.{Tx}
 use Rattle.xc_station.specs.Acting.{AreReadyFor, HasNoteRoom, MayGo}
 use Rattle.xc_station.specs.Jobs.{seen_tx}
 
+-- what is found at a number is what the active transaction of this number has, and nothing where none has it
+pub record AreTracked {X : Type 0} (found : ℕ → Option X) (has : SeenTx → Option X) (jobs : List SeenJob) : Type 0 where
+  pub held : (j : ℕ) (tx : SeenTx) → IsActiveAt jobs j tx → found tx.number ≡ has tx
+  pub known : (n : ℕ) (x : X) → found n ≡ Some x → (j : ℕ) × (tx : SeenTx) × IsActiveAt jobs j tx × (tx.number ≡ n)
+
 -- the table of claims is what active transactions hold
-pub record IsTable (table : Table) (jobs : List SeenJob) : Type 0 where
-  pub held : (j : ℕ) (tx : SeenTx) (o : Object) → IsActiveAt jobs j tx → mode_of table tx.number o ≡ mode_in tx.held o
-  pub known : (n : ℕ) (o : Object) (mode : Mode) → mode_of table n o ≡ Some mode
-      → (j : ℕ) × (tx : SeenTx) × IsActiveAt jobs j tx × (tx.number ≡ n)
+abbrev pub IsTable : Table → List SeenJob → Type 0
+IsTable table jobs = (o : Object) → AreTracked (λ n. mode_of table n o) (λ tx. mode_in tx.held o) jobs
+
+-- a seat without its mark
+abbrev pub seated_as : Option Seat → Option (ℕ × Bool)
+seated_as None = None
+seated_as (Some seat) = Some (seat.rank, seat.running)
+
+-- a transaction in this phase runs
+abbrev pub runs : Phase → Bool
+runs Running = true
+runs Committing = false
+runs (Undoing c) = false
+
+-- the seats are those of the active transactions, with their ranks, and whether they run
+abbrev pub AreSeats : Seats → List SeenJob → Type 0
+AreSeats seats jobs = AreTracked (λ n. seated_as (seat_in seats n)) (λ tx. Some (tx.rank, runs tx.phase)) jobs
+
+-- the marks, by the numbers of transactions
+abbrev pub marks_of : Seats → ℕ → Option Mark
+marks_of seats n = mark_of (seat_in seats n)
 
 -- a job's active transaction holds in the table what it holds
 abbrev pub HoldsItsClaims : Table → SeenJob → Type 0
 HoldsItsClaims table job = (tx : SeenTx) → job.doing ≡ Active tx → Holds table tx.number tx.held
 
-module _ (old new : Table) where
-  -- a transaction holds nothing any longer, and all others what they held
+module _ (old new : Sentinels) where
+  -- a transaction is no longer active and holds nothing, and all others are as they were
   pub record Frees (tx : ℕ) : Type 0 where
-    pub released : (o : Object) → mode_of new tx o ≡ None
-    pub others : KeepsOthers tx old new
+    pub released : (o : Object) → mode_of new.claims tx o ≡ None
+    pub others : KeepsOthers tx old.claims new.claims
+    pub seats : SetsSeat old.seats new.seats tx None
 
-  -- so does a job's
+  -- so is a job's
   abbrev pub GivesUpClaims : SeenJob → Type 0
   GivesUpClaims job = (tx : SeenTx) → job.doing ≡ Active tx → Frees tx.number
 
@@ -55,7 +86,9 @@ module _ {H : Type 0} (model : HostModel H) (shared : Shared H) where
     pub contents : now.contents ≡ model.contents shared.host
     pub faults : now.faults ≡ model.fault_count shared.host
     pub stands : slice_get now.jobs at ≡ Some job
-    pub table : IsTable shared.claims now.jobs
+    pub marks : now.marks ≡ marks_of shared.sentinels.seats
+    pub table : IsTable shared.sentinels.claims now.jobs
+    pub seats : AreSeats shared.sentinels.seats now.jobs
     pub apart : AreApart now.jobs
     pub single : AreSingle now.jobs
 
@@ -67,6 +100,7 @@ module _ {H : Type 0} (model : HostModel H) (shared : Shared H) where
         contents = model.contents shared.host;
         faults = model.fault_count shared.host;
         jobs = slice_set now.jobs at job;
+        marks = marks_of shared.sentinels.seats;
       }
 
 -- the journal has so many entries, and so many transactions are active
@@ -80,6 +114,62 @@ pub record HasTx (s : Setting) (job : SeenJob) (place : Position) (tx : SeenTx) 
   pub doing : job.doing ≡ Active tx
   pub same : IsSamePosition s job.place place
 
+-- ---- claims of a transaction
+-- what a transaction claims, whether it may wait for a younger holder, and how long the journal is
+pub record Claiming : Type 0 where
+  pub claims : List Claim
+  pub patient : Bool
+  pub at : ℕ
+
+module _ (old new : Sentinels) (was is : Tx) where
+  -- all is claimed
+  pub record IsGranted (claims : List Claim) : Type 0 where
+    pub free : All (IsNotMet old.claims was.number) claims
+    pub row : (o : Object) → mode_of new.claims was.number o ≡ claimed (mode_of old.claims was.number o) claims o
+    pub others : KeepsOthers was.number old.claims new.claims
+    pub seats : KeepsSeats old.seats new.seats
+    pub held : seen_tx is ≡ record (seen_tx was) { held = holding was.held.items claims }
+    pub room : HasNoteRoom is
+
+  -- a claim met a younger holder, which is marked, and there is patience: the transaction waits
+  pub record IsToldToWait (c : Claiming) (object : Object) (holder : ℕ) : Type 0 where
+    pub busy : IsBusy old new c.claims was.number c.patient c.at object holder
+    pub still : seen_tx is ≡ seen_tx was
+
+  -- one met a holder that isn't younger, or there is no patience: the transaction undoes
+  pub record IsRefused (c : Claiming) : Type 0 where
+    pub object : Object
+    pub holder : ℕ
+    pub conflict : IsConflict old new c.claims was.number c.patient object holder
+    pub undoes : seen_tx is ≡ record (seen_tx was) { phase = Undoing (cause.Conflict object holder c.at) }
+
+  -- memory was wanting: the transaction undoes
+  pub record IsWanting : Type 0 where
+    pub same : new ≡ old
+    pub undoes : seen_tx is ≡ record (seen_tx was) { phase = Undoing cause.NoMemory }
+
+  -- by the answer
+  abbrev pub HasClaimed : Claiming → Result (Unit {0}) Turn → Type 0
+  HasClaimed c (Ok x) = IsGranted c.claims
+  HasClaimed c (Err (turn.Busy object holder)) = IsToldToWait c object holder
+  HasClaimed c (Err turn.Went) = IsRefused c
+  HasClaimed c (Err turn.NoMemory) = IsWanting
+  HasClaimed c (Err (turn.Ended end)) = ⊥
+
+-- at this moment the job may wait exactly where its patience isn't spent, and the journal has this length
+pub record AreTerms (rules : Rules) (now : Now) (job : SeenJob) (patient : Bool) (at : ℕ) : Type 0 where
+  pub patience : patient ≡ nat_lt job.busy rules.patience
+  pub entered : length now.journal ≡ at
+
+-- a job that was told to wait has counted it
+abbrev pub counted : Turn → SeenJob → SeenJob
+counted (turn.Busy object holder) job = waiting job
+counted answer job = job
+
+-- each has its seat as before, but for a mark
+abbrev pub KeepsSeated : Seats → Seats → Type 0
+KeepsSeated old new = (n : ℕ) → seated_as (seat_in new n) ≡ seated_as (seat_in old n)
+
 module _ (s : Setting) (now new : Now) (at : ℕ) (job : SeenJob) where
   -- its turn is a row of the table of turns, and the table of claims is what active transactions hold then
   pub record IsRow (answer : Turn) (claims : Table) : Type 0 where
@@ -88,35 +178,13 @@ module _ (s : Setting) (now new : Now) (at : ℕ) (job : SeenJob) where
     pub row : RunningTurn s at now job tx answer new
     pub table : IsTable claims new.jobs
 
--- ---- claims of a transaction
-module _ (table behind : Table) (old new : Tx) where
-  -- the table and the transaction behind claims that were granted
-  pub record IsGranted (claims : List Claim) : Type 0 where
-    pub free : All (IsNotMet table old.number) claims
-    pub row : (o : Object) → mode_of behind old.number o ≡ claimed (mode_of table old.number o) claims o
-    pub others : KeepsOthers old.number table behind
-    pub held : seen_tx new ≡ record (seen_tx old) { held = holding old.held.items claims }
-    pub room : HasNoteRoom new
-
-  -- one was met: the transaction undoes
-  pub record IsRefused (claims : List Claim) (entered : ℕ) : Type 0 where
-    pub object : Object
-    pub holder : ℕ
-    pub met : IsFirstMet table claims old.number object holder
-    pub same : behind ≡ table
-    pub undoes : seen_tx new ≡ record (seen_tx old) { phase = Undoing (cause.Conflict object holder entered) }
-
-  -- memory was wanting: the transaction undoes
-  pub record IsWanting : Type 0 where
-    pub same : behind ≡ table
-    pub undoes : seen_tx new ≡ record (seen_tx old) { phase = Undoing cause.NoMemory }
-
-  -- by the answer
-  abbrev pub HasClaimed : List Claim → ℕ → Result (Unit {0}) Turn → Type 0
-  HasClaimed claims entered (Ok x) = IsGranted claims
-  HasClaimed claims entered (Err turn.Went) = IsRefused claims entered
-  HasClaimed claims entered (Err turn.NoMemory) = IsWanting
-  HasClaimed claims entered (Err _) = ⊥
+  -- so it is where the transaction may be marked; and the seats are those of the active transactions then
+  pub record IsRunningRow (answer : Turn) (sentinels : Sentinels) : Type 0 where
+    pub tx : SeenTx
+    pub doing : job.doing ≡ Active tx
+    pub row : MarkedTurn s at now job tx (now.marks tx.number) answer new
+    pub table : IsTable sentinels.claims new.jobs
+    pub seats : AreSeats sentinels.seats new.jobs
 
 -- a job whose transaction runs may take its turn
 pub record CanRun {H : Type 0} (script : Script) (model : HostModel H) (shared : Shared H) (job : SeenJob) : Type 0 where

@@ -1,16 +1,21 @@
 -- What contracts see of a station, and what is true of it between two turns.
-use Rattle.std.specs.Prelude.{◌≡◌, ◌≢◌, ℕ, zero, suc, ◌==◌, ◌-◌, ◌<◌, ◌≤◌, Bool, true, false, List, [], ◌∷◌, ◌++◌, length, slice_get}
+use Rattle.std.specs.Prelude.{◌≡◌, ◌≢◌, ℕ, zero, suc, ◌==◌, ◌+◌, ◌%◌, ◌-◌, ◌<◌, ◌≤◌, Bool, true, false, List, [], ◌∷◌, ◌++◌}
+use Rattle.std.specs.Prelude.{length, slice_get, slice_set}
 use Rattle.std.specs.Prelude.{if◌then◌else◌, IsTrue, Option}
 use Rattle.std.specs.declared.option.Option.TheVariants.{None, Some}
 use Rattle.xc_data.specs.declared.entry.Entry.{Entry}
+use Rattle.xc_data.specs.declared.entry.Event.{Event}
+use Rattle.xc_data.specs.declared.entry.Event.TheVariants.{Turned}
 use Rattle.xc_data.specs.declared.entry.Turn.{Turn}
+use Rattle.xc_turnstile.specs.Meanings.{Meaning}
 use Rattle.xc_host.specs.Model.{HostModel}
 use Rattle.xc_journal.specs.Room.{Roomy}
 use Rattle.xc_data.specs.declared.entry.JobLine.{JobLine}
-use Rattle.xc_wordlocks.specs.Table.{Table}
+use Rattle.xc_sentinel.specs.Seated.{Seats}
+use Rattle.xc_sentinel.specs.declared.sentinels.Sentinels.{Sentinels}
 use Rattle.xc_story.specs.declared.rules.Rules.{Rules}
 use Rattle.xc_story.specs.Setting.{Setting, setting}
-use Rattle.xc_story.specs.Seen.{Now, actives}
+use Rattle.xc_story.specs.Seen.{SeenJob, Now, actives}
 use Rattle.xc_story.specs.Alone.{AreAlone}
 use Rattle.xc_story.specs.Kept.{IsSet, IsKept}
 use Rattle.xc_story.specs.Rows.{IsTurn}
@@ -19,8 +24,8 @@ use Rattle.xc_played.specs.Flying.{AreFlying}
 use Rattle.xc_station.specs.declared.calls.Shared.{Shared}
 use Rattle.xc_station.specs.declared.job.Job.{Job}
 use Rattle.xc_station.specs.declared.start.Opening.{Opening}
-use Rattle.xc_station.specs.Jobs.{is_live, seen_job, seen_jobs}
-use Rattle.xc_station.specs.Moments.{IsTable}
+use Rattle.xc_station.specs.Jobs.{blocks_of, is_live, seen_job, seen_jobs}
+use Rattle.xc_station.specs.Moments.{AreSeats, IsTable, marks_of}
 
 -- what contracts see of a station
 pub record Seen (H : Type 0) : Type 0 where
@@ -32,6 +37,10 @@ pub record Seen (H : Type 0) : Type 0 where
   pub jobs : List Job
   -- the jobs in the places below this one were taken by a worker, or have ended
   pub taken : ℕ
+  pub seats : Seats
+  -- how many events there were, modulo 2^64, and the last of them
+  pub events : ℕ
+  pub last : Option Event
 
 -- a moment of it
 abbrev pub now_of : {H : Type 0} → HostModel H → Seen H → Now
@@ -42,6 +51,8 @@ now_of model station =
       faults = model.fault_count station.host;
       journal = station.journal;
       jobs = seen_jobs station.jobs;
+      started = blocks_of (seen_jobs station.jobs);
+      marks = marks_of station.seats;
     }
 
 -- what its journal is judged by
@@ -56,10 +67,11 @@ pub record IsSteady (s : Setting) (faults : ℕ) (now : Now) : Type 0 where
   pub kept : IsKept s faults now
   pub flying : IsTrue s.tells → AreFlying s now
 
--- what it keeps beside: the table of claims, the number of active transactions with room for their entries, and room
--- for a line of each job
-pub record HasRooms (table : Table) (active spare : ℕ) (now : Now) (lines : Roomy JobLine) : Type 0 where
-  pub claims : IsTable table now.jobs
+-- what it keeps beside: the table of claims and the seats, the number of active transactions with room for their entries,
+-- and room for a line of each job
+pub record HasRooms (sentinels : Sentinels) (active spare : ℕ) (now : Now) (lines : Roomy JobLine) : Type 0 where
+  pub claims : IsTable sentinels.claims now.jobs
+  pub seats : AreSeats sentinels.seats now.jobs
   pub few : length now.jobs ≤ 1000
   pub count : length (actives now.jobs) ≡ active
   pub room : active ≤ spare
@@ -71,6 +83,11 @@ pub record KeepsOpening {H : Type 0} (old new : Seen H) : Type 0 where
   pub opening : new.opening ≡ old.opening
   pub rules : new.rules ≡ old.rules
   pub taken : new.taken ≡ old.taken
+
+-- and neither does what stands behind it
+pub record KeepsEvents {H : Type 0} (old new : Seen H) : Type 0 where
+  pub events : new.events ≡ old.events
+  pub last : new.last ≡ old.last
 
 -- ---- jobs, by their numbers from 1
 -- the job of this number exists and hasn't ended
@@ -96,6 +113,12 @@ pub record KeepsOrigin {H : Type 0} (old new : Seen H) : Type 0 where
 abbrev pub IsFrontOf : List Entry → List Entry → Type 0
 IsFrontOf front whole = (more : List Entry) × (whole ≡ front ++ more)
 
+-- a turn of the job in this place changes no other job and starts none, and the journal goes on
+pub record ChangesOne (at : ℕ) (old new : Now) : Type 0 where
+  pub behind : SeenJob
+  pub jobs : new.jobs ≡ slice_set old.jobs at behind
+  pub front : IsFrontOf old.journal new.journal
+
 -- all that a run of turns keeps: also the number of jobs
 pub record GoesOn {H : Type 0} (old new : Seen H) : Type 0 where
   pub origin : KeepsOrigin old new
@@ -110,16 +133,45 @@ pub record WorksOn {H : Type 0} (model : HostModel H) (job : ℕ) (old new : See
 
 -- ---- a list of turns
 module _ {H : Type 0} (model : HostModel H) (job : ℕ) (old new : Seen H) where
-  -- a job that goes on takes its turn, a row of the table; one that doesn't is passed over
+  -- a job that goes on takes its turn, a row of the table; one that doesn't is passed over, and all but the events stays
   abbrev pub IsStepOf : Bool → Type 0
   IsStepOf true = (answer : Turn) × IsTurn (setting_of model old) (job - 1) (now_of model old) answer (now_of model new)
-  IsStepOf false = new ≡ old
+  IsStepOf false = new ≡ record old { events = new.events; last = new.last }
 
 -- the jobs of these numbers do so one after another
 abbrev pub TakeTurns : {H : Type 0} → HostModel H → List ℕ → Seen H → Seen H → Type 0
 TakeTurns model [] old new = new ≡ old
 TakeTurns {H = H} model (job ∷ jobs) old new =
     (next : Seen H) × IsStepOf model job old next (live_at old.jobs job) × TakeTurns model jobs next new
+
+-- ---- events
+-- one event more
+abbrev pub noted : {H : Type 0} → Seen H → Event → Seen H
+noted station event = record station { events = (station.events + 1) % 18446744073709551616; last = Some event }
+
+-- what holds of each event: the origin stays, the journal goes on, and it is the last event, one more than before
+pub record IsEvent {H : Type 0} (old new : Seen H) (event : Event) : Type 0 where
+  pub origin : KeepsOrigin old new
+  pub front : IsFrontOf old.journal new.journal
+  pub few : length new.journal ≤ 10000
+  pub count : new.events ≡ (old.events + 1) % 18446744073709551616
+  pub last : new.last ≡ Some event
+
+-- a job that goes on takes its turn; for one that doesn't nothing is done
+abbrev pub IsTried : {H : Type 0} → HostModel H → ℕ → Seen H → Seen H → Bool → Option Turn → Type 0
+IsTried model job old new true (Some answer) = IsTurn (setting_of model old) (job - 1) (now_of model old) answer (now_of model new)
+IsTried model job old new false None = new ≡ noted old (Turned job None)
+IsTried model job old new _ _ = ⊥
+
+-- what passes know of a station
+abbrev pub meaning_of : {H : Type 0} → Meaning (Seen H)
+meaning_of =
+    record {
+      journal = λ station. station.journal;
+      origin = λ station. record { script = station.opening.script; faults = station.opening.faults; rules = station.rules };
+      count = λ station. station.events;
+      last = λ station. station.last;
+    }
 
 -- ---- rounds
 -- the numbers from 1 up to this one
@@ -150,6 +202,8 @@ moment model shared journal jobs =
       faults = model.fault_count shared.host;
       journal = journal;
       jobs = seen_jobs jobs;
+      started = blocks_of (seen_jobs jobs);
+      marks = marks_of shared.sentinels.seats;
     }
 
 -- the live job with the smallest number above this one

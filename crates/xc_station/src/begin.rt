@@ -1,39 +1,120 @@
-ghost use Rattle.std.specs.Prelude.{◌≡◌, ℕ, Bool, ◌≤◌, ◌+◌, length, MatchOption};
-ghost use Rattle.xc_story.specs.Seen.{Now, Idle, begun_count, rank_of, with_job};
-ghost use Rattle.xc_story.specs.Rows.{IdleTurn, IsEnding, IsReady};
-ghost use Rattle.xc_story.specs.Setting.{setting};
+ghost use Rattle.std.specs.Prelude.{◌≡◌, ℕ, Bool, true, ◌≤◌, ◌<◌, ◌+◌, length, is_some, IfSome, IsSome, MatchOption, None, Some};
+ghost use Rattle.std.specs.Prelude.{OnOk, OnErr};
+ghost use Rattle.xc_data.specs.declared.entry.Turn.TheVariants as PlainTurn;
+ghost use Rattle.xc_sentinel.specs.Seating.{KeepsSeats, SetsSeat, seat_in};
+ghost use Rattle.xc_story.specs.Seen.{Now, Idle, begun_count, failures, rank_of, with_job};
+ghost use Rattle.xc_story.specs.Rows.{IdleTurn, IsReady, IsSpent, NamesLast};
+ghost use Rattle.xc_story.specs.Setting.{Setting, setting};
+ghost use Rattle.xc_station.specs.Beginning.{IsDone, IsHalted, IsNamedLast, IsSeatBehind, IsStopped, WaitsOnly};
 ghost use Rattle.xc_station.specs.Jobs.{seen_job};
-ghost use Rattle.xc_station.specs.Moments.{HasBegun};
+ghost use Rattle.xc_station.specs.Moments.{AreSeats, HasBegun, marks_of};
 
 use crate::job::{Activity, Job};
 use std::alloc::Global;
-use xc_data::{JobEnd, Turn};
+use xc_data::{Cause, JobEnd, NoMemory, Object, Turn};
 use xc_journal::Journal;
+use xc_script::JobState;
+use xc_sentinel::Sentinels;
 use xc_story::{Attempts, Rules};
 use xc_text::Script;
 
 /// The most entries that a journal has; each active transaction has its place among them.
 const MOST_ENTRIES: usize = 10_000;
 
-// Why an idle job doesn't begin its next transaction, memory aside.
-fn end_now(script: &Script, rules: &Rules, begun: usize, job: &Job) -> Option<JobEnd>
+// What keeps an idle job from its next transaction, memory aside.
+#[derive(Clone, Copy)]
+enum Halt {
+    // The job ends.
+    End(JobEnd),
+    // It waits for the transaction that ended its last attempt, which is active.
+    Wait { object: Object, holder: u32 },
+}
+
+// Why the last attempt ended, where there were as many as the rules allow.
+fn given_up(rules: &Rules, attempts: &Option<Attempts>) -> Option<Cause>
+    requires { 1 ≤ rules.now.attempts }
+    ensures { MatchOption result (failures attempts.now < rules.now.attempts)
+        (λ c. (s : Setting) → s.rules ≡ rules.now → IsSpent s attempts.now c) }
+{
+    match attempts {
+        Some(Attempts { failed, last, .. }) if *failed >= rules.attempts => Some(*last),
+        _ => None,
+    }
+}
+
+// The transaction that ended the last attempt, and the object that both wanted.
+fn named_last(attempts: &Option<Attempts>) -> Option<(Object, u32)>
+    ensures { IsNamedLast attempts.now result }
+{
+    match attempts {
+        Some(attempts) => match attempts.last {
+            Cause::Conflict { object, holder, .. } => Some((object, holder)),
+            Cause::Revoked { object, by, .. } => Some((object, by)),
+            Cause::Asked | Cause::NoMemory => None,
+        },
+        None => None,
+    }
+}
+
+// For whom an idle job waits, and for which object.
+fn waits_for(rules: &Rules, sentinels: &Sentinels, job: &Job) -> Option<(Object, u32)>
+    ensures patient { IsSome result → (job.now.busy < rules.now.patience) × (job.now.busy < 4294967295) }
+    ensures waits { MatchOption result
+        (IsDone job.now.attempts rules.now.patience job.now.busy sentinels.now.seats)
+        (λ w. NamesLast job.now.attempts w.0 w.1 × (is_some (seat_in sentinels.now.seats w.1) ≡ true)) }
+{
+    let (object, holder) = named_last(&job.attempts)?;
+    if job.busy < rules.patience && sentinels.active(holder) {
+        Some((object, holder))
+    } else {
+        None
+    }
+}
+
+// Whether an idle job ends or waits.
+fn why_halted(
+    script: &Script,
+    rules: &Rules,
+    sentinels: &Sentinels,
+    begun: usize,
+    job: &Job,
+) -> Option<Halt>
     requires attempts { 1 ≤ rules.now.attempts }
-    ensures { (tells : Bool) (now : Now) → begun_count now ≡ begun → MatchOption result
+    ensures patient { IfSome result (WaitsOnly job.now.busy 4294967295) }
+    ensures halts { (tells : Bool) (now : Now) → begun_count now ≡ begun → AreSeats sentinels.now.seats now.jobs → MatchOption result
         (IsReady (setting script.now rules.now tells) now (seen_job job.now))
-        (λ end. IsEnding (setting script.now rules.now tells) now (seen_job job.now) end) }
+        (IsHalted (setting script.now rules.now tells) now (seen_job job.now)) }
 {
     if !job.place.has_next(script) {
-        return Some(JobEnd::Done);
+        return Some(Halt::End(JobEnd::Done));
     }
-    if let Some(Attempts { failed, last, .. }) = job.attempts {
-        if failed >= rules.attempts {
-            return Some(JobEnd::GaveUp(last));
-        }
+    if let Some(last) = given_up(rules, &job.attempts) {
+        return Some(Halt::End(JobEnd::GaveUp(last)));
+    }
+    if let Some((object, holder)) = waits_for(rules, sentinels, job) {
+        return Some(Halt::Wait { object, holder });
     }
     if begun >= MOST_ENTRIES {
-        return Some(JobEnd::JournalFull);
+        return Some(Halt::End(JobEnd::JournalFull));
     }
     None
+}
+
+// The turn of a job that doesn't begin.
+fn stop(job: &mut Job, halt: &Halt) -> Turn
+    requires { WaitsOnly job.old.busy 4294967295 halt.now }
+    ensures { IsStopped (seen_job job.old) (seen_job job.new) halt.now result }
+{
+    match halt {
+        Halt::End(end) => job.end(end),
+        Halt::Wait { object, holder } => {
+            job.wait();
+            Turn::Busy {
+                object: *object,
+                holder: *holder,
+            }
+        }
+    }
 }
 
 fn rank_of(attempts: &Option<Attempts>, number: u32) -> u32
@@ -45,34 +126,75 @@ fn rank_of(attempts: &Option<Attempts>, number: u32) -> u32
     }
 }
 
-/// The turn of an idle job: its next transaction begins, with room for its entry and its variables kept for an abort, or
-/// the job ends. So many transactions are active, and each has its room in the journal.
+// The room of a transaction of this number and rank: for its entry in the journal, which then has so much, a seat, and its job's
+// variables for an abort.
+fn take_room(
+    journal: &mut Journal,
+    sentinels: &mut Sentinels,
+    place: &mut JobState,
+    spare: u32,
+    number: u32,
+    rank: u32,
+) -> Result<(), NoMemory>
+    requires few { length journal.old.items ≤ 10000 }
+    requires most { spare ≤ 10001 }
+    requires new { seat_in sentinels.old.seats number ≡ None }
+    ensures items { journal.new.items ≡ journal.old.items }
+    ensures room { OnOk result (spare ≤ journal.new.spare) }
+    ensures kept { journal.old.spare ≤ journal.new.spare }
+    ensures claims { sentinels.new.claims ≡ sentinels.old.claims }
+    ensures ok_seats { OnOk result (SetsSeat sentinels.old.seats sentinels.new.seats number
+        (Some (record { rank = rank; running = true; mark = None }))) }
+    ensures err_seats { OnErr result (KeepsSeats sentinels.old.seats sentinels.new.seats) }
+    ensures ok_place { OnOk result (place.new ≡ record place.old { begun = place.old.variables }) }
+    ensures err_place { OnErr result (place.new ≡ place.old) }
+{
+    journal.reserve(spare)?;
+    sentinels.begin(number, rank)?;
+    if place.begin().is_err() {
+        sentinels.withdraw(number);
+        return Err(NoMemory);
+    }
+    Ok(())
+}
+
+/// The turn of an idle job: its next transaction begins, with a seat, room for its entry and its variables kept for an abort; or
+/// the job waits or ends. So many transactions are active, and each has its room in the journal.
 pub fn begin(
     alloc: Global,
     script: &Script,
     rules: &Rules,
     journal: &mut Journal,
+    sentinels: &mut Sentinels,
     active: u32,
     job: &mut Job,
 ) -> Turn
     requires idle { (seen_job job.old).doing ≡ Idle }
     requires few { length journal.old.items + active ≤ 10000 }
     requires attempts { 1 ≤ rules.now.attempts }
+    requires new { seat_in sentinels.old.seats (length journal.old.items + active + 1) ≡ None }
     ensures items { journal.new.items ≡ journal.old.items }
     ensures room { (result ≡ Turn.Went → active + 1 ≤ journal.new.spare) × (journal.old.spare ≤ journal.new.spare) }
+    ensures claims { sentinels.new.claims ≡ sentinels.old.claims }
+    ensures seats { IsSeatBehind (length journal.old.items + active + 1) (rank_of job.old.attempts (length journal.old.items + active + 1))
+        sentinels.old.seats sentinels.new.seats result }
     ensures row { (tells : Bool) (now : Now) (at : ℕ) → HasBegun now (length journal.old.items) active
-        → IdleTurn (setting script.now rules.now tells) at now (seen_job job.old) result (with_job now at (seen_job job.new)) }
+        → AreSeats sentinels.old.seats now.jobs
+        → now.marks ≡ marks_of sentinels.old.seats
+        → IdleTurn (setting script.now rules.now tells) at now (seen_job job.old) result
+        (record (with_job now at (seen_job job.new)) { marks = marks_of sentinels.new.seats }) }
 {
     let entered = journal.len();
-    if let Some(end) = end_now(script, rules, entered + active as usize, job) {
-        return job.end(&end);
-    }
-    if journal.reserve(active + 1).is_err() || job.place.begin().is_err() {
-        return job.end(&JobEnd::NoMemory);
+    if let Some(halt) = why_halted(script, rules, sentinels, entered + active as usize, job) {
+        return stop(job, &halt);
     }
     let number = entered as u32 + active + 1;
     let rank = rank_of(&job.attempts, number);
+    if take_room(journal, sentinels, &mut job.place, active + 1, number, rank).is_err() {
+        return job.end(&JobEnd::NoMemory);
+    }
     job.tx.begin(alloc, number, rank, entered as u32);
     job.activity = Activity::Active;
+    job.busy = 0;
     Turn::Went
 }

@@ -19,16 +19,16 @@ use xc_file::{
 };
 use xc_host::Host;
 use xc_script::JobState;
+use xc_sentinel::Sentinels;
 use xc_text::Script;
 use xc_txmem::{Words, WriteSet};
-use xc_wordlocks::Claims;
 
 /// What all jobs of a station share.
 #[derive(Drop)]
 pub struct Shared<H: Host> {
     pub host: H,
     pub words: Words,
-    pub claims: Claims,
+    pub sentinels: Sentinels,
 }
 
 // The transaction's own stores are seen.

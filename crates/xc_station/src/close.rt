@@ -18,8 +18,8 @@ use std::alloc::Global;
 use xc_data::{Cause, Entry};
 use xc_host::Host;
 use xc_script::JobState;
+use xc_sentinel::Sentinels;
 use xc_story::{Attempts, Phase};
-use xc_wordlocks::Claims;
 
 // Goes on to the next transaction, of which there was no attempt yet.
 fn go_on(place: &mut JobState, attempts: &mut Option<Attempts>)
@@ -45,15 +45,16 @@ pub fn end_late<H: Host>(host: &mut H, job: &mut Job)
 
 /// A committed job behind its last turn, and its entry: its slots have taken the ends of its late calls, and its claims are
 /// given up. The job's number counts from 1.
-pub fn commit(alloc: Global, number: u32, job: &mut Job, claims: &mut Claims) -> Entry
+pub fn commit(alloc: Global, number: u32, job: &mut Job, sentinels: &mut Sentinels) -> Entry
     requires committing { (tx : SeenTx) × ((seen_job job.old).doing ≡ Active tx) × (tx.phase ≡ PlainPhase.Committing) }
     requires next { job.old.place.next < 2 ^ 32 }
-    requires table { HoldsItsClaims claims.old (seen_job job.old) }
+    requires table { HoldsItsClaims sentinels.old.claims (seen_job job.old) }
     ensures entry { (tx : SeenTx) (at : ℕ) → (seen_job job.old).doing ≡ Active tx → number ≡ at + 1
         → (seen_job job.new ≡ behind_commit (seen_job job.old) tx) × (result ≡ entry_of tx at (Committed tx.ends)) }
-    ensures freed { GivesUpClaims claims.old claims.new (seen_job job.old) }
+    ensures freed { GivesUpClaims sentinels.old sentinels.new (seen_job job.old) }
 {
     job.activity = Activity::Idle;
+    job.busy = 0;
     let Tx {
         calls,
         replies,
@@ -64,7 +65,7 @@ pub fn commit(alloc: Global, number: u32, job: &mut Job, claims: &mut Claims) ->
         .set_ends(calls.as_slice(), replies.as_slice(), late.ends());
     go_on(&mut job.place, &mut job.attempts);
     job.tx.renew();
-    job.tx.close(alloc, number, claims)
+    job.tx.close(alloc, number, sentinels)
 }
 
 /// An undoing job behind a turn in which its newest record without an end was tried.
@@ -108,7 +109,7 @@ fn one_more(attempts: &Option<Attempts>, rank: u32, last: Cause) -> Attempts
 
 // Goes to where a job stands behind an abort of a transaction of this rank.
 fn go_back(job: &mut Job, rank: u32, cause: Cause)
-    requires idle { (seen_job job.old).doing ≡ Idle }
+    requires idle { ((seen_job job.old).doing ≡ Idle) × (job.old.busy ≡ 0) }
     requires next { job.old.place.next < 2 ^ 32 }
     requires attempts { failures job.old.attempts + 1 < 2 ^ 32 }
     ensures { (tx : SeenTx) → tx.rank ≡ rank → seen_job job.new ≡ behind_abort (seen_job job.old) tx cause }
@@ -119,7 +120,7 @@ fn go_back(job: &mut Job, rank: u32, cause: Cause)
             job.place.back();
             go_on(&mut job.place, &mut job.attempts);
         }
-        _ => {
+        Cause::Conflict { .. } | Cause::Revoked { .. } => {
             job.place.back();
             job.attempts = Some(one_more(&job.attempts, rank, cause));
         }
@@ -127,21 +128,22 @@ fn go_back(job: &mut Job, rank: u32, cause: Cause)
 }
 
 /// An undoing job behind its last turn, and its entry: its claims are given up. The job's number counts from 1.
-pub fn abort(alloc: Global, number: u32, job: &mut Job, claims: &mut Claims) -> Entry
+pub fn abort(alloc: Global, number: u32, job: &mut Job, sentinels: &mut Sentinels) -> Entry
     requires undone { (tx : SeenTx) × (c : PlainCause) × ((seen_job job.old).doing ≡ Active tx) × (tx.phase ≡ PlainPhase.Undoing c)
         × (tx.undo.pending ≡ []) }
     requires next { job.old.place.next < 2 ^ 32 }
     requires attempts { failures job.old.attempts + 1 < 2 ^ 32 }
-    requires table { HoldsItsClaims claims.old (seen_job job.old) }
+    requires table { HoldsItsClaims sentinels.old.claims (seen_job job.old) }
     ensures entry { (tx : SeenTx) (c : PlainCause) (at : ℕ) → (seen_job job.old).doing ≡ Active tx → tx.phase ≡ PlainPhase.Undoing c
         → number ≡ at + 1 → (seen_job job.new ≡ behind_abort (seen_job job.old) tx c)
         × (result ≡ entry_of tx at (Aborted (record { cause = c; records = tx.undo.ended }))) }
-    ensures freed { GivesUpClaims claims.old claims.new (seen_job job.old) }
+    ensures freed { GivesUpClaims sentinels.old sentinels.new (seen_job job.old) }
 {
     let cause = cause_of(&job.tx);
     let rank = job.tx.rank;
-    let entry = job.tx.close(alloc, number, claims);
+    let entry = job.tx.close(alloc, number, sentinels);
     job.activity = Activity::Idle;
+    job.busy = 0;
     go_back(job, rank, cause);
     entry
 }

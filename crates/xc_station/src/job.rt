@@ -1,5 +1,5 @@
-ghost use Rattle.std.specs.Prelude.{◌≡◌};
-ghost use Rattle.xc_story.specs.Seen.{Ended};
+ghost use Rattle.std.specs.Prelude.{◌≡◌, ◌+◌, ◌<◌, ◌^◌};
+ghost use Rattle.xc_story.specs.Seen.{Ended, waiting};
 ghost use Rattle.xc_station.specs.Jobs.{doing_of, is_live, phase_stage, seen_job, seen_tx, stage_of};
 
 use crate::tx::Tx;
@@ -22,8 +22,10 @@ pub enum Activity {
 #[derive(Drop)]
 pub struct Job {
     pub block: Ident,
-    /// Attempts at its next transaction that met a holder.
+    /// Attempts at its next transaction that met a holder or were revoked.
     pub attempts: Option<Attempts>,
+    /// How often it was told to wait since its last begin or entry.
+    pub busy: u32,
     pub place: JobState,
     pub activity: Activity,
     /// Its active transaction; while it has none, the handles of the last one's end stay in it for the next.
@@ -85,6 +87,14 @@ impl Job {
         ensures { result ≡ is_live (seen_job self.now) }
     {
         !matches!(self.activity, Activity::Ended(_))
+    }
+
+    /// It was told to wait once more.
+    pub fn wait(&mut self)
+        requires { self.old.busy + 1 < 2 ^ 32 }
+        ensures { seen_job self.new ≡ waiting (seen_job self.old) }
+    {
+        self.busy += 1;
     }
 
     /// It ends.

@@ -1,4 +1,4 @@
-ghost use Rattle.std.specs.Prelude.{◌≡◌, ◌≤◌, ℕ, length, IsSome, IsTrue};
+ghost use Rattle.std.specs.Prelude.{◌≡◌, ◌≢◌, ◌+◌, ◌<◌, ◌≤◌, ◌^◌, ℕ, length, true, IsSome, IsTrue, Some};
 ghost use Rattle.xc_data.specs.declared.entry.Cause.TheVariants as PlainCause;
 ghost use Rattle.xc_script.specs.declared.ask.Ask.TheVariants.{Call as AskedCall};
 ghost use Rattle.xc_script.specs.Ask.{asks, next_body};
@@ -6,25 +6,28 @@ ghost use Rattle.xc_script.specs.Position.{walk_of, job_of, IsSettled};
 ghost use Rattle.xc_world.specs.Modes.{claims_of};
 ghost use Rattle.xc_story.specs.declared.phase.Phase.TheVariants as PlainPhase;
 ghost use Rattle.xc_story.specs.declared.rules.Rules.{Rules as PlainRules};
-ghost use Rattle.xc_story.specs.Seen.{SeenJob, Now, Active};
+ghost use Rattle.xc_story.specs.Seen.{SeenJob, Now, Active, revoked};
+ghost use Rattle.xc_data.specs.declared.object.Object.{Object};
 ghost use Rattle.xc_story.specs.Setting.{setting};
 ghost use Rattle.xc_story.specs.Rows.{with_tx};
 ghost use Rattle.xc_station.specs.Acting.{AreReadyFor, MayGo};
 ghost use Rattle.xc_station.specs.Jobs.{begun_of, seen_job, seen_tx};
-ghost use Rattle.xc_station.specs.Moments.{CanRun, HasClaimed, HasTx, IsAt, IsRow, moved};
+ghost use Rattle.xc_station.specs.Moments.{AreTerms, CanRun, HasClaimed, HasTx, IsAt, IsRow, IsRunningRow, KeepsSeated, counted};
+ghost use Rattle.xc_station.specs.Moments.{marks_of, moved, runs, seated_as};
+ghost use Rattle.xc_sentinel.specs.Seating.{seat_in};
 
 use crate::calls::{Shared, do_call};
 use crate::job::Job;
 use crate::tx::Tx;
 use smallvec::SmallVec;
 use std::alloc::Global;
-use xc_data::{Call, Cause, Claim, NoMemory, Turn};
+use xc_data::{Call, Cause, Claim, Mark, NoMemory, Turn};
 use xc_host::Host;
 use xc_script::{Ask, JobState};
-use xc_story::Phase;
+use xc_sentinel::{Sentinels, Verdict};
+use xc_story::{Phase, Rules};
 use xc_text::Script;
 use xc_txmem::Words;
-use xc_wordlocks::ClaimErr;
 use xc_world::touched;
 
 // What a transaction's call claims.
@@ -45,19 +48,28 @@ fn want(tx: &mut Tx) -> Turn
     Turn::NoMemory
 }
 
-// Claims what a call touches, with room to note the call: or the transaction undoes, since another holds
-// something against it, or for want of memory.
+// On which terms a call claims what it touches.
+#[derive(Clone, Copy)]
+struct Terms {
+    // Whether its transaction may wait for a younger holder.
+    patient: bool,
+    // How long the journal is.
+    at: u32,
+}
+
+// Claims what a call touches, with room to note the call. Where another holds something against it the transaction waits, if that
+// one is younger, or undoes; it undoes for want of memory too.
 fn claim<H: Host>(
     alloc: Global,
     shared: &mut Shared<H>,
-    entered: u32,
+    terms: Terms,
     tx: &mut Tx,
     call: &Call,
 ) -> Result<(), Turn>
     requires count { length shared.old.words ≤ 4096 }
     ensures same { (shared.new.host ≡ shared.old.host) × (shared.new.words ≡ shared.old.words) }
-    ensures claimed { HasClaimed shared.old.claims shared.new.claims tx.old tx.new
-        (claims_of call.now tx.old.me.value (length shared.old.words)) entered result }
+    ensures claimed { HasClaimed shared.old.sentinels shared.new.sentinels tx.old tx.new
+        (record { claims = claims_of call.now tx.old.me.value (length shared.old.words); patient = terms.patient; at = terms.at }) result }
     ensures begun { begun_of tx.new ≡ begun_of tx.old }
 {
     let touched = touched_by(alloc, &shared.words, tx, call);
@@ -65,20 +77,24 @@ fn claim<H: Host>(
     if tx.room(claims).is_err() {
         return Err(want(tx));
     }
-    match shared.claims.claim(claims, tx.number) {
-        Ok(()) => {
+    match shared
+        .sentinels
+        .ask(claims, tx.number, terms.patient, terms.at)
+    {
+        Verdict::Granted => {
             tx.hold(claims);
             Ok(())
         }
-        Err(ClaimErr::Met { object, holder }) => {
+        Verdict::Busy { object, holder } => Err(Turn::Busy { object, holder }),
+        Verdict::Conflict { object, holder } => {
             tx.phase = Phase::Undoing(Cause::Conflict {
                 object,
                 holder,
-                at: entered,
+                at: terms.at,
             });
             Err(Turn::Went)
         }
-        Err(ClaimErr::NoMemory) => Err(want(tx)),
+        Verdict::NoMemory => Err(want(tx)),
     }
 }
 
@@ -87,7 +103,7 @@ fn try_call<H: Host>(
     alloc: Global,
     shared: &mut Shared<H>,
     script: &Script,
-    entered: u32,
+    terms: Terms,
     place: &mut JobState,
     tx: &mut Tx,
     call: Call,
@@ -98,12 +114,15 @@ fn try_call<H: Host>(
     requires count { length shared.old.words ≤ 4096 }
     requires ready { IsTrue H.model.tells → AreReadyFor (seen_tx tx.old) (H.model.contents shared.old.host) }
     ensures words { shared.new.words ≡ shared.old.words }
+    ensures seats { KeepsSeated shared.old.sentinels.seats shared.new.sentinels.seats }
+    ensures waits { (object : Object) (holder : ℕ) → result ≡ Turn.Busy object holder → terms.patient ≡ true }
     ensures begun { begun_of tx.new ≡ begun_of tx.old }
     ensures row { (rules : PlainRules) (now : Now) (at : ℕ) (job : SeenJob) → let s = setting script.now rules H.model.tells in
-        IsAt H.model shared.old now at job → HasTx s job place.old (seen_tx tx.old) → length now.journal ≡ entered
-        → IsRow s now (moved H.model shared.new (with_tx job place.new (seen_tx tx.new)) now at) at job result shared.new.claims }
+        IsAt H.model shared.old now at job → HasTx s job place.old (seen_tx tx.old) → AreTerms rules now job terms.patient terms.at
+        → IsRow s now (moved H.model shared.new (counted result (with_tx job place.new (seen_tx tx.new))) now at) at job result
+        shared.new.sentinels.claims }
 {
-    if let Err(turn) = claim(alloc, shared, entered, tx, &call) {
+    if let Err(turn) = claim(alloc, shared, terms, tx, &call) {
         return turn;
     }
     let Shared { host, words, .. } = shared;
@@ -122,7 +141,7 @@ fn go<H: Host>(
     alloc: Global,
     shared: &mut Shared<H>,
     script: &Script,
-    entered: u32,
+    terms: Terms,
     place: &mut JobState,
     tx: &mut Tx,
 ) -> Turn
@@ -131,13 +150,17 @@ fn go<H: Host>(
     requires count { length shared.old.words ≤ 4096 }
     requires ready { IsTrue H.model.tells → AreReadyFor (seen_tx tx.old) (H.model.contents shared.old.host) }
     ensures count { length shared.new.words ≡ length shared.old.words }
+    ensures seats { KeepsSeated shared.old.sentinels.seats shared.new.sentinels.seats }
+    ensures waits { (object : Object) (holder : ℕ) → result ≡ Turn.Busy object holder → terms.patient ≡ true }
     ensures begun { begun_of tx.new ≡ begun_of tx.old }
     ensures row { (rules : PlainRules) (now : Now) (at : ℕ) (job : SeenJob) → let s = setting script.now rules H.model.tells in
-        IsAt H.model shared.old now at job → job.doing ≡ Active (seen_tx tx.old) → job.place ≡ place.old → length now.journal ≡ entered
-        → IsRow s now (moved H.model shared.new (with_tx job place.new (seen_tx tx.new)) now at) at job result shared.new.claims }
+        IsAt H.model shared.old now at job → job.doing ≡ Active (seen_tx tx.old) → job.place ≡ place.old
+        → AreTerms rules now job terms.patient terms.at
+        → IsRow s now (moved H.model shared.new (counted result (with_tx job place.new (seen_tx tx.new))) now at) at job result
+        shared.new.sentinels.claims }
 {
     match place.ask(script) {
-        Ok(Ask::Call(call)) => try_call(alloc, shared, script, entered, place, tx, call),
+        Ok(Ask::Call(call)) => try_call(alloc, shared, script, terms, place, tx, call),
         Ok(Ask::Commit) => {
             tx.writes.apply(&mut shared.words);
             tx.phase = Phase::Committing;
@@ -152,23 +175,77 @@ fn go<H: Host>(
     }
 }
 
+// A transaction that no longer runs is known as one that doesn't.
+fn settle(sentinels: &mut Sentinels, tx: &Tx)
+    ensures claims { sentinels.new.claims ≡ sentinels.old.claims }
+    ensures marks { marks_of sentinels.new.seats ≡ marks_of sentinels.old.seats }
+    ensures others { (n : ℕ) → n ≢ tx.now.number → seated_as (seat_in sentinels.new.seats n) ≡ seated_as (seat_in sentinels.old.seats n) }
+    ensures own { (rank : ℕ) → seated_as (seat_in sentinels.old.seats tx.now.number) ≡ Some (rank, true)
+        → seated_as (seat_in sentinels.new.seats tx.now.number) ≡ Some (rank, runs tx.now.phase) }
+{
+    match tx.phase {
+        Phase::Running => {}
+        Phase::Committing | Phase::Undoing(_) => sentinels.settle(tx.number),
+    }
+}
+
+// The turn of a job whose transaction is marked: it undoes.
+fn revoke(tx: &mut Tx, mark: &Mark) -> Turn
+    ensures tx { seen_tx tx.new ≡ record (seen_tx tx.old) { phase = PlainPhase.Undoing (revoked mark.now) } }
+    ensures begun { begun_of tx.new ≡ begun_of tx.old }
+    ensures answer { result ≡ Turn.Went }
+{
+    tx.phase = Phase::Undoing(Cause::Revoked {
+        object: mark.object,
+        by: mark.by,
+        at: mark.at,
+    });
+    Turn::Went
+}
+
+// A job that was told to wait counts it.
+fn count_wait(job: &mut Job, answer: &Turn)
+    requires { (object : Object) (holder : ℕ) → answer.now ≡ Turn.Busy object holder → job.old.busy + 1 < 2 ^ 32 }
+    ensures counted { seen_job job.new ≡ counted answer.now (seen_job job.old) }
+    ensures block { job.new.block ≡ job.old.block }
+{
+    match answer {
+        Turn::Busy { .. } => job.wait(),
+        Turn::Went | Turn::NoMemory | Turn::Ended(_) => {}
+    }
+}
+
 /// The turn of a job whose transaction runs: its next call, the entering of its commit, which writes its stores, or that
-/// of its way back. Where memory is wanting it keeps what it claimed, and the record of what its call had done at the
-/// host. The journal has so many entries.
+/// of its way back, as where it is marked. Where memory is wanting it keeps what it claimed, and the record of what its call had done at
+/// the host. The journal has so many entries.
 pub fn run<H: Host>(
     alloc: Global,
     shared: &mut Shared<H>,
     script: &Script,
+    rules: &Rules,
     entered: u32,
     job: &mut Job,
 ) -> Turn
     requires running { CanRun script.now H.model shared.old (seen_job job.old) }
     requires count { length shared.old.words ≤ 4096 }
     ensures count { length shared.new.words ≡ length shared.old.words }
-    ensures row { (rules : PlainRules) (now : Now) (at : ℕ) → let s = setting script.now rules H.model.tells in
+    ensures block { job.new.block ≡ job.old.block }
+    ensures row { (now : Now) (at : ℕ) → let s = setting script.now rules.now H.model.tells in
         IsAt H.model shared.old now at (seen_job job.old) → length now.journal ≡ entered
-        → IsRow s now (moved H.model shared.new (seen_job job.new) now at) at (seen_job job.old) result shared.new.claims }
+        → IsRunningRow s now (moved H.model shared.new (seen_job job.new) now at) at (seen_job job.old) result shared.new.sentinels }
 {
+    if let Some(mark) = shared.sentinels.doomed(job.tx.number) {
+        let answer = revoke(&mut job.tx, &mark);
+        settle(&mut shared.sentinels, &job.tx);
+        return answer;
+    }
+    let terms = Terms {
+        patient: job.busy < rules.patience,
+        at: entered,
+    };
     let Job { place, tx, .. } = job;
-    go(alloc, shared, script, entered, place, tx)
+    let answer = go(alloc, shared, script, terms, place, tx);
+    settle(&mut shared.sentinels, &job.tx);
+    count_wait(job, &answer);
+    answer
 }

@@ -1,4 +1,5 @@
-ghost use Rattle.std.specs.Prelude.{◌≡◌, ◌<◌, ℕ, true, false};
+ghost use Rattle.std.specs.Prelude.{◌≡◌, ◌<◌, ◌+◌, ◌-◌, ◌%◌, ◌^◌, ℕ, true, false, length, slice_index, Option, Some};
+ghost use Rattle.xc_data.specs.declared.entry.Event.TheVariants.{Turned};
 ghost use Rattle.xc_story.specs.Alone.{AreAlone};
 ghost use Rattle.xc_story.specs.Truth.{IsSerial};
 ghost use Rattle.xc_station.specs.Stations.{GoesOn, IsStepOf, KeepsOrigin, IsFrontOf, NobodyLives, TakeRound, TakeRounds, TakeTurns};
@@ -6,6 +7,7 @@ ghost use Rattle.xc_station.specs.Stations.{WorksOn};
 ghost use Rattle.xc_station.specs.Stations.{live_at, now_of, turns_of};
 
 use crate::Station;
+use xc_data::Turn;
 use xc_host::Host;
 
 // One turn of a job, if it is live; whether it was.
@@ -46,16 +48,21 @@ pub fn work_alone<H: Host>(station: &mut Station<H>)
     }
 }
 
-/// One turn of each listed job; a job that isn't live is passed over.
+/// One turn of each listed job, by `try_turn`; a job that isn't live is passed over.
 pub fn run_schedule<H: Host>(station: &mut Station<H>, jobs: &[u32])
     ensures origin { KeepsOrigin station.old station.new }
     ensures front { IsFrontOf station.old.journal station.new.journal }
 
     // The listed turns were taken, in their order, and no others.
     ensures turns { TakeTurns H.model jobs.now station.old station.new }
+
+    // Each listed job is one event, also where it was passed over; the last event is one of the last listed job.
+    ensures count { station.new.events % 2 ^ 64 ≡ (station.old.events + length jobs.now) % 2 ^ 64 }
+    ensures last { 0 < length jobs.now
+        → (answer : Option Turn) × (station.new.last ≡ Some (Turned (slice_index jobs.now (length jobs.now - 1)) answer)) }
 {
     for job in jobs {
-        step(station, *job);
+        let _answer = station.try_turn(*job);
     }
 }
 

@@ -1,5 +1,5 @@
 ghost use Rattle.std.specs.Prelude.{◌≡◌, ◌<◌, ◌≤◌, ◌-◌, ℕ, length, [], ◌&&◌, not, true, false};
-ghost use Rattle.std.specs.Prelude.{All, IfOk, IfErr, map, sum_by, IsTrue, MatchOption};
+ghost use Rattle.std.specs.Prelude.{All, IfOk, IfErr, map, sum_by, IsTrue, MatchOption, Some};
 ghost use Rattle.xc_data.specs.Counts.{CountsFaults};
 ghost use Rattle.xc_data.specs.Faults.{entry_faults};
 ghost use Rattle.xc_data.specs.Limits.{KeepsLimits};
@@ -14,7 +14,10 @@ ghost use Rattle.xc_story.specs.Setting.{setting};
 ghost use Rattle.xc_station.specs.declared.job.Stage.TheVariants as PlainStage;
 ghost use Rattle.xc_station.specs.declared.job.Job.{Job as PlainJob};
 ghost use Rattle.xc_station.specs.Jobs.{IsStage, is_live, seen_job, seen_jobs};
-ghost use Rattle.xc_station.specs.Stations.{IsNextOf, KeepsOpening, NobodyLives, live_at, now_of, setting_of};
+ghost use Rattle.xc_data.specs.declared.entry.Event.TheVariants.{Turned, Picked, Looked};
+ghost use Rattle.xc_station.specs.Waits.{IsFairWait};
+ghost use Rattle.xc_station.specs.Stations.{ChangesOne, IsEvent, IsNextOf, IsTried, KeepsEvents, KeepsOpening, NobodyLives};
+ghost use Rattle.xc_station.specs.Stations.{live_at, noted, now_of, setting_of};
 
 use crate::begin::begin;
 use crate::calls::Shared;
@@ -25,14 +28,15 @@ use crate::start::{End, NotStarted, Opening};
 use crate::tx::Tx;
 use std::alloc::Global;
 use std::marker::Model;
-use xc_data::{JobEnd, JobLine, JobList, NoMemory, Turn};
+use xc_data::{Event, Ident, JobEnd, JobLine, JobList, NoMemory, Turn};
 use xc_host::{Host, OpenErr};
 use xc_journal::{Journal, Roomy};
 use xc_script::JobState;
+use xc_sentinel::Sentinels;
 use xc_story::Rules;
 use xc_text::Script;
+use xc_turnstile::Chronicle;
 use xc_txmem::Words;
-use xc_wordlocks::Claims;
 
 /// The core, over a host. Jobs are numbered from 1, in the order of their starts.
 #[derive(Drop)]
@@ -49,17 +53,21 @@ pub struct Station<H: Host> {
     lines: Roomy<JobLine>,
     // Jobs in the places below this one were taken, or have ended.
     taken: usize,
+    // How many events there were, modulo 2^64, and the last of them.
+    events: u64,
+    last: Option<Event>,
 }
 
 impl<H: Host> Model for Station<H> {
     ghost use Rattle.std.specs.Coded.{codes};
     ghost use Rattle.xc_script.specs.Position.{coded_position};
+    ghost use Rattle.xc_sentinel.specs.Seated.{coded_seats};
     ghost use Rattle.xc_story.specs.Setting.{setting};
     ghost use Rattle.xc_station.specs.Stations.{Seen, IsSteady, HasRooms, moment};
 
     ghost Value = { Seen H };
 
-    ghost coded = { Prim.hlevel (codes, coded_position) };
+    ghost coded = { Prim.hlevel (codes, coded_position, coded_seats) };
 
     ghost view = { λ s. record {
       opening = s.opening;
@@ -69,11 +77,14 @@ impl<H: Host> Model for Station<H> {
       journal = s.journal.items;
       jobs = s.jobs.items;
       taken = s.taken;
+      seats = s.shared.sentinels.seats;
+      events = s.events;
+      last = s.last;
     } };
 
     ghost invariant = { λ s. IsSteady (setting s.opening.script s.rules H.model.tells) s.opening.faults
         (moment H.model s.shared s.journal.items s.jobs.items)
-        × HasRooms s.shared.claims s.active s.journal.spare (moment H.model s.shared s.journal.items s.jobs.items) s.lines };
+        × HasRooms s.shared.sentinels s.active s.journal.spare (moment H.model s.shared s.journal.items s.jobs.items) s.lines };
 }
 
 impl<H: Host> Station<H> {
@@ -98,9 +109,10 @@ impl<H: Host> Station<H> {
         self.jobs.len() as u32
     }
 
-    /// The live job with the smallest number that isn't taken. It is taken from then on.
-    pub fn next_job(&mut self) -> Option<u32>
+    // The live job with the smallest number that isn't taken. It is taken from then on.
+    fn take_next(&mut self) -> Option<u32>
         ensures jobs { self.new.jobs ≡ self.old.jobs }
+        ensures quiet { KeepsEvents self.old self.new }
         ensures same { (self.new.opening ≡ self.old.opening) × (self.new.rules ≡ self.old.rules)
             × (now_of H.model self.new ≡ now_of H.model self.old) }
         ensures first { MatchOption result
@@ -121,6 +133,7 @@ impl<H: Host> Station<H> {
     fn idle(&mut self, at: usize) -> Turn
         requires { IsStage self.old.jobs at PlainStage.Idle }
         ensures same { KeepsOpening self.old self.new }
+        ensures quiet { KeepsEvents self.old self.new }
         ensures row { IsTurn (setting_of H.model self.old) at (now_of H.model self.old) result (now_of H.model self.new) }
     {
         let turn = begin(
@@ -128,6 +141,7 @@ impl<H: Host> Station<H> {
             &self.opening.script,
             &self.rules,
             &mut self.journal,
+            &mut self.shared.sentinels,
             self.active,
             &mut self.jobs[at],
         );
@@ -141,6 +155,7 @@ impl<H: Host> Station<H> {
     fn running(&mut self, at: usize) -> Turn
         requires { IsStage self.old.jobs at PlainStage.Running }
         ensures same { KeepsOpening self.old self.new }
+        ensures quiet { KeepsEvents self.old self.new }
         ensures row { IsTurn (setting_of H.model self.old) at (now_of H.model self.old) result (now_of H.model self.new) }
     {
         let entered = self.journal.len() as u32;
@@ -148,6 +163,7 @@ impl<H: Host> Station<H> {
             self.alloc,
             &mut self.shared,
             &self.opening.script,
+            &self.rules,
             entered,
             &mut self.jobs[at],
         )
@@ -157,6 +173,7 @@ impl<H: Host> Station<H> {
     fn committing(&mut self, at: usize) -> Turn
         requires { IsStage self.old.jobs at PlainStage.Committing }
         ensures same { KeepsOpening self.old self.new }
+        ensures quiet { KeepsEvents self.old self.new }
         ensures row { IsTurn (setting_of H.model self.old) at (now_of H.model self.old) result (now_of H.model self.new) }
     {
         end_late(&mut self.shared.host, &mut self.jobs[at]);
@@ -167,13 +184,14 @@ impl<H: Host> Station<H> {
     fn committed(&mut self, at: usize) -> Turn
         requires { IsStage self.old.jobs at PlainStage.Committed }
         ensures same { KeepsOpening self.old self.new }
+        ensures quiet { KeepsEvents self.old self.new }
         ensures row { IsTurn (setting_of H.model self.old) at (now_of H.model self.old) result (now_of H.model self.new) }
     {
         let entry = commit(
             self.alloc,
             at as u32 + 1,
             &mut self.jobs[at],
-            &mut self.shared.claims,
+            &mut self.shared.sentinels,
         );
         self.journal.enter(entry);
         self.active -= 1;
@@ -184,6 +202,7 @@ impl<H: Host> Station<H> {
     fn undoing(&mut self, at: usize) -> Turn
         requires { IsStage self.old.jobs at PlainStage.Undoing }
         ensures same { KeepsOpening self.old self.new }
+        ensures quiet { KeepsEvents self.old self.new }
         ensures row { IsTurn (setting_of H.model self.old) at (now_of H.model self.old) result (now_of H.model self.new) }
     {
         undo(
@@ -199,13 +218,14 @@ impl<H: Host> Station<H> {
     fn undone(&mut self, at: usize) -> Turn
         requires { IsStage self.old.jobs at PlainStage.Undone }
         ensures same { KeepsOpening self.old self.new }
+        ensures quiet { KeepsEvents self.old self.new }
         ensures row { IsTurn (setting_of H.model self.old) at (now_of H.model self.old) result (now_of H.model self.new) }
     {
         let entry = abort(
             self.alloc,
             at as u32 + 1,
             &mut self.jobs[at],
-            &mut self.shared.claims,
+            &mut self.shared.sentinels,
         );
         self.journal.enter(entry);
         self.active -= 1;
@@ -216,33 +236,18 @@ impl<H: Host> Station<H> {
     fn starved(&mut self, at: usize) -> Turn
         requires { IsStage self.old.jobs at PlainStage.Starved }
         ensures same { KeepsOpening self.old self.new }
+        ensures quiet { KeepsEvents self.old self.new }
         ensures row { IsTurn (setting_of H.model self.old) at (now_of H.model self.old) result (now_of H.model self.new) }
     {
         self.jobs[at].end(&JobEnd::NoMemory)
     }
 
-    /// One event of the job of this number.
-    ///
-    /// | The job | What the turn does | Answer |
-    /// |---|---|---|
-    /// | idle, no transaction left | it ends | Ended(Done) |
-    /// | idle, as many attempts met a holder as the rules allow | it ends | Ended(GaveUp(the last cause)) |
-    /// | idle, 10,000 transactions have begun | it ends | Ended(JournalFull) |
-    /// | idle, no memory for a begin | it ends | Ended(NoMemory) |
-    /// | idle otherwise | its next transaction begins | Went |
-    /// | running, a call is asked, and nobody holds anything against it | the call is done and noted | Went |
-    /// | running, a call is asked, and another holds something against it | it undoes, with Conflict | Went |
-    /// | running, the commit is asked | its stores are written | Went |
-    /// | running, an abort is asked | it undoes | Went |
-    /// | running, no memory | nothing is noted, but what a call had done at the host is recorded; it undoes | NoMemory |
-    /// | committing, a late call has no end | the first such call is done | Went |
-    /// | committing, all have one | the Committed entry, with its slots set; its claims end | Went |
-    /// | undoing, a record has no end | the newest such record is tried | Went |
-    /// | undoing, all have one | the Aborted entry; its claims end | Went |
-    /// | starved by want of memory | it ends | Ended(NoMemory) |
-    pub fn turn(&mut self, job: u32) -> Turn
+    // What a turn does, by the job's stage.
+    fn advance(&mut self, job: u32) -> Turn
         requires { live_at self.old.jobs job ≡ true }
         ensures same { KeepsOpening self.old self.new }
+        ensures changes { ChangesOne (job - 1) (now_of H.model self.old) (now_of H.model self.new) }
+        ensures quiet { KeepsEvents self.old self.new }
         ensures row { IsTurn (setting_of H.model self.old) (job - 1) (now_of H.model self.old) result (now_of H.model self.new) }
         ensures falls { turns_left (setting_of H.model self.new) (now_of H.model self.new)
             < turns_left (setting_of H.model self.old) (now_of H.model self.old) }
@@ -261,19 +266,147 @@ impl<H: Host> Station<H> {
     }
 }
 
+// Events.
+impl<H: Host> Station<H> {
+    // One event more, which is the last one from then on.
+    fn note(&mut self, event: Event)
+        ensures noted { self.new ≡ noted self.old event }
+        ensures few { length self.old.journal ≤ 10000 }
+    {
+        self.events = self.events.wrapping_add(1);
+        self.last = Some(event);
+    }
+
+    // A turn with this answer was the last event from then on.
+    fn note_turn(&mut self, job: u32, answer: &Turn)
+        ensures noted { self.new ≡ noted self.old (Turned job (Some answer.now)) }
+        ensures few { length self.old.journal ≤ 10000 }
+    {
+        self.note(Event::Turned {
+            job,
+            answer: Some(*answer),
+        });
+    }
+
+    /// One event of the job of this number.
+    ///
+    /// | The job | What the turn does | Answer |
+    /// |---|---|---|
+    /// | idle, no transaction left | it ends | Ended(Done) |
+    /// | idle, as many attempts met a holder or were revoked as the rules allow | it ends | Ended(GaveUp(the last cause)) |
+    /// | idle, who made its last attempt abort is still active, and patience is left | it waits | Busy(the object, that transaction) |
+    /// | idle, 10,000 transactions have begun | it ends | Ended(JournalFull) |
+    /// | idle, no memory for a begin | it ends | Ended(NoMemory) |
+    /// | idle otherwise | its next transaction begins | Went |
+    /// | running, marked | it undoes, with Revoked | Went |
+    /// | running, a call is asked, and nobody holds anything against it | the call is done and noted | Went |
+    /// | running, a call meets a younger holder, patience is left | it waits, and may mark the holder | Busy(the object, the holder) |
+    /// | running, a call is asked, and another holds something against it otherwise | it undoes, with Conflict | Went |
+    /// | running, the commit is asked | its stores are written | Went |
+    /// | running, an abort is asked | it undoes | Went |
+    /// | running, no memory | nothing is noted, but what a call had done at the host is recorded; it undoes | NoMemory |
+    /// | committing, a late call has no end | the first such call is done | Went |
+    /// | committing, all have one | the Committed entry, with its slots set; its claims end | Went |
+    /// | undoing, a record has no end | the newest such record is tried | Went |
+    /// | undoing, all have one | the Aborted entry; its claims end | Went |
+    /// | starved by want of memory | it ends | Ended(NoMemory) |
+    pub fn turn(&mut self, job: u32) -> Turn
+        requires { live_at self.old.jobs job ≡ true }
+        ensures same { KeepsOpening self.old self.new }
+        ensures changes { ChangesOne (job - 1) (now_of H.model self.old) (now_of H.model self.new) }
+        ensures row { IsTurn (setting_of H.model self.old) (job - 1) (now_of H.model self.old) result (now_of H.model self.new) }
+        ensures falls { turns_left (setting_of H.model self.new) (now_of H.model self.new)
+            < turns_left (setting_of H.model self.old) (now_of H.model self.old) }
+        ensures event { IsEvent self.old self.new (Turned job (Some result)) }
+
+        // A transaction waits for a younger one only, and an idle job for who ended its last attempt. Who waits may mark; nobody else.
+        ensures waiting { IsFairWait (setting_of H.model self.old) (job - 1) (now_of H.model self.old) result (now_of H.model self.new) }
+    {
+        let answer = self.advance(job);
+        self.note_turn(job, &answer);
+        answer
+    }
+
+    /// What `turn` does and answers where the job is live; None exactly where it isn't, and then nothing but the events changes.
+    pub fn try_turn(&mut self, job: u32) -> Option<Turn>
+        ensures tried { IsTried H.model job self.old self.new (live_at self.old.jobs job) result }
+        ensures event { IsEvent self.old self.new (Turned job result) }
+    {
+        if self.live(job) {
+            return Some(self.turn(job));
+        }
+        self.note(Event::Turned { job, answer: None });
+        None
+    }
+
+    /// The live job with the smallest number that isn't taken. It is taken from then on.
+    pub fn next_job(&mut self) -> Option<u32>
+        ensures jobs { self.new.jobs ≡ self.old.jobs }
+        ensures same { (self.new.opening ≡ self.old.opening) × (self.new.rules ≡ self.old.rules)
+            × (now_of H.model self.new ≡ now_of H.model self.old) }
+        ensures first { MatchOption result
+            ((number : ℕ) → self.old.taken < number → live_at self.old.jobs number ≡ false)
+            (λ job. IsNextOf self.old.jobs self.old.taken job × (self.new.taken ≡ job)) }
+        ensures event { IsEvent self.old self.new (Picked result) }
+    {
+        let job = self.take_next();
+        self.note(Event::Picked(job));
+        job
+    }
+
+    /// The journal's length. Nothing but the events changes, and it takes no memory.
+    pub fn look(&mut self) -> u32
+        ensures length { result ≡ length self.old.journal }
+        ensures noted { self.new ≡ noted self.old (Looked result) }
+        ensures event { IsEvent self.old self.new (Looked result) }
+    {
+        let length = self.journal.len() as u32;
+        self.note(Event::Looked(length));
+        length
+    }
+}
+
+impl<H: Host> Chronicle for Station<H> {
+    ghost use Rattle.xc_station.specs.Stations.{meaning_of};
+
+    ghost meaning = { meaning_of };
+
+    fn len(&self) -> u64 {
+        self.journal.len() as u64
+    }
+
+    fn events(&self) -> u64 {
+        self.events
+    }
+
+    fn last(&self) -> Option<Event> {
+        self.last
+    }
+}
+
+// A job of a job block, at the begin of it.
+fn opened_job(alloc: Global, script: &Script, block: Ident) -> Result<Job, NoMemory>
+    requires { IsScript script.now }
+    ensures { IfOk result (λ job. seen_job job ≡ opened_job script.now block) }
+{
+    Ok(Job {
+        block,
+        place: JobState::new(alloc, script, block)?,
+        attempts: None,
+        busy: 0,
+        activity: Activity::Idle,
+        tx: Tx::new(alloc)?,
+    })
+}
+
 // The jobs of the script's job blocks, each at the begin of its block.
 fn opened_jobs(alloc: Global, script: &Script) -> Result<Vec<Job>, NoMemory>
+    requires { IsScript script.now }
     ensures { IfOk result (λ jobs. seen_jobs jobs.items ≡ map (opened_job script.now) script.now.outline.jobs) }
 {
     let mut jobs = Vec::with_capacity(alloc, script.outline().jobs.len())?;
     for block in script.outline().jobs.as_slice() {
-        jobs.push(Job {
-            block: *block,
-            place: JobState::new(alloc, script, *block)?,
-            attempts: None,
-            activity: Activity::Idle,
-            tx: Tx::new(alloc)?,
-        })?;
+        jobs.push(opened_job(alloc, script, *block)?)?;
     }
     Ok(jobs)
 }
@@ -334,7 +467,7 @@ impl<H: Host> Station<H> {
         if let Err(why) = host.open_with(&script.outline().prologue) {
             return Err(NotStarted { host, why });
         }
-        let claims = Claims::new(alloc);
+        let sentinels = Sentinels::new(alloc);
         let journal = Journal::new(alloc);
         Ok(Station {
             alloc,
@@ -343,13 +476,15 @@ impl<H: Host> Station<H> {
             shared: Shared {
                 host,
                 words,
-                claims,
+                sentinels,
             },
             journal,
             active: 0,
             jobs,
             lines,
             taken: 0,
+            events: 0,
+            last: None,
         })
     }
 

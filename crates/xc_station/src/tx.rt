@@ -15,9 +15,10 @@ use xc_compensate::Stack;
 use xc_data::{Call, Claim, Entry, NoMemory, Outcome, Private, Reply, Report};
 use xc_deferred::Late;
 use xc_journal::Roomy;
+use xc_sentinel::Sentinels;
 use xc_story::Phase;
 use xc_txmem::WriteSet;
-use xc_wordlocks::{Claims, Holding};
+use xc_wordlocks::Holding;
 
 /// A job's transaction, with what its entry will say. It lies in its job for all of the job's transactions, and with it
 /// the job's handles: no begin and no end copies them. These have places of their
@@ -163,14 +164,14 @@ impl Tx {
     }
 
     /// The entry of the job of this number: a commit's, or that of an abort whose records have their ends. It holds nothing
-    /// from then on. It takes no memory.
-    pub fn close(&mut self, alloc: Global, job: u32, claims: &mut Claims) -> Entry
+    /// from then on, and is no longer active. It takes no memory.
+    pub fn close(&mut self, alloc: Global, job: u32, sentinels: &mut Sentinels) -> Entry
         requires undone { (c : PlainCause) → self.old.phase ≡ PlainPhase.Undoing c → self.old.undo.pending ≡ [] }
-        requires table { Holds claims.old self.old.number self.old.held.items }
+        requires table { Holds sentinels.old.claims self.old.number self.old.held.items }
         ensures entry { (at : ℕ) → job ≡ at + 1
             → result ≡ entry_of (seen_tx self.old) at (outcome_in self.old.phase self.old.undo.ended self.old.late.ends) }
         ensures begun { begun_of self.new ≡ begun_of self.old }
-        ensures freed { Frees claims.old claims.new self.old.number }
+        ensures freed { Frees sentinels.old sentinels.new self.old.number }
     {
         let undo = mem::replace(&mut self.undo, Stack::new(alloc));
         let late = mem::replace(&mut self.late, Late::new(alloc));
@@ -184,7 +185,7 @@ impl Tx {
             began: self.began,
             calls: mem::replace(&mut self.calls, Roomy::new(alloc)).into_items(),
             replies: mem::replace(&mut self.replies, Roomy::new(alloc)).into_items(),
-            held: claims.release_all(self.number, held),
+            held: sentinels.end(self.number, held),
             outcome,
         }
     }

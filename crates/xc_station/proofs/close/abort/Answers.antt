@@ -10,19 +10,19 @@ pub close-entry-requires-clause-table : goal.close-entry-requires-clause-table
 close-entry-requires-clause-table c =
     let required = c.requires.undone in
     let same : seen_tx c.args.job.now.tx ≡ required.0 = its_active c.args.job.now required.0 required.2 in
-    subst (λ (t : SeenTx). Holds c.args.claims.now t.number t.held) (sym same) (c.requires.table required.0 required.2)
+    subst (λ (t : SeenTx). Holds c.args.sentinels.now.claims t.number t.held) (sym same) (c.requires.table required.0 required.2)
 
 pub returns-clause-freed : goal.returns-clause-freed
 returns-clause-freed c tx is =
     let same : seen_tx c.args.job.now.tx ≡ tx = its_active c.args.job.now tx is in
-    subst (Frees c.args.claims.now c.close-entry.new.claims) (ap (λ (t : SeenTx). t.number) same) c.close-entry.ensures.freed
+    subst (Frees c.args.sentinels.now c.close-entry.new.sentinels) (ap (λ (t : SeenTx). t.number) same) c.close-entry.ensures.freed
 
 pub returns-clause-entry : goal.returns-clause-entry
 returns-clause-entry c tx cause at is phase number =
     let job = c.args.job.now in
     let same : seen_tx job.tx ≡ tx = its_active job tx is in
     let caused = same_cause _ _ (sym c.cause_of-cause.ensures ∙ ap (λ (t : SeenTx). t.phase) same ∙ phase) in (
-      abort_behind (seen_job job) _ _ tx _ _ (λ i. record (seen_job job) { me = c.close-entry.ensures.begun i; doing = Idle }) caused
+      abort_behind (seen_job job) _ _ tx _ _ (λ i. record (seen_job job) { me = c.close-entry.ensures.begun i; busy = 0; doing = Idle }) caused
           (c.go_back.ensures tx (sym (ap (λ (t : SeenTx). t.rank) same))),
       c.close-entry.ensures.entry at number ∙ abort_entry _ _ at _ same phase,
     )

@@ -15,13 +15,13 @@ pub close-requires-clause-table : goal.close-requires-clause-table
 close-requires-clause-table c =
     let required = c.requires.committing in
     let same : seen_tx c.args.job.now.tx ≡ required.0 = its_active c.args.job.now required.0 required.1 in
-    subst (λ (t : Tx). Holds c.args.claims.now t.number t.held.items) (sym c.renew.ensures)
-    (subst (λ (t : SeenTx). Holds c.args.claims.now t.number t.held) (sym same) (c.requires.table required.0 required.1))
+    subst (λ (t : Tx). Holds c.args.sentinels.now.claims t.number t.held.items) (sym c.renew.ensures)
+    (subst (λ (t : SeenTx). Holds c.args.sentinels.now.claims t.number t.held) (sym same) (c.requires.table required.0 required.1))
 
 pub returns-clause-freed : goal.returns-clause-freed
 returns-clause-freed c tx is =
     let same : seen_tx c.args.job.now.tx ≡ tx = its_active c.args.job.now tx is in
-    subst (Frees c.args.claims.now c.close.new.claims)
+    subst (Frees c.args.sentinels.now c.close.new.sentinels)
     (ap (λ (t : Tx). t.number) c.renew.ensures ∙ ap (λ (t : SeenTx). t.number) same) c.close.ensures.freed
 
 pub returns-clause-entry : goal.returns-clause-entry

@@ -10,17 +10,17 @@ pub returns-in-Ok-Commit-clause-count : goal.returns-in-Ok-Commit-clause-count
 returns-in-Ok-Commit-clause-count g c = c.apply.ensures.count
 
 pub returns-in-Ok-Commit-clause-row : goal.returns-in-Ok-Commit-clause-row
-returns-in-Ok-Commit-clause-row g c rules now at job here doing place journal =
+returns-in-Ok-Commit-clause-row g c rules now at job here doing place terms =
     let e = c.in-Ok-Commit.ensures in
     let same : IsSamePosition (setting c.args.script.now rules g.H.Host.model.tells) c.args.place.now c.ask.new.self =
     record { begin = record { block = e.same.0; next = e.same.1; begun = e.begun }; walk = e.walk; at = e.at } in
     commits g.H.Host.model _ _ _ _ _ c.ask.new.self c.args.tx.now here (has_tx _ _ _ _ _ doing place same)
-    (record { host = c.args.shared.now.host; words = c.apply.new.words; claims = c.args.shared.now.claims }) (record c.args.tx.now { phase = Committing })
+    (record { host = c.args.shared.now.host; words = c.apply.new.words; sentinels = c.args.shared.now.sentinels }) (record c.args.tx.now { phase = Committing })
     refl c.apply.ensures.words refl refl
     (asked_walk c.args.script.now c.args.place.now c.ask.new.self _ c.requires.left e.walk e.value ∙ c.in-Ok-Commit.field-0-is) e.settled
 
 pub returns-in-Ok-Abort-clause-row : goal.returns-in-Ok-Abort-clause-row
-returns-in-Ok-Abort-clause-row g c rules now at job here doing place journal =
+returns-in-Ok-Abort-clause-row g c rules now at job here doing place terms =
     let e = c.in-Ok-Abort.ensures in
     let same : IsSamePosition (setting c.args.script.now rules g.H.Host.model.tells) c.args.place.now c.ask.new.self =
     record { begin = record { block = e.same.0; next = e.same.1; begun = e.begun }; walk = e.walk; at = e.at } in
@@ -29,7 +29,7 @@ returns-in-Ok-Abort-clause-row g c rules now at job here doing place journal =
     (asked_walk c.args.script.now c.args.place.now c.ask.new.self _ c.requires.left e.walk e.value ∙ c.in-Ok-Abort.field-0-is)
 
 pub returns-in-Err-clause-row : goal.returns-in-Err-clause-row
-returns-in-Err-clause-row g c rules now at job here doing place journal =
+returns-in-Err-clause-row g c rules now at job here doing place terms =
     let e = c.in-Err.ensures in
     let same : IsSamePosition (setting c.args.script.now rules g.H.Host.model.tells) c.args.place.now c.ask.new.self =
     record { begin = record { block = e.same.0; next = e.same.1; begun = e.begun }; walk = e.walk; at = e.at } in

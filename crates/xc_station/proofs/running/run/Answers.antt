@@ -1,17 +1,58 @@
-use Rattle.std.proofs.Common.{refl, subst}
-use Rattle.xc_story.specs.Seen.{SeenJob}
+use Rattle.std.proofs.Common.{◌≡◌, ℕ, true, Some, refl, subst, sym, ap, ◌∙◌}
+use Rattle.xc_sentinel.specs.Seating.{seat_in}
 use Rattle.xc_story.specs.Setting.{setting}
-use Rattle.xc_station.specs.Jobs.{seen_job}
-use Rattle.xc_station.specs.Moments.{IsRow, moved}
-use Rattle.xc_station.proofs.Closed.{moves_on, is_active}
+use Rattle.xc_story.specs.Seen.{SeenTx, SeenJob}
+use Rattle.xc_story.specs.Rows.{with_tx}
+use Rattle.xc_data.specs.declared.entry.Turn.{Turn}
+use Rattle.xc_station.specs.declared.calls.Shared.{Shared}
+use Rattle.xc_station.specs.Jobs.{seen_job, seen_tx}
+use Rattle.xc_station.specs.Moments.{IsRunningRow, counted, moved, runs, seated_as}
+use Rattle.xc_station.proofs.Closed.{counted_doing, moves_on, is_active, its_active}
+use Rattle.xc_station.proofs.RowsMarked.{gone_row, its_rank, revoked_row}
 use Rattle.xc_station.proofs.running.run.Goals as goal
 
-pub returns-clause-row : goal.returns-clause-row
-returns-clause-row g c rules now at here journal =
+pub returns-in-Some-clause-row : goal.returns-in-Some-clause-row
+returns-in-Some-clause-row g c now at here journal =
     let model = g.H.Host.model in
+    let s = setting c.args.script.now c.args.rules.now model.tells in
     let job = c.args.job.now in
-    let runs = c.requires.running in
-    subst (λ (j : SeenJob). IsRow (setting c.args.script.now rules model.tells) now (moved model c.go.new.shared j now at) at (seen_job job) c.go.result
-    c.go.new.shared.claims)
-    (moves_on job runs.tx c.go.new.place c.go.new.tx runs.doing c.go.ensures.begun)
-    (c.go.ensures.row rules now at (seen_job job) here (is_active job runs.tx runs.doing) refl journal)
+    let was = c.requires.running in
+    let shared = c.args.shared.now in
+    let shared' : Shared g.row.H.Denot = record { host = shared.host; words = shared.words; sentinels = c.settle.new.sentinels } in
+    let new = c.revoke-answer.new.tx in
+    let doing = is_active job was.tx was.doing in
+    let running : runs job.tx.phase ≡ true = ap (λ (t : SeenTx). runs t.phase) (its_active job was.tx was.doing) ∙ ap runs was.may.running in
+    let number : new.number ≡ job.tx.number = ap (λ (t : SeenTx). t.number) c.revoke-answer.ensures.tx in
+    let mine : seated_as (seat_in c.settle.new.sentinels.seats job.tx.number) ≡ Some (job.tx.rank, runs new.phase) =
+    subst (λ (n : ℕ). seated_as (seat_in shared.sentinels.seats n) ≡ Some (job.tx.rank, true)
+    → seated_as (seat_in c.settle.new.sentinels.seats n) ≡ Some (job.tx.rank, runs new.phase)) number (c.settle.ensures.own job.tx.rank)
+    (its_rank model s shared now at (seen_job job) (seen_tx job.tx) here doing running) in
+    subst (λ (a : Turn). IsRunningRow s now (moved model shared' (seen_job (record job { tx = new })) now at) at (seen_job job) a c.settle.new.sentinels)
+    (sym c.revoke-answer.ensures.answer)
+    (revoked_row model s shared now at (seen_job job) (seen_tx job.tx) here doing shared' (seen_job (record job { tx = new }))
+    (λ n ne. c.settle.ensures.others n (λ e. ne (e ∙ number)))
+    c.in-Some.mark (sym c.in-Some.is ∙ c.doomed.ensures) refl refl c.settle.ensures.claims c.settle.ensures.marks (seen_tx new) c.revoke-answer.ensures.tx
+    (sym (moves_on job was.tx job.place new was.doing c.revoke-answer.ensures.begun)) mine)
+
+pub returns-clause-row : goal.returns-clause-row
+returns-clause-row g c now at here journal =
+    let model = g.H.Host.model in
+    let s = setting c.args.script.now c.args.rules.now model.tells in
+    let job = c.args.job.now in
+    let was = c.requires.running in
+    let mid = c.go-answer.new.shared in
+    let shared' : Shared g.row.H.Denot = record { host = mid.host; words = mid.words; sentinels = c.settle-2.new.sentinels } in
+    let new = c.go-answer.new.tx in
+    let doing = is_active job was.tx was.doing in
+    let running : runs job.tx.phase ≡ true = ap (λ (t : SeenTx). runs t.phase) (its_active job was.tx was.doing) ∙ ap runs was.may.running in
+    let answer = c.go-answer.result in
+    let gone = counted answer (with_tx (seen_job job) c.go-answer.new.place (seen_tx new)) in
+    let behind : gone ≡ seen_job c.count_wait.new.job =
+    ap (counted answer) (moves_on job was.tx c.go-answer.new.place new was.doing c.go-answer.ensures.begun) ∙ sym c.count_wait.ensures.counted in
+    subst (λ (j : SeenJob). IsRunningRow s now (moved model shared' j now at) at (seen_job job) answer c.settle-2.new.sentinels) behind
+    (gone_row model s c.args.shared.now now at (seen_job job) (seen_tx job.tx) here doing shared' mid gone answer
+    (sym c.in_default.is ∙ c.doomed.ensures)
+    (c.go-answer.ensures.row c.args.rules.now now at (seen_job job) here doing refl (record { patience = refl; entered = journal }))
+    refl refl c.settle-2.ensures.claims c.settle-2.ensures.marks c.go-answer.ensures.seats running (seen_tx new)
+    (counted_doing answer (with_tx (seen_job job) c.go-answer.new.place (seen_tx new)))
+    c.settle-2.ensures.others c.settle-2.ensures.own)

@@ -3,9 +3,9 @@ use Rattle.xc_station.proofs.Runs.{numbered, turn_goes, turn_works}
 use Rattle.xc_station.proofs.schedule.step.Goals as goal
 
 pub returns-clause-goes : goal.returns-clause-goes
-returns-clause-goes g c = turn_goes g.H.Host.model c.args.job _ _ _ c.turn.ensures.same c.turn.ensures.row
+returns-clause-goes g c = turn_goes g.H.Host.model c.args.job _ _ _ c.turn.ensures.same c.turn.ensures.row c.turn.ensures.changes
 
 pub returns-clause-works : goal.returns-clause-works
 returns-clause-works g c =
-    turn_works g.H.Host.model c.args.job _ _ _ c.turn.ensures.same c.turn.ensures.row
+    turn_works g.H.Host.model c.args.job _ _ _ c.turn.ensures.same c.turn.ensures.row c.turn.ensures.changes
     (numbered c.args.station.now.jobs c.args.job (sym c.live.ensures ∙ c.if-not-live.false))

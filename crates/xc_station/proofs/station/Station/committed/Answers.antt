@@ -9,7 +9,7 @@ use Rattle.xc_station.specs.declared.job.Stage.TheVariants as PlainStage
 use Rattle.xc_station.specs.Jobs.{IsStage, doing_of, seen_job}
 use Rattle.xc_station.specs.Stations.{moment, now_of, setting_of}
 use Rattle.xc_station.proofs.Placed.{get_map}
-use Rattle.xc_station.proofs.Ready.{fits_next, has_room}
+use Rattle.xc_station.proofs.Ready.{fits_next, has_room, none_here}
 use Rattle.xc_station.proofs.RoomsKept.{rooms_entered}
 use Rattle.xc_station.proofs.Stages.{lent, committed_stage}
 use Rattle.xc_station.proofs.Steady.{steady_kept}
@@ -35,7 +35,7 @@ commit-entry-requires-clause-table g c tx doing =
     let at = c.args.at in
     let is = lent station.jobs.items at PlainStage.Committed was (subst (λ v. IsStage v.jobs at PlainStage.Committed) (sym c.self.view_is) c.requires)
     c.index_mut.ensures.value in
-    λ o. c.self.invariant.1.claims.held at tx o (seen_job was, get_map seen_job station.jobs.items at was is.stands, ap active_in doing)
+    λ o. (c.self.invariant.1.claims o).held at tx (seen_job was, get_map seen_job station.jobs.items at was is.stands, ap active_in doing)
 
 pub commit-entry-requires-clause-next : goal.commit-entry-requires-clause-next
 commit-entry-requires-clause-next g c =
@@ -85,11 +85,14 @@ invariant_of-self g c =
     let s = setting station.opening.script station.rules model.tells in
     let is = lent station.jobs.items at PlainStage.Committed was (subst (λ v. IsStage v.jobs at PlainStage.Committed) (sym c.self.view_is) c.requires)
     c.index_mut.ensures.value in
-    let shared' : Shared g.row.H.Denot = record { host = station.shared.host; words = station.shared.words; claims = c.commit-entry.new.claims } in
+    let shared' : Shared g.row.H.Denot = record { host = station.shared.host; words = station.shared.words; sentinels = c.commit-entry.new.sentinels } in
     let job = c.commit-entry.new.job in
     let turned = committed_turned model station.shared station.journal.items station.jobs.items at was s shared' c.enter.new.self.items
     c.commit-entry.result job (at + 1)
-    is c.commit-entry.ensures.entry refl (refl, refl) c.enter.ensures.items in
+    is (none_here model station.shared station.journal.items station.jobs.items at was station.opening.script station.rules
+    station.opening.faults station.active
+    station.journal.spare station.lines c.self.invariant.0 c.self.invariant.1 PlainStage.Committed is)
+    c.commit-entry.ensures.entry (λ tx does. (c.commit-entry.ensures.freed tx does).seats) refl (refl, refl) c.enter.ensures.items c.self.invariant.1.few in
     let mine = committed_stage (doing_of was) is.stage in
     let gave = c.commit-entry.ensures.entry mine.tx at mine.doing refl in
     let freed = c.commit-entry.ensures.freed mine.tx mine.doing in
@@ -100,7 +103,7 @@ invariant_of-self g c =
       rooms_entered model station.shared station.journal.items station.jobs.items at was job station.active station.journal.spare station.lines is.stands
           c.self.invariant.1 s shared' c.enter.new.self.items c.enter.new.self.spare mine.tx c.self.invariant.0.kept.told mine.doing
           (ap active_of gave.0)
-          freed.released freed.others some.0 c.enter.ensures.spare,
+          freed some.0 c.enter.ensures.spare,
     )
 
 pub returns-clause-row : goal.returns-clause-row
@@ -112,10 +115,13 @@ returns-clause-row g c =
     let s = setting station.opening.script station.rules model.tells in
     let is = lent station.jobs.items at PlainStage.Committed was (subst (λ v. IsStage v.jobs at PlainStage.Committed) (sym c.self.view_is) c.requires)
     c.index_mut.ensures.value in
-    let shared' : Shared g.row.H.Denot = record { host = station.shared.host; words = station.shared.words; claims = c.commit-entry.new.claims } in
+    let shared' : Shared g.row.H.Denot = record { host = station.shared.host; words = station.shared.words; sentinels = c.commit-entry.new.sentinels } in
     let job = c.commit-entry.new.job in
     let turned = committed_turned model station.shared station.journal.items station.jobs.items at was s shared' c.enter.new.self.items
     c.commit-entry.result job (at + 1)
-    is c.commit-entry.ensures.entry refl (refl, refl) c.enter.ensures.items in
+    is (none_here model station.shared station.journal.items station.jobs.items at was station.opening.script station.rules
+    station.opening.faults station.active
+    station.journal.spare station.lines c.self.invariant.0 c.self.invariant.1 PlainStage.Committed is)
+    c.commit-entry.ensures.entry (λ tx does. (c.commit-entry.ensures.freed tx does).seats) refl (refl, refl) c.enter.ensures.items c.self.invariant.1.few in
     subst (λ v. IsTurn (setting_of model v) at (now_of model v) turn.Went (moment model shared' c.enter.new.self.items (slice_set station.jobs.items at job)))
     c.self.view_is turned

@@ -8,7 +8,7 @@ use Rattle.xc_data.specs.declared.entry.Turn.TheVariants as turn
 use Rattle.xc_station.specs.declared.job.Stage.TheVariants as PlainStage
 use Rattle.xc_station.specs.Jobs.{IsStage, doing_of}
 use Rattle.xc_station.specs.Stations.{moment, now_of, setting_of}
-use Rattle.xc_station.proofs.Ready.{may_end_late}
+use Rattle.xc_station.proofs.Ready.{may_end_late, none_here}
 use Rattle.xc_station.proofs.RoomsKept.{rooms_going}
 use Rattle.xc_station.proofs.Stages.{lent, committing_stage}
 use Rattle.xc_station.proofs.Steady.{steady_kept}
@@ -38,15 +38,17 @@ invariant_of-self g c =
     let s = setting station.opening.script station.rules model.tells in
     let is = lent station.jobs.items at PlainStage.Committing was (subst (λ v. IsStage v.jobs at PlainStage.Committing) (sym c.self.view_is) c.requires)
     c.index_mut.ensures.value in
-    let shared' : Shared g.row.H.Denot = record { host = c.end_late.new.host; words = station.shared.words; claims = station.shared.claims } in
+    let shared' : Shared g.row.H.Denot = record { host = c.end_late.new.host; words = station.shared.words; sentinels = station.shared.sentinels } in
     let job = c.end_late.new.job in
     let turned = committing_turned model station.shared station.journal.items station.jobs.items at was s shared' job (λ tells. tells) is
-    c.end_late.ensures refl in
+    (none_here model station.shared station.journal.items station.jobs.items at was station.opening.script station.rules station.opening.faults station.active
+    station.journal.spare station.lines c.self.invariant.0 c.self.invariant.1 PlainStage.Committing is) c.end_late.ensures (refl, refl) in
     let mine = committing_stage (doing_of was) is.stage in
     let gave = c.end_late.ensures mine.tx mine.next mine.later mine.doing mine.left in (
       steady_kept s station.opening.faults at _ _ turn.Went c.self.invariant.0 turned,
       rooms_going model station.shared station.journal.items station.jobs.items at was job station.active station.journal.spare station.lines is.stands
-          c.self.invariant.1 shared' mine.tx (with_queue mine.tx gave.0) refl mine.doing (ap (λ j. j.doing) gave.1) refl refl,
+          c.self.invariant.1 s shared' mine.tx (with_queue mine.tx gave.0) c.self.invariant.0.kept.told refl mine.doing (ap (λ j. j.doing) gave.1)
+          refl refl refl,
     )
 
 pub returns-clause-row : goal.returns-clause-row
@@ -58,9 +60,10 @@ returns-clause-row g c =
     let s = setting station.opening.script station.rules model.tells in
     let is = lent station.jobs.items at PlainStage.Committing was (subst (λ v. IsStage v.jobs at PlainStage.Committing) (sym c.self.view_is) c.requires)
     c.index_mut.ensures.value in
-    let shared' : Shared g.row.H.Denot = record { host = c.end_late.new.host; words = station.shared.words; claims = station.shared.claims } in
+    let shared' : Shared g.row.H.Denot = record { host = c.end_late.new.host; words = station.shared.words; sentinels = station.shared.sentinels } in
     let job = c.end_late.new.job in
     let turned = committing_turned model station.shared station.journal.items station.jobs.items at was s shared' job (λ tells. tells) is
-    c.end_late.ensures refl in
+    (none_here model station.shared station.journal.items station.jobs.items at was station.opening.script station.rules station.opening.faults station.active
+    station.journal.spare station.lines c.self.invariant.0 c.self.invariant.1 PlainStage.Committing is) c.end_late.ensures (refl, refl) in
     subst (λ v. IsTurn (setting_of model v) at (now_of model v) turn.Went (moment model shared' station.journal.items (slice_set station.jobs.items at job)))
     c.self.view_is turned

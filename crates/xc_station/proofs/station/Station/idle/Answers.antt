@@ -7,7 +7,8 @@ use Rattle.xc_data.specs.declared.entry.Turn.TheVariants as turn
 use Rattle.xc_station.specs.declared.job.Stage.TheVariants as PlainStage
 use Rattle.xc_station.specs.Jobs.{IsStage, doing_of}
 use Rattle.xc_station.specs.Stations.{moment, now_of, setting_of}
-use Rattle.xc_station.proofs.RoomsKept.{rooms_idle_went, rooms_idle_ended}
+use Rattle.xc_station.proofs.Ready.{next_unseated}
+use Rattle.xc_station.proofs.RoomsKept.{rooms_idle_went, rooms_idle_halted}
 use Rattle.xc_station.proofs.Stages.{lent, idle_stage}
 use Rattle.xc_station.proofs.Steady.{steady_kept}
 use Rattle.xc_station.proofs.TurnRows.{idle_turned}
@@ -33,8 +34,9 @@ invariant_of-self g c =
     let journal = c.begin-turn.new.journal in
     let job = c.begin-turn.new.job in
     let row = c.begin-turn.ensures.row model.tells (moment model station.shared station.journal.items station.jobs.items) at
-    (record { entered = refl; active = c.self.invariant.1.count }) in
-    let turned = idle_turned model station.shared station.journal.items station.jobs.items at was s journal.items job c.begin-turn.result is
+    (record { entered = refl; active = c.self.invariant.1.count }) c.self.invariant.1.seats refl in
+    let turned =
+    idle_turned model station.shared station.journal.items station.jobs.items at was s c.begin-turn.new.sentinels journal.items job c.begin-turn.result is
     c.begin-turn.ensures.items row in
     let went : c.begin-turn.result ≡ turn.Went = elim c.match-matches.branch [
       | in-Went w ↦ w.in-Went.is
@@ -42,8 +44,8 @@ invariant_of-self g c =
     ] in (
       steady_kept s station.opening.faults at _ _ c.begin-turn.result c.self.invariant.0 turned,
       rooms_idle_went model station.shared station.journal.items station.jobs.items at was job station.active station.journal.spare station.lines is.stands
-          c.self.invariant.1 s journal.items journal.spare c.begin-turn.result c.self.invariant.0.kept.told (ap active_in (idle_stage
-          (doing_of was) is.stage)) row
+          c.self.invariant.1 s c.begin-turn.new.sentinels journal.items journal.spare c.begin-turn.result (ap active_in (idle_stage
+          (doing_of was) is.stage)) row c.begin-turn.ensures.claims c.begin-turn.ensures.seats c.self.invariant.0.kept.told
           went (c.begin-turn.ensures.room.0 went),
     )
 
@@ -59,17 +61,19 @@ invariant_of-self-else-matches g c =
     let journal = c.begin-turn.new.journal in
     let job = c.begin-turn.new.job in
     let row = c.begin-turn.ensures.row model.tells (moment model station.shared station.journal.items station.jobs.items) at
-    (record { entered = refl; active = c.self.invariant.1.count }) in
-    let turned = idle_turned model station.shared station.journal.items station.jobs.items at was s journal.items job c.begin-turn.result is
+    (record { entered = refl; active = c.self.invariant.1.count }) c.self.invariant.1.seats refl in
+    let turned =
+    idle_turned model station.shared station.journal.items station.jobs.items at was s c.begin-turn.new.sentinels journal.items job c.begin-turn.result is
     c.begin-turn.ensures.items row in
     let ended : c.begin-turn.result ≢ turn.Went = elim c.match-matches.branch [
       | in-Went w ↦ let lacks : true ≡ false = sym w.matches-is ∙ c.if-matches.false in cc lacks
       | in_default w ↦ λ e. w.in_default.not-Went e
     ] in (
       steady_kept s station.opening.faults at _ _ c.begin-turn.result c.self.invariant.0 turned,
-      rooms_idle_ended model station.shared station.journal.items station.jobs.items at was job station.active station.journal.spare station.lines is.stands
-          c.self.invariant.1 s journal.items journal.spare c.begin-turn.result (ap active_in (idle_stage (doing_of was) is.stage)) row
-          ended c.begin-turn.ensures.room.1,
+      rooms_idle_halted model station.shared station.journal.items station.jobs.items at was job station.active station.journal.spare station.lines is.stands
+          c.self.invariant.1 s c.begin-turn.new.sentinels journal.items journal.spare c.begin-turn.result
+          (ap active_in (idle_stage (doing_of was) is.stage)) row
+          c.begin-turn.ensures.claims c.begin-turn.ensures.seats ended c.begin-turn.ensures.room.1,
     )
 
 pub returns-then-matches-clause-row : goal.returns-then-matches-clause-row
@@ -84,10 +88,12 @@ returns-then-matches-clause-row g c =
     let journal = c.begin-turn.new.journal in
     let job = c.begin-turn.new.job in
     let row = c.begin-turn.ensures.row model.tells (moment model station.shared station.journal.items station.jobs.items) at
-    (record { entered = refl; active = c.self.invariant.1.count }) in
-    let turned = idle_turned model station.shared station.journal.items station.jobs.items at was s journal.items job c.begin-turn.result is
+    (record { entered = refl; active = c.self.invariant.1.count }) c.self.invariant.1.seats refl in
+    let turned =
+    idle_turned model station.shared station.journal.items station.jobs.items at was s c.begin-turn.new.sentinels journal.items job c.begin-turn.result is
     c.begin-turn.ensures.items row in
-    subst (λ v. IsTurn (setting_of model v) at (now_of model v) c.begin-turn.result (moment model station.shared journal.items
+    subst (λ v. IsTurn (setting_of model v) at (now_of model v) c.begin-turn.result
+    (moment model (record station.shared { sentinels = c.begin-turn.new.sentinels }) journal.items
     (slice_set station.jobs.items at job))) c.self.view_is turned
 
 pub returns-else-matches-clause-row : goal.returns-else-matches-clause-row
@@ -102,8 +108,17 @@ returns-else-matches-clause-row g c =
     let journal = c.begin-turn.new.journal in
     let job = c.begin-turn.new.job in
     let row = c.begin-turn.ensures.row model.tells (moment model station.shared station.journal.items station.jobs.items) at
-    (record { entered = refl; active = c.self.invariant.1.count }) in
-    let turned = idle_turned model station.shared station.journal.items station.jobs.items at was s journal.items job c.begin-turn.result is
+    (record { entered = refl; active = c.self.invariant.1.count }) c.self.invariant.1.seats refl in
+    let turned =
+    idle_turned model station.shared station.journal.items station.jobs.items at was s c.begin-turn.new.sentinels journal.items job c.begin-turn.result is
     c.begin-turn.ensures.items row in
-    subst (λ v. IsTurn (setting_of model v) at (now_of model v) c.begin-turn.result (moment model station.shared journal.items
+    subst (λ v. IsTurn (setting_of model v) at (now_of model v) c.begin-turn.result
+    (moment model (record station.shared { sentinels = c.begin-turn.new.sentinels }) journal.items
     (slice_set station.jobs.items at job))) c.self.view_is turned
+
+pub begin-turn-requires-clause-new : goal.begin-turn-requires-clause-new
+begin-turn-requires-clause-new g c =
+    let was = c.index_mut.result.now in
+    let station = c.self.inside in
+    next_unseated g.H.Host.model station.shared station.journal.items station.jobs.items c.args.at was station.opening.script station.rules
+    station.opening.faults station.active station.journal.spare station.lines c.self.invariant.0 c.self.invariant.1

@@ -46,11 +46,11 @@ invariant_of-self g c =
     c.index_mut.ensures.value in
     let shared' = c.run.new.shared in
     let job = c.run.new.job in
-    let row = c.run.ensures.row station.rules (moment model station.shared station.journal.items station.jobs.items) at
+    let row = c.run.ensures.row (moment model station.shared station.journal.items station.jobs.items) at
     (stands_now model station.shared station.journal.items station.jobs.items at was station.opening.script station.rules station.opening.faults
     station.active
     station.journal.spare station.lines c.self.invariant.0 c.self.invariant.1 PlainStage.Running is) (sym c.len-entered.ensures) in
-    let turned = running_turned model station.shared station.journal.items station.jobs.items at was s shared' job c.run.result is row in (
+    let turned = running_turned model station.shared station.journal.items station.jobs.items at was s shared' job c.run.result is c.run.ensures.block row in (
       steady_kept s station.opening.faults at _ _ c.run.result c.self.invariant.0 turned,
       rooms_running model station.shared station.journal.items station.jobs.items at was job station.active station.journal.spare station.lines is.stands
           c.self.invariant.1 s shared' c.run.result row,
@@ -67,10 +67,10 @@ returns-clause-row g c =
     c.index_mut.ensures.value in
     let shared' = c.run.new.shared in
     let job = c.run.new.job in
-    let row = c.run.ensures.row station.rules (moment model station.shared station.journal.items station.jobs.items) at
+    let row = c.run.ensures.row (moment model station.shared station.journal.items station.jobs.items) at
     (stands_now model station.shared station.journal.items station.jobs.items at was station.opening.script station.rules station.opening.faults
     station.active
     station.journal.spare station.lines c.self.invariant.0 c.self.invariant.1 PlainStage.Running is) (sym c.len-entered.ensures) in
-    let turned = running_turned model station.shared station.journal.items station.jobs.items at was s shared' job c.run.result is row in
+    let turned = running_turned model station.shared station.journal.items station.jobs.items at was s shared' job c.run.result is c.run.ensures.block row in
     subst (λ v. IsTurn (setting_of model v) at (now_of model v) c.run.result (moment model shared' station.journal.items (slice_set station.jobs.items at job)))
     c.self.view_is turned

@@ -2,22 +2,39 @@ use Rattle.std.proofs.Common.{ap, sym, ◌∙◌, subst, ◌≤◌}
 use Rattle.std.proofs.lemmas.List.{length-map}
 use Rattle.xc_data.specs.declared.script.Outline.{Outline}
 use Rattle.xc_host.specs.Contents.{opened}
+use Rattle.xc_sentinel.specs.Asking.{mark_of}
 use Rattle.xc_story.specs.Opened.{IsOpening}
 use Rattle.xc_story.specs.Setting.{setting}
 use Rattle.xc_station.specs.Jobs.{seen_job}
 use Rattle.xc_station.specs.Stations.{moment}
-use Rattle.xc_station.proofs.Started.{roomy, started}
+use Rattle.xc_station.proofs.Started.{opened_blocks, roomy, started}
 use Rattle.xc_station.proofs.station.Station.start.Goals as goal
 
 pub invariant_of-result : goal.invariant_of-result
 invariant_of-result g c =
     let model = g.H.Host.model in
     let s = setting c.args.script c.args.rules model.tells in
-    let opening : IsOpening c.args.script (moment model (record { host = c.open_with.new.self; words = c.in-Ok.words; claims = c.new-claims.result })
-    c.new-journal.result.items c.in-Ok.jobs.items) = record { words = c.in-Ok.ensures.words; journal = c.new-journal.ensures; jobs = c.in-Ok.ensures.jobs } in (
+    let opening : IsOpening c.args.script (moment model (record { host = c.open_with.new.self; words = c.in-Ok.words; sentinels = c.new-sentinels.result })
+    c.new-journal.result.items c.in-Ok.jobs.items) = record {
+      words = c.in-Ok.ensures.words;
+      journal = c.new-journal.ensures;
+      jobs = c.in-Ok.ensures.jobs;
+      started = opened_blocks c.args.script _ _ c.in-Ok.ensures.jobs;
+      marks = λ n. ap mark_of (c.new-sentinels.ensures.nobody n);
+    } in (
       started s _ _ (record { read = c.requires.script; attempts = c.requires.rules.0; tries = c.requires.rules.1 }) c.requires.limits opening
           (c.open_with.ensures.count ∙ sym c.faults-faults.ensures)
           (λ t. c.in_default-open_with.ensures.ok t ∙ ap (λ (p : Outline). opened p.prologue.objects) c.outline.ensures),
-      roomy c.args.script _ _ _ _ c.requires.script opening c.new-claims.ensures.empty
+      roomy c.args.script _ _ _ _ c.requires.script opening c.new-sentinels.ensures.nothing c.new-sentinels.ensures.nobody
           (subst (λ n. n ≤ c.in-Ok.lines.spare) (sym (length-map c.in-Ok.jobs.items seen_job)) c.in-Ok.ensures.lines.0) c.in-Ok.ensures.lines.1,
     )
+
+pub returns-clause-opening : goal.returns-clause-opening
+returns-clause-opening g c =
+    record {
+      words = c.in-Ok.ensures.words;
+      journal = c.new-journal.ensures;
+      jobs = c.in-Ok.ensures.jobs;
+      started = opened_blocks c.args.script _ _ c.in-Ok.ensures.jobs;
+      marks = λ n. ap mark_of (c.new-sentinels.ensures.nobody n);
+    }

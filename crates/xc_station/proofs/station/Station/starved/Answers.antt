@@ -1,4 +1,4 @@
-use Rattle.std.proofs.Common.{sym, subst, ap, arith}
+use Rattle.std.proofs.Common.{refl, sym, subst, ap, arith}
 use Rattle.std.specs.Prelude.{slice_set}
 use Rattle.xc_story.specs.Seen.{active_in, active_of}
 use Rattle.xc_story.specs.Setting.{setting}
@@ -25,7 +25,8 @@ invariant_of-self g c =
     let turned = starved_turned model station.shared station.journal.items station.jobs.items at was s job c.end.result is c.end.ensures in (
       steady_kept s station.opening.faults at _ _ c.end.result c.self.invariant.0 turned,
       rooms_still model station.shared station.journal.items station.jobs.items at was job station.active station.journal.spare station.lines is.stands
-          c.self.invariant.1 station.journal.items station.journal.spare (ap active_in (starved_stage (doing_of was) is.stage))
+          c.self.invariant.1 station.shared.sentinels station.journal.items station.journal.spare refl (λ n. refl)
+          (ap active_in (starved_stage (doing_of was) is.stage))
           (ap active_of c.end.ensures.0)
           (omega arith),
     )

@@ -1,92 +1,20 @@
-use Rattle.std.proofs.Common.{◌≡◌, ◌-◌, sym, subst, ap, ◌∙◌, true, false}
-use Rattle.xc_station.specs.declared.job.Stage.TheVariants as PlainStage
-use Rattle.xc_station.specs.Jobs.{IsStage, goes_on}
-use Rattle.xc_station.specs.Stations.{live_at}
-use Rattle.xc_station.proofs.Stages.{live_shown}
-use Rattle.xc_station.proofs.Steady.{fewer_left}
+use Rattle.std.proofs.Common.{◌-◌, subst, sym}
+use Rattle.xc_station.specs.Stations.{now_of, setting_of}
+use Rattle.xc_station.specs.Waits.{IsFairWait}
+use Rattle.xc_station.proofs.Runs.{event_noted, turn_goes}
+use Rattle.xc_station.proofs.WaitsKept.{fair_wait}
 use Rattle.xc_station.proofs.station.Station.turn.Goals as goal
 
-pub idle-requires : goal.idle-requires
-idle-requires g c =
-    let jobs = c.self.inside.jobs.items in
-    let live = live_shown jobs c.args.job c.index.result.now (subst (λ v. live_at v.jobs c.args.job ≡ true) (sym c.self.view_is) c.requires) c.index.ensures in
-    subst (λ v. IsStage v.jobs (c.args.job - 1) PlainStage.Idle) c.self.view_is (c.index.result.now, live.stands, sym c.stage.ensures ∙ c.in-Idle.is)
+pub returns-clause-event : goal.returns-clause-event
+returns-clause-event g c =
+    let went = c.advance-answer.ensures in
+    event_noted c.args.self.now c.advance-answer.new.self c.note_turn.new.self _
+    (turn_goes g.H.Host.model c.args.job c.args.self.now c.advance-answer.new.self c.advance-answer.result went.same went.row
+    went.changes)
+    went.quiet c.note_turn.ensures.few c.note_turn.ensures.noted
 
-pub running-requires : goal.running-requires
-running-requires g c =
-    let jobs = c.self.inside.jobs.items in
-    let live = live_shown jobs c.args.job c.index.result.now (subst (λ v. live_at v.jobs c.args.job ≡ true) (sym c.self.view_is) c.requires) c.index.ensures in
-    subst (λ v. IsStage v.jobs (c.args.job - 1) PlainStage.Running) c.self.view_is (c.index.result.now, live.stands, sym c.stage.ensures ∙ c.in-Running.is)
-
-pub committing-requires : goal.committing-requires
-committing-requires g c =
-    let jobs = c.self.inside.jobs.items in
-    let live = live_shown jobs c.args.job c.index.result.now (subst (λ v. live_at v.jobs c.args.job ≡ true) (sym c.self.view_is) c.requires) c.index.ensures in
-    subst (λ v. IsStage v.jobs (c.args.job - 1) PlainStage.Committing) c.self.view_is (
-      c.index.result.now,
-      live.stands,
-      sym c.stage.ensures
-          ∙ c.in-Committing.is,
-    )
-
-pub committed-requires : goal.committed-requires
-committed-requires g c =
-    let jobs = c.self.inside.jobs.items in
-    let live = live_shown jobs c.args.job c.index.result.now (subst (λ v. live_at v.jobs c.args.job ≡ true) (sym c.self.view_is) c.requires) c.index.ensures in
-    subst (λ v. IsStage v.jobs (c.args.job - 1) PlainStage.Committed) c.self.view_is (
-      c.index.result.now,
-      live.stands,
-      sym c.stage.ensures
-          ∙ c.in-Committed.is,
-    )
-
-pub undoing-requires : goal.undoing-requires
-undoing-requires g c =
-    let jobs = c.self.inside.jobs.items in
-    let live = live_shown jobs c.args.job c.index.result.now (subst (λ v. live_at v.jobs c.args.job ≡ true) (sym c.self.view_is) c.requires) c.index.ensures in
-    subst (λ v. IsStage v.jobs (c.args.job - 1) PlainStage.Undoing) c.self.view_is (c.index.result.now, live.stands, sym c.stage.ensures ∙ c.in-Undoing.is)
-
-pub undone-requires : goal.undone-requires
-undone-requires g c =
-    let jobs = c.self.inside.jobs.items in
-    let live = live_shown jobs c.args.job c.index.result.now (subst (λ v. live_at v.jobs c.args.job ≡ true) (sym c.self.view_is) c.requires) c.index.ensures in
-    subst (λ v. IsStage v.jobs (c.args.job - 1) PlainStage.Undone) c.self.view_is (c.index.result.now, live.stands, sym c.stage.ensures ∙ c.in-Undone.is)
-
-pub starved-requires : goal.starved-requires
-starved-requires g c =
-    let jobs = c.self.inside.jobs.items in
-    let live = live_shown jobs c.args.job c.index.result.now (subst (λ v. live_at v.jobs c.args.job ≡ true) (sym c.self.view_is) c.requires) c.index.ensures in
-    subst (λ v. IsStage v.jobs (c.args.job - 1) PlainStage.Starved) c.self.view_is (c.index.result.now, live.stands, sym c.stage.ensures ∙ c.in-Starved.is)
-
-pub unreachable-requires : goal.unreachable-requires
-unreachable-requires g c =
-    let jobs = c.self.inside.jobs.items in
-    let live = live_shown jobs c.args.job c.index.result.now (subst (λ v. live_at v.jobs c.args.job ≡ true) (sym c.self.view_is) c.requires) c.index.ensures in
-    let lacks : true ≡ false = sym live.lives ∙ ap goes_on (sym c.stage.ensures ∙ c.in-Ended.is) in
-    cc lacks
-
-pub returns-in-Idle-clause-falls : goal.returns-in-Idle-clause-falls
-returns-in-Idle-clause-falls g c = fewer_left g.H.Host.model c.args.self.now c.idle.new.self (c.args.job - 1) _ c.idle.ensures.same c.idle.ensures.row
-
-pub returns-in-Running-clause-falls : goal.returns-in-Running-clause-falls
-returns-in-Running-clause-falls g c = fewer_left g.H.Host.model c.args.self.now c.running.new.self
-    (c.args.job - 1) _ c.running.ensures.same c.running.ensures.row
-
-pub returns-in-Committing-clause-falls : goal.returns-in-Committing-clause-falls
-returns-in-Committing-clause-falls g c = fewer_left g.H.Host.model c.args.self.now c.committing.new.self
-    (c.args.job - 1) _ c.committing.ensures.same c.committing.ensures.row
-
-pub returns-in-Committed-clause-falls : goal.returns-in-Committed-clause-falls
-returns-in-Committed-clause-falls g c = fewer_left g.H.Host.model c.args.self.now c.committed.new.self
-    (c.args.job - 1) _ c.committed.ensures.same c.committed.ensures.row
-
-pub returns-in-Undoing-clause-falls : goal.returns-in-Undoing-clause-falls
-returns-in-Undoing-clause-falls g c = fewer_left g.H.Host.model c.args.self.now c.undoing.new.self
-    (c.args.job - 1) _ c.undoing.ensures.same c.undoing.ensures.row
-
-pub returns-in-Undone-clause-falls : goal.returns-in-Undone-clause-falls
-returns-in-Undone-clause-falls g c = fewer_left g.H.Host.model c.args.self.now c.undone.new.self (c.args.job - 1) _ c.undone.ensures.same c.undone.ensures.row
-
-pub returns-in-Starved-clause-falls : goal.returns-in-Starved-clause-falls
-returns-in-Starved-clause-falls g c = fewer_left g.H.Host.model c.args.self.now c.starved.new.self
-    (c.args.job - 1) _ c.starved.ensures.same c.starved.ensures.row
+pub returns-clause-waiting : goal.returns-clause-waiting
+returns-clause-waiting g c =
+    let model = g.H.Host.model in
+    subst (λ v. IsFairWait (setting_of model c.args.self.now) (c.args.job - 1) (now_of model c.args.self.now) c.advance-answer.result (now_of model v))
+    (sym c.note_turn.ensures.noted) (fair_wait _ _ _ _ _ c.advance-answer.ensures.row)

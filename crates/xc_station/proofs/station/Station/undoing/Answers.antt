@@ -35,15 +35,16 @@ invariant_of-self g c =
     let s = setting station.opening.script station.rules model.tells in
     let is = lent station.jobs.items at PlainStage.Undoing was (subst (λ v. IsStage v.jobs at PlainStage.Undoing) (sym c.self.view_is) c.requires)
     c.index_mut.ensures.value in
-    let shared' : Shared g.row.H.Denot = record { host = c.undo.new.host; words = station.shared.words; claims = station.shared.claims } in
+    let shared' : Shared g.row.H.Denot = record { host = c.undo.new.host; words = station.shared.words; sentinels = station.shared.sentinels } in
     let job = c.undo.new.job in
     let turned = undoing_turned model station.shared station.journal.items station.jobs.items at was station.opening.script station.rules shared' job is
-    c.undo.ensures refl in
+    c.undo.ensures (refl, refl) in
     let back = undoing_stage (doing_of was) is.stage in
     let gave = c.undo.ensures back.tx back.doing in (
       steady_kept s station.opening.faults at _ _ turn.Went c.self.invariant.0 turned,
       rooms_going model station.shared station.journal.items station.jobs.items at was job station.active station.journal.spare station.lines is.stands
-          c.self.invariant.1 shared' back.tx (record back.tx { undo = gave.0 }) refl back.doing (ap (λ j. j.doing) gave.1) refl refl,
+          c.self.invariant.1 s shared' back.tx (record back.tx { undo = gave.0 }) c.self.invariant.0.kept.told refl back.doing (ap (λ j. j.doing) gave.1)
+          refl refl refl,
     )
 
 pub returns-clause-row : goal.returns-clause-row
@@ -55,9 +56,9 @@ returns-clause-row g c =
     let s = setting station.opening.script station.rules model.tells in
     let is = lent station.jobs.items at PlainStage.Undoing was (subst (λ v. IsStage v.jobs at PlainStage.Undoing) (sym c.self.view_is) c.requires)
     c.index_mut.ensures.value in
-    let shared' : Shared g.row.H.Denot = record { host = c.undo.new.host; words = station.shared.words; claims = station.shared.claims } in
+    let shared' : Shared g.row.H.Denot = record { host = c.undo.new.host; words = station.shared.words; sentinels = station.shared.sentinels } in
     let job = c.undo.new.job in
     let turned = undoing_turned model station.shared station.journal.items station.jobs.items at was station.opening.script station.rules shared' job is
-    c.undo.ensures refl in
+    c.undo.ensures (refl, refl) in
     subst (λ v. IsTurn (setting_of model v) at (now_of model v) turn.Went (moment model shared' station.journal.items (slice_set station.jobs.items at job)))
     c.self.view_is turned

@@ -50,7 +50,7 @@ abort-entry-requires-clause-table g c tx doing =
     let at = c.args.at in
     let is = lent station.jobs.items at PlainStage.Undone was (subst (λ v. IsStage v.jobs at PlainStage.Undone) (sym c.self.view_is) c.requires)
     c.index_mut.ensures.value in
-    λ o. c.self.invariant.1.claims.held at tx o (seen_job was, get_map seen_job station.jobs.items at was is.stands, ap active_in doing)
+    λ o. (c.self.invariant.1.claims o).held at tx (seen_job was, get_map seen_job station.jobs.items at was is.stands, ap active_in doing)
 
 pub abort-entry-requires-clause-next : goal.abort-entry-requires-clause-next
 abort-entry-requires-clause-next g c =
@@ -100,11 +100,11 @@ invariant_of-self g c =
     let s = setting station.opening.script station.rules model.tells in
     let is = lent station.jobs.items at PlainStage.Undone was (subst (λ v. IsStage v.jobs at PlainStage.Undone) (sym c.self.view_is) c.requires)
     c.index_mut.ensures.value in
-    let shared' : Shared g.row.H.Denot = record { host = station.shared.host; words = station.shared.words; claims = c.abort-entry.new.claims } in
+    let shared' : Shared g.row.H.Denot = record { host = station.shared.host; words = station.shared.words; sentinels = c.abort-entry.new.sentinels } in
     let job = c.abort-entry.new.job in
     let turned = undone_turned model station.shared station.journal.items station.jobs.items at was s shared' c.enter.new.self.items c.abort-entry.result job
     (at + 1)
-    is c.abort-entry.ensures.entry refl (refl, refl) c.enter.ensures.items in
+    is c.abort-entry.ensures.entry (λ tx does. (c.abort-entry.ensures.freed tx does).seats) refl (refl, refl) c.enter.ensures.items in
     let mine = undone_stage (doing_of was) is.stage in
     let gave = c.abort-entry.ensures.entry mine.tx mine.cause at mine.doing mine.phase refl in
     let freed = c.abort-entry.ensures.freed mine.tx mine.doing in
@@ -115,7 +115,7 @@ invariant_of-self g c =
       rooms_entered model station.shared station.journal.items station.jobs.items at was job station.active station.journal.spare station.lines is.stands
           c.self.invariant.1 s shared' c.enter.new.self.items c.enter.new.self.spare mine.tx c.self.invariant.0.kept.told mine.doing
           (ap active_of gave.0 ∙ back_none (seen_job was) mine.tx mine.cause)
-          freed.released freed.others some.0 c.enter.ensures.spare,
+          freed some.0 c.enter.ensures.spare,
     )
 
 pub returns-clause-row : goal.returns-clause-row
@@ -127,10 +127,10 @@ returns-clause-row g c =
     let s = setting station.opening.script station.rules model.tells in
     let is = lent station.jobs.items at PlainStage.Undone was (subst (λ v. IsStage v.jobs at PlainStage.Undone) (sym c.self.view_is) c.requires)
     c.index_mut.ensures.value in
-    let shared' : Shared g.row.H.Denot = record { host = station.shared.host; words = station.shared.words; claims = c.abort-entry.new.claims } in
+    let shared' : Shared g.row.H.Denot = record { host = station.shared.host; words = station.shared.words; sentinels = c.abort-entry.new.sentinels } in
     let job = c.abort-entry.new.job in
     let turned = undone_turned model station.shared station.journal.items station.jobs.items at was s shared' c.enter.new.self.items c.abort-entry.result job
     (at + 1)
-    is c.abort-entry.ensures.entry refl (refl, refl) c.enter.ensures.items in
+    is c.abort-entry.ensures.entry (λ tx does. (c.abort-entry.ensures.freed tx does).seats) refl (refl, refl) c.enter.ensures.items in
     subst (λ v. IsTurn (setting_of model v) at (now_of model v) turn.Went (moment model shared' c.enter.new.self.items (slice_set station.jobs.items at job)))
     c.self.view_is turned

@@ -1,0 +1,44 @@
+-- The turn of an idle job.
+use Rattle.std.specs.Prelude.{◌≡◌, ℕ, ◌<◌, true, is_some, Option}
+use Rattle.std.specs.declared.option.Option.TheVariants.{None, Some}
+use Rattle.xc_data.specs.declared.entry.Turn.{Turn}
+use Rattle.xc_data.specs.declared.entry.Turn.TheVariants as turn
+use Rattle.xc_data.specs.declared.object.Object.{Object}
+use Rattle.xc_sentinel.specs.Seated.{Seats}
+use Rattle.xc_sentinel.specs.Seating.{KeepsSeats, SetsSeat, seat_in}
+use Rattle.xc_story.specs.declared.phase.Attempts.{Attempts}
+use Rattle.xc_story.specs.Setting.{Setting}
+use Rattle.xc_story.specs.Seen.{SeenJob, Ended, Now, waiting}
+use Rattle.xc_story.specs.Rows.{IsEnding, IsWaiting, NamesLast}
+use Rattle.xc_station.specs.declared.begin.Halt.{Halt}
+use Rattle.xc_station.specs.declared.begin.Halt.TheVariants.{End, Wait}
+
+-- the transaction that ended the last attempt is this one, for this object; or there is none
+abbrev pub IsNamedLast : Option Attempts → Option (Object × ℕ) → Type 0
+IsNamedLast attempts None = (object : Object) (number : ℕ) → NamesLast attempts object number → ⊥
+IsNamedLast attempts (Some w) = NamesLast attempts w.0 w.1
+
+-- nobody is waited for: whoever ended the last attempt is no longer active, or there is no patience
+abbrev pub IsDone : Option Attempts → ℕ → ℕ → Seats → Type 0
+IsDone attempts patience busy seats = (object : Object) (number : ℕ) → NamesLast attempts object number → busy < patience
+    → is_some (seat_in seats number) ≡ true → ⊥
+
+-- an idle job that doesn't begin ends, or waits for a transaction
+abbrev pub IsHalted : Setting → Now → SeenJob → Halt → Type 0
+IsHalted s now job (End end) = IsEnding s now job end
+IsHalted s now job (Wait object holder) = IsWaiting s now job object holder
+
+-- where it waits its patience isn't spent
+abbrev pub WaitsOnly : ℕ → ℕ → Halt → Type 0
+WaitsOnly busy patience (End end) = Unit {0}
+WaitsOnly busy patience (Wait object holder) = busy < patience
+
+-- the job behind that turn, and what it answers
+abbrev pub IsStopped : SeenJob → SeenJob → Halt → Turn → Type 0
+IsStopped was is (End end) answer = (is ≡ record was { doing = Ended end }) × (answer ≡ turn.Ended end)
+IsStopped was is (Wait object holder) answer = (is ≡ waiting was) × (answer ≡ turn.Busy object holder)
+
+-- the seats behind it: a transaction of this number and rank has begun, or they are as before
+abbrev pub IsSeatBehind : ℕ → ℕ → Seats → Seats → Turn → Type 0
+IsSeatBehind number rank old new turn.Went = SetsSeat old new number (Some (record { rank = rank; running = true; mark = None }))
+IsSeatBehind number rank old new _ = KeepsSeats old new
