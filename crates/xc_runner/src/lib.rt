@@ -1,0 +1,13 @@
+//! Workers: threads that take turns of one station behind a turnstile, each with a pass of its own.
+#![tactic(auto)]
+
+mod pace;
+mod worker;
+mod workers;
+
+pub use pace::{HoldPace, NoPace, Pace};
+pub use worker::{enter, pick, turn, work, work_job};
+pub use workers::{run_workers, work_together};
+
+#[cfg(test)]
+mod tests;

@@ -1,0 +1,121 @@
+ghost use Rattle.std.specs.Prelude.{◌≡◌};
+ghost use Rattle.xc_data.specs.declared.entry.Event.TheVariants.{Turned, Picked};
+ghost use Rattle.xc_turnstile.specs.Insides.{GainsEvent, IsInside, PassGoesOn};
+ghost use Rattle.xc_runner.specs.Walks.{Leads, is_last, over, picking, turning};
+
+use crate::pace::Pace;
+use std::sync::Wait;
+use std::thread;
+use xc_data::Turn;
+use xc_host::Host;
+use xc_station::Station;
+use xc_turnstile::{Chronicle, Entered, Hold, Pass, Turnstile};
+
+/// Tries until it is inside. It may wait.
+pub fn enter<V: Chronicle, R: Wait>(rt: &R, turnstile: &Turnstile<V>, pass: Pass<V>) -> (V, Hold<V>)
+    requires { pass.table ≡ turnstile.now.table.shared.table_id }
+    ensures { IsInside V.meaning pass result.1 result.0 }
+{
+    let mut mine = pass;
+    for _ in rt.forever() {
+        match turnstile.try_enter(mine) {
+            Entered::Inside(value, hold) => return (value, hold),
+            Entered::Held(back, _) => {
+                thread::yield_now();
+                mine = back;
+            }
+        }
+    }
+    unreachable!()
+}
+
+/// Takes the next job, in one entering. It may wait.
+pub fn pick<H: Host, R: Wait>(
+    rt: &R,
+    turnstile: &Turnstile<Station<H>>,
+    pass: Pass<Station<H>>,
+) -> (Pass<Station<H>>, Option<u32>)
+    requires { pass.table ≡ turnstile.now.table.shared.table_id }
+    ensures { GainsEvent pass result.0 (Picked result.1) }
+{
+    let (mut station, hold) = enter(rt, turnstile, pass);
+    let job = station.next_job();
+    (turnstile.leave(station, hold), job)
+}
+
+/// Takes one turn of a job, in one entering. It answers what `try_turn` does, and may wait.
+pub fn turn<H: Host, R: Wait>(
+    rt: &R,
+    turnstile: &Turnstile<Station<H>>,
+    pass: Pass<Station<H>>,
+    job: u32,
+) -> (Pass<Station<H>>, Option<Turn>)
+    requires { pass.table ≡ turnstile.now.table.shared.table_id }
+    ensures { GainsEvent pass result.0 (Turned job result.1) }
+{
+    let (mut station, hold) = enter(rt, turnstile, pass);
+    let answer = station.try_turn(job);
+    (turnstile.leave(station, hold), answer)
+}
+
+// Whether a job takes no further turn behind this answer.
+fn ends(answer: &Option<Turn>) -> bool
+    ensures { result ≡ is_last answer.now }
+{
+    match answer {
+        None | Some(Turn::Ended(_)) => true,
+        Some(_) => false,
+    }
+}
+
+/// Takes a job's turns to its end, one entering for each, and calls the pace behind each. It may wait.
+pub fn work_job<H: Host, P: Pace, R: Wait>(
+    rt: &R,
+    turnstile: &Turnstile<Station<H>>,
+    pass: Pass<Station<H>>,
+    pace: &P,
+    job: u32,
+) -> Pass<Station<H>>
+    requires { pass.table ≡ turnstile.now.table.shared.table_id }
+    ensures goes { PassGoesOn pass result }
+    ensures story { Leads (turning job) pass result picking }
+{
+    let mut mine = pass;
+    let mut count: u64 = 0;
+    for _ in rt.forever() {
+        let (back, answer) = turn(rt, turnstile, mine, job);
+        mine = back;
+        count = count.saturating_add(1);
+        pace.between(job, count);
+        if ends(&answer) {
+            return mine;
+        }
+    }
+    unreachable!()
+}
+
+/// Takes jobs, and each one's turns to its end, until no job is left. It may wait.
+pub fn work<H: Host + Send, P: Pace, R: Wait>(
+    rt: &R,
+    turnstile: &Turnstile<Station<H>>,
+    pass: Pass<Station<H>>,
+    pace: &P,
+) -> Pass<Station<H>>
+    requires { pass.table ≡ turnstile.now.table.shared.table_id }
+    ensures goes { PassGoesOn pass result }
+
+    // Each entering is one event. The first that it gains is a Picked; behind each job that is picked come turns of that job
+    // alone, up to its end; the last one, and no other, is a Picked with no job.
+    ensures story { Leads picking pass result over }
+{
+    let mut mine = pass;
+    for _ in rt.forever() {
+        let (back, job) = pick(rt, turnstile, mine);
+        mine = back;
+        let Some(job) = job else {
+            return mine;
+        };
+        mine = work_job(rt, turnstile, mine, pace, job);
+    }
+    unreachable!()
+}
