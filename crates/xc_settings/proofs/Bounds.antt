@@ -1,15 +1,13 @@
 -- What is chosen keeps the bounds of the options.
 use Rattle.std.proofs.Common.{◌≡◌, ℕ, ◌≤◌, ◌==◌, suc, nat_le, leb-true, Bool, true, false, if◌then◌else◌, refl, ap, sym, subst, arith}
-use Rattle.std.proofs.Common.{List, [], ◌∷◌, length, Option, None, Some, codes}
+use Rattle.std.proofs.Common.{List, [], ◌∷◌, length, Option, None, Some}
 use Rattle.std.specs.Prelude.{All, IfSome}
 use Rattle.std.specs.Option.{option_and_then, option_map}
 use Rattle.std.proofs.lemmas.Bool.Decides.{nat_tests}
 use Rattle.std.proofs.lemmas.List.Elements.{All-nil, All-cons}
 use Rattle.std.proofs.lemmas.List.Splits.{length-slice_split}
-use Rattle.xc_story.specs.declared.rules.Rules.{Rules}
 use Rattle.xc_text.specs.Numbers.{number_of}
-use Rattle.xc_settings.specs.Options.{within, number_in, in_front, numbers_in, parts_of, job_numbers, choice_of, values_of, IsUpTo, AreJobs, AreRules}
-use Rattle.xc_settings.specs.Options.{workers_of, schedule_of, attempts_of, undo_tries_of, default_rules, rules_with, rules_of}
+use Rattle.xc_settings.specs.Options.{within, number_in, in_front, numbers_in, parts_of, job_numbers, schedule_in, IsUpTo, AreJobs}
 
 -- a number that counts is within its bounds
 within-bounds : (most n m : ℕ) → within most n ≡ Some m → IsUpTo most m
@@ -18,13 +16,6 @@ within-bounds most n m e = grind (arith, nat_tests)
 number-bounds : (most : ℕ) (o : Option ℕ) (n : ℕ) → option_and_then (within most) o ≡ Some n → IsUpTo most n
 number-bounds most (Some m) n e = within-bounds most m n e
 number-bounds most None n e = cc
-
--- what an option chooses is its default, or what some value says
-choice_of-keeps : {A : Type 0} (P : A → Type 0) (default : A) (says : List ℕ → Option A) (values : List (List ℕ)) (a : A) → P default
-    → ((value : List ℕ) (b : A) → says value ≡ Some b → P b) → choice_of default says values ≡ Some a → P a
-choice_of-keeps P default says [] a first each e = let same : default ≡ a = cc in subst P same first
-choice_of-keeps P default says (value ∷ []) a first each e = each value a e
-choice_of-keeps P default says (value ∷ other ∷ values) a first each e = absurd (cc)
 
 -- numbers within their bounds, one for each word
 abbrev AreUpTo : ℕ → List (List ℕ) → List ℕ → Type 0
@@ -63,37 +54,7 @@ listed-bounds : (o : Option (List ℕ)) (schedule : Option (List ℕ)) → ((job
 listed-bounds (Some jobs) schedule each e = let same : Some jobs ≡ schedule = cc in subst (λ o. IfSome o AreJobs) same (each jobs refl)
 listed-bounds None schedule each e = absurd (cc)
 
--- the number of workers keeps its bounds
-pub workers_of-bounds : (words : List (List ℕ)) (n : ℕ) → workers_of words ≡ Some n → IsUpTo 64 n
-workers_of-bounds words n e =
-    choice_of-keeps (IsUpTo 64) 4 (number_in 64) (values_of (codes "--workers") words) n (omega arith, omega arith)
-    (λ word. number-bounds 64 (number_of word)) e
-
-attempts_of-bounds : (words : List (List ℕ)) (n : ℕ) → attempts_of words ≡ Some n → IsUpTo 1000 n
-attempts_of-bounds words n e =
-    choice_of-keeps (IsUpTo 1000) 100 (number_in 1000) (values_of (codes "--attempts") words) n (omega arith, omega arith)
-    (λ word. number-bounds 1000 (number_of word)) e
-
-undo_tries_of-bounds : (words : List (List ℕ)) (n : ℕ) → undo_tries_of words ≡ Some n → IsUpTo 16 n
-undo_tries_of-bounds words n e =
-    choice_of-keeps (IsUpTo 16) 3 (number_in 16) (values_of (codes "--undo-tries") words) n (omega arith, omega arith)
-    (λ word. number-bounds 16 (number_of word)) e
-
-rules-bounds : (a u : Option ℕ) (rules : Rules) → ((n : ℕ) → a ≡ Some n → IsUpTo 1000 n) → ((n : ℕ) → u ≡ Some n → IsUpTo 16 n)
-    → rules_with a u ≡ Some rules → AreRules rules
-rules-bounds (Some attempts) (Some tries) rules each_a each_u e =
-    let same : record default_rules { attempts = attempts; undo_tries = tries } ≡ rules = cc in
-    subst AreRules same (record { attempts = each_a attempts refl; patience = omega arith; undo_tries = each_u tries refl })
-rules-bounds (Some attempts) None rules each_a each_u e = absurd (cc)
-rules-bounds None u rules each_a each_u e = absurd (cc)
-
--- so do the rules
-pub rules_of-bounds : (words : List (List ℕ)) (rules : Rules) → rules_of words ≡ Some rules → AreRules rules
-rules_of-bounds words rules e =
-    rules-bounds (attempts_of words) (undo_tries_of words) rules (attempts_of-bounds words) (undo_tries_of-bounds words) e
-
 -- and so does the schedule, where there is one
-pub schedule_of-bounds : (words : List (List ℕ)) (schedule : Option (List ℕ)) → schedule_of words ≡ Some schedule → IfSome schedule AreJobs
-schedule_of-bounds words schedule e =
-    choice_of-keeps (λ o. IfSome o AreJobs) None (λ value. option_map Some (job_numbers value)) (values_of (codes "--schedule") words) schedule tt
-    (λ word o. listed-bounds (job_numbers word) o (job_numbers-bounds word)) e
+pub schedule_in-bounds : (text : Option (List ℕ)) (schedule : Option (List ℕ)) → schedule_in text ≡ Some schedule → IfSome schedule AreJobs
+schedule_in-bounds None schedule e = let same : None ≡ schedule = cc in subst (λ o. IfSome o AreJobs) same tt
+schedule_in-bounds (Some text) schedule e = listed-bounds (job_numbers text) schedule (job_numbers-bounds text) e

@@ -1,4 +1,5 @@
 pub mod Bounds
+pub mod Choices
 pub mod JobLists
 pub mod Numerals
-pub mod Words
+pub mod Parsed

@@ -1,14 +1,59 @@
 -- What the words of a command line choose. A word is the list of its bytes.
-use Rattle.std.specs.Prelude.{ℕ, ◌≤◌, ◌==◌, ◌&&◌, ◌||◌, Bool, true, false, nat_le, if◌then◌else◌}
+use Rattle.std.specs.Prelude.{ℕ, ◌≤◌, ◌==◌, ◌&&◌, true, nat_le, if◌then◌else◌}
 use Rattle.std.specs.Prelude.{List, [], ◌∷◌, length, All, Option, Some, None, IfSome, codes}
 use Rattle.std.specs.Option.{option_and_then, option_map}
 use Rattle.std.specs.List.{slice_split}
-use Rattle.std.specs.Str.{bytes_eq}
+use Rattle.std.specs.Str.Parse.{digits_value, without_leading_plus}
+use Rattle.clap.specs.Faults.{fault_of}
+use Rattle.clap.specs.Simple.{App, matches_of, new_app, new_rule, on_top, with_rule}
+use Rattle.clap.specs.Walk.{Row, Rule, Text, first_of, is_empty}
+use Rattle.clap.specs.declared.builder.action.ArgAction.TheVariants.{Set}
+use Rattle.clap.specs.declared.builder.value_parser.ValueParser.TheVariants.{Unsigned}
 use Rattle.xc_story.specs.declared.rules.Rules.{Rules}
 use Rattle.xc_text.specs.Numbers.{number_of}
 use Rattle.xc_settings.specs.declared.chosen.Chosen.{Chosen}
 
--- ---- values
+-- ---- the command
+-- an option `--id N` with a number from `least` to `most`
+abbrev pub number_rule : Text → ℕ → ℕ → Rule
+number_rule id least most = record (new_rule id) { long = Some id; action = Some Set; parser = Some (Unsigned least most) }
+
+-- an option `--id TEXT`
+abbrev pub text_rule : Text → Rule
+text_rule id = record (new_rule id) { long = Some id; action = Some Set }
+
+-- a command without a help or a version flag, which is given the words behind its name
+abbrev pub bare_command : App
+bare_command =
+    on_top (λ top. record top { no_binary_name = true; disable_help_flag = true; disable_version_flag = true }) (new_app (codes "xcalls"))
+
+-- how many workers take turns
+abbrev pub workers_rule : Rule
+workers_rule = number_rule (codes "workers") 1 64
+
+-- whose turns come first
+abbrev pub schedule_rule : Rule
+schedule_rule = text_rule (codes "schedule")
+
+-- how often one transaction is tried
+abbrev pub attempts_rule : Rule
+attempts_rule = number_rule (codes "attempts") 1 1000
+
+-- how often a job waits in one attempt
+abbrev pub patience_rule : Rule
+patience_rule = number_rule (codes "patience") 0 1000000
+
+-- how often one compensation is tried
+abbrev pub undo_tries_rule : Rule
+undo_tries_rule = number_rule (codes "undo-tries") 1 16
+
+-- the command
+abbrev pub command : App
+command =
+    with_rule (with_rule (with_rule (with_rule (with_rule bare_command workers_rule) schedule_rule) attempts_rule)
+    patience_rule) undo_tries_rule
+
+-- ---- a list of jobs
 -- a number, where it is from 1 to `most`
 abbrev pub within : ℕ → ℕ → Option ℕ
 within most n = if nat_le 1 n && nat_le n most then Some n else None
@@ -35,73 +80,49 @@ parts_of word = slice_split (λ b. b == 44) word
 abbrev pub job_numbers : List ℕ → Option (List ℕ)
 job_numbers word = if nat_le (length (parts_of word)) 10000 then numbers_in 1000 (parts_of word) else None
 
--- ---- options
--- the word is the name of an option
-abbrev pub is_option : List ℕ → Bool
-is_option word = bytes_eq word (codes "--workers") || bytes_eq word (codes "--schedule") || bytes_eq word (codes "--attempts")
-    || bytes_eq word (codes "--undo-tries")
-
--- the words are options, each with one word behind it, its value
-abbrev pub are_options : List (List ℕ) → Bool
-are_options [] = true
-are_options (option ∷ []) = false
-are_options (option ∷ value ∷ words) = is_option option && are_options words
-
--- the values of one option
-abbrev pub values_of : List ℕ → List (List ℕ) → List (List ℕ)
-values_of option [] = []
-values_of option (word ∷ []) = []
-values_of option (word ∷ value ∷ words) = if bytes_eq word option then value ∷ values_of option words else values_of option words
-
--- what an option chooses: its default where it has no value, what its one value says, and nothing where it has several
-abbrev pub choice_of : {A : Type 0} → A → (List ℕ → Option A) → List (List ℕ) → Option A
-choice_of default says [] = Some default
-choice_of default says (value ∷ []) = says value
-choice_of default says (value ∷ other ∷ values) = None
-
 -- ---- what is chosen
+-- the number that an option's text spells, in digits that a plus may lead, or its default
+abbrev pub number_or : ℕ → Option Text → ℕ
+number_or default None = default
+number_or default (Some text) = digits_value 10 (without_leading_plus text)
+
+-- the jobs whose turns come first: no list, or the one that the option's text is, where it is one
+abbrev pub schedule_in : Option Text → Option (Option (List ℕ))
+schedule_in None = Some None
+schedule_in (Some text) = option_map Some (job_numbers text)
+
 -- the rules where no word sets another
 abbrev pub default_rules : Rules
 default_rules = record { attempts = 100; patience = 10000; undo_tries = 3 }
 
--- how many workers there are
-abbrev pub workers_of : List (List ℕ) → Option ℕ
-workers_of words = choice_of 4 (number_in 64) (values_of (codes "--workers") words)
+-- the rules that the command's matches choose
+abbrev pub rules_in : List Row → Rules
+rules_in rows = record default_rules {
+  attempts = number_or default_rules.attempts (first_of (codes "attempts") rows);
+  patience = number_or default_rules.patience (first_of (codes "patience") rows);
+  undo_tries = number_or default_rules.undo_tries (first_of (codes "undo-tries") rows);
+}
 
--- the jobs whose turns come first, where there is a list of them
-abbrev pub schedule_of : List (List ℕ) → Option (Option (List ℕ))
-schedule_of words = choice_of None (λ value. option_map Some (job_numbers value)) (values_of (codes "--schedule") words)
+-- the choice with these jobs first
+abbrev pub chosen_with : List Row → Option (List ℕ) → Chosen
+chosen_with rows schedule = record { workers = number_or 4 (first_of (codes "workers") rows); schedule = schedule; rules = rules_in rows }
 
--- how often one transaction is tried
-abbrev pub attempts_of : List (List ℕ) → Option ℕ
-attempts_of words = choice_of default_rules.attempts (number_in 1000) (values_of (codes "--attempts") words)
+-- what the command's matches choose, and nothing where the list of jobs is none
+abbrev pub chosen_in : List Row → Option Chosen
+chosen_in rows = option_map (chosen_with rows) (schedule_in (first_of (codes "schedule") rows))
 
--- how often one compensation is tried
-abbrev pub undo_tries_of : List (List ℕ) → Option ℕ
-undo_tries_of words = choice_of default_rules.undo_tries (number_in 16) (values_of (codes "--undo-tries") words)
-
--- the rules with so many attempts and tries, where both are there
-abbrev pub rules_with : Option ℕ → Option ℕ → Option Rules
-rules_with (Some attempts) (Some undo_tries) = Some (record default_rules { attempts = attempts; undo_tries = undo_tries })
-rules_with _ _ = None
-
--- the rules that words choose
-abbrev pub rules_of : List (List ℕ) → Option Rules
-rules_of words = rules_with (attempts_of words) (undo_tries_of words)
-
--- the choices together, where all are there
-abbrev pub chosen : Option ℕ → Option Rules → Option (Option (List ℕ)) → Option Chosen
-chosen (Some workers) (Some rules) (Some schedule) = Some (record { workers = workers; schedule = schedule; rules = rules })
-chosen _ _ _ = None
-
--- what the words of a command line choose, and nothing where they are refused
-abbrev pub settings_of : List (List ℕ) → Option Chosen
-settings_of words = if are_options words then chosen (workers_of words) (rules_of words) (schedule_of words) else None
+-- what the words of a command line choose, and nothing where the command finds a fault in them or the list of jobs is none
+abbrev pub settings_of : List Text → Option Chosen
+settings_of words = if is_empty (fault_of command words) then chosen_in (matches_of command words) else None
 
 -- ---- its bounds
--- a number is from 1 to `most`
+-- a number is from `least` to `most`
+abbrev pub IsBetween : ℕ → ℕ → ℕ → Type 0
+IsBetween least most n = (least ≤ n) × (n ≤ most)
+
+-- it is from 1 to `most`
 abbrev pub IsUpTo : ℕ → ℕ → Type 0
-IsUpTo most n = (1 ≤ n) × (n ≤ most)
+IsUpTo most n = IsBetween 1 most n
 
 -- 1 to 10,000 jobs, each with a number from 1 to 1,000
 pub record AreJobs (jobs : List ℕ) : Type 0 where

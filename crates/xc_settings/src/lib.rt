@@ -1,7 +1,7 @@
 //! The words of a command line: the options that a run is given, and what they choose.
 //!
 //! `settings` takes the words exactly where `settings_of` of `specs/` has a choice for them, and
-//! answers that choice.
+//! answers that choice. A command of `clap` reads them.
 #![tactic(auto)]
 
 mod chosen;

@@ -1,27 +1,24 @@
-ghost use Rattle.std.specs.Prelude.{◌≡◌, map, string_bytes, IfOk, IsErrOf, None, Some};
-ghost use Rattle.xc_settings.specs.Options.{is_option, are_options, values_of, choice_of, number_in, schedule_of, rules_of};
-ghost use Rattle.xc_settings.specs.Options.{settings_of, KeepsBounds};
-ghost use Rattle.xc_settings.specs.Found.{IsFound};
+ghost use Rattle.std.specs.Prelude.{◌≡◌, ◌≢◌, false, map, codes, string_bytes, [], IfOk, IfSome, OnOk, IsErrOf, None, Some};
+ghost use Rattle.clap.specs.Words.{app_of, rule_of, fault_of, found_of, first_value, HasMatchesOf, IsUnsignedIn};
+ghost use Rattle.xc_settings.specs.Matches.{HasNumbers};
+ghost use Rattle.xc_settings.specs.Options.{number_rule, text_rule, command, number_or, schedule_in, settings_of, IsBetween, KeepsBounds};
 
-use crate::values::{jobs, number};
+use crate::values::jobs;
 use crate::{Chosen, SettingsErr};
-use std::alloc::Global;
+use clap::builder::ValueParser;
+use clap::error::ErrorKind;
+use clap::{Arg, ArgAction, ArgMatches, Command};
+use std::alloc::{AllocError, Global};
 use xc_data::JobNumbers;
 use xc_story::Rules;
-
-const WORKERS: &str = "--workers";
-
-const SCHEDULE: &str = "--schedule";
-
-const ATTEMPTS: &str = "--attempts";
-
-const UNDO_TRIES: &str = "--undo-tries";
 
 const DEFAULT_WORKERS: u32 = 4;
 
 const MOST_WORKERS: u32 = 64;
 
 const MOST_ATTEMPTS: u32 = 1000;
+
+const MOST_PATIENCE: u32 = 1_000_000;
 
 const MOST_UNDO_TRIES: u32 = 16;
 
@@ -32,85 +29,83 @@ const DEFAULT_RULES: Rules = Rules {
     undo_tries: 3,
 };
 
-// The value that words give an option.
-#[derive(Drop)]
-enum Found<'a> {
-    Nothing,
-    Once(&'a str),
-    Repeated,
+// An option that takes a number from `least` to `most`.
+fn number_option<'a>(alloc: Global, id: &'a str, least: u32, most: u32) -> Arg<'a>
+    ensures rule { rule_of result ≡ number_rule id.entry.now least most }
+    ensures local { result.global ≡ false }
+{
+    Arg::new(alloc, id)
+        .long(id)
+        .action(ArgAction::Set)
+        .value_parser(ValueParser::Unsigned(u64::from(least), u64::from(most)))
 }
 
-fn is_option(word: &str) -> bool
-    ensures { result ≡ is_option word.now }
+// An option that takes a text.
+fn text_option<'a>(alloc: Global, id: &'a str) -> Arg<'a>
+    ensures rule { rule_of result ≡ text_rule id.entry.now }
+    ensures local { result.global ≡ false }
 {
-    matches!(word, WORKERS | SCHEDULE | ATTEMPTS | UNDO_TRIES)
+    Arg::new(alloc, id).long(id).action(ArgAction::Set)
 }
 
-// Each option has a value behind it, and nothing else stands there.
-fn are_options(words: &[String]) -> bool
-    ensures { result ≡ are_options (map string_bytes words.now) }
+// The command that reads the words.
+fn command<'a>(alloc: Global) -> Result<Command<'a>, AllocError>
+    ensures { IfOk result (λ made. app_of made ≡ command) }
 {
-    let mut left = words;
-    while let [option, _, behind @ ..] = left {
-        if !is_option(option.as_str()) {
-            return false;
-        }
-        left = behind;
-    }
-    left.is_empty()
+    let workers = number_option(alloc, "workers", 1, MOST_WORKERS);
+    let schedule = text_option(alloc, "schedule");
+    let attempts = number_option(alloc, "attempts", 1, MOST_ATTEMPTS);
+    let patience = number_option(alloc, "patience", 0, MOST_PATIENCE);
+    let undo_tries = number_option(alloc, "undo-tries", 1, MOST_UNDO_TRIES);
+    Command::new(alloc, "xcalls")
+        .no_binary_name(true)
+        .disable_help_flag(true)
+        .disable_version_flag(true)
+        .arg(workers)?
+        .arg(schedule)?
+        .arg(attempts)?
+        .arg(patience)?
+        .arg(undo_tries)
 }
 
-// The value that the words give an option.
-fn value<'a>(words: &'a [String], option: &str) -> Found<'a>
-    ensures { IsFound (values_of option.now (map string_bytes words.entry.now)) result }
+// What the words give each option.
+fn matches<'a>(alloc: Global, words: &'a [String]) -> Result<ArgMatches<'a>, SettingsErr>
+    ensures ok { OnOk result (fault_of command (map string_bytes words.entry.now) ≡ []) }
+    ensures usage { IsErrOf result SettingsErr.Usage → fault_of command (map string_bytes words.entry.now) ≢ [] }
+    ensures matches { IfOk result (λ matches. HasMatchesOf command (map string_bytes words.entry.now) matches) }
+    ensures numbers { IfOk result (λ matches. HasNumbers (found_of matches)) }
 {
-    let mut found = Found::Nothing;
-    let mut left = words;
-    while let [word, value, behind @ ..] = left {
-        if word.as_str() == option {
-            let Found::Nothing = found else {
-                return Found::Repeated;
-            };
-            found = Found::Once(value.as_str());
-        }
-        left = behind;
-    }
-    found
-}
-
-// The number from 1 to `most` that an option is given, or its default.
-fn number_choice(words: &[String], option: &str, default: u32, most: u32) -> Option<u32>
-    ensures { result ≡ choice_of default (number_in most) (values_of option.now (map string_bytes words.now)) }
-{
-    match value(words, option) {
-        Found::Nothing => Some(default),
-        Found::Once(text) => number(text, most),
-        Found::Repeated => None,
-    }
-}
-
-fn schedule_choice(alloc: Global, words: &[String]) -> Result<Option<JobNumbers>, SettingsErr>
-    ensures ok { IfOk result (λ schedule. schedule_of (map string_bytes words.now) ≡ Some schedule) }
-    ensures usage { IsErrOf result SettingsErr.Usage → schedule_of (map string_bytes words.now) ≡ None }
-{
-    match value(words, SCHEDULE) {
-        Found::Nothing => Ok(None),
-        Found::Once(text) => Ok(Some(jobs(alloc, text)?)),
-        Found::Repeated => Err(SettingsErr::Usage),
+    let Ok(command) = command(alloc) else {
+        return Err(SettingsErr::NoMemory);
+    };
+    match command.try_get_matches_from(words) {
+        Ok(matches) => Ok(matches),
+        Err(error) if error.kind() == ErrorKind::OutOfMemory => Err(SettingsErr::NoMemory),
+        Err(_) => Err(SettingsErr::Usage),
     }
 }
 
-// The rules that the words choose.
-fn rules_choice(words: &[String]) -> Option<Rules>
-    ensures { result ≡ rules_of (map string_bytes words.now) }
+// The number from `least` to `most` that an option is given, or its default.
+fn number(matches: &ArgMatches<'_>, id: &str, default: u32, least: u32, most: u32) -> u32
+    requires text { IfSome (first_value (found_of matches.now) id.now) (IsUnsignedIn least most) }
+    requires default { IsBetween least most default }
+    ensures value { result ≡ number_or default (first_value (found_of matches.now) id.now) }
+    ensures bounds { IsBetween least most result }
 {
-    let attempts = number_choice(words, ATTEMPTS, DEFAULT_RULES.attempts, MOST_ATTEMPTS)?;
-    let undo_tries = number_choice(words, UNDO_TRIES, DEFAULT_RULES.undo_tries, MOST_UNDO_TRIES)?;
-    Some(Rules {
-        attempts,
-        undo_tries,
-        ..DEFAULT_RULES
-    })
+    match matches.get_str(id) {
+        Some(text) => text.parse::<u32>().unwrap_or(default),
+        None => default,
+    }
+}
+
+fn schedule(alloc: Global, matches: &ArgMatches<'_>) -> Result<Option<JobNumbers>, SettingsErr>
+    ensures ok { IfOk result (λ schedule. schedule_in (first_value (found_of matches.now) (codes "schedule")) ≡ Some schedule) }
+    ensures usage { IsErrOf result SettingsErr.Usage → schedule_in (first_value (found_of matches.now) (codes "schedule")) ≡ None }
+{
+    match matches.get_str("schedule") {
+        Some(text) => Ok(Some(jobs(alloc, text)?)),
+        None => Ok(None),
+    }
 }
 
 /// What the words behind the program's name choose.
@@ -119,19 +114,36 @@ pub fn settings(alloc: Global, words: &[String]) -> Result<Chosen, SettingsErr>
     ensures usage { IsErrOf result SettingsErr.Usage → settings_of (map string_bytes words.now) ≡ None }
     ensures bounds { IfOk result KeepsBounds }
 {
-    if !are_options(words) {
-        return Err(SettingsErr::Usage);
-    }
-    let Some(workers) = number_choice(words, WORKERS, DEFAULT_WORKERS, MOST_WORKERS) else {
-        return Err(SettingsErr::Usage);
-    };
-    let Some(rules) = rules_choice(words) else {
-        return Err(SettingsErr::Usage);
-    };
-    let schedule = schedule_choice(alloc, words)?;
+    let matches = matches(alloc, words)?;
+    let schedule = schedule(alloc, &matches)?;
+    let attempts = number(
+        &matches,
+        "attempts",
+        DEFAULT_RULES.attempts,
+        1,
+        MOST_ATTEMPTS,
+    );
+    let patience = number(
+        &matches,
+        "patience",
+        DEFAULT_RULES.patience,
+        0,
+        MOST_PATIENCE,
+    );
+    let undo_tries = number(
+        &matches,
+        "undo-tries",
+        DEFAULT_RULES.undo_tries,
+        1,
+        MOST_UNDO_TRIES,
+    );
     Ok(Chosen {
-        workers,
+        workers: number(&matches, "workers", DEFAULT_WORKERS, 1, MOST_WORKERS),
         schedule,
-        rules,
+        rules: Rules {
+            attempts,
+            patience,
+            undo_tries,
+        },
     })
 }

@@ -60,7 +60,16 @@ fn options(rt: HostRuntime) -> Result<(), Fail> {
     assert!(rt; chooses(rt.alloc(), "", 4, &[], 100)?);
     assert!(rt; chooses(rt.alloc(), "--workers|1", 1, &[], 100)?);
     assert!(rt; chooses(rt.alloc(), "--workers|64", 64, &[], 100)?);
-    assert!(rt; chooses(rt.alloc(), "--workers|00000000000000000064", 64, &[], 100)?);
+    assert!(rt;
+        chooses(
+            rt.alloc(),
+            "--workers|00000000000000000000064",
+            64,
+            &[],
+            100
+        )?
+    );
+    assert!(rt; chooses(rt.alloc(), "--workers|+4", 4, &[], 100)?);
     assert!(rt; chooses(rt.alloc(), "--attempts|1", 4, &[], 1)?);
     assert!(rt; chooses(rt.alloc(), "--attempts|1000", 4, &[], 1000)?);
     assert!(rt; chooses(rt.alloc(), "--schedule|1", 4, &[1], 100)?);
@@ -77,17 +86,34 @@ fn options_in_any_order(rt: HostRuntime) -> Result<(), Fail> {
     Ok(())
 }
 
+// A value stands behind its option, or behind a sign in the same word; two minus signs end the options.
+#[test]
+fn other_forms_of_options(rt: HostRuntime) -> Result<(), Fail> {
+    assert!(rt; chooses(rt.alloc(), "--workers=2", 2, &[], 100)?);
+    assert!(rt; chooses(rt.alloc(), "--schedule=2,1|--attempts=+05", 4, &[2, 1], 5)?);
+    assert!(rt; chooses(rt.alloc(), "--workers|2|--", 2, &[], 100)?);
+    Ok(())
+}
+
 const REFUSED: &str = "more
 more|4
 --workers
 --workers|4|more
 --workers|4|--attempts
 4|--workers
---workers=2
+--workers=
+--workers=0
 --workers=2|2
+--workers=2|--workers|2
+--|--workers
+--workers|--|2
+-workers|2
 --Workers|2
 --work|2
---patience|1
+--patience
+--patience|1000001
+--patience=-1
+--patience|x
 --seed|1
 --help|1
 --workers|4|--workers|4
@@ -98,13 +124,13 @@ more|4
 --workers|
 --workers|0
 --workers|65
---workers|+4
+--workers|++4
 --workers|-4
+--workers=-4
 --workers| 4
 --workers|4 \n--workers|4x
 --workers|4294967297
 --workers|18446744073709551617
---workers|000000000000000000004
 --attempts|0
 --attempts|1001
 --schedule|
