@@ -22,7 +22,8 @@ use Rattle.xc_app.specs.declared.finish.Status.TheVariants as status
 use Rattle.xc_edge.specs.Streams.{AppendsWhole}
 use Rattle.xc_edge.specs.Told.{Told}
 use Rattle.xc_host.specs.Model.{HostModel}
-use Rattle.xc_app.specs.Headline.{IsRead, IsRefusal, is_refused_by, IsUnscripted, AreScript, IsCaused, IsDone, IsDue, IsRun, IsDoneWith, IsSaidPlainly}
+use Rattle.xc_app.specs.Headline.{IsRead, IsRefusal, is_refused_by, IsUnscripted, AreScript, IsCaused, IsDone, IsDue, IsRun}
+use Rattle.xc_app.specs.Headline.{IsDoneWith, IsSaidPlainly, RunsAlone}
 use Rattle.xc_app.specs.Headline.{is_memory, is_starved, starves, is_given_up, gives_up}
 use Rattle.xc_app.specs.Outcomes.{IsOfBytes}
 
@@ -185,13 +186,13 @@ pub plainly : {H : Type 0} (model : HostModel H) (words : List (List ℕ)) (old 
     → s ≡ status.Done → IfSome o (IsSaidPlainly words before after)
 plainly model words old new host status.Done None due before after h run wrote tells is = tt
 plainly model words old new host status.Done (Some end) due before after h (by, chose, bytes, came, (read, run)) wrote tells is =
-    λ chosen again none faults.
+    λ chosen again alone faults.
     let one : by ≡ chosen = same_choice by chosen (settings_of words) chose again in
     let whole = run.whole in
     let s = setting end.opening.script by.rules model.tells in
     let fed = none_starved end h.1 in
     let done = all_done_of s (length end.journal.items) (progress_of end.opening.script end.journal.items).jobs end.jobs whole.ends fed.0 h.3 in
-    let plain = run.plain (ap (λ (c : Chosen). c.schedule) one ∙ none) tells faults fed.1 done in
+    let plain = run.plain (subst RunsAlone (sym one) alone) tells faults fed.1 done in
     subst (AppendsWhole before after) (h.0 ∙ plain) wrote
 plainly model words old new host (status.Refused line why) o due before after h run wrote tells is = cc is
 plainly model words old new host status.Usage o due before after h run wrote tells is = cc is

@@ -53,6 +53,11 @@ AreScript takes_scripts (Some bytes) =
     (script : Script) × (parse_of (take 1048577 bytes) ≡ Ok script) × (is_refused_by takes_scripts script ≡ false)
 
 -- ---- the run
+-- one worker, and no schedule: jobs run one after another
+pub record RunsAlone (chosen : Chosen) : Type 0 where
+  pub schedule : chosen.schedule ≡ None
+  pub workers : chosen.workers ≡ 1
+
 -- the text of a run's end
 abbrev pub end_text : {H : Type 0} → End H → List ℕ
 end_text end = rendered end.journal.items end.jobs end.words
@@ -68,13 +73,13 @@ module _ {H : Type 0} (model : HostModel H) where
     pub faults : end.opening.faults ≡ model.fault_count host
     -- the journal is true of the script, and leads to the words, to the host's contents and to the jobs' ends
     pub whole : IsTrueEnd (setting end.opening.script chosen.rules model.tells) end.journal.items (final_of end)
-    -- with no schedule its transactions ran one after another
-    pub serial : chosen.schedule ≡ None → IsSerial end.journal.items
+    -- with one worker and no schedule its transactions ran one after another
+    pub serial : RunsAlone chosen → IsSerial end.journal.items
     -- the host's count rose by the recorded faults, and stayed where none is recorded
     pub counted : CountsFaults (sum_by entry_faults end.journal.items) (model.fault_count host) (model.fault_count end.host)
-    -- with no schedule, where the host tells, no fault is recorded, no late call wanted memory and each job was done, the text
+    -- so, where the host tells, no fault is recorded, no late call wanted memory and each job was done, the text
     -- is that of the script alone
-    pub plain : chosen.schedule ≡ None → IsTrue model.tells → sum_by entry_faults end.journal.items ≡ 0
+    pub plain : RunsAlone chosen → IsTrue model.tells → sum_by entry_faults end.journal.items ≡ 0
         → some_late_starved end.journal.items ≡ false → all_done end.jobs ≡ true → end_text end ≡ plain_text end.opening.script
 
   -- the bytes are a script, and this is the end of its run
@@ -191,8 +196,8 @@ IsWritten meant ends due old new =
 abbrev pub IsSaid : {H : Type 0} → Status → Finish H → Told → Told → Type 0
 IsSaid meant finish old new = (due : List ℕ) × IsDue meant finish.end due × IsWritten meant finish.status due old new
 
--- with no schedule, where no fault is recorded, the text of the script alone was written
+-- with one worker and no schedule, where no fault is recorded, the text of the script alone was written
 abbrev pub IsSaidPlainly : {H : Type 0} → List (List ℕ) → Told → Told → End H → Type 0
 IsSaidPlainly words old new end =
-    (chosen : Chosen) → settings_of words ≡ Some chosen → chosen.schedule ≡ None → sum_by entry_faults end.journal.items ≡ 0
+    (chosen : Chosen) → settings_of words ≡ Some chosen → RunsAlone chosen → sum_by entry_faults end.journal.items ≡ 0
     → AppendsWhole old new (plain_text end.opening.script)

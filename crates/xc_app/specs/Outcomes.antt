@@ -1,5 +1,7 @@
 -- What the parts of the top call promise one another.
-use Rattle.std.specs.Prelude.{◌≡◌, ℕ}
+use Rattle.std.specs.Prelude.{◌≡◌, ℕ, List}
+use Rattle.xc_host.specs.Model.{HostModel}
+use Rattle.xc_station.specs.Stations.{Seen, TakeRounds, TakeTurns}
 use Rattle.xc_text.specs.declared.why.Why.{Why}
 use Rattle.xc_app.specs.declared.finish.Status.{Status}
 use Rattle.xc_app.specs.declared.finish.Status.TheVariants as status
@@ -21,3 +23,8 @@ IsRefusedBy line why _ = ⊥
 abbrev pub IsUnrefused : Status → Type 0
 IsUnrefused (status.Refused line why) = ⊥
 IsUnrefused _ = Unit {0}
+
+-- the listed turns were taken in their order, and then rounds
+abbrev pub TakeListed : {H : Type 0} → HostModel H → List ℕ → Seen H → Seen H → Type 0
+TakeListed {H = H} model jobs old new =
+    (listed : Seen H) × TakeTurns model jobs old listed × (rounds : ℕ) × TakeRounds model rounds listed new

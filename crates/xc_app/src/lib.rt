@@ -8,4 +8,5 @@ mod run;
 
 pub use finish::{Finish, LIMIT, Status};
 pub use run::xcalls_run;
+pub use xc_runner::{HoldPace, NoPace, Pace};
 pub use xc_settings::{Chosen, SettingsErr, settings};

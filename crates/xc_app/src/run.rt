@@ -1,4 +1,4 @@
-ghost use Rattle.std.specs.Prelude.{◌≡◌, ◌≤◌, ℕ, Some, None, Ok, Err, length, map, string_bytes, true, if◌then◌else◌};
+ghost use Rattle.std.specs.Prelude.{◌≡◌, ◌≤◌, ℕ, Some, None, Ok, Err, length, [], map, string_bytes, true, if◌then◌else◌};
 ghost use Rattle.std.specs.Prelude.{IfOk, IfSome, IsErrOf, IsTrue};
 ghost use Rattle.xc_data.specs.Limits.{KeepsLimits};
 ghost use Rattle.xc_text.specs.declared.script.Script.{Script};
@@ -9,18 +9,21 @@ ghost use Rattle.xc_story.specs.Alone.{AreAlone};
 ghost use Rattle.xc_story.specs.Truth.{IsSerial};
 ghost use Rattle.xc_station.specs.Stations.{KeepsOrigin, NobodyLives, now_of};
 ghost use Rattle.xc_app.specs.Due.{due_bytes};
-ghost use Rattle.xc_app.specs.Headline.{is_refused_by, IsRun, IsRunOf, IsRunOver, IsOneOf, IsCaused, IsDoneWith};
+ghost use Rattle.xc_app.specs.Headline.{is_refused_by, IsRun, IsRunOf, IsRunOver, IsOneOf, IsCaused, IsDoneWith, RunsAlone};
 ghost use Rattle.xc_app.specs.Headline.{IsDue, IsDueAlone, IsSaid, IsSaidPlainly};
-ghost use Rattle.xc_app.specs.Outcomes.{IsOfBytes, IsRefusedBy, IsUnrefused};
+ghost use Rattle.xc_app.specs.Outcomes.{IsOfBytes, IsRefusedBy, IsUnrefused, TakeListed};
 
 use crate::ends::status_of;
 use crate::lines::refused;
 use crate::{Finish, LIMIT, Status};
 use std::alloc::Global;
+use std::sync::Wait;
+use std::thread::Threads;
 use xc_data::{JobNumbers, Text};
 use xc_edge::{ReadErr, Sink, Source, read_up_to, write_whole};
 use xc_host::{Host, OpenErr};
 use xc_print::render;
+use xc_runner::{Pace, run_workers};
 use xc_settings::{Chosen, SettingsErr, settings};
 use xc_station::{End, NotStarted, Station, drain, run_schedule, work_alone};
 use xc_text::{ParseErr, Script, Why, parse};
@@ -146,25 +149,80 @@ fn of_refused_start<H: Drop>(not_started: NotStarted<H>) -> Outcome<H>
     }
 }
 
-// Takes the turns of all jobs: the listed ones first, and then rounds; with no list job after job. Until threads come every
-// number of workers is one.
-fn take_turns<H: Host>(station: &mut Station<H>, schedule: &Option<JobNumbers>)
-    requires { station.old.taken ≡ 0 }
-    ensures origin { KeepsOrigin station.old station.new }
-    ensures ended { NobodyLives station.new.jobs }
-    ensures serial { schedule.now ≡ None → AreAlone (now_of H.model station.old) 0 → IsSerial station.new.journal }
+// Takes the turns of the listed jobs first, and then rounds.
+fn take_listed<H: Host>(station: Station<H>, jobs: &[u32]) -> Station<H>
+    ensures origin { KeepsOrigin station result }
+    ensures listed { TakeListed H.model jobs.now station result }
+    ensures ended { NobodyLives result.jobs }
 {
-    match schedule {
-        Some(jobs) => {
-            run_schedule(station, jobs.as_slice());
-            drain(station);
+    let mut station = station;
+    run_schedule(&mut station, jobs);
+    drain(&mut station);
+    station
+}
+
+// Takes job after job.
+fn take_alone<H: Host>(station: Station<H>) -> Station<H>
+    requires { station.taken ≡ 0 }
+    ensures origin { KeepsOrigin station result }
+    ensures ended { NobodyLives result.jobs }
+    ensures serial { AreAlone (now_of H.model station) 0 → IsSerial result.journal }
+{
+    let mut station = station;
+    work_alone(&mut station);
+    station
+}
+
+// So many workers take the turns; what they leave is taken in rounds.
+fn take_together<H: Host + Send, P: Pace + Sync, R: AllocGlobal + Threads + Wait + Sync>(
+    rt: &R,
+    station: Station<H>,
+    workers: u32,
+    pace: &P,
+) -> Station<H>
+    requires { station.journal ≡ [] }
+    ensures origin { KeepsOrigin station result }
+    ensures ended { NobodyLives result.jobs }
+{
+    let mut station = run_workers(rt, station, workers, pace);
+    drain(&mut station);
+    station
+}
+
+// Takes the turns of all jobs: the listed ones first, and then rounds; with no list by the workers, and one worker goes
+// job after job.
+fn take_turns<H: Host + Send, P: Pace + Sync, R: AllocGlobal + Threads + Wait + Sync>(
+    rt: &R,
+    station: Station<H>,
+    chosen: &Chosen,
+    pace: &P,
+) -> Station<H>
+    requires taken { station.taken ≡ 0 }
+    requires fresh { station.journal ≡ [] }
+    ensures origin { KeepsOrigin station result }
+    ensures listed { IfSome chosen.now.schedule (λ jobs. TakeListed H.model jobs station result) }
+    ensures ended { NobodyLives result.jobs }
+    ensures serial { RunsAlone chosen.now → AreAlone (now_of H.model station) 0 → IsSerial result.journal }
+{
+    match &chosen.schedule {
+        Some(jobs) => take_listed(station, jobs.as_slice()),
+        None => {
+            if chosen.workers == 1 {
+                return take_alone(station);
+            }
+            take_together(rt, station, chosen.workers, pace)
         }
-        None => work_alone(station),
     }
 }
 
 // The outcome of a script's run.
-fn of_script<H: Host>(alloc: Global, host: H, script: Script, chosen: &Chosen) -> Outcome<H>
+fn of_script<H: Host + Send, P: Pace + Sync, R: AllocGlobal + Threads + Wait + Sync>(
+    rt: &R,
+    host: H,
+    script: Script,
+    chosen: &Chosen,
+    pace: &P,
+) -> Outcome<H>
     requires script { IsScript script }
     requires limits { KeepsLimits script.outline }
     requires rules { (1 ≤ chosen.now.rules.attempts) × (1 ≤ chosen.now.rules.undo_tries) }
@@ -177,11 +235,10 @@ fn of_script<H: Host>(alloc: Global, host: H, script: Script, chosen: &Chosen) -
     ensures bytes { IsOfBytes result.status }
     ensures unrefused { IsUnrefused result.status }
 {
-    match Station::start(alloc, host, script, chosen.rules) {
+    match Station::start(rt.alloc(), host, script, chosen.rules) {
         Ok(station) => {
-            let mut station = station;
-            take_turns(&mut station, &chosen.schedule);
-            of_end(alloc, station.finish())
+            let station = take_turns(rt, station, chosen, pace);
+            of_end(rt.alloc(), station.finish())
         }
         Err(not_started) => of_refused_start(not_started),
     }
@@ -198,7 +255,13 @@ fn script_in(alloc: Global, bytes: Vec<u8>) -> Result<Script, ParseErr>
 }
 
 // The outcome of the bytes that were read.
-fn of_bytes<H: Host>(alloc: Global, host: H, bytes: Vec<u8>, chosen: &Chosen) -> Outcome<H>
+fn of_bytes<H: Host + Send, P: Pace + Sync, R: AllocGlobal + Threads + Wait + Sync>(
+    rt: &R,
+    host: H,
+    bytes: Vec<u8>,
+    chosen: &Chosen,
+    pace: &P,
+) -> Outcome<H>
     requires rules { (1 ≤ chosen.now.rules.attempts) × (1 ≤ chosen.now.rules.undo_tries) }
     ensures due { IsDue result.status result.end (due_bytes result.due) }
     ensures run { IfSome result.end (IsRunOf H.model bytes.items chosen.now host) }
@@ -209,19 +272,20 @@ fn of_bytes<H: Host>(alloc: Global, host: H, bytes: Vec<u8>, chosen: &Chosen) ->
         → (script : Script) × (parse_of bytes.items ≡ Ok script) × (is_refused_by H.model.takes_scripts script ≡ true) }
     ensures bytes { IsOfBytes result.status }
 {
-    match script_in(alloc, bytes) {
-        Ok(script) => of_script(alloc, host, script, chosen),
-        Err(ParseErr::Refused { line, why }) => of_refusal(alloc, host, line, why),
+    match script_in(rt.alloc(), bytes) {
+        Ok(script) => of_script(rt, host, script, chosen, pace),
+        Err(ParseErr::Refused { line, why }) => of_refusal(rt.alloc(), host, line, why),
         Err(ParseErr::NoMemory) => no_memory(host),
     }
 }
 
 // What the words and the source come to.
-fn decide<S: Source, H: Host>(
-    alloc: Global,
+fn decide<S: Source, H: Host + Send, P: Pace + Sync, R: AllocGlobal + Threads + Wait + Sync>(
+    rt: &R,
     words: &[String],
     source: &mut S,
     host: H,
+    pace: &P,
 ) -> Outcome<H>
     ensures due { IsDue result.status result.end (due_bytes result.due) }
     ensures caused { IsCaused (map string_bytes words.now) H.model.takes_scripts (S.told source.old) (S.told source.new) result.status }
@@ -231,13 +295,13 @@ fn decide<S: Source, H: Host>(
     ensures host { IfSome result.host (λ back. back ≡ host) }
     ensures one { IsOneOf result.end result.host }
 {
-    let chosen = match settings(alloc, words) {
+    let chosen = match settings(rt.alloc(), words) {
         Ok(chosen) => chosen,
         Err(SettingsErr::Usage) => return alone(host, Status::Usage, Due::Usage),
         Err(SettingsErr::NoMemory) => return no_memory(host),
     };
-    match read_up_to(alloc, source, LIMIT) {
-        Ok(bytes) => of_bytes(alloc, host, bytes, &chosen),
+    match read_up_to(rt.alloc(), source, LIMIT) {
+        Ok(bytes) => of_bytes(rt, host, bytes, &chosen, pace),
         Err(ReadErr::Failed) => alone(host, Status::ReadFault, Due::ReadFault),
         Err(ReadErr::NoMemory) => no_memory(host),
     }
@@ -248,13 +312,13 @@ fn decide<S: Source, H: Host>(
 /// `words` are those of the command line behind the program's name. With a script that isn't run,
 /// one line is written that says why, and the host is given back. A source or a sink that fails ends
 /// the run, with the end in `Finish` where the script had been run.
-pub fn xcalls_run<R: AllocGlobal, S: Source, K: Sink, H: Host>(
-    rt: &R,
-    words: &[String],
-    source: &mut S,
-    sink: &mut K,
-    host: H,
-) -> Finish<H>
+pub fn xcalls_run<
+    R: AllocGlobal + Threads + Wait + Sync,
+    S: Source,
+    K: Sink,
+    H: Host + Send,
+    P: Pace + Sync,
+>(rt: &R, words: &[String], source: &mut S, sink: &mut K, host: H, pace: &P) -> Finish<H>
     // A status was meant, and it has its cause. What is due with it was written, and it is the run's
     // status; or the sink failed behind a front of that. A run that is meant to be done has an entry
     // for each transaction, which committed or aborted itself; so has one of which effects are left,
@@ -284,7 +348,7 @@ pub fn xcalls_run<R: AllocGlobal, S: Source, K: Sink, H: Host>(
         due,
         end,
         host,
-    } = decide(rt.alloc(), words, source, host);
+    } = decide(rt, words, source, host, pace);
     match write_whole(sink, due.as_bytes()) {
         Ok(()) => Finish { status, end, host },
         Err(_) => Finish {

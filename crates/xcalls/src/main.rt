@@ -2,8 +2,10 @@
 #![tactic(auto)]
 
 use std::process::ExitCode;
+use std::sync::Wait;
+use std::thread::Threads;
 use std::{env, io};
-use xc_app::{Status, xcalls_run};
+use xc_app::{NoPace, Status, xcalls_run};
 use xc_edge::{StdSink, StdSource, write_whole};
 use xc_memhost::MemHost;
 
@@ -18,17 +20,26 @@ fn words(rt: &HostRuntime) -> io::Result<Vec<String>> {
     Ok(words)
 }
 
-fn run(rt: &HostRuntime, words: &[String]) -> Status {
+// Only `main` has the leave to start threads and to wait, and hands it on as `threads`.
+fn run<R: AllocGlobal + Threads + Wait + Sync>(
+    rt: &HostRuntime,
+    threads: &R,
+    words: &[String],
+) -> Status {
     let mut source = StdSource::new(rt.stdin());
     let mut sink = StdSink::new(rt.stdout());
     let host = MemHost::new(rt.alloc());
-    xcalls_run(rt, words, &mut source, &mut sink, host).status
+    xcalls_run(threads, words, &mut source, &mut sink, host, &NoPace).status
 }
 
 // The words could not be had: for want of memory, or since one is no text, which no option takes.
-fn wordless(rt: &HostRuntime, error: io::Error) -> Status {
+fn wordless<R: AllocGlobal + Threads + Wait + Sync>(
+    rt: &HostRuntime,
+    threads: &R,
+    error: io::Error,
+) -> Status {
     if error.kind() != io::ErrorKind::OutOfMemory {
-        return run(rt, &[String::new(rt.alloc())]);
+        return run(rt, threads, &[String::new(rt.alloc())]);
     }
     let mut sink = StdSink::new(rt.stdout());
     match write_whole(&mut sink, b"no memory\n") {
@@ -39,8 +50,8 @@ fn wordless(rt: &HostRuntime, error: io::Error) -> Status {
 
 fn main(rt: HostRuntime) -> ExitCode {
     let status = match words(&rt) {
-        Ok(words) => run(&rt, words.as_slice()),
-        Err(error) => wordless(&rt, error),
+        Ok(words) => run(&rt, &rt, words.as_slice()),
+        Err(error) => wordless(&rt, &rt, error),
     };
     ExitCode::from(status.number())
 }

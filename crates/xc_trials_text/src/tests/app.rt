@@ -1,6 +1,8 @@
 use std::alloc::Global;
+use std::sync::Wait;
 use std::test::Fail;
-use xc_app::{Finish, Status, xcalls_run};
+use std::thread::Threads;
+use xc_app::{Finish, NoPace, Status, xcalls_run};
 use xc_data::{CallNumbers, Chunk, NoMemory};
 use xc_edge::{MemSink, MemSource};
 use xc_memhost::MemHost;
@@ -23,9 +25,13 @@ fn sink(alloc: Global, fails: CallNumbers) -> Result<MemSink, NoMemory> {
     MemSink::new(alloc, fails, 7, 4096)
 }
 
-fn run<R: AllocGlobal>(rt: &R, mut source: MemSource, sink: &mut MemSink) -> Finish<MemHost> {
+fn run<R: AllocGlobal + Threads + Wait + Sync>(
+    rt: &R,
+    mut source: MemSource,
+    sink: &mut MemSink,
+) -> Finish<MemHost> {
     let host = MemHost::new(rt.alloc());
-    xcalls_run(rt, &[], &mut source, sink, host)
+    xcalls_run(rt, &[], &mut source, sink, host, &NoPace)
 }
 
 #[test]

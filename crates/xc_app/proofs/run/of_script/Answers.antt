@@ -1,11 +1,10 @@
 use Rattle.std.proofs.Common.{rules, ◌≡◌, IfSome, subst, sym}
 use Rattle.std.specs.Prelude.{Option}
-use Rattle.std.specs.declared.option.Option.TheVariants.{None}
 use Rattle.xc_station.specs.declared.start.End.{End}
 use Rattle.xc_story.specs.Setting.{setting}
 use Rattle.xc_story.specs.Truth.{IsSerial}
 use Rattle.xc_turns.proofs.Orders.{alone_opened}
-use Rattle.xc_app.specs.Headline.{IsRunOver, final_of}
+use Rattle.xc_app.specs.Headline.{IsRunOver, RunsAlone, final_of}
 use Rattle.xc_plain.proofs.Finals.{plain_end}
 use Rattle.xc_app.proofs.run.of_script.Goals as goal
 
@@ -13,8 +12,8 @@ pub returns-in-Ok-clause-run : goal.returns-in-Ok-clause-run
 returns-in-Ok-clause-run g c =
     let model = g.H.Host.model in
     let left = c.finish.result in
-    let alone : c.args.chosen.now.schedule ≡ None → IsSerial left.journal.items =
-    λ none. subst IsSerial (sym c.finish.ensures.handed.2) (c.take_turns.ensures.serial none (alone_opened _ _ c.in-Ok.ensures.opening)) in
+    let alone : RunsAlone c.args.chosen.now → IsSerial left.journal.items =
+    λ one. subst IsSerial (sym c.finish.ensures.handed.2) (c.take_turns-station.ensures.serial one (alone_opened _ _ c.in-Ok.ensures.opening)) in
     let run : IsRunOver model c.args.chosen.now c.args.host left = record {
       scripted = search rules;
       faults = search rules;
