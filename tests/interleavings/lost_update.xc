@@ -1,4 +1,7 @@
 # Both jobs add to one word. None of the sums may be lost, so it ends as 111.
+# options:
+# options: --patience 0
+# options: --patience 1
 word 0 100
 job ten
 tx

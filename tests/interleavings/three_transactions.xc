@@ -1,4 +1,6 @@
 # Both jobs write over one file, and the second one stores a word too. Who reads its bytes back reads its word as well.
+# options:
+# options: --patience 0
 file a "----"
 job one
 tx
