@@ -17,8 +17,10 @@ pub data Stage : Type 0 where
 -- whether this answer is a job's last: the job has ended, or doesn't go on
 abbrev pub is_last : Option Turn → Bool
 is_last None = true
+is_last (Some turn.Went) = false
+is_last (Some (turn.Busy object holder)) = false
+is_last (Some turn.NoMemory) = false
 is_last (Some (turn.Ended end)) = true
-is_last (Some _) = false
 
 -- behind a pick a worker takes turns of the job that it got, or is done
 abbrev pub picked : Option ℕ → Stage

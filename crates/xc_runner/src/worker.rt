@@ -64,7 +64,7 @@ fn ends(answer: &Option<Turn>) -> bool
 {
     match answer {
         None | Some(Turn::Ended(_)) => true,
-        Some(_) => false,
+        Some(Turn::Went | Turn::Busy { .. } | Turn::NoMemory) => false,
     }
 }
 
