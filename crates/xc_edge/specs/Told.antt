@@ -1,6 +1,6 @@
 -- A stream as contracts see it.
-use Rattle.std.specs.Prelude.{ℕ, List, Option}
-use Rattle.xc_data.specs.Counts.{Rose}
+use Rattle.std.specs.Prelude.{ℕ, ◌≤◌, List, Option}
+use Rattle.xc_data.specs.Counts.{counted}
 
 -- the bytes that a source has left or a sink has taken, where it tells them; and how often a call failed
 pub record Told : Type 0 where
@@ -9,4 +9,4 @@ pub record Told : Type 0 where
 
 -- a call failed, or the count of failures stands at its last value
 abbrev pub HasFailed : Told → Told → Type 0
-HasFailed old new = Rose old.faults new.faults
+HasFailed old new = counted old.faults ≤ new.faults

@@ -1,4 +1,6 @@
 pub mod Contents
 pub mod Cause
+pub mod Counting
 pub mod Fronts
 pub mod Model
+pub mod Uses

@@ -1,22 +1,22 @@
 ghost use Rattle.std.specs.Prelude.{◌≡◌, ◌↔◌, ◌<◌, ◌≤◌, ◌+◌, ◌&&◌, true, false, None, Some, is_some};
-ghost use Rattle.std.specs.Prelude.{not, length, take, IfOk, OnOk, OnErr, IsErrOf, IsTrue, is_err};
+ghost use Rattle.std.specs.Prelude.{not, length, take, IfOk, OnOk, OnErr, IsErrOf, IsTrue};
 ghost use Rattle.std.specs.FinMap as map;
-ghost use Rattle.xc_data.specs.Counts.{CountsFault};
 ghost use Rattle.xc_data.specs.Limits.{IsPrologue};
-ghost use Rattle.xc_host.specs.Cause.{is_fault, IsCalled};
+ghost use Rattle.xc_data.specs.declared.script.Kind.TheVariants as Kind;
+ghost use Rattle.xc_host.specs.Cause.{without_memory};
 ghost use Rattle.xc_host.specs.Contents.{file_in, has_file, wrote, appended, shortened, created, uncreated, renamed, opened};
 ghost use Rattle.xc_host.specs.Contents.{unnamed, needs_scripted};
 ghost use Rattle.xc_host.specs.Fronts.{IsFront};
-ghost use Rattle.xc_host.specs.Model.{HostModel};
+ghost use Rattle.xc_host.specs.Model.{Answers, HostModel, plan_of};
 
 use crate::{Fault, HostErr, OpenErr};
 use xc_data::{Chunk, Name, Num, Prologue};
 
 /// What the calls of transactions go to. Only its own calls change it.
 ///
-/// A call that fails changes nothing. A count of faults rises exactly where a call answers a fault,
-/// and never falls; a count of calls rises at each call behind the opening. Each host keeps its
-/// allocator. For a host that tells, every object that a call names is there.
+/// A call that fails changes nothing. A count of faults rises by one exactly where a call answers a
+/// fault; a count of calls of each kind rises by one at each call behind the opening. Each host keeps
+/// its allocator. For a host that tells, every object that a call names is there.
 pub trait Host: Drop {
     ghost model: { HostModel Self };
 
@@ -32,40 +32,34 @@ pub trait Host: Drop {
         ensures told { IsTrue model.tells → model.takes_scripts ≡ true }
         ensures taken { OnOk result (not model.takes_scripts && needs_scripted prologue.now ≡ false) }
         ensures refused { IsErrOf result OpenErr.NotScripted ↔ (not model.takes_scripts && needs_scripted prologue.now ≡ true) }
-        ensures count { model.fault_count self.new ≡ model.fault_count self.old };
+        ensures count { model.fault_count self.new ≡ model.fault_count self.old }
+        ensures fresh { OnOk result ((kind : _) → model.calls self.new kind ≡ 0) }
+        ensures plan { OnOk result (model.plan self.new ≡ plan_of prologue.now) };
 
     /// The number of a name's file.
     fn lookup(&mut self, name: &Name) -> Result<Option<Num>, HostErr>
         ensures value { IsTrue model.tells → IfOk result (λ found. found ≡ map.get (model.contents self.old).names name.now) }
-        ensures stays { IsTrue model.tells → model.contents self.new ≡ model.contents self.old }
-        ensures called { IsCalled (model.calls self.old) (model.calls self.new) }
-        ensures cause { CountsFault (is_fault result) (model.fault_count self.old) (model.fault_count self.new) };
+        ensures answered { Answers model Kind.Lookup (record { old = self.old; new = self.new }) result (λ found c. c) };
 
     /// An empty file of a new number, under a name that is absent.
     fn create(&mut self, name: &Name, num: Num) -> Result<(), HostErr>
         requires absent { IsTrue model.tells → map.get (model.contents self.old).names name.now ≡ None }
         requires new { IsTrue model.tells → has_file (model.contents self.old) num ≡ false }
-        ensures ok { IsTrue model.tells → OnOk result (model.contents self.new ≡ created (model.contents self.old) name.now num) }
-        ensures err { IsTrue model.tells → OnErr result (model.contents self.new ≡ model.contents self.old) }
-        ensures called { IsCalled (model.calls self.old) (model.calls self.new) }
-        ensures cause { CountsFault (is_fault result) (model.fault_count self.old) (model.fault_count self.new) };
+        ensures answered { Answers model Kind.Create (record { old = self.old; new = self.new }) result
+            (λ _ c. created c name.now num) };
 
     /// A file's length.
     fn len(&mut self, file: Num) -> Result<u32, Fault>
         requires there { IsTrue model.tells → has_file (model.contents self.old) file ≡ true }
         ensures value { IsTrue model.tells → IfOk result (λ n. n ≡ length (file_in (model.contents self.old) file)) }
-        ensures stays { IsTrue model.tells → model.contents self.new ≡ model.contents self.old }
-        ensures called { IsCalled (model.calls self.old) (model.calls self.new) }
-        ensures cause { CountsFault (is_err result) (model.fault_count self.old) (model.fault_count self.new) };
+        ensures answered { Answers model Kind.Len (record { old = self.old; new = self.new }) (without_memory result) (λ n c. c) };
 
     /// A front of the n bytes from `at`. It is empty exactly where none is there or n is 0.
     fn read_at(&mut self, file: Num, at: u32, n: u32) -> Result<Chunk, HostErr>
         requires there { IsTrue model.tells → has_file (model.contents self.old) file ≡ true }
         ensures bound { IfOk result (λ front. length front ≤ n) }
         ensures value { IsTrue model.tells → IfOk result (λ front. IsFront (file_in (model.contents self.old) file) at n front) }
-        ensures stays { IsTrue model.tells → model.contents self.new ≡ model.contents self.old }
-        ensures called { IsCalled (model.calls self.old) (model.calls self.new) }
-        ensures cause { CountsFault (is_fault result) (model.fault_count self.old) (model.fault_count self.new) };
+        ensures answered { Answers model Kind.ReadAt (record { old = self.old; new = self.new }) result (λ front c. c) };
 
     /// Writes a front of the bytes over those from `at`, and answers its length.
     fn write_at(&mut self, file: Num, at: u32, bytes: &[u8]) -> Result<u32, Fault>
@@ -73,11 +67,8 @@ pub trait Host: Drop {
         requires inside { IsTrue model.tells → at + length bytes.now ≤ length (file_in (model.contents self.old) file) }
         requires some { 0 < length bytes.now }
         ensures bound { IfOk result (λ n. (0 < n) × (n ≤ length bytes.now)) }
-        ensures ok { IsTrue model.tells
-            → IfOk result (λ n. model.contents self.new ≡ wrote (model.contents self.old) file at (take n bytes.now)) }
-        ensures err { IsTrue model.tells → OnErr result (model.contents self.new ≡ model.contents self.old) }
-        ensures called { IsCalled (model.calls self.old) (model.calls self.new) }
-        ensures cause { CountsFault (is_err result) (model.fault_count self.old) (model.fault_count self.new) };
+        ensures answered { Answers model Kind.WriteAt (record { old = self.old; new = self.new }) (without_memory result)
+            (λ n c. wrote c file at (take n bytes.now)) };
 
     /// Appends a front of the bytes, and answers its length. A file has at most 65,536 bytes.
     fn append(&mut self, file: Num, bytes: &[u8]) -> Result<u32, HostErr>
@@ -85,35 +76,26 @@ pub trait Host: Drop {
         requires fits { IsTrue model.tells → length (file_in (model.contents self.old) file) + length bytes.now ≤ 65536 }
         requires some { 0 < length bytes.now }
         ensures bound { IfOk result (λ n. (0 < n) × (n ≤ length bytes.now)) }
-        ensures ok { IsTrue model.tells
-            → IfOk result (λ n. model.contents self.new ≡ appended (model.contents self.old) file (take n bytes.now)) }
-        ensures err { IsTrue model.tells → OnErr result (model.contents self.new ≡ model.contents self.old) }
-        ensures called { IsCalled (model.calls self.old) (model.calls self.new) }
-        ensures cause { CountsFault (is_fault result) (model.fault_count self.old) (model.fault_count self.new) };
+        ensures answered { Answers model Kind.Append (record { old = self.old; new = self.new }) result
+            (λ n c. appended c file (take n bytes.now)) };
 
     /// The file of a name takes another, which is absent. It takes no memory.
     fn rename(&mut self, from: &Name, to: &Name) -> Result<(), Fault>
         requires there { IsTrue model.tells → is_some (map.get (model.contents self.old).names from.now) ≡ true }
         requires absent { IsTrue model.tells → map.get (model.contents self.old).names to.now ≡ None }
-        ensures ok { IsTrue model.tells → OnOk result (model.contents self.new ≡ renamed (model.contents self.old) from.now to.now) }
-        ensures err { IsTrue model.tells → OnErr result (model.contents self.new ≡ model.contents self.old) }
-        ensures called { IsCalled (model.calls self.old) (model.calls self.new) }
-        ensures cause { CountsFault (is_err result) (model.fault_count self.old) (model.fault_count self.new) };
+        ensures answered { Answers model Kind.Rename (record { old = self.old; new = self.new }) (without_memory result)
+            (λ _ c. renamed c from.now to.now) };
 
     /// The name goes, and its file stays. It takes no memory.
     fn unlink(&mut self, name: &Name) -> Result<(), Fault>
         requires there { IsTrue model.tells → is_some (map.get (model.contents self.old).names name.now) ≡ true }
-        ensures ok { IsTrue model.tells → OnOk result (model.contents self.new ≡ unnamed (model.contents self.old) name.now) }
-        ensures err { IsTrue model.tells → OnErr result (model.contents self.new ≡ model.contents self.old) }
-        ensures called { IsCalled (model.calls self.old) (model.calls self.new) }
-        ensures cause { CountsFault (is_err result) (model.fault_count self.old) (model.fault_count self.new) };
+        ensures answered { Answers model Kind.Unlink (record { old = self.old; new = self.new }) (without_memory result)
+            (λ _ c. unnamed c name.now) };
 
     /// All that was written to a file is kept for good. It takes no memory.
     fn sync(&mut self, file: Num) -> Result<(), Fault>
         requires there { IsTrue model.tells → has_file (model.contents self.old) file ≡ true }
-        ensures stays { IsTrue model.tells → model.contents self.new ≡ model.contents self.old }
-        ensures called { IsCalled (model.calls self.old) (model.calls self.new) }
-        ensures cause { CountsFault (is_err result) (model.fault_count self.old) (model.fault_count self.new) };
+        ensures answered { Answers model Kind.Sync (record { old = self.old; new = self.new }) (without_memory result) (λ _ c. c) };
 
     /// Undoes an overwrite: as `write_at`. It takes no memory.
     fn restore(&mut self, file: Num, at: u32, bytes: &[u8]) -> Result<u32, Fault>
@@ -121,36 +103,27 @@ pub trait Host: Drop {
         requires inside { IsTrue model.tells → at + length bytes.now ≤ length (file_in (model.contents self.old) file) }
         requires some { 0 < length bytes.now }
         ensures bound { IfOk result (λ n. (0 < n) × (n ≤ length bytes.now)) }
-        ensures ok { IsTrue model.tells
-            → IfOk result (λ n. model.contents self.new ≡ wrote (model.contents self.old) file at (take n bytes.now)) }
-        ensures err { IsTrue model.tells → OnErr result (model.contents self.new ≡ model.contents self.old) }
-        ensures called { IsCalled (model.calls self.old) (model.calls self.new) }
-        ensures cause { CountsFault (is_err result) (model.fault_count self.old) (model.fault_count self.new) };
+        ensures answered { Answers model Kind.Restore (record { old = self.old; new = self.new }) (without_memory result)
+            (λ n c. wrote c file at (take n bytes.now)) };
 
     /// Undoes an append: the file has its first `len` bytes alone. It takes no memory.
     fn cut(&mut self, file: Num, len: u32) -> Result<(), Fault>
         requires there { IsTrue model.tells → has_file (model.contents self.old) file ≡ true }
         requires within { IsTrue model.tells → len ≤ length (file_in (model.contents self.old) file) }
-        ensures ok { IsTrue model.tells → OnOk result (model.contents self.new ≡ shortened (model.contents self.old) file len) }
-        ensures err { IsTrue model.tells → OnErr result (model.contents self.new ≡ model.contents self.old) }
-        ensures called { IsCalled (model.calls self.old) (model.calls self.new) }
-        ensures cause { CountsFault (is_err result) (model.fault_count self.old) (model.fault_count self.new) };
+        ensures answered { Answers model Kind.Cut (record { old = self.old; new = self.new }) (without_memory result)
+            (λ _ c. shortened c file len) };
 
     /// Undoes a create: the name and its file go. It takes no memory.
     fn uncreate(&mut self, name: &Name, num: Num) -> Result<(), Fault>
         requires named { IsTrue model.tells → map.get (model.contents self.old).names name.now ≡ Some num }
         requires there { IsTrue model.tells → has_file (model.contents self.old) num ≡ true }
-        ensures ok { IsTrue model.tells → OnOk result (model.contents self.new ≡ uncreated (model.contents self.old) name.now num) }
-        ensures err { IsTrue model.tells → OnErr result (model.contents self.new ≡ model.contents self.old) }
-        ensures called { IsCalled (model.calls self.old) (model.calls self.new) }
-        ensures cause { CountsFault (is_err result) (model.fault_count self.old) (model.fault_count self.new) };
+        ensures answered { Answers model Kind.Uncreate (record { old = self.old; new = self.new }) (without_memory result)
+            (λ _ c. uncreated c name.now num) };
 
     /// Undoes a rename: the name `to` becomes `from` again. It takes no memory.
     fn name_back(&mut self, from: &Name, to: &Name) -> Result<(), Fault>
         requires there { IsTrue model.tells → is_some (map.get (model.contents self.old).names to.now) ≡ true }
         requires absent { IsTrue model.tells → map.get (model.contents self.old).names from.now ≡ None }
-        ensures ok { IsTrue model.tells → OnOk result (model.contents self.new ≡ renamed (model.contents self.old) to.now from.now) }
-        ensures err { IsTrue model.tells → OnErr result (model.contents self.new ≡ model.contents self.old) }
-        ensures called { IsCalled (model.calls self.old) (model.calls self.new) }
-        ensures cause { CountsFault (is_err result) (model.fault_count self.old) (model.fault_count self.new) };
+        ensures answered { Answers model Kind.NameBack (record { old = self.old; new = self.new }) (without_memory result)
+            (λ _ c. renamed c to.now from.now) };
 }

@@ -5,8 +5,10 @@
 
 mod errors;
 mod host;
+mod kind_counts;
 mod laws;
 
 pub use errors::{Fault, HostErr, OpenErr};
 pub use host::Host;
-pub use laws::{a_front_grows, a_write_keeps_the_length};
+pub use kind_counts::{KINDS, KindCounts, place_of};
+pub use laws::{a_front_grows, a_used_host_is_used_on, a_write_keeps_the_length};

@@ -1,5 +1,5 @@
 -- Calls of a host in memory that follow each other.
-use Rattle.std.proofs.Common.{◌≡◌, ℕ, zero, suc, ◌+◌, ◌<◌, ◌≤◌, List, [], ◌∷◌, length, take, get_or, add-one, Result, Ok, Err, OnErr, inl}
+use Rattle.std.proofs.Common.{◌≡◌, ℕ, zero, suc, ◌+◌, ◌<◌, List, [], ◌∷◌, length, take, get_or, add-one, Result, Ok, Err, OnErr, inl}
 use Rattle.std.proofs.Common.{inr, subst, ap, ◌∙◌, arith}
 use Rattle.xc_memhost.specs.declared.calls.HostCall.{HostCall}
 use Rattle.xc_memhost.specs.State.{HostState}

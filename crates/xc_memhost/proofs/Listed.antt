@@ -1,15 +1,15 @@
 -- Fault lines by kind, in order and merged list what they listed.
-use Rattle.std.proofs.Common.{◌≡◌, ℕ, zero, suc, ◌+◌, ◌-◌, ◌<◌, ◌≤◌, max, ◌==◌, leb, ◌&&◌, ◌||◌, Bool, true, false, cond, List, [], ◌∷◌}
-use Rattle.std.proofs.Common.{length, get_or, add-one, refl, ap, sym, ◌∙◌, arith, rules}
+use Rattle.std.proofs.Common.{◌≡◌, ℕ, zero, suc, ◌-◌, ◌<◌, ◌≤◌, max, leb, ◌&&◌, ◌||◌, Bool, true, false, cond, List, [], ◌∷◌}
+use Rattle.std.proofs.Common.{length, get_or, add-one, refl, ap, sym, ◌∙◌, arith}
 use Rattle.std.specs.List.{list_any, filter, AllWithin, AllAdjacentBelow}
 use Rattle.std.specs.List.Sorted.{IsPartitionPoint}
-use Rattle.std.proofs.lemmas.Bool.{eq-eqb, eqb-true, leb-true, leb-false, lt-leb}
+use Rattle.std.proofs.lemmas.Bool.{leb-true, leb-false, lt-leb}
 use Rattle.std.proofs.lemmas.Bool.Decides.{nat_tests}
 use Rattle.std.proofs.lemmas.List.Sorted.{IsNonDecreasingBy-from_all_adjacent}
 use Rattle.xc_data.specs.declared.script.FaultLine.{FaultLine}
 use Rattle.xc_data.specs.declared.script.Kind.{Kind}
-use Rattle.xc_data.specs.declared.script.Kind.TheVariants as kind
-use Rattle.xc_memhost.specs.Kinds.{is_kind, place_of}
+use Rattle.xc_data.specs.Kinds.{place_of}
+use Rattle.xc_host.proofs.Places.{same_place}
 use Rattle.xc_memhost.specs.Faults.{is_within, any_within, is_line_of}
 use Rattle.xc_memhost.specs.Spans.{is_at_place, IsRising, EndsBefore, AreApart}
 
@@ -50,40 +50,6 @@ where_first p q x xs false e = e
 pub any_where : {X : Type 0} (p q : X → Bool) (xs : List X) → list_any q (filter p xs) ≡ list_any (λ x. p x && q x) xs
 any_where p q [] = refl
 any_where p q (x ∷ xs) = where_first p q x xs (p x) (any_where p q xs)
-
--- the kinds by their places
-abbrev kinds : List Kind
-kinds =
-    kind.Lookup ∷ kind.Create ∷ kind.Len ∷ kind.ReadAt ∷ kind.WriteAt ∷ kind.Append ∷ kind.Rename ∷ kind.Unlink ∷ kind.Sync ∷ kind.NewPipe
-    ∷ kind.PipeState ∷ kind.Take ∷ kind.Put ∷ kind.NewPair ∷ kind.PairState ∷ kind.Recv ∷ kind.Send ∷ kind.Shut ∷ kind.Restore ∷ kind.Cut
-    ∷ kind.Uncreate ∷ kind.NameBack ∷ kind.DropPipe ∷ kind.DropPair ∷ kind.Any ∷ []
-
-at_place : (a : Kind) → get_or kinds (place_of a) kind.Any ≡ a
-at_place kind.Any = refl
-at_place _ = refl
-
-exact : (a b : Kind) → is_kind a b ≡ true → a ≡ b
-exact a b e = search (rules)
-
-itself : (a : Kind) → is_kind a a ≡ true
-itself kind.Any = refl
-itself _ = refl
-
-same_place_at : (a b : Kind) (s p : Bool) → is_kind a b ≡ s → (place_of a == place_of b) ≡ p → s ≡ p
-same_place_at a b true p e q = sym (ap (λ x. place_of x == place_of b) (exact a b e) ∙ eq-eqb (place_of b) (place_of b) refl) ∙ q
-same_place_at a b false false e q = refl
-same_place_at a b false true e q =
-    let one : a ≡ b = sym (at_place a) ∙ ap (λ n. get_or kinds n kind.Any) (eqb-true _ _ q) ∙ at_place b in
-    sym e ∙ ap (is_kind a) (sym one) ∙ itself a
-
--- two kinds are one where they have one place
-pub same_place : (a b : Kind) → is_kind a b ≡ (place_of a == place_of b)
-same_place a b = same_place_at a b _ _ refl refl
-
--- a kind's place is one of 25
-pub place_bound : (a : Kind) → place_of a < 25
-place_bound kind.Any = omega arith
-place_bound _ = omega arith
 
 -- the lines at a kind's place list what all lines list for it
 pub of_place : (kind : Kind) (n : ℕ) (lines : List FaultLine)

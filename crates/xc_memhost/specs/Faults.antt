@@ -1,26 +1,18 @@
 -- Which calls fail, and how many bytes one call does.
-use Rattle.std.specs.Prelude.{ℕ, ◌||◌, ◌&&◌, Bool, List, Option, nat_le, min, slice_index, slice_set, if◌then◌else◌}
+use Rattle.std.specs.Prelude.{ℕ, ◌||◌, ◌&&◌, Bool, List, Option, nat_le, min, if◌then◌else◌}
 use Rattle.std.specs.List.{list_any}
 use Rattle.std.specs.declared.option.Option.TheVariants.{None, Some}
 use Rattle.xc_data.specs.declared.script.FaultLine.{FaultLine}
 use Rattle.xc_data.specs.declared.script.Kind.{Kind}
 use Rattle.xc_data.specs.declared.script.Kind.TheVariants.{Any}
 use Rattle.xc_data.specs.Counts.{counted}
-use Rattle.xc_memhost.specs.Kinds.{is_kind, place_of}
+use Rattle.xc_data.specs.Kinds.{is_kind}
+use Rattle.xc_host.specs.Counting.{next_of, with_call}
 use Rattle.xc_memhost.specs.State.{HostState}
-
--- ---- the call that comes next
--- its number among those of its kind, from 1
-abbrev pub next_of : Kind → HostState → ℕ
-next_of kind s = counted (slice_index s.calls (place_of kind))
-
--- its number among all, from 1
-abbrev pub next_of_all : HostState → ℕ
-next_of_all s = counted s.all
 
 -- the state with a call of this kind counted
 abbrev pub called : Kind → HostState → HostState
-called kind s = record s { calls = slice_set s.calls (place_of kind) (next_of kind s); all = next_of_all s }
+called kind s = record s { calls = with_call kind s.calls }
 
 -- ---- a fault
 -- the number is one of a line's
@@ -41,7 +33,7 @@ lists kind n a line = is_line_of kind n line || is_line_of Any a line
 
 -- a line lists the next call, if it is of this kind
 abbrev pub is_listed : Kind → HostState → Bool
-is_listed kind s = list_any (lists kind (next_of kind s) (next_of_all s)) s.lines
+is_listed kind s = list_any (lists kind (next_of kind s.calls) (next_of Any s.calls)) s.lines
 
 -- the state with a call of this kind counted, and its fault
 abbrev pub begun : Kind → HostState → HostState

@@ -1,4 +1,3 @@
-pub mod Kinds
 pub mod State
 pub mod Faults
 pub mod Spans

@@ -4,7 +4,7 @@ use Rattle.std.specs.List.{list_any}
 use Rattle.std.specs.List.Sorted.{IsNonDecreasingBy}
 use Rattle.xc_data.specs.declared.script.FaultLine.{FaultLine}
 use Rattle.xc_data.specs.declared.script.Kind.{Kind}
-use Rattle.xc_memhost.specs.Kinds.{place_of}
+use Rattle.xc_data.specs.Kinds.{place_of}
 use Rattle.xc_memhost.specs.Faults.{any_within, is_line_of}
 
 -- a line's kind has this place

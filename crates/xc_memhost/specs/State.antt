@@ -1,5 +1,5 @@
 -- What a host in memory keeps.
-use Rattle.std.specs.Prelude.{ℕ, true, List, [], Option, replicate, refl}
+use Rattle.std.specs.Prelude.{ℕ, true, List, [], Option, refl}
 use Rattle.std.specs.declared.option.Option.TheVariants.{None}
 use Rattle.std.specs.Coded.{Coded, code_by, coded×, coded_ℕ, coded_list, coded_option}
 use Rattle.std.specs.FinMap as map
@@ -10,30 +10,26 @@ use Rattle.xc_data.specs.contracts.script.FaultLine as fault_line
 use Rattle.xc_maps.specs.Keys.{name_cmp, num_cmp, coded_name, coded_num}
 use Rattle.xc_world.specs.World.{Pipe, Pair, coded_pipe, coded_pair}
 use Rattle.xc_host.specs.Contents.{Contents, nothing, opened}
+use Rattle.xc_host.specs.Counting.{no_calls, calls_of}
 use Rattle.xc_host.specs.Model.{HostModel}
 
 -- the contents, the lines that say which calls fail, the most bytes of one call, how many calls there
--- were of each kind and of all, and how many of them failed
+-- were of each kind, and how many of them failed
 pub record HostState : Type 0 where
   pub contents : Contents
   pub lines : List FaultLine
   pub grain : Option ℕ
   pub calls : List ℕ
-  pub all : ℕ
   pub fault_count : ℕ
-
--- no call of any kind; the place of `Any` stays at 0, since `all` counts them all
-abbrev pub no_calls : List ℕ
-no_calls = replicate 25 0
 
 -- holds nothing, and nothing fails
 abbrev pub empty_state : HostState
-empty_state = record { contents = nothing; lines = []; grain = None; calls = no_calls; all = 0; fault_count = 0 }
+empty_state = record { contents = nothing; lines = []; grain = None; calls = no_calls; fault_count = 0 }
 
 -- opened with a prologue, after so many faults
 abbrev pub opened_state : Prologue → ℕ → HostState
 opened_state prologue n = record
-    { contents = opened prologue.objects; lines = prologue.faults; grain = prologue.grain; calls = no_calls; all = 0; fault_count = n }
+    { contents = opened prologue.objects; lines = prologue.faults; grain = prologue.grain; calls = no_calls; fault_count = n }
 
 -- what contracts see of it
 abbrev pub mem_host_model : HostModel HostState
@@ -42,7 +38,8 @@ mem_host_model = record {
   takes_scripts = true;
   contents = λ s. s.contents;
   fault_count = λ s. s.fault_count;
-  calls = λ s. s.all;
+  calls = λ s. calls_of s.calls;
+  plan = λ s. record { faults = s.lines; grain = s.grain };
 }
 
 -- ---- how a proof stores a state
@@ -65,8 +62,8 @@ coded_line = fault_line.the_row.coded
 abbrev pub coded_state : Coded HostState
 coded_state =
     code_by
-    (Contents × (List FaultLine × (Option ℕ × (List ℕ × (ℕ × ℕ)))))
-    (coded× coded_contents (coded× (coded_list coded_line) (coded× (coded_option coded_ℕ) (coded× coded_name (coded× coded_ℕ coded_ℕ)))))
-    (λ s. (s.contents, (s.lines, (s.grain, (s.calls, (s.all, s.fault_count))))))
-    (λ p. record { contents = p.0; lines = p.1.0; grain = p.1.1.0; calls = p.1.1.1.0; all = p.1.1.1.1.0; fault_count = p.1.1.1.1.1 })
+    (Contents × (List FaultLine × (Option ℕ × (List ℕ × ℕ))))
+    (coded× coded_contents (coded× (coded_list coded_line) (coded× (coded_option coded_ℕ) (coded× coded_name coded_ℕ))))
+    (λ s. (s.contents, (s.lines, (s.grain, (s.calls, s.fault_count)))))
+    (λ p. record { contents = p.0; lines = p.1.0; grain = p.1.1.0; calls = p.1.1.1.0; fault_count = p.1.1.1.1 })
     (λ _. refl)

@@ -1,7 +1,6 @@
 ghost use Rattle.std.specs.Prelude.{◌≡◌, ◌<◌, ◌≤◌, [], IfOk};
 ghost use Rattle.std.specs.List.{list_any};
 ghost use Rattle.xc_data.specs.Limits.{IsGrain};
-ghost use Rattle.xc_memhost.specs.Kinds.{place_of};
 ghost use Rattle.xc_memhost.specs.Faults.{is_line_of, lists, grained};
 ghost use Rattle.xc_memhost.specs.Spans.{IsIndex};
 
@@ -9,17 +8,7 @@ use crate::spans::Spans;
 use std::alloc::Global;
 use std::marker::Model;
 use xc_data::{FaultLine, FaultList, Items, Kind, NoMemory};
-
-// How many kinds there are.
-const KINDS: usize = 25;
-
-// A kind's place in the list of kinds.
-pub(crate) fn place_of(kind: Kind) -> usize
-    ensures value { result ≡ place_of kind }
-    ensures bound { result < 25 }
-{
-    kind as usize
-}
+use xc_host::{KINDS, place_of};
 
 /// The lines of faults, and for each kind the numbers that they list. Whether a call is listed takes
 /// a binary search, whatever the number of lines.

@@ -1,19 +1,21 @@
-ghost use Rattle.std.specs.Prelude.{◌≡◌, ◌≤◌, ◌<◌, ◌+◌, true, length, IfOk, IfSome, OnOk, OnErr, is_some};
+ghost use Rattle.std.specs.Prelude.{◌≡◌, ◌≤◌, ◌<◌, ◌+◌, true, [], ◌∷◌, length, IfOk, IfSome, OnOk, OnErr, is_some};
 ghost use Rattle.std.specs.FinMap as map;
 ghost use Rattle.xc_data.specs.Counts.{CountsFault};
 ghost use Rattle.xc_host.specs.Cause.{IsCalled};
 ghost use Rattle.xc_host.specs.Contents.{file_in, has_file};
+ghost use Rattle.xc_host.specs.Counting.{calls_of};
 ghost use Rattle.xc_memhost.specs.State.{empty_state};
 ghost use Rattle.xc_memhost.specs.Faults.{is_listed, begun};
 ghost use Rattle.xc_memhost.specs.Machine.{written_of, written, lengthened};
 
 mod host;
 
-use crate::faults::{Faults, grained, place_of};
+use crate::faults::{Faults, grained};
 use crate::objects::Objects;
 use std::alloc::Global;
 use std::marker::Model;
 use xc_data::{Kind, Name, NoMemory, Num};
+use xc_host::KindCounts;
 
 /// A host in memory. It tells its contents, and exactly the calls that its prologue lists fail.
 #[derive(Drop)]
@@ -22,8 +24,7 @@ pub struct MemHost {
     objects: Objects,
     lines: Faults,
     grain: Option<u32>,
-    calls: [u64; 25],
-    all: u64,
+    calls: KindCounts,
     faults: u64,
 }
 
@@ -36,7 +37,7 @@ impl Model for MemHost {
     ghost coded = { coded_state };
 
     ghost view = { λ a. record
-        { contents = a.objects; lines = a.lines; grain = a.grain; calls = a.calls; all = a.all; fault_count = a.faults } };
+        { contents = a.objects; lines = a.lines; grain = a.grain; calls = a.calls; fault_count = a.faults } };
 
     ghost invariant = { λ a. IsGrain a.grain };
 }
@@ -51,8 +52,7 @@ impl MemHost {
             objects: Objects::new(alloc),
             lines: Faults::none(alloc),
             grain: None,
-            calls: [0; 25],
-            all: 0,
+            calls: KindCounts::none(),
             faults: 0,
         }
     }
@@ -76,14 +76,13 @@ impl MemHost {
     fn fails(&mut self, kind: Kind) -> bool
         ensures value { result ≡ is_listed kind self.old }
         ensures state { self.new ≡ begun kind self.old }
-        ensures called { IsCalled self.old.all self.new.all }
+        ensures called { IsCalled (kind ∷ []) (calls_of self.old.calls) (calls_of self.new.calls) }
         ensures cause { CountsFault result self.old.fault_count self.new.fault_count }
     {
-        let place = place_of(kind);
-        let number = self.calls[place].saturating_add(1);
-        self.calls[place] = number;
-        self.all = self.all.saturating_add(1);
-        let fails = self.lines.lists(kind, number, self.all);
+        let number = self.calls.next(kind);
+        let all = self.calls.next(Kind::Any);
+        let fails = self.lines.lists(kind, number, all);
+        self.calls.count(kind);
         if fails {
             self.faults = self.faults.saturating_add(1);
         }

@@ -3,10 +3,10 @@ ghost use Rattle.std.specs.List.{list_any, filter};
 ghost use Rattle.xc_memhost.specs.Faults.{any_within};
 ghost use Rattle.xc_memhost.specs.Spans.{is_at_place, IsRising, AreApart};
 
-use crate::faults::place_of;
 use std::alloc::Global;
 use std::marker::Model;
 use xc_data::{FaultLine, NoMemory};
+use xc_host::place_of;
 
 /// Lines of one kind in the order of their numbers. None overlaps another.
 #[derive(Drop)]

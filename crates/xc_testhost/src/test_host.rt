@@ -1,29 +1,37 @@
-ghost use Rattle.std.specs.Prelude.{◌≡◌, ◌<◌, ◌≤◌, ◌^◌, length, IfOk};
+ghost use Rattle.std.specs.Prelude.{◌≡◌, ◌<◌, ◌≤◌, ◌^◌, [], ◌∷◌, length, IfOk};
 ghost use Rattle.xc_data.specs.Counts.{CountsFault};
 ghost use Rattle.xc_host.specs.Cause.{IsCalled};
+ghost use Rattle.xc_host.specs.Counting.{calls_of};
 
 mod host;
 
 use crate::tails::{Tails, put};
 use std::alloc::Global;
-use xc_data::{Name, NoMemory, Num};
+use xc_data::{Kind, Name, NoMemory, Num};
+use xc_host::KindCounts;
 
-/// A call of the host, with its place and the length that it asks for.
+/// A call of the host, with the place and the length that it asks for, each 0 where it asks for none.
 #[derive(Clone, Copy, Debug, PartialEq, Eq)]
-pub enum Asked {
-    Lookup,
-    Create,
-    Len,
-    Read(u32, u32),
-    Write(u32, usize),
-    Append(usize),
-    Rename,
-    Unlink,
-    Sync,
-    Restore(u32, usize),
-    Cut(u32),
-    Uncreate,
-    NameBack,
+pub struct Asked {
+    pub kind: Kind,
+    pub at: u32,
+    pub len: usize,
+}
+
+impl Asked {
+    /// A call that asks for a place and a length.
+    pub fn new(kind: Kind, at: u32, len: usize) -> Asked
+        ensures { result ≡ record { kind = kind; at = at; len = len } }
+    {
+        Asked { kind, at, len }
+    }
+
+    /// A call that asks for neither.
+    pub fn plain(kind: Kind) -> Asked
+        ensures { result ≡ record { kind = kind; at = 0; len = 0 } }
+    {
+        Asked::new(kind, 0, 0)
+    }
 }
 
 /// A host that tells nothing and takes no scripts. The files that it opens with, those of transaction
@@ -46,7 +54,7 @@ pub struct TestHost {
     /// The names of files, in no order.
     pub names: Vec<(Name, Num)>,
     tails: Tails,
-    calls: u64,
+    calls: KindCounts,
     faults: u64,
 }
 
@@ -83,7 +91,7 @@ impl TestHost {
             log: Vec::new(alloc),
             names: opening_names(alloc)?,
             tails: Tails::new(alloc),
-            calls: 0,
+            calls: KindCounts::none(),
             faults: 0,
         })
     }
@@ -134,10 +142,10 @@ impl TestHost {
 
     // Writes down a call, and says whether it fails.
     fn fails(&mut self, call: Asked) -> bool
-        ensures called { IsCalled self.old.calls self.new.calls }
+        ensures called { IsCalled (call.kind ∷ []) (calls_of self.old.calls) (calls_of self.new.calls) }
         ensures cause { CountsFault result self.old.faults self.new.faults }
     {
-        self.calls = self.calls.saturating_add(1);
+        self.calls.count(call.kind);
         let written = self.log.push(call);
         if written.is_ok() && !self.fails.contains(&self.log.len()) {
             return false;

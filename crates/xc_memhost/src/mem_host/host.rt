@@ -1,11 +1,11 @@
 ghost use Rattle.std.specs.Prelude.{◌≡◌, ◌≤◌, ◌<◌, ◌+◌, true, false, length, take, is_some, None, Some};
 ghost use Rattle.std.specs.Prelude.{IfOk, OnOk, OnErr, IsErrOf, is_err};
 ghost use Rattle.std.specs.FinMap as map;
-ghost use Rattle.xc_data.specs.Counts.{CountsFault};
 ghost use Rattle.xc_data.specs.Limits.{IsPrologue};
-ghost use Rattle.xc_host.specs.Cause.{is_fault, IsCalled};
+ghost use Rattle.xc_host.specs.Cause.{is_fault, without_memory};
 ghost use Rattle.xc_host.specs.Contents.{file_in, has_file, wrote, appended, shortened, created, uncreated, renamed, unnamed};
 ghost use Rattle.xc_host.specs.Fronts.{IsFront};
+ghost use Rattle.xc_host.specs.Model.{Answers};
 ghost use Rattle.xc_memhost.specs.State.{opened_state, mem_host_model};
 ghost use Rattle.xc_memhost.specs.Faults.{is_listed, begun};
 ghost use Rattle.xc_memhost.specs.Machine.{front_of, written_of, written, lengthened};
@@ -14,7 +14,7 @@ use super::MemHost;
 use crate::faults::{Faults, grained};
 use crate::objects::Objects;
 use xc_data::{Chunk, Kind, Name, Num, Prologue};
-use xc_host::{Fault, Host, HostErr, OpenErr};
+use xc_host::{Fault, Host, HostErr, KindCounts, OpenErr};
 
 impl Host for MemHost {
     ghost model = { mem_host_model };
@@ -35,15 +35,13 @@ impl Host for MemHost {
         self.objects = objects;
         self.lines = lines;
         self.grain = prologue.grain;
-        self.calls = [0; 25];
-        self.all = 0;
+        self.calls = KindCounts::none();
         Ok(())
     }
 
     fn lookup(&mut self, name: &Name) -> Result<Option<Num>, HostErr>
         ensures value { IfOk result (λ found. found ≡ map.get self.old.contents.names name.now) }
-        ensures called { IsCalled self.old.all self.new.all }
-        ensures cause { CountsFault (is_fault result) self.old.fault_count self.new.fault_count }
+        ensures answered { Answers mem_host_model Kind.Lookup (record { old = self.old; new = self.new }) result (λ found c. c) }
 
         // Exactly the listed calls fail, and none wants memory.
         ensures fault { is_fault result ≡ is_listed Kind.Lookup self.old }
@@ -60,8 +58,8 @@ impl Host for MemHost {
     fn create(&mut self, name: &Name, num: Num) -> Result<(), HostErr>
         requires absent { map.get self.old.contents.names name.now ≡ None }
         requires new { has_file self.old.contents num ≡ false }
-        ensures called { IsCalled self.old.all self.new.all }
-        ensures cause { CountsFault (is_fault result) self.old.fault_count self.new.fault_count }
+        ensures answered { Answers mem_host_model Kind.Create (record { old = self.old; new = self.new }) result
+            (λ _ c. created c name.now num) }
 
         // Exactly the listed calls fail. Without memory a call was counted, and nothing else.
         ensures fault { is_fault result ≡ is_listed Kind.Create self.old }
@@ -78,8 +76,8 @@ impl Host for MemHost {
     fn len(&mut self, file: Num) -> Result<u32, Fault>
         requires there { has_file self.old.contents file ≡ true }
         ensures value { IfOk result (λ n. n ≡ length (file_in self.old.contents file)) }
-        ensures called { IsCalled self.old.all self.new.all }
-        ensures cause { CountsFault (is_err result) self.old.fault_count self.new.fault_count }
+        ensures answered { Answers mem_host_model Kind.Len (record { old = self.old; new = self.new }) (without_memory result)
+            (λ n c. c) }
 
         // Exactly the listed calls fail.
         ensures fault { is_err result ≡ is_listed Kind.Len self.old }
@@ -95,8 +93,7 @@ impl Host for MemHost {
         requires there { has_file self.old.contents file ≡ true }
         ensures bound { IfOk result (λ front. length front ≤ n) }
         ensures value { IfOk result (λ front. IsFront (file_in self.old.contents file) at n front) }
-        ensures called { IsCalled self.old.all self.new.all }
-        ensures cause { CountsFault (is_fault result) self.old.fault_count self.new.fault_count }
+        ensures answered { Answers mem_host_model Kind.ReadAt (record { old = self.old; new = self.new }) result (λ front c. c) }
 
         // Exactly the listed calls fail, and a read gives exactly so many bytes.
         ensures fault { is_fault result ≡ is_listed Kind.ReadAt self.old }
@@ -115,14 +112,14 @@ impl Host for MemHost {
         requires inside { at + length bytes.now ≤ length (file_in self.old.contents file) }
         requires some { 0 < length bytes.now }
         ensures bound { IfOk result (λ n. (0 < n) × (n ≤ length bytes.now)) }
-        ensures ok { IfOk result (λ n. self.new.contents ≡ wrote self.old.contents file at (take n bytes.now)) }
-        ensures called { IsCalled self.old.all self.new.all }
-        ensures cause { CountsFault (is_err result) self.old.fault_count self.new.fault_count }
+        ensures answered { Answers mem_host_model Kind.WriteAt (record { old = self.old; new = self.new }) (without_memory result)
+            (λ n c. wrote c file at (take n bytes.now)) }
 
         // Exactly the listed calls fail, and a write does exactly so many bytes.
         ensures fault { is_err result ≡ is_listed Kind.WriteAt self.old }
         ensures size { IfOk result (λ n. n ≡ written_of self.old bytes.now) }
-        ensures state { OnOk result (self.new ≡ record (begun Kind.WriteAt self.old) { contents = written self.old file at bytes.now }) }
+        ensures state { OnOk result
+            (self.new ≡ record (begun Kind.WriteAt self.old) { contents = written self.old file at bytes.now }) }
         ensures failed { OnErr result (self.new ≡ begun Kind.WriteAt self.old) }
     {
         if self.fails(Kind::WriteAt) {
@@ -136,15 +133,15 @@ impl Host for MemHost {
         requires fits { length (file_in self.old.contents file) + length bytes.now ≤ 65536 }
         requires some { 0 < length bytes.now }
         ensures bound { IfOk result (λ n. (0 < n) × (n ≤ length bytes.now)) }
-        ensures ok { IfOk result (λ n. self.new.contents ≡ appended self.old.contents file (take n bytes.now)) }
-        ensures called { IsCalled self.old.all self.new.all }
-        ensures cause { CountsFault (is_fault result) self.old.fault_count self.new.fault_count }
+        ensures answered { Answers mem_host_model Kind.Append (record { old = self.old; new = self.new }) result
+            (λ n c. appended c file (take n bytes.now)) }
 
         // Exactly the listed calls fail, and one does exactly so many bytes. Without memory a call was
         // counted, and nothing else.
         ensures fault { is_fault result ≡ is_listed Kind.Append self.old }
         ensures size { IfOk result (λ n. n ≡ written_of self.old bytes.now) }
-        ensures state { OnOk result (self.new ≡ record (begun Kind.Append self.old) { contents = lengthened self.old file bytes.now }) }
+        ensures state { OnOk result
+            (self.new ≡ record (begun Kind.Append self.old) { contents = lengthened self.old file bytes.now }) }
         ensures failed { OnErr result (self.new ≡ begun Kind.Append self.old) }
     {
         if self.fails(Kind::Append) {
@@ -156,8 +153,8 @@ impl Host for MemHost {
     fn rename(&mut self, from: &Name, to: &Name) -> Result<(), Fault>
         requires there { is_some (map.get self.old.contents.names from.now) ≡ true }
         requires absent { map.get self.old.contents.names to.now ≡ None }
-        ensures called { IsCalled self.old.all self.new.all }
-        ensures cause { CountsFault (is_err result) self.old.fault_count self.new.fault_count }
+        ensures answered { Answers mem_host_model Kind.Rename (record { old = self.old; new = self.new }) (without_memory result)
+            (λ _ c. renamed c from.now to.now) }
 
         // Exactly the listed calls fail.
         ensures fault { is_err result ≡ is_listed Kind.Rename self.old }
@@ -174,12 +171,13 @@ impl Host for MemHost {
 
     fn unlink(&mut self, name: &Name) -> Result<(), Fault>
         requires there { is_some (map.get self.old.contents.names name.now) ≡ true }
-        ensures called { IsCalled self.old.all self.new.all }
-        ensures cause { CountsFault (is_err result) self.old.fault_count self.new.fault_count }
+        ensures answered { Answers mem_host_model Kind.Unlink (record { old = self.old; new = self.new }) (without_memory result)
+            (λ _ c. unnamed c name.now) }
 
         // Exactly the listed calls fail.
         ensures fault { is_err result ≡ is_listed Kind.Unlink self.old }
-        ensures state { OnOk result (self.new ≡ record (begun Kind.Unlink self.old) { contents = unnamed self.old.contents name.now }) }
+        ensures state { OnOk result
+            (self.new ≡ record (begun Kind.Unlink self.old) { contents = unnamed self.old.contents name.now }) }
         ensures failed { OnErr result (self.new ≡ begun Kind.Unlink self.old) }
     {
         if self.fails(Kind::Unlink) {
@@ -191,8 +189,8 @@ impl Host for MemHost {
 
     fn sync(&mut self, file: Num) -> Result<(), Fault>
         requires there { has_file self.old.contents file ≡ true }
-        ensures called { IsCalled self.old.all self.new.all }
-        ensures cause { CountsFault (is_err result) self.old.fault_count self.new.fault_count }
+        ensures answered { Answers mem_host_model Kind.Sync (record { old = self.old; new = self.new }) (without_memory result)
+            (λ _ c. c) }
 
         // Exactly the listed calls fail, and none changes more than the counts.
         ensures fault { is_err result ≡ is_listed Kind.Sync self.old }
@@ -209,14 +207,14 @@ impl Host for MemHost {
         requires inside { at + length bytes.now ≤ length (file_in self.old.contents file) }
         requires some { 0 < length bytes.now }
         ensures bound { IfOk result (λ n. (0 < n) × (n ≤ length bytes.now)) }
-        ensures ok { IfOk result (λ n. self.new.contents ≡ wrote self.old.contents file at (take n bytes.now)) }
-        ensures called { IsCalled self.old.all self.new.all }
-        ensures cause { CountsFault (is_err result) self.old.fault_count self.new.fault_count }
+        ensures answered { Answers mem_host_model Kind.Restore (record { old = self.old; new = self.new }) (without_memory result)
+            (λ n c. wrote c file at (take n bytes.now)) }
 
         // As a write.
         ensures fault { is_err result ≡ is_listed Kind.Restore self.old }
         ensures size { IfOk result (λ n. n ≡ written_of self.old bytes.now) }
-        ensures state { OnOk result (self.new ≡ record (begun Kind.Restore self.old) { contents = written self.old file at bytes.now }) }
+        ensures state { OnOk result
+            (self.new ≡ record (begun Kind.Restore self.old) { contents = written self.old file at bytes.now }) }
         ensures failed { OnErr result (self.new ≡ begun Kind.Restore self.old) }
     {
         if self.fails(Kind::Restore) {
@@ -228,12 +226,13 @@ impl Host for MemHost {
     fn cut(&mut self, file: Num, len: u32) -> Result<(), Fault>
         requires there { has_file self.old.contents file ≡ true }
         requires within { len ≤ length (file_in self.old.contents file) }
-        ensures called { IsCalled self.old.all self.new.all }
-        ensures cause { CountsFault (is_err result) self.old.fault_count self.new.fault_count }
+        ensures answered { Answers mem_host_model Kind.Cut (record { old = self.old; new = self.new }) (without_memory result)
+            (λ _ c. shortened c file len) }
 
         // Exactly the listed calls fail.
         ensures fault { is_err result ≡ is_listed Kind.Cut self.old }
-        ensures state { OnOk result (self.new ≡ record (begun Kind.Cut self.old) { contents = shortened self.old.contents file len }) }
+        ensures state { OnOk result
+            (self.new ≡ record (begun Kind.Cut self.old) { contents = shortened self.old.contents file len }) }
         ensures failed { OnErr result (self.new ≡ begun Kind.Cut self.old) }
     {
         if self.fails(Kind::Cut) {
@@ -246,8 +245,8 @@ impl Host for MemHost {
     fn uncreate(&mut self, name: &Name, num: Num) -> Result<(), Fault>
         requires named { map.get self.old.contents.names name.now ≡ Some num }
         requires there { has_file self.old.contents num ≡ true }
-        ensures called { IsCalled self.old.all self.new.all }
-        ensures cause { CountsFault (is_err result) self.old.fault_count self.new.fault_count }
+        ensures answered { Answers mem_host_model Kind.Uncreate (record { old = self.old; new = self.new }) (without_memory result)
+            (λ _ c. uncreated c name.now num) }
 
         // Exactly the listed calls fail.
         ensures fault { is_err result ≡ is_listed Kind.Uncreate self.old }
@@ -265,8 +264,8 @@ impl Host for MemHost {
     fn name_back(&mut self, from: &Name, to: &Name) -> Result<(), Fault>
         requires there { is_some (map.get self.old.contents.names to.now) ≡ true }
         requires absent { map.get self.old.contents.names from.now ≡ None }
-        ensures called { IsCalled self.old.all self.new.all }
-        ensures cause { CountsFault (is_err result) self.old.fault_count self.new.fault_count }
+        ensures answered { Answers mem_host_model Kind.NameBack (record { old = self.old; new = self.new }) (without_memory result)
+            (λ _ c. renamed c to.now from.now) }
 
         // As a renaming.
         ensures fault { is_err result ≡ is_listed Kind.NameBack self.old }

@@ -1,13 +1,20 @@
-ghost use Rattle.std.specs.Prelude.{false};
+ghost use Rattle.std.specs.Prelude.{false, [], None};
 ghost use Rattle.xc_host.specs.Contents.{nothing};
+ghost use Rattle.xc_host.specs.Counting.{calls_of};
 
 use super::{Asked, TestHost};
-use xc_data::{Chunk, Name, Num, Prologue};
-use xc_host::{Fault, Host, HostErr, OpenErr};
+use xc_data::{Chunk, Kind, Name, Num, Prologue};
+use xc_host::{Fault, Host, HostErr, KindCounts, OpenErr};
 
 impl Host for TestHost {
-    ghost model = { record
-        { tells = false; takes_scripts = false; contents = λ _. nothing; fault_count = λ s. s.faults; calls = λ s. s.calls } };
+    ghost model = { record {
+      tells = false;
+      takes_scripts = false;
+      contents = λ _. nothing;
+      fault_count = λ s. s.faults;
+      calls = λ s. calls_of s.calls;
+      plan = λ _. record { faults = []; grain = None };
+    } };
 
     fn faults(&self) -> u64 {
         self.faults
@@ -17,11 +24,12 @@ impl Host for TestHost {
         if !prologue.objects.is_empty() || !prologue.faults.is_empty() || prologue.grain.is_some() {
             return Err(OpenErr::NotScripted);
         }
+        self.calls = KindCounts::none();
         Ok(())
     }
 
     fn lookup(&mut self, name: &Name) -> Result<Option<Num>, HostErr> {
-        if self.fails(Asked::Lookup) {
+        if self.fails(Asked::plain(Kind::Lookup)) {
             return Err(HostErr::Fault);
         }
         if self.starves {
@@ -31,14 +39,14 @@ impl Host for TestHost {
     }
 
     fn create(&mut self, name: &Name, num: Num) -> Result<(), HostErr> {
-        if self.fails(Asked::Create) {
+        if self.fails(Asked::plain(Kind::Create)) {
             return Err(HostErr::Fault);
         }
         Ok(self.names.push((*name, num))?)
     }
 
     fn len(&mut self, file: Num) -> Result<u32, Fault> {
-        if self.fails(Asked::Len) {
+        if self.fails(Asked::plain(Kind::Len)) {
             return Err(Fault);
         }
         let len = self.opened(file) as usize + self.tail(file).len();
@@ -46,7 +54,7 @@ impl Host for TestHost {
     }
 
     fn read_at(&mut self, file: Num, at: u32, n: u32) -> Result<Chunk, HostErr> {
-        if self.fails(Asked::Read(at, n)) {
+        if self.fails(Asked::new(Kind::ReadAt, at, n as usize)) {
             return Err(HostErr::Fault);
         }
         let n = n.min(self.grain) as usize;
@@ -54,14 +62,14 @@ impl Host for TestHost {
     }
 
     fn write_at(&mut self, file: Num, at: u32, bytes: &[u8]) -> Result<u32, Fault> {
-        if self.fails(Asked::Write(at, bytes.len())) {
+        if self.fails(Asked::new(Kind::WriteAt, at, bytes.len())) {
             return Err(Fault);
         }
         Ok(self.write(file, at, bytes))
     }
 
     fn append(&mut self, file: Num, bytes: &[u8]) -> Result<u32, HostErr> {
-        if self.fails(Asked::Append(bytes.len())) {
+        if self.fails(Asked::new(Kind::Append, 0, bytes.len())) {
             return Err(HostErr::Fault);
         }
         let n = self.grained(bytes);
@@ -70,7 +78,7 @@ impl Host for TestHost {
     }
 
     fn rename(&mut self, from: &Name, to: &Name) -> Result<(), Fault> {
-        if self.fails(Asked::Rename) {
+        if self.fails(Asked::plain(Kind::Rename)) {
             return Err(Fault);
         }
         self.change_name(from, to);
@@ -78,7 +86,7 @@ impl Host for TestHost {
     }
 
     fn unlink(&mut self, name: &Name) -> Result<(), Fault> {
-        if self.fails(Asked::Unlink) {
+        if self.fails(Asked::plain(Kind::Unlink)) {
             return Err(Fault);
         }
         self.names.retain(|entry| entry.0 != *name);
@@ -86,21 +94,21 @@ impl Host for TestHost {
     }
 
     fn sync(&mut self, _file: Num) -> Result<(), Fault> {
-        if self.fails(Asked::Sync) {
+        if self.fails(Asked::plain(Kind::Sync)) {
             return Err(Fault);
         }
         Ok(())
     }
 
     fn restore(&mut self, file: Num, at: u32, bytes: &[u8]) -> Result<u32, Fault> {
-        if self.fails(Asked::Restore(at, bytes.len())) {
+        if self.fails(Asked::new(Kind::Restore, at, bytes.len())) {
             return Err(Fault);
         }
         Ok(self.write(file, at, bytes))
     }
 
     fn cut(&mut self, file: Num, len: u32) -> Result<(), Fault> {
-        if self.fails(Asked::Cut(len)) {
+        if self.fails(Asked::new(Kind::Cut, len, 0)) {
             return Err(Fault);
         }
         let opened = self.opened(file);
@@ -109,7 +117,7 @@ impl Host for TestHost {
     }
 
     fn uncreate(&mut self, name: &Name, num: Num) -> Result<(), Fault> {
-        if self.fails(Asked::Uncreate) {
+        if self.fails(Asked::plain(Kind::Uncreate)) {
             return Err(Fault);
         }
         self.names.retain(|entry| entry.0 != *name);
@@ -118,7 +126,7 @@ impl Host for TestHost {
     }
 
     fn name_back(&mut self, from: &Name, to: &Name) -> Result<(), Fault> {
-        if self.fails(Asked::NameBack) {
+        if self.fails(Asked::plain(Kind::NameBack)) {
             return Err(Fault);
         }
         self.change_name(to, from);

@@ -1,6 +1,5 @@
-use Rattle.std.proofs.Common.{◌≡◌, List, ◌∷◌, sym, ap, ◌∙◌, subst, arith}
+use Rattle.std.proofs.Common.{◌≡◌, ◌∷◌, sym, ap, ◌∙◌, subst, arith}
 use Rattle.std.proofs.lemmas.Grind.{common_steps}
-use Rattle.xc_data.specs.declared.script.FaultLine.{FaultLine}
 use Rattle.xc_memhost.specs.Faults.{any_within}
 use Rattle.xc_memhost.specs.Spans.{IsRising, AreApart}
 use Rattle.xc_memhost.proofs.Listed.{merge, merge-any, merge-apart, Rises-from_rising}

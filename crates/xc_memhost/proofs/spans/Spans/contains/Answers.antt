@@ -1,4 +1,4 @@
-use Rattle.std.proofs.Common.{leb, ◌-◌, get_or, sym, ap, ◌∙◌, subst, arith, rules}
+use Rattle.std.proofs.Common.{leb, ◌-◌, get_or, sym, ap, ◌∙◌, subst, rules}
 use Rattle.std.proofs.lemmas.Bool.{le-ltb}
 use Rattle.std.proofs.lemmas.List.Sorted.{IsPartitionPoint-from_clause, IsPartitionedBy-leb}
 use Rattle.xc_memhost.specs.Spans.{AreApart}

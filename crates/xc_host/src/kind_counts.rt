@@ -1,0 +1,60 @@
+ghost use Rattle.std.specs.Prelude.{◌≡◌, ◌<◌, [], ◌∷◌};
+ghost use Rattle.xc_data.specs.Kinds.{place_of};
+ghost use Rattle.xc_host.specs.Cause.{IsCalled};
+ghost use Rattle.xc_host.specs.Counting.{no_calls, calls_of, next_of, with_call};
+
+use std::marker::Model;
+use xc_data::Kind;
+
+/// How many kinds of calls there are.
+pub const KINDS: usize = 25;
+
+/// A kind's place in the list of kinds.
+pub fn place_of(kind: Kind) -> usize
+    ensures value { result ≡ place_of kind }
+    ensures bound { result < 25 }
+{
+    kind as usize
+}
+
+/// How many calls of each kind there were; `Any` counts them all.
+#[derive(Drop)]
+pub struct KindCounts {
+    // By the place of the kind.
+    counts: [u64; 25],
+}
+
+impl Model for KindCounts {
+    ghost use Rattle.std.specs.Prelude.{ℕ, List};
+
+    ghost Value = { List ℕ };
+
+    ghost view = { λ a. a.counts };
+}
+
+impl KindCounts {
+    /// None of any kind.
+    pub fn none() -> KindCounts
+        ensures { result ≡ no_calls }
+    {
+        KindCounts { counts: [0; 25] }
+    }
+
+    /// The number of the next call of this kind, from 1.
+    pub fn next(&self, kind: Kind) -> u64
+        ensures { result ≡ next_of kind self.now }
+    {
+        self.counts[place_of(kind)].saturating_add(1)
+    }
+
+    /// One call of this kind more.
+    pub fn count(&mut self, kind: Kind)
+        ensures state { self.new ≡ with_call kind self.old }
+        ensures called { IsCalled (kind ∷ []) (calls_of self.old) (calls_of self.new) }
+    {
+        let number = self.next(kind);
+        let all = self.next(Kind::Any);
+        self.counts[place_of(kind)] = number;
+        self.counts[place_of(Kind::Any)] = all;
+    }
+}
