@@ -1,5 +1,7 @@
 -- The private checks of a call: what refuses it before anything is touched.
-use Rattle.std.specs.Prelude.{ℕ, ◌+◌, ◌||◌, Bool, true, false, not, is_none, List, [], length, count_by, nat_lt, nat_le, if◌then◌else◌}
+use Rattle.std.specs.Prelude.{◌≡◌, ℕ, ◌+◌, ◌||◌, Bool, true, false, not, is_none, List, [], length, count_by, nat_lt}
+use Rattle.std.specs.Prelude.{nat_le, Option, if◌then◌else◌}
+use Rattle.std.specs.declared.option.Option.TheVariants.{None, Some}
 use Rattle.xc_data.specs.declared.call.Call.{Call}
 use Rattle.xc_data.specs.declared.call.Call.TheVariants.{Load, Store, XOpen, XCreate, XRead, XWriteOvr, XWriteSeq, XSeek, XLen, XClose}
 use Rattle.xc_data.specs.declared.call.Call.TheVariants.{XPipe, XReadPipe, XPair, XRecvmsg, XSync, XWritePipe, XShutdown, XSendmsg}
@@ -96,3 +98,24 @@ refusal call me =
     else if is_too_big call then reply.TooBig
     else if is_too_much call me then reply.TooMuch
     else reply.BadWord
+
+-- the reply of the first check that refuses a call, but for that of words
+abbrev pub refusal_of : Call → Private → Option Reply
+refusal_of call me =
+    if is_bad_handle call me then Some reply.BadHandle
+    else if is_too_big call then Some reply.TooBig
+    else if is_too_much call me then Some reply.TooMuch
+    else None
+
+-- replies that only these checks give; an append is too big also where the file has no room for it
+abbrev pub is_check_reply : Call → Reply → Bool
+is_check_reply (XWriteSeq h bytes) reply.TooBig = false
+is_check_reply call reply.BadHandle = true
+is_check_reply call reply.TooBig = true
+is_check_reply call reply.TooMuch = true
+is_check_reply call _ = false
+
+-- refused exactly where one of them refuses the call, with its reply
+abbrev pub IsChecked : Option Reply → Call → Reply → Type 0
+IsChecked None call r = is_check_reply call r ≡ false
+IsChecked (Some refused) call r = r ≡ refused

@@ -2,6 +2,7 @@ pub mod World
 pub mod Sound
 pub mod Checks
 pub mod Act
+pub mod After
 pub mod Late
 pub mod Fits
 pub mod Touch
