@@ -1,10 +1,16 @@
 -- The first newer record in the way of an older one.
-use Rattle.std.proofs.Common.{◌≡◌, ℕ, ◌+◌, Bool, true, false, cond, Option, Some, List, [], ◌∷◌, ap, refl, sym, ◌∙◌, arith}
-use Rattle.std.specs.List.{position, position_from}
+use Rattle.std.proofs.Common.{◌≡◌, ℕ, ◌+◌, Bool, true, false, cond, Option, None, Some, List, reverse, [], ◌∷◌, ap, refl, sym, ◌∙◌, arith}
+use Rattle.std.specs.Prelude.{not}
+use Rattle.std.specs.List.{list_any, position, position_from}
+use Rattle.std.proofs.lemmas.Bool.{or_parts}
+use Rattle.std.proofs.lemmas.List.Sorted.{IsPermutation-reverse, list_any-IsPermutation}
 use Rattle.std.specs.Option.{option_map}
 use Rattle.std.proofs.lemmas.Iterator.Adapters.{position_from-zero}
 use Rattle.xc_data.specs.declared.undo.Undo.{Undo}
-use Rattle.xc_world.specs.Ends.{Ending, blocks, blocker}
+use Rattle.xc_data.specs.declared.undo.UndoEnd.{UndoEnd}
+use Rattle.xc_data.specs.declared.undo.UndoEnd.TheVariants.{Undone, Failed, Blocked}
+use Rattle.xc_world.specs.Ends.{Ending, blocks, blocker, is_undone}
+use Rattle.xc_compensate.specs.Hindered.{hinders}
 
 -- numbers from another start
 shifted_by : (b : Bool) (from i : ℕ) (o : Option ℕ) → cond b (Some (from + i)) (option_map (λ k. from + k) o) ≡ option_map (λ k. from + k) (cond b (Some i) o)
@@ -23,3 +29,20 @@ pub blocker_is : (from : ℕ) (u : Undo) (rs : List Ending) (o : Option ℕ) →
 blocker_is from u rs o e =
     let start : from + 0 ≡ from = omega arith in
     ap (option_map (λ k. from + k)) (e ∙ position_from-zero (blocks u) rs) ∙ (sym (shifted from 0 u rs) ∙ ap (λ n. blocker n u rs) start)
+
+blocks_none : (u : Undo) (newer : Undo) (end : UndoEnd) → not (is_undone end) ≡ false → blocks u (newer, end) ≡ false
+blocks_none u newer (Undone faults) none = refl
+blocks_none u newer (Failed done faults) none = cc none
+blocks_none u newer (Blocked by) none = cc none
+
+blocker_none : (from : ℕ) (u : Undo) (rs : List Ending) → list_any hinders rs ≡ false → blocker from u rs ≡ None
+blocker_none from u [] none = refl
+blocker_none from u ((newer, end) ∷ rs) none =
+    let both = or_parts (not (is_undone end)) (list_any hinders rs) none in
+    ap (λ b. cond b (Some from) (blocker (from + 1) u rs)) (blocks_none u newer end both.0) ∙ blocker_none (from + 1) u rs both.1
+
+-- where none failed or was blocked, nothing stands in the way
+pub unhindered : (from : ℕ) (u : Undo) (newest_first : List Ending) → list_any hinders newest_first ≡ false
+    → blocker from u [] ≡ blocker from u (reverse newest_first)
+unhindered from u newest_first none = sym (blocker_none from u (reverse newest_first)
+    (sym (list_any-IsPermutation hinders newest_first (reverse newest_first) (IsPermutation-reverse newest_first)) ∙ none))

@@ -1,3 +1,4 @@
 pub mod Trimming
 pub mod Blocking
 pub mod Trying
+pub mod Calling

@@ -1,15 +1,15 @@
 -- The newest record that has no end yet is tried.
-use Rattle.std.proofs.Common.{◌≡◌, ◌≢◌, ℕ, ◌+◌, true, IsTrue, None, List, [], ◌∷◌, ◌++◌, length, reverse, ap, sym, ◌∙◌, subst}
+use Rattle.std.proofs.Common.{◌≡◌, ◌≢◌, ℕ, ◌+◌, IsTrue, None, List, [], ◌∷◌, ◌++◌, length, reverse, ap, sym, ◌∙◌, subst}
 use Rattle.std.proofs.lemmas.List.{reverse-append}
-use Rattle.xc_data.specs.Counts.{CountsFaults}
+use Rattle.xc_data.specs.Counts.{RisesBy}
 use Rattle.xc_data.specs.Faults.{end_faults}
 use Rattle.xc_data.specs.declared.undo.Undo.{Undo}
 use Rattle.xc_data.specs.declared.undo.UndoEnd.{UndoEnd}
-use Rattle.xc_world.specs.Ends.{Ending, is_undone, blocker, IsLegalEnd}
+use Rattle.xc_world.specs.Ends.{Ending, blocker, IsLegalEnd}
 use Rattle.xc_world.specs.Effects.{undone_to, IsCovered}
-use Rattle.xc_host.specs.Cause.{IsCalled}
 use Rattle.xc_host.specs.Contents.{Contents, contents_of, world_of}
 use Rattle.xc_host.specs.Model.{HostModel}
+use Rattle.xc_host.specs.Uses.{Uses, BacksFor}
 use Rattle.xc_compensate.specs.Records.{Records, IsTried, NextIsCovered, way_of}
 use Rattle.xc_compensate.specs.Turns.{turn_of}
 use Rattle.xc_compensate.specs.declared.stack.UndoTurn.{UndoTurn}
@@ -20,17 +20,19 @@ shown pending newest_first = record { pending = pending; ended = reverse newest_
 
 -- what stands in its way, in the words of the stack before
 same_way : (old : Records) (pending rest : List Undo) (ended : List Ending) (u : Undo) (count : ℕ) (newer : List Ending)
-    → shown pending ended ≡ old → pending ≡ rest ++ u ∷ [] → count ≡ length rest → newer ≡ ended
+    → shown pending ended ≡ old → pending ≡ rest ++ u ∷ [] → count ≡ length rest
+    → ((from : ℕ) → blocker from u (reverse newer) ≡ blocker from u (reverse ended))
     → blocker (count + 1 + 1) u (reverse newer) ≡ None → way_of rest u old ≡ None
 same_way old pending rest ended u count newer view split size there free =
     ap (λ r. blocker (length rest + 1 + 1) u r.ended) (sym view)
-    ∙ ap (λ rs. blocker (length rest + 1 + 1) u (reverse rs)) (sym there)
+    ∙ sym (there (length rest + 1 + 1))
     ∙ ap (λ n. blocker (n + 1 + 1) u (reverse newer)) (sym size)
     ∙ free
 
 -- what the caller knows of the newest record, in the words of the stack
 pub covered_now : (c : Contents) (old : Records) (pending rest : List Undo) (ended : List Ending) (u : Undo) (count : ℕ) (newer : List Ending)
-    → shown pending ended ≡ old → pending ≡ rest ++ u ∷ [] → count ≡ length rest → newer ≡ ended
+    → shown pending ended ≡ old → pending ≡ rest ++ u ∷ [] → count ≡ length rest
+    → ((from : ℕ) → blocker from u (reverse newer) ≡ blocker from u (reverse ended))
     → NextIsCovered c old → blocker (count + 1 + 1) u (reverse newer) ≡ None → IsCovered (world_of c) u
 covered_now c old pending rest ended u count newer view split size there covered free =
     covered rest u (ap (λ r. r.pending) (sym view) ∙ split) (same_way old pending rest ended u count newer view split size there free)
@@ -38,14 +40,15 @@ covered_now c old pending rest ended u count newer view split size there covered
 -- the tried record, in the words of the stack before
 pub tried_now : {H : Type 0} (model : HostModel H) (tries : ℕ) (old : Records) (pending rest : List Undo) (ended field : List Ending) (host next : H)
     (u : Undo) (end : UndoEnd) (turn : UndoTurn) (count : ℕ) (newer : List Ending)
-    → shown pending ended ≡ old → pending ≡ rest ++ u ∷ [] → field ≡ ended ++ (u, end) ∷ [] → count ≡ length rest → newer ≡ ended
-    → IsLegalEnd tries u end (blocker (count + 1 + 1) u (reverse newer)) → CountsFaults (end_faults end) (model.fault_count host) (model.fault_count next)
+    → shown pending ended ≡ old → pending ≡ rest ++ u ∷ [] → field ≡ ended ++ (u, end) ∷ [] → count ≡ length rest
+    → ((from : ℕ) → blocker from u (reverse newer) ≡ blocker from u (reverse ended))
+    → IsLegalEnd tries u end (blocker (count + 1 + 1) u (reverse newer)) → RisesBy (end_faults end) (model.fault_count host) (model.fault_count next)
     → (IsTrue model.tells → model.contents next ≡ contents_of (undone_to (world_of (model.contents host)) u end))
-    → (is_undone end ≡ true → IsCalled (model.calls host) (model.calls next))
+    → Uses model (record { old = host; new = next }) (BacksFor u end)
     → (blocker (count + 1 + 1) u (reverse newer) ≢ None → next ≡ host)
     → turn ≡ turn_of end
     → (t : IsTried model tries (record { host = host; undo = old }) (record { host = next; undo = shown rest field })) × (turn ≡ turn_of t.end)
-tried_now model tries old pending rest ended field host next u end turn count newer view split grown size there legal faults effect called still answer =
+tried_now model tries old pending rest ended field host next u end turn count newer view split grown size there legal faults effect uses still answer =
     let sized = subst (λ n. IsLegalEnd tries u end (blocker (n + 1 + 1) u (reverse newer))) size legal in
     let at_end : reverse field ≡ (u, end) ∷ reverse ended = ap reverse grown ∙ reverse-append ended ((u, end) ∷ []) in (
       record {
@@ -55,10 +58,10 @@ tried_now model tries old pending rest ended field host next u end turn count ne
         was = ap (λ r. r.pending) (sym view) ∙ split;
         stack = ap (λ (e : List Ending). let r : Records = record { pending = rest; ended = e } in r) (at_end ∙ ap (λ r. (u, end) ∷ r.ended) view);
         legal = subst (λ r. IsLegalEnd tries u end (blocker (length rest + 1 + 1) u r.ended)) view
-            (subst (λ rs. IsLegalEnd tries u end (blocker (length rest + 1 + 1) u (reverse rs))) there sized);
+            (subst (IsLegalEnd tries u end) (there (length rest + 1 + 1)) sized);
         faults = faults;
         still = λ way. still (λ none. way (same_way old pending rest ended u count newer view split size there none));
-        called = called;
+        uses = uses;
         effect = effect;
       },
       answer,

@@ -1,3 +1,4 @@
+pub mod Hindered
 pub mod Records
 pub mod Restoring
 pub mod Turns

@@ -3,16 +3,16 @@ use Rattle.std.specs.Prelude.{◌≡◌, ◌≢◌, ℕ, ◌+◌, ◌≤◌, ◌
 use Rattle.std.specs.Prelude.{List, [], ◌∷◌, ◌++◌, length, if◌then◌else◌}
 use Rattle.std.specs.List.{All}
 use Rattle.std.specs.declared.option.Option.TheVariants.{None}
-use Rattle.xc_data.specs.Counts.{CountsFaults}
+use Rattle.xc_data.specs.Counts.{RisesBy}
 use Rattle.xc_data.specs.Faults.{end_faults}
 use Rattle.xc_data.specs.declared.undo.Undo.{Undo}
 use Rattle.xc_data.specs.declared.undo.Undo.TheVariants.{Bytes, Tail, Made, Moved}
 use Rattle.xc_data.specs.declared.undo.UndoEnd.{UndoEnd}
-use Rattle.xc_world.specs.Ends.{Ending, is_undone, blocker, IsLegalEnd}
+use Rattle.xc_world.specs.Ends.{Ending, blocker, IsLegalEnd}
 use Rattle.xc_world.specs.Effects.{undone_to, IsCovered}
-use Rattle.xc_host.specs.Cause.{IsCalled}
 use Rattle.xc_host.specs.Contents.{Contents, contents_of, world_of}
 use Rattle.xc_host.specs.Model.{HostModel}
+use Rattle.xc_host.specs.Uses.{Uses, BacksFor}
 
 -- what contracts see of a stack; together the two lists are in the order of the calls
 pub record Records : Type 0 where
@@ -85,10 +85,10 @@ pub record IsTried {H : Type 0} (model : HostModel H) (tries : ℕ) (old new : A
   pub stack : new.undo ≡ record { pending = older; ended = (tried, end) ∷ old.undo.ended }
   -- blocked exactly where a newer record stands in the way; failed exactly after so many tries
   pub legal : IsLegalEnd tries tried end (way_of older tried old.undo)
-  pub faults : CountsFaults (end_faults end) (model.fault_count old.host) (model.fault_count new.host)
+  pub faults : RisesBy (end_faults end) (model.fault_count old.host) (model.fault_count new.host)
   -- the host isn't called for a blocked one
   pub still : way_of older tried old.undo ≢ None → new.host ≡ old.host
-  -- nothing is called undone that the host wasn't called for
-  pub called : is_undone end ≡ true → IsCalled (model.calls old.host) (model.calls new.host)
+  -- it was called once for each fault and for each part that was restored, and for nothing else
+  pub uses : Uses model (record { old = old.host; new = new.host }) (BacksFor tried end)
   -- it did what the end says
   pub effect : IsTrue model.tells → model.contents new.host ≡ contents_of (undone_to (world_of (model.contents old.host)) tried end)

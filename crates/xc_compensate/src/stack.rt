@@ -1,11 +1,14 @@
-ghost use Rattle.std.specs.Prelude.{◌≡◌, ◌≢◌, ◌==◌, ◌≤◌, ◌<◌, ◌+◌, ◌++◌, ◌∷◌, [], List, length, OnOk, OnErr, IsTrue};
+ghost use Rattle.std.specs.Prelude.{◌≡◌, ◌≢◌, ◌==◌, ◌≤◌, ◌<◌, ◌+◌, ◌++◌, ◌∷◌, [], ℕ, List, length, reverse, OnOk, OnErr, IsTrue};
+ghost use Rattle.std.specs.List.{list_any};
 ghost use Rattle.xc_data.specs.declared.undo.Undo.{Undo};
 ghost use Rattle.xc_data.specs.declared.undo.UndoEnd.{UndoEnd};
+ghost use Rattle.xc_world.specs.Ends.{blocker};
+ghost use Rattle.xc_compensate.specs.Hindered.{hinders};
 ghost use Rattle.xc_compensate.specs.declared.stack.UndoTurn.TheVariants.{Ended};
 ghost use Rattle.xc_compensate.specs.Records.{Records, IsRecord, IsTried, NextIsCovered, covers, covered, cut_to};
 ghost use Rattle.xc_compensate.specs.Turns.{turn_of};
 
-use crate::undoing::try_one;
+use crate::undoing::{is_undone, try_one};
 use std::alloc::Global;
 use std::marker::Model;
 use xc_data::{Items, NoMemory, RecordList, Undo, UndoEnd};
@@ -31,17 +34,22 @@ pub struct Stack {
     pending: Vec<Undo>,
     // the newest first
     ended: Roomy<(Undo, UndoEnd)>,
+    // Whether one of those failed or was blocked.
+    hindered: bool,
 }
 
 impl Model for Stack {
-    ghost use Rattle.std.specs.Prelude.{reverse};
+    ghost use Rattle.std.specs.Prelude.{◌≡◌, reverse};
+    ghost use Rattle.std.specs.List.{list_any};
+    ghost use Rattle.xc_compensate.specs.Hindered.{hinders};
     ghost use Rattle.xc_compensate.specs.Records.{Records, IsStack};
 
     ghost Value = { Records };
 
     ghost view = { λ a. record { pending = a.pending.items; ended = reverse a.ended.items } };
 
-    ghost invariant = { λ a. IsStack a.pending.items a.ended.items a.ended.spare };
+    ghost invariant = { λ a. IsStack a.pending.items a.ended.items a.ended.spare
+        × (a.hindered ≡ list_any hinders a.ended.items) };
 }
 
 // The record, covering its first n bytes.
@@ -66,6 +74,15 @@ fn turn_of(end: UndoEnd) -> UndoTurn
     }
 }
 
+// The records with an end among which one may stand in the way, the newest first: none, where none failed or was blocked.
+fn hindering(hindered: bool, newest_first: &[(Undo, UndoEnd)]) -> &[(Undo, UndoEnd)]
+    requires { hindered ≡ list_any hinders newest_first.now }
+    ensures few { length result.now ≤ length newest_first.now }
+    ensures way { (from : ℕ) (older : Undo) → blocker from older (reverse result.now) ≡ blocker from older (reverse newest_first.now) }
+{
+    if hindered { newest_first } else { &[] }
+}
+
 impl Stack {
     /// It takes no memory.
     pub fn new(alloc: Global) -> Stack
@@ -75,6 +92,7 @@ impl Stack {
             alloc,
             pending: Vec::new(alloc),
             ended: Roomy::new(alloc),
+            hindered: false,
         }
     }
 
@@ -126,15 +144,10 @@ impl Stack {
             return UndoTurn::Ended;
         };
         let number = self.pending.len() as u32 + 1;
-        let end = try_one(
-            self.alloc,
-            host,
-            number,
-            &undo,
-            self.ended.as_slice(),
-            tries,
-        );
+        let newer = hindering(self.hindered, self.ended.as_slice());
+        let end = try_one(self.alloc, host, number, &undo, newer, tries);
         self.ended.enter((undo, end));
+        self.hindered = self.hindered || !is_undone(end);
         turn_of(end)
     }
 

@@ -1,12 +1,14 @@
-ghost use Rattle.std.specs.Prelude.{◌≡◌, ◌≤◌, false, OnOk, OnErr, IsTrue, is_err};
+ghost use Rattle.std.specs.Prelude.{◌≡◌, ◌≤◌, false, IsTrue};
 ghost use Rattle.std.specs.declared.option.Option.TheVariants.{None};
-ghost use Rattle.xc_data.specs.Counts.{CountsFault, CountsFaults};
+ghost use Rattle.xc_data.specs.Counts.{RisesBy};
 ghost use Rattle.xc_data.specs.Faults.{end_faults};
 ghost use Rattle.xc_world.specs.Effects.{undone_to, IsCovered};
 ghost use Rattle.xc_world.specs.Ends.{IsLegalEnd};
 ghost use Rattle.xc_world.specs.Trail.{undone};
-ghost use Rattle.xc_host.specs.Cause.{IsCalled};
+ghost use Rattle.xc_host.specs.Cause.{without_memory};
 ghost use Rattle.xc_host.specs.Contents.{contents_of, world_of};
+ghost use Rattle.xc_host.specs.Model.{Answers};
+ghost use Rattle.xc_host.specs.Uses.{Uses, BacksFor, back_kind};
 ghost use Rattle.xc_compensate.specs.Records.{IsRecord, is_overwrite};
 
 use xc_data::{Undo, UndoEnd};
@@ -17,11 +19,8 @@ fn call_back<H: Host>(host: &mut H, undo: &Undo) -> Result<(), Fault>
     requires record { IsRecord undo.now }
     requires one { is_overwrite undo.now ≡ false }
     requires covered { IsTrue H.model.tells → IsCovered (world_of (H.model.contents host.old)) undo.now }
-    ensures ok { IsTrue H.model.tells
-        → OnOk result (H.model.contents host.new ≡ contents_of (undone (world_of (H.model.contents host.old)) undo.now)) }
-    ensures err { IsTrue H.model.tells → OnErr result (H.model.contents host.new ≡ H.model.contents host.old) }
-    ensures called { IsCalled (H.model.calls host.old) (H.model.calls host.new) }
-    ensures cause { CountsFault (is_err result) (H.model.fault_count host.old) (H.model.fault_count host.new) }
+    ensures answered { Answers H.model (back_kind undo.now) (record { old = host.old; new = host.new }) (without_memory result)
+        (λ _ c. contents_of (undone (world_of c) undo.now)) }
 {
     match undo {
         Undo::Tail { file, from, .. } => host.cut(*file, *from),
@@ -38,8 +37,8 @@ pub(crate) fn take_back<H: Host>(host: &mut H, undo: &Undo, tries: u32) -> UndoE
     requires one { is_overwrite undo.now ≡ false }
     requires covered { IsTrue H.model.tells → IsCovered (world_of (H.model.contents host.old)) undo.now }
     ensures legal { IsLegalEnd tries undo.now result None }
-    ensures called { IsCalled (H.model.calls host.old) (H.model.calls host.new) }
-    ensures faults { CountsFaults (end_faults result) (H.model.fault_count host.old) (H.model.fault_count host.new) }
+    ensures uses { Uses H.model (record { old = host.old; new = host.new }) (BacksFor undo.now result) }
+    ensures faults { RisesBy (end_faults result) (H.model.fault_count host.old) (H.model.fault_count host.new) }
     ensures effect { IsTrue H.model.tells
         → H.model.contents host.new ≡ contents_of (undone_to (world_of (H.model.contents host.old)) undo.now result) }
 {

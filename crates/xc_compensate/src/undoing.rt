@@ -1,13 +1,15 @@
-ghost use Rattle.std.specs.Prelude.{◌≡◌, ◌≢◌, ◌≤◌, ◌<◌, ◌+◌, ◌^◌, ℕ, true, length, take, reverse, IsTrue};
+ghost use Rattle.std.specs.Prelude.{◌≡◌, ◌≢◌, ◌≤◌, ◌<◌, ◌+◌, ◌^◌, ◌∷◌, [], ℕ, length, take, reverse, IsTrue};
 ghost use Rattle.std.specs.declared.option.Option.TheVariants.{None};
 ghost use Rattle.std.specs.List.{list_any, position};
-ghost use Rattle.xc_data.specs.Counts.{CountsFaults};
+ghost use Rattle.xc_data.specs.Counts.{RisesBy};
 ghost use Rattle.xc_data.specs.Faults.{end_faults};
 ghost use Rattle.xc_data.specs.Claims.{is_object};
+ghost use Rattle.xc_data.specs.declared.script.Kind.TheVariants.{Restore};
 ghost use Rattle.xc_world.specs.Effects.{undone_to, IsCovered};
 ghost use Rattle.xc_world.specs.Ends.{share_object, is_undone, blocks, blocker, IsLegalEnd};
 ghost use Rattle.xc_host.specs.Contents.{Contents, contents_of, world_of, wrote_front};
-ghost use Rattle.xc_host.specs.Cause.{IsCalled};
+ghost use Rattle.xc_host.specs.Model.{IsUsed};
+ghost use Rattle.xc_host.specs.Uses.{Uses, BacksFor, MovesBy};
 ghost use Rattle.xc_compensate.specs.Records.{IsRecord};
 ghost use Rattle.xc_compensate.specs.Restoring.{IsStep, IsRestoreEnd, FitsIn, done_by};
 
@@ -35,7 +37,8 @@ fn share_object(alloc: Global, a: &Undo, b: &Undo) -> bool
         .any(|object| is_among(object, others.as_slice()))
 }
 
-fn is_undone(end: UndoEnd) -> bool
+/// Whether a record that came to this end is undone.
+pub(crate) fn is_undone(end: UndoEnd) -> bool
     ensures { result ≡ is_undone end }
 {
     matches!(end, UndoEnd::Undone { .. })
@@ -99,9 +102,9 @@ fn restore_more<H: Host>(
     ensures effect { IsTrue H.model.tells → (was : Contents) → FitsIn was file at bytes.now
         → H.model.contents host.old ≡ wrote_front was file at (take progress.done bytes.now)
         → H.model.contents host.new ≡ wrote_front was file at (take result.done bytes.now) }
-    ensures called { IsCalled (H.model.calls host.old) (H.model.calls host.new) }
-    ensures faults { (before : ℕ) → CountsFaults progress.faults before (H.model.fault_count host.old)
-        → CountsFaults result.faults before (H.model.fault_count host.new) }
+    ensures used { IsUsed H.model (Restore ∷ []) (record { old = host.old; new = host.new }) }
+    ensures faults { (before : ℕ) → RisesBy progress.faults before (H.model.fault_count host.old)
+        → RisesBy result.faults before (H.model.fault_count host.new) }
 {
     a_front_grows();
     a_write_keeps_the_length();
@@ -127,8 +130,9 @@ fn restore_whole<H: Host>(host: &mut H, file: Num, at: u32, bytes: &[u8], tries:
     ensures end { IsRestoreEnd tries (length bytes.now) result }
     ensures effect { IsTrue H.model.tells
         → H.model.contents host.new ≡ wrote_front (H.model.contents host.old) file at (take (done_by (length bytes.now) result) bytes.now) }
-    ensures called { IsCalled (H.model.calls host.old) (H.model.calls host.new) }
-    ensures faults { CountsFaults (end_faults result) (H.model.fault_count host.old) (H.model.fault_count host.new) }
+    ensures uses { Uses H.model (record { old = host.old; new = host.new })
+        (MovesBy Restore (done_by (length bytes.now) result) (end_faults result)) }
+    ensures faults { RisesBy (end_faults result) (H.model.fault_count host.old) (H.model.fault_count host.new) }
 {
     let mut progress = Progress { done: 0, faults: 0 };
     while (progress.done as usize) < bytes.len() {
@@ -151,8 +155,8 @@ fn undo_one<H: Host>(host: &mut H, undo: &Undo, tries: u32) -> UndoEnd
     requires record { IsRecord undo.now }
     requires covered { IsTrue H.model.tells → IsCovered (world_of (H.model.contents host.old)) undo.now }
     ensures legal { IsLegalEnd tries undo.now result None }
-    ensures called { IsCalled (H.model.calls host.old) (H.model.calls host.new) }
-    ensures faults { CountsFaults (end_faults result) (H.model.fault_count host.old) (H.model.fault_count host.new) }
+    ensures uses { Uses H.model (record { old = host.old; new = host.new }) (BacksFor undo.now result) }
+    ensures faults { RisesBy (end_faults result) (H.model.fault_count host.old) (H.model.fault_count host.new) }
     ensures effect { IsTrue H.model.tells
         → H.model.contents host.new ≡ contents_of (undone_to (world_of (H.model.contents host.old)) undo.now result) }
 {
@@ -183,9 +187,9 @@ pub(crate) fn try_one<H: Host>(
     requires covered { IsTrue H.model.tells → blocker (number + 1) undo.now (reverse newest_first.now) ≡ None
         → IsCovered (world_of (H.model.contents host.old)) undo.now }
     ensures legal { IsLegalEnd tries undo.now result (blocker (number + 1) undo.now (reverse newest_first.now)) }
-    ensures called { is_undone result ≡ true → IsCalled (H.model.calls host.old) (H.model.calls host.new) }
+    ensures uses { Uses H.model (record { old = host.old; new = host.new }) (BacksFor undo.now result) }
     ensures still { blocker (number + 1) undo.now (reverse newest_first.now) ≢ None → host.new ≡ host.old }
-    ensures faults { CountsFaults (end_faults result) (H.model.fault_count host.old) (H.model.fault_count host.new) }
+    ensures faults { RisesBy (end_faults result) (H.model.fault_count host.old) (H.model.fault_count host.new) }
     ensures effect { IsTrue H.model.tells
         → H.model.contents host.new ≡ contents_of (undone_to (world_of (H.model.contents host.old)) undo.now result) }
 {

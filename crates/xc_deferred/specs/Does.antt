@@ -4,9 +4,9 @@ use Rattle.xc_data.specs.Counts.{CountsFault}
 use Rattle.xc_data.specs.Faults.{is_fault_end}
 use Rattle.xc_data.specs.declared.call.LateCall.{LateCall}
 use Rattle.xc_data.specs.declared.call.LateEnd.{LateEnd}
-use Rattle.xc_host.specs.Cause.{IsCalled}
 use Rattle.xc_host.specs.Contents.{Contents, with_contents, world_of}
 use Rattle.xc_host.specs.Model.{HostModel}
+use Rattle.xc_host.specs.Uses.{Uses, LatesFor}
 use Rattle.xc_world.specs.World.{World}
 use Rattle.xc_world.specs.Fits.{late_fits, late_answer_of}
 use Rattle.xc_world.specs.Late.{late, ends}
@@ -33,7 +33,7 @@ pub record EndsNext {H : Type 0} (model : HostModel H) (call : LateCall) (old ne
   pub noted : new.late ≡ record old.late { ends = old.late.ends ++ end ∷ [] }
   -- a fault exactly where the host's count rose
   pub cause : CountsFault (is_fault_end end) (model.fault_count old.host) (model.fault_count new.host)
-  -- the host was called, also where memory was wanting
-  pub called : IsCalled (model.calls old.host) (model.calls new.host)
+  -- the host was called so, also where memory was wanting
+  pub uses : Uses model (record { old = old.host; new = new.host }) (LatesFor call end)
   -- over a host that tells, its end and what it did are the plain machine's
   pub does : IsTrue model.tells → DoesLate (model.contents old.host) (model.contents new.host) call end

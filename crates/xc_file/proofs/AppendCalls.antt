@@ -2,7 +2,7 @@
 use Rattle.std.proofs.Common.{◌≡◌, ℕ, ◌<◌, ◌≤◌, ◌+◌, ◌++◌, Bool, true, false, IsTrue, None, Ok, Err, List, [], ◌∷◌, length}
 use Rattle.std.proofs.Common.{ap, sym, ◌∙◌, inr, arith, if◌then◌else◌}
 use Rattle.std.proofs.lemmas.Grind.{common_steps}
-use Rattle.std.specs.Prelude.{Result, IfOk, OnOk, OnErr, ◌==◌}
+use Rattle.std.specs.Prelude.{Result, IfOk, OnErr, ◌==◌}
 use Rattle.xc_data.specs.Counts.{CountsFault}
 use Rattle.xc_data.specs.declared.memory.NoMemory.{NoMemory}
 use Rattle.xc_data.specs.declared.object.Num.{Num}
@@ -18,18 +18,19 @@ use Rattle.xc_data.specs.declared.undo.Undo.TheVariants.{Tail}
 use Rattle.xc_data.specs.Private.{place_of}
 use Rattle.xc_world.specs.World.{World}
 use Rattle.xc_world.specs.Act.{act}
+use Rattle.xc_world.specs.Checks.{refusal_of}
 use Rattle.xc_world.specs.Act.Step.{step_to, storing}
 use Rattle.xc_world.specs.Ends.{Ending}
 use Rattle.xc_world.specs.Fits.{fits, answer_of}
-use Rattle.xc_world.specs.Trail.{recorded, append_record, done_of}
-use Rattle.xc_host.specs.Contents.{Contents, file_in, with_contents, world_of}
+use Rattle.xc_world.specs.Trail.{recorded, append_record}
+use Rattle.xc_host.specs.Contents.{Contents, file_in, with_contents}
 use Rattle.xc_host.specs.Model.{HostModel}
+use Rattle.xc_host.specs.Uses.{Uses}
 use Rattle.xc_compensate.specs.Records.{Records}
 use Rattle.xc_file.specs.Appending.{Appends, StopsShort, tail}
-use Rattle.xc_file.specs.Calls.{CallState, Moment, moment_of, Acts, AreRecorded, DidPart, IsFileCall}
-use Rattle.xc_file.specs.Calls.{refusal_of, is_check_reply, replies_fault}
-use Rattle.xc_file.specs.Writing.{AddsOne, moved_on}
-use Rattle.xc_file.proofs.FileCalls.{moment, passed, same_made}
+use Rattle.xc_file.specs.Calls.{CallState, Moment, moment_of, Acts, AreRecorded, DidPart, IsFileCall, IsMePassed, IsPassedReply, PassedBy, replies_fault}
+use Rattle.xc_file.specs.Writing.{moved_on}
+use Rattle.xc_file.proofs.FileCalls.{moment, Grows, replied_call, some_refusal}
 
 -- the state behind an append of n of the bytes
 abbrev behind : Contents → Private → ℕ → Num → List ℕ → ℕ → Private
@@ -75,33 +76,27 @@ one_at_most false u = omega arith
 -- an append that the checks let pass
 pub append_call : {H : Type 0} (model : HostModel H) (h : ℕ) (bytes : List ℕ) (num : Num) (at : ℕ) (old new : CallState H) (result : Result Reply NoMemory)
     → refusal_of (XWriteSeq h bytes) old.me ≡ None → (length bytes ≤ 1024) × (old.me.stored + length bytes ≤ 16384)
-    → place_of old.me.places h ≡ File num at → old.undo.ended ≡ [] → IfOk result (λ r. is_check_reply (XWriteSeq h bytes) r ≡ false)
+    → place_of old.me.places h ≡ File num at → old.undo.ended ≡ [] → IfOk result (IsPassedReply (XWriteSeq h bytes))
+    → Uses model (record { old = old.host; new = new.host }) (PassedBy (XWriteSeq h bytes) result)
+    → IfOk result (IsMePassed old.number (XWriteSeq h bytes) old.me new.me)
     → (IsTrue model.tells → IfOk result (Acts (XWriteSeq h bytes) (moment_of model old) (moment_of model new)))
-    → (IsTrue model.tells → IfOk result (λ r. new.undo
-    ≡ record { pending = old.undo.pending ++ append_record (world_of (model.contents old.host)) bytes (done_of (length bytes) r) (File num at); ended = [] }))
-    → OnOk result (AddsOne old.undo new.undo) → OnErr result (new.me ≡ old.me)
+    → IfOk result (Grows model (XWriteSeq h bytes) old new) → OnErr result (new.me ≡ old.me)
     → OnErr result (StopsShort model num bytes (record { host = old.host; undo = old.undo }) (record { host = new.host; undo = new.undo }))
     → OnErr result (0 < length bytes)
     → CountsFault (replies_fault result) (model.fault_count old.host) (model.fault_count new.host)
     → IsFileCall model (XWriteSeq h bytes) old new result
-append_call model h bytes num at old new (Ok r) free few there none reply acts records adds err stops some cause =
-    let kind = append_record (world_of (model.contents old.host)) bytes (done_of (length bytes) r) in
-    record {
-      checked = passed (XWriteSeq h bytes) old new (Ok r) free reply;
-      made = adds.made;
-      one = adds.one;
-      undo = adds.undo;
-      acts = acts;
-      records = λ t w. same_made old.undo new.undo adds.made (kind (File num at)) adds.undo (records t) ∙ ap kind (sym there);
-      cause = cause;
-      memory = tt;
-    }
-append_call model h bytes num at old new (Err e) free few there none reply acts records adds err stops some cause =
+append_call model h bytes num at old new (Ok r) free few there none reply uses after acts grows err stops some cause =
+    replied_call model (XWriteSeq h bytes) old new r free reply.0 uses after acts cause grows
+append_call model h bytes num at old new (Err e) free few there none reply uses after acts grows err stops some cause =
     let made = tail num stops.from bytes stops.done in
     record {
-      checked = passed (XWriteSeq h bytes) old new (Err e) free tt;
+      checked = tt;
+      unchanged = some_refusal (refusal_of (XWriteSeq h bytes) old.me) _ free;
+      after = tt;
+      uses = uses;
       made = made;
       one = one_at_most (stops.done == 0) (Tail num stops.from bytes stops.done);
+      count = λ w. tt;
       undo = stops.undo ∙ ap (λ (rs : List Ending). let u : Records = record { pending = old.undo.pending ++ made; ended = rs } in u) (sym none);
       acts = λ _. tt;
       records = λ _. tt;

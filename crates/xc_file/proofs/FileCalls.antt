@@ -1,8 +1,8 @@
 -- Calls on files, as their contract has them.
-use Rattle.std.proofs.Common.{◌≡◌, ℕ, false, IsTrue, Option, Some, None, Ok, Err, inl}
+use Rattle.std.proofs.Common.{◌≡◌, ℕ, ◌≤◌, ◌==◌, Bool, true, false, length, IsTrue, IsSome, Option, Some, None, Ok, Err, inl, if◌then◌else◌}
 use Rattle.std.proofs.Common.{List, [], ◌++◌, refl, ap, sym, ◌∙◌, subst, append-nil, arith}
 use Rattle.std.proofs.lemmas.List.{append_cancel_left}
-use Rattle.std.specs.Prelude.{MatchOption, IfOk, OnOk, OnErr, Result}
+use Rattle.std.specs.Prelude.{IfOk, OnErr, Result}
 use Rattle.xc_data.specs.Counts.{CountsFault}
 use Rattle.xc_data.specs.declared.memory.NoMemory.{NoMemory}
 use Rattle.xc_data.specs.declared.call.Call.{Call}
@@ -15,116 +15,208 @@ use Rattle.xc_data.specs.Faults.{is_fault_reply}
 use Rattle.xc_world.specs.World.{World}
 use Rattle.xc_world.specs.Act.{act}
 use Rattle.xc_world.specs.Act.Step.{step_to}
-use Rattle.xc_world.specs.Checks.{is_bad_handle, is_too_big, is_too_much}
+use Rattle.xc_world.specs.After.{IsMeAfter, stored_after}
+use Rattle.xc_world.specs.Checks.{IsChecked, is_bad_handle, is_too_big, is_too_much, is_check_reply, refusal_of}
+use Rattle.xc_world.specs.Ends.{Ending}
 use Rattle.xc_world.specs.Fits.{fits, answer_of}
-use Rattle.xc_host.specs.Model.{HostModel}
+use Rattle.xc_world.specs.Trail.{recorded}
+use Rattle.xc_host.specs.Model.{HostModel, Step}
+use Rattle.xc_host.specs.Uses.{Uses, CallsFor, CallsOf, StopsFor}
+use Rattle.xc_host.proofs.Called.{unused}
 use Rattle.xc_host.specs.Contents.{Contents, with_contents}
 use Rattle.xc_compensate.specs.Records.{Records}
-use Rattle.xc_file.specs.Calls.{CallState, Moment, moment_of, IsFileCall, Acts, AreRecorded, StepsAlone}
-use Rattle.xc_file.specs.Calls.{refusal_of, is_check_reply, replies_fault}
-use Rattle.xc_file.specs.Writing.{AddsOne}
+use Rattle.xc_file.specs.Calls.{CallState, Moment, moment_of, IsFileCall, IsMePassed, Acts, AreRecorded, PassedBy, StepsAlone, replies_fault}
+use Rattle.xc_file.specs.Writing.{AddsFor}
 use Rattle.xc_file.proofs.Refusals.{plain_first, refused_acts}
 
 -- a record with nothing behind
 grown_by_none : (undo : Records) → undo ≡ record undo { pending = undo.pending ++ [] }
 grown_by_none undo = ap (λ (p : List Undo). let u : Records = record undo { pending = p } in u) (sym (append-nil undo.pending))
 
--- what a check says of a call that is passed
-pub passed : {H : Type 0} (call : Call) (old new : CallState H) (result : Result Reply NoMemory) → refusal_of call old.me ≡ None
-    → IfOk result (λ r. is_check_reply call r ≡ false)
-    → MatchOption (refusal_of call old.me) (IfOk result (λ r. is_check_reply call r ≡ false)) (λ r. (result ≡ Ok r) × (new ≡ old))
-passed call old new result e reply = subst (λ o. MatchOption o (IfOk result (λ r. is_check_reply call r ≡ false)) (λ r. (result ≡ Ok r) × (new ≡ old)))
-    (sym e) reply
+-- what follows of each reply
+pub ok_more : (P Q : Reply → Type 0) (result : Result Reply NoMemory) → ((r : Reply) → P r → Q r) → IfOk result P → IfOk result Q
+ok_more P Q (Ok r) more p = more r p
+ok_more P Q (Err e) more p = tt
+
+-- what holds anyway holds behind each failure
+pub always_err : {T E : Type 0} (P : Type 0) (result : Result T E) → P → OnErr result P
+always_err P (Ok x) p = tt
+always_err P (Err e) p = p
+
+-- ---- a call that a check refuses
+refused_me : (call : Call) (me : Private) (tx : ℕ) (r : Reply) → refusal_of call me ≡ Some r → IsMeAfter tx call r me me
+refused_me call me tx r e =
+    let plain = plain_first (is_bad_handle call me) (is_too_big call) (is_too_much call me) r e in
+    record {
+      places = plain.places tx call me;
+      made = sym (plain.made call me.made);
+      stored = ap (λ o. stored_after o call r me.stored) (sym e);
+    }
 
 -- a call that a check refuses, and that leaves no record then
 pub refused_call : {H : Type 0} (model : HostModel H) (call : Call) (s : CallState H) (r : Reply) → refusal_of call s.me ≡ Some r
-    → AreRecorded call (moment_of model s) [] r
+    → ((w : World) (number : ℕ) → [] ≡ recorded w s.me number call r)
     → IsFileCall model call s s (Ok r)
 refused_call model call s r e none =
     let plain = plain_first (is_bad_handle call s.me) (is_too_big call) (is_too_much call s.me) r e in
-    let result : Result Reply NoMemory = Ok r in
     record {
-      checked = subst (λ o. MatchOption o (is_check_reply call r ≡ false) (λ q. (result ≡ Ok q) × (s ≡ s))) (sym e) (refl, refl);
+      checked = subst (λ o. IsChecked o call r) (sym e) refl;
+      unchanged = λ some. (refl, refl);
+      after = refused_me call s.me s.number r e;
+      uses = record { made = []; named = subst (λ o. CallsOf o call r []) (sym e) refl; used = unused model s.host };
       made = [];
       one = omega arith;
+      count = λ w. ap length (none w s.number);
       undo = grown_by_none s.undo;
       acts = λ _. record {
         step = λ w. refused_acts (with_contents w (model.contents s.host)) s.me s.number call (answer_of r) r e;
         fits = λ w. subst (λ a. IsTrue (fits (with_contents w (model.contents s.host)) s.me s.number call a)) (sym plain.answer) refl;
       };
-      records = λ _. none;
+      records = λ _ w. none (with_contents w (model.contents s.host)) s.number;
       cause = subst (λ b. CountsFault b (model.fault_count s.host) (model.fault_count s.host)) (sym plain.fault) refl;
       memory = tt;
     }
 
--- a call that the checks let pass, and that leaves no record
-pub unrecorded_call : {H : Type 0} (model : HostModel H) (call : Call) (old new : CallState H) (result : Result Reply NoMemory)
-    → refusal_of call old.me ≡ None → IfOk result (λ r. is_check_reply call r ≡ false) → new.undo ≡ old.undo
-    → (IsTrue model.tells → IfOk result (Acts call (moment_of model old) (moment_of model new)))
-    → ((r : Reply) → AreRecorded call (moment_of model old) [] r)
-    → (IsTrue model.tells → model.contents new.host ≡ model.contents old.host) → OnErr result (new.me ≡ old.me)
-    → CountsFault (replies_fault result) (model.fault_count old.host) (model.fault_count new.host)
-    → IsFileCall model call old new result
-unrecorded_call model call old new (Ok r) free reply undo acts none still err cause =
+-- ---- a call that the checks let pass
+-- nothing is refused that passes
+pub some_refusal : (o : Option Reply) (P : Type 0) → o ≡ None → IsSome o → P
+some_refusal None P e some = cc
+some_refusal (Some r) P e some = cc
+
+free_me : (call : Call) (me next : Private) (tx : ℕ) (r : Reply) → refusal_of call me ≡ None → IsMePassed tx call me next r → IsMeAfter tx call r me next
+free_me call me next tx r e after = record {
+  places = after.places;
+  made = after.made;
+  stored = after.stored ∙ ap (λ o. stored_after o call r me.stored) (sym e);
+}
+
+free_uses : {H : Type 0} (model : HostModel H) (step : Step H) (call : Call) (me : Private) (r : Reply) → refusal_of call me ≡ None
+    → Uses model step (CallsFor call r) → Uses model step (CallsOf (refusal_of call me) call r)
+free_uses model step call me r e uses = subst (λ o. Uses model step (CallsOf o call r)) (sym e) uses
+
+-- the records that a call with this reply leaves: one at most, and those of the plain machine where the host tells
+pub record Grows {H : Type 0} (model : HostModel H) (call : Call) (old new : CallState H) (r : Reply) : Type 0 where
+  pub made : List Undo
+  pub one : length made ≤ 1
+  pub count : (w : World) → length made ≡ length (recorded w old.me old.number call r)
+  pub undo : new.undo ≡ record old.undo { pending = old.undo.pending ++ made }
+  pub records : IsTrue model.tells → AreRecorded call (moment_of model old) made r
+
+-- a call that is passed, and replies
+pub replied_call : {H : Type 0} (model : HostModel H) (call : Call) (old new : CallState H) (r : Reply)
+    → refusal_of call old.me ≡ None → is_check_reply call r ≡ false
+    → Uses model (record { old = old.host; new = new.host }) (CallsFor call r) → IsMePassed old.number call old.me new.me r
+    → (IsTrue model.tells → Acts call (moment_of model old) (moment_of model new) r)
+    → CountsFault (is_fault_reply r) (model.fault_count old.host) (model.fault_count new.host)
+    → Grows model call old new r
+    → IsFileCall model call old new (Ok r)
+replied_call model call old new r free reply uses after acts cause grows =
     record {
-      checked = passed call old new (Ok r) free reply;
-      made = [];
-      one = omega arith;
-      undo = undo ∙ grown_by_none old.undo;
+      checked = subst (λ o. IsChecked o call r) (sym free) reply;
+      unchanged = some_refusal (refusal_of call old.me) _ free;
+      after = free_me call old.me new.me old.number r free after;
+      uses = free_uses model _ call old.me r free uses;
+      made = grows.made;
+      one = grows.one;
+      count = grows.count;
+      undo = grows.undo;
       acts = acts;
-      records = λ _. none r;
+      records = grows.records;
       cause = cause;
       memory = tt;
     }
-unrecorded_call model call old new (Err e) free reply undo acts none still err cause =
+
+-- a call that is passed, and wants memory before it changes anything
+starved_call : {H : Type 0} (model : HostModel H) (call : Call) (old new : CallState H) (e : NoMemory)
+    → refusal_of call old.me ≡ None
+    → Uses model (record { old = old.host; new = new.host }) (StopsFor call) → new.me ≡ old.me → new.undo ≡ old.undo
+    → (IsTrue model.tells → model.contents new.host ≡ model.contents old.host)
+    → model.fault_count new.host ≡ model.fault_count old.host
+    → IsFileCall model call old new (Err e)
+starved_call model call old new e free uses me undo still cause =
     record {
-      checked = passed call old new (Err e) free tt;
+      checked = tt;
+      unchanged = some_refusal (refusal_of call old.me) _ free;
+      after = tt;
+      uses = uses;
       made = [];
       one = omega arith;
+      count = λ w. tt;
       undo = undo ∙ grown_by_none old.undo;
       acts = λ _. tt;
       records = λ _. tt;
       cause = cause;
-      memory = record { me = err; effect = λ t. inl (refl, still t); none = λ _. refl };
+      memory = record { me = me; effect = λ t. inl (refl, still t); none = λ _. refl };
     }
 
--- what is put behind the same records is the same
-pub same_made : (old new : Records) (made more : List Undo) → new ≡ record old { pending = old.pending ++ made }
-    → new ≡ record { pending = old.pending ++ more; ended = [] } → made ≡ more
-same_made old new made more grown is = append_cancel_left old.pending made more (ap (λ u. u.pending) (sym grown ∙ is))
-
--- a call that the checks let pass, and that changes nothing where it wants memory; its records by its reply
-pub recorded_call : {H : Type 0} (model : HostModel H) (call : Call) (made : Reply → List Undo) (old new : CallState H) (result : Result Reply NoMemory)
+-- a call that is passed
+pub passed_call : {H : Type 0} (model : HostModel H) (call : Call) (old new : CallState H) (result : Result Reply NoMemory)
     → refusal_of call old.me ≡ None → IfOk result (λ r. is_check_reply call r ≡ false)
+    → Uses model (record { old = old.host; new = new.host }) (PassedBy call result)
+    → IfOk result (IsMePassed old.number call old.me new.me)
     → (IsTrue model.tells → IfOk result (Acts call (moment_of model old) (moment_of model new)))
-    → (IsTrue model.tells → IfOk result (λ r. new.undo ≡ record { pending = old.undo.pending ++ made r; ended = [] }))
-    → ((r : Reply) → AreRecorded call (moment_of model old) (made r) r)
-    → OnOk result (AddsOne old.undo new.undo) → OnErr result (new.me ≡ old.me) → OnErr result (new.undo ≡ old.undo)
+    → IfOk result (Grows model call old new) → OnErr result (new.me ≡ old.me) → OnErr result (new.undo ≡ old.undo)
     → (IsTrue model.tells → OnErr result (model.contents new.host ≡ model.contents old.host))
     → CountsFault (replies_fault result) (model.fault_count old.host) (model.fault_count new.host)
     → IsFileCall model call old new result
-recorded_call model call made old new (Ok r) free reply acts records are adds err_me err_undo still cause =
+passed_call model call old new (Ok r) free reply uses after acts grows err_me err_undo still cause =
+    replied_call model call old new r free reply uses after acts cause grows
+passed_call model call old new (Err e) free reply uses after acts grows err_me err_undo still cause =
+    starved_call model call old new e free uses err_me err_undo still cause
+
+-- a call that leaves no record
+pub none_grow : {H : Type 0} (model : HostModel H) (call : Call) (old new : CallState H) (result : Result Reply NoMemory)
+    → new.undo ≡ old.undo → ((r : Reply) (w : World) → [] ≡ recorded w old.me old.number call r) → IfOk result (Grows model call old new)
+none_grow model call old new (Ok r) undo none =
     record {
-      checked = passed call old new (Ok r) free reply;
-      made = adds.made;
-      one = adds.one;
-      undo = adds.undo;
-      acts = acts;
-      records = λ t w. same_made old.undo new.undo adds.made (made r) adds.undo (records t) ∙ are r w;
-      cause = cause;
-      memory = tt;
-    }
-recorded_call model call made old new (Err e) free reply acts records are adds err_me err_undo still cause =
-    record {
-      checked = passed call old new (Err e) free tt;
       made = [];
       one = omega arith;
-      undo = err_undo ∙ grown_by_none old.undo;
-      acts = λ _. tt;
-      records = λ _. tt;
-      cause = cause;
-      memory = record { me = err_me; effect = λ t. inl (refl, still t); none = λ _. refl };
+      count = λ w. ap length (none r w);
+      undo = undo ∙ grown_by_none old.undo;
+      records = λ _ w. none r (with_contents w (model.contents old.host));
     }
+none_grow model call old new (Err e) undo none = tt
+
+-- a call whose records its reply tells, whatever the world
+pub told_grow : {H : Type 0} (model : HostModel H) (call : Call) (made : Reply → List Undo) (old new : CallState H) (result : Result Reply NoMemory)
+    → old.undo.ended ≡ [] → ((r : Reply) → length (made r) ≤ 1) → ((r : Reply) (w : World) → made r ≡ recorded w old.me old.number call r)
+    → IfOk result (λ r. new.undo ≡ record { pending = old.undo.pending ++ made r; ended = [] }) → IfOk result (Grows model call old new)
+told_grow model call made old new (Ok r) none one are undo =
+    record {
+      made = made r;
+      one = one r;
+      count = λ w. ap length (are r w);
+      undo = undo ∙ ap (λ (rs : List Ending). let u : Records = record { pending = old.undo.pending ++ made r; ended = rs } in u) (sym none);
+      records = λ _ w. are r (with_contents w (model.contents old.host));
+    }
+told_grow model call made old new (Err e) none one are undo = tt
+
+-- what is put behind the same records is the same
+same_made : (old new : Records) (made more : List Undo) → new ≡ record old { pending = old.pending ++ made }
+    → new ≡ record { pending = old.pending ++ more; ended = [] } → made ≡ more
+same_made old new made more grown is = append_cancel_left old.pending made more (ap (λ u. u.pending) (sym grown ∙ is))
+
+one_or_none : (b : Bool) (n : ℕ) → n ≡ (if b then 0 else 1) → n ≤ 1
+one_or_none true n e = omega (arith, e)
+one_or_none false n e = omega (arith, e)
+
+-- a call that leaves one record where it did some bytes, which the host tells
+pub some_grow : {H : Type 0} (model : HostModel H) (call : Call) (made : Reply → List Undo) (done : Reply → ℕ) (old new : CallState H)
+    (result : Result Reply NoMemory)
+    → IfOk result (λ r. AddsFor (done r) old.undo new.undo)
+    → ((r : Reply) (w : World) → length (recorded w old.me old.number call r) ≡ (if done r == 0 then 0 else 1))
+    → (IsTrue model.tells → IfOk result (λ r. new.undo ≡ record { pending = old.undo.pending ++ made r; ended = [] }))
+    → ((r : Reply) → AreRecorded call (moment_of model old) (made r) r)
+    → IfOk result (Grows model call old new)
+some_grow model call made done old new (Ok r) adds sizes records are =
+    record {
+      made = adds.made;
+      one = one_or_none (done r == 0) (length adds.made) adds.count;
+      count = λ w. adds.count ∙ sym (sizes r w);
+      undo = adds.undo;
+      records = λ t w. same_made old.undo new.undo adds.made (made r) adds.undo (records t) ∙ are r w;
+    }
+some_grow model call made done old new (Err e) adds sizes records are = tt
 
 -- the moment of these contents, with this private state
 abbrev pub moment : Contents → ℕ → Private → Moment
@@ -142,26 +234,19 @@ no_fault : (r : Reply) → answer_of r ≡ Fine → is_fault_reply r ≡ false
 no_fault (reply.Fault n) e = cc
 no_fault _ e = refl
 
--- what the checks say of a call, with more that is so where one refuses it
-refused_more : {A : Type 0} (P : Type 0) (Q R : A → Type 0) (o : Option A) → ((a : A) → Q a → R a) → MatchOption o P Q → MatchOption o P R
-refused_more P Q R None more p = p
-refused_more P Q R (Some a) more q = more a q
-
 -- a call that reaches no host is a call on files, over each
 pub alone_call : {H : Type 0} (model : HostModel H) (call : Call) (s : CallState H) (next : Private) (r : Reply) → StepsAlone call s.me next r
     → IsFileCall model call s (record s { me = next }) (Ok r)
 alone_call {H = H} model call s next r alone =
     let w_of = λ (w : World). with_contents w (model.contents s.host) in
-    let is : CallState H = record s { me = next } in
-    let result : Result Reply NoMemory = Ok r in
     record {
-      checked = refused_more (is_check_reply call r ≡ false) (λ q. (r ≡ q) × (next ≡ s.me)) (λ q. (result ≡ Ok q) × (is ≡ s)) (refusal_of call s.me)
-          (λ q same. (
-            ap (λ (p : Reply). let o : Result Reply NoMemory = Ok p in o) same.0,
-            ap (λ (m : Private). let t : CallState H = record s { me = m } in t) same.1,
-          )) alone.checked;
+      checked = alone.checked;
+      unchanged = λ some. (ap (λ (m : Private). let t : CallState H = record s { me = m } in t) (alone.unchanged some), refl);
+      after = alone.after s.number;
+      uses = record { made = []; named = alone.uncalled; used = unused model s.host };
       made = [];
       one = omega arith;
+      count = λ w. ap length (sym (alone.unrecorded w s.number));
       undo = grown_by_none s.undo;
       acts = λ _. record {
         step = λ w. subst (λ a. act (w_of w) s.me s.number call a ≡ step_to (w_of w) next r) (sym alone.answer) (alone.step (w_of w) s.number);
@@ -171,13 +256,3 @@ alone_call {H = H} model call s next r alone =
       cause = subst (λ b. CountsFault b (model.fault_count s.host) (model.fault_count s.host)) (sym (no_fault r alone.answer)) refl;
       memory = tt;
     }
-
--- what follows of each reply
-pub ok_more : (P Q : Reply → Type 0) (result : Result Reply NoMemory) → ((r : Reply) → P r → Q r) → IfOk result P → IfOk result Q
-ok_more P Q (Ok r) more p = more r p
-ok_more P Q (Err e) more p = tt
-
--- what holds anyway holds where there is none
-pub err_always : (P : Type 0) (result : Result Reply NoMemory) → P → OnErr result P
-err_always P (Ok r) p = tt
-err_always P (Err e) p = p

@@ -4,3 +4,5 @@ pub mod AppendCalls
 pub mod Refusals
 pub mod FileCalls
 pub mod NameCalls
+pub mod FileUses
+pub mod WriteFronts

@@ -1,27 +1,28 @@
 -- What the private checks say of a call, and what they leave of one that they refuse.
 use Rattle.std.proofs.Common.{◌≡◌, ℕ, ◌||◌, Bool, true, false, Option, Some, None}
-use Rattle.std.proofs.Common.{List, [], length, refl, ap, sym, ◌∙◌, subst, if◌then◌else◌}
-use Rattle.std.specs.Prelude.{MatchOption, unwrap_or, not}
+use Rattle.std.proofs.Common.{List, [], ◌∷◌, length, take, drop, refl, ap, sym, ◌∙◌, subst, if◌then◌else◌}
+use Rattle.std.specs.Prelude.{MatchOption, unwrap_or, not, ◌==◌}
 use Rattle.xc_data.specs.declared.call.Call.{Call}
 use Rattle.xc_data.specs.declared.call.Call.TheVariants as call
 use Rattle.xc_data.specs.declared.call.Answer.{Answer}
 use Rattle.xc_data.specs.declared.call.Answer.TheVariants.{Fine}
 use Rattle.xc_data.specs.declared.call.Reply.{Reply}
 use Rattle.xc_data.specs.declared.call.Reply.TheVariants as reply
+use Rattle.xc_data.specs.declared.object.Num.{Num}
+use Rattle.xc_data.specs.declared.undo.Undo.{Undo}
+use Rattle.xc_data.specs.declared.undo.Undo.TheVariants.{Bytes, Tail}
 use Rattle.xc_data.specs.declared.private.Place.{Place}
 use Rattle.xc_data.specs.declared.private.Place.TheVariants as place
 use Rattle.xc_data.specs.declared.private.Private.{Private}
 use Rattle.xc_data.specs.Faults.{is_fault_reply}
 use Rattle.xc_data.specs.Private.{place_of}
-use Rattle.xc_world.specs.World.{World}
+use Rattle.xc_world.specs.World.{World, file_of}
 use Rattle.xc_world.specs.Act.{act, done}
 use Rattle.xc_world.specs.Act.Step.{Stepped, step_to, counted}
-use Rattle.xc_world.specs.Checks.{is_bad_handle, is_too_big, is_too_much, is_bad_word, is_refused}
+use Rattle.xc_world.specs.Checks.{is_bad_handle, is_too_big, is_too_much, is_bad_word, is_refused, refusal_of}
+use Rattle.xc_world.specs.After.{ArePlaces, made_after}
 use Rattle.xc_world.specs.Fits.{answer_of}
-use Rattle.xc_world.specs.Trail.{overwrite_record, append_record, done_of}
-use Rattle.xc_host.specs.Contents.{with_contents}
-use Rattle.xc_file.specs.Calls.{Moment, AreRecorded}
-use Rattle.xc_file.specs.Calls.{refusal_of}
+use Rattle.xc_world.specs.Trail.{recorded, overwrite_record, append_record, done_of}
 
 -- the first of three checks that refuses
 abbrev first : Bool → Bool → Bool → Option Reply
@@ -59,17 +60,46 @@ none_of false false false word e = refl
 pub passed_checks : (me : Private) (call : Call) (words : ℕ) → refusal_of call me ≡ None → is_refused call me words ≡ is_bad_word call words
 passed_checks me call words e = none_of (is_bad_handle call me) (is_too_big call) (is_too_much call me) (is_bad_word call words) e
 
--- a reply of a check is fine, no fault, and leaves no record
+-- a reply of a check is fine, no fault, and leaves no record and the private state
 pub record IsPlain (r : Reply) : Type 0 where
   pub answer : answer_of r ≡ Fine
   pub fault : is_fault_reply r ≡ false
   pub done : (all : ℕ) → done_of all r ≡ 0
+  pub places : (tx : ℕ) (call : Call) (me : Private) → ArePlaces tx call me r me.places
+  pub made : (call : Call) (n : ℕ) → made_after call r n ≡ n
+
+bad_places : (tx : ℕ) (call : Call) (me : Private) → ArePlaces tx call me reply.BadHandle me.places
+bad_places tx (call.XOpen name) me = refl
+bad_places tx _ me = refl
+
+bad_made : (call : Call) (n : ℕ) → made_after call reply.BadHandle n ≡ n
+bad_made (call.XOpen name) n = refl
+bad_made _ n = refl
+
+big_places : (tx : ℕ) (call : Call) (me : Private) → ArePlaces tx call me reply.TooBig me.places
+big_places tx (call.XOpen name) me = refl
+big_places tx _ me = refl
+
+big_made : (call : Call) (n : ℕ) → made_after call reply.TooBig n ≡ n
+big_made (call.XOpen name) n = refl
+big_made _ n = refl
+
+much_places : (tx : ℕ) (call : Call) (me : Private) → ArePlaces tx call me reply.TooMuch me.places
+much_places tx (call.XOpen name) me = refl
+much_places tx _ me = refl
+
+much_made : (call : Call) (n : ℕ) → made_after call reply.TooMuch n ≡ n
+much_made (call.XOpen name) n = refl
+much_made _ n = refl
 
 -- the first of the checks that refuses gives such a reply
 pub plain_first : (bad big much : Bool) (r : Reply) → first bad big much ≡ Some r → IsPlain r
-plain_first true big much r e = subst (λ o. IsPlain (unwrap_or o r)) e (record { answer = refl; fault = refl; done = λ _. refl })
-plain_first false true much r e = subst (λ o. IsPlain (unwrap_or o r)) e (record { answer = refl; fault = refl; done = λ _. refl })
-plain_first false false true r e = subst (λ o. IsPlain (unwrap_or o r)) e (record { answer = refl; fault = refl; done = λ _. refl })
+plain_first true big much r e =
+    subst (λ o. IsPlain (unwrap_or o r)) e (record { answer = refl; fault = refl; done = λ _. refl; places = bad_places; made = bad_made })
+plain_first false true much r e =
+    subst (λ o. IsPlain (unwrap_or o r)) e (record { answer = refl; fault = refl; done = λ _. refl; places = big_places; made = big_made })
+plain_first false false true r e =
+    subst (λ o. IsPlain (unwrap_or o r)) e (record { answer = refl; fault = refl; done = λ _. refl; places = much_places; made = much_made })
 plain_first false false false r e = absurd (none_some r e)
 
 -- an overwrite of nothing leaves no record
@@ -91,20 +121,35 @@ refused_done : (call : Call) (me : Private) (all : ℕ) (r : Reply) → refusal_
 refused_done call me all r e = (plain_first (is_bad_handle call me) (is_too_big call) (is_too_much call me) r e).done all
 
 -- a refused overwrite leaves no record
-pub refused_overwrite : (was : Moment) (h : ℕ) (bytes : List ℕ) (r : Reply) → refusal_of (call.XWriteOvr h bytes) was.me ≡ Some r
-    → AreRecorded (call.XWriteOvr h bytes) was [] r
-refused_overwrite was h bytes r e =
-    let p = place_of was.me.places h in
-    λ w. sym (ap (λ n. overwrite_record (with_contents w was.contents) bytes n p) (refused_done (call.XWriteOvr h bytes) was.me (length bytes) r e)
-    ∙ nothing_done (with_contents w was.contents) bytes p)
+pub refused_overwrite : (me : Private) (h : ℕ) (bytes : List ℕ) (r : Reply) → refusal_of (call.XWriteOvr h bytes) me ≡ Some r
+    → (w : World) (number : ℕ) → [] ≡ recorded w me number (call.XWriteOvr h bytes) r
+refused_overwrite me h bytes r e w number =
+    let p = place_of me.places h in
+    sym (ap (λ n. overwrite_record w bytes n p) (refused_done (call.XWriteOvr h bytes) me (length bytes) r e) ∙ nothing_done w bytes p)
 
 -- a refused append leaves no record
-pub refused_append : (was : Moment) (h : ℕ) (bytes : List ℕ) (r : Reply) → refusal_of (call.XWriteSeq h bytes) was.me ≡ Some r
-    → AreRecorded (call.XWriteSeq h bytes) was [] r
-refused_append was h bytes r e =
-    let p = place_of was.me.places h in
-    λ w. sym (ap (λ n. append_record (with_contents w was.contents) bytes n p) (refused_done (call.XWriteSeq h bytes) was.me (length bytes) r e)
-    ∙ nothing_appended (with_contents w was.contents) bytes p)
+pub refused_append : (me : Private) (h : ℕ) (bytes : List ℕ) (r : Reply) → refusal_of (call.XWriteSeq h bytes) me ≡ Some r
+    → (w : World) (number : ℕ) → [] ≡ recorded w me number (call.XWriteSeq h bytes) r
+refused_append me h bytes r e w number =
+    let p = place_of me.places h in
+    sym (ap (λ n. append_record w bytes n p) (refused_done (call.XWriteSeq h bytes) me (length bytes) r e) ∙ nothing_appended w bytes p)
+
+cut_size : (b : Bool) (u : Undo) → length (if b then [] else u ∷ []) ≡ (if b then 0 else 1)
+cut_size true u = refl
+cut_size false u = refl
+
+-- an overwrite at an open file leaves one record where it did some bytes
+pub overwrite_size : (w : World) (bytes : List ℕ) (n : ℕ) (p : Place) (num : Num) (at : ℕ) → p ≡ place.File num at
+    → length (overwrite_record w bytes n p) ≡ (if n == 0 then 0 else 1)
+overwrite_size w bytes n p num at there =
+    ap (λ q. length (overwrite_record w bytes n q)) there
+    ∙ cut_size (n == 0) (Bytes num at (take (length bytes) (drop at (file_of w num))) bytes n)
+
+-- so does an append
+pub append_size : (w : World) (bytes : List ℕ) (n : ℕ) (p : Place) (num : Num) (at : ℕ) → p ≡ place.File num at
+    → length (append_record w bytes n p) ≡ (if n == 0 then 0 else 1)
+append_size w bytes n p num at there =
+    ap (λ q. length (append_record w bytes n q)) there ∙ cut_size (n == 0) (Tail num (length (file_of w num)) bytes n)
 
 -- what a check of a limit says
 abbrev pub by_much : Bool → Option Reply

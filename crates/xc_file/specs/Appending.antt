@@ -1,12 +1,18 @@
 -- What an append does.
-use Rattle.std.specs.Prelude.{◌≡◌, ◌⊎◌, ℕ, ◌+◌, ◌<◌, ◌≤◌, ◌==◌, IsTrue, List, [], ◌∷◌, ◌++◌, length, take, if◌then◌else◌}
+use Rattle.std.specs.Prelude.{◌≡◌, ◌⊎◌, ℕ, ◌+◌, ◌<◌, ◌≤◌, ◌==◌, IsTrue, List, [], ◌∷◌, ◌++◌, length, take, replicate}
+use Rattle.std.specs.Prelude.{Result, Ok, Err, if◌then◌else◌}
 use Rattle.xc_data.specs.declared.object.Num.{Num}
 use Rattle.xc_data.specs.declared.call.Reply.{Reply}
 use Rattle.xc_data.specs.declared.call.Reply.TheVariants.{Done, TooBig, Fault}
+use Rattle.xc_data.specs.declared.script.Kind.{Kind}
+use Rattle.xc_data.specs.declared.script.Kind.TheVariants as kind
 use Rattle.xc_data.specs.declared.undo.Undo.{Undo}
 use Rattle.xc_data.specs.declared.undo.Undo.TheVariants.{Tail}
 use Rattle.xc_host.specs.Contents.{Contents, file_in, appended_front}
 use Rattle.xc_host.specs.Model.{HostModel}
+use Rattle.xc_host.specs.Uses.{MovesBy}
+use Rattle.xc_host.specs.declared.errors.HostErr.{HostErr}
+use Rattle.xc_host.specs.declared.errors.HostErr.TheVariants as host_err
 use Rattle.xc_compensate.specs.Records.{AtHost}
 
 -- a file has room for more bytes
@@ -24,6 +30,12 @@ Appends was is file bytes _ = ⊥
 -- the record of n bytes that were appended to a file of `from` bytes; none where n is 0
 abbrev pub tail : Num → ℕ → List ℕ → ℕ → List Undo
 tail file from bytes n = if n == 0 then [] else Tail file from bytes n ∷ []
+
+-- the calls of an append of n bytes that did so many, by what ended it
+abbrev pub AppendsUntil : ℕ → ℕ → Result (Unit {0}) HostErr → List Kind → Type 0
+AppendsUntil n done (Ok x) made = MovesBy kind.Append done 0 made
+AppendsUntil n done (Err host_err.Fault) made = MovesBy kind.Append done 1 made
+AppendsUntil n done (Err host_err.NoMemory) made = (count : ℕ) × (count ≤ n) × (made ≡ replicate count kind.Append)
 
 -- an append that wanted memory behind a front, which a record tells of
 pub record StopsShort {H : Type 0} (model : HostModel H) (file : Num) (bytes : List ℕ) (old new : AtHost H) : Type 0 where

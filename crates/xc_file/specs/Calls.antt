@@ -1,7 +1,7 @@
 -- What a call on files does: to a host, to the private state of a transaction at it, and to its records.
 use Rattle.std.specs.Prelude.{◌≡◌, ◌⊎◌, ℕ, ◌≤◌, ◌++◌, Bool, true, false, List, []}
-use Rattle.std.specs.Prelude.{length, IsTrue, Option, MatchOption, Result, Ok, Err, IfOk, OnErr, if◌then◌else◌}
-use Rattle.std.specs.declared.option.Option.TheVariants.{None, Some}
+use Rattle.std.specs.Prelude.{length, IsTrue, IsSome, IsOk, Result, Ok, Err, IfOk, OnErr}
+use Rattle.std.specs.declared.option.Option.TheVariants.{None}
 use Rattle.xc_data.specs.Counts.{CountsFault}
 use Rattle.xc_data.specs.Faults.{is_fault_reply}
 use Rattle.xc_data.specs.declared.memory.NoMemory.{NoMemory}
@@ -10,13 +10,14 @@ use Rattle.xc_data.specs.declared.call.Call.TheVariants as call
 use Rattle.xc_data.specs.declared.call.Answer.{Answer}
 use Rattle.xc_data.specs.declared.call.Answer.TheVariants.{Fine}
 use Rattle.xc_data.specs.declared.call.Reply.{Reply}
-use Rattle.xc_data.specs.declared.call.Reply.TheVariants as reply
 use Rattle.xc_data.specs.declared.private.Place.{Place}
 use Rattle.xc_data.specs.declared.private.Place.TheVariants.{File}
 use Rattle.xc_data.specs.declared.private.Private.{Private}
+use Rattle.xc_data.specs.declared.script.Kind.{Kind}
 use Rattle.xc_data.specs.declared.undo.Undo.{Undo}
 use Rattle.xc_world.specs.World.{World}
-use Rattle.xc_world.specs.Checks.{is_bad_handle, is_too_big, is_too_much}
+use Rattle.xc_world.specs.After.{IsMeAfter, ArePlaces, made_after, stored_after, bytes_in}
+use Rattle.xc_world.specs.Checks.{IsChecked, is_check_reply, refusal_of}
 use Rattle.xc_world.specs.Act.{act}
 use Rattle.xc_world.specs.Act.Names.{next_num}
 use Rattle.xc_world.specs.Act.Step.{step_to}
@@ -24,6 +25,7 @@ use Rattle.xc_world.specs.Fits.{fits, answer_of}
 use Rattle.xc_world.specs.Trail.{recorded}
 use Rattle.xc_host.specs.Contents.{Contents, file_in, has_file, with_contents}
 use Rattle.xc_host.specs.Model.{HostModel}
+use Rattle.xc_host.specs.Uses.{Uses, CallsOf, CallsFor, StopsFor}
 use Rattle.xc_compensate.specs.Records.{Records}
 
 -- a host, and a transaction at it: its number, which stays, its private state and its records
@@ -52,23 +54,6 @@ IsOpenIn c _ = Unit {0}
 abbrev pub IsNewIn : Contents → Private → ℕ → Type 0
 IsNewIn c me number = has_file c (next_num me number) ≡ false
 
--- ---- the private checks
--- the reply of the first check that refuses a call on files
-abbrev pub refusal_of : Call → Private → Option Reply
-refusal_of call me =
-    if is_bad_handle call me then Some reply.BadHandle
-    else if is_too_big call then Some reply.TooBig
-    else if is_too_much call me then Some reply.TooMuch
-    else None
-
--- replies that only the checks give; an append is too big also where the file has no room for it
-abbrev pub is_check_reply : Call → Reply → Bool
-is_check_reply (call.XWriteSeq h bytes) reply.TooBig = false
-is_check_reply call reply.BadHandle = true
-is_check_reply call reply.TooBig = true
-is_check_reply call reply.TooMuch = true
-is_check_reply call _ = false
-
 -- ---- what a call does
 -- in every world with the host's contents the plain machine gives this reply, with the answer that the
 -- reply records, the next private state, and the host's contents behind the call
@@ -87,7 +72,11 @@ pub record StepsAlone (call : Call) (me next : Private) (reply : Reply) : Type 0
   pub step : (w : World) (number : ℕ) → act w me number call Fine ≡ step_to w next reply
   pub unrecorded : (w : World) (number : ℕ) → recorded w me number call reply ≡ []
   pub answer : answer_of reply ≡ Fine
-  pub checked : MatchOption (refusal_of call me) (is_check_reply call reply ≡ false) (λ r. (reply ≡ r) × (next ≡ me))
+  pub checked : IsChecked (refusal_of call me) call reply
+  pub unchanged : IsSome (refusal_of call me) → next ≡ me
+  pub after : (number : ℕ) → IsMeAfter number call reply me next
+  -- it is none of those that call the host
+  pub uncalled : CallsOf (refusal_of call me) call reply []
 
 -- a reply is a fault; for want of memory there is no reply
 abbrev pub replies_fault : Result Reply NoMemory → Bool
@@ -115,14 +104,40 @@ pub record IsStarved {H : Type 0} (model : HostModel H) (call : Call) (old new :
       ⊎ DidPart call (moment_of model old) (model.contents new.host) made
   pub none : takes_memory_first call ≡ true → made ≡ []
 
+-- the private state behind a call that no check refused
+pub record IsMePassed (tx : ℕ) (call : Call) (was is : Private) (reply : Reply) : Type 0 where
+  pub places : ArePlaces tx call was reply is.places
+  pub made : is.made ≡ made_after call reply was.made
+  pub stored : is.stored ≡ stored_after None call reply was.stored
+
+-- a reply that no check gives, and that brings no bytes
+abbrev pub IsPassedReply : Call → Reply → Type 0
+IsPassedReply call reply = (is_check_reply call reply ≡ false) × (bytes_in reply ≡ 0)
+
+-- the calls of the host by the end of a call that no check refused
+abbrev pub PassedBy : Call → Result Reply NoMemory → List Kind → Type 0
+PassedBy call (Ok reply) made = CallsFor call reply made
+PassedBy call (Err e) made = StopsFor call made
+
+-- which calls of the host are made by the end of a call: those of its reply, or where memory was wanting the first of them
+abbrev pub MadeBy : Call → Private → Result Reply NoMemory → List Kind → Type 0
+MadeBy call me (Ok reply) made = CallsOf (refusal_of call me) call reply made
+MadeBy call me (Err e) made = StopsFor call made
+
 -- a call on files, over any host
 pub record IsFileCall {H : Type 0} (model : HostModel H) (call : Call) (old new : CallState H)
     (result : Result Reply NoMemory) : Type 0 where
   -- refused exactly where a check refuses it, with its reply; then nothing is changed, and the host isn't called
-  pub checked : MatchOption (refusal_of call old.me) (IfOk result (λ r. is_check_reply call r ≡ false)) (λ r. (result ≡ Ok r) × (new ≡ old))
-  -- the older records stay, and at most one comes behind them
+  pub checked : IfOk result (IsChecked (refusal_of call old.me) call)
+  pub unchanged : IsSome (refusal_of call old.me) → (new ≡ old) × IsOk result
+  -- whatever the host says, the private state is that of the reply
+  pub after : IfOk result (λ reply. IsMeAfter old.number call reply old.me new.me)
+  -- it called the host so
+  pub uses : Uses model (record { old = old.host; new = new.host }) (MadeBy call old.me result)
+  -- the older records stay, and one comes behind them exactly where the plain machine leaves one
   pub made : List Undo
   pub one : length made ≤ 1
+  pub count : (w : World) → IfOk result (λ reply. length made ≡ length (recorded w old.me old.number call reply))
   pub undo : new.undo ≡ record old.undo { pending = old.undo.pending ++ made }
   -- where the host tells, the step and the records are the plain machine's
   pub acts : IsTrue model.tells → IfOk result (Acts call (moment_of model old) (moment_of model new))

@@ -1,15 +1,20 @@
 -- What calls on names do, where the host tells.
-use Rattle.std.specs.Prelude.{◌≡◌, ℕ, true, is_some, List}
+use Rattle.std.specs.Prelude.{◌≡◌, ◌⊎◌, ℕ, true, is_some, List, [], ◌∷◌, Result, Ok, Err}
 use Rattle.std.specs.declared.option.Option.TheVariants.{None}
 use Rattle.std.specs.FinMap as map
+use Rattle.xc_data.specs.declared.memory.NoMemory.{NoMemory}
 use Rattle.xc_data.specs.declared.object.Num.{Num}
 use Rattle.xc_data.specs.declared.call.Reply.{Reply}
 use Rattle.xc_data.specs.declared.call.Reply.TheVariants.{Made, Done, NoName, Exists, Fault}
+use Rattle.xc_data.specs.declared.script.Kind.{Kind}
+use Rattle.xc_data.specs.declared.script.Kind.TheVariants as kind
 use Rattle.xc_data.specs.declared.private.Place.TheVariants.{File}
 use Rattle.xc_data.specs.declared.private.Private.{Private}
 use Rattle.xc_data.specs.Private.{with_place}
 use Rattle.xc_world.specs.Act.Names.{making}
+use Rattle.xc_world.specs.After.{bytes_in}
 use Rattle.xc_host.specs.Contents.{Contents, created, renamed}
+use Rattle.xc_host.specs.Uses.{CreatesFor, RenamesFor}
 
 -- a name has a file
 abbrev pub IsNamed : Contents → List ℕ → Type 0
@@ -34,12 +39,22 @@ Renames was is from to Exists = (is ≡ was) × IsNamed was from × IsNamed was 
 Renames was is from to (Fault n) = (is ≡ was) × (n ≡ 0)
 Renames was is from to _ = ⊥
 
--- a new file's handle is this one
+-- a new file's handle is this one, and no other reply brings bytes
 abbrev pub IsMadeAt : ℕ → Reply → Type 0
 IsMadeAt h (Made k) = k ≡ h
-IsMadeAt h _ = Unit {0}
+IsMadeAt h reply = bytes_in reply ≡ 0
 
 -- where a file was made, it stands at its handle, and one object more is made
 abbrev pub with_made : Private → ℕ → Num → Reply → Private
 with_made me h num (Made k) = making (with_place me h (File num 0))
 with_made me h num _ = me
+
+-- the one call that makes a file, behind a look for its name; where memory was wanting, it may not have come to it
+abbrev pub CreatesOnce : Result Reply NoMemory → List Kind → Type 0
+CreatesOnce (Ok reply) made = (made ≡ kind.Create ∷ []) × CreatesFor reply (kind.Lookup ∷ kind.Create ∷ [])
+CreatesOnce (Err e) made = (made ≡ []) ⊎ (made ≡ kind.Create ∷ [])
+
+-- the one call that gives another name, behind two looks; it takes no memory
+abbrev pub RenamesOnce : Result Reply NoMemory → List Kind → Type 0
+RenamesOnce (Ok reply) made = (made ≡ kind.Rename ∷ []) × RenamesFor reply (kind.Lookup ∷ kind.Lookup ∷ kind.Rename ∷ [])
+RenamesOnce (Err e) made = made ≡ []

@@ -1,13 +1,17 @@
 -- What an overwrite does, where the host tells.
-use Rattle.std.specs.Prelude.{◌≡◌, ◌⊎◌, ℕ, ◌+◌, ◌<◌, ◌≤◌, ◌==◌, List, ◌++◌, length, take, if◌then◌else◌}
+use Rattle.std.specs.Prelude.{Result, Ok, Option, ◌≡◌, ◌⊎◌, ℕ, ◌+◌, ◌<◌, ◌≤◌, ◌==◌, List, ◌++◌, length, take, if◌then◌else◌}
+use Rattle.std.specs.declared.option.Option.TheVariants.{Some}
 use Rattle.xc_data.specs.declared.object.Num.{Num}
 use Rattle.xc_data.specs.declared.call.Reply.{Reply}
 use Rattle.xc_data.specs.declared.call.Reply.TheVariants.{Done, PastEnd, Fault}
 use Rattle.xc_data.specs.declared.private.Place.TheVariants.{File}
 use Rattle.xc_data.specs.declared.private.Private.{Private}
+use Rattle.xc_data.specs.declared.script.Kind.{Kind}
 use Rattle.xc_data.specs.declared.undo.Undo.{Undo}
 use Rattle.xc_data.specs.Private.{with_place}
 use Rattle.xc_host.specs.Contents.{Contents, file_in, wrote_front}
+use Rattle.xc_host.specs.Uses.{MayMove, overwrites}
+use Rattle.xc_host.specs.declared.errors.HostErr.{HostErr}
 use Rattle.xc_compensate.specs.Records.{Records}
 
 -- the bytes fit into a file from `at` on
@@ -27,8 +31,17 @@ module _ (was is : Contents) where
 abbrev pub moved_on : Private → ℕ → Num → ℕ → ℕ → Private
 moved_on me h file at done = if done == 0 then me else with_place me h (File file (at + done))
 
--- the older records stay, and at most one comes behind them
-pub record AddsOne (old new : Records) : Type 0 where
+-- the older records stay, and one comes behind them exactly where some bytes are done
+pub record AddsFor (done : ℕ) (old new : Records) : Type 0 where
   pub made : List Undo
-  pub one : length made ≤ 1
+  pub count : length made ≡ (if done == 0 then 0 else 1)
   pub undo : new ≡ record old { pending = old.pending ++ made }
+
+-- the calls that look for n bytes which are there: at the length, and then at the bytes
+abbrev pub LooksThere : ℕ → List Kind → Type 0
+LooksThere n made = (reads : ℕ) × MayMove n reads × (made ≡ overwrites reads 0)
+
+-- those that look for n bytes, and stop where they aren't there or one fails
+abbrev pub LooksFor : {T : Type 0} → ℕ → Result (Option T) HostErr → List Kind → Type 0
+LooksFor n (Ok (Some before)) made = LooksThere n made
+LooksFor n _ made = (reads : ℕ) × (reads ≤ n) × (made ≡ overwrites reads 0)

@@ -1,17 +1,21 @@
-ghost use Rattle.std.specs.Prelude.{◌≡◌, ◌<◌, ◌≤◌, ◌+◌, ℕ, ◌++◌, [], ◌^◌, true, false};
+ghost use Rattle.std.specs.Prelude.{◌≡◌, ◌<◌, ◌≤◌, ◌+◌, ℕ, ◌++◌, ◌∷◌, [], ◌^◌, true, false};
 ghost use Rattle.std.specs.Prelude.{length, take, IfOk, IfSome, MatchOption, OnOk, OnErr, IsTrue, is_err};
 ghost use Rattle.xc_world.specs.Late.{is_late};
 ghost use Rattle.xc_data.specs.Counts.{CountsFault};
 ghost use Rattle.xc_data.specs.Private.{place_of};
 ghost use Rattle.xc_data.specs.declared.call.Call.TheVariants.{XWriteSeq};
+ghost use Rattle.xc_data.specs.declared.script.Kind.TheVariants.{Len};
 ghost use Rattle.xc_data.specs.declared.private.Place.TheVariants.{File};
 ghost use Rattle.xc_world.specs.Trail.{append_record, done_of};
 ghost use Rattle.xc_host.specs.Cause.{is_fault};
 ghost use Rattle.xc_host.specs.Contents.{file_in, has_file, appended_front, world_of};
-ghost use Rattle.xc_file.specs.Appending.{Appends, HasRoom, StopsShort, tail};
-ghost use Rattle.xc_file.specs.Calls.{Acts, IsFileCall, IsOpenIn, is_check_reply, replies_fault};
+ghost use Rattle.xc_host.specs.Model.{IsUsed};
+ghost use Rattle.xc_host.specs.Uses.{Uses};
+ghost use Rattle.xc_file.specs.Appending.{Appends, AppendsUntil, HasRoom, StopsShort, tail};
+ghost use Rattle.xc_file.specs.Calls.{Acts, IsFileCall, IsMePassed, IsOpenIn, IsPassedReply, PassedBy, replies_fault};
+ghost use Rattle.xc_world.specs.After.{IsAppendedAt};
 ghost use Rattle.xc_file.specs.Checks.{IsOpenAt};
-ghost use Rattle.xc_file.specs.Writing.{AddsOne, moved_on};
+ghost use Rattle.xc_file.specs.Writing.{AddsFor, moved_on};
 
 use crate::checks::{OpenFile, open_file};
 use crate::moving::move_on;
@@ -33,6 +37,7 @@ fn end_of<H: Host>(host: &mut H, file: Num, n: u32) -> Result<Option<u32>, Fault
     ensures value { IsTrue H.model.tells → IfOk result (λ found. MatchOption found
         (65536 < length (file_in (H.model.contents host.old) file) + n)
         (λ from. from ≡ length (file_in (H.model.contents host.old) file))) }
+    ensures used { IsUsed H.model (Len ∷ []) (record { old = host.old; new = host.new }) }
     ensures contents { IsTrue H.model.tells → H.model.contents host.new ≡ H.model.contents host.old }
     ensures cause { CountsFault (is_err result) (H.model.fault_count host.old) (H.model.fault_count host.new) }
 {
@@ -50,6 +55,7 @@ fn append_whole<H: Host>(host: &mut H, file: Num, bytes: &[u8]) -> Appended
     requires room { IsTrue H.model.tells → HasRoom (H.model.contents host.old) file bytes.now }
     ensures whole { OnOk result.end (result.done ≡ length bytes.now) }
     ensures short { OnErr result.end (result.done < length bytes.now) }
+    ensures uses { Uses H.model (record { old = host.old; new = host.new }) (AppendsUntil (length bytes.now) result.done result.end) }
     ensures contents { IsTrue H.model.tells
         → H.model.contents host.new ≡ appended_front (H.model.contents host.old) file (take result.done bytes.now) }
     ensures cause { CountsFault (is_fault result.end) (H.model.fault_count host.old) (H.model.fault_count host.new) }
@@ -103,6 +109,7 @@ fn append_recorded<H: Host>(
     requires none { undo.old.ended ≡ [] }
     ensures whole { OnOk result.end (result.done ≡ length bytes.now) }
     ensures short { OnErr result.end (result.done < length bytes.now) }
+    ensures uses { Uses H.model (record { old = host.old; new = host.new }) (AppendsUntil (length bytes.now) result.done result.end) }
     ensures contents { IsTrue H.model.tells
         → H.model.contents host.new ≡ appended_front (H.model.contents host.old) file (take result.done bytes.now) }
     ensures records { undo.new
@@ -132,12 +139,14 @@ fn append<H: Host>(
 ) -> Result<Reply, NoMemory>
     requires some { 0 < length bytes.now }
     requires most { length bytes.now ≤ 1024 }
-    requires handle { file.h < 256 }
+    requires file { IsOpenAt me.old file }
     requires there { IsTrue H.model.tells → has_file (H.model.contents host.old) file.num ≡ true }
     requires none { undo.old.ended ≡ [] }
     ensures told { IsTrue H.model.tells
         → IfOk result (Appends (H.model.contents host.old) (H.model.contents host.new) file.num bytes.now) }
-    ensures reply { IfOk result (λ reply. is_check_reply (XWriteSeq file.h bytes.now) reply ≡ false) }
+    ensures uses { Uses H.model (record { old = host.old; new = host.new }) (PassedBy (XWriteSeq file.h bytes.now) result) }
+    ensures places { IfOk result (λ reply. IsAppendedAt me.old.places file.h (done_of (length bytes.now) reply) me.new.places) }
+    ensures reply { IfOk result (IsPassedReply (XWriteSeq file.h bytes.now)) }
     ensures me { IsTrue H.model.tells → IfOk result (λ reply. me.new ≡ moved_on me.old file.h file.num
         (length (file_in (H.model.contents host.old) file.num)) (done_of (length bytes.now) reply)) }
     ensures same { (me.new.stored ≡ me.old.stored) × (me.new.made ≡ me.old.made) }
@@ -146,7 +155,7 @@ fn append<H: Host>(
           (File file.num file.at);
       ended = [];
     }) }
-    ensures grows { OnOk result (AddsOne undo.old undo.new) }
+    ensures grows { IfOk result (λ reply. AddsFor (done_of (length bytes.now) reply) undo.old undo.new) }
     ensures err { OnErr result (me.new ≡ me.old) }
     ensures stops { OnErr result (StopsShort H.model file.num bytes.now
         (record { host = host.old; undo = undo.old }) (record { host = host.new; undo = undo.new })) }
@@ -161,8 +170,10 @@ fn append<H: Host>(
     let appended = append_recorded(host, undo, file.num, from, bytes);
     let reply = match appended.end {
         Ok(()) => Reply::Done,
-        Err(HostErr::Fault) => Reply::Fault(appended.done),
-        Err(HostErr::NoMemory) => return Err(NoMemory),
+        Err(error) => match error {
+            HostErr::Fault => Reply::Fault(appended.done),
+            HostErr::NoMemory => return Err(NoMemory),
+        },
     };
     move_on(me, OpenFile { at: from, ..file }, appended.done);
     Ok(reply)
@@ -183,13 +194,15 @@ fn append_next<H: Host>(
     ensures acts { (number : ℕ) → IsTrue H.model.tells → IfOk result (Acts (XWriteSeq file.h bytes.now)
         (record { contents = H.model.contents host.old; number = number; me = me.old })
         (record { contents = H.model.contents host.new; number = number; me = me.new })) }
-    ensures reply { IfOk result (λ reply. is_check_reply (XWriteSeq file.h bytes.now) reply ≡ false) }
+    ensures uses { Uses H.model (record { old = host.old; new = host.new }) (PassedBy (XWriteSeq file.h bytes.now) result) }
+    ensures after { (number : ℕ) → IfOk result (IsMePassed number (XWriteSeq file.h bytes.now) me.old me.new) }
+    ensures reply { IfOk result (IsPassedReply (XWriteSeq file.h bytes.now)) }
     ensures records { IsTrue H.model.tells → IfOk result (λ reply. undo.new ≡ record {
       pending = undo.old.pending ++ append_record (world_of (H.model.contents host.old)) bytes.now (done_of (length bytes.now) reply)
           (File file.num file.at);
       ended = [];
     }) }
-    ensures grows { OnOk result (AddsOne undo.old undo.new) }
+    ensures grows { IfOk result (λ reply. AddsFor (done_of (length bytes.now) reply) undo.old undo.new) }
     ensures stored { me.new.stored ≤ 16384 }
     ensures made { me.new.made ≡ me.old.made }
     ensures err { OnErr result (me.new ≡ me.old) }

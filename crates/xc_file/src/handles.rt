@@ -5,8 +5,10 @@ ghost use Rattle.xc_data.specs.Faults.{is_fault_reply};
 ghost use Rattle.xc_data.specs.Private.{place_of};
 ghost use Rattle.xc_data.specs.declared.call.Call.TheVariants.{XSeek, XLen, XClose};
 ghost use Rattle.xc_host.specs.Contents.{has_file};
+ghost use Rattle.xc_host.specs.Uses.{Uses, CallsFor};
 ghost use Rattle.xc_compensate.specs.Records.{Records};
-ghost use Rattle.xc_file.specs.Calls.{Acts, IsFileCall, IsOpenIn, StepsAlone, is_check_reply};
+ghost use Rattle.xc_world.specs.Checks.{is_check_reply};
+ghost use Rattle.xc_file.specs.Calls.{Acts, IsFileCall, IsMePassed, IsOpenIn, StepsAlone};
 ghost use Rattle.xc_file.specs.Checks.{IsOpenAt};
 
 use crate::checks::{OpenFile, file_at};
@@ -50,7 +52,9 @@ fn len_of<H: Host>(host: &mut H, me: &Private, file: OpenFile) -> Reply
     ensures acts { (number : ℕ) → IsTrue H.model.tells → Acts (XLen file.h)
         (record { contents = H.model.contents host.old; number = number; me = me.now })
         (record { contents = H.model.contents host.new; number = number; me = me.now }) result }
+    ensures after { (number : ℕ) → IsMePassed number (XLen file.h) me.now me.now result }
     ensures reply { is_check_reply (XLen file.h) result ≡ false }
+    ensures uses { Uses H.model (record { old = host.old; new = host.new }) (CallsFor (XLen file.h) result) }
     ensures contents { IsTrue H.model.tells → H.model.contents host.new ≡ H.model.contents host.old }
     ensures cause { CountsFault (is_fault_reply result) (H.model.fault_count host.old) (H.model.fault_count host.new) }
     ensures now { is_late result ≡ false }

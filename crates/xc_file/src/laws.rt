@@ -7,8 +7,8 @@ ghost use Rattle.xc_data.specs.declared.private.Private.{Private};
 ghost use Rattle.xc_world.specs.World.{World};
 ghost use Rattle.xc_world.specs.Act.{act};
 ghost use Rattle.xc_world.specs.Act.Step.{step_to};
-ghost use Rattle.xc_world.specs.Checks.{is_bad_word, is_refused};
-ghost use Rattle.xc_file.specs.Calls.{CallState, IsFileCall, StepsAlone, refusal_of};
+ghost use Rattle.xc_world.specs.Checks.{is_bad_word, is_refused, refusal_of};
+ghost use Rattle.xc_file.specs.Calls.{CallState, IsFileCall, StepsAlone};
 
 use xc_host::Host;
 

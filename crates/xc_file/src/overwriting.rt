@@ -1,17 +1,19 @@
 ghost use Rattle.std.specs.Prelude.{◌≡◌, ◌<◌, ◌≤◌, ◌+◌, ℕ, ◌++◌, ◌∷◌, [], ◌^◌, ◌==◌, true};
-ghost use Rattle.std.specs.Prelude.{false, length, take, drop, IfOk, IfSome, MatchOption, OnOk, OnErr, IsTrue, if◌then◌else◌};
+ghost use Rattle.std.specs.Prelude.{false, length, take, drop, cond, IfOk, IfSome, MatchOption, OnErr, IsTrue, if◌then◌else◌};
 ghost use Rattle.xc_world.specs.Late.{is_late};
 ghost use Rattle.xc_data.specs.Counts.{CountsFault};
 ghost use Rattle.xc_data.specs.Private.{place_of};
 ghost use Rattle.xc_data.specs.declared.call.Call.TheVariants.{XWriteOvr};
 ghost use Rattle.xc_data.specs.declared.private.Place.TheVariants.{File};
+ghost use Rattle.xc_data.specs.declared.script.Kind.TheVariants.{WriteAt};
 ghost use Rattle.xc_data.specs.declared.undo.Undo.TheVariants.{Bytes};
 ghost use Rattle.xc_world.specs.Trail.{overwrite_record, done_of};
 ghost use Rattle.xc_host.specs.Cause.{is_fault};
 ghost use Rattle.xc_host.specs.Contents.{file_in, has_file, wrote_front, world_of};
-ghost use Rattle.xc_file.specs.Calls.{Acts, IsFileCall, IsOpenIn, is_check_reply, replies_fault};
+ghost use Rattle.xc_host.specs.Uses.{Uses, MovesBy};
+ghost use Rattle.xc_file.specs.Calls.{Acts, IsFileCall, IsMePassed, IsOpenIn, IsPassedReply, PassedBy, replies_fault};
 ghost use Rattle.xc_file.specs.Checks.{IsOpenAt};
-ghost use Rattle.xc_file.specs.Writing.{AddsOne, IsInside, Overwrote};
+ghost use Rattle.xc_file.specs.Writing.{AddsFor, IsInside, LooksFor, Overwrote};
 
 use crate::checks::{OpenFile, open_file};
 use crate::moving::move_on;
@@ -36,6 +38,7 @@ fn bytes_under<H: Host>(
         (length (file_in (H.model.contents host.old) file) < at + n)
         (λ before. (before.items ≡ take n (drop at (file_in (H.model.contents host.old) file)))
         × (at + n ≤ length (file_in (H.model.contents host.old) file)))) }
+    ensures uses { Uses H.model (record { old = host.old; new = host.new }) (LooksFor n result) }
     ensures contents { IsTrue H.model.tells → H.model.contents host.new ≡ H.model.contents host.old }
     ensures cause { CountsFault (is_fault result) (H.model.fault_count host.old) (H.model.fault_count host.new) }
 {
@@ -69,6 +72,8 @@ fn write_recorded<H: Host>(
     requires none { undo.old.ended ≡ [] }
     ensures whole { IfOk result (λ written. written.fault ≡ false → written.done ≡ length bytes.now) }
     ensures short { IfOk result (λ written. written.fault ≡ true → written.done < length bytes.now) }
+    ensures uses { IfOk result (λ written. Uses H.model (record { old = host.old; new = host.new })
+        (MovesBy WriteAt written.done (cond written.fault 1 0))) }
     ensures contents { IsTrue H.model.tells
         → IfOk result (λ written. H.model.contents host.new
         ≡ wrote_front (H.model.contents host.old) file at (take written.done bytes.now)) }
@@ -113,13 +118,14 @@ fn overwrite<H: Host>(
     ensures room { IfOk result (λ reply. file.at + done_of (length bytes.now) reply < 2 ^ 32) }
     ensures told { IsTrue H.model.tells
         → IfOk result (Overwrote (H.model.contents host.old) (H.model.contents host.new) file.num file.at bytes.now) }
-    ensures reply { IfOk result (λ reply. is_check_reply (XWriteOvr file.h bytes.now) reply ≡ false) }
+    ensures uses { Uses H.model (record { old = host.old; new = host.new }) (PassedBy (XWriteOvr file.h bytes.now) result) }
+    ensures reply { IfOk result (IsPassedReply (XWriteOvr file.h bytes.now)) }
     ensures records { IsTrue H.model.tells → IfOk result (λ reply. undo.new ≡ record {
       pending = undo.old.pending ++ overwrite_record (world_of (H.model.contents host.old)) bytes.now (done_of (length bytes.now) reply)
           (File file.num file.at);
       ended = [];
     }) }
-    ensures grows { OnOk result (AddsOne undo.old undo.new) }
+    ensures grows { IfOk result (λ reply. AddsFor (done_of (length bytes.now) reply) undo.old undo.new) }
     ensures err_undo { OnErr result (undo.new ≡ undo.old) }
     ensures err_contents { IsTrue H.model.tells → OnErr result (H.model.contents host.new ≡ H.model.contents host.old) }
     ensures cause { CountsFault (replies_fault result) (H.model.fault_count host.old) (H.model.fault_count host.new) }
@@ -167,13 +173,15 @@ fn write_next<H: Host>(
     ensures acts { (number : ℕ) → IsTrue H.model.tells → IfOk result (Acts (XWriteOvr file.h bytes.now)
         (record { contents = H.model.contents host.old; number = number; me = me.old })
         (record { contents = H.model.contents host.new; number = number; me = me.new })) }
-    ensures reply { IfOk result (λ reply. is_check_reply (XWriteOvr file.h bytes.now) reply ≡ false) }
+    ensures uses { Uses H.model (record { old = host.old; new = host.new }) (PassedBy (XWriteOvr file.h bytes.now) result) }
+    ensures after { (number : ℕ) → IfOk result (IsMePassed number (XWriteOvr file.h bytes.now) me.old me.new) }
+    ensures reply { IfOk result (IsPassedReply (XWriteOvr file.h bytes.now)) }
     ensures records { IsTrue H.model.tells → IfOk result (λ reply. undo.new ≡ record {
       pending = undo.old.pending ++ overwrite_record (world_of (H.model.contents host.old)) bytes.now (done_of (length bytes.now) reply)
           (File file.num file.at);
       ended = [];
     }) }
-    ensures grows { OnOk result (AddsOne undo.old undo.new) }
+    ensures grows { IfOk result (λ reply. AddsFor (done_of (length bytes.now) reply) undo.old undo.new) }
     ensures stored { me.new.stored ≤ 16384 }
     ensures made { me.new.made ≡ me.old.made }
     ensures err { OnErr result (me.new ≡ me.old) }

@@ -1,15 +1,20 @@
-ghost use Rattle.std.specs.Prelude.{◌≡◌, ◌<◌, ◌≤◌, ◌+◌, ◌^◌, ℕ, true, false, length, take, drop, IfOk, OnErr, IsTrue};
+ghost use Rattle.std.specs.Prelude.{◌≡◌, ◌<◌, ◌≤◌, ◌+◌, ◌^◌, ◌∷◌, ◌⊎◌, [], ℕ, true, false, length, take, drop, IfOk, OnErr, IsTrue};
 ghost use Rattle.xc_world.specs.Late.{is_late};
 ghost use Rattle.xc_data.specs.Counts.{CountsFault};
 ghost use Rattle.xc_data.specs.Private.{place_of};
 ghost use Rattle.xc_data.specs.declared.call.Call.TheVariants.{XRead};
+ghost use Rattle.xc_data.specs.declared.call.Reply.TheVariants.{End, Fault};
+ghost use Rattle.xc_data.specs.declared.script.Kind.TheVariants.{ReadAt};
 ghost use Rattle.xc_data.specs.declared.private.Place.TheVariants.{File};
 ghost use Rattle.xc_host.specs.Cause.{is_fault};
 ghost use Rattle.xc_host.specs.Contents.{file_in, has_file};
+ghost use Rattle.xc_host.specs.Model.{IsUsed};
+ghost use Rattle.xc_host.specs.Uses.{Uses, MovesBy};
 ghost use Rattle.xc_compensate.specs.Records.{Records};
-ghost use Rattle.xc_file.specs.Calls.{Acts, IsFileCall, IsOpenIn, is_check_reply, replies_fault};
+ghost use Rattle.xc_file.specs.Calls.{Acts, IsFileCall, IsMePassed, IsOpenIn, PassedBy, replies_fault};
+ghost use Rattle.xc_world.specs.Checks.{is_check_reply};
 ghost use Rattle.xc_file.specs.Checks.{IsOpenAt};
-ghost use Rattle.xc_file.specs.Reading.{AppendsFront};
+ghost use Rattle.xc_file.specs.Reading.{AppendsFront, ReadsBy};
 
 use crate::checks::{OpenFile, open_file};
 use std::alloc::Global;
@@ -28,6 +33,7 @@ fn read_more<H: Host>(
     ensures bound { IfOk result (λ more. (more ≤ n) × (length bytes.new.items ≡ length bytes.old.items + more)) }
     ensures value { IsTrue H.model.tells
         → IfOk result (λ more. AppendsFront (file_in (H.model.contents host.old) file) at n more bytes.old.items bytes.new.items) }
+    ensures used { IsUsed H.model (ReadAt ∷ []) (record { old = host.old; new = host.new }) }
     ensures contents { IsTrue H.model.tells → H.model.contents host.new ≡ H.model.contents host.old }
     ensures cause { CountsFault (is_fault result) (H.model.fault_count host.old) (H.model.fault_count host.new) }
 {
@@ -50,6 +56,8 @@ pub(crate) fn read_whole<H: Host>(
     ensures bound { IfOk result (λ bytes. length bytes.items ≤ n) }
     ensures value { IsTrue H.model.tells
         → IfOk result (λ bytes. bytes.items ≡ take n (drop at (file_in (H.model.contents host.old) file))) }
+    ensures uses { IfOk result (λ bytes. Uses H.model (record { old = host.old; new = host.new }) (ReadsBy n (length bytes.items))) }
+    ensures uses_err { OnErr result (Uses H.model (record { old = host.old; new = host.new }) (MovesBy ReadAt n 0)) }
     ensures contents { IsTrue H.model.tells → H.model.contents host.new ≡ H.model.contents host.old }
     ensures cause { CountsFault (is_fault result) (H.model.fault_count host.old) (H.model.fault_count host.new) }
 {
@@ -63,6 +71,21 @@ pub(crate) fn read_whole<H: Host>(
         len += more;
     }
     Ok(bytes)
+}
+
+// Asks for a byte behind the last place that a number can name. No file has one there.
+fn read_past<H: Host>(host: &mut H, file: Num, at: u32) -> Result<Reply, NoMemory>
+    requires there { IsTrue H.model.tells → has_file (H.model.contents host.old) file ≡ true }
+    ensures end { IfOk result (λ reply. (reply ≡ End) ⊎ (reply ≡ Fault 0)) }
+    ensures used { IsUsed H.model (ReadAt ∷ []) (record { old = host.old; new = host.new }) }
+    ensures contents { IsTrue H.model.tells → H.model.contents host.new ≡ H.model.contents host.old }
+    ensures cause { CountsFault (replies_fault result) (H.model.fault_count host.old) (H.model.fault_count host.new) }
+{
+    match host.read_at(file, at, 1) {
+        Ok(_) => Ok(Reply::End),
+        Err(HostErr::Fault) => Ok(Reply::Fault(0)),
+        Err(HostErr::NoMemory) => Err(NoMemory),
+    }
 }
 
 // Reads the next n bytes of an open file that the checks let pass.
@@ -79,6 +102,8 @@ fn read_next<H: Host>(
     ensures acts { (number : ℕ) → IsTrue H.model.tells → IfOk result (Acts (XRead file.h n)
         (record { contents = H.model.contents host.old; number = number; me = me.old })
         (record { contents = H.model.contents host.new; number = number; me = me.new })) }
+    ensures uses { Uses H.model (record { old = host.old; new = host.new }) (PassedBy (XRead file.h n) result) }
+    ensures after { (number : ℕ) → IfOk result (IsMePassed number (XRead file.h n) me.old me.new) }
     ensures reply { IfOk result (λ reply. is_check_reply (XRead file.h n) reply ≡ false) }
     ensures contents { IsTrue H.model.tells → H.model.contents host.new ≡ H.model.contents host.old }
     ensures stored { me.new.stored ≤ 16384 }
@@ -92,7 +117,7 @@ fn read_next<H: Host>(
         return Ok(Reply::Got(Chunk::new(alloc, &[])?));
     }
     if at > u32::MAX - n {
-        return Ok(Reply::End);
+        return read_past(host, num, at);
     }
     let bytes = match read_whole(alloc, host, num, at, n) {
         Ok(bytes) => bytes,

@@ -1,12 +1,12 @@
-ghost use Rattle.std.specs.Prelude.{◌≡◌, ℕ, ◌++◌, [], false, IfOk, OnOk, OnErr, IsTrue};
+ghost use Rattle.std.specs.Prelude.{◌≡◌, ℕ, ◌++◌, [], false, IfOk, OnErr, IsTrue};
 ghost use Rattle.xc_world.specs.Late.{is_late};
 ghost use Rattle.xc_world.specs.Trail.{rename_record};
 ghost use Rattle.xc_data.specs.Counts.{CountsFault};
 ghost use Rattle.xc_data.specs.declared.call.Call.TheVariants.{XRename};
 ghost use Rattle.xc_data.specs.declared.private.Private.{Private};
-ghost use Rattle.xc_file.specs.Calls.{IsFileCall, is_check_reply, replies_fault};
-ghost use Rattle.xc_file.specs.Naming.{IsNamed, IsAbsent, Renames};
-ghost use Rattle.xc_file.specs.Writing.{AddsOne};
+ghost use Rattle.xc_host.specs.Uses.{Uses};
+ghost use Rattle.xc_file.specs.Calls.{IsFileCall, IsPassedReply, PassedBy, replies_fault};
+ghost use Rattle.xc_file.specs.Naming.{IsNamed, IsAbsent, Renames, RenamesOnce};
 
 use xc_compensate::Stack;
 use xc_data::{Name, NoMemory, Reply, Undo};
@@ -22,12 +22,12 @@ fn rename_recorded<H: Host>(
     requires there { IsTrue H.model.tells → IsNamed (H.model.contents host.old) from.now }
     requires absent { IsTrue H.model.tells → IsAbsent (H.model.contents host.old) to.now }
     requires none { undo.old.ended ≡ [] }
-    ensures reply { IfOk result (λ reply. is_check_reply (XRename from.now to.now) reply ≡ false) }
+    ensures uses { Uses H.model (record { old = host.old; new = host.new }) (RenamesOnce result) }
+    ensures reply { IfOk result (IsPassedReply (XRename from.now to.now)) }
     ensures told { IsTrue H.model.tells
         → IfOk result (Renames (H.model.contents host.old) (H.model.contents host.new) from.now to.now) }
     ensures records { IfOk result (λ reply. undo.new
         ≡ record { pending = undo.old.pending ++ rename_record from.now to.now reply; ended = [] }) }
-    ensures grows { OnOk result (AddsOne undo.old undo.new) }
     ensures err { OnErr result (undo.new ≡ undo.old) }
     ensures err_contents { IsTrue H.model.tells → OnErr result (H.model.contents host.new ≡ H.model.contents host.old) }
     ensures cause { CountsFault (replies_fault result) (H.model.fault_count host.old) (H.model.fault_count host.new) }
@@ -53,12 +53,12 @@ fn rename<H: Host>(
     to: &Name,
 ) -> Result<Reply, NoMemory>
     requires none { undo.old.ended ≡ [] }
-    ensures reply { IfOk result (λ reply. is_check_reply (XRename from.now to.now) reply ≡ false) }
+    ensures uses { Uses H.model (record { old = host.old; new = host.new }) (PassedBy (XRename from.now to.now) result) }
+    ensures reply { IfOk result (IsPassedReply (XRename from.now to.now)) }
     ensures told { IsTrue H.model.tells
         → IfOk result (Renames (H.model.contents host.old) (H.model.contents host.new) from.now to.now) }
     ensures records { IfOk result (λ reply. undo.new
         ≡ record { pending = undo.old.pending ++ rename_record from.now to.now reply; ended = [] }) }
-    ensures grows { OnOk result (AddsOne undo.old undo.new) }
     ensures err { OnErr result (undo.new ≡ undo.old) }
     ensures err_contents { IsTrue H.model.tells → OnErr result (H.model.contents host.new ≡ H.model.contents host.old) }
     ensures cause { CountsFault (replies_fault result) (H.model.fault_count host.old) (H.model.fault_count host.new) }

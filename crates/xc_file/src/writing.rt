@@ -1,6 +1,8 @@
-ghost use Rattle.std.specs.Prelude.{◌≡◌, ◌<◌, ◌≤◌, ◌+◌, ◌^◌, true, false, length, take, IsTrue};
+ghost use Rattle.std.specs.Prelude.{◌≡◌, ◌<◌, ◌≤◌, ◌+◌, ◌^◌, true, false, length, take, cond, IsTrue};
 ghost use Rattle.xc_data.specs.Counts.{CountsFault};
+ghost use Rattle.xc_data.specs.declared.script.Kind.TheVariants.{WriteAt};
 ghost use Rattle.xc_host.specs.Contents.{file_in, has_file, wrote_front};
+ghost use Rattle.xc_host.specs.Uses.{Uses, MovesBy};
 
 use xc_data::Num;
 use xc_host::{Host, a_front_grows, a_write_keeps_the_length};
@@ -19,6 +21,7 @@ pub(crate) fn write_whole<H: Host>(host: &mut H, file: Num, at: u32, bytes: &[u8
     requires inside { IsTrue H.model.tells → at + length bytes.now ≤ length (file_in (H.model.contents host.old) file) }
     ensures whole { result.fault ≡ false → result.done ≡ length bytes.now }
     ensures short { result.fault ≡ true → result.done < length bytes.now }
+    ensures uses { Uses H.model (record { old = host.old; new = host.new }) (MovesBy WriteAt result.done (cond result.fault 1 0)) }
     ensures contents { IsTrue H.model.tells
         → H.model.contents host.new ≡ wrote_front (H.model.contents host.old) file at (take result.done bytes.now) }
     ensures cause { CountsFault result.fault (H.model.fault_count host.old) (H.model.fault_count host.new) }

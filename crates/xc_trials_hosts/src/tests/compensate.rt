@@ -2,11 +2,11 @@ ghost use Rattle.std.specs.Prelude.{IfOk};
 ghost use Rattle.xc_compensate.specs.Records.{IsRecord};
 
 use super::{FILE, host_of, name};
-use Asked::{Append, Create, Cut, NameBack, Rename, Restore, Uncreate};
+use Kind::{Append, Create, Cut, NameBack, Rename, Restore, Uncreate};
 use std::alloc::Global;
 use std::test::Fail;
 use xc_compensate::{Stack, UndoTurn};
-use xc_data::{Chunk, Name, NoMemory, Num, Undo};
+use xc_data::{Chunk, Kind, Name, NoMemory, Num, Undo};
 use xc_host::Host;
 use xc_testhost::{Asked, TestHost};
 
@@ -43,11 +43,11 @@ fn fails_in_one_turn(mut host: TestHost, mut stack: Stack) -> bool {
     host.fails = [1, 3, 5];
     let turn = stack.undo_next(&mut host, 3);
     let calls = [
-        Restore(2, 5),
-        Restore(2, 5),
-        Restore(4, 3),
-        Restore(4, 3),
-        Restore(6, 1),
+        Asked::new(Restore, 2, 5),
+        Asked::new(Restore, 2, 5),
+        Asked::new(Restore, 4, 3),
+        Asked::new(Restore, 4, 3),
+        Asked::new(Restore, 6, 1),
     ];
     turn == UndoTurn::Failed { done: 4, faults: 3 }
         && host.bytes.as_slice() == b"abcdefGh".as_slice()
@@ -114,7 +114,14 @@ fn is_undone(host: &mut TestHost, mut stack: Stack) -> bool {
 
 // The file is gone with its name, and the other file is there.
 fn is_undone_call_by_call(mut host: TestHost, made: &Name, moved: &Name, stack: Stack) -> bool {
-    let calls = [Create, Rename, Append(5), Cut(0), NameBack, Uncreate];
+    let calls = [
+        Asked::plain(Create),
+        Asked::plain(Rename),
+        Asked::new(Append, 0, 5),
+        Asked::new(Cut, 0, 0),
+        Asked::plain(NameBack),
+        Asked::plain(Uncreate),
+    ];
     has_made(&mut host, made, moved)
         && is_undone(&mut host, stack)
         && host.names.len() == 1

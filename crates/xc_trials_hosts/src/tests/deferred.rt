@@ -1,10 +1,10 @@
-use super::{FILE, host_of, name};
-use Asked::{Lookup, Sync, Unlink};
+use super::{FILE, are_of, host_of, name};
+use Kind::{Lookup, Sync, Unlink};
 use std::alloc::Global;
 use std::test::Fail;
-use xc_data::{LateCall, LateEnd, NoMemory};
+use xc_data::{Kind, LateCall, LateEnd, NoMemory};
 use xc_deferred::Late;
-use xc_testhost::{Asked, TestHost};
+use xc_testhost::TestHost;
 
 // An unlink of the name `a` and a sync of its file.
 fn kept(alloc: Global) -> Result<Late, NoMemory> {
@@ -19,14 +19,14 @@ pub(super) fn ends_so(
     mut host: TestHost,
     mut late: Late,
     ends: &[LateEnd],
-    calls: &[Asked],
+    calls: &[Kind],
 ) -> bool {
     for _ in 0..9 {
         if late.has_left() {
             late.do_one(&mut host);
         }
     }
-    late.into_ends().as_slice() == ends && host.log.as_slice() == calls
+    late.into_ends().as_slice() == ends && are_of(&host.log, calls)
 }
 
 #[test]

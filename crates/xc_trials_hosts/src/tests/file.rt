@@ -1,12 +1,12 @@
 ghost use Rattle.std.specs.Prelude.{◌≡◌, ◌≤◌};
 
 use super::deferred::ends_so;
-use super::{FILE, host_of, name};
-use Asked::{Append, Create, Len, Lookup, Read, Rename, Sync, Unlink, Write};
+use super::{FILE, are_of, host_of, name};
+use Kind::{Append, Create, Len, Lookup, ReadAt, Rename, Sync, Unlink, WriteAt};
 use std::alloc::Global;
 use std::test::Fail;
 use xc_compensate::Stack;
-use xc_data::{Chunk, LateEnd, Name, NoMemory, Place, Private, Reply};
+use xc_data::{Chunk, Kind, LateEnd, Name, NoMemory, Place, Private, Reply};
 use xc_deferred::Late;
 use xc_file::{
     x_close, x_create, x_open, x_read, x_rename, x_sync, x_unlink, x_write_ovr, x_write_seq,
@@ -41,7 +41,12 @@ fn is_got(reply: &Reply, wanted: &[u8]) -> bool {
 fn reads_by_two(alloc: Global, mut host: TestHost) -> Result<bool, NoMemory> {
     let mut me = opened(7);
     let reply = x_read(alloc, &mut host, &mut me, 0, 9)?;
-    let calls = [Read(0, 9), Read(2, 7), Read(4, 5), Read(5, 4)];
+    let calls = [
+        Asked::new(ReadAt, 0, 9),
+        Asked::new(ReadAt, 2, 7),
+        Asked::new(ReadAt, 4, 5),
+        Asked::new(ReadAt, 5, 4),
+    ];
     Ok(is_got(&reply, b"hello") && me.stored == 12 && host.log.as_slice() == calls.as_slice())
 }
 
@@ -61,13 +66,13 @@ fn overwrite(alloc: Global, host: &mut TestHost, bytes: &Chunk) -> Result<Reply,
 fn overwrites_by_two(alloc: Global, mut host: TestHost, bytes: &Chunk) -> Result<bool, NoMemory> {
     let reply = overwrite(alloc, &mut host, bytes)?;
     let calls = [
-        Len,
-        Read(0, 5),
-        Read(2, 3),
-        Read(4, 1),
-        Write(0, 5),
-        Write(2, 3),
-        Write(4, 1),
+        Asked::plain(Len),
+        Asked::new(ReadAt, 0, 5),
+        Asked::new(ReadAt, 2, 3),
+        Asked::new(ReadAt, 4, 1),
+        Asked::new(WriteAt, 0, 5),
+        Asked::new(WriteAt, 2, 3),
+        Asked::new(WriteAt, 4, 1),
     ];
     Ok(
         reply == Reply::Done
@@ -87,7 +92,11 @@ fn an_overwrite_writes_the_rest(rt: HostRuntime) -> Result<(), Fail> {
 fn is_past_the_end(alloc: Global, mut host: TestHost, bytes: &Chunk) -> Result<bool, NoMemory> {
     host.len = 9;
     let reply = overwrite(alloc, &mut host, bytes)?;
-    let calls = [Len, Read(0, 9), Read(5, 4)];
+    let calls = [
+        Asked::plain(Len),
+        Asked::new(ReadAt, 0, 9),
+        Asked::new(ReadAt, 5, 4),
+    ];
     Ok(
         reply == Reply::PastEnd
             && host.bytes.as_slice() == b"hello".as_slice()
@@ -106,7 +115,12 @@ fn appends_by_two(alloc: Global, mut host: TestHost, bytes: &Chunk) -> Result<bo
     let mut me = opened(7);
     let mut undo = Stack::new(alloc);
     let reply = x_write_seq(&mut host, &mut me, &mut undo, 0, bytes)?;
-    let calls = [Len, Append(5), Append(3), Append(1)];
+    let calls = [
+        Asked::plain(Len),
+        Asked::new(Append, 0, 5),
+        Asked::new(Append, 0, 3),
+        Asked::new(Append, 0, 1),
+    ];
     Ok(
         reply == Reply::Done
             && host.tail(FILE) == b"HELLO".as_slice()
@@ -124,7 +138,7 @@ fn an_append_appends_the_rest(rt: HostRuntime) -> Result<(), Fail> {
 fn opens(mut host: TestHost, name: &Name) -> Result<bool, NoMemory> {
     let mut me = opened(0);
     let reply = x_open(&mut host, &mut me, name)?;
-    Ok(reply == Reply::Made(1) && host.log.as_slice() == [Lookup].as_slice())
+    Ok(reply == Reply::Made(1) && are_of(&host.log, &[Lookup]))
 }
 
 #[test]
@@ -138,7 +152,7 @@ fn creates(alloc: Global, mut host: TestHost, name: &Name) -> Result<bool, NoMem
     let mut me = opened(0);
     let mut undo = Stack::new(alloc);
     let reply = x_create(&mut host, &mut me, &mut undo, 9, name)?;
-    Ok(reply == Reply::Made(1) && host.log.as_slice() == [Lookup, Create].as_slice())
+    Ok(reply == Reply::Made(1) && are_of(&host.log, &[Lookup, Create]))
 }
 
 #[test]
@@ -151,7 +165,7 @@ fn a_file_is_made(rt: HostRuntime) -> Result<(), Fail> {
 fn renames(alloc: Global, mut host: TestHost, from: &Name, to: &Name) -> Result<bool, NoMemory> {
     let mut undo = Stack::new(alloc);
     let reply = x_rename(&mut host, &mut undo, from, to)?;
-    Ok(reply == Reply::Done && host.log.as_slice() == [Lookup, Lookup, Rename].as_slice())
+    Ok(reply == Reply::Done && are_of(&host.log, &[Lookup, Lookup, Rename]))
 }
 
 #[test]

@@ -1,13 +1,17 @@
-use super::{FILE, host_of, name};
-use Asked::{Lookup, Read, Restore, Write};
+use super::{FILE, are_of, host_of, name};
+use Kind::{Lookup, ReadAt, Restore, WriteAt};
 use std::test::Fail;
-use xc_data::{Name, Num};
+use xc_data::{Kind, Name, Num};
 use xc_host::{Host, HostErr};
 use xc_testhost::{Asked, TestHost};
 
 fn fails_twice(mut host: TestHost) -> bool {
     host.fails = [1, 3, 0];
-    let calls = [Read(0, 1), Write(3, 2), Restore(3, 2)];
+    let calls = [
+        Asked::new(ReadAt, 0, 1),
+        Asked::new(WriteAt, 3, 2),
+        Asked::new(Restore, 3, 2),
+    ];
     host.read_at(FILE, 0, 1).is_err()
         && host.write_at(FILE, 3, b"LO") == Ok(2)
         && host.restore(FILE, 3, b"lo").is_err()
@@ -56,7 +60,7 @@ fn wants_memory(mut host: TestHost, name: &Name) -> bool {
     host.starves = true;
     host.lookup(name) == Err(HostErr::NoMemory)
         && host.faults() == 0
-        && host.log.as_slice() == [Lookup].as_slice()
+        && are_of(&host.log, &[Lookup])
 }
 
 #[test]

@@ -1,7 +1,8 @@
 use Rattle.std.proofs.Common.{◌≡◌, ◌+◌, ◌-◌, ◌≤◌, ◌<◌, length, take, IsTrue}
-use Rattle.xc_data.specs.Counts.{CountsFaults}
-use Rattle.xc_host.specs.Cause.{IsCalled}
+use Rattle.xc_data.specs.Counts.{RisesBy}
+use Rattle.xc_data.specs.declared.script.Kind.TheVariants.{Restore}
 use Rattle.xc_host.specs.Contents.{wrote_front}
+use Rattle.xc_host.specs.Uses.{Uses, MovesBy}
 use Rattle.xc_compensate.specs.Restoring.{FitsIn}
 use Rattle.xc_compensate.proofs.undoing.restore_whole.Given as goal
 
@@ -13,9 +14,8 @@ invariant-loop-progress g l =
       left : l.progress.faults < l.tries;
       fits : IsTrue model.tells → FitsIn (model.contents l.host) l.file l.at l.bytes;
       told : IsTrue model.tells → model.contents l.host ≡ wrote_front (model.contents l.fn.host) l.file l.at (take l.progress.done l.bytes);
-      since : model.calls l.fn.host ≤ model.calls l.host;
-      called : 0 < l.progress.done → IsCalled (model.calls l.fn.host) (model.calls l.host);
-      faults : CountsFaults l.progress.faults (model.fault_count l.fn.host) (model.fault_count l.host);
+      uses : Uses model (record { old = l.fn.host; new = l.host }) (MovesBy Restore l.progress.done l.progress.faults);
+      faults : RisesBy l.progress.faults (model.fault_count l.fn.host) (model.fault_count l.host);
     }
 
 -- the bytes and the tries that are left

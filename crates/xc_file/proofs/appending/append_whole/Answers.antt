@@ -1,5 +1,8 @@
 use Rattle.std.proofs.Common.{◌∙◌, ◌+◌, ◌-◌, ◌≤◌, length, take, drop, arith, length-take, length-drop}
+use Rattle.xc_data.specs.declared.script.Kind.TheVariants.{Append}
+use Rattle.xc_host.proofs.Called.{moves_more}
 use Rattle.xc_file.proofs.Appends.{append_more, append_grows}
+use Rattle.xc_file.proofs.FileUses.{append_stops}
 use Rattle.xc_file.proofs.appending.append_whole.Goals as goal
 
 pub loop-done-preserved : goal.loop-done-preserved
@@ -13,8 +16,19 @@ loop-done-preserved g c =
     omega (arith, length-take (length bytes - done) (drop done bytes), length-drop done bytes, did.bound.1) in
     record {
       room = within;
-      there = λ t. (append_grows _ _ c.args.file (take c.in-Ok.count left) (did.ok t)).0;
-      behind = λ t. omega (arith, (append_grows _ _ c.args.file (take c.in-Ok.count left) (did.ok t)).1, was.behind t, length-take c.in-Ok.count left);
-      told = λ t. append_more _ _ _ c.args.file done c.in-Ok.count bytes within did.bound.0 (was.told t) (did.ok t);
-      faults = did.cause ∙ was.faults;
+      there = λ t. (append_grows _ _ c.args.file (take c.in-Ok.count left) (did.answered.done t)).0;
+      behind = λ t. omega (
+        arith,
+        (append_grows _ _ c.args.file (take c.in-Ok.count left) (did.answered.done t)).1,
+        was.behind t,
+        length-take c.in-Ok.count left,
+      );
+      told = λ t. append_more _ _ _ c.args.file done c.in-Ok.count bytes within did.bound.0 (was.told t) (did.answered.done t);
+      uses = moves_more g.H.Host.model Append done 0 (done + c.in-Ok.count) _ _ _ (omega (arith, did.bound.0)) was.uses did.answered.used;
+      faults = did.answered.cause ∙ was.faults;
     }
+
+pub returns-in-Err-clause-uses : goal.returns-in-Err-clause-uses
+returns-in-Err-clause-uses g c =
+    append_stops g.H.Host.model (length c.args.bytes.now) c.loop-done.done c.in-Err.error c.args.host.now c.loop-done.host c.append.new.self
+    c.loop-done-test.true c.loop-done.invariant.uses c.append.ensures.answered.used

@@ -1,17 +1,18 @@
-use Rattle.std.proofs.Common.{refl, ap, sym, ◌∙◌}
+use Rattle.std.proofs.Common.{◌≡◌, refl, ap, sym, ◌∙◌}
 use Rattle.std.specs.Prelude.{is_none}
-use Rattle.xc_file.proofs.FileCalls.{refused_call, unrecorded_call}
+use Rattle.xc_file.proofs.FileCalls.{refused_call, passed_call, none_grow, always_err}
 use Rattle.xc_file.proofs.Refusals.{by_much}
 use Rattle.xc_file.proofs.opening.x_open.Goals as goal
 
 pub returns-in_default-clause-call : goal.returns-in_default-clause-call
 returns-in_default-clause-call g c = λ number undo. refused_call g.H.Host.model _
     (record { host = c.args.host.now; number = number; me = c.args.me.now; undo = undo }) _
-    (ap (λ o. by_much (is_none o)) (sym c.vacant.ensures.value ∙ c.in_default.is)) (λ w. refl)
+    (ap (λ o. by_much (is_none o)) (sym c.vacant.ensures.value ∙ c.in_default.is)) (λ w n. refl)
 
 pub returns-clause-call : goal.returns-clause-call
 returns-clause-call g c =
     let next = c.open_at.ensures in
-    λ number undo. unrecorded_call g.H.Host.model _ (record { host = c.args.host.now; number = number; me = c.args.me.now; undo = undo }) _ _
-    (ap (λ o. by_much (is_none o)) (sym c.vacant.ensures.value ∙ c.in-Some.is)) next.reply refl (next.acts number) (λ r w. refl)
-    next.contents next.err next.cause
+    λ number undo. passed_call g.H.Host.model _ (record { host = c.args.host.now; number = number; me = c.args.me.now; undo = undo }) _ c.open_at.result
+    (ap (λ o. by_much (is_none o)) (sym c.vacant.ensures.value ∙ c.in-Some.is)) next.reply next.uses (next.after number) (next.acts number)
+    (none_grow g.H.Host.model _ _ _ c.open_at.result refl (λ r w. refl)) next.err (always_err (undo ≡ undo) c.open_at.result refl)
+    (λ t. always_err _ c.open_at.result (next.contents t)) next.cause

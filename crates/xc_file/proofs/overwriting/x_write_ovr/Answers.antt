@@ -1,19 +1,21 @@
-use Rattle.std.proofs.Common.{ap, sym, ◌∙◌, length}
+use Rattle.std.proofs.Common.{◌≡◌, false, ap, sym, ◌∙◌, length}
 use Rattle.xc_data.specs.declared.call.Call.TheVariants.{XWriteOvr}
 use Rattle.xc_data.specs.declared.call.Reply.{Reply}
 use Rattle.xc_data.specs.declared.private.Place.TheVariants.{File}
 use Rattle.xc_world.specs.Trail.{overwrite_record, done_of}
 use Rattle.xc_host.specs.Contents.{world_of}
+use Rattle.xc_world.specs.Checks.{is_check_reply}
+use Rattle.xc_file.specs.Calls.{IsPassedReply}
 use Rattle.xc_file.specs.Checks.{refusal_at}
-use Rattle.xc_file.proofs.FileCalls.{refused_call, recorded_call, at_handle}
-use Rattle.xc_file.proofs.Refusals.{refused_overwrite}
+use Rattle.xc_file.proofs.FileCalls.{refused_call, passed_call, some_grow, ok_more, at_handle}
+use Rattle.xc_file.proofs.Refusals.{refused_overwrite, overwrite_size}
 use Rattle.xc_file.proofs.overwriting.x_write_ovr.Goals as goal
 
 pub returns-in-Err-clause-call : goal.returns-in-Err-clause-call
 returns-in-Err-clause-call g c =
     let refused = ap (refusal_at c.args.me.now c.args.h) (sym c.len.ensures.value) ∙ c.in-Err.ensures.checks in
     λ number. refused_call g.H.Host.model _ (record { host = c.args.host.now; number = number; me = c.args.me.now; undo = c.args.undo.now }) _ refused
-    (refused_overwrite (record { contents = g.H.Host.model.contents c.args.host.now; number = number; me = c.args.me.now }) c.args.h c.args.bytes.now _ refused)
+    (refused_overwrite c.args.me.now c.args.h c.args.bytes.now _ refused)
 
 pub returns-clause-call : goal.returns-clause-call
 returns-clause-call g c =
@@ -22,8 +24,15 @@ returns-clause-call g c =
     let w = world_of (g.H.Host.model.contents c.args.host.now) in
     let file = c.in-Ok.file in
     let made = λ (r : Reply). overwrite_record w c.args.bytes.now (done_of (length c.args.bytes.now) r) (File file.num file.at) in
+    let size = length c.args.bytes.now in
+    let there = c.in-Ok.ensures.open.1.place in
+    let result = c.write_next.result in
+    let call = XWriteOvr file.h c.args.bytes.now in
     λ number. at_handle g.H.Host.model (λ h. XWriteOvr h c.args.bytes.now) _ _
     (record { host = c.args.host.now; number = number; me = c.args.me.now; undo = c.args.undo.now }) _ _ c.in-Ok.ensures.open.0 free
-    (λ passes. recorded_call g.H.Host.model _ made _ _ _ passes next.reply (next.acts number) next.records
-    (λ r v. ap (overwrite_record w c.args.bytes.now (done_of (length c.args.bytes.now) r)) (sym c.in-Ok.ensures.open.1.place))
-    next.grows next.err next.err_undo next.err_contents next.cause)
+    (λ passes. passed_call g.H.Host.model call _ _ result passes
+    (ok_more (IsPassedReply call) (λ r. is_check_reply call r ≡ false) result (λ r p. p.0) next.reply) next.uses (next.after number) (next.acts number)
+    (some_grow g.H.Host.model call made (done_of size) _ _ result next.grows
+    (λ r v. overwrite_size v c.args.bytes.now (done_of size r) _ file.num file.at there) next.records
+    (λ r v. ap (overwrite_record w c.args.bytes.now (done_of size r)) (sym there)))
+    next.err next.err_undo next.err_contents next.cause)

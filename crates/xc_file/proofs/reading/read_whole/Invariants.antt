@@ -1,5 +1,7 @@
 use Rattle.std.proofs.Common.{◌≡◌, ◌-◌, ◌≤◌, length, take, drop, IsTrue}
+use Rattle.xc_data.specs.declared.script.Kind.TheVariants.{ReadAt}
 use Rattle.xc_host.specs.Contents.{file_in}
+use Rattle.xc_host.specs.Uses.{Uses, MovesBy}
 use Rattle.xc_file.proofs.reading.read_whole.Given as goal
 
 -- what is read so far is a front, and no fault came
@@ -11,6 +13,7 @@ invariant-loop-len g l =
       room : l.len ≤ l.n;
       told : IsTrue model.tells → l.bytes.items ≡ take l.len (drop l.at (file_in (model.contents l.fn.host) l.file));
       contents : IsTrue model.tells → model.contents l.host ≡ model.contents l.fn.host;
+      uses : Uses model (record { old = l.fn.host; new = l.host }) (MovesBy ReadAt l.len 0);
       faults : model.fault_count l.host ≡ model.fault_count l.fn.host;
     }
 

@@ -1,10 +1,11 @@
-use Rattle.std.proofs.Common.{◌≡◌, refl}
+use Rattle.std.proofs.Common.{◌≡◌, false, refl}
 use Rattle.xc_data.specs.declared.call.Call.TheVariants.{XRename}
+use Rattle.xc_world.specs.Checks.{is_check_reply}
 use Rattle.xc_world.specs.Trail.{rename_record}
-use Rattle.xc_file.specs.Calls.{Acts}
+use Rattle.xc_file.specs.Calls.{Acts, IsMePassed, IsPassedReply}
 use Rattle.xc_file.specs.Naming.{Renames}
-use Rattle.xc_file.proofs.FileCalls.{moment, recorded_call, ok_more, err_always}
-use Rattle.xc_file.proofs.NameCalls.{rename_acts}
+use Rattle.xc_file.proofs.FileCalls.{moment, passed_call, told_grow, ok_more, always_err}
+use Rattle.xc_file.proofs.NameCalls.{rename_acts, rename_me, rename_one}
 use Rattle.xc_file.proofs.renaming.x_rename.Goals as goal
 
 pub returns-clause-call : goal.returns-clause-call
@@ -15,10 +16,12 @@ returns-clause-call g c =
     let was = model.contents c.args.host.now in
     let is = model.contents c.rename.new.host in
     let next = c.rename.ensures in
-    λ number me. recorded_call model (XRename from to) (rename_record from to)
-    (record { host = c.args.host.now; number = number; me = me; undo = c.args.undo.now })
-    (record { host = c.rename.new.host; number = number; me = me; undo = c.rename.new.undo }) c.rename.result refl next.reply
-    (λ t. ok_more (Renames was is from to) (Acts (XRename from to) (moment was number me) (moment is number me)) c.rename.result
+    let result = c.rename.result in
+    λ number me. passed_call model (XRename from to) (record { host = c.args.host.now; number = number; me = me; undo = c.args.undo.now })
+    (record { host = c.rename.new.host; number = number; me = me; undo = c.rename.new.undo }) result refl
+    (ok_more (IsPassedReply (XRename from to)) (λ r. is_check_reply (XRename from to) r ≡ false) result (λ r p. p.0) next.reply) next.uses
+    (ok_more (IsPassedReply (XRename from to)) (IsMePassed number (XRename from to) me me) result (λ r p. rename_me number me from to r p.1) next.reply)
+    (λ t. ok_more (Renames was is from to) (Acts (XRename from to) (moment was number me) (moment is number me)) result
     (rename_acts was is number me from to) (next.told t))
-    (λ t. next.records) (λ r w. refl) next.grows
-    (err_always (me ≡ me) c.rename.result refl) next.err next.err_contents next.cause
+    (told_grow model (XRename from to) (rename_record from to) _ _ result c.requires.none (rename_one from to) (λ r w. refl) next.records)
+    (always_err (me ≡ me) result refl) next.err next.err_contents next.cause
