@@ -1,17 +1,17 @@
-ghost use Rattle.std.specs.Prelude.{◌≡◌, IfOk};
-ghost use Rattle.std.specs.FinMap as map;
-ghost use Rattle.xc_failure.specs.Slots.{end_number, slot_number, unset, with_slot};
+ghost use Rattle.std.specs.Prelude.{◌≡◌, IfOk, nat_eq, position};
+ghost use Rattle.std.specs.Cmp.Lexicographic.{pointwise};
+ghost use Rattle.xc_failure.specs.Slots.{end_number, no_slots, slot_number, slot_name, unset, with_slot};
 
 use std::alloc::Global;
 use std::marker::Model;
 use xc_data::{Ident, LateEnd, NoMemory};
-use xc_maps::IdentMap;
 
-/// A job's slots: how the last late call with each of them ended. A slot that no late call has set is
+/// A job's slots: their names, and how the last late call with each of them ended. A slot that no late call has set is
 /// as one whose call was done.
 #[derive(Drop)]
 pub struct Slots {
-    ends: IdentMap<LateEnd>,
+    names: Vec<Ident>,
+    ends: Vec<LateEnd>,
 }
 
 impl Model for Slots {
@@ -21,11 +21,11 @@ impl Model for Slots {
 
     ghost coded = { coded_slots };
 
-    ghost view = { λ s. s.ends };
+    ghost view = { λ s. record { names = s.names.items; ends = s.ends.items } };
 }
 
 // An end as a number.
-fn number_of(end: &LateEnd) -> u64
+fn end_number(end: &LateEnd) -> u64
     ensures { result ≡ end_number end.now }
 {
     match end {
@@ -39,13 +39,26 @@ fn number_of(end: &LateEnd) -> u64
     }
 }
 
+fn copied_names(alloc: Global, names: &[Ident]) -> Result<Vec<Ident>, NoMemory>
+    ensures { IfOk result (λ copy. copy.items ≡ names.now) }
+{
+    Ok(names.to_vec(alloc)?)
+}
+
+fn place_of(names: &[Ident], name: Ident) -> Option<usize>
+    ensures { result ≡ position (λ other. pointwise nat_eq other name) names.now }
+{
+    names.iter().position(|other| *other == name)
+}
+
 impl Slots {
     /// No slot at all. It takes no memory.
     pub fn new(alloc: Global) -> Slots
-        ensures { result ≡ map.empty }
+        ensures { result ≡ no_slots }
     {
         Slots {
-            ends: IdentMap::new(alloc),
+            names: Vec::new(alloc),
+            ends: Vec::new(alloc),
         }
     }
 
@@ -53,37 +66,41 @@ impl Slots {
     pub fn unset(alloc: Global, names: &[Ident]) -> Result<Slots, NoMemory>
         ensures { IfOk result (λ slots. slots ≡ unset names.now) }
     {
-        let mut ends = IdentMap::new(alloc);
-        for name in names {
-            ends.insert(*name, LateEnd::Done)?;
-        }
-        Ok(Slots { ends })
+        Ok(Slots {
+            names: copied_names(alloc, names)?,
+            ends: vec![in alloc; LateEnd::Done; names.len()]?,
+        })
     }
 
     /// A slot takes an end; a name that isn't among the slots is passed over. It takes no memory.
+
     pub fn set(&mut self, name: Ident, end: LateEnd)
         ensures { self.new ≡ with_slot self.old name end }
     {
-        if self.ends.get(name).is_none() {
+        let Some(at) = place_of(&self.names, name) else {
             return;
-        }
-
-        // What is there takes another end without memory.
-        match self.ends.insert(name, end) {
-            Ok(()) => (),
-            Err(NoMemory) => unreachable!(),
+        };
+        if at < self.ends.len() {
+            self.ends[at] = end;
         }
     }
 
-    /// What a slot counts as where a number is wanted: 0 where it is unset or its call was done, 1 for
+    /// What the slot at a place counts as where a number is wanted: 0 where it is unset or its call was done, 1 for
     /// full, 2 for no name, 3 for no script, 4 for a fault, 5 for no memory and 6 for shut.
-    pub fn number(&self, name: Ident) -> u64
-        ensures { result ≡ slot_number (map.get self.now name) }
+    pub fn number(&self, at: u16) -> u64
+        ensures { result ≡ slot_number self.now at }
     {
-        match self.ends.get(name) {
-            Some(end) => number_of(end),
+        match self.ends.get(at as usize) {
+            Some(end) => end_number(end),
             None => 0,
         }
+    }
+
+    /// The name of the slot at a place.
+    pub fn name(&self, at: u16) -> Option<Ident>
+        ensures { result ≡ slot_name self.now at }
+    {
+        self.names.get(at as usize).copied()
     }
 
     /// Another with the same ends.
@@ -91,7 +108,8 @@ impl Slots {
         ensures { IfOk result (λ copy. copy ≡ self.now) }
     {
         Ok(Slots {
-            ends: self.ends.copied()?,
+            names: self.names.clone()?,
+            ends: self.ends.clone()?,
         })
     }
 }

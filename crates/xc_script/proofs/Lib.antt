@@ -1,3 +1,2 @@
 mod Digits
-mod Entries
 pub mod Settling

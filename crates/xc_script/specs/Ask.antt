@@ -1,38 +1,43 @@
 -- What a script asks next of a transaction, from the replies so far.
 use Rattle.std.specs.Prelude.{ℕ, ◌==◌, ◌+◌, ◌-◌, ◌%◌, ◌^◌, ◌||◌, Bool, true, false, not, nat_eq, nat_le, nat_lt, if◌then◌else◌}
-use Rattle.std.specs.Prelude.{List, [], ◌∷◌, Option, length, unwrap_or, slice_get, position}
+use Rattle.std.specs.Prelude.{List, [], ◌∷◌, Option, length, unwrap_or, replicate, slice_get, slice_set, position}
 use Rattle.std.specs.List.{flat_map}
 use Rattle.std.specs.Fmt.{decimal}
 use Rattle.std.specs.declared.option.Option.TheVariants.{None, Some}
 use Rattle.std.specs.Cmp.Lexicographic.{pointwise}
-use Rattle.std.specs.FinMap as map
 use Rattle.xc_data.specs.declared.call.Call.{Call}
 use Rattle.xc_data.specs.declared.call.Call.TheVariants as call
 use Rattle.xc_data.specs.declared.call.Reply.{Reply}
 use Rattle.xc_data.specs.declared.call.Reply.TheVariants as reply
-use Rattle.xc_maps.specs.Keys.{name_cmp}
-use Rattle.xc_failure.specs.Slots.{Slots, unset, slot_number}
+use Rattle.xc_failure.specs.Slots.{Slots, unset, slot_number, slot_name}
 use Rattle.xc_world.specs.Checks.{bytes_of}
 use Rattle.xc_text.specs.declared.script.Script.{Script}
 use Rattle.xc_text.specs.declared.script.Block.{Block}
-use Rattle.xc_text.specs.declared.script.Statement.{Statement}
+use Rattle.xc_text.specs.declared.script.CallForm.TheVariants as form
 use Rattle.xc_text.specs.declared.script.Statement.TheVariants as statement
-use Rattle.xc_text.specs.declared.script.Item.{Item}
 use Rattle.xc_text.specs.declared.script.Item.TheVariants as item
-use Rattle.xc_text.specs.declared.script.Term.{Term}
 use Rattle.xc_text.specs.declared.script.Term.TheVariants as term
 use Rattle.xc_text.specs.declared.script.Test.{Test}
 use Rattle.xc_text.specs.declared.script.Test.TheVariants as test
-use Rattle.xc_text.specs.declared.script.Expression.{Expression}
 use Rattle.xc_text.specs.declared.script.Expression.TheVariants as expression
+use Rattle.xc_text.specs.Stated.{Term, Expression, Item, CallForm, Statement}
 use Rattle.xc_script.specs.declared.ask.Ask.{Ask}
 use Rattle.xc_script.specs.declared.ask.Ask.TheVariants as ask
 use Rattle.xc_script.specs.declared.value.Value.{Value}
 use Rattle.xc_script.specs.declared.value.Value.TheVariants as value
 
--- what the variables hold that hold a number, bytes or a handle
+-- what the variables hold, by their places: a number, bytes, a handle, or nothing
 abbrev pub Values : Type 0
-Values = map.FinMap name_cmp Value
+Values = List (Option Value)
+
+-- what stands at a place, where it is one
+abbrev pub value_there : Option (Option Value) → Option Value
+value_there None = None
+value_there (Some held) = held
+
+-- what the variable at a place holds
+abbrev pub value_at : Values → ℕ → Option Value
+value_at values v = value_there (slice_get values v)
 
 -- what a job knows: the values of its variables, and its slots
 pub record Variables : Type 0 where
@@ -56,18 +61,18 @@ held_handle (Some (value.Handle h)) = h
 held_handle _ = 65535
 
 -- what a variable counts as where bytes are wanted
-abbrev pub bytes_value : Variables → List ℕ → List ℕ
-bytes_value variables v = held_bytes (map.get variables.values v)
+abbrev pub bytes_value : Variables → ℕ → List ℕ
+bytes_value variables v = held_bytes (value_at variables.values v)
 
 -- what a variable counts as where a handle is wanted
-abbrev pub handle_value : Variables → List ℕ → ℕ
-handle_value variables v = held_handle (map.get variables.values v)
+abbrev pub handle_value : Variables → ℕ → ℕ
+handle_value variables v = held_handle (value_at variables.values v)
 
 -- a number is itself, and a variable and a slot what they count as
 abbrev pub term_value : Variables → Term → ℕ
 term_value variables (term.Number n) = n
-term_value variables (term.Variable v) = held_number (map.get variables.values v)
-term_value variables (term.Slot s) = slot_number (map.get variables.slots s)
+term_value variables (term.Variable v) = held_number (value_at variables.values v)
+term_value variables (term.Slot s) = slot_number variables.slots s
 
 -- sums and differences are taken modulo 2^64
 abbrev pub expression_value : Variables → Expression → ℕ
@@ -93,21 +98,48 @@ is_over stored n = nat_lt 1024 n || nat_lt 16384 (stored + n)
 -- how many bytes what is asked carries
 abbrev pub carried_by : Ask → ℕ
 carried_by (ask.Call call) = length (bytes_of call)
-carried_by _ = 0
+carried_by ask.Commit = 0
+carried_by ask.Abort = 0
+carried_by ask.End = 0
 
 -- the bytes that a reply brings
 abbrev pub bytes_got : Reply → List ℕ
+bytes_got (reply.Number n) = []
 bytes_got (reply.Got bytes) = bytes
-bytes_got _ = []
+bytes_got (reply.Made h) = []
+bytes_got (reply.MadePair h g) = []
+bytes_got reply.Done = []
+bytes_got reply.End = []
+bytes_got reply.Empty = []
+bytes_got reply.NoName = []
+bytes_got reply.Exists = []
+bytes_got reply.BadHandle = []
+bytes_got reply.PastEnd = []
+bytes_got reply.TooBig = []
+bytes_got reply.TooMuch = []
+bytes_got reply.BadWord = []
+bytes_got (reply.Fault n) = []
+bytes_got reply.Late = []
 
 -- A call that carried so many bytes failed a private check. Longer data than a call takes is asked of no call, so
 -- one that carries bytes is too big only for its file, which an append finds behind the checks.
 abbrev pub fails_check : ℕ → Reply → Bool
+fails_check carried (reply.Number n) = false
+fails_check carried (reply.Got bytes) = false
+fails_check carried (reply.Made h) = false
+fails_check carried (reply.MadePair h g) = false
+fails_check carried reply.Done = false
+fails_check carried reply.End = false
+fails_check carried reply.Empty = false
+fails_check carried reply.NoName = false
+fails_check carried reply.Exists = false
 fails_check carried reply.BadHandle = true
+fails_check carried reply.PastEnd = false
 fails_check carried reply.TooBig = carried == 0
 fails_check carried reply.TooMuch = true
 fails_check carried reply.BadWord = true
-fails_check carried _ = false
+fails_check carried (reply.Fault n) = false
+fails_check carried reply.Late = false
 
 -- a call that passed the private checks stores its bytes and its reply's
 abbrev pub stored_after : ℕ → ℕ → Reply → ℕ
@@ -133,20 +165,23 @@ holds test.AtLeast a b = nat_le b a
 
 -- silent are a `let`, an `abort if` whose test fails, and a `require` unless the last call was refused
 abbrev pub is_silent : Variables → Bool → Statement → Bool
+is_silent variables refused (statement.Call f) = false
 is_silent variables refused (statement.Let into e) = true
+is_silent variables refused statement.Abort = false
 is_silent variables refused (statement.AbortIf left test right) = not (holds test (term_value variables left) (term_value variables right))
 is_silent variables refused statement.Require = not refused
-is_silent variables refused _ = false
 
--- the variables with one of them set to a value, or without it where there is none
-abbrev pub set_to : Variables → List ℕ → Option Value → Variables
-set_to variables v (Some value) = record variables { values = map.insert variables.values v value }
-set_to variables v None = record variables { values = map.remove variables.values v }
+-- the variables where the one at a place holds this, or nothing
+abbrev pub set_to : Variables → ℕ → Option Value → Variables
+set_to variables v held = record variables { values = slice_set variables.values v held }
 
 -- the variables behind a silent statement: a `let` sets one
 abbrev pub set_by : Variables → Statement → Variables
 set_by variables (statement.Let into e) = set_to variables into (Some (value.Number (expression_value variables e)))
-set_by variables _ = variables
+set_by variables (statement.Call f) = variables
+set_by variables statement.Abort = variables
+set_by variables (statement.AbortIf left test right) = variables
+set_by variables statement.Require = variables
 
 -- a transaction before these statements: the silent ones in front are passed, one after another
 abbrev pub settled : Variables → ℕ → Bool → List Statement → Walk
@@ -165,24 +200,36 @@ stands variables refused (s ∷ rest) = not (is_silent variables refused s)
 abbrev pub unless_over : ℕ → Call → Ask
 unless_over stored call = if is_over stored (length (bytes_of call)) then ask.Abort else ask.Call call
 
--- what a statement asks that isn't silent: a call, or the transaction's own abort
-abbrev pub ask_of : Variables → ℕ → Statement → Ask
-ask_of variables stored (statement.Load at into) = ask.Call (call.Load (term_value variables at))
-ask_of variables stored (statement.Store at value) = ask.Call (call.Store (term_value variables at) (expression_value variables value))
-ask_of variables stored (statement.Open name into) = ask.Call (call.XOpen name)
-ask_of variables stored (statement.Create name into) = ask.Call (call.XCreate name)
-ask_of variables stored (statement.Rename from to) = ask.Call (call.XRename from to)
-ask_of variables stored (statement.Read h n into) = ask.Call (call.XRead (handle_value variables h) (term_value variables n))
-ask_of variables stored (statement.Overwrite h items) =
+-- the name of the slot at a place, where one is wanted
+abbrev pub name_of_slot : Variables → Option ℕ → Option (List ℕ)
+name_of_slot variables None = None
+name_of_slot variables (Some s) = slot_name variables.slots s
+
+-- what a line that is a call asks: the call, or the transaction's own abort where its bytes are too long
+abbrev pub form_ask : Variables → ℕ → CallForm → Ask
+form_ask variables stored (form.Load at into) = ask.Call (call.Load (term_value variables at))
+form_ask variables stored (form.Store at value) = ask.Call (call.Store (term_value variables at) (expression_value variables value))
+form_ask variables stored (form.Open name into) = ask.Call (call.XOpen name)
+form_ask variables stored (form.Create name into) = ask.Call (call.XCreate name)
+form_ask variables stored (form.Rename from to) = ask.Call (call.XRename from to)
+form_ask variables stored (form.Read h n into) = ask.Call (call.XRead (handle_value variables h) (term_value variables n))
+form_ask variables stored (form.Overwrite h items) =
     unless_over stored (call.XWriteOvr (handle_value variables h) (data_of variables items))
-ask_of variables stored (statement.Append h items) =
+form_ask variables stored (form.Append h items) =
     unless_over stored (call.XWriteSeq (handle_value variables h) (data_of variables items))
-ask_of variables stored (statement.Seek h to) = ask.Call (call.XSeek (handle_value variables h) (term_value variables to))
-ask_of variables stored (statement.Length h into) = ask.Call (call.XLen (handle_value variables h))
-ask_of variables stored (statement.Close h) = ask.Call (call.XClose (handle_value variables h))
-ask_of variables stored (statement.Unlink name slot) = ask.Call (call.XUnlink name slot)
-ask_of variables stored (statement.Sync h slot) = ask.Call (call.XSync (handle_value variables h) slot)
-ask_of variables stored _ = ask.Abort
+form_ask variables stored (form.Seek h to) = ask.Call (call.XSeek (handle_value variables h) (term_value variables to))
+form_ask variables stored (form.Length h into) = ask.Call (call.XLen (handle_value variables h))
+form_ask variables stored (form.Close h) = ask.Call (call.XClose (handle_value variables h))
+form_ask variables stored (form.Unlink name slot) = ask.Call (call.XUnlink name (name_of_slot variables slot))
+form_ask variables stored (form.Sync h slot) = ask.Call (call.XSync (handle_value variables h) (name_of_slot variables slot))
+
+-- what a statement asks that isn't silent: a call, or the transaction's own abort. A `let` is always silent.
+abbrev pub ask_of : Variables → ℕ → Statement → Ask
+ask_of variables stored (statement.Call f) = form_ask variables stored f
+ask_of variables stored (statement.Let into e) = ask.Abort
+ask_of variables stored statement.Abort = ask.Abort
+ask_of variables stored (statement.AbortIf left test right) = ask.Abort
+ask_of variables stored statement.Require = ask.Abort
 
 -- the transaction asks what its next statement does, and behind the last one the commit
 abbrev pub asks_of : Variables → ℕ → List Statement → Ask
@@ -198,25 +245,52 @@ abbrev pub value_in : Reply → Option Value
 value_in (reply.Number n) = Some (value.Number n)
 value_in (reply.Got bytes) = Some (value.Bytes bytes)
 value_in (reply.Made h) = Some (value.Handle h)
-value_in _ = None
+value_in (reply.MadePair h g) = None
+value_in reply.Done = None
+value_in reply.End = None
+value_in reply.Empty = None
+value_in reply.NoName = None
+value_in reply.Exists = None
+value_in reply.BadHandle = None
+value_in reply.PastEnd = None
+value_in reply.TooBig = None
+value_in reply.TooMuch = None
+value_in reply.BadWord = None
+value_in (reply.Fault n) = None
+value_in reply.Late = None
 
 -- a variable takes what the reply has for it, and loses its own where that is nothing
-abbrev pub bound_to : Variables → List ℕ → Reply → Variables
+abbrev pub bound_to : Variables → ℕ → Reply → Variables
 bound_to variables v reply = set_to variables v (value_in reply)
 
 -- the variables behind a reply, where a variable may take what it brings
-abbrev pub bound : Variables → Option (List ℕ) → Reply → Variables
+abbrev pub bound : Variables → Option ℕ → Reply → Variables
 bound variables None reply = variables
 bound variables (Some v) reply = bound_to variables v reply
 
+-- the variable that takes the reply to a call, where its line names one
+abbrev pub form_target : CallForm → Option ℕ
+form_target (form.Load at into) = into
+form_target (form.Store at value) = None
+form_target (form.Open name into) = into
+form_target (form.Create name into) = into
+form_target (form.Rename from to) = None
+form_target (form.Read h n into) = into
+form_target (form.Overwrite h items) = None
+form_target (form.Append h items) = None
+form_target (form.Seek h to) = None
+form_target (form.Length h into) = into
+form_target (form.Close h) = None
+form_target (form.Unlink name slot) = None
+form_target (form.Sync h slot) = None
+
 -- the variable that takes a statement's reply, where it names one
-abbrev pub target_of : Statement → Option (List ℕ)
-target_of (statement.Load at into) = into
-target_of (statement.Open name into) = into
-target_of (statement.Create name into) = into
-target_of (statement.Length h into) = into
-target_of (statement.Read h n into) = into
-target_of _ = None
+abbrev pub target_of : Statement → Option ℕ
+target_of (statement.Call f) = form_target f
+target_of (statement.Let into e) = None
+target_of statement.Abort = None
+target_of (statement.AbortIf left test right) = None
+target_of statement.Require = None
 
 -- a call was refused whose reply is none of these: a number, bytes, handles, done, or kept for the commit
 abbrev pub refuses : Reply → Bool
@@ -225,8 +299,17 @@ refuses (reply.Got bytes) = false
 refuses (reply.Made h) = false
 refuses (reply.MadePair h g) = false
 refuses reply.Done = false
+refuses reply.End = true
+refuses reply.Empty = true
+refuses reply.NoName = true
+refuses reply.Exists = true
+refuses reply.BadHandle = true
+refuses reply.PastEnd = true
+refuses reply.TooBig = true
+refuses reply.TooMuch = true
+refuses reply.BadWord = true
+refuses (reply.Fault n) = true
 refuses reply.Late = false
-refuses _ = true
 
 -- A transaction goes on behind the reply to the call that its first statement asked. Where it asked none, no
 -- reply comes, and it stays.
@@ -283,7 +366,7 @@ passed script job replies =
 
 -- no variable holds anything, and each of the script's slots is unset
 abbrev pub no_variables : Script → Variables
-no_variables script = record { values = map.empty; slots = unset script.slots }
+no_variables script = record { values = replicate (length script.variables) None; slots = unset script.slots }
 
 -- a job that begins its block, with nothing set
 abbrev pub fresh_job : Script → ℕ → Job

@@ -2,12 +2,11 @@
 use mathlib.Core.Logic.{inl, inr}
 use Rattle.std.specs.Prelude.{◌≡◌, ℕ, ◌⊎◌, IsTrue, Bool, true, false, List, [], ◌∷◌, drop, unwrap_or, refl, Option}
 use Rattle.std.specs.declared.option.Option.TheVariants.{None}
-use Rattle.std.specs.Coded.{Coded, code_by, coded×, coded⊎, coded_ℕ, coded_bool}
-use Rattle.std.specs.FinMap as map
+use Rattle.std.specs.Coded.{Coded, code_by, coded×, coded⊎, coded_ℕ, coded_bool, coded_list, coded_option}
 use Rattle.xc_maps.specs.Keys.{coded_name}
-use Rattle.xc_failure.specs.Slots.{Slots, coded_slots}
+use Rattle.xc_failure.specs.Slots.{Slots, coded_slots, no_slots}
 use Rattle.xc_text.specs.declared.script.Script.{Script}
-use Rattle.xc_text.specs.declared.script.Statement.{Statement}
+use Rattle.xc_text.specs.Stated.{Statement}
 use Rattle.xc_script.specs.declared.ask.Ask.{Ask}
 use Rattle.xc_script.specs.declared.ask.Ask.TheVariants as ask
 use Rattle.xc_script.specs.declared.value.Value.{Value}
@@ -47,10 +46,10 @@ same_parts (value.Handle h) = refl
 abbrev pub coded_value : Coded Value
 coded_value = code_by (ℕ ⊎ (List ℕ ⊎ ℕ)) (coded⊎ coded_ℕ (coded⊎ coded_name coded_ℕ)) parts_of of_parts same_parts
 
--- the variables' code, that of their maps
+-- the variables' code, that of their values and their slots
 abbrev pub coded_variables : Coded Variables
 coded_variables =
-    code_by (Values × Slots) (coded× (map.code coded_name coded_value) coded_slots)
+    code_by (Values × Slots) (coded× (coded_list (coded_option coded_value)) coded_slots)
     (λ v. (v.values, v.slots)) (λ p. record { values = p.0; slots = p.1 }) (λ _. refl)
 
 -- a place's code, that of its fields as a tuple
@@ -90,7 +89,7 @@ pub record IsSettled (script : Script) (place : Position) : Type 0 where
 
 -- nothing is kept for an abort
 abbrev pub nothing_kept : Variables
-nothing_kept = record { values = map.empty; slots = map.empty }
+nothing_kept = record { values = []; slots = no_slots }
 
 -- a job before its next transaction: none has begun
 abbrev pub at_begin : Job → Position
@@ -100,17 +99,19 @@ at_begin job =
 -- the transaction asks a call
 abbrev pub is_call : Ask → Bool
 is_call (ask.Call call) = true
-is_call _ = false
+is_call ask.Commit = false
+is_call ask.Abort = false
+is_call ask.End = false
 
 -- a call is asked at this place
 abbrev pub IsAskedCall : Script → Position → Type 0
 IsAskedCall script place = IsTrue (is_call (asks (walk_of script place)))
 
 -- the variable that takes the reply to what is asked, where one does
-abbrev pub first_target : List Statement → Option (List ℕ)
+abbrev pub first_target : List Statement → Option ℕ
 first_target [] = None
 first_target (s ∷ rest) = target_of s
 
 -- the variable that takes the reply at this place, where one does
-abbrev pub target_at : Script → Position → Option (List ℕ)
+abbrev pub target_at : Script → Position → Option ℕ
 target_at script place = first_target (walk_of script place).left

@@ -23,7 +23,21 @@ slot_of (call.XWritePipe h bytes slot) = slot
 slot_of (call.XShutdown h slot) = slot
 slot_of (call.XSendmsg h bytes slot) = slot
 slot_of (call.XThreadCreate body slot) = slot
-slot_of _ = None
+slot_of (call.Load at) = None
+slot_of (call.Store at value) = None
+slot_of (call.XOpen name) = None
+slot_of (call.XCreate name) = None
+slot_of (call.XRead h n) = None
+slot_of (call.XWriteOvr h bytes) = None
+slot_of (call.XWriteSeq h bytes) = None
+slot_of (call.XSeek h to) = None
+slot_of (call.XLen h) = None
+slot_of (call.XRename from to) = None
+slot_of (call.XClose h) = None
+slot_of call.XPipe = None
+slot_of (call.XReadPipe h n) = None
+slot_of call.XPair = None
+slot_of (call.XRecvmsg h) = None
 
 -- a slot takes an end, where one is named
 abbrev pub with_end : Variables → Option (List ℕ) → LateEnd → Variables

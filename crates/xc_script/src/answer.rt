@@ -1,9 +1,9 @@
 ghost use Rattle.std.specs.Prelude.{◌≡◌, ◌≤◌, ◌+◌, ◌<◌, ◌^◌, length, IfOk, OnOk, OnErr, IsOk, None};
-ghost use Rattle.xc_script.specs.Ask.{bytes_got, fails_check, stored_after, value_in, target_of, bound, refuses};
+ghost use Rattle.xc_script.specs.Ask.{bytes_got, fails_check, stored_after, value_in, form_target, target_of, bound, refuses};
 
 use crate::value::{Value, Variables};
-use xc_data::{Boxed, Ident, NoMemory, Reply};
-use xc_text::Statement;
+use xc_data::{NoMemory, Reply};
+use xc_text::{CallForm, Place, Statement};
 
 // What a reply leaves in a variable. Bytes are shared.
 fn value_in(reply: &Reply) -> Result<Option<Value>, NoMemory>
@@ -14,36 +14,51 @@ fn value_in(reply: &Reply) -> Result<Option<Value>, NoMemory>
         Reply::Number(n) => Ok(Some(Value::Number(*n))),
         Reply::Got(bytes) => Ok(Some(Value::Bytes(bytes.share()?))),
         Reply::Made(h) => Ok(Some(Value::Handle(*h))),
-        _ => Ok(None),
+        Reply::MadePair(_, _) | Reply::Done | Reply::End | Reply::Empty => Ok(None),
+        Reply::NoName | Reply::Exists | Reply::BadHandle | Reply::PastEnd => Ok(None),
+        Reply::TooBig | Reply::TooMuch | Reply::BadWord => Ok(None),
+        Reply::Fault(_) | Reply::Late => Ok(None),
+    }
+}
+
+fn form_target(form: &CallForm<Place>) -> Option<Place>
+    ensures { result ≡ form_target form.now }
+{
+    match form {
+        CallForm::Load { into, .. } | CallForm::Read { into, .. } => *into,
+        CallForm::Open { into, .. } | CallForm::Create { into, .. } => *into,
+        CallForm::Length { into, .. } => *into,
+        CallForm::Store { .. } | CallForm::Rename { .. } => None,
+        CallForm::Overwrite { .. } | CallForm::Append { .. } => None,
+        CallForm::Seek { .. } | CallForm::Close { .. } => None,
+        CallForm::Unlink { .. } | CallForm::Sync { .. } => None,
     }
 }
 
 /// The variable that takes a statement's reply.
-pub fn target_of(statement: &Statement) -> Option<Ident>
+pub fn target_of(statement: &Statement<Place>) -> Option<Place>
     ensures { result ≡ target_of statement.now }
 {
     match statement {
-        Statement::Load { into, .. } => Boxed::optional_value(into),
-        Statement::Open { into, .. } => Boxed::optional_value(into),
-        Statement::Create { into, .. } => Boxed::optional_value(into),
-        Statement::Length { into, .. } => Boxed::optional_value(into),
-        Statement::Read { into, .. } => Boxed::optional_value(into),
-        _ => None,
+        Statement::Call(form) => form_target(form),
+        Statement::Let { .. } | Statement::Abort => None,
+        Statement::AbortIf { .. } | Statement::Require => None,
     }
 }
 
 /// The variable takes what the reply has for it, or loses its own.
-pub fn bind(variables: &mut Variables, target: Option<Ident>, reply: &Reply) -> Result<(), NoMemory>
+pub fn bind(variables: &mut Variables, target: Option<Place>, reply: &Reply) -> Result<(), NoMemory>
     ensures ok { OnOk result (variables.new ≡ bound variables.old target reply.now) }
     ensures err { OnErr result (variables.new ≡ variables.old) }
     ensures sure { target ≡ None → IsOk result }
     ensures lasting { value_in reply.now ≡ None → IsOk result }
 {
-    let Some(name) = target else {
+    let Some(at) = target else {
         return Ok(());
     };
     let value = value_in(reply)?;
-    variables.set(name, value)
+    variables.set(at, value);
+    Ok(())
 }
 
 /// A call that replies so counts as refused.
@@ -53,7 +68,9 @@ pub fn refuses(reply: &Reply) -> bool
     match reply {
         Reply::Number(_) | Reply::Got(_) | Reply::Made(_) | Reply::MadePair(_, _) => false,
         Reply::Done | Reply::Late => false,
-        _ => true,
+        Reply::End | Reply::Empty | Reply::NoName | Reply::Exists => true,
+        Reply::BadHandle | Reply::PastEnd | Reply::TooBig => true,
+        Reply::TooMuch | Reply::BadWord | Reply::Fault(_) => true,
     }
 }
 
@@ -64,7 +81,9 @@ fn fails_check(carried: usize, reply: &Reply) -> bool
     match reply {
         Reply::BadHandle | Reply::TooMuch | Reply::BadWord => true,
         Reply::TooBig => carried == 0,
-        _ => false,
+        Reply::Number(_) | Reply::Got(_) | Reply::Made(_) | Reply::MadePair(_, _) => false,
+        Reply::Done | Reply::End | Reply::Empty | Reply::NoName => false,
+        Reply::Exists | Reply::PastEnd | Reply::Fault(_) | Reply::Late => false,
     }
 }
 
@@ -74,7 +93,10 @@ fn got(reply: &Reply) -> usize
 {
     match reply {
         Reply::Got(bytes) => bytes.len(),
-        _ => 0,
+        Reply::Number(_) | Reply::Made(_) | Reply::MadePair(_, _) => 0,
+        Reply::Done | Reply::End | Reply::Empty | Reply::NoName => 0,
+        Reply::Exists | Reply::BadHandle | Reply::PastEnd | Reply::TooBig => 0,
+        Reply::TooMuch | Reply::BadWord | Reply::Fault(_) | Reply::Late => 0,
     }
 }
 

@@ -1,14 +1,14 @@
 ghost use Rattle.std.specs.Prelude.{◌≡◌, ◌≤◌, length, IfOk, Some, None, if◌then◌else◌};
 ghost use Rattle.xc_data.specs.declared.call.Call.TheVariants.{Store, XClose, XRead, XSeek, XSync, XUnlink, XWriteOvr, XWriteSeq};
 ghost use Rattle.xc_script.specs.Ask.{is_over, unless_over, data_of, handle_value, term_value, expression_value};
-ghost use Rattle.xc_script.specs.Ask.{ask_of, carried_by};
+ghost use Rattle.xc_script.specs.Ask.{form_ask, ask_of, carried_by};
 
 use crate::data::{data_in, data_len};
 use crate::terms::{expression_of, handle_in, value_of};
 use crate::value::Variables;
 use std::alloc::Global;
 use xc_data::{Boxed, Call, Chunk, Ident, MOST_STORED, Name, NoMemory};
-use xc_text::{Data, KeptExpression, KeptTerm, Statement};
+use xc_text::{CallForm, Data, Expression, Place, Statement, Term};
 
 /// What a job is asked to do next.
 #[derive(Debug, Drop, PartialEq)]
@@ -22,7 +22,7 @@ pub enum Ask {
 }
 
 // The length of a write's data, where the transaction may store so many bytes more.
-fn room_for(variables: &Variables, stored: u128, items: &Data) -> Option<usize>
+fn room_for(variables: &Variables, stored: u128, items: &Data<Place>) -> Option<usize>
     ensures { let n = length (data_of variables.now items.now) in result ≡ (if is_over stored n then None else Some n) }
 {
     let Some(len) = data_len(variables, items) else {
@@ -39,7 +39,7 @@ fn data_within(
     alloc: Global,
     variables: &Variables,
     stored: u128,
-    items: &Data,
+    items: &Data<Place>,
 ) -> Result<Option<Chunk>, NoMemory>
     ensures { let bytes = data_of variables.now items.now in
         IfOk result (λ found. found ≡ (if is_over stored (length bytes) then None else Some bytes)) }
@@ -55,13 +55,13 @@ fn overwrite(
     alloc: Global,
     variables: &Variables,
     stored: u128,
-    handle: &Boxed<Ident>,
-    items: &Data,
+    handle: Place,
+    items: &Data<Place>,
 ) -> Result<Ask, NoMemory>
     ensures { IfOk result (λ ask. ask
-        ≡ unless_over stored (XWriteOvr (handle_value variables.now handle.now) (data_of variables.now items.now))) }
+        ≡ unless_over stored (XWriteOvr (handle_value variables.now handle) (data_of variables.now items.now))) }
 {
-    let h = handle_in(variables, *handle.value());
+    let h = handle_in(variables, handle);
     match data_within(alloc, variables, stored, items)? {
         Some(bytes) => Ok(Ask::Call(Call::XWriteOvr { h, bytes })),
         None => Ok(Ask::Abort),
@@ -73,132 +73,164 @@ fn append(
     alloc: Global,
     variables: &Variables,
     stored: u128,
-    handle: &Boxed<Ident>,
-    items: &Data,
+    handle: Place,
+    items: &Data<Place>,
 ) -> Result<Ask, NoMemory>
     ensures { IfOk result (λ ask. ask
-        ≡ unless_over stored (XWriteSeq (handle_value variables.now handle.now) (data_of variables.now items.now))) }
+        ≡ unless_over stored (XWriteSeq (handle_value variables.now handle) (data_of variables.now items.now))) }
 {
-    let h = handle_in(variables, *handle.value());
+    let h = handle_in(variables, handle);
     match data_within(alloc, variables, stored, items)? {
         Some(bytes) => Ok(Ask::Call(Call::XWriteSeq { h, bytes })),
         None => Ok(Ask::Abort),
     }
 }
 
-fn store(variables: &Variables, at: &KeptTerm, value: &KeptExpression) -> Call
-    ensures { result ≡ Store (term_value variables.now at.now) (expression_value variables.now value.now) }
+fn store(variables: &Variables, at: Term<Place>, value: Expression<Place>) -> Call
+    ensures { result ≡ Store (term_value variables.now at) (expression_value variables.now value) }
 {
     Call::Store {
-        at: value_of(variables, at.term()),
-        value: expression_of(variables, value.expression()),
+        at: value_of(variables, at),
+        value: expression_of(variables, value),
     }
 }
 
-fn read(variables: &Variables, handle: &Boxed<Ident>, n: &KeptTerm) -> Call
-    ensures { result ≡ XRead (handle_value variables.now handle.now) (term_value variables.now n.now) }
+fn read(variables: &Variables, handle: Place, n: Term<Place>) -> Call
+    ensures { result ≡ XRead (handle_value variables.now handle) (term_value variables.now n) }
 {
     Call::XRead {
-        h: handle_in(variables, *handle.value()),
-        n: value_of(variables, n.term()),
+        h: handle_in(variables, handle),
+        n: value_of(variables, n),
     }
 }
 
-fn seek(variables: &Variables, handle: &Boxed<Ident>, to: &KeptTerm) -> Call
-    ensures { result ≡ XSeek (handle_value variables.now handle.now) (term_value variables.now to.now) }
+fn seek(variables: &Variables, handle: Place, to: Term<Place>) -> Call
+    ensures { result ≡ XSeek (handle_value variables.now handle) (term_value variables.now to) }
 {
     Call::XSeek {
-        h: handle_in(variables, *handle.value()),
-        to: value_of(variables, to.term()),
+        h: handle_in(variables, handle),
+        to: value_of(variables, to),
     }
 }
 
-fn close(variables: &Variables, handle: &Boxed<Ident>) -> Call
-    ensures { result ≡ XClose (handle_value variables.now handle.now) }
+fn close(variables: &Variables, handle: Place) -> Call
+    ensures { result ≡ XClose (handle_value variables.now handle) }
 {
-    let h = handle_in(variables, *handle.value());
+    let h = handle_in(variables, handle);
     Call::XClose { h }
 }
 
-// Another place for a slot's name.
-fn slot_copied(alloc: Global, slot: &Option<Boxed<Ident>>) -> Result<Option<Boxed<Ident>>, NoMemory>
-    ensures { IfOk result (λ copy. copy ≡ slot.now) }
-{
-    Boxed::new_optional(alloc, Boxed::optional_value(slot))
-}
-
-fn unlink(alloc: Global, name: &Boxed<Name>, slot: &Option<Boxed<Ident>>) -> Result<Call, NoMemory>
-    ensures { IfOk result (λ call. call ≡ XUnlink name.now slot.now) }
+fn unlink(alloc: Global, name: &Boxed<Name>, slot: Option<Ident>) -> Result<Call, NoMemory>
+    ensures { IfOk result (λ call. call ≡ XUnlink name.now slot) }
 {
     Ok(Call::XUnlink {
         name: name.copied(alloc)?,
-        slot: slot_copied(alloc, slot)?,
+        slot: Boxed::new_optional(alloc, slot)?,
     })
 }
 
-fn sync(
-    alloc: Global,
-    variables: &Variables,
-    handle: &Boxed<Ident>,
-    slot: &Option<Boxed<Ident>>,
-) -> Result<Call, NoMemory>
-    ensures { IfOk result (λ call. call ≡ XSync (handle_value variables.now handle.now) slot.now) }
+fn sync(alloc: Global, h: u16, slot: Option<Ident>) -> Result<Call, NoMemory>
+    ensures { IfOk result (λ call. call ≡ XSync h slot) }
 {
-    let h = handle_in(variables, *handle.value());
     Ok(Call::XSync {
         h,
-        slot: slot_copied(alloc, slot)?,
+        slot: Boxed::new_optional(alloc, slot)?,
     })
 }
 
-/// What a statement asks that isn't silent, behind so many stored bytes.
+// What a line that is a call asks, behind so many stored bytes.
+fn form_ask(
+    alloc: Global,
+    variables: &Variables,
+    stored: u128,
+    form: &CallForm<Place>,
+) -> Result<Ask, NoMemory>
+    ensures { IfOk result (λ ask. ask ≡ form_ask variables.now stored form.now) }
+{
+    match form {
+        CallForm::Load { at, .. } => Ok(Ask::Call(Call::Load {
+            at: value_of(variables, *at),
+        })),
+        CallForm::Store { at, value } => Ok(Ask::Call(store(variables, *at, *value))),
+        CallForm::Open { name, .. } => Ok(Ask::Call(Call::XOpen {
+            name: name.copied(alloc)?,
+        })),
+        CallForm::Create { name, .. } => Ok(Ask::Call(Call::XCreate {
+            name: name.copied(alloc)?,
+        })),
+        CallForm::Rename { from, to } => Ok(Ask::Call(Call::XRename {
+            from: from.copied(alloc)?,
+            to: to.copied(alloc)?,
+        })),
+        CallForm::Read { handle, n, .. } => Ok(Ask::Call(read(variables, *handle, *n))),
+        CallForm::Overwrite { handle, data } => overwrite(alloc, variables, stored, *handle, data),
+        CallForm::Append { handle, data } => append(alloc, variables, stored, *handle, data),
+        CallForm::Seek { handle, to } => Ok(Ask::Call(seek(variables, *handle, *to))),
+        CallForm::Length { handle, .. } => Ok(Ask::Call(Call::XLen {
+            h: handle_in(variables, *handle),
+        })),
+        CallForm::Close { handle } => Ok(Ask::Call(close(variables, *handle))),
+        CallForm::Unlink { name, slot } => {
+            let slot = variables.slot_name(*slot);
+            Ok(Ask::Call(unlink(alloc, name, slot)?))
+        }
+        CallForm::Sync { handle, slot } => {
+            let h = handle_in(variables, *handle);
+            let slot = variables.slot_name(*slot);
+            Ok(Ask::Call(sync(alloc, h, slot)?))
+        }
+    }
+}
+
+/// What a statement asks that isn't silent, behind so many stored bytes. A `let` is always silent.
 pub fn ask_of(
     alloc: Global,
     variables: &Variables,
     stored: u128,
-    statement: &Statement,
+    statement: &Statement<Place>,
 ) -> Result<Ask, NoMemory>
     ensures { IfOk result (λ ask. ask ≡ ask_of variables.now stored statement.now) }
 {
     match statement {
-        Statement::Load { at, .. } => Ok(Ask::Call(Call::Load {
-            at: value_of(variables, at.term()),
-        })),
-        Statement::Store { at, value } => Ok(Ask::Call(store(variables, at, value))),
-        Statement::Open { name, .. } => Ok(Ask::Call(Call::XOpen {
-            name: name.copied(alloc)?,
-        })),
-        Statement::Create { name, .. } => Ok(Ask::Call(Call::XCreate {
-            name: name.copied(alloc)?,
-        })),
-        Statement::Rename { from, to } => Ok(Ask::Call(Call::XRename {
-            from: from.copied(alloc)?,
-            to: to.copied(alloc)?,
-        })),
-        Statement::Read { handle, n, .. } => Ok(Ask::Call(read(variables, handle, n))),
-        Statement::Overwrite { handle, data } => overwrite(alloc, variables, stored, handle, data),
-        Statement::Append { handle, data } => append(alloc, variables, stored, handle, data),
-        Statement::Seek { handle, to } => Ok(Ask::Call(seek(variables, handle, to))),
-        Statement::Length { handle, .. } => Ok(Ask::Call(Call::XLen {
-            h: handle_in(variables, *handle.value()),
-        })),
-        Statement::Close { handle } => Ok(Ask::Call(close(variables, handle))),
-        Statement::Unlink { name, slot } => Ok(Ask::Call(unlink(alloc, name, slot)?)),
-        Statement::Sync { handle, slot } => Ok(Ask::Call(sync(alloc, variables, handle, slot)?)),
-        _ => Ok(Ask::Abort),
+        Statement::Call(form) => form_ask(alloc, variables, stored, form),
+        Statement::Let { .. } | Statement::Abort => Ok(Ask::Abort),
+        Statement::AbortIf { .. } | Statement::Require => Ok(Ask::Abort),
+    }
+}
+
+// How many bytes the data of a write has, where the transaction may store so many more.
+fn data_carried(variables: &Variables, stored: u128, data: &Data<Place>) -> usize
+    ensures value { let n = length (data_of variables.now data.now) in result ≡ (if is_over stored n then 0 else n) }
+    ensures bound { result ≤ 1024 }
+{
+    match room_for(variables, stored, data) {
+        Some(len) => len,
+        None => 0,
+    }
+}
+
+fn form_carried(variables: &Variables, stored: u128, form: &CallForm<Place>) -> usize
+    ensures value { result ≡ carried_by (form_ask variables.now stored form.now) }
+    ensures bound { result ≤ 1024 }
+{
+    match form {
+        CallForm::Overwrite { data, .. } => data_carried(variables, stored, data),
+        CallForm::Append { data, .. } => data_carried(variables, stored, data),
+        CallForm::Load { .. } | CallForm::Store { .. } | CallForm::Open { .. } => 0,
+        CallForm::Create { .. } | CallForm::Rename { .. } | CallForm::Read { .. } => 0,
+        CallForm::Seek { .. } | CallForm::Length { .. } | CallForm::Close { .. } => 0,
+        CallForm::Unlink { .. } | CallForm::Sync { .. } => 0,
     }
 }
 
 /// How many bytes the call carries that a statement asks. It takes no memory.
-pub fn carried(variables: &Variables, stored: u128, statement: &Statement) -> usize
+pub fn carried(variables: &Variables, stored: u128, statement: &Statement<Place>) -> usize
     ensures value { result ≡ carried_by (ask_of variables.now stored statement.now) }
     ensures bound { result ≤ 1024 }
 {
-    let (Statement::Overwrite { data, .. } | Statement::Append { data, .. }) = statement else {
-        return 0;
-    };
-    match room_for(variables, stored, data) {
-        Some(len) => len,
-        None => 0,
+    match statement {
+        Statement::Call(form) => form_carried(variables, stored, form),
+        Statement::Let { .. } | Statement::Abort => 0,
+        Statement::AbortIf { .. } | Statement::Require => 0,
     }
 }

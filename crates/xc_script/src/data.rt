@@ -6,7 +6,7 @@ use crate::terms::{bytes_in, value_of};
 use crate::value::Variables;
 use std::alloc::Global;
 use xc_data::{Chunk, MOST_CALL_BYTES, NoMemory};
-use xc_text::{Data, Item};
+use xc_text::{Data, Item, Place};
 
 // How many decimal digits a number has.
 #[tactic(auto, using(crate::proofs::Digits::digit_count, crate::proofs::Digits::digits_count))]
@@ -19,18 +19,18 @@ fn digits(n: u64) -> usize
     }
 }
 
-fn item_len(variables: &Variables, item: &Item) -> usize
+fn item_len(variables: &Variables, item: &Item<Place>) -> usize
     ensures { result ≡ length (item_value variables.now item.now) }
 {
     match item {
         Item::Literal(bytes) => bytes.len(),
-        Item::Bytes(name) => bytes_in(variables, *name).len(),
+        Item::Bytes(at) => bytes_in(variables, *at).len(),
         Item::Digits(term) => digits(value_of(variables, *term)),
     }
 }
 
 /// The length of data of no more than 1,024 bytes.
-pub fn data_len(variables: &Variables, items: &Data) -> Option<usize>
+pub fn data_len(variables: &Variables, items: &Data<Place>) -> Option<usize>
     ensures some { IfSome result (λ len. (len ≡ length (data_of variables.now items.now)) × (len ≤ 1024)) }
     ensures none { IfNone result (1024 < length (data_of variables.now items.now)) }
 {
@@ -57,19 +57,19 @@ fn push_item(
     alloc: Global,
     variables: &Variables,
     bytes: &mut Vec<u8>,
-    item: &Item,
+    item: &Item<Place>,
 ) -> Result<(), NoMemory>
     ensures { OnOk result (bytes.new.items ≡ bytes.old.items ++ item_value variables.now item.now) }
 {
     match item {
         Item::Literal(literal) => Ok(bytes.extend_from_slice(literal.as_slice())?),
-        Item::Bytes(name) => Ok(bytes.extend_from_slice(bytes_in(variables, *name))?),
+        Item::Bytes(at) => Ok(bytes.extend_from_slice(bytes_in(variables, *at))?),
         Item::Digits(term) => push_digits(alloc, bytes, value_of(variables, *term)),
     }
 }
 
 /// The items joined.
-pub fn data_in(alloc: Global, variables: &Variables, items: &Data) -> Result<Chunk, NoMemory>
+pub fn data_in(alloc: Global, variables: &Variables, items: &Data<Place>) -> Result<Chunk, NoMemory>
     ensures { IfOk result (λ bytes. bytes ≡ data_of variables.now items.now) }
 {
     let mut bytes = Vec::new(alloc);

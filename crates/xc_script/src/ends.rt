@@ -15,7 +15,11 @@ fn slot_of(call: &Call) -> Option<Ident>
         Call::XSendmsg { slot, .. } | Call::XThreadCreate { slot, .. } => Boxed::optional_value(
             slot,
         ),
-        _ => None,
+        Call::Load { .. } | Call::Store { .. } | Call::XOpen { .. } => None,
+        Call::XCreate { .. } | Call::XRead { .. } | Call::XWriteOvr { .. } => None,
+        Call::XWriteSeq { .. } | Call::XSeek { .. } | Call::XLen { .. } => None,
+        Call::XRename { .. } | Call::XClose { .. } | Call::XPipe => None,
+        Call::XReadPipe { .. } | Call::XPair | Call::XRecvmsg { .. } => None,
     }
 }
 

@@ -15,7 +15,7 @@ use std::alloc::Global;
 use std::marker::Model;
 use std::mem;
 use xc_data::{Call, Ident, LateEnd, NoMemory, Reply};
-use xc_text::{Block, Script, Statement};
+use xc_text::{Block, Place, Script, Statement};
 
 /// A job's place in its block, and its variables. What each call reads stands behind what only a begin and an end do.
 #[derive(Drop)]
@@ -77,7 +77,7 @@ fn place_of(script: &Script, name: Ident) -> usize
 }
 
 // The statements of a transaction of a block.
-fn body_at(script: &Script, block: usize, next: usize) -> Option<&[Statement]>
+fn body_at(script: &Script, block: usize, next: usize) -> Option<&[Statement<Place>]>
     ensures { option_copied result ≡ slice_get (transactions_at script.now block) next }
 {
     let Some(block) = script.blocks.get(block) else {
@@ -102,7 +102,7 @@ impl JobState {
             at: 0,
             stored: 0,
             refused: false,
-            variables: Variables::unset(alloc, script.slots.as_slice())?,
+            variables: Variables::unset(alloc, script.variables.len(), script.slots.as_slice())?,
             begun: Variables::nothing(alloc),
         })
     }
@@ -133,7 +133,7 @@ impl JobState {
         let Some(body) = body_at(script, self.block, self.next) else {
             return Ok(Ask::End);
         };
-        settle(&mut self.variables, &mut self.at, self.refused, body)?;
+        settle(&mut self.variables, &mut self.at, self.refused, body);
         match body.get(self.at) {
             Some(statement) => ask_of(self.alloc, &self.variables, self.stored, statement),
             None => Ok(Ask::Commit),

@@ -1,10 +1,9 @@
-ghost use Rattle.std.specs.Prelude.{◌≡◌, ◌≤◌, ℕ, true, drop, OnOk, OnErr};
+ghost use Rattle.std.specs.Prelude.{◌≡◌, ◌≤◌, ℕ, true, drop};
 ghost use Rattle.xc_script.specs.Ask.{holds, is_silent, set_by, settled, stands};
 
 use crate::terms::{expression_of, value_of};
 use crate::value::{Value, Variables};
-use xc_data::NoMemory;
-use xc_text::{Statement, Test};
+use xc_text::{Place, Statement, Test};
 
 fn holds(test: Test, left: u64, right: u64) -> bool
     ensures { result ≡ holds test left right }
@@ -20,54 +19,50 @@ fn holds(test: Test, left: u64, right: u64) -> bool
 }
 
 // The statement asks nothing, where the last call was refused or not.
-fn is_silent(variables: &Variables, refused: bool, statement: &Statement) -> bool
+fn is_silent(variables: &Variables, refused: bool, statement: &Statement<Place>) -> bool
     ensures { result ≡ is_silent variables.now refused statement.now }
 {
     match statement {
+        Statement::Call(_) | Statement::Abort => false,
         Statement::Let { .. } => true,
         Statement::AbortIf { left, test, right } => {
             !holds(
                 *test,
-                value_of(variables, left.term()),
-                value_of(variables, right.term()),
+                value_of(variables, *left),
+                value_of(variables, *right),
             )
         }
         Statement::Require => !refused,
-        _ => false,
     }
 }
 
 // Sets the variable of a `let`.
-fn set(variables: &mut Variables, statement: &Statement) -> Result<(), NoMemory>
-    ensures ok { OnOk result (variables.new ≡ set_by variables.old statement.now) }
-    ensures err { OnErr result (variables.new ≡ variables.old) }
+fn set(variables: &mut Variables, statement: &Statement<Place>)
+    ensures { variables.new ≡ set_by variables.old statement.now }
 {
-    let Statement::Let { into, value } = statement else {
-        return Ok(());
-    };
-    let number = expression_of(variables, value.expression());
-    variables.set(*into.value(), Some(Value::Number(number)))
+    match statement {
+        Statement::Let { into, value } => {
+            let number = expression_of(variables, *value);
+            variables.set(*into, Some(Value::Number(number)));
+        }
+        Statement::Call(_) | Statement::Abort => {}
+        Statement::AbortIf { .. } | Statement::Require => {}
+    }
 }
 
-/// Passes the silent statements that come next. Without memory it has passed some of them.
-pub fn settle(
-    variables: &mut Variables,
-    at: &mut usize,
-    refused: bool,
-    body: &[Statement],
-) -> Result<(), NoMemory>
+/// Passes the silent statements that come next. It takes no memory.
+pub fn settle(variables: &mut Variables, at: &mut usize, refused: bool, body: &[Statement<Place>])
     ensures walk { (stored : ℕ) → settled variables.new stored refused (drop at.new body.now)
         ≡ settled variables.old stored refused (drop at.old body.now) }
-    ensures settled { OnOk result (stands variables.new refused (drop at.new body.now) ≡ true) }
+    ensures settled { stands variables.new refused (drop at.new body.now) ≡ true }
     ensures at { at.old ≤ at.new }
     ensures stays { stands variables.old refused (drop at.old body.now) ≡ true → (variables.new ≡ variables.old) × (at.new ≡ at.old) }
 {
     while let Some(statement) = body.get(*at) {
         if !is_silent(variables, refused, statement) {
-            return Ok(());
+            return;
         }
-        set(variables, statement)?;
+        set(variables, statement);
         *at += 1;
     }
-    Ok(())
 }

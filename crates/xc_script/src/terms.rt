@@ -2,44 +2,43 @@ ghost use Rattle.std.specs.Prelude.{◌≡◌};
 ghost use Rattle.xc_script.specs.Ask.{bytes_value, handle_value, term_value, expression_value};
 
 use crate::value::{Value, Variables};
-use xc_data::Ident;
-use xc_text::{Expression, Term};
+use xc_text::{Expression, Place, Term};
 
 /// A variable without bytes counts as no bytes.
-pub fn bytes_in(variables: &Variables, name: Ident) -> &[u8]
-    ensures { result.now ≡ bytes_value variables.now name }
+pub fn bytes_in(variables: &Variables, at: Place) -> &[u8]
+    ensures { result.now ≡ bytes_value variables.now at }
 {
-    match variables.get(name) {
+    match variables.get(at) {
         Some(Value::Bytes(bytes)) => bytes.as_slice(),
-        _ => &[],
+        Some(Value::Number(_) | Value::Handle(_)) | None => &[],
     }
 }
 
 /// A variable without a handle counts as 65,535.
-pub fn handle_in(variables: &Variables, name: Ident) -> u16
-    ensures { result ≡ handle_value variables.now name }
+pub fn handle_in(variables: &Variables, at: Place) -> u16
+    ensures { result ≡ handle_value variables.now at }
 {
-    match variables.get(name) {
+    match variables.get(at) {
         Some(Value::Handle(h)) => *h,
-        _ => u16::MAX,
+        Some(Value::Number(_) | Value::Bytes(_)) | None => u16::MAX,
     }
 }
 
 /// A variable without a number counts as 0, and so does a slot that is unset.
-pub fn value_of(variables: &Variables, term: Term) -> u64
+pub fn value_of(variables: &Variables, term: Term<Place>) -> u64
     ensures { result ≡ term_value variables.now term }
 {
     match term {
         Term::Number(n) => n,
-        Term::Variable(name) => match variables.get(name) {
+        Term::Variable(at) => match variables.get(at) {
             Some(Value::Number(n)) => *n,
-            _ => 0,
+            Some(Value::Bytes(_) | Value::Handle(_)) | None => 0,
         },
-        Term::Slot(name) => variables.slot(name),
+        Term::Slot(at) => variables.slot(at),
     }
 }
 
-pub fn expression_of(variables: &Variables, expression: Expression) -> u64
+pub fn expression_of(variables: &Variables, expression: Expression<Place>) -> u64
     ensures { result ≡ expression_value variables.now expression }
 {
     match expression {

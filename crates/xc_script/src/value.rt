@@ -1,8 +1,7 @@
-ghost use Rattle.std.specs.Prelude.{◌≡◌, IfOk, OnOk, OnErr, IsOk, None};
-ghost use Rattle.std.specs.FinMap as map;
+ghost use Rattle.std.specs.Prelude.{◌≡◌, IfOk, None, replicate};
 ghost use Rattle.std.specs.Option.{option_copied};
 ghost use Rattle.xc_failure.specs.Slots.{slot_number, unset};
-ghost use Rattle.xc_script.specs.Ask.{set_to};
+ghost use Rattle.xc_script.specs.Ask.{name_of_slot, set_to, value_at};
 ghost use Rattle.xc_script.specs.Position.{nothing_kept};
 ghost use Rattle.xc_script.specs.Slots.{with_end};
 
@@ -11,6 +10,7 @@ use std::alloc::Global;
 use std::marker::Model;
 use xc_data::{Chunk, Ident, LateEnd, NoMemory};
 use xc_failure::Slots;
+use xc_text::Place;
 
 /// What a variable holds.
 #[derive(Clone, Drop)]
@@ -20,7 +20,7 @@ pub enum Value {
     Handle(u16),
 }
 
-/// What a job knows: the variables that hold something, and its slots.
+/// What a job knows: what its variables hold, and its slots.
 #[derive(Drop)]
 pub struct Variables {
     slots: Slots,
@@ -49,43 +49,45 @@ impl Variables {
         }
     }
 
-    /// No variable, and each of these slots unset.
-    pub fn unset(alloc: Global, slots: &[Ident]) -> Result<Variables, NoMemory>
-        ensures { IfOk result (λ variables. variables ≡ record { values = map.empty; slots = unset slots.now }) }
+    /// So many variables that hold nothing, and each of these slots unset.
+    pub fn unset(alloc: Global, variables: usize, slots: &[Ident]) -> Result<Variables, NoMemory>
+        ensures { IfOk result (λ known. known ≡ record { values = replicate variables None; slots = unset slots.now }) }
     {
         Ok(Variables {
             slots: Slots::unset(alloc, slots)?,
-            values: Values::new(alloc),
+            values: Values::unset(alloc, variables)?,
         })
     }
 
     /// What a variable holds.
-    pub fn get(&self, name: Ident) -> Option<&Value>
-        ensures { option_copied result ≡ map.get self.now.values name }
+    pub fn get(&self, at: Place) -> Option<&Value>
+        ensures { option_copied result ≡ value_at self.now.values at }
     {
-        self.values.get(name)
+        self.values.get(at)
     }
 
     /// What a slot counts as.
-    pub fn slot(&self, name: Ident) -> u64
-        ensures { result ≡ slot_number (map.get self.now.slots name) }
+    pub fn slot(&self, at: Place) -> u64
+        ensures { result ≡ slot_number self.now.slots at }
     {
-        self.slots.number(name)
+        self.slots.number(at)
     }
 
-    /// A variable takes a value, or loses its own where there is none.
-    pub fn set(&mut self, name: Ident, value: Option<Value>) -> Result<(), NoMemory>
-        ensures ok { OnOk result (self.new ≡ set_to self.old name value) }
-        ensures err { OnErr result (self.new ≡ self.old) }
-        ensures sure { value ≡ None → IsOk result }
+    /// The name of a slot, where one is wanted.
+    pub fn slot_name(&self, slot: Option<Place>) -> Option<Ident>
+        ensures { result ≡ name_of_slot self.now slot }
     {
-        match value {
-            Some(value) => self.values.insert(name, value),
-            None => {
-                self.values.remove(name);
-                Ok(())
-            }
+        match slot {
+            Some(at) => self.slots.name(at),
+            None => None,
         }
+    }
+
+    /// A variable takes a value, or loses its own where there is none. It takes no memory.
+    pub fn set(&mut self, at: Place, value: Option<Value>)
+        ensures { self.new ≡ set_to self.old at value }
+    {
+        self.values.set(at, value);
     }
 
     /// A slot takes an end, where one is named. It takes no memory.

@@ -6,7 +6,7 @@ use Rattle.std.specs.Option.{option_and_then, option_map}
 use Rattle.std.proofs.lemmas.Bool.Decides.{nat_tests}
 use Rattle.std.proofs.lemmas.List.Elements.{All-nil, All-cons}
 use Rattle.std.proofs.lemmas.List.Splits.{length-slice_split}
-use Rattle.xc_text.specs.Numbers.{number_of}
+use Rattle.xc_tokens.specs.Numbers.{number_of}
 use Rattle.xc_settings.specs.Options.{within, number_in, in_front, numbers_in, parts_of, job_numbers, schedule_in, IsUpTo, AreJobs}
 
 -- a number that counts is within its bounds

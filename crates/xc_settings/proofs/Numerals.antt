@@ -6,7 +6,7 @@ use Rattle.std.specs.Result.{OkIff, result_ok}
 use Rattle.std.specs.Str.Parse.{ParsesUnsigned}
 use Rattle.std.proofs.lemmas.Bool.Decides.{nat_tests}
 use Rattle.std.proofs.lemmas.Str.Parse.{IsNumeralModel, numerals_by_fold, parse_digits}
-use Rattle.xc_text.specs.Numbers.{is_digit, value_from, number_of}
+use Rattle.xc_tokens.specs.Numbers.{is_digit, value_from, number_of}
 use Rattle.xc_settings.specs.Options.{within, number_in}
 
 -- the digits that `parse` reads, and their value

@@ -10,7 +10,7 @@ use Rattle.clap.specs.Walk.{Row, Rule, Text, first_of, is_empty}
 use Rattle.clap.specs.declared.builder.action.ArgAction.TheVariants.{Set}
 use Rattle.clap.specs.declared.builder.value_parser.ValueParser.TheVariants.{Unsigned}
 use Rattle.xc_story.specs.declared.rules.Rules.{Rules}
-use Rattle.xc_text.specs.Numbers.{number_of}
+use Rattle.xc_tokens.specs.Numbers.{number_of}
 use Rattle.xc_settings.specs.declared.chosen.Chosen.{Chosen}
 
 -- ---- the command

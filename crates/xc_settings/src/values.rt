@@ -1,6 +1,6 @@
 ghost use Rattle.std.specs.Prelude.{◌≡◌, IfOk, IsErrOf, None, Some};
 ghost use Rattle.std.specs.List.{list_all};
-ghost use Rattle.xc_text.specs.Numbers.{is_digit};
+ghost use Rattle.xc_tokens.specs.Numbers.{is_digit};
 ghost use Rattle.xc_settings.specs.Options.{number_in, job_numbers};
 
 use crate::SettingsErr;

@@ -2,17 +2,17 @@
 use Rattle.std.proofs.Common.{◌≡◌, ℕ, ◌-◌, ◌<◌, List, [], ◌∷◌, length, map, take, drop, get_or, take_all, drop-cons, suc, subst, arith, Result, Ok, Err, refl}
 use Rattle.std.proofs.Common.{ap, sym, ◌∙◌}
 use Rattle.std.specs.Prelude.{IsOk}
-use Rattle.xc_text.specs.declared.script.Item.{Item}
-use Rattle.xc_text.specs.declared.token.Token.{Token}
-use Rattle.xc_text.specs.declared.why.Stop.{Stop}
-use Rattle.xc_text.specs.declared.why.Stop.TheVariants as stop
-use Rattle.xc_text.specs.declared.why.Why.{Why}
-use Rattle.xc_text.specs.Answers.{Stops, both, seen}
-use Rattle.xc_text.specs.Statements.{written}
+use Rattle.xc_text.specs.Named.{Item}
+use Rattle.xc_tokens.specs.declared.token.Token.{Token}
+use Rattle.xc_tokens.specs.declared.why.Stop.{Stop}
+use Rattle.xc_tokens.specs.declared.why.Stop.TheVariants as stop
+use Rattle.xc_tokens.specs.declared.why.Why.{Why}
+use Rattle.xc_tokens.specs.Answers.{Stops, both, seen}
+use Rattle.xc_text.specs.Shapes.{led}
 use Rattle.xc_text.specs.Pieces.{item_of, items_of, data_of}
-use Rattle.xc_text.specs.Terms.{ident}
-use Rattle.xc_text.specs.Tokens.{Lexeme}
-use Rattle.xc_text.specs.Views.{lexeme}
+use Rattle.xc_tokens.specs.Words.{ident}
+use Rattle.xc_tokens.specs.Tokens.{Lexeme}
+use Rattle.xc_tokens.specs.Views.{lexeme}
 
 -- whether a part is good, and else the reason against it
 abbrev pub checked : {A : Type 0} → Result A Why → Result (Unit {0}) Why
@@ -48,7 +48,7 @@ refused_first (Err d) (Err c) e h = grind (arith, h)
 -- a line that writes is refused where its handle or its data are
 pub written_refused : (t : Token) (ts : List Token) (e : Why) → t ≡ get_or ts 0 t → 0 < length ts →
     first_of (ident (lexeme t)) (checked (data_of (map lexeme (take (length ts - 1) (drop 1 ts))))) ≡ Err e →
-    written (map lexeme ts) ≡ Err e
+    led ident data_of (map lexeme ts) ≡ Err e
 written_refused t [] e is some bad = absurd (omega arith)
 written_refused t (u ∷ ts) e is some bad =
     let rest : take (length (u ∷ ts) - 1) ts ≡ ts = take_all (length (u ∷ ts) - 1) ts (omega arith) in

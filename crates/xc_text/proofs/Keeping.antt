@@ -13,28 +13,31 @@ use Rattle.xc_data.specs.declared.script.Opened.{Opened}
 use Rattle.xc_data.specs.declared.script.Opened.TheVariants.{File, Pipe, Pair}
 use Rattle.xc_data.specs.declared.script.Prologue.{Prologue as OnePrologue}
 use Rattle.xc_data.specs.Limits.{KeepsLimits, IsPrologue, IsOpenedFit, IsGrain, is_pipe_line, is_pair_line}
-use Rattle.xc_text.specs.declared.script.Statement.{Statement}
+use Rattle.xc_text.specs.Stated.{Statement}
 use Rattle.xc_text.specs.declared.script.Script.{Script}
 use Rattle.xc_text.specs.declared.line.Line.{Line}
 use Rattle.xc_text.specs.declared.line.Line.TheVariants as line
 use Rattle.xc_text.specs.declared.line.Section.{Section}
 use Rattle.xc_text.specs.declared.line.Section.TheVariants.{Prologue, Between, Block, Transaction}
-use Rattle.xc_text.specs.declared.why.Why.{Why}
-use Rattle.xc_text.specs.declared.why.Why.TheVariants.{UnknownLine}
-use Rattle.xc_text.specs.Answers.{Refusal, and_then, both, seen}
+use Rattle.xc_tokens.specs.declared.why.Why.{Why}
+use Rattle.xc_tokens.specs.declared.why.Why.TheVariants.{UnknownLine}
+use Rattle.xc_tokens.specs.Answers.{and_then, both, seen}
+use Rattle.xc_text.specs.Refusals.{Refusal}
 use Rattle.xc_text.specs.Grammar.{line_of, first_line, worded_line, words_line, word_line, file_line, fault_line, grain_line, job_line}
 use Rattle.xc_text.specs.Kinds.{kind}
-use Rattle.xc_text.specs.Lines.{lines_of, is_line_byte}
-use Rattle.xc_text.specs.Literals.{is_within, contents, only_literals}
+use Rattle.xc_tokens.specs.Lines.{lines_of, is_line_byte}
+use Rattle.xc_tokens.specs.Literals.{is_within, contents, only_literals}
 use Rattle.xc_text.specs.Said.{Said, opening}
 use Rattle.xc_text.specs.Sections.{block_in, transaction_in, is_outside}
 use Rattle.xc_text.specs.Scripts.{names_of, IsBlock, IsFileLine, IsOneCall, IsScript, at_line, prologue_of, script_of, closed, read_from, parse_of}
 use Rattle.xc_text.specs.Steps.{are_few, is_call, is_file_of, has_few_calls, is_among, sized_by, valued_by, added, faulted, grained}
-use Rattle.xc_text.specs.Steps.{filed, started, begun, stated, committed, ended_block, after, after_any}
-use Rattle.xc_text.specs.Steps.{after_tokens, after_bytes, with_statement}
-use Rattle.xc_text.specs.Statements.{bare, statement_line}
-use Rattle.xc_text.specs.Terms.{spells, number, ident, name}
-use Rattle.xc_text.specs.Tokens.{Lexeme, Word, Literal, tokens_of}
+use Rattle.xc_text.specs.Steps.{filed, started, begun, stated_as, committed, ended_block, after, after_any}
+use Rattle.xc_text.specs.Steps.{after_tokens, after_bytes}
+use Rattle.xc_text.specs.Places.{Placed, placed}
+use Rattle.xc_text.specs.Shapes.{bare}
+use Rattle.xc_text.specs.Statements.{statement_line}
+use Rattle.xc_tokens.specs.Words.{spells, number, ident, name}
+use Rattle.xc_tokens.specs.Tokens.{Lexeme, Word, Literal, tokens_of}
 use Rattle.xc_text.proofs.Indexing.{distinct_more}
 
 -- how many transactions of the block under way have ended
@@ -78,6 +81,7 @@ pub record IsSound (s : Said) : Type 0 where
   pub body : IsBody s.body
   pub opening : IsOpening (prologue_of s)
   pub each_block : All IsBlock s.blocks
+  pub few_variables : length s.names.variables ≤ 256
   pub few_slots : length s.names.slots ≤ 256
 
 abbrev Keeps : Result Said Why → Type 0
@@ -108,6 +112,7 @@ opening-keeps =
       body = omega arith;
       opening = record { few = omega arith; fit = All-nil IsOpenedFit; each = All-nil IsFileLine; faults = All-nil IsOneCall; grain = tt };
       each_block = All-nil IsBlock;
+      few_variables = omega arith;
       few_slots = omega arith;
     }
 
@@ -127,6 +132,7 @@ sized-keeps r n k =
       body = k.body;
       opening = k.opening;
       each_block = k.each_block;
+      few_variables = k.few_variables;
       few_slots = k.few_slots;
     }))
 
@@ -144,6 +150,7 @@ valued-keeps r at value k =
       body = k.body;
       opening = k.opening;
       each_block = k.each_block;
+      few_variables = k.few_variables;
       few_slots = k.few_slots;
     })
 
@@ -178,6 +185,7 @@ added-keeps r file (Some bytes) few k =
         grain = k.opening.grain;
       };
       each_block = k.each_block;
+      few_variables = k.few_variables;
       few_slots = k.few_slots;
     })
 
@@ -205,6 +213,7 @@ faulted-keeps r kind n k =
         grain = k.opening.grain;
       };
       each_block = k.each_block;
+      few_variables = k.few_variables;
       few_slots = k.few_slots;
     })
 
@@ -230,13 +239,13 @@ grained-keeps r n k =
         grain = (ltb-false _ _ parts.0, ltb-false _ _ parts.1);
       };
       each_block = k.each_block;
+      few_variables = k.few_variables;
       few_slots = k.few_slots;
     }))
 
-stated-keeps : (s : Said) (statement : Statement) → IsSound s → Keeps (stated s statement)
-stated-keeps s statement k =
-    cond_both (has_few_calls s.body statement && are_few (with_statement s.names statement)) _ _
-    (λ (r : Result Said Why). Keeps (and_then r (λ (t : Said). Ok (record t { body = t.body ++ statement ∷ [] })))) (λ few.
+stated-keeps : (s : Said) (p : Placed Statement) → IsSound s → Keeps (stated_as s p)
+stated-keeps s p k =
+    cond_both (has_few_calls s.body p.1 && are_few p.0) _ _ Keeps (λ few.
     record {
       some_words = k.some_words;
       few_words = k.few_words;
@@ -248,6 +257,7 @@ stated-keeps s statement k =
       body = leb-true _ _ (and_parts _ _ few).0;
       opening = k.opening;
       each_block = k.each_block;
+      few_variables = leb-true _ _ (and_parts _ _ (and_parts _ _ few).1).0;
       few_slots = leb-true _ _ (and_parts _ _ (and_parts _ _ few).1).1;
     }) (λ _. tt)
 
@@ -268,6 +278,7 @@ begun-keeps r (Block name) e k =
       body = k.body;
       opening = k.opening;
       each_block = k.each_block;
+      few_variables = k.few_variables;
       few_slots = k.few_slots;
     })
 
@@ -287,6 +298,7 @@ committed-keeps r (Transaction name) e k =
       body = omega arith;
       opening = k.opening;
       each_block = k.each_block;
+      few_variables = k.few_variables;
       few_slots = k.few_slots;
     }
 
@@ -306,6 +318,7 @@ ended-keeps r (Block name) e k =
       body = k.body;
       opening = k.opening;
       each_block = All-push IsBlock r.blocks _ k.each_block (record { transactions = count_at r (Block name) e k; calls = k.calls });
+      few_variables = k.few_variables;
       few_slots = k.few_slots;
     }
 
@@ -343,6 +356,7 @@ started-keeps r name outside k =
       body = k.body;
       opening = k.opening;
       each_block = k.each_block;
+      few_variables = k.few_variables;
       few_slots = k.few_slots;
     }))
 
@@ -354,7 +368,7 @@ after-keeps r (line.Fault kind n) first k = faulted-keeps r kind n k
 after-keeps r (line.Grain n) first k = grained-keeps r n k
 after-keeps r (line.Job name) first k = started-keeps r name first k
 after-keeps r line.Begin first k = begun-keeps r r.section refl k
-after-keeps r (line.Statement s) first k = stated-keeps r s k
+after-keeps r (line.Statement s) first k = stated-keeps r (placed r.names s) k
 after-keeps r line.Commit first k = committed-keeps r r.section refl k
 after-keeps r line.End first k = ended-keeps r r.section refl k
 
@@ -506,6 +520,7 @@ script_of-keeps r outside k =
       files = k.opening.each;
       faults = k.opening.faults;
       each_block = k.each_block;
+      few_variables = k.few_variables;
       few_slots = k.few_slots;
     }
 

@@ -1,9 +1,6 @@
-pub mod LineCuts
 pub mod Forms
-pub mod LiteralLemmas
 pub mod Checked
 pub mod Keeping
 pub mod FilesByName
 pub mod Indexing
-pub mod Quotes
-pub mod TokenLists
+pub mod FirstLines

@@ -5,14 +5,15 @@ use Rattle.xc_text.specs.declared.line.Line.{Line}
 use Rattle.xc_text.specs.declared.line.Line.TheVariants as line
 use Rattle.xc_text.specs.declared.line.Section.{Section}
 use Rattle.xc_text.specs.declared.line.Section.TheVariants.{Prologue, Between, Block, Transaction}
-use Rattle.xc_text.specs.declared.why.Why.{Why}
-use Rattle.xc_text.specs.declared.why.Why.TheVariants.{UnknownLine, BadForm}
-use Rattle.xc_text.specs.Answers.{both, seen}
+use Rattle.xc_tokens.specs.declared.why.Why.{Why}
+use Rattle.xc_tokens.specs.declared.why.Why.TheVariants.{UnknownLine, BadForm}
+use Rattle.xc_tokens.specs.Answers.{both, seen}
 use Rattle.xc_text.specs.Kinds.{kind}
-use Rattle.xc_text.specs.Literals.{only_literals, contents}
-use Rattle.xc_text.specs.Statements.{bare, statement_line}
-use Rattle.xc_text.specs.Terms.{spells, number, ident, name}
-use Rattle.xc_text.specs.Tokens.{Lexeme, Word, Literal}
+use Rattle.xc_tokens.specs.Literals.{only_literals, contents}
+use Rattle.xc_text.specs.Shapes.{bare}
+use Rattle.xc_text.specs.Statements.{statement_line}
+use Rattle.xc_tokens.specs.Words.{spells, number, ident, name}
+use Rattle.xc_tokens.specs.Tokens.{Lexeme, Word, Literal}
 
 -- `words N`
 abbrev pub words_line : List Lexeme → Result Line Why

@@ -1,18 +1,14 @@
 -- The kinds of host calls, as a `fault` line spells them.
-use Rattle.std.specs.Prelude.{ℕ, List, [], ◌∷◌, codes, find, ok_or, option_map, Result, Err}
+use Rattle.std.specs.Prelude.{ℕ, List, [], ◌∷◌, codes, ok_or, Result, Err}
 use Rattle.xc_data.specs.declared.script.Kind.{Kind}
 use Rattle.xc_data.specs.declared.script.Kind.TheVariants as host_call
-use Rattle.xc_text.specs.declared.why.Why.{Why}
-use Rattle.xc_text.specs.declared.why.Why.TheVariants.{BadForm}
-use Rattle.xc_text.specs.Terms.{spells}
-use Rattle.xc_text.specs.Tokens.{Lexeme, Word, Literal}
-
--- a kind and its word
-abbrev pub Spelling : Type 0
-Spelling = List ℕ × Kind
+use Rattle.xc_tokens.specs.declared.why.Why.{Why}
+use Rattle.xc_tokens.specs.declared.why.Why.TheVariants.{BadForm}
+use Rattle.xc_tokens.specs.ByWord.{Entry, by_word}
+use Rattle.xc_tokens.specs.Tokens.{Lexeme, Word, Literal}
 
 -- the words of all kinds
-abbrev pub spellings : List Spelling
+abbrev pub spellings : List (Entry Kind)
 spellings =
     (codes "lookup", host_call.Lookup)
     ∷ (codes "create", host_call.Create)
@@ -41,13 +37,9 @@ spellings =
     ∷ (codes "any", host_call.Any)
     ∷ []
 
--- the kind that a word spells by a table
-abbrev pub kind_among : List Spelling → List ℕ → Result Kind Why
-kind_among table word = ok_or (option_map (λ (s : Spelling). s.1) (find (λ (s : Spelling). spells word s.0) table)) BadForm
-
 -- the kind that a word spells; no other word may stand there
 abbrev pub kind_in : List ℕ → Result Kind Why
-kind_in word = kind_among spellings word
+kind_in word = ok_or (by_word spellings word) BadForm
 
 -- what stands in the place of a kind
 abbrev pub kind : Lexeme → Result Kind Why

@@ -1,14 +1,15 @@
 -- The data of a line that writes.
 use Rattle.std.specs.Prelude.{ℕ, ◌==◌, ◌&&◌, Bool, List, [], ◌∷◌, length, nat_le, Result, Ok, Err, if◌then◌else◌}
 use Rattle.std.specs.List.{repeat}
-use Rattle.xc_text.specs.declared.script.Item.{Item}
 use Rattle.xc_text.specs.declared.script.Item.TheVariants as item
-use Rattle.xc_text.specs.declared.why.Why.{Why}
-use Rattle.xc_text.specs.declared.why.Why.TheVariants.{BadForm, TooMany}
-use Rattle.xc_text.specs.Answers.{and_then, both, seen}
-use Rattle.xc_text.specs.Literals.{is_within}
-use Rattle.xc_text.specs.Terms.{ident_in, term_in}
-use Rattle.xc_text.specs.Tokens.{Lexeme, Word, Literal}
+use Rattle.xc_tokens.specs.declared.why.Why.{Why}
+use Rattle.xc_tokens.specs.declared.why.Why.TheVariants.{BadForm, TooMany}
+use Rattle.xc_tokens.specs.Answers.{and_then, both, seen}
+use Rattle.xc_tokens.specs.Literals.{is_within}
+use Rattle.xc_text.specs.Named.{Item}
+use Rattle.xc_text.specs.Terms.{term_in}
+use Rattle.xc_tokens.specs.Words.{ident_in}
+use Rattle.xc_tokens.specs.Tokens.{Lexeme, Word, Literal}
 
 -- `$V`, a variable's bytes, or `@T`, a term's digits
 abbrev pub word_item : List ℕ → Result Item Why

@@ -10,10 +10,11 @@ use Rattle.xc_data.specs.declared.script.Prologue.{Prologue}
 use Rattle.xc_data.specs.Limits.{IsPrologue}
 use Rattle.xc_text.specs.declared.script.Block.{Block as OneBlock}
 use Rattle.xc_text.specs.declared.script.Script.{Script}
-use Rattle.xc_text.specs.declared.why.Why.{Why}
-use Rattle.xc_text.specs.declared.why.Why.TheVariants.{TooLong, Unclosed}
-use Rattle.xc_text.specs.Answers.{Refusal, and_then}
-use Rattle.xc_text.specs.Lines.{lines_of}
+use Rattle.xc_tokens.specs.declared.why.Why.{Why}
+use Rattle.xc_tokens.specs.declared.why.Why.TheVariants.{TooLong, Unclosed}
+use Rattle.xc_tokens.specs.Answers.{and_then}
+use Rattle.xc_text.specs.Refusals.{Refusal}
+use Rattle.xc_tokens.specs.Lines.{lines_of}
 use Rattle.xc_text.specs.Said.{Said, opening}
 use Rattle.xc_text.specs.Sections.{is_outside}
 use Rattle.xc_text.specs.Steps.{is_call, after_bytes}
@@ -41,6 +42,7 @@ script_of s = record {
     jobs = s.jobs;
   };
   blocks = s.blocks;
+  variables = s.names.variables;
   slots = s.names.slots;
 }
 
@@ -84,4 +86,5 @@ pub record IsScript (s : Script) : Type 0 where
   pub files : All IsFileLine s.outline.prologue.objects
   pub faults : All IsOneCall s.outline.prologue.faults
   pub each_block : All IsBlock s.blocks
+  pub few_variables : length s.variables ≤ 256
   pub few_slots : length s.slots ≤ 256

@@ -6,103 +6,33 @@ use Rattle.std.specs.Cmp.Lexicographic.{pointwise}
 use Rattle.xc_data.specs.declared.script.Kind.{Kind}
 use Rattle.xc_data.specs.declared.script.Opened.{Opened}
 use Rattle.xc_data.specs.declared.script.Opened.TheVariants.{File}
-use Rattle.xc_text.specs.declared.script.Term.{Term}
-use Rattle.xc_text.specs.declared.script.Term.TheVariants.{Number, Variable, Slot}
-use Rattle.xc_text.specs.declared.script.Expression.{Expression}
-use Rattle.xc_text.specs.declared.script.Expression.TheVariants.{Term as OneTerm, Sum, Difference}
-use Rattle.xc_text.specs.declared.script.Item.{Item}
-use Rattle.xc_text.specs.declared.script.Item.TheVariants as item
-use Rattle.xc_text.specs.declared.script.Statement.{Statement}
-use Rattle.xc_text.specs.declared.script.Statement.TheVariants.{Load, Store, Open, Create, Rename, Read, Overwrite, Append}
-use Rattle.xc_text.specs.declared.script.Statement.TheVariants.{Seek, Length, Close, Unlink, Sync, Let, Abort, AbortIf, Require}
+use Rattle.xc_text.specs.declared.script.Statement.TheVariants as statement
 use Rattle.xc_text.specs.declared.line.Line.{Line}
 use Rattle.xc_text.specs.declared.line.Line.TheVariants as line
 use Rattle.xc_text.specs.declared.line.Section.TheVariants.{Between, Block, Transaction}
-use Rattle.xc_text.specs.declared.why.Why.{Why}
-use Rattle.xc_text.specs.declared.why.Why.TheVariants.{BadByte, UnknownLine, BadNumber, Twice, TooMany}
-use Rattle.xc_text.specs.Answers.{and_then}
+use Rattle.xc_tokens.specs.declared.why.Why.{Why}
+use Rattle.xc_tokens.specs.declared.why.Why.TheVariants.{BadByte, UnknownLine, BadNumber, Twice, TooMany}
+use Rattle.xc_tokens.specs.Answers.{and_then}
 use Rattle.xc_text.specs.Grammar.{line_of}
-use Rattle.xc_text.specs.Lines.{is_line_byte}
+use Rattle.xc_tokens.specs.Lines.{is_line_byte}
 use Rattle.xc_text.specs.Said.{Names, Said}
+use Rattle.xc_text.specs.Named.{Statement as NamedStatement}
+use Rattle.xc_text.specs.Places.{Placed, placed}
+use Rattle.xc_text.specs.Stated.{Statement}
 use Rattle.xc_text.specs.Sections.{block_in, transaction_in}
-use Rattle.xc_text.specs.Tokens.{Lexeme, tokens_of}
+use Rattle.xc_tokens.specs.Tokens.{Lexeme, tokens_of}
 
 -- a statement that is a call
 abbrev pub is_call : Statement → Bool
-is_call (Let into value) = false
-is_call Abort = false
-is_call (AbortIf left test right) = false
-is_call Require = false
-is_call _ = true
+is_call (statement.Call form) = true
+is_call (statement.Let into value) = false
+is_call statement.Abort = false
+is_call (statement.AbortIf left test right) = false
+is_call statement.Require = false
 
 -- one of the names is this one
 abbrev pub is_among : List ℕ → List (List ℕ) → Bool
 is_among name names = list_any (λ other. pointwise nat_eq other name) names
-
--- the names with one more, which stands in them once
-abbrev pub with_name : List (List ℕ) → List ℕ → List (List ℕ)
-with_name names name = if is_among name names then names else names ++ name ∷ []
-
--- the names with one more variable
-abbrev pub with_variable : Names → List ℕ → Names
-with_variable names name = record names { variables = with_name names.variables name }
-
--- the names with one more slot
-abbrev pub with_slot : Names → List ℕ → Names
-with_slot names name = record names { slots = with_name names.slots name }
-
--- the names with a term's variable or slot
-abbrev pub with_term : Names → Term → Names
-with_term names (Number n) = names
-with_term names (Variable name) = with_variable names name
-with_term names (Slot name) = with_slot names name
-
--- the names with those of an expression
-abbrev pub with_expression : Names → Expression → Names
-with_expression names (OneTerm a) = with_term names a
-with_expression names (Sum a b) = with_term (with_term names a) b
-with_expression names (Difference a b) = with_term (with_term names a) b
-
--- the names with the variable that a reply goes to
-abbrev pub with_target : Names → Option (List ℕ) → Names
-with_target names (Some name) = with_variable names name
-with_target names None = names
-
--- the names with the slot that the end of a late call goes to
-abbrev pub with_ending : Names → Option (List ℕ) → Names
-with_ending names (Some name) = with_slot names name
-with_ending names None = names
-
--- the names with an item's variable or slot
-abbrev pub with_item : Names → Item → Names
-with_item names (item.Literal bytes) = names
-with_item names (item.Bytes name) = with_variable names name
-with_item names (item.Digits t) = with_term names t
-
--- the names with those of data
-abbrev pub with_data : Names → List Item → Names
-with_data names [] = names
-with_data names (i ∷ items) = with_data (with_item names i) items
-
--- the names with those of a statement, read or written
-abbrev pub with_statement : Names → Statement → Names
-with_statement names (Load at into) = with_target (with_term names at) into
-with_statement names (Store at value) = with_expression (with_term names at) value
-with_statement names (Open file into) = with_target names into
-with_statement names (Create file into) = with_target names into
-with_statement names (Rename from to) = names
-with_statement names (Read handle n into) = with_target (with_term (with_variable names handle) n) into
-with_statement names (Overwrite handle items) = with_data (with_variable names handle) items
-with_statement names (Append handle items) = with_data (with_variable names handle) items
-with_statement names (Seek handle to) = with_term (with_variable names handle) to
-with_statement names (Length handle into) = with_target (with_variable names handle) into
-with_statement names (Close handle) = with_variable names handle
-with_statement names (Unlink file slot) = with_ending names slot
-with_statement names (Sync handle slot) = with_ending (with_variable names handle) slot
-with_statement names (Let into value) = with_expression (with_variable names into) value
-with_statement names Abort = names
-with_statement names (AbortIf left test right) = with_term (with_term names left) right
-with_statement names Require = names
 
 -- 1 to 4,096 words, by one line that stands before any word's value
 abbrev pub sized_by : Said → ℕ → Result Said Why
@@ -168,16 +98,15 @@ has_few_calls body statement = nat_le (count_by is_call (body ++ statement ∷ [
 abbrev pub are_few : Names → Bool
 are_few names = nat_le (length names.variables) 256 && nat_le (length names.slots) 256
 
--- a statement's names more, where the calls of its transaction and the names of the script stay few
-abbrev pub named : Said → Statement → Result Said Why
-named s statement =
-    if has_few_calls s.body statement && are_few (with_statement s.names statement) then
-    Ok (record s { names = with_statement s.names statement })
+-- a statement more, where the calls of its transaction and the names of the script stay few
+abbrev pub stated_as : Said → Placed Statement → Result Said Why
+stated_as s p =
+    if has_few_calls s.body p.1 && are_few p.0 then Ok (record s { names = p.0; body = s.body ++ p.1 ∷ [] })
     else Err TooMany
 
--- a statement more
-abbrev pub stated : Said → Statement → Result Said Why
-stated s statement = and_then (named s statement) (λ (t : Said). Ok (record t { body = t.body ++ statement ∷ [] }))
+-- a statement more, with the places of its names
+abbrev pub stated : Said → NamedStatement → Result Said Why
+stated s statement = stated_as s (placed s.names statement)
 
 -- the transaction under way ends
 abbrev pub committed : Said → Option (List ℕ) → Result Said Why

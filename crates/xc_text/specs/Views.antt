@@ -1,24 +1,10 @@
--- What values of the code are in the grammar.
-use Rattle.std.specs.Prelude.{◌≡◌, ℕ, List, Option, Some, None, is_some}
+-- What indexes of the code are in the grammar.
+use Rattle.std.specs.Prelude.{◌≡◌, ℕ, List, is_some}
 use Rattle.std.specs.FinMap as map
 use Rattle.std.specs.List.{list_any}
 use Rattle.xc_data.specs.declared.script.Opened.{Opened}
 use Rattle.xc_maps.specs.Keys.{name_cmp}
-use Rattle.xc_text.specs.declared.token.Token.{Token}
-use Rattle.xc_text.specs.declared.token.Token.TheVariants as token
-use Rattle.xc_text.specs.Quoted.{then_rest, literal_of}
 use Rattle.xc_text.specs.Steps.{is_among, is_file_of}
-use Rattle.xc_text.specs.Tokens.{Lexeme, Word, Literal}
-
--- a token
-abbrev pub lexeme : Token → Lexeme
-lexeme (token.Word bytes) = Word bytes.now
-lexeme (token.Literal bytes times) = Literal bytes.items times
-
--- a literal behind a piece of it: the byte that the piece means, and what stands behind it
-abbrev pub behind_piece : Option (ℕ × List ℕ) → Option (List ℕ × List ℕ)
-behind_piece (Some (b, behind)) = then_rest b (literal_of behind)
-behind_piece None = None
 
 -- an index of files: a name is there where some object is the file of that name
 abbrev pub NamesFiles : map.FinMap name_cmp (Unit {0}) → List Opened → Type 0

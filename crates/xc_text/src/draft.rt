@@ -1,9 +1,11 @@
-ghost use Rattle.std.specs.Prelude.{◌≡◌, ◌≤◌, replicate, IfOk};
-ghost use Rattle.xc_text.specs.Answers.{Gives};
+ghost use Rattle.std.specs.Prelude.{◌≡◌, ◌≤◌, map, replicate, IfOk, IsSome, None};
+ghost use Rattle.xc_tokens.specs.Answers.{Gives, and_then};
+ghost use Rattle.xc_tokens.specs.Views.{lexeme};
+ghost use Rattle.xc_text.specs.Grammar.{first_line, transaction_line};
 ghost use Rattle.xc_text.specs.Said.{opening};
 ghost use Rattle.xc_text.specs.Scripts.{script_of};
 ghost use Rattle.xc_text.specs.Sections.{block_in, is_outside, transaction_in};
-ghost use Rattle.xc_text.specs.Steps.{started, begun, named, stated, committed, ended_block, after, after_bytes};
+ghost use Rattle.xc_text.specs.Steps.{started, begun, stated, committed, ended_block, after, after_tokens, after_bytes};
 
 use crate::block_names::BlockNames;
 use crate::counted::Counted;
@@ -11,15 +13,16 @@ use crate::files::Files;
 use crate::grammar::line_of;
 use crate::limits::{FIRST_WORDS, MOST_BLOCKS, MOST_TRANSACTIONS};
 use crate::line::{Line, Section};
-use crate::lines::are_line_bytes;
-use crate::names::{Names, add_statement};
+use crate::names::Names;
+use crate::places::place_statement;
 use crate::script::{Block, Body, Script, Statement};
-use crate::token::tokens;
-use crate::why::{Stop, Why};
+use crate::shapes::bare;
+use crate::statements::read_statement;
 use std::alloc::Global;
 use std::marker::Model;
 use std::mem;
 use xc_data::{FaultList, Ident, Items, NoMemory, Outline, Prologue, WordList};
+use xc_tokens::{Stop, Token, Why, are_line_bytes, read_tokens, spells};
 
 mod opening;
 
@@ -119,6 +122,7 @@ impl Draft {
                 jobs: self.jobs.into_names(),
             },
             blocks: self.blocks,
+            variables: self.names.variables,
             slots: self.names.slots,
         }
     }
@@ -150,24 +154,14 @@ impl Draft {
         Ok(())
     }
 
-    fn name(&mut self, statement: &Statement) -> Result<(), Stop>
-        ensures { Gives (λ _. self.new) result (named self.old statement.now) }
-    {
-        if !self.body.has_room(statement) {
-            return Err(Stop::Refused(Why::TooMany));
-        }
-        add_statement(&mut self.names, statement)?;
-        if !self.names.are_few() {
-            return Err(Stop::Refused(Why::TooMany));
-        }
-        Ok(())
-    }
-
-    fn state(&mut self, statement: Statement) -> Result<(), Stop>
+    fn state(&mut self, alloc: Global, statement: Statement<Ident>) -> Result<(), Stop>
         ensures { Gives (λ _. self.new) result (stated self.old statement) }
     {
-        self.name(&statement)?;
-        self.body.push(statement)?;
+        let placed = place_statement(alloc, &mut self.names, statement)?;
+        if !self.body.has_room(&placed) || !self.names.are_few() {
+            return Err(Stop::Refused(Why::TooMany));
+        }
+        self.body.push(placed)?;
         Ok(())
     }
 
@@ -206,23 +200,73 @@ impl Draft {
             Line::Grain(n) => self.set_grain(n),
             Line::Job(name) => self.start(name),
             Line::Begin => self.begin(),
-            Line::Statement(statement) => self.state(statement),
+            Line::Statement(statement) => self.state(alloc, statement),
             Line::Commit => self.commit(alloc),
             Line::End => self.end(alloc),
         }
     }
 
-    /// Reads one more line, without its LF.
-    pub fn read(&mut self, alloc: Global, bytes: &[u8]) -> Result<(), Stop>
+    // A line of a transaction that begins with a word.
+    fn read_word(&mut self, alloc: Global, word: &[u8], rest: &[Token]) -> Result<(), Stop>
+        ensures { Gives (λ _. self.new) result (and_then (transaction_line word.now (map lexeme rest.now)) (λ says. after self.old says)) }
+    {
+        if spells(word, b"commit") {
+            bare(rest)?;
+            return self.commit(alloc);
+        }
+        let mut statement = Statement::Abort;
+        read_statement(alloc, word, rest, &mut statement)?;
+        self.state(alloc, statement)
+    }
+
+    fn read_first(&mut self, alloc: Global, first: &Token, rest: &[Token]) -> Result<(), Stop>
+        requires { IsSome (transaction_in self.old.section) }
+        ensures { Gives (λ _. self.new) result
+            (and_then (first_line self.old.section (lexeme first.now) (map lexeme rest.now)) (λ says. after self.old says)) }
+    {
+        match first {
+            Token::Word(word) => self.read_word(alloc, word, rest),
+            Token::Literal { .. } => Err(Stop::Refused(Why::UnknownLine)),
+        }
+    }
+
+    // A line of a transaction: its statement is read into one place, and not handed on from line to line.
+    fn read_inside(&mut self, alloc: Global, tokens: &[Token]) -> Result<(), Stop>
+        requires { IsSome (transaction_in self.old.section) }
+        ensures { Gives (λ _. self.new) result (after_tokens self.old (map lexeme tokens.now)) }
+    {
+        match tokens {
+            [] => Ok(()),
+            [first, rest @ ..] => self.read_first(alloc, first, rest),
+        }
+    }
+
+    fn read_outside(&mut self, alloc: Global, tokens: &[Token]) -> Result<(), Stop>
+        requires { transaction_in self.old.section ≡ None }
+        ensures { Gives (λ _. self.new) result (after_tokens self.old (map lexeme tokens.now)) }
+    {
+        match line_of(alloc, &self.section, tokens)? {
+            Some(line) => self.add(alloc, line),
+            None => Ok(()),
+        }
+    }
+
+    /// Reads one more line, without its LF. The tokens are those of the line before, and then its own.
+    pub fn read<'a>(
+        &mut self,
+        alloc: Global,
+        tokens: &mut Vec<Token<'a>>,
+        bytes: &'a [u8],
+    ) -> Result<(), Stop>
         ensures { Gives (λ _. self.new) result (after_bytes self.old bytes.now) }
     {
         if !are_line_bytes(bytes) {
             return Err(Stop::Refused(Why::BadByte));
         }
-        let tokens = tokens(alloc, bytes)?;
-        match line_of(alloc, &self.section, tokens.as_slice())? {
-            Some(line) => self.add(alloc, line),
-            None => Ok(()),
+        read_tokens(alloc, tokens, bytes)?;
+        if self.section.transaction().is_some() {
+            return self.read_inside(alloc, tokens.as_slice());
         }
+        self.read_outside(alloc, tokens.as_slice())
     }
 }

@@ -1,24 +1,21 @@
 //! Lines, by the section that they stand in.
 
-ghost use Rattle.std.specs.Prelude.{◌≡◌, map};
-ghost use Rattle.xc_text.specs.Answers.{Gives};
+ghost use Rattle.std.specs.Prelude.{◌≡◌, None, map};
+ghost use Rattle.xc_tokens.specs.Answers.{Gives};
 ghost use Rattle.xc_text.specs.Grammar.{words_line as words_said, word_line as word_said, file_line as file_said, job_line as job_said};
 ghost use Rattle.xc_text.specs.Grammar.{fault_line as fault_said, grain_line as grain_said};
 ghost use Rattle.xc_text.specs.Grammar.{prologue_line as prologue_said, between_line as between_said, block_line as block_said};
-ghost use Rattle.xc_text.specs.Grammar.{transaction_line as transaction_said, worded_line as worded_said};
+ghost use Rattle.xc_text.specs.Grammar.{worded_line as worded_said};
+ghost use Rattle.xc_text.specs.Sections.{transaction_in};
 ghost use Rattle.xc_text.specs.Grammar.{first_line as first_word_said, line_of as line_said};
-ghost use Rattle.xc_text.specs.Literals.{only_literals as literals_alone};
-ghost use Rattle.xc_text.specs.Views.{lexeme};
+ghost use Rattle.xc_tokens.specs.Literals.{only_literals as literals_alone};
+ghost use Rattle.xc_tokens.specs.Views.{lexeme};
 
 use crate::kinds::kind;
 use crate::line::{Line, Section};
-use crate::literals::{are_literals, contents};
-use crate::reason::both;
-use crate::statements::{check_bare, statement_line};
-use crate::term::{ident, name, number, spells};
-use crate::token::Token;
-use crate::why::{Stop, Why};
+use crate::shapes::bare;
 use std::alloc::Global;
+use xc_tokens::{Stop, Token, Why, are_literals, both, contents, ident, name, number, spells};
 
 fn words_line(tokens: &[Token]) -> Result<Line, Why>
     ensures { result ≡ words_said (map lexeme tokens.now) }
@@ -130,38 +127,30 @@ fn block_line(word: &[u8], rest: &[Token]) -> Result<Line, Why>
     ensures { result ≡ block_said word.now (map lexeme rest.now) }
 {
     if spells(word, b"tx") {
-        check_bare(rest)?;
+        bare(rest)?;
         return Ok(Line::Begin);
     }
     if spells(word, b"end") {
-        check_bare(rest)?;
+        bare(rest)?;
         return Ok(Line::End);
     }
     Err(Why::UnknownLine)
 }
 
-fn transaction_line(alloc: Global, word: &[u8], rest: &[Token]) -> Result<Line, Stop>
-    ensures { Gives (λ line. line) result (transaction_said word.now (map lexeme rest.now)) }
-{
-    if spells(word, b"commit") {
-        check_bare(rest)?;
-        return Ok(Line::Commit);
-    }
-    Ok(Line::Statement(statement_line(alloc, word, rest)?))
-}
-
 fn worded_line(alloc: Global, section: &Section, word: &[u8], rest: &[Token]) -> Result<Line, Stop>
+    requires { transaction_in section.now ≡ None }
     ensures { Gives (λ line. line) result (worded_said section.now word.now (map lexeme rest.now)) }
 {
     match section {
         Section::Prologue => prologue_line(alloc, word, rest),
         Section::Between => Ok(between_line(word, rest)?),
         Section::Block(_) => Ok(block_line(word, rest)?),
-        Section::Transaction(_) => transaction_line(alloc, word, rest),
+        Section::Transaction(_) => unreachable!(),
     }
 }
 
 fn first_said(alloc: Global, section: &Section, first: &Token, rest: &[Token]) -> Result<Line, Stop>
+    requires { transaction_in section.now ≡ None }
     ensures { Gives (λ line. line) result (first_word_said section.now (lexeme first.now) (map lexeme rest.now)) }
 {
     match first {
@@ -170,8 +159,9 @@ fn first_said(alloc: Global, section: &Section, first: &Token, rest: &[Token]) -
     }
 }
 
-/// What the tokens of a line say, by the section that it stands in. A line without tokens says nothing.
+/// What the tokens of a line outside of transactions say, by the section that it stands in. A line without tokens says nothing.
 pub fn line_of(alloc: Global, section: &Section, tokens: &[Token]) -> Result<Option<Line>, Stop>
+    requires { transaction_in section.now ≡ None }
     ensures { Gives (λ line. line) result (line_said section.now (map lexeme tokens.now)) }
 {
     match tokens {

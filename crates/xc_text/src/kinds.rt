@@ -1,11 +1,9 @@
-ghost use Rattle.std.specs.Prelude.{◌≡◌, map};
-ghost use Rattle.xc_text.specs.Kinds.{kind_in, kind as kind_of_token, kind_among};
-ghost use Rattle.xc_text.specs.Views.{lexeme};
+ghost use Rattle.std.specs.Prelude.{◌≡◌};
+ghost use Rattle.xc_text.specs.Kinds.{kind_in, kind as kind_of_token};
+ghost use Rattle.xc_tokens.specs.Views.{lexeme};
 
-use crate::term::spells;
-use crate::token::Token;
-use crate::why::Why;
 use xc_data::Kind;
+use xc_tokens::{Token, Why, by_word};
 
 /// The kinds of host calls as a `fault` line spells them.
 const KINDS: [(&[u8], Kind); 25] = [
@@ -36,22 +34,13 @@ const KINDS: [(&[u8], Kind); 25] = [
     (b"any", Kind::Any),
 ];
 
-fn kind_from(mut table: &[(&[u8], Kind)], word: &[u8]) -> Result<Kind, Why>
-    ensures { result ≡ kind_among (map (λ entry. (entry.0.now, entry.1)) table.entry.now) word.now }
-{
-    while let [(text, kind), rest @ ..] = table {
-        if spells(word, text) {
-            return Ok(*kind);
-        }
-        table = rest;
-    }
-    Err(Why::BadForm)
-}
-
 fn kind_word(word: &[u8]) -> Result<Kind, Why>
     ensures { result ≡ kind_in word.now }
 {
-    kind_from(&KINDS, word)
+    match by_word(&KINDS, word) {
+        Some(kind) => Ok(kind),
+        None => Err(Why::BadForm),
+    }
 }
 
 /// What stands in the place of a kind of host calls.

@@ -1,33 +1,31 @@
-//! The script: its lines, its grammar, and what a script says.
+//! The script: its grammar, and what a script says.
 //!
 //! `parse` reads a script exactly where the grammar of `specs/` has one, and else answers the first
 //! bad line with its first reason.
 #![tactic(auto)]
 
 mod block_names;
+mod calls;
 mod counted;
 mod draft;
-mod file_calls;
 mod files;
 mod grammar;
-mod kept;
 mod kinds;
 mod limits;
 mod line;
-mod lines;
-mod literals;
 mod names;
-mod number;
+mod parse_err;
 mod parser;
 mod pieces;
-mod reason;
+mod places;
 mod script;
+mod shapes;
 mod statements;
 mod term;
-mod token;
-mod why;
 
-pub use kept::{KeptExpression, KeptTerm};
+pub use parse_err::ParseErr;
 pub use parser::parse;
-pub use script::{Block, Body, Data, Expression, Item, Script, Statement, Term, Test};
-pub use why::{ParseErr, Why};
+pub use script::{
+    Block, Body, CallForm, Data, Expression, Item, Place, Script, Statement, Term, Test,
+};
+pub use xc_tokens::Why;

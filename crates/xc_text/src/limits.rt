@@ -20,9 +20,3 @@ pub const MOST_CALLS: u32 = 256;
 pub const MOST_NAMES: usize = 256;
 /// The parts of the data of a write.
 pub const MOST_ITEMS: usize = 16;
-/// What a literal means, before its repeat.
-pub const MOST_LITERAL_BYTES: usize = 1024;
-/// How often a literal may stand there.
-pub const MOST_REPEAT: u64 = 65_536;
-/// A number's digits, zeros in front too.
-pub const MOST_DIGITS: usize = 20;

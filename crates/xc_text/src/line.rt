@@ -46,7 +46,7 @@ impl Section {
     }
 }
 
-/// What a line says.
+/// What a line says. A line of a transaction is read by the draft itself, and stands here for the grammar.
 #[derive(Debug, Drop)]
 pub enum Line {
     /// The number of words.
@@ -63,7 +63,7 @@ pub enum Line {
     Job(Ident),
     /// A transaction begins.
     Begin,
-    Statement(Statement),
+    Statement(Statement<Ident>),
     /// The transaction ends.
     Commit,
     /// The block ends.

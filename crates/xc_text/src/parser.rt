@@ -1,16 +1,16 @@
 ghost use Rattle.std.specs.Prelude.{◌≡◌, ◌≤◌, [], length, IfOk, IsErrOf, Ok, Err};
 ghost use Rattle.xc_data.specs.Limits.{KeepsLimits};
-ghost use Rattle.xc_text.specs.Answers.{Reads};
-ghost use Rattle.xc_text.specs.Lines.{lines_of};
+ghost use Rattle.xc_text.specs.Refusals.{Reads};
+ghost use Rattle.xc_tokens.specs.Lines.{lines_of};
 ghost use Rattle.xc_text.specs.Said.{opening};
 ghost use Rattle.xc_text.specs.Scripts.{parse_of, read_from, IsScript};
 
 use crate::draft::Draft;
 use crate::limits::MOST_SCRIPT_BYTES;
-use crate::lines::first_line;
+use crate::parse_err::ParseErr;
 use crate::script::Script;
-use crate::why::{ParseErr, Stop, Why};
 use std::alloc::Global;
+use xc_tokens::{Stop, Why, first_line};
 
 // The script of all lines, whose number is given.
 fn close(alloc: Global, draft: Draft, lines: u32) -> Result<Script, ParseErr>
@@ -30,12 +30,13 @@ fn read_lines(alloc: Global, bytes: &[u8]) -> Result<Script, ParseErr>
     ensures { Reads result (read_from 0 opening (lines_of bytes.now)) }
 {
     let mut draft = Draft::new(alloc)?;
+    let mut tokens = Vec::new(alloc);
     let mut lines = 0;
     let mut rest = bytes;
     while !rest.is_empty() {
         let (line, behind) = first_line(rest);
         lines += 1;
-        match draft.read(alloc, line) {
+        match draft.read(alloc, &mut tokens, line) {
             Ok(()) => {}
             Err(Stop::Refused(why)) => return Err(ParseErr::Refused { line: lines, why }),
             Err(Stop::NoMemory) => return Err(ParseErr::NoMemory),

@@ -1,19 +1,16 @@
 ghost use Rattle.std.specs.Prelude.{◌≡◌, map, IsOk};
-ghost use Rattle.xc_text.specs.Answers.{Gives, seen};
 ghost use Rattle.xc_text.specs.Pieces.{word_item as word_item_said, item_of, items_of, data_of};
-ghost use Rattle.xc_text.specs.Views.{lexeme};
+ghost use Rattle.xc_tokens.specs.Answers.{Gives, seen};
+ghost use Rattle.xc_tokens.specs.Views.{lexeme};
 
 use crate::limits::MOST_ITEMS;
-use crate::literals::{is_within, repeated};
-use crate::reason::beside;
 use crate::script::{Data, Item};
-use crate::term::{ident_word, term_word};
-use crate::token::Token;
-use crate::why::{Stop, Why};
+use crate::term::term_word;
 use std::alloc::Global;
-use xc_data::{Items, MOST_CALL_BYTES};
+use xc_data::{Ident, Items, MOST_CALL_BYTES};
+use xc_tokens::{Stop, Token, Why, beside, ident_word, is_within, repeated};
 
-fn word_item(word: &[u8]) -> Result<Item, Why>
+fn word_item(word: &[u8]) -> Result<Item<Ident>, Why>
     ensures { result ≡ word_item_said word.now }
 {
     match word {
@@ -33,7 +30,7 @@ fn check_item(token: &Token) -> Result<(), Why>
     Ok(())
 }
 
-fn item(alloc: Global, token: &Token) -> Result<Item, Stop>
+fn item(alloc: Global, token: &Token) -> Result<Item<Ident>, Stop>
     ensures { Gives (λ item. item) result (item_of (lexeme token.now)) }
 {
     match token {
@@ -53,7 +50,7 @@ fn check_items(tokens: &[Token]) -> Result<(), Why>
     }
 }
 
-fn items(alloc: Global, tokens: &[Token]) -> Result<Data, Stop>
+fn items(alloc: Global, tokens: &[Token]) -> Result<Data<Ident>, Stop>
     requires good { IsOk (items_of (map lexeme tokens.now)) }
     ensures { Gives (λ items. items) result (items_of (map lexeme tokens.now)) }
 {
@@ -79,7 +76,7 @@ pub fn check_data(tokens: &[Token]) -> Result<(), Why>
 }
 
 /// The data of a line that writes.
-pub fn data(alloc: Global, tokens: &[Token]) -> Result<Data, Stop>
+pub fn data(alloc: Global, tokens: &[Token]) -> Result<Data<Ident>, Stop>
     requires good { IsOk (data_of (map lexeme tokens.now)) }
     ensures { Gives (λ items. items) result (data_of (map lexeme tokens.now)) }
 {

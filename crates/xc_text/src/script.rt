@@ -1,22 +1,22 @@
 ghost use Rattle.std.specs.Prelude.{◌≡◌};
 
-use crate::kept::{KeptExpression, KeptTerm};
 use xc_data::{Boxed, Chunk, Ident, IdentList, Items, Name, Outline};
 
-/// A number, the number in a variable, or one that tells how the last late call with a slot ended.
+/// A number, the number in a variable, or one that tells how the last late call with a slot ended. Here and below a
+/// variable and a slot stand as an `N`.
 #[derive(Clone, Copy, Debug, PartialEq)]
-pub enum Term {
+pub enum Term<N> {
     Number(u64),
-    Variable(Ident),
-    Slot(Ident),
+    Variable(N),
+    Slot(N),
 }
 
 /// A term, a sum or a difference of two, taken modulo 2^64.
 #[derive(Clone, Copy, Debug, PartialEq)]
-pub enum Expression {
-    Term(Term),
-    Sum(Term, Term),
-    Difference(Term, Term),
+pub enum Expression<N> {
+    Term(Term<N>),
+    Sum(Term<N>, Term<N>),
+    Difference(Term<N>, Term<N>),
 }
 
 /// How two numbers are compared, the first one with the second.
@@ -32,38 +32,37 @@ pub enum Test {
 
 /// A part of the bytes that a call writes.
 #[derive(Debug, Drop)]
-pub enum Item {
+pub enum Item<N> {
     /// A literal with its repeat.
     Literal(Chunk),
     /// The bytes in a variable.
-    Bytes(Ident),
+    Bytes(N),
     /// A term's value in decimal digits.
-    Digits(Term),
+    Digits(Term<N>),
 }
 
 /// The parts of the bytes that a call writes, 1 to 16 of them, in order.
-pub type Data = Items<Item>;
+pub type Data<N> = Items<Item<N>>;
 
-/// A line of a transaction between its `tx` and its `commit`. A variable takes what a call replies
-/// where one is named.
+/// A line that is a call. A variable takes what it replies where one is named.
 #[derive(Debug, Drop)]
-pub enum Statement {
+pub enum CallForm<N> {
     Load {
-        at: KeptTerm,
-        into: Option<Boxed<Ident>>,
+        at: Term<N>,
+        into: Option<N>,
     },
     Store {
-        at: KeptTerm,
-        value: KeptExpression,
+        at: Term<N>,
+        value: Expression<N>,
     },
     Open {
         name: Boxed<Name>,
-        into: Option<Boxed<Ident>>,
+        into: Option<N>,
     },
     /// Makes an empty file.
     Create {
         name: Boxed<Name>,
-        into: Option<Boxed<Ident>>,
+        into: Option<N>,
     },
     Rename {
         from: Boxed<Name>,
@@ -71,63 +70,72 @@ pub enum Statement {
     },
     /// Reads up to n bytes through the handle in a variable.
     Read {
-        handle: Boxed<Ident>,
-        n: KeptTerm,
-        into: Option<Boxed<Ident>>,
+        handle: N,
+        n: Term<N>,
+        into: Option<N>,
     },
     /// Writes over a file's bytes through the handle in a variable.
     Overwrite {
-        handle: Boxed<Ident>,
-        data: Data,
+        handle: N,
+        data: Data<N>,
     },
     /// Writes behind a file's bytes through the handle in a variable.
     Append {
-        handle: Boxed<Ident>,
-        data: Data,
+        handle: N,
+        data: Data<N>,
     },
     /// Sets the position of the handle in a variable.
     Seek {
-        handle: Boxed<Ident>,
-        to: KeptTerm,
+        handle: N,
+        to: Term<N>,
     },
     /// Asks for the length of the file whose handle is in a variable.
     Length {
-        handle: Boxed<Ident>,
-        into: Option<Boxed<Ident>>,
+        handle: N,
+        into: Option<N>,
     },
     /// Gives up the handle in a variable.
     Close {
-        handle: Boxed<Ident>,
+        handle: N,
     },
     /// Takes a file's name away at the commit. A slot takes the end where one is named.
     Unlink {
         name: Boxed<Name>,
-        slot: Option<Boxed<Ident>>,
+        slot: Option<N>,
     },
     /// Keeps for good, at the commit, what was written to the file whose handle is in a variable.
     Sync {
-        handle: Boxed<Ident>,
-        slot: Option<Boxed<Ident>>,
+        handle: N,
+        slot: Option<N>,
     },
+}
+
+/// A line of a transaction between its `tx` and its `commit`.
+#[derive(Debug, Drop)]
+pub enum Statement<N> {
+    Call(CallForm<N>),
     /// A variable takes a number.
     Let {
-        into: Boxed<Ident>,
-        value: KeptExpression,
+        into: N,
+        value: Expression<N>,
     },
     /// The transaction aborts itself.
     Abort,
     /// It aborts itself where the test holds.
     AbortIf {
-        left: KeptTerm,
+        left: Term<N>,
         test: Test,
-        right: KeptTerm,
+        right: Term<N>,
     },
     /// It aborts itself where its last call was refused.
     Require,
 }
 
+/// The place of a variable or of a slot among the names of a script.
+pub type Place = u16;
+
 /// The statements of one transaction, in order.
-pub type Body = Items<Statement>;
+pub type Body = Items<Statement<Place>>;
 
 /// A `job` block and its transactions, in order.
 #[derive(Debug, Drop)]
@@ -142,7 +150,9 @@ pub struct Script {
     pub outline: Outline,
     /// The blocks in the order of the script.
     pub blocks: Items<Block>,
-    /// The names of its slots, each once.
+    /// The names of its variables, each once, in the order in which they come first.
+    pub variables: IdentList,
+    /// The names of its slots, likewise.
     pub slots: IdentList,
 }
 

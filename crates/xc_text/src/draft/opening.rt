@@ -2,14 +2,14 @@
 
 ghost use Rattle.std.specs.Prelude.{◌≡◌, false, Some};
 ghost use Rattle.std.specs.List.{list_any};
-ghost use Rattle.xc_text.specs.Answers.{Gives};
+ghost use Rattle.xc_tokens.specs.Answers.{Gives};
 ghost use Rattle.xc_text.specs.Steps.{is_file_of, sized_by, valued_by, filed, added, faulted, grained};
 
 use crate::draft::{Draft, zeros};
 use crate::limits::{MOST_FILES, MOST_GRAIN, MOST_WORDS};
-use crate::why::{Stop, Why};
 use std::alloc::Global;
 use xc_data::{Chunk, FaultLine, Kind, Name};
+use xc_tokens::{Stop, Why};
 
 impl Draft {
     pub(super) fn size(&mut self, alloc: Global, n: u64) -> Result<(), Stop>

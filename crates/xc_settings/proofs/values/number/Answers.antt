@@ -1,7 +1,7 @@
 use Rattle.std.proofs.Common.{◌≡◌, true, rules, arith, sym, ap, ◌∙◌}
 use Rattle.std.specs.List.{list_all}
 use Rattle.std.specs.Option.{option_and_then}
-use Rattle.xc_text.specs.Numbers.{is_digit}
+use Rattle.xc_tokens.specs.Numbers.{is_digit}
 use Rattle.xc_settings.specs.Options.{within, number_in}
 use Rattle.xc_settings.proofs.Numerals.{number_in-parsed, number_in-inside, number_in-outside}
 use Rattle.xc_settings.proofs.values.number.Goals as goal

@@ -1,5 +1,5 @@
 use Rattle.std.proofs.Common.{◌≡◌, ◌≤◌, ◌+◌, length}
-use Rattle.xc_text.specs.Lines.{lines_of}
+use Rattle.xc_tokens.specs.Lines.{lines_of}
 use Rattle.xc_text.specs.Scripts.{read_from}
 use Rattle.xc_text.specs.Said.{opening}
 use Rattle.xc_text.proofs.parser.read_lines.Given as goal

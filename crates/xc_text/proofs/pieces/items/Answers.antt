@@ -1,5 +1,5 @@
 use Rattle.std.proofs.Common.{rules, List, ◌++◌}
-use Rattle.xc_text.specs.declared.script.Item.{Item}
+use Rattle.xc_text.specs.Named.{Item}
 use Rattle.xc_text.proofs.Checked.{item_stops}
 use Rattle.xc_text.proofs.pieces.items.Goals as goal
 

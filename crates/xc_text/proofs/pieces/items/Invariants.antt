@@ -1,8 +1,8 @@
 use Rattle.std.proofs.Common.{◌≡◌, List, ◌++◌, map, drop}
-use Rattle.xc_text.specs.declared.script.Item.{Item}
-use Rattle.xc_text.specs.Answers.{seen}
+use Rattle.xc_text.specs.Named.{Item}
+use Rattle.xc_tokens.specs.Answers.{seen}
 use Rattle.xc_text.specs.Pieces.{items_of}
-use Rattle.xc_text.specs.Views.{lexeme}
+use Rattle.xc_tokens.specs.Views.{lexeme}
 use Rattle.xc_text.proofs.pieces.items.Given as goal
 
 -- the items so far, and those that are left

@@ -1,4 +1,4 @@
-use Rattle.std.proofs.Common.{arith, sym}
+use Rattle.std.proofs.Common.{arith}
 use Rattle.std.proofs.lemmas.Bool.{ltb-true, ltb-false}
 use Rattle.xc_text.proofs.Forms.{no_abort}
 use Rattle.xc_text.proofs.statements.abort_line.Goals as goal
@@ -8,7 +8,7 @@ pub returns-in_default : goal.returns-in_default
 returns-in_default c =
     elim c.in_default.branch [
       | in_default-via-then-tokens-lt4 w ↦
-          sym (no_abort c.args.tokens.now (λ none. omega (arith, ltb-true, ltb-false)) (λ four. omega (arith, ltb-true)))
+          no_abort c.args.tokens.now (λ none. omega (arith, ltb-true, ltb-false)) (λ four. omega (arith, ltb-true))
       | in_default-via-else-tokens-lt4+else-tokens-lt5 w ↦
-          sym (no_abort c.args.tokens.now (λ none. omega (arith, ltb-false)) (λ four. omega (arith, ltb-false)))
+          no_abort c.args.tokens.now (λ none. omega (arith, ltb-false)) (λ four. omega (arith, ltb-false))
     ]

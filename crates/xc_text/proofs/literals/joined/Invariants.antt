@@ -1,8 +1,0 @@
-use Rattle.std.proofs.Common.{◌≡◌, ◌++◌, map, drop}
-use Rattle.xc_text.specs.Literals.{joined}
-use Rattle.xc_text.specs.Views.{lexeme}
-use Rattle.xc_text.proofs.literals.joined.Given as goal
-
--- the bytes so far, and those that are left
-abbrev pub invariant-loop-token : goal.invariant-loop-token
-invariant-loop-token l = l.bytes.items ++ joined (map lexeme (drop l.token-index l.tokens)) ≡ joined (map lexeme l.tokens)

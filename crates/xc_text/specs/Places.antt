@@ -1,0 +1,112 @@
+-- The places of names: a name takes the next place where it comes first, and has it from there on.
+use Rattle.std.specs.Prelude.{ℕ, List, [], ◌∷◌, ◌++◌, length, nat_eq, position, Option, Some, None}
+use Rattle.std.specs.Cmp.Lexicographic.{pointwise}
+use Rattle.xc_text.specs.declared.script.Term.TheVariants.{Number, Variable, Slot}
+use Rattle.xc_text.specs.declared.script.Expression.TheVariants.{Term as OneTerm, Sum, Difference}
+use Rattle.xc_text.specs.declared.script.Item.TheVariants as item
+use Rattle.xc_text.specs.declared.script.CallForm.TheVariants as form
+use Rattle.xc_text.specs.declared.script.Statement.TheVariants as statement
+use Rattle.xc_text.specs.declared.script.Test.{Test}
+use Rattle.xc_text.specs.Named as named
+use Rattle.xc_text.specs.Said.{Names}
+use Rattle.xc_text.specs.Stated.{Term, Expression, Item, CallForm, Statement}
+
+-- names, and what stands with their places
+abbrev pub Placed : Type 0 → Type 0
+Placed A = Names × A
+
+-- the place of a name, where it has one
+abbrev pub place_of : List (List ℕ) → List ℕ → Option ℕ
+place_of names name = position (λ other. pointwise nat_eq other name) names
+
+-- names and the place of one of them, which is new where it had none
+abbrev pub at_place : List (List ℕ) → List ℕ → Option ℕ → List (List ℕ) × ℕ
+at_place names name (Some at) = (names, at)
+at_place names name None = (names ++ name ∷ [], length names)
+
+-- names with one, and its place
+abbrev pub taken : List (List ℕ) → List ℕ → List (List ℕ) × ℕ
+taken names name = at_place names name (place_of names name)
+
+-- a variable
+abbrev pub variable : Names → List ℕ → Placed ℕ
+variable names name = let p = taken names.variables name in (record names { variables = p.0 }, p.1)
+
+-- a slot
+abbrev pub slot : Names → List ℕ → Placed ℕ
+slot names name = let p = taken names.slots name in (record names { slots = p.0 }, p.1)
+
+-- what is made of one part
+abbrev pub one : {A B : Type 0} → (A → B) → Placed A → Placed B
+one f p = (p.0, f p.1)
+
+-- what is made of a part and of another one behind it
+abbrev pub two : {A B C : Type 0} → (A → B → C) → Placed A → (Names → Placed B) → Placed C
+two f p behind = ((behind p.0).0, f p.1 (behind p.0).1)
+
+-- a term
+abbrev pub placed_term : Names → named.Term → Placed Term
+placed_term names (Number n) = (names, Number n)
+placed_term names (Variable name) = one Variable (variable names name)
+placed_term names (Slot name) = one Slot (slot names name)
+
+-- an expression
+abbrev pub placed_expression : Names → named.Expression → Placed Expression
+placed_expression names (OneTerm a) = one OneTerm (placed_term names a)
+placed_expression names (Sum a b) = two Sum (placed_term names a) (λ behind. placed_term behind b)
+placed_expression names (Difference a b) = two Difference (placed_term names a) (λ behind. placed_term behind b)
+
+-- the variable that a reply goes to
+abbrev pub placed_target : Names → Option (List ℕ) → Placed (Option ℕ)
+placed_target names (Some name) = one Some (variable names name)
+placed_target names None = (names, None)
+
+-- the slot that the end of a late call goes to
+abbrev pub placed_ending : Names → Option (List ℕ) → Placed (Option ℕ)
+placed_ending names (Some name) = one Some (slot names name)
+placed_ending names None = (names, None)
+
+-- a part of the data of a call
+abbrev pub placed_item : Names → named.Item → Placed Item
+placed_item names (item.Literal bytes) = (names, item.Literal bytes)
+placed_item names (item.Bytes name) = one item.Bytes (variable names name)
+placed_item names (item.Digits term) = one item.Digits (placed_term names term)
+
+-- the data of a call
+abbrev pub placed_data : Names → List named.Item → Placed (List Item)
+placed_data names [] = (names, [])
+placed_data names (i ∷ items) = two (λ i is. i ∷ is) (placed_item names i) (λ behind. placed_data behind items)
+
+-- a term, and the variable that a reply goes to
+abbrev pub placed_term_into : Names → named.Term → Option (List ℕ) → Placed (Term × Option ℕ)
+placed_term_into names term into = two (λ t v. (t, v)) (placed_term names term) (λ behind. placed_target behind into)
+
+-- a line that is a call
+abbrev pub placed_form : Names → named.CallForm → Placed CallForm
+placed_form names (form.Load at into) = one (λ p. form.Load p.0 p.1) (placed_term_into names at into)
+placed_form names (form.Store at value) = two form.Store (placed_term names at) (λ behind. placed_expression behind value)
+placed_form names (form.Open file into) = one (form.Open file) (placed_target names into)
+placed_form names (form.Create file into) = one (form.Create file) (placed_target names into)
+placed_form names (form.Rename from to) = (names, form.Rename from to)
+placed_form names (form.Read handle n into) =
+    two (λ h p. form.Read h p.0 p.1) (variable names handle) (λ behind. placed_term_into behind n into)
+placed_form names (form.Overwrite handle items) = two form.Overwrite (variable names handle) (λ behind. placed_data behind items)
+placed_form names (form.Append handle items) = two form.Append (variable names handle) (λ behind. placed_data behind items)
+placed_form names (form.Seek handle to) = two form.Seek (variable names handle) (λ behind. placed_term behind to)
+placed_form names (form.Length handle into) = two form.Length (variable names handle) (λ behind. placed_target behind into)
+placed_form names (form.Close handle) = one form.Close (variable names handle)
+placed_form names (form.Unlink file into) = one (form.Unlink file) (placed_ending names into)
+placed_form names (form.Sync handle into) = two form.Sync (variable names handle) (λ behind. placed_ending behind into)
+
+-- a test of two terms
+abbrev pub placed_test : Names → named.Term → Test → named.Term → Placed Statement
+placed_test names left test right =
+    two (λ a b. statement.AbortIf a test b) (placed_term names left) (λ behind. placed_term behind right)
+
+-- a statement: its variables and slots, read or written, in the order in which they stand there
+abbrev pub placed : Names → named.Statement → Placed Statement
+placed names (statement.Call form) = one (λ f. statement.Call f) (placed_form names form)
+placed names (statement.Let into value) = two statement.Let (variable names into) (λ behind. placed_expression behind value)
+placed names statement.Abort = (names, statement.Abort)
+placed names (statement.AbortIf left test right) = placed_test names left test right
+placed names statement.Require = (names, statement.Require)

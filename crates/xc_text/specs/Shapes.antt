@@ -1,0 +1,34 @@
+-- The shapes of lines: what may stand behind a line's first word.
+use Rattle.std.specs.Prelude.{ℕ, List, [], ◌∷◌, codes, Option, Some, None, Result, Ok, Err, if◌then◌else◌}
+use Rattle.xc_tokens.specs.declared.why.Why.{Why}
+use Rattle.xc_tokens.specs.declared.why.Why.TheVariants.{BadForm}
+use Rattle.xc_tokens.specs.Answers.{both, seen}
+use Rattle.xc_tokens.specs.Tokens.{Lexeme}
+use Rattle.xc_tokens.specs.Words.{is_sign, ident}
+
+-- nothing
+abbrev pub bare : List Lexeme → Result (Unit {0}) Why
+bare [] = Ok tt
+bare _ = Err BadForm
+
+-- one token, and nothing behind it
+abbrev pub alone : {A : Type 0} → (Lexeme → Result A Why) → List Lexeme → Result A Why
+alone read (t ∷ []) = read t
+alone read _ = Err BadForm
+
+-- one token, and a shape behind it
+abbrev pub led : {A B : Type 0} → (Lexeme → Result A Why) → (List Lexeme → Result B Why) → List Lexeme → Result (A × B) Why
+led first behind [] = Err BadForm
+led first behind (t ∷ ts) = both (first t) (behind ts)
+
+-- nothing, or `-> V`
+abbrev pub target : List Lexeme → Result (Option (List ℕ)) Why
+target [] = Ok None
+target (arrow ∷ v ∷ []) = if is_sign arrow (codes "->") then seen Some (ident v) else Err BadForm
+target _ = Err BadForm
+
+-- nothing, or `slot S`
+abbrev pub slot_ending : List Lexeme → Result (Option (List ℕ)) Why
+slot_ending [] = Ok None
+slot_ending (word ∷ s ∷ []) = if is_sign word (codes "slot") then seen Some (ident s) else Err BadForm
+slot_ending _ = Err BadForm

@@ -1,0 +1,206 @@
+//! Statements with the places of their names.
+
+ghost use Rattle.std.specs.Prelude.{◌≡◌, IfOk, OnOk};
+ghost use Rattle.xc_text.specs.Places.{placed_term, placed_expression, placed_target, placed_ending, placed_item, placed_data};
+ghost use Rattle.xc_text.specs.Places.{placed_term_into, placed_form, placed_test, placed as placed_statement};
+
+use crate::names::Names;
+use crate::script::{CallForm, Data, Expression, Item, Place, Statement, Term, Test};
+use std::alloc::Global;
+use xc_data::{Ident, Items, NoMemory};
+
+fn place_term(names: &mut Names, term: Term<Ident>) -> Result<Term<Place>, NoMemory>
+    ensures names { OnOk result (names.new ≡ (placed_term names.old term).0) }
+    ensures placed { IfOk result (λ placed. placed ≡ (placed_term names.old term).1) }
+{
+    match term {
+        Term::Number(n) => Ok(Term::Number(n)),
+        Term::Variable(name) => Ok(Term::Variable(names.variable(name)?)),
+        Term::Slot(name) => Ok(Term::Slot(names.slot(name)?)),
+    }
+}
+
+fn place_expression(
+    names: &mut Names,
+    value: Expression<Ident>,
+) -> Result<Expression<Place>, NoMemory>
+    ensures names { OnOk result (names.new ≡ (placed_expression names.old value).0) }
+    ensures placed { IfOk result (λ placed. placed ≡ (placed_expression names.old value).1) }
+{
+    match value {
+        Expression::Term(a) => Ok(Expression::Term(place_term(names, a)?)),
+        Expression::Sum(a, b) => {
+            let a = place_term(names, a)?;
+            Ok(Expression::Sum(a, place_term(names, b)?))
+        }
+        Expression::Difference(a, b) => {
+            let a = place_term(names, a)?;
+            Ok(Expression::Difference(a, place_term(names, b)?))
+        }
+    }
+}
+
+fn place_target(names: &mut Names, into: Option<Ident>) -> Result<Option<Place>, NoMemory>
+    ensures names { OnOk result (names.new ≡ (placed_target names.old into).0) }
+    ensures placed { IfOk result (λ placed. placed ≡ (placed_target names.old into).1) }
+{
+    match into {
+        Some(name) => Ok(Some(names.variable(name)?)),
+        None => Ok(None),
+    }
+}
+
+fn place_ending(names: &mut Names, slot: Option<Ident>) -> Result<Option<Place>, NoMemory>
+    ensures names { OnOk result (names.new ≡ (placed_ending names.old slot).0) }
+    ensures placed { IfOk result (λ placed. placed ≡ (placed_ending names.old slot).1) }
+{
+    match slot {
+        Some(name) => Ok(Some(names.slot(name)?)),
+        None => Ok(None),
+    }
+}
+
+// The bytes of a literal are shared.
+fn place_item(names: &mut Names, item: &Item<Ident>) -> Result<Item<Place>, NoMemory>
+    ensures names { OnOk result (names.new ≡ (placed_item names.old item.now).0) }
+    ensures placed { IfOk result (λ placed. placed ≡ (placed_item names.old item.now).1) }
+{
+    match item {
+        Item::Literal(bytes) => Ok(Item::Literal(bytes.share()?)),
+        Item::Bytes(name) => Ok(Item::Bytes(names.variable(*name)?)),
+        Item::Digits(term) => Ok(Item::Digits(place_term(names, *term)?)),
+    }
+}
+
+fn place_data(
+    alloc: Global,
+    names: &mut Names,
+    items: &[Item<Ident>],
+) -> Result<Data<Place>, NoMemory>
+    ensures names { OnOk result (names.new ≡ (placed_data names.old items.now).0) }
+    ensures placed { IfOk result (λ placed. placed ≡ (placed_data names.old items.now).1) }
+{
+    let mut placed = Items::new(alloc);
+    for item in items {
+        let item = place_item(names, item)?;
+        placed.push(item)?;
+    }
+    Ok(placed)
+}
+
+fn place_term_into(
+    names: &mut Names,
+    term: Term<Ident>,
+    into: Option<Ident>,
+) -> Result<(Term<Place>, Option<Place>), NoMemory>
+    ensures names { OnOk result (names.new ≡ (placed_term_into names.old term into).0) }
+    ensures placed { IfOk result (λ placed. placed ≡ (placed_term_into names.old term into).1) }
+{
+    let term = place_term(names, term)?;
+    let into = place_target(names, into)?;
+    Ok((term, into))
+}
+
+fn place_form(
+    alloc: Global,
+    names: &mut Names,
+    form: CallForm<Ident>,
+) -> Result<CallForm<Place>, NoMemory>
+    ensures names { OnOk result (names.new ≡ (placed_form names.old form).0) }
+    ensures placed { IfOk result (λ placed. placed ≡ (placed_form names.old form).1) }
+{
+    match form {
+        CallForm::Load { at, into } => {
+            let (at, into) = place_term_into(names, at, into)?;
+            Ok(CallForm::Load { at, into })
+        }
+        CallForm::Store { at, value } => {
+            let at = place_term(names, at)?;
+            let value = place_expression(names, value)?;
+            Ok(CallForm::Store { at, value })
+        }
+        CallForm::Open { name, into } => {
+            let into = place_target(names, into)?;
+            Ok(CallForm::Open { name, into })
+        }
+        CallForm::Create { name, into } => {
+            let into = place_target(names, into)?;
+            Ok(CallForm::Create { name, into })
+        }
+        CallForm::Rename { from, to } => Ok(CallForm::Rename { from, to }),
+        CallForm::Read { handle, n, into } => {
+            let handle = names.variable(handle)?;
+            let (n, into) = place_term_into(names, n, into)?;
+            Ok(CallForm::Read { handle, n, into })
+        }
+        CallForm::Overwrite { handle, data } => {
+            let handle = names.variable(handle)?;
+            let data = place_data(alloc, names, data.as_slice())?;
+            Ok(CallForm::Overwrite { handle, data })
+        }
+        CallForm::Append { handle, data } => {
+            let handle = names.variable(handle)?;
+            let data = place_data(alloc, names, data.as_slice())?;
+            Ok(CallForm::Append { handle, data })
+        }
+        CallForm::Seek { handle, to } => {
+            let handle = names.variable(handle)?;
+            let to = place_term(names, to)?;
+            Ok(CallForm::Seek { handle, to })
+        }
+        CallForm::Length { handle, into } => {
+            let handle = names.variable(handle)?;
+            let into = place_target(names, into)?;
+            Ok(CallForm::Length { handle, into })
+        }
+        CallForm::Close { handle } => {
+            let handle = names.variable(handle)?;
+            Ok(CallForm::Close { handle })
+        }
+        CallForm::Unlink { name, slot } => {
+            let slot = place_ending(names, slot)?;
+            Ok(CallForm::Unlink { name, slot })
+        }
+        CallForm::Sync { handle, slot } => {
+            let handle = names.variable(handle)?;
+            let slot = place_ending(names, slot)?;
+            Ok(CallForm::Sync { handle, slot })
+        }
+    }
+}
+
+fn place_test(
+    names: &mut Names,
+    left: Term<Ident>,
+    test: Test,
+    right: Term<Ident>,
+) -> Result<Statement<Place>, NoMemory>
+    ensures names { OnOk result (names.new ≡ (placed_test names.old left test right).0) }
+    ensures placed { IfOk result (λ placed. placed ≡ (placed_test names.old left test right).1) }
+{
+    let left = place_term(names, left)?;
+    let right = place_term(names, right)?;
+    Ok(Statement::AbortIf { left, test, right })
+}
+
+/// The statement with the places of its variables and slots, read or written; those that are new take the next ones.
+pub fn place_statement(
+    alloc: Global,
+    names: &mut Names,
+    statement: Statement<Ident>,
+) -> Result<Statement<Place>, NoMemory>
+    ensures names { OnOk result (names.new ≡ (placed_statement names.old statement).0) }
+    ensures placed { IfOk result (λ placed. placed ≡ (placed_statement names.old statement).1) }
+{
+    match statement {
+        Statement::Call(form) => Ok(Statement::Call(place_form(alloc, names, form)?)),
+        Statement::Let { into, value } => {
+            let into = names.variable(into)?;
+            let value = place_expression(names, value)?;
+            Ok(Statement::Let { into, value })
+        }
+        Statement::Abort => Ok(Statement::Abort),
+        Statement::AbortIf { left, test, right } => place_test(names, left, test, right),
+        Statement::Require => Ok(Statement::Require),
+    }
+}

@@ -1,0 +1,206 @@
+//! The shapes of lines: what may stand behind a line's first word.
+
+ghost use Rattle.std.specs.Prelude.{◌≡◌, ◌∷◌, [], map};
+ghost use Rattle.xc_text.specs.Pieces.{data_of};
+ghost use Rattle.xc_text.specs.Shapes.{bare as bare_said, alone, led, target as target_said, slot_ending as slot_ending_said};
+ghost use Rattle.xc_text.specs.Terms.{term as term_said, expression_of};
+ghost use Rattle.xc_tokens.specs.Answers.{Gives};
+ghost use Rattle.xc_tokens.specs.Views.{lexeme};
+ghost use Rattle.xc_tokens.specs.Words.{ident as ident_said, name as name_said};
+
+use crate::pieces::{check_data, data};
+use crate::script::{Data, Expression, Term};
+use crate::term::{expression, term};
+use std::alloc::Global;
+use xc_data::{Ident, Name};
+use xc_tokens::{Stop, Token, Why, beside, both, ident, is_sign, name};
+
+/// Nothing.
+pub fn bare(tokens: &[Token]) -> Result<(), Why>
+    ensures { result ≡ bare_said (map lexeme tokens.now) }
+{
+    match tokens {
+        [] => Ok(()),
+        [_, ..] => Err(Why::BadForm),
+    }
+}
+
+fn target_in(arrow: &Token, into: &Token) -> Result<Option<Ident>, Why>
+    ensures { result ≡ target_said (lexeme arrow.now ∷ lexeme into.now ∷ []) }
+{
+    if !is_sign(arrow, b"->") {
+        return Err(Why::BadForm);
+    }
+    Ok(Some(ident(into)?))
+}
+
+fn target(tokens: &[Token]) -> Result<Option<Ident>, Why>
+    ensures { result ≡ target_said (map lexeme tokens.now) }
+{
+    match tokens {
+        [] => Ok(None),
+        [arrow, into] => target_in(arrow, into),
+        _ => Err(Why::BadForm),
+    }
+}
+
+fn slot_in(word: &Token, slot: &Token) -> Result<Option<Ident>, Why>
+    ensures { result ≡ slot_ending_said (lexeme word.now ∷ lexeme slot.now ∷ []) }
+{
+    if !is_sign(word, b"slot") {
+        return Err(Why::BadForm);
+    }
+    Ok(Some(ident(slot)?))
+}
+
+fn slot_ending(tokens: &[Token]) -> Result<Option<Ident>, Why>
+    ensures { result ≡ slot_ending_said (map lexeme tokens.now) }
+{
+    match tokens {
+        [] => Ok(None),
+        [word, slot] => slot_in(word, slot),
+        _ => Err(Why::BadForm),
+    }
+}
+
+fn name_alone(tokens: &[Token]) -> Result<Name, Why>
+    ensures { result ≡ alone name_said (map lexeme tokens.now) }
+{
+    match tokens {
+        [file] => name(file),
+        _ => Err(Why::BadForm),
+    }
+}
+
+fn term_alone(tokens: &[Token]) -> Result<Term<Ident>, Why>
+    ensures { result ≡ alone term_said (map lexeme tokens.now) }
+{
+    match tokens {
+        [only] => term(only),
+        _ => Err(Why::BadForm),
+    }
+}
+
+/// `H`
+pub fn handle_alone(tokens: &[Token]) -> Result<Ident, Why>
+    ensures { result ≡ alone ident_said (map lexeme tokens.now) }
+{
+    match tokens {
+        [handle] => ident(handle),
+        _ => Err(Why::BadForm),
+    }
+}
+
+/// `T`, `T -> V`
+pub fn term_into(tokens: &[Token]) -> Result<(Term<Ident>, Option<Ident>), Why>
+    ensures { result ≡ led term_said target_said (map lexeme tokens.now) }
+{
+    match tokens {
+        [] => Err(Why::BadForm),
+        [first, behind @ ..] => both(term(first), target(behind)),
+    }
+}
+
+/// `T E`
+pub fn term_and_expression(tokens: &[Token]) -> Result<(Term<Ident>, Expression<Ident>), Why>
+    ensures { result ≡ led term_said expression_of (map lexeme tokens.now) }
+{
+    match tokens {
+        [] => Err(Why::BadForm),
+        [first, behind @ ..] => both(term(first), expression(behind)),
+    }
+}
+
+/// `V E`
+pub fn variable_and_expression(tokens: &[Token]) -> Result<(Ident, Expression<Ident>), Why>
+    ensures { result ≡ led ident_said expression_of (map lexeme tokens.now) }
+{
+    match tokens {
+        [] => Err(Why::BadForm),
+        [first, behind @ ..] => both(ident(first), expression(behind)),
+    }
+}
+
+/// `NAME`, `NAME -> V`
+pub fn name_into(tokens: &[Token]) -> Result<(Name, Option<Ident>), Why>
+    ensures { result ≡ led name_said target_said (map lexeme tokens.now) }
+{
+    match tokens {
+        [] => Err(Why::BadForm),
+        [first, behind @ ..] => both(name(first), target(behind)),
+    }
+}
+
+/// `NAME NAME`
+pub fn two_names(tokens: &[Token]) -> Result<(Name, Name), Why>
+    ensures { result ≡ led name_said (alone name_said) (map lexeme tokens.now) }
+{
+    match tokens {
+        [] => Err(Why::BadForm),
+        [first, behind @ ..] => both(name(first), name_alone(behind)),
+    }
+}
+
+/// `NAME`, `NAME slot S`
+pub fn name_and_slot(tokens: &[Token]) -> Result<(Name, Option<Ident>), Why>
+    ensures { result ≡ led name_said slot_ending_said (map lexeme tokens.now) }
+{
+    match tokens {
+        [] => Err(Why::BadForm),
+        [first, behind @ ..] => both(name(first), slot_ending(behind)),
+    }
+}
+
+/// `H`, `H -> V`
+pub fn handle_into(tokens: &[Token]) -> Result<(Ident, Option<Ident>), Why>
+    ensures { result ≡ led ident_said target_said (map lexeme tokens.now) }
+{
+    match tokens {
+        [] => Err(Why::BadForm),
+        [first, behind @ ..] => both(ident(first), target(behind)),
+    }
+}
+
+/// `H T`, `H T -> V`
+pub fn handle_term_into(tokens: &[Token]) -> Result<(Ident, (Term<Ident>, Option<Ident>)), Why>
+    ensures { result ≡ led ident_said (led term_said target_said) (map lexeme tokens.now) }
+{
+    match tokens {
+        [] => Err(Why::BadForm),
+        [first, behind @ ..] => both(ident(first), term_into(behind)),
+    }
+}
+
+/// `H T`
+pub fn handle_and_term(tokens: &[Token]) -> Result<(Ident, Term<Ident>), Why>
+    ensures { result ≡ led ident_said (alone term_said) (map lexeme tokens.now) }
+{
+    match tokens {
+        [] => Err(Why::BadForm),
+        [first, behind @ ..] => both(ident(first), term_alone(behind)),
+    }
+}
+
+/// `H`, `H slot S`
+pub fn handle_and_slot(tokens: &[Token]) -> Result<(Ident, Option<Ident>), Why>
+    ensures { result ≡ led ident_said slot_ending_said (map lexeme tokens.now) }
+{
+    match tokens {
+        [] => Err(Why::BadForm),
+        [first, behind @ ..] => both(ident(first), slot_ending(behind)),
+    }
+}
+
+/// `H D`
+pub fn handle_and_data(alloc: Global, tokens: &[Token]) -> Result<(Ident, Data<Ident>), Stop>
+    ensures { Gives (λ written. written) result (led ident_said data_of (map lexeme tokens.now)) }
+{
+    match tokens {
+        [] => Err(Stop::Refused(Why::BadForm)),
+        [handle, items @ ..] => {
+            let handle = beside(ident(handle), check_data(items))?;
+            let data = data(alloc, items)?;
+            Ok((handle, data))
+        }
+    }
+}

@@ -1,0 +1,4 @@
+pub mod LineCuts
+pub mod LiteralLemmas
+pub mod Quotes
+pub mod TokenLists

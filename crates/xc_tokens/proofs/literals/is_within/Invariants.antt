@@ -1,0 +1,12 @@
+use Rattle.std.proofs.Common.{◌≡◌, ◌≤◌, ◌+◌, length, map, drop}
+use Rattle.xc_tokens.specs.Literals.{joined}
+use Rattle.xc_tokens.specs.Views.{lexeme}
+use Rattle.xc_tokens.proofs.literals.is_within.Given as goal
+
+-- the bytes so far, and those that are left
+abbrev pub invariant-loop-token : goal.invariant-loop-token
+invariant-loop-token l =
+    record {
+      same : l.total + length (joined (map lexeme (drop l.token-index l.tokens))) ≡ length (joined (map lexeme l.tokens));
+      few : l.total ≤ l.most;
+    }

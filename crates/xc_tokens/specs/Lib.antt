@@ -1,0 +1,9 @@
+pub mod Answers
+pub mod ByWord
+pub mod Lines
+pub mod Literals
+pub mod Numbers
+pub mod Quoted
+pub mod Tokens
+pub mod Views
+pub mod Words

@@ -1,0 +1,258 @@
+ghost use Rattle.std.specs.Prelude.{◌≡◌, false, ◌≤◌, ◌<◌, ◌+◌, ◌==◌, ◌∷◌, length, map, option_map, ok_or, IfSome, IfOk};
+ghost use Rattle.std.specs.List.{list_any};
+ghost use Rattle.xc_tokens.specs.declared.why.Why.TheVariants.{BadLiteral};
+ghost use Rattle.xc_tokens.specs.Answers.{Gives};
+ghost use Rattle.xc_tokens.specs.Quoted.{is_hex, is_escape, escaped, digit_value, hex_byte, literal_of, escape_of, hex_of};
+ghost use Rattle.xc_tokens.specs.Tokens.{is_blank, past_blanks as behind_blanks, run_len as length_of_run, repeat_of, repeat_from};
+ghost use Rattle.xc_tokens.specs.Tokens.{literal_from, word_from, token_at, tokens_of};
+ghost use Rattle.xc_tokens.specs.Views.{behind_piece, lexeme};
+
+use crate::limits::{MOST_LITERAL_BYTES, MOST_REPEAT};
+use crate::numbers::spelled_number;
+use crate::why::{Stop, Why};
+use std::alloc::Global;
+
+/// A token of a line.
+#[derive(Debug, Drop)]
+pub enum Token<'a> {
+    Word(&'a [u8]),
+    /// The bytes between the quotes, and how often they stand there.
+    Literal { bytes: Vec<u8>, repeat: u32 },
+}
+
+fn is_blank_byte(b: u8) -> bool
+    ensures { result ≡ is_blank b }
+{
+    b == b' ' || b == b'\t'
+}
+
+fn is_hex_byte(b: u8) -> bool
+    ensures { result ≡ is_hex b }
+{
+    matches!(b, b'0'..=b'9' | b'A'..=b'F' | b'a'..=b'f')
+}
+
+fn is_escape_byte(b: u8) -> bool
+    ensures { result ≡ is_escape b }
+{
+    matches!(b, b'n' | b'"' | b'\\')
+}
+
+fn escaped_byte(b: u8) -> u8
+    ensures { result ≡ escaped b }
+{
+    if b == b'n' { b'\n' } else { b }
+}
+
+fn digit_of(b: u8) -> u8
+    ensures value { result ≡ digit_value b }
+    ensures bound { result ≤ 15 }
+{
+    match b {
+        b'0'..=b'9' => b - b'0',
+        b'A'..=b'F' => b - b'A' + 10,
+        b'a'..=b'f' => b - b'a' + 10,
+        _ => 0,
+    }
+}
+
+fn byte_of_digits(first: u8, second: u8) -> u8
+    ensures { result ≡ hex_byte first second }
+{
+    16 * digit_of(first) + digit_of(second)
+}
+
+fn past_blanks(bytes: &[u8]) -> &[u8]
+    ensures behind { result.now ≡ behind_blanks bytes.now }
+    ensures fewer { length result.now ≤ length bytes.now }
+{
+    let mut rest = bytes;
+    while let [b, behind @ ..] = rest {
+        if !is_blank_byte(*b) {
+            return rest;
+        }
+        rest = behind;
+    }
+    rest
+}
+
+// How many bytes stand before the next blank.
+fn run_len(bytes: &[u8]) -> usize
+    ensures value { result ≡ length_of_run bytes.now }
+    ensures bound { result ≤ length bytes.now }
+{
+    let mut n = 0;
+    while n < bytes.len() {
+        if is_blank_byte(bytes[n]) {
+            return n;
+        }
+        n += 1;
+    }
+    n
+}
+
+// The byte that two hexadecimal digits mean, and what stands behind them.
+fn hex_piece(bytes: &[u8]) -> Option<(u8, &[u8])>
+    ensures means { behind_piece (option_map (λ p. (p.0, p.1.now)) result) ≡ hex_of bytes.now }
+    ensures fewer { IfSome result (λ p. length p.1.now ≤ length bytes.now) }
+{
+    let [first, second, behind @ ..] = bytes else {
+        return None;
+    };
+    if !is_hex_byte(*first) || !is_hex_byte(*second) {
+        return None;
+    }
+    Some((byte_of_digits(*first, *second), behind))
+}
+
+// The byte that an escape means whose `\` stands before the bytes, and what stands behind it.
+fn escape_piece(bytes: &[u8]) -> Option<(u8, &[u8])>
+    ensures means { behind_piece (option_map (λ p. (p.0, p.1.now)) result) ≡ escape_of bytes.now }
+    ensures fewer { IfSome result (λ p. length p.1.now ≤ length bytes.now) }
+{
+    let [b, behind @ ..] = bytes else {
+        return None;
+    };
+    if is_escape_byte(*b) {
+        return Some((escaped_byte(*b), behind));
+    }
+    if *b == b'x' {
+        return hex_piece(behind);
+    }
+    None
+}
+
+// The byte that the first piece of a literal means, and what stands behind the piece.
+fn piece(first: u8, behind: &[u8]) -> Option<(u8, &[u8])>
+    requires inside { (first == 34) ≡ false }
+    ensures means { behind_piece (option_map (λ p. (p.0, p.1.now)) result) ≡ literal_of (first ∷ behind.now) }
+    ensures fewer { IfSome result (λ p. length p.1.now ≤ length behind.now) }
+{
+    if first == b'\\' {
+        return escape_piece(behind);
+    }
+    Some((first, behind))
+}
+
+// What the literal means whose opening quote stands before the bytes, and what stands behind its
+// closing quote.
+fn past_literal<'a>(alloc: Global, bytes: &'a [u8]) -> Result<(Vec<u8>, &'a [u8]), Stop>
+    ensures means { Gives (λ p. (p.0.items, p.1.now)) result (ok_or (literal_of bytes.now) BadLiteral) }
+    ensures fewer { IfOk result (λ p. length p.1.now ≤ length bytes.now) }
+{
+    let mut meant = Vec::new(alloc);
+    let mut rest = bytes;
+    while let [first, behind @ ..] = rest {
+        if *first == b'"' {
+            return Ok((meant, behind));
+        }
+        match piece(*first, behind) {
+            Some((byte, next)) => {
+                meant.push(byte)?;
+                rest = next;
+            }
+            None => return Err(Stop::Refused(Why::BadLiteral)),
+        }
+    }
+    Err(Stop::Refused(Why::BadLiteral))
+}
+
+fn repeat_count(bytes: &[u8]) -> Option<u32>
+    ensures { result ≡ repeat_of bytes.now }
+{
+    match spelled_number(bytes) {
+        Some(n) if n <= MOST_REPEAT => Some(n as u32),
+        _ => None,
+    }
+}
+
+// The repeat, and what stands behind it, where a literal was closed before the bytes.
+fn past_repeat(bytes: &[u8]) -> Option<(u32, &[u8])>
+    ensures value { option_map (λ p. (p.0, p.1.now)) result ≡ repeat_from bytes.now }
+    ensures fewer { IfSome result (λ p. length p.1.now ≤ length bytes.now) }
+{
+    let [b, behind @ ..] = bytes else {
+        return Some((1, bytes));
+    };
+    if is_blank_byte(*b) {
+        return Some((1, bytes));
+    }
+    if *b != b'*' {
+        return None;
+    }
+    let n = run_len(behind);
+    let repeat = repeat_count(&behind[..n])?;
+    Some((repeat, &behind[n..]))
+}
+
+// A literal whose opening quote stands before the bytes, and what stands behind it.
+fn literal<'a>(alloc: Global, bytes: &'a [u8]) -> Result<(Token<'a>, &'a [u8]), Stop>
+    ensures value { Gives (λ p. (lexeme p.0, p.1.now)) result (literal_from bytes.now) }
+    ensures fewer { IfOk result (λ p. length p.1.now ≤ length bytes.now) }
+{
+    let (bytes, closed) = past_literal(alloc, bytes)?;
+    if bytes.len() > MOST_LITERAL_BYTES {
+        return Err(Stop::Refused(Why::BadLiteral));
+    }
+    match past_repeat(closed) {
+        Some((repeat, behind)) => Ok((Token::Literal { bytes, repeat }, behind)),
+        None => Err(Stop::Refused(Why::BadLiteral)),
+    }
+}
+
+fn has_quote(bytes: &[u8]) -> bool
+    ensures { result ≡ list_any (λ b. b == 34) bytes.now }
+{
+    bytes.iter().any(|b| *b == b'"')
+}
+
+// The word in front, and what stands behind it.
+fn word(bytes: &[u8]) -> Option<(Token, &[u8])>
+    requires some { 0 < length bytes.now }
+    ensures value { (b : _) (bs : _) → bytes.now ≡ b ∷ bs → option_map (λ p. (lexeme p.0, p.1.now)) result ≡ word_from b bs }
+    ensures fewer { IfSome result (λ p. length p.1.now < length bytes.now) }
+{
+    let n = run_len(&bytes[1..]) + 1;
+    if has_quote(&bytes[1..n]) {
+        return None;
+    }
+    Some((Token::Word(&bytes[..n]), &bytes[n..]))
+}
+
+// The first token, and what stands behind it; none where no token is left.
+fn next_token<'a>(alloc: Global, bytes: &'a [u8]) -> Result<Option<(Token<'a>, &'a [u8])>, Stop>
+    ensures value { Gives (λ next. option_map (λ p. (lexeme p.0, p.1.now)) next) result (token_at (behind_blanks bytes.now)) }
+    ensures fewer { IfOk result (λ next. IfSome next (λ p. length p.1.now < length bytes.now)) }
+{
+    let start = past_blanks(bytes);
+    let [first, behind @ ..] = start else {
+        return Ok(None);
+    };
+    if *first == b'#' {
+        return Ok(None);
+    }
+    if *first == b'"' {
+        return Ok(Some(literal(alloc, behind)?));
+    }
+    match word(start) {
+        Some(token) => Ok(Some(token)),
+        None => Err(Stop::Refused(Why::BadLiteral)),
+    }
+}
+
+/// Reads the tokens of a line, in place of those that were there.
+pub fn read_tokens<'a>(
+    alloc: Global,
+    tokens: &mut Vec<Token<'a>>,
+    line: &'a [u8],
+) -> Result<(), Stop>
+    ensures { Gives (λ _. map lexeme tokens.new.items) result (tokens_of line.now) }
+{
+    tokens.clear();
+    let mut rest = line;
+    while let Some((token, behind)) = next_token(alloc, rest)? {
+        tokens.push(token)?;
+        rest = behind;
+    }
+    Ok(())
+}

@@ -1,0 +1,85 @@
+ghost use Rattle.std.specs.Prelude.{◌≡◌};
+ghost use Rattle.xc_tokens.specs.Views.{lexeme};
+ghost use Rattle.xc_tokens.specs.Words.{spells as is_spelled, is_sign as is_sign_of, number as number_of_token, number_in};
+ghost use Rattle.xc_tokens.specs.Words.{ident as ident_of_token, ident_in, name as name_of_token, name_in};
+
+use crate::numbers::spelled_number;
+use crate::token::Token;
+use crate::why::Why;
+use xc_data::{Ident, Name};
+
+/// The word is spelled so.
+pub fn spells(word: &[u8], text: &[u8]) -> bool
+    ensures { result ≡ is_spelled word.now text.now }
+{
+    word == text
+}
+
+/// The token is this sign.
+pub fn is_sign(token: &Token, text: &[u8]) -> bool
+    ensures { result ≡ is_sign_of (lexeme token.now) text.now }
+{
+    match token {
+        Token::Word(word) => spells(word, text),
+        Token::Literal { .. } => false,
+    }
+}
+
+/// The number that a word spells.
+pub fn number_word(word: &[u8]) -> Result<u64, Why>
+    ensures { result ≡ number_in word.now }
+{
+    match spelled_number(word) {
+        Some(n) => Ok(n),
+        None => Err(Why::BadNumber),
+    }
+}
+
+/// The identifier that a word spells.
+pub fn ident_word(word: &[u8]) -> Result<Ident, Why>
+    ensures { result ≡ ident_in word.now }
+{
+    match Ident::new(word) {
+        Some(ident) => Ok(ident),
+        None => Err(Why::BadName),
+    }
+}
+
+fn name_word(word: &[u8]) -> Result<Name, Why>
+    ensures { result ≡ name_in word.now }
+{
+    match Name::new(word) {
+        Some(name) => Ok(name),
+        None => Err(Why::BadName),
+    }
+}
+
+/// What stands in the place of a number.
+pub fn number(token: &Token) -> Result<u64, Why>
+    ensures { result ≡ number_of_token (lexeme token.now) }
+{
+    match token {
+        Token::Word(word) => number_word(word),
+        Token::Literal { .. } => Err(Why::BadForm),
+    }
+}
+
+/// What stands in the place of an identifier.
+pub fn ident(token: &Token) -> Result<Ident, Why>
+    ensures { result ≡ ident_of_token (lexeme token.now) }
+{
+    match token {
+        Token::Word(word) => ident_word(word),
+        Token::Literal { .. } => Err(Why::BadForm),
+    }
+}
+
+/// What stands in the place of a file's name.
+pub fn name(token: &Token) -> Result<Name, Why>
+    ensures { result ≡ name_of_token (lexeme token.now) }
+{
+    match token {
+        Token::Word(word) => name_word(word),
+        Token::Literal { .. } => Err(Why::BadForm),
+    }
+}
