@@ -3,11 +3,12 @@ use Rattle.std.proofs.Common.{◌≡◌, Bool, true, false, ℕ, List, [], ◌�
 use Rattle.std.specs.Prelude.{if◌then◌else◌}
 use Rattle.xc_data.specs.declared.call.Call.{Call}
 use Rattle.xc_data.specs.declared.call.Call.TheVariants as call
-use Rattle.xc_text.specs.declared.script.Statement.{Statement}
+use Rattle.xc_text.specs.Stated.{CallForm, Statement}
+use Rattle.xc_text.specs.declared.script.CallForm.TheVariants as form
 use Rattle.xc_text.specs.declared.script.Statement.TheVariants as statement
 use Rattle.xc_script.specs.declared.ask.Ask.{Ask}
 use Rattle.xc_script.specs.declared.ask.Ask.TheVariants as ask
-use Rattle.xc_script.specs.Ask.{Variables, Walk, asks, ask_of, asks_of, handle_value, is_over}
+use Rattle.xc_script.specs.Ask.{Variables, Walk, asks, form_ask, ask_of, asks_of, handle_value, is_over}
 use Rattle.xc_story.specs.Rows.{is_built}
 
 abbrev asks_built : Ask → Bool
@@ -18,9 +19,13 @@ or_abort : (b : Bool) (c : Call) → is_built c ≡ true → asks_built (if b th
 or_abort true c is = refl
 or_abort false c is = is
 
+form_built : (variables : Variables) (stored : ℕ) (f : CallForm) → asks_built (form_ask variables stored f) ≡ true
+form_built variables stored (form.Overwrite h items) = or_abort (is_over stored _) (call.XWriteOvr (handle_value variables h) _) refl
+form_built variables stored (form.Append h items) = or_abort (is_over stored _) (call.XWriteSeq (handle_value variables h) _) refl
+form_built variables stored _ = refl
+
 statement_built : (variables : Variables) (stored : ℕ) (s : Statement) → asks_built (ask_of variables stored s) ≡ true
-statement_built variables stored (statement.Overwrite h items) = or_abort (is_over stored _) (call.XWriteOvr (handle_value variables h) _) refl
-statement_built variables stored (statement.Append h items) = or_abort (is_over stored _) (call.XWriteSeq (handle_value variables h) _) refl
+statement_built variables stored (statement.Call f) = form_built variables stored f
 statement_built variables stored _ = refl
 
 left_built : (variables : Variables) (stored : ℕ) (left : List Statement) → asks_built (asks_of variables stored left) ≡ true

@@ -1,6 +1,6 @@
 -- The faults that are recorded, in the journal and in active transactions.
 use Rattle.std.specs.Prelude.{ℕ, ◌+◌, count_by, sum_by}
-use Rattle.xc_data.specs.Counts.{CountsFaults}
+use Rattle.xc_data.specs.Counts.{RisesBy}
 use Rattle.xc_data.specs.Faults.{entry_faults, is_fault_reply, is_fault_end, undo_faults}
 use Rattle.xc_story.specs.Seen.{SeenTx, Now, actives}
 
@@ -14,4 +14,4 @@ recorded_faults now = sum_by entry_faults now.journal + sum_by tx_faults (active
 
 -- the host's count rose by them, and where none is recorded it stayed
 abbrev pub AreCounted : ℕ → Now → Type 0
-AreCounted before now = CountsFaults (recorded_faults now) before now.faults
+AreCounted before now = RisesBy (recorded_faults now) before now.faults

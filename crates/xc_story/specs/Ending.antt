@@ -1,7 +1,8 @@
 -- How jobs end, and what a whole run ends in.
-use Rattle.std.specs.Prelude.{◌≡◌, ℕ, ◌+◌, ◌<◌, ◌≤◌, Bool, true, false, ◌||◌, List, [], ◌∷◌, ◌++◌, length, map, count_by, IsSome, IsTrue}
+use Rattle.std.specs.Prelude.{◌≡◌, ℕ, ◌+◌, ◌<◌, ◌≤◌, Bool, true, false, ◌||◌, List, [], ◌∷◌, ◌++◌, length, map, count_by, slice_get}
+use Rattle.std.specs.Prelude.{All, IsSome, IsTrue, Option}
 use Rattle.std.specs.List.{list_all, list_any}
-use Rattle.std.specs.declared.option.Option.TheVariants.{None}
+use Rattle.std.specs.declared.option.Option.TheVariants.{None, Some}
 use Rattle.xc_data.specs.declared.call.LateEnd.{LateEnd}
 use Rattle.xc_data.specs.declared.call.LateEnd.TheVariants as late_end
 use Rattle.xc_data.specs.declared.entry.Cause.{Cause}
@@ -16,7 +17,7 @@ use Rattle.xc_text.specs.declared.script.Script.{Script}
 use Rattle.xc_script.specs.Ask.{next_body, transactions_at}
 use Rattle.xc_world.specs.World.{State}
 use Rattle.xc_story.specs.Setting.{Setting}
-use Rattle.xc_story.specs.Progress.{Following, progress_of}
+use Rattle.xc_story.specs.Progress.{Following, Progress, opening_progress, after_entry, following_of, progress_of}
 use Rattle.xc_story.specs.Truth.{IsTrueJournal, is_settled, is_asked, is_tried_again}
 
 -- as often as the rules allow an attempt at its next transaction ended in a conflict, the last one by this cause
@@ -52,6 +53,15 @@ is_done _ = false
 abbrev pub all_done : List JobLine → Bool
 all_done lines = list_all (λ (line : JobLine). is_done line.end) lines
 
+-- a job ended for want of memory
+abbrev pub is_memory : JobEnd → Bool
+is_memory job_end.NoMemory = true
+is_memory _ = false
+
+-- the line of a job that ended for want of memory
+abbrev pub is_starved : JobLine → Bool
+is_starved line = is_memory line.end
+
 -- a late call ended for want of memory
 abbrev pub is_memory_end : LateEnd → Bool
 is_memory_end (late_end.NoMemory n) = true
@@ -65,6 +75,16 @@ has_memory_end (Aborted report) = false
 -- some late call of some transaction did
 abbrev pub some_late_starved : List Entry → Bool
 some_late_starved entries = list_any (λ (e : Entry). has_memory_end e.outcome) entries
+
+-- some job ended for want of memory, or some late call did
+abbrev pub wanted_memory : List JobLine → List Entry → Bool
+wanted_memory lines entries = list_any is_starved lines || some_late_starved entries
+
+-- no entry is of a job behind one that found the journal full
+abbrev pub StopWhereFull : List JobLine → List Entry → Type 0
+StopWhereFull lines entries =
+    (at : ℕ) (line : JobLine) → slice_get lines at ≡ Some line → line.end ≡ job_end.JournalFull
+    → All (λ (e : Entry). e.job ≤ at + 1) entries
 
 -- how many transactions the started jobs have
 abbrev pub transactions_of_jobs : Script → List Following → ℕ
@@ -82,6 +102,16 @@ pub record IsComplete (script : Script) (entries : List Entry) : Type 0 where
   pub others : list_all (λ (e : Entry). is_settled_or_tried_again e.outcome) entries ≡ true
   pub count : count_by (λ (e : Entry). is_settled e.outcome) entries ≡ transactions_of_jobs script (progress_of script entries).jobs
 
+-- an attempt was left to a job at its next transaction: fewer failed than the rules allow
+abbrev pub HasAttemptLeft : Setting → Option Following → Type 0
+HasAttemptLeft s None = ⊥
+HasAttemptLeft s (Some f) = length f.failed < s.rules.attempts
+
+-- to the job of each entry, by the entries before it
+abbrev pub HaveAttemptsLeft : Setting → Progress → List Entry → Type 0
+HaveAttemptsLeft s p [] = Unit {0}
+HaveAttemptsLeft s p (e ∷ entries) = HasAttemptLeft s (following_of p e) × HaveAttemptsLeft s (after_entry s.script p e) entries
+
 -- what a run leaves beside its journal: the words, what the host tells, and the jobs' lines
 pub record Final : Type 0 where
   pub words : List ℕ
@@ -97,6 +127,9 @@ pub record IsFinalState (state : State) (final : Final) : Type 0 where
 -- what a run ends in: a true journal, what it leads to, and each started job's end
 pub record IsTrueEnd (s : Setting) (entries : List Entry) (final : Final) : Type 0 where
   pub journal : IsTrueJournal s entries
+  -- it has no more than 10,000 entries, and none that follows as many failed attempts of its transaction as the rules allow
+  pub few : length entries ≤ 10000
+  pub attempts : HaveAttemptsLeft s (opening_progress s.script) entries
   -- the words are those that the stores of committed transactions left, over every host
   pub words : final.words ≡ (progress_of s.script entries).words
   pub state : IsTrue s.tells → IsFinalState (progress_of s.script entries).state final

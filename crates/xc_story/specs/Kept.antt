@@ -3,7 +3,8 @@ use Rattle.std.specs.Prelude.{◌≡◌, ℕ, ◌≤◌, List, [], ◌∷◌, le
 use Rattle.xc_data.specs.declared.entry.JobLine.{JobLine}
 use Rattle.xc_text.specs.Scripts.{IsScript}
 use Rattle.xc_story.specs.Setting.{Setting}
-use Rattle.xc_story.specs.Progress.{progress_of}
+use Rattle.xc_story.specs.Progress.{opening_progress, progress_of}
+use Rattle.xc_story.specs.Ending.{HaveAttemptsLeft}
 use Rattle.xc_story.specs.Seen.{SeenJob, Doing, Ended, Now}
 use Rattle.xc_story.specs.Told.{AreTold}
 use Rattle.xc_story.specs.Spoken.{AreSpoken}
@@ -17,9 +18,11 @@ pub record IsSet (s : Setting) : Type 0 where
   pub attempts : 1 ≤ s.rules.attempts
   pub tries : 1 ≤ s.rules.undo_tries
 
--- the stories, the words, what is held, the count of the host's faults, which was `faults` at the start, and the started jobs
+-- the stories, the attempts that were left, the words, what is held, the count of the host's faults, which was `faults` at the
+-- start, and the started jobs
 pub record IsKept (s : Setting) (faults : ℕ) (now : Now) : Type 0 where
   pub told : AreTold s (length now.words) now.marks now.journal now.jobs
+  pub attempts : HaveAttemptsLeft s (opening_progress s.script) now.journal
   pub spoken : AreSpoken (progress_of s.script now.journal).words now.words now.jobs
   pub apart : AreApart now.jobs
   pub counted : AreCounted faults now

@@ -1,8 +1,10 @@
+pub mod Accounted
 pub mod Alone
 pub mod Counted
 pub mod Ending
 pub mod Grounds
 pub mod Holding
+pub mod InTime
 pub mod Kept
 pub mod LateCalls
 pub mod Measure

@@ -1,6 +1,7 @@
 -- A station before its first turn.
 use Rattle.std.specs.Prelude.{◌≡◌, ℕ, List, [], map}
 use Rattle.std.specs.declared.option.Option.TheVariants.{None}
+use Rattle.xc_data.specs.declared.script.Kind.{Kind}
 use Rattle.xc_text.specs.declared.script.Script.{Script}
 use Rattle.xc_world.specs.Opening.{opening_handles}
 use Rattle.xc_world.specs.World.{beginning}
@@ -20,10 +21,12 @@ opened_job script block =
       doing = Idle;
     }
 
--- the script's words, an empty journal, its jobs before their first transactions, which alone are started, and no mark
+-- the script's words, an empty journal, its jobs before their first transactions, which alone are started, no mark, and no call
+-- of the host behind its opening
 pub record IsOpening (script : Script) (now : Now) : Type 0 where
   pub words : now.words ≡ script.outline.words
   pub journal : now.journal ≡ []
   pub jobs : now.jobs ≡ map (opened_job script) script.outline.jobs
   pub started : now.started ≡ script.outline.jobs
   pub marks : (n : ℕ) → now.marks n ≡ None
+  pub calls : (kind : Kind) → now.calls kind ≡ 0

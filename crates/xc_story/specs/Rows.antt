@@ -6,7 +6,7 @@ use Rattle.std.specs.Cmp.Lexicographic.{pointwise}
 use Rattle.std.specs.List.{list_any}
 use Rattle.std.specs.declared.option.Option.TheVariants.{None, Some}
 use Rattle.xc_data.specs.Claims.{compatible, holding}
-use Rattle.xc_data.specs.Counts.{CountsFault, CountsFaults}
+use Rattle.xc_data.specs.Counts.{CountsFault, RisesBy}
 use Rattle.xc_data.specs.Faults.{is_fault_reply, is_fault_end, end_faults}
 use Rattle.xc_data.specs.declared.call.Answer.{Answer}
 use Rattle.xc_data.specs.declared.call.Answer.TheVariants as answer
@@ -30,13 +30,16 @@ use Rattle.xc_data.specs.declared.entry.JobEnd.TheVariants as job_end
 use Rattle.xc_data.specs.declared.entry.Turn.{Turn}
 use Rattle.xc_data.specs.declared.entry.Turn.TheVariants as turn
 use Rattle.xc_data.specs.declared.private.Private.{Private}
+use Rattle.xc_data.specs.declared.script.Kind.{Kind}
 use Rattle.xc_data.specs.declared.undo.Undo.{Undo}
 use Rattle.xc_data.specs.declared.undo.UndoEnd.{UndoEnd}
 use Rattle.xc_compensate.specs.Records.{Records, way_of}
 use Rattle.xc_deferred.specs.Does.{DoesLate}
+use Rattle.xc_host.specs.Cause.{IsCalled}
 use Rattle.xc_host.specs.Contents.{Contents, contents_of, with_contents, world_of}
+use Rattle.xc_host.specs.Uses.{CallsFor, CallsOf, StopsFor, LatesFor, BacksFor}
 use Rattle.xc_text.specs.declared.script.Script.{Script}
-use Rattle.xc_text.specs.declared.script.Statement.{Statement}
+use Rattle.xc_text.specs.Stated.{Statement}
 use Rattle.xc_script.specs.declared.ask.Ask.{Ask}
 use Rattle.xc_script.specs.declared.ask.Ask.TheVariants as ask
 use Rattle.xc_script.specs.Ask.{asks, answered, next_body}
@@ -45,6 +48,8 @@ use Rattle.xc_script.specs.Slots.{kept_of, with_ends}
 use Rattle.xc_txmem.specs.Overlay.{overlaid}
 use Rattle.xc_world.specs.World.{World, beginning}
 use Rattle.xc_world.specs.Act.{act}
+use Rattle.xc_world.specs.After.{IsMeAfter}
+use Rattle.xc_world.specs.Checks.{IsChecked, refusal_of}
 use Rattle.xc_world.specs.Act.Step.{step_to}
 use Rattle.xc_world.specs.Ends.{IsLegalEnd}
 use Rattle.xc_world.specs.Effects.{takes_data, undone_to}
@@ -219,6 +224,10 @@ mark_behind phase kept new = kept
 abbrev pub marked : (ℕ → Option Mark) → SeenTx → Mark → ℕ → Option Mark
 marked marks tx new n = if nat_eq n tx.number then mark_behind tx.phase (marks n) new else marks n
 
+-- the host was called so, from one moment to another
+abbrev pub HasCalled : (List Kind → Type 0) → Now → Now → Type 0
+HasCalled IsMade old new = (made : List Kind) × IsMade made × IsCalled made old.calls new.calls
+
 -- ---- a running transaction makes the call that is asked
 -- the calls that scripts have so far
 abbrev pub is_built : Call → Bool
@@ -310,11 +319,18 @@ module _ (s : Setting) (at : ℕ) (old : Now) (job : SeenJob) (tx : SeenTx) wher
     pub nearer : job.place.at < place.at
     -- it is kept for the commit or done now
     pub in_time : IsReplyInTime tx.me tx.number call reply
-    -- the older records stay, and at most one comes behind them
+    -- over every host: refused exactly where a private check refuses it, with its reply, and its handles, what it made and stored
+    -- are those of the reply
+    pub checked : IsChecked (refusal_of call tx.me) call reply
+    pub after : IsMeAfter tx.number call reply tx.me parts.me
+    pub stored : parts.me.stored ≤ 16384
+    -- the host was called so, and not where a check refused it
+    pub uses : HasCalled (CallsOf (refusal_of call tx.me) call reply) old new
+    -- the older records stay, and one comes behind them exactly where the plain machine leaves one
     pub made : List Undo
     pub one : length made ≤ 1
+    pub count : (w : World) → length made ≡ length (recorded w tx.me tx.number call reply)
     pub undo : parts.undo ≡ record tx.undo { pending = tx.undo.pending ++ made }
-    pub stored : parts.me.stored ≤ 16384
     -- its stores wait behind the older ones
     pub stores : parts.stores ≡ tx.writes ++ stored_by (length old.words) call
     -- on words its reply and its effect are those of the words with the transaction's stores, over every host
@@ -386,6 +402,12 @@ LeavesPart old new parts (ask.Call call) left =
     (answer : Answer) × DoesPartIn old.words old.contents new.contents parts (record { call = call; answer = answer }) left
 LeavesPart old new parts _ left = ⊥
 
+-- which calls of the host a transaction may have made where memory was wanting: none; those that the asked call makes first; or all
+-- that it makes, where memory was wanting behind it
+abbrev pub StopsAt : Ask → List Kind → Type 0
+StopsAt (ask.Call call) made = (made ≡ []) ⊎ StopsFor call made ⊎ ((reply : Reply) × CallsFor call reply made)
+StopsAt _ made = made ≡ []
+
 -- what is at the host where memory was wanting: all as before, or what the asked call left
 abbrev pub IsLeft : Now → Now → Parts → Ask → List Undo → Type 0
 IsLeft old new parts next left = ((left ≡ []) × (new.contents ≡ old.contents)) ⊎ LeavesPart old new parts next left
@@ -414,7 +436,10 @@ module _ (s : Setting) (at : ℕ) (old : Now) (job : SeenJob) (tx : SeenTx) wher
     pub one : length left ≤ 1
     pub held : List Claim
     pub holds : HoldsWanting old at tx (asked_at s job.place) left held
-    pub behind : new ≡ record (with_job old at (with_tx job place (wanting tx left held))) { contents = new.contents }
+    pub behind : new
+        ≡ record (with_job old at (with_tx job place (wanting tx left held))) { contents = new.contents; calls = new.calls }
+    -- the host was called for no more than the asked call
+    pub uses : HasCalled (StopsAt (asked_at s job.place)) old new
     pub contents : IsTrue s.tells → IsLeft old new (parts_of tx) (asked_at s job.place) left
 
   -- by what is asked
@@ -470,6 +495,8 @@ module _ (s : Setting) (at : ℕ) (old : Now) (job : SeenJob) (tx : SeenTx) wher
   pub record EndsLate (call : LateCall) (new : Now) : Type 0 where
     pub end : LateEnd
     pub behind : Touches old at (with_tx job job.place (record tx { ends = tx.ends ++ end ∷ [] })) new
+    -- the host was called so
+    pub uses : HasCalled (LatesFor call end) old new
     -- a fault exactly where the host's count rose
     pub cause : CountsFault (is_fault_end end) old.faults new.faults
     -- over a host that tells, its end and what it did are the plain machine's
@@ -572,7 +599,9 @@ module _ (s : Setting) (at : ℕ) (old : Now) (job : SeenJob) (tx : SeenTx) wher
     pub newest : tx.undo.pending ≡ older ++ tried ∷ []
     -- blocked exactly where a newer record stands in the way; failed exactly after so many tries
     pub legal : IsLegalEnd s.rules.undo_tries tried end (way_of older tried tx.undo)
-    pub faults : CountsFaults (end_faults end) old.faults new.faults
+    pub faults : RisesBy (end_faults end) old.faults new.faults
+    -- the host was called once for each fault and each part that was restored
+    pub uses : HasCalled (BacksFor tried end) old new
     -- the host did what the end says
     pub effect : IsTrue s.tells → new.contents ≡ contents_of (undone_to (world_of old.contents) tried end)
     pub behind : Touches old at

@@ -13,6 +13,7 @@ use Rattle.xc_data.specs.declared.entry.Entry.{Entry}
 use Rattle.xc_data.specs.declared.entry.JobEnd.{JobEnd}
 use Rattle.xc_data.specs.declared.entry.KeptItem.{KeptItem}
 use Rattle.xc_data.specs.declared.private.Private.{Private}
+use Rattle.xc_data.specs.declared.script.Kind.{Kind}
 use Rattle.xc_compensate.specs.Records.{Records}
 use Rattle.xc_deferred.specs.Queue.{Queue, left}
 use Rattle.xc_host.specs.Contents.{Contents, contents_of, world_of}
@@ -64,13 +65,14 @@ pub record SeenJob : Type 0 where
   pub busy : ℕ
   pub doing : Doing
 
--- a station: its words, what the host tells with the kept data in front of it, how often the host has failed, the
--- journal, the jobs from number 1 on that are live or have ended, the blocks of all that were started, those not yet live
--- behind, and the marks of transactions that are to be revoked, by their numbers
+-- a station: its words, what the host tells with the kept data in front of it, how often the host has failed and how often it
+-- was called by kind, the journal, the jobs from number 1 on that are live or have ended, the blocks of all that were started,
+-- those not yet live behind, and the marks of transactions that are to be revoked, by their numbers
 pub record Now : Type 0 where
   pub words : List ℕ
   pub contents : Contents
   pub faults : ℕ
+  pub calls : Kind → ℕ
   pub journal : List Entry
   pub jobs : List SeenJob
   pub started : List (List ℕ)
@@ -121,9 +123,10 @@ rank_of (Some a) number = a.first
 abbrev pub with_job : Now → ℕ → SeenJob → Now
 with_job now at job = record now { jobs = slice_set now.jobs at job }
 
--- with another job in one place, where the host was called: what it tells, and how often it has failed, is as it says
+-- with another job in one place, where the host was called: what it tells, and how often it has failed and was called, is as it
+-- says
 abbrev pub Touches : Now → ℕ → SeenJob → Now → Type 0
-Touches old at job new = new ≡ record (with_job old at job) { contents = new.contents; faults = new.faults }
+Touches old at job new = new ≡ record (with_job old at job) { contents = new.contents; faults = new.faults; calls = new.calls }
 
 -- these contents with kept data in front, each item before those behind it
 abbrev pub with_kept : Contents → List KeptItem → Contents

@@ -23,6 +23,7 @@ use Rattle.xc_script.specs.Slots.{kept_of}
 use Rattle.xc_story.specs.Progress.{Following, opening_progress, progress_of}
 use Rattle.xc_story.specs.Truth.{AsksEach, AreTrue, IsCauseOf, counting, next_of, parts_of}
 use Rattle.xc_story.specs.Ending.{IsEnd}
+use Rattle.xc_story.specs.InTime.{AreInTime}
 use Rattle.xc_story.specs.LateCalls.{thread_asked, thread_in}
 use Rattle.xc_story.specs.Seen.{SeenTx, SeenJob, Doing, Idle, Active, Starved, Ended, actives, active_of, revoked}
 
@@ -75,6 +76,8 @@ pub record IsUnderway (s : Setting) (f : Following) (place : Position) (tx : See
   -- its calls are the script's, and its late calls are as many as were kept for the commit, and start the same blocks
   pub asked : AsksEach (walk_from s.script f.job) tx.calls tx.replies
   pub kept : map thread_in tx.late ≡ map thread_asked (kept_of tx.calls tx.replies)
+  -- those replied late, and no others
+  pub in_time : AreInTime tx.calls tx.replies
   pub stored : tx.me.stored ≤ 16384
   pub phase : IsInPhase s f place tx tx.phase
 

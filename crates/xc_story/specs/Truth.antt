@@ -30,6 +30,7 @@ use Rattle.xc_world.specs.Ends.{AreLegal}
 use Rattle.xc_world.specs.Trail.{recorded}
 use Rattle.xc_story.specs.Setting.{Setting}
 use Rattle.xc_story.specs.Grounds.{Part, AreGrounded}
+use Rattle.xc_story.specs.InTime.{AreInTime}
 use Rattle.xc_story.specs.WordCalls.{AreWordReplies}
 use Rattle.xc_script.specs.Slots.{kept_of}
 use Rattle.xc_story.specs.Progress.{Following, Progress, opening_progress, private_of}
@@ -150,6 +151,8 @@ pub record IsEntry (s : Setting) (p : Progress) (f : Following) (e : Entry) : Ty
   pub story : IsStory s p f e
   -- its calls on words reply what the stores before them left, over every host
   pub words : AreWordReplies p.words e.calls e.replies
+  -- so do those that are kept for the commit, and no other one replies late
+  pub in_time : AreInTime e.calls e.replies
   pub played : IsTrue s.tells → IsPlayed p (next_of s.script f e.replies) e
 
 -- its job is started

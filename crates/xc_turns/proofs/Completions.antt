@@ -150,7 +150,8 @@ all_within s p (e ∷ journal) are each =
     (subst (λ o. AllByRecursion (IsWithin s.script) (after_following s.script p e o).jobs) (sym are.0.started) next)
 
 -- ---- where no job is starved at the end none was before, and each entry is settled or tried again
-abbrev GoesOn : Following → Type 0
+-- a job isn't starved
+abbrev pub GoesOn : Following → Type 0
 GoesOn f = f.starved ≡ false
 
 cause_goes : (p : Progress) (f : Following) (e : Entry) (c : Cause) → following_of p e ≡ Some f → GoesOn f
@@ -177,7 +178,8 @@ outcome_goes script p f e (Committed late) started goes each =
     )
 outcome_goes script p f e (Aborted r) started goes each = cause_goes p f e r.cause started goes each
 
-all_go : (s : Setting) (p : Progress) (journal : List Entry) → AreTrue s p journal
+-- of all entries
+pub all_go : (s : Setting) (p : Progress) (journal : List Entry) → AreTrue s p journal
     → AllByRecursion GoesOn (fold (after_entry s.script) p journal).jobs
     → AllByRecursion GoesOn p.jobs × (list_all (λ (e : Entry). is_settled_or_tried_again e.outcome) journal ≡ true)
 all_go s p [] are each = (each, refl)

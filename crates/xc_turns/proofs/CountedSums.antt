@@ -1,9 +1,9 @@
 -- Sums over active transactions, and counts of faults one after another.
-use Rattle.std.proofs.Common.{◌≡◌, ℕ, zero, suc, ◌+◌, ◌-◌, ◌^◌, ◌≤◌, min, Bool, true, false, Option, Some, None, List, ◌++◌, ap, ◌∙◌, subst, sym, arith, cond}
+use Rattle.std.proofs.Common.{◌≡◌, ℕ, ◌+◌, Bool, true, false, Option, Some, None, List, ◌++◌, ap, ◌∙◌, arith, cond}
 use Rattle.std.specs.Prelude.{slice_get, slice_set, sum_by}
 use Rattle.std.specs.List.{cons_option}
 use Rattle.std.proofs.lemmas.List.Sums.{sum_by-append, sum_by-cons}
-use Rattle.xc_data.specs.Counts.{CountsFault, CountsFaults}
+use Rattle.xc_data.specs.Counts.{CountsFault, RisesBy}
 use Rattle.xc_story.specs.Seen.{SeenTx, SeenJob, active_of, actives}
 use Rattle.xc_turns.proofs.Lists.{around}
 
@@ -29,20 +29,7 @@ sum_set f jobs at job job' stands =
     omega (arith, was, is)
 
 -- ---- counts
--- so many more faults raise the count by so many more
-raised : (m n a b c : ℕ) → a ≤ b → min (a + m) (2 ^ 64 - 1) ≤ b → b ≤ c → min (b + n) (2 ^ 64 - 1) ≤ c → min (a + (m + n)) (2 ^ 64 - 1) ≤ c
-raised m n a b c ab rose bc more = omega arith
-
--- a count that rose twice rose by the sum
-pub counts_sum : (m n a b c : ℕ) → CountsFaults m a b → CountsFaults n b c → CountsFaults (m + n) a c
-counts_sum zero n a b c h k = subst (λ x. CountsFaults x a c) (let e : n ≡ 0 + n = omega arith in e) (subst (λ x. CountsFaults n x c) h k)
-counts_sum (suc m) zero a b c h k = subst (λ x. CountsFaults x a c) (let e : suc m ≡ suc m + 0 = omega arith in e) (subst (CountsFaults (suc m) a) (sym k) h)
-counts_sum (suc m) (suc n) a b c h k =
-    let all : min (a + (suc m + suc n)) (2 ^ 64 - 1) ≤ c = raised (suc m) (suc n) a b c h.0 (omega (arith, h.1)) k.0 (omega (arith, k.1)) in
-    let more : CountsFaults (suc (m + suc n)) a c = (omega (arith, h.0, k.0), omega (arith, all)) in
-    subst (λ x. CountsFaults x a c) (let e : suc (m + suc n) ≡ suc m + suc n = omega arith in e) more
-
 -- one that may be a fault, as a number of them
-pub fault_as_count : (f : Bool) (b c : ℕ) → CountsFault f b c → CountsFaults (cond f 1 0) b c
-fault_as_count true b c h = (h.0, omega (arith, h.1))
+pub fault_as_count : (f : Bool) (b c : ℕ) → CountsFault f b c → RisesBy (cond f 1 0) b c
+fault_as_count true b c h = h
 fault_as_count false b c h = h

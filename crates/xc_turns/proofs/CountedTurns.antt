@@ -3,7 +3,7 @@ use Rattle.std.proofs.Common.{◌≡◌, ℕ, ◌+◌, length, inl, inr, None, S
 use Rattle.std.specs.Prelude.{Option, slice_get, slice_set, count_by, sum_by}
 use Rattle.std.proofs.lemmas.List.Sums.{sum_by-cons, sum_by_push}
 use Rattle.xc_compensate.specs.Records.{Records}
-use Rattle.xc_data.specs.Counts.{CountsFaults}
+use Rattle.xc_data.specs.Counts.{RisesBy}
 use Rattle.xc_data.specs.Faults.{entry_faults, is_fault_reply, is_fault_end, undo_faults, end_faults}
 use Rattle.xc_data.specs.declared.call.Call.{Call}
 use Rattle.xc_data.specs.declared.call.LateCall.{LateCall}
@@ -18,6 +18,7 @@ use Rattle.xc_data.specs.declared.undo.Undo.{Undo}
 use Rattle.xc_script.specs.declared.ask.Ask.{Ask}
 use Rattle.xc_script.specs.declared.ask.Ask.TheVariants as ask
 use Rattle.xc_host.specs.Contents.{Contents}
+use Rattle.xc_host.proofs.Called.{rises_sum}
 use Rattle.xc_data.specs.declared.entry.Mark.{Mark}
 use Rattle.xc_story.specs.declared.phase.Phase.{Phase}
 use Rattle.xc_story.specs.declared.phase.Phase.TheVariants.{Running, Committing, Undoing}
@@ -35,7 +36,7 @@ use Rattle.xc_turns.proofs.Jobs.{behind_abort_none}
 use Rattle.xc_story.specs.LateCalls.{started_late}
 use Rattle.xc_turns.proofs.Grown.{grown_actives, started_idle}
 use Rattle.xc_turns.proofs.LateEnds.{Ends, next_ends}
-use Rattle.xc_turns.proofs.CountedSums.{adds, sum_set, counts_sum, fault_as_count}
+use Rattle.xc_turns.proofs.CountedSums.{adds, sum_set, fault_as_count}
 
 -- ---- by its phase a transaction has ended records or late ends
 -- the job's story, with what its phase says
@@ -75,14 +76,14 @@ module _ (s : Setting) (at from : ℕ) (old : Now) (job : SeenJob) (new : Now) (
 
   -- so many faults more, in the journal and in this job
   more_counted : (job' : SeenJob) (k : ℕ) → actives new.jobs ≡ actives (slice_set old.jobs at job')
-      → sum_by entry_faults new.journal + part job' ≡ sum_by entry_faults old.journal + part job + k → CountsFaults k old.faults new.faults
+      → sum_by entry_faults new.journal + part job' ≡ sum_by entry_faults old.journal + part job + k → RisesBy k old.faults new.faults
       → AreCounted from new
   more_counted job' k jobs parts cause =
       let total : recorded_faults old + k ≡ recorded_faults new =
       moved (sum_by tx_faults (actives old.jobs)) (sum_by tx_faults (actives (slice_set old.jobs at job'))) (part job) (part job')
       (sum_by entry_faults old.journal) (sum_by entry_faults new.journal) k (sum_set tx_faults old.jobs at job job' stands) parts
       ∙ ap (λ txs. sum_by entry_faults new.journal + sum_by tx_faults txs) (sym jobs) in
-      subst (λ n. CountsFaults n from new.faults) total (counts_sum (recorded_faults old) k from old.faults new.faults h cause)
+      subst (λ n. RisesBy n from new.faults) total (rises_sum (recorded_faults old) k from old.faults new.faults h cause)
 
   -- as many as before
   still_counted : (job' : SeenJob) → new.jobs ≡ slice_set old.jobs at job' → new.journal ≡ old.journal → new.faults ≡ old.faults → part job' ≡ part job

@@ -17,7 +17,7 @@ use Rattle.xc_data.specs.declared.entry.Turn.TheVariants as turn
 use Rattle.xc_data.specs.declared.undo.Undo.{Undo}
 use Rattle.xc_compensate.specs.Records.{Records}
 use Rattle.xc_host.specs.Contents.{world_of}
-use Rattle.xc_text.specs.declared.script.Statement.{Statement}
+use Rattle.xc_text.specs.Stated.{Statement}
 use Rattle.xc_script.specs.declared.ask.Ask.{Ask}
 use Rattle.xc_script.specs.declared.ask.Ask.TheVariants as ask
 use Rattle.xc_script.specs.Ask.{block_place, transactions_at, transactions_of}

@@ -1,4 +1,6 @@
+pub mod Accounts
 pub mod Apart
+pub mod Attempts
 pub mod Closings
 pub mod Completions
 pub mod CountedSums
@@ -10,6 +12,7 @@ pub mod Grounding
 pub mod Grown
 pub mod HeldClaims
 pub mod Jobs
+pub mod JournalGoesOn
 pub mod LateCounts
 pub mod LateEnds
 pub mod LeftParts

@@ -1,9 +1,10 @@
--- A script's asks with one reply more.
+-- A script's asks, and calls that reply in time, with one reply more.
 use Rattle.std.proofs.Common.{◌≡◌, List, [], ◌∷◌, ◌++◌, length, refl, ap, sym, suc}
 use Rattle.xc_data.specs.declared.call.Call.{Call}
 use Rattle.xc_data.specs.declared.call.Reply.{Reply}
 use Rattle.xc_script.specs.declared.ask.Ask.TheVariants as ask
 use Rattle.xc_script.specs.Ask.{Walk, asks, answered, all_answered}
+use Rattle.xc_story.specs.InTime.{AreInTime, RepliesInTime}
 use Rattle.xc_story.specs.Truth.{AsksEach}
 
 -- one more reply is answered last
@@ -24,3 +25,11 @@ pub asks-count : (walk : Walk) (calls : List Call) (replies : List Reply) → As
 asks-count walk [] replies h = ap length (sym h)
 asks-count walk (d ∷ calls) [] h = absurd h
 asks-count walk (d ∷ calls) (q ∷ replies) h = ap suc (asks-count (answered walk q) calls replies h.1)
+
+-- one call more replies in time too
+pub in_time-more : (calls : List Call) (replies : List Reply) (c : Call) (r : Reply) → RepliesInTime c r → AreInTime calls replies
+    → AreInTime (calls ++ c ∷ []) (replies ++ r ∷ [])
+in_time-more [] [] c r one h = (one, refl)
+in_time-more [] (q ∷ replies) c r one h = cc
+in_time-more (d ∷ calls) [] c r one h = absurd h
+in_time-more (d ∷ calls) (q ∷ replies) c r one h = (h.0, in_time-more calls replies c r one h.1)

@@ -81,6 +81,7 @@ commit_true s words p f at place tx got commits none under began said played =
           asked = (ap asks (sym committing.ahead) ∙ committing.asked, all ∙ as_many tx.late (kept_of tx.calls tx.replies) under.kept);
         };
         words = said;
+        in_time = under.in_time;
         played = λ t. commit_played s words p at tx (next_of s.script f tx.replies) commits all (played t);
       };
     }
@@ -169,6 +170,7 @@ abort_true s words p f at place tx c got undoes none under began said played =
           asked = (undoing.caused, subst (λ (us : List Undo). AreLegal s.rules.undo_tries (length us + 1) tx.undo.ended) none undoing.legal);
         };
         words = said;
+        in_time = under.in_time;
         played = λ t. abort_played s words p f at tx c got undoes none (played t);
       };
     }

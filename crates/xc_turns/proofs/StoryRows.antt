@@ -28,7 +28,7 @@ use Rattle.xc_story.specs.Seen.{SeenTx, SeenJob, Doing, Idle, Active, Starved, E
 use Rattle.xc_story.specs.Rows.{IsEnding, IsReady, IsReplyInTime, IsSameBegin, IsSamePosition, IsSpent, Parts, asked_at, beginning_job, body_at}
 use Rattle.xc_story.specs.Rows.{new_tx, noting, with_tx}
 use Rattle.xc_story.specs.Told.{AreAttempts, IsDoing, IsInPhase, IsCommitting, IsJobTold, IsRunning, IsStanding, IsUndoing, IsUnderway}
-use Rattle.xc_turns.proofs.StoryAsks.{answered-more, asks-more, asks-count}
+use Rattle.xc_turns.proofs.StoryAsks.{answered-more, asks-more, asks-count, in_time-more}
 use Rattle.xc_turns.proofs.LateCounts.{late-more}
 
 -- ---- an idle job
@@ -106,6 +106,7 @@ begun_underway s now f job ready are goes place since fresh =
       };
       asked = refl;
       kept = refl;
+      in_time = refl;
       stored = omega arith;
       phase = record { ahead = ap (λ (p : Position). walk_of s.script (record p { begun = p.variables })) place; none = refl; no_ends = refl };
     }
@@ -172,6 +173,8 @@ called_underway w s f old new tx call reply claims parts made runs asked same be
       standing = same_standing f old new same under.standing;
       asked = asks-more begin tx.calls tx.replies call reply under.asked is;
       kept = late-more w tx.me tx.number tx.late tx.calls tx.replies call reply in_time (asks-count begin tx.calls tx.replies under.asked) under.kept;
+      in_time = in_time-more tx.calls tx.replies call reply
+          (record { kept = λ waiting. (tx.me, tx.number, in_time.kept waiting); now = in_time.now }) under.in_time;
       stored = stored;
       phase = subst (IsInPhase s f new (noting tx call reply claims parts)) (sym runs) phase;
     }
@@ -192,6 +195,7 @@ back_underway s f old new tx c undo held ended runs same caused under =
       standing = same_standing f old new same.begin under.standing;
       asked = under.asked;
       kept = under.kept;
+      in_time = under.in_time;
       stored = under.stored;
       phase = record {
         caused = caused (ap asks (sym running.ahead));
@@ -215,6 +219,7 @@ same_underway s f old new tx runs same under =
       standing = same_standing f old new same.begin under.standing;
       asked = under.asked;
       kept = under.kept;
+      in_time = under.in_time;
       stored = under.stored;
       phase = subst (IsInPhase s f new tx) (sym runs) phase;
     }
@@ -233,6 +238,7 @@ commits_underway s f old new tx runs same settled asked under =
       standing = same_standing f old new same.begin under.standing;
       asked = under.asked;
       kept = under.kept;
+      in_time = under.in_time;
       stored = under.stored;
       phase = record {
         ahead = same.walk ∙ running.ahead;
@@ -265,6 +271,7 @@ ended_underway s f place tx end commits some under =
       standing = under.standing;
       asked = under.asked;
       kept = under.kept;
+      in_time = under.in_time;
       stored = under.stored;
       phase = subst (IsInPhase s f place next) (sym commits) phase;
     }
@@ -291,6 +298,7 @@ tried_underway s f place tx c older u end undoes newest legal under =
       standing = under.standing;
       asked = under.asked;
       kept = under.kept;
+      in_time = under.in_time;
       stored = under.stored;
       phase = subst (IsInPhase s f place next) (sym undoes) phase;
     }

@@ -4,7 +4,7 @@ use Rattle.std.specs.Prelude.{Option, get_or, slice_get, sum_by}
 use Rattle.std.specs.declared.option.Option.TheVariants.{None, Some}
 use Rattle.std.proofs.lemmas.List.{length-map}
 use Rattle.std.proofs.lemmas.List.Sorted.{IsPermutation-refl}
-use Rattle.xc_data.specs.Counts.{CountsFaults}
+use Rattle.xc_data.specs.Counts.{RisesBy}
 use Rattle.xc_text.specs.declared.script.Script.{Script}
 use Rattle.xc_script.specs.Ask.{block_place, fresh_job}
 use Rattle.xc_data.specs.declared.entry.Mark.{Mark}
@@ -102,9 +102,9 @@ start_apart script names =
       once = λ i t is_t. absurd (opened_rests script names i t is_t);
     }
 
-start_counted : (script : Script) (names : List (List ℕ)) (faults : ℕ) → CountsFaults (0 + sum_by tx_faults (actives (opened_jobs script names))) faults faults
+start_counted : (script : Script) (names : List (List ℕ)) (faults : ℕ) → RisesBy (0 + sum_by tx_faults (actives (opened_jobs script names))) faults faults
 start_counted script names faults =
-    subst (λ (txs : List SeenTx). CountsFaults (0 + sum_by tx_faults txs) faults faults) (sym (none_opened script names)) refl
+    subst (λ (txs : List SeenTx). RisesBy (0 + sum_by tx_faults txs) faults faults) (sym (none_opened script names)) refl
 
 start_started : (script : Script) (names : List (List ℕ))
     → length names ≡ length (opened_jobs script names) + sum_by starting (actives (opened_jobs script names))
@@ -121,6 +121,7 @@ start_kept s now few opening =
     let same : now ≡ first = λ i. record now { words = opening.words i; journal = opening.journal i; jobs = opening.jobs i; started = opening.started i } in
     let kept : IsKept s now.faults first = record {
       told = start_told s (length s.script.outline.words) now.marks;
+      attempts = tt;
       spoken = start_spoken s.script names s.script.outline.words;
       apart = start_apart s.script names;
       counted = start_counted s.script names now.faults;

@@ -1,4 +1,5 @@
 ghost use Rattle.std.specs.Prelude.{◌≡◌, ℕ, List, length, true};
+ghost use Rattle.xc_data.specs.declared.entry.Entry.{Entry};
 ghost use Rattle.xc_data.specs.declared.entry.JobLine.{JobLine};
 ghost use Rattle.xc_story.specs.Setting.{Setting};
 ghost use Rattle.xc_story.specs.Progress.{progress_of};
@@ -8,6 +9,7 @@ ghost use Rattle.xc_story.specs.Spoken.{AreSpoken};
 ghost use Rattle.xc_story.specs.Kept.{AreLinesOf};
 ghost use Rattle.xc_story.specs.Truth.{IsTrueJournal};
 ghost use Rattle.xc_story.specs.Ending.{AreEnds, IsComplete, all_done};
+ghost use Rattle.xc_story.specs.Accounted.{AreAccounted};
 
 /// Where each job has ended the journal is true, the words are its words, and each job has the end that its story has.
 pub fn where_all_have_ended_the_journal_is_true()
@@ -17,6 +19,11 @@ pub fn where_all_have_ended_the_journal_is_true()
         → AreLinesOf now.jobs lines → AreEnds s (length now.journal) (progress_of s.script now.journal).jobs lines }
     ensures words { (before words : List ℕ) (jobs : List SeenJob) (lines : List JobLine) → AreSpoken before words jobs
         → AreLinesOf jobs lines → words ≡ before }
+{}
+
+/// Each entry of a true journal is accounted for.
+pub fn each_entry_is_accounted_for()
+    ensures { (s : Setting) (journal : List Entry) → IsTrueJournal s journal → AreAccounted s journal }
 {}
 
 /// Where each job was done, each transaction of each job has the one entry by which it was done with.

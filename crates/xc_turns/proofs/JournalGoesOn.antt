@@ -1,0 +1,26 @@
+-- The journal behind a turn.
+use Rattle.std.proofs.Common.{◌≡◌, ℕ, List, [], ◌∷◌, ◌++◌, sym, ◌∙◌, append-nil}
+use Rattle.xc_data.specs.declared.entry.Entry.{Entry}
+use Rattle.xc_data.specs.declared.entry.Turn.{Turn}
+use Rattle.xc_story.specs.Setting.{Setting}
+use Rattle.xc_story.specs.Seen.{SeenJob, Now}
+use Rattle.xc_story.specs.Rows.{IsTurn, entry_of}
+use Rattle.xc_turns.proofs.TurnKinds.{Kind, rests, begins, moves, stays, enters, kind_of}
+
+-- it is the old one, with nothing behind it
+same : (old new : Now) → new.journal ≡ old.journal → (more : List Entry) × (new.journal ≡ old.journal ++ more)
+same old new is = ([], is ∙ sym (append-nil old.journal))
+
+-- or with an entry behind it
+goes_on : (s : Setting) (at : ℕ) (old : Now) (job : SeenJob) (new : Now) → Kind s at old job new
+    → (more : List Entry) × (new.journal ≡ old.journal ++ more)
+goes_on s at old job new (rests k) = same old new k.journal
+goes_on s at old job new (begins k) = same old new k.journal
+goes_on s at old job new (moves k) = same old new k.journal
+goes_on s at old job new (stays k) = same old new k.journal
+goes_on s at old job new (enters k) = (entry_of k.tx at k.outcome ∷ [], k.journal)
+
+-- so it is behind each row
+pub journal_goes_on : (s : Setting) (at : ℕ) (old new : Now) (answer : Turn) → IsTurn s at old answer new
+    → (more : List Entry) × (new.journal ≡ old.journal ++ more)
+journal_goes_on s at old new answer turn = goes_on s at old turn.job new (kind_of s at old new answer turn)
