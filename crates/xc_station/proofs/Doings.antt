@@ -1,8 +1,8 @@
 -- Each call of a transaction is the plain machine's, or leaves its part where memory is wanting.
 use Rattle.std.proofs.Common.{◌≡◌, ◌⊎◌, inl, inr, ℕ, ◌≤◌, true, false, List, [], ◌++◌, length, refl, ap, sym, ◌∙◌, subst, IsTrue, arith}
 use Rattle.std.proofs.lemmas.List.{append_cancel_left}
-use Rattle.std.specs.Prelude.{Result, Ok, Err, IfOk, IsErr, IsOk, OnErr, OnOk, is_err}
-use Rattle.std.specs.declared.option.Option.TheVariants.{None}
+use Rattle.std.specs.Prelude.{Option, Result, Ok, Err, IfOk, IsErr, IsOk, OnErr, OnOk, is_err}
+use Rattle.std.specs.declared.option.Option.TheVariants.{None, Some}
 use Rattle.xc_data.specs.Counts.{CountsFault}
 use Rattle.xc_data.specs.Faults.{is_fault_reply}
 use Rattle.xc_data.specs.declared.call.Answer.{Answer}
@@ -21,21 +21,28 @@ use Rattle.xc_file.specs.Calls.{CallState, DidPart, IsFileCall, StepsAlone}
 use Rattle.xc_file.specs.Kept.{IsKept}
 use Rattle.xc_file.proofs.FileCalls.{alone_call}
 use Rattle.xc_host.specs.Model.{HostModel}
+use Rattle.xc_host.specs.Uses.{CallsOf}
+use Rattle.xc_host.proofs.Called.{unused}
+use Rattle.xc_data.specs.declared.script.Kind.{Kind}
+use Rattle.xc_script.specs.declared.ask.Ask.TheVariants as ask
 use Rattle.xc_script.specs.Ask.{value_in}
 use Rattle.xc_txmem.specs.Overlay.{overlaid}
 use Rattle.xc_world.specs.World.{World}
 use Rattle.xc_world.specs.Act.{act}
+use Rattle.xc_world.specs.After.{IsMeAfter}
+use Rattle.xc_world.specs.Checks.{IsChecked, refusal_of}
 use Rattle.xc_world.specs.Act.Step.{Stepped, step_to}
 use Rattle.xc_world.specs.Effects.{takes_data}
 use Rattle.xc_world.specs.Fits.{fits, answer_of}
 use Rattle.xc_world.specs.Late.{is_late, kept_call}
 use Rattle.xc_world.specs.Trail.{recorded}
-use Rattle.xc_story.specs.Rows.{Parts, DoesIn, DoesPartIn, IsReplyInTime, parts_of, seen, stored_by}
+use Rattle.xc_story.specs.Rows.{Parts, DoesIn, DoesPartIn, IsReplyInTime, StopsAt, parts_of, seen, stored_by}
 use Rattle.xc_story.specs.LateCalls.{waits}
 use Rattle.xc_story.specs.Seen.{SeenTx, queue_of, with_queue}
 use Rattle.xc_story.specs.WordCalls.{IsWordStep, is_word_call, word_reply, words_after}
 use Rattle.xc_station.specs.Acting.{Acting, HasActed, HasDone, LeavesOff, with_parts}
-use Rattle.xc_station.proofs.WordActs.{append_nil, still_words, no_stores, no_value, word-act, word-fine, word-quiet, word-trail}
+use Rattle.xc_station.proofs.WordActs.{append_nil, still_words, no_stores, no_value, word-act, word-after, word-checked, word-fine, word-quiet}
+use Rattle.xc_station.proofs.WordActs.{word-trail, word-uses}
 
 -- a host with a transaction at it, as calls on files see them
 abbrev pub calling : {H : Type 0} → Acting H → CallState H
@@ -72,11 +79,15 @@ module _ {H : Type 0} (model : HostModel H) (c : Call) (old new : Acting H) (oth
       record {
         tx = frame;
         stores = writes ∙ sym (append_nil old.tx.writes) ∙ ap (λ ws. old.tx.writes ++ ws) (sym (no_stores (length old.words) c other));
+        checked = k.checked;
+        after = k.after;
         stored = stored;
         made = k.made;
         one = k.one;
+        count = k.count;
         undo = k.undo;
         in_time = in_time;
+        uses = k.uses;
         cause = k.cause;
         spoken = subst (λ ws. IsWordStep (overlaid old.words old.tx.writes) (overlaid old.words ws) c reply) (sym writes)
             (still_words (overlaid old.words old.tx.writes) c reply other);
@@ -106,6 +117,7 @@ module _ {H : Type 0} (model : HostModel H) (c : Call) (old new : Acting H) (oth
         left = k.made;
         one = k.one;
         tx = frame ∙ (λ i. record old.tx { me = k.memory.me i; writes = writes i; undo = k.undo i });
+        uses = record { made = k.uses.made; named = inr (inl k.uses.named); used = k.uses.used };
         faults = k.cause;
         contents = λ tells. part_left k.made (k.memory.effect tells);
       }
@@ -173,6 +185,7 @@ kept_acted model c d old queue (Err e) is other untaken waiting kept err stored 
       left = [];
       one = omega arith;
       tx = λ i. record (queueing old (err i)).tx { undo = record old.tx.undo { pending = sym (append_nil old.tx.undo.pending) i } };
+      uses = record { made = []; named = inl refl; used = unused model old.host };
       faults = refl;
       contents = λ tells. inl (refl, refl);
     }
@@ -225,12 +238,17 @@ module _ {H : Type 0} (model : HostModel H) (c : Call) (old : Acting H) (writes 
       let quiet = ap is_fault_reply gives ∙ word-quiet (overlaid old.words old.tx.writes) c is in
       record {
         tx = framed_now old.tx (parts_of (storing old writes).tx) c reply now;
+        checked = subst (IsChecked (refusal_of c old.tx.me) c) (sym gives) (word-checked (overlaid old.words old.tx.writes) old.tx.me c is);
+        after = subst (λ r. IsMeAfter old.tx.number c r old.tx.me old.tx.me) (sym gives)
+            (word-after (overlaid old.words old.tx.writes) old.tx.me old.tx.number c is);
         stores = stores;
         stored = stored;
         made = [];
         one = omega arith;
+        count = λ w. ap length (sym (word-trail w old.tx.me old.tx.number c reply is));
         undo = ap (λ us. record old.tx.undo { pending = us }) (sym (append_nil old.tx.undo.pending));
         in_time = in_time_now c old.tx.me old.tx.number reply at_once now;
+        uses = record { made = []; named = word-uses old.tx.me c reply is; used = unused model old.host };
         cause = subst (λ b. CountsFault b (model.fault_count old.host) (model.fault_count old.host)) (sym quiet) refl;
         spoken = record { words = after; gives = λ _. gives };
         does = λ tells. does_words reply gives after;
@@ -259,6 +277,7 @@ store_acted model c at value old writes (Err e) is gives stores after err now st
       left = [];
       one = omega arith;
       tx = λ i. record old.tx { writes = err i; undo = record old.tx.undo { pending = sym (append_nil old.tx.undo.pending) i } };
+      uses = record { made = []; named = inl refl; used = unused model old.host };
       faults = refl;
       contents = λ tells. inl (refl, refl);
     }
@@ -278,6 +297,11 @@ pub wants_value : {A E : Type 0} (a : Result A E) (r : Reply) → is_err a ≡ t
 wants_value (Ok x) r failed lasting nothing = cc
 wants_value (Err e) r failed lasting nothing = let ok = lasting nothing in cc
 
+-- it made all its calls of the host
+stops_behind : (refused : Option Reply) (c : Call) (r : Reply) (made : List Kind) → CallsOf refused c r made → StopsAt (ask.Call c) made
+stops_behind None c r made calls = inr (inr (r, calls))
+stops_behind (Some refusal) c r made calls = inl calls
+
 -- the call was done, and the handles are as before it: its part stands as it was left
 pub unanswered : {H : Type 0} (model : HostModel H) (c : Call) (old new behind : Acting H) (reply : Reply) → HasDone model c old new reply
     → takes_data c ≡ false
@@ -294,6 +318,11 @@ unanswered model c old new behind reply d untaken is brings =
       left = d.made;
       one = d.one;
       tx = ap (λ (t : SeenTx). record t { me = old.tx.me }) left;
+      uses = record {
+        made = d.uses.made;
+        named = stops_behind (refusal_of c old.tx.me) c reply d.uses.made d.uses.named;
+        used = d.uses.used;
+      };
       faults = subst (λ b. CountsFault b (model.fault_count old.host) (model.fault_count new.host)) quiet d.cause;
       contents = λ tells. inr (
         answer_of reply,

@@ -3,7 +3,7 @@ use Rattle.std.proofs.Common.{◌≡◌, ℕ, ◌<◌, List, [], ◌∷◌, leng
 use Rattle.std.proofs.lemmas.Bool.{ne_eqb}
 use Rattle.std.specs.Prelude.{◌+◌, ◌-◌, ◌==◌, if◌then◌else◌, false, slice_get, slice_index_or, sum_by, zero, suc}
 use Rattle.std.specs.declared.option.Option.TheVariants.{Some}
-use Rattle.xc_data.specs.Counts.{CountsFaults}
+use Rattle.xc_data.specs.Counts.{RisesBy}
 use Rattle.xc_data.specs.Faults.{entry_faults}
 use Rattle.xc_data.specs.declared.entry.JobLine.{JobLine}
 use Rattle.xc_story.specs.Setting.{Setting}
@@ -55,6 +55,8 @@ true_end s faults now lines steady over =
     let ends = ends_told s (length now.words) now.marks now.journal now.jobs lines told over in
     record {
       journal = journal;
+      few = let most = told.few in omega arith;
+      attempts = steady.kept.attempts;
       words = words_left _ now.words now.jobs lines steady.kept.spoken over;
       state = λ tells. at_rest s now lines (steady.flying tells) over;
       ends = ends;
@@ -63,8 +65,8 @@ true_end s faults now lines steady over =
 
 -- the host's count rose by the faults of the entries alone
 pub counted_end : (s : Setting) (faults : ℕ) (now : Now) (lines : List JobLine) → IsSteady s faults now → AreLinesOf now.jobs lines
-    → CountsFaults (sum_by entry_faults now.journal) faults now.faults
+    → RisesBy (sum_by entry_faults now.journal) faults now.faults
 counted_end s faults now lines steady over =
     let none : sum_by entry_faults now.journal + sum_by tx_faults (actives now.jobs) ≡ sum_by entry_faults now.journal =
     ap (λ txs. sum_by entry_faults now.journal + sum_by tx_faults txs) (none_left now.jobs lines over) ∙ omega arith in
-    subst (λ n. CountsFaults n faults now.faults) none steady.kept.counted
+    subst (λ n. RisesBy n faults now.faults) none steady.kept.counted

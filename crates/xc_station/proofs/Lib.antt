@@ -1,3 +1,4 @@
+pub mod Ahead
 pub mod Begun
 pub mod Closed
 pub mod Doings
@@ -6,6 +7,7 @@ pub mod Granted
 pub mod Leaving
 pub mod Lines
 pub mod Placed
+pub mod PutBack
 pub mod Ready
 pub mod Rivals
 pub mod Rooms

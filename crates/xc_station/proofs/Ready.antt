@@ -204,6 +204,7 @@ module _ {H : Type 0} (model : HostModel H) (shared : Shared H) (journal : List 
         words = refl;
         contents = refl;
         faults = refl;
+        calls = refl;
         stands = get_map seen_job jobs at was is.stands;
         marks = refl;
         table = rooms.claims;

@@ -12,20 +12,27 @@ use Rattle.xc_data.specs.declared.entry.Cause.TheVariants as cause
 use Rattle.xc_data.specs.declared.entry.Turn.{Turn}
 use Rattle.xc_data.specs.declared.entry.Turn.TheVariants as turn
 use Rattle.xc_host.specs.Contents.{Contents}
+use Rattle.xc_data.specs.declared.script.Kind.{Kind}
+use Rattle.xc_host.specs.Cause.{IsCalled}
 use Rattle.xc_host.specs.Model.{HostModel}
+use Rattle.xc_host.specs.Uses.{CallsOf, Uses}
 use Rattle.xc_script.specs.declared.ask.Ask.TheVariants as ask
 use Rattle.xc_script.specs.Ask.{asks, answered}
 use Rattle.xc_script.specs.Position.{Position, walk_of}
 use Rattle.xc_txmem.specs.Overlay.{overlaid}
+use Rattle.xc_world.specs.After.{IsMeAfter}
+use Rattle.xc_world.specs.Checks.{IsChecked, refusal_of}
 use Rattle.xc_world.specs.Modes.{claims_of}
+use Rattle.xc_world.specs.Trail.{recorded}
+use Rattle.xc_world.specs.World.{World}
 use Rattle.xc_wordlocks.specs.Table.{claimed, mode_in, mode_of}
 use Rattle.xc_wordlocks.proofs.Held.{claimed-holding}
 use Rattle.xc_story.specs.declared.phase.Phase.TheVariants.{Undoing}
 use Rattle.xc_story.specs.Setting.{Setting}
 use Rattle.xc_story.specs.Seen.{SeenTx, SeenJob, Active, Now, active_in, with_job}
 use Rattle.xc_story.specs.WordCalls.{IsWordStep}
-use Rattle.xc_story.specs.Rows.{Calls, DoesIn, DoesPartIn, HasNoRival, HoldsWanting, IsActiveAt, IsLeft, IsSameBegin}
-use Rattle.xc_story.specs.Rows.{IsSamePosition, IsReplyInTime, Parts, RunningTurn, noting, parts_of, stored_by, wanting, with_tx}
+use Rattle.xc_story.specs.Rows.{Calls, DoesIn, DoesPartIn, HasCalled, HasNoRival, HoldsWanting, IsActiveAt, IsLeft, IsSameBegin}
+use Rattle.xc_story.specs.Rows.{IsSamePosition, IsReplyInTime, Parts, RunningTurn, StopsAt, noting, parts_of, stored_by, wanting, with_tx}
 use Rattle.xc_story.proofs.AskedCalls.{asked_built}
 use Rattle.xc_station.specs.declared.calls.Shared.{Shared}
 use Rattle.xc_station.specs.declared.tx.Tx.{Tx}
@@ -68,13 +75,27 @@ module _ {H : Type 0} (model : HostModel H) (s : Setting) (shared : Shared H) (n
 
   -- the host may have changed, and the job
   touched : (job' : SeenJob) → moved model behind job' now at
-      ≡ record (with_job now at job') { contents = model.contents behind.host; faults = model.fault_count behind.host }
+      ≡ record (with_job now at job') {
+        contents = model.contents behind.host;
+        faults = model.fault_count behind.host;
+        calls = model.calls behind.host;
+      }
   touched job' i = record (with_job now at job') {
     words = words_now i;
     contents = model.contents behind.host;
     faults = model.fault_count behind.host;
+    calls = model.calls behind.host;
     marks = marks_now i;
   }
+
+  -- the host was called so
+  called_so : (IsMade : List Kind → Type 0) (from : H) (job' : SeenJob) → from ≡ shared.host
+      → Uses model (record { old = from; new = behind.host }) IsMade → HasCalled IsMade now (moved model behind job' now at)
+  called_so IsMade from job' host uses = (
+    uses.made,
+    uses.named,
+    subst (λ (calls : Kind → ℕ). IsCalled uses.made calls (model.calls behind.host)) (ap model.calls host ∙ sym here.calls) uses.used.called,
+  )
 
   row_granted : (job' : SeenJob) (tx : SeenTx) (answer : Turn) → job'.doing ≡ Active tx → tx.number ≡ old.number
       → tx.held ≡ holding old.held.items (claims_of call old.me.value (length shared.words))
@@ -131,7 +152,10 @@ module _ {H : Type 0} (model : HostModel H) (s : Setting) (shared : Shared H) (n
               ∙ (λ i. record (with_job now at (with_tx job place' (left_as i))) {
                 contents = model.contents behind.host;
                 faults = (l.faults ∙ ap model.fault_count host ∙ sym here.faults) i;
+                calls = model.calls behind.host;
               });
+          uses = subst (λ a. HasCalled (StopsAt a) now moment) (sym next)
+              (called_so (StopsAt (ask.Call call)) from (with_tx job place' (seen_tx new)) host l.uses);
           contents = λ tells. subst (λ a. IsLeft now moment (parts_of (seen_tx old)) a l.left) (sym next) (left_now tells);
         }))
 
@@ -176,6 +200,7 @@ module _ {H : Type 0} (model : HostModel H) (s : Setting) (shared : Shared H) (n
               ∙ ap (λ (t : SeenTx). record (with_job now at (with_tx job place' t)) {
                 contents = model.contents behind.host;
                 faults = model.fault_count behind.host;
+                calls = model.calls behind.host;
               }) noted_as;
           begin = record {
             block = stands.begin.block ∙ has.same.begin.block;
@@ -185,8 +210,13 @@ module _ {H : Type 0} (model : HostModel H) (s : Setting) (shared : Shared H) (n
           walk = stands.walk ∙ ap (λ w. answered w reply) has.same.walk;
           nearer = (let far = stands.nearer in let near = has.same.at in omega arith);
           in_time = subst (λ (t : SeenTx). IsReplyInTime t.me t.number call reply) g.held d.in_time;
+          checked = subst (λ (t : SeenTx). IsChecked (refusal_of call t.me) call reply) g.held d.checked;
+          after = subst (λ (t : SeenTx). IsMeAfter t.number call reply t.me done.me.value) g.held d.after;
+          uses = called_so (CallsOf (refusal_of call old.me.value) call reply) from (with_tx job place' (seen_tx new)) host
+              (subst (λ (t : SeenTx). Uses model (record { old = from; new = behind.host }) (CallsOf (refusal_of call t.me) call reply)) g.held d.uses);
           made = d.made;
           one = d.one;
+          count = subst (λ (t : SeenTx). (w : World) → length d.made ≡ length (recorded w t.me t.number call reply)) g.held d.count;
           undo = d.undo ∙ ap (λ (t : SeenTx). record t.undo { pending = t.undo.pending ++ d.made }) g.held;
           stored = d.stored;
           stores = d.stores ∙ ap (λ ws. ws ++ stored_by (length behind.words) call) writes_old

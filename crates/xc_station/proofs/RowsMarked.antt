@@ -62,6 +62,7 @@ module _ {H : Type 0} (model : HostModel H) (s : Setting) (shared : Shared H) (n
                 words = (words ∙ sym here.words) i;
                 contents = (ap model.contents host ∙ sym here.contents) i;
                 faults = (ap model.fault_count host ∙ sym here.faults) i;
+                calls = (ap model.calls host ∙ sym here.calls) i;
                 jobs = slice_set now.jobs at (job_is i);
                 marks = (marks ∙ sym here.marks) i;
               });
@@ -89,6 +90,7 @@ module _ {H : Type 0} (model : HostModel H) (s : Setting) (shared : Shared H) (n
         words = sym words i;
         contents = model.contents (sym host i);
         faults = model.fault_count (sym host i);
+        calls = model.calls (sym host i);
         jobs = slice_set now.jobs at job';
         marks = sym marks i;
       } in

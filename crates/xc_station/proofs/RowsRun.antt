@@ -12,11 +12,12 @@ use Rattle.xc_data.specs.declared.entry.Mark.{Mark}
 use Rattle.xc_data.specs.declared.entry.Turn.{Turn}
 use Rattle.xc_data.specs.declared.entry.Turn.TheVariants as turn
 use Rattle.xc_data.specs.declared.object.Object.{Object}
+use Rattle.xc_data.specs.declared.script.Kind.{Kind}
 use Rattle.xc_host.specs.Model.{HostModel}
 use Rattle.xc_script.specs.declared.ask.Ask.{Ask}
 use Rattle.xc_script.specs.declared.ask.Ask.TheVariants as ask
 use Rattle.xc_text.specs.declared.script.Script.{Script}
-use Rattle.xc_text.specs.declared.script.Statement.{Statement}
+use Rattle.xc_text.specs.Stated.{Statement}
 use Rattle.xc_script.specs.Ask.{Walk, asks, asks_from, next_body}
 use Rattle.xc_script.specs.Position.{Position, job_of, walk_of, IsSettled}
 use Rattle.xc_sentinel.specs.declared.seat.Seat.{Seat}
@@ -31,7 +32,7 @@ use Rattle.xc_story.specs.declared.phase.Phase.TheVariants.{Committing, Undoing}
 use Rattle.xc_story.specs.Setting.{Setting}
 use Rattle.xc_story.specs.Seen.{SeenTx, SeenJob, Now, Active, active_in, waiting, with_job}
 use Rattle.xc_story.specs.Rows.{AskedTurn, HoldsWanting, IsActiveAt, IsFirstMet, IsSamePosition}
-use Rattle.xc_story.specs.Rows.{RunningTurn, marked, wanting, with_tx}
+use Rattle.xc_story.specs.Rows.{RunningTurn, StopsAt, marked, wanting, with_tx}
 use Rattle.xc_station.specs.declared.calls.Shared.{Shared}
 use Rattle.xc_station.specs.declared.tx.Tx.{Tx}
 use Rattle.xc_station.specs.Jobs.{seen_tx}
@@ -43,10 +44,11 @@ use Rattle.xc_station.proofs.WordActs.{append_nil}
 
 -- with words and host as before, and these marks, a moment differs in one job alone
 moved_same : {H : Type 0} (model : HostModel H) (behind : Shared H) (now : Now) (at : ℕ) (job : SeenJob) → behind.words ≡ now.words
-    → model.contents behind.host ≡ now.contents → model.fault_count behind.host ≡ now.faults → (marks : ℕ → Option Mark)
+    → model.contents behind.host ≡ now.contents → model.fault_count behind.host ≡ now.faults → model.calls behind.host ≡ now.calls
+    → (marks : ℕ → Option Mark)
     → marks_of behind.sentinels.seats ≡ marks → moved model behind job now at ≡ record (with_job now at job) { marks = marks }
-moved_same model behind now at job words contents faults marks same i =
-    record (with_job now at job) { words = words i; contents = contents i; faults = faults i; marks = same i }
+moved_same model behind now at job words contents faults calls marks same i =
+    record (with_job now at job) { words = words i; contents = contents i; faults = faults i; calls = calls i; marks = same i }
 
 -- what is held stays
 as_before : (now : Now) (at : ℕ) (tx : SeenTx) (a : Ask) → HoldsWanting now at tx a [] tx.held
@@ -54,6 +56,13 @@ as_before now at tx (ask.Call call) = inl (refl, refl)
 as_before now at tx ask.Commit = (refl, refl)
 as_before now at tx ask.Abort = (refl, refl)
 as_before now at tx ask.End = (refl, refl)
+
+-- the host wasn't called
+no_calls : (a : Ask) → StopsAt a []
+no_calls (ask.Call call) = inl refl
+no_calls ask.Commit = refl
+no_calls ask.Abort = refl
+no_calls ask.End = refl
 
 -- ---- what is asked
 -- silent statements lead to what is asked
@@ -102,7 +111,7 @@ module _ {H : Type 0} (model : HostModel H) (s : Setting) (shared : Shared H) (n
   same_moment : (behind : Shared H) (job' : SeenJob) → behind.host ≡ shared.host → behind.words ≡ shared.words → (marks : ℕ → Option Mark)
       → marks_of behind.sentinels.seats ≡ marks → moved model behind job' now at ≡ record (with_job now at job') { marks = marks }
   same_moment behind job' host words marks same = moved_same model behind now at job' (words ∙ sym here.words) (ap model.contents host ∙ sym here.contents)
-      (ap model.fault_count host ∙ sym here.faults) marks same
+      (ap model.fault_count host ∙ sym here.faults) (ap model.calls host ∙ sym here.calls) marks same
 
   -- the seats stay, so nobody is marked
   unmarked_moment : (behind : Shared H) (job' : SeenJob) → behind.host ≡ shared.host → behind.words ≡ shared.words
@@ -221,8 +230,15 @@ module _ {H : Type 0} (model : HostModel H) (s : Setting) (shared : Shared H) (n
         holds = as_before now at (seen_tx old) (asks (walk_of s.script job.place));
         behind = unmarked_moment behind (with_tx job place (seen_tx new)) host words kept
             ∙ ap (λ (t : SeenTx). with_job now at (with_tx job place t)) (is ∙ without_record)
-            ∙ ap (λ c. record (with_job now at (with_tx job place (wanting (seen_tx old) [] old.held.items))) { contents = c })
-            (here.contents ∙ sym (ap model.contents host));
+            ∙ (λ i. record (with_job now at (with_tx job place (wanting (seen_tx old) [] old.held.items))) {
+              contents = (here.contents ∙ sym (ap model.contents host)) i;
+              calls = (here.calls ∙ sym (ap model.calls host)) i;
+            });
+        uses = (
+          [],
+          no_calls (asks (walk_of s.script job.place)),
+          λ kind. ap (λ (calls : Kind → ℕ). calls kind) (ap model.calls host ∙ sym here.calls),
+        );
         contents = λ _. inl (refl, ap model.contents host ∙ sym here.contents);
       }))
 
@@ -243,6 +259,7 @@ module _ {H : Type 0} (model : HostModel H) (s : Setting) (shared : Shared H) (n
           words = (words ∙ ap (λ (ws : List ℕ). overlaid ws old.writes) (sym here.words)) i;
           contents = (ap model.contents host ∙ sym here.contents) i;
           faults = (ap model.fault_count host ∙ sym here.faults) i;
+          calls = (ap model.calls host ∙ sym here.calls) i;
           jobs = slice_set now.jobs at (with_tx job place (is i));
           marks = (ap (λ (t : Sentinels). marks_of t.seats) same ∙ sym here.marks) i;
         };

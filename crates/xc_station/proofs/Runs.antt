@@ -24,6 +24,7 @@ use Rattle.xc_turns.proofs.Orders.{alone_turned, alone_later}
 use Rattle.xc_station.specs.declared.job.Job.{Job}
 use Rattle.xc_station.specs.Jobs.{back_stage, goes_on, is_live, late_stage, phase_stage, seen_job, seen_jobs, stage_of}
 use Rattle.xc_station.specs.Stations.{ChangesOne, GoesOn, IsEvent, IsFrontOf, IsNextOf, IsStepOf, IsTried, KeepsEvents, KeepsOpening, KeepsOrigin}
+use Rattle.xc_station.proofs.Placed.{get_other}
 use Rattle.xc_station.specs.Stations.{Seen, TakeTurns, WorksOn, live_at, lives, noted, now_of, numbers, setting_of, turns_of}
 
 -- one run behind another
@@ -73,13 +74,6 @@ live_seen (Some job) = refl
 lives_as : (jobs : List Job) (at : ℕ) → lives (slice_get jobs at) ≡ seen_live (slice_get (seen_jobs jobs) at)
 lives_as jobs at = live_seen (slice_get jobs at) ∙ ap seen_live (sym (slice_get-map seen_job jobs at))
 
-other_place : {A : Type 0} (xs : List A) (i j : ℕ) (x : A) → j ≢ i → slice_get (slice_set xs i x) j ≡ slice_get xs j
-other_place [] i j x ne = refl
-other_place (y ∷ ys) zero zero x ne = absurd (ne refl)
-other_place (y ∷ ys) zero (suc j) x ne = refl
-other_place (y ∷ ys) (suc i) zero x ne = refl
-other_place (y ∷ ys) (suc i) (suc j) x ne = other_place ys i j x (λ e. ne (ap suc e))
-
 -- a live job has a number
 pub numbered : (jobs : List Job) (job : ℕ) → live_at jobs job ≡ true → 1 ≤ job
 numbered jobs zero live = cc
@@ -88,10 +82,11 @@ numbered jobs (suc n) live = omega arith
 others_live : (old new : List Job) (at : ℕ) (behind : SeenJob) → seen_jobs new ≡ slice_set (seen_jobs old) at behind → (other : ℕ) → other ≢ at
     → lives (slice_get new other) ≡ lives (slice_get old other)
 others_live old new at behind jobs other away =
-    lives_as new other ∙ ap (λ js. seen_live (slice_get js other)) jobs ∙ ap seen_live (other_place (seen_jobs old) at other behind away)
+    lives_as new other ∙ ap (λ js. seen_live (slice_get js other)) jobs ∙ ap seen_live (get_other (seen_jobs old) at other behind away)
     ∙ sym (lives_as old other)
 
-other_lives : (old new : List Job) (job : ℕ) (behind : SeenJob) → 1 ≤ job → seen_jobs new ≡ slice_set (seen_jobs old) (job - 1) behind → (other : ℕ)
+-- a turn of one job leaves whether another lives
+pub other_lives : (old new : List Job) (job : ℕ) (behind : SeenJob) → 1 ≤ job → seen_jobs new ≡ slice_set (seen_jobs old) (job - 1) behind → (other : ℕ)
     → other ≢ job → live_at new other ≡ live_at old other
 other_lives old new job behind positive jobs other away =
     dite (ℕ_discrete other 0)
@@ -137,7 +132,8 @@ active_goes : (d : Doing) (tx : SeenTx) → active_in d ≡ Some tx → goes_on 
 active_goes (Active t) tx active = phase_goes t t.phase
 active_goes _ tx active = cc
 
-by_place : (jobs : List Job) (at : ℕ) → live_at jobs (at + 1) ≡ lives (slice_get jobs at)
+-- a job's place is one less than its number
+pub by_place : (jobs : List Job) (at : ℕ) → live_at jobs (at + 1) ≡ lives (slice_get jobs at)
 by_place jobs at =
     let some : (at + 1 == 0) ≡ false = ne_eqb (at + 1) 0 (λ none. omega arith) in
     let same : at + 1 - 1 ≡ at = omega arith in
@@ -164,18 +160,24 @@ module _ {H : Type 0} (model : HostModel H) (job : ℕ) (old taking new : Seen H
         count = ap length is;
       }) goes
 
-  before : ((other : ℕ) → other ≤ old.taken → live_at old.jobs other ≡ false) → (other : ℕ) → other < job → live_at old.jobs other ≡ false
-  before ended other less = dite (dec_le other old.taken) (ended other) (λ above. next.first other (omega arith) less)
+  before : (from : ℕ) → ((other : ℕ) → from < other → other ≤ old.taken → live_at old.jobs other ≡ false) → (other : ℕ) → from < other
+      → other < job → live_at old.jobs other ≡ false
+  before from ended other low less = dite (dec_le other old.taken) (ended other low) (λ above. next.first other (omega arith) less)
 
-  pub next_ended : live_at new.jobs job ≡ false → ((other : ℕ) → other ≤ old.taken → live_at old.jobs other ≡ false)
-      → (other : ℕ) → other ≤ new.taken → live_at new.jobs other ≡ false
-  next_ended mine ended other most =
+  pub next_ended : (from : ℕ) → live_at new.jobs job ≡ false → ((other : ℕ) → from < other → other ≤ old.taken → live_at old.jobs other ≡ false)
+      → (other : ℕ) → from < other → other ≤ new.taken → live_at new.jobs other ≡ false
+  next_ended from mine ended other low most =
       let last : new.taken ≡ job = works.taken ∙ at in
       dite (ℕ_discrete other job)
       (λ same. ap (live_at new.jobs) same ∙ mine)
-      (λ away. works.others other away ∙ ap (λ js. live_at js other) is ∙ before ended other (omega (arith, last, most, away)))
+      (λ away. works.others other away ∙ ap (λ js. live_at js other) is ∙ before from ended other low (omega (arith, last, most, away)))
 
-  pub next_alone : ((other : ℕ) → other ≤ old.taken → live_at old.jobs other ≡ false) → AreAlone (now_of model old) (old.taken - 1)
+  pub next_others : (from : ℕ) → from ≤ old.taken → (other : ℕ) → other ≤ from → live_at new.jobs other ≡ live_at old.jobs other
+  next_others from low other most =
+      let above = next.above in
+      works.others other (λ same. omega (arith, same, above, low, most)) ∙ ap (λ js. live_at js other) is
+
+  pub next_alone : ((other : ℕ) → 0 < other → other ≤ old.taken → live_at old.jobs other ≡ false) → AreAlone (now_of model old) (old.taken - 1)
       → AreAlone (now_of model new) (new.taken - 1)
   next_alone ended alone =
       let last : new.taken ≡ job = works.taken ∙ at in
@@ -184,8 +186,17 @@ module _ {H : Type 0} (model : HostModel H) (job : ℕ) (old taking new : Seen H
       dite (ℕ_discrete (old.taken - 1) (job - 1))
       (λ same. subst (AreAlone (now_of model old)) same alone)
       (λ away. alone_later (now_of model old) (old.taken - 1) (job - 1) alone
-      (ended_rests old.jobs (old.taken - 1) (before ended (old.taken - 1 + 1) (omega (arith, above, away)))) (omega (arith, above))) in
+      (ended_rests old.jobs (old.taken - 1) (before 0 ended (old.taken - 1 + 1) (omega arith) (omega (arith, above, away)))) (omega (arith, above))) in
       subst (λ n. AreAlone (now_of model new) (n - 1)) (sym last) (works.alone (subst (λ (n : Now). AreAlone n (job - 1)) (sym now) later))
+
+-- where the last was taken none above lives
+pub none_above : (jobs : List Job) (from taken : ℕ) → ((other : ℕ) → from < other → other ≤ taken → live_at jobs other ≡ false)
+    → ((other : ℕ) → taken < other → live_at jobs other ≡ false) → (other : ℕ) → from < other → live_at jobs other ≡ false
+none_above jobs from taken ended past other more = dite (dec_le other taken) (ended other more) (λ high. past other (omega (arith, high)))
+
+-- and from a start on nobody does
+pub nobody_left : (jobs : List Job) → ((other : ℕ) → 0 < other → live_at jobs other ≡ false) → (number : ℕ) → live_at jobs number ≡ false
+nobody_left jobs ended number = dite (ℕ_discrete number 0) (λ none. ap (live_at jobs) none) (λ some. ended number (omega (arith, some)))
 
 -- ---- a list of turns
 taken_at : {H : Type 0} (model : HostModel H) (jobs : List ℕ) (k : ℕ) (now next end : Seen H) → k < length jobs
@@ -205,7 +216,7 @@ taken_next model jobs k after now next end one low step rest =
 -- a turn that was tried is a step of its job
 pub tried_steps : {H : Type 0} (model : HostModel H) (job : ℕ) (old new : Seen H) (live : Bool) (answer : Option Turn)
     → IsTried model job old new live answer → IsStepOf model job old new live
-tried_steps model job old new true (Some answer) row = (answer, row)
+tried_steps model job old new true (Some answer) tried = (answer, tried.0, tried.1)
 tried_steps model job old new true None row = absurd row
 tried_steps model job old new false (Some answer) row = absurd row
 tried_steps model job old new false None same = subst (λ s. s ≡ record old { events = s.events; last = s.last }) (sym same) refl
@@ -231,37 +242,54 @@ pub taken_more : {H : Type 0} (model : HostModel H) (jobs : List ℕ) (job : ℕ
 taken_more {H = H} model [] job old mid new same step = (new, subst (λ (s : Seen H). IsStepOf model job s new (live_at s.jobs job)) same step, refl)
 taken_more model (j ∷ jobs) job old mid new (next, first, rest) step = (next, first, taken_more model jobs job next mid new rest step)
 
--- the turn of the next number in a round
-pub round_more : {H : Type 0} (model : HostModel H) (job : ℕ) (old mid new : Seen H) → 1 ≤ job → TakeTurns model (numbers (job - 1)) old mid
-    → IsStepOf model job mid new (live_at mid.jobs job) → TakeTurns model (numbers (job + 1 - 1)) old new
-round_more {H = H} model job old mid new positive turns step =
-    let before : ℕ = job - 1 in
-    let this : job ≡ suc before = omega arith in
-    let next : job + 1 - 1 ≡ suc before = omega arith in
-    subst (λ n. TakeTurns model (numbers n) old new) (sym next)
-    (subst (λ n. TakeTurns model (numbers before ++ n ∷ []) old new) this (taken_more model (numbers before) job old mid new turns step))
-
 none_there : (b : Bool) → (if b then false else lives None) ≡ false
 none_there true = refl
 none_there false = refl
 
--- where all jobs up to the last have ended, nobody lives
-pub all_ended : (jobs : List Job) (end : ℕ) → ((number : ℕ) → number < end → live_at jobs number ≡ false) → length jobs < end → (number : ℕ)
-    → live_at jobs number ≡ false
-all_ended jobs end ended whole number =
-    dite (dec_le end number)
-    (λ above. ap (λ (o : Option Job). if number == 0 then false else lives o) (slice_get_past jobs (number - 1) (omega arith)) ∙ none_there (number == 0))
-    (λ below. ended number (omega arith))
+-- no job lives past the last
+pub none_past : (jobs : List Job) (number : ℕ) → length jobs < number → live_at jobs number ≡ false
+none_past jobs number high =
+    ap (λ (o : Option Job). if number == 0 then false else lives o) (slice_get_past jobs (number - 1) (omega (arith, high))) ∙ none_there (number == 0)
+
+-- so the number of one that lives is no more
+pub live_within : (jobs : List Job) (number : ℕ) → live_at jobs number ≡ true → number ≤ length jobs
+live_within jobs number live =
+    dite (dec_le number (length jobs))
+    (λ low. low)
+    (λ high. let both : true ≡ false = sym live ∙ none_past jobs number (omega (arith, high)) in cc both)
+
+-- those that don't live are passed over
+pub passed_over : {H : Type 0} (model : HostModel H) (at more : ℕ) (old mid : Seen H) → TakeTurns model (numbers at) old mid
+    → ((number : ℕ) → at < number → number ≤ at + more → live_at mid.jobs number ≡ false) → TakeTurns model (numbers (at + more)) old mid
+passed_over model at zero old mid turns ended = subst (λ n. TakeTurns model (numbers n) old mid) (let e : at ≡ at + zero = omega arith in e) turns
+passed_over model at (suc more) old mid turns ended =
+    let next : suc (at + more) ≡ at + suc more = omega arith in
+    let last = ended (suc (at + more)) (omega arith) (omega arith) in
+    subst (λ n. TakeTurns model (numbers n) old mid) next
+    (taken_more model (numbers (at + more)) (suc (at + more)) old mid mid
+    (passed_over model at more old mid turns (λ number above most. ended number above (omega (arith, most))))
+    (subst (IsStepOf model (suc (at + more)) mid mid) (sym last) refl))
+
+-- and the next live one takes its turn
+pub next_turned : {H : Type 0} (model : HostModel H) (at job : ℕ) (old mid new : Seen H) → IsNextOf mid.jobs at job
+    → TakeTurns model (numbers at) old mid → IsStepOf model job mid new (live_at mid.jobs job) → TakeTurns model (numbers job) old new
+next_turned model at job old mid new next turns step =
+    let above = next.above in
+    let between : ℕ = job - 1 - at in
+    let last : suc (at + between) ≡ job = omega (arith, above) in
+    let before = passed_over model at between old mid turns (λ number more most. next.first number more (omega (arith, most, above))) in
+    subst (λ n. TakeTurns model (numbers n) old new) last
+    (subst (λ n. TakeTurns model (numbers (at + between) ++ n ∷ []) old new) (sym last) (taken_more model (numbers (at + between)) job old mid new before step))
+
+-- so a round ends where none lives any more
+pub round_over : {H : Type 0} (model : HostModel H) (at : ℕ) (old new : Seen H) → at ≤ length new.jobs → TakeTurns model (numbers at) old new
+    → ((number : ℕ) → at < number → live_at new.jobs number ≡ false) → TakeTurns model (numbers (length new.jobs)) old new
+round_over model at old new low turns ended =
+    subst (λ n. TakeTurns model (numbers n) old new) (let e : at + (length new.jobs - at) ≡ length new.jobs = omega (arith, low) in e)
+    (passed_over model at (length new.jobs - at) old new turns (λ number more most. ended number more))
 
 -- a turn behind others leaves fewer
-pub falls_further : {H : Type 0} (model : HostModel H) (more : Bool) (old mid new : Seen H) → (more ≡ true → turns_of model mid < turns_of model old)
-    → (more ≡ false → mid ≡ old) → turns_of model new < turns_of model mid → turns_of model new < turns_of model old
-falls_further model true old mid new falls same fell = let before = falls refl in omega arith
-falls_further model false old mid new falls same fell = subst (λ s. turns_of model new < turns_of model s) (same refl) fell
-
--- where a job has ended too, all up to it have
-pub ended_further : {H : Type 0} (job : ℕ) (mid new : Seen H) → new ≡ mid → live_at mid.jobs job ≡ false
-    → ((other : ℕ) → other < job → live_at mid.jobs other ≡ false) → (other : ℕ) → other < job + 1 → live_at new.jobs other ≡ false
-ended_further {H = H} job mid new same this before other less =
-    ap (λ (s : Seen H). live_at s.jobs other) same
-    ∙ dite (ℕ_discrete other job) (λ is. ap (live_at mid.jobs) is ∙ this) (λ away. before other (omega arith))
+pub falls_further : {H : Type 0} (model : HostModel H) (at : ℕ) (old mid new : Seen H) → (0 < at → turns_of model mid < turns_of model old)
+    → (at ≡ 0 → mid ≡ old) → turns_of model new < turns_of model mid → turns_of model new < turns_of model old
+falls_further model zero old mid new falls same fell = subst (λ s. turns_of model new < turns_of model s) (same refl) fell
+falls_further model (suc at) old mid new falls same fell = let before = falls (omega arith) in omega (arith, fell, before)

@@ -10,6 +10,7 @@ use Rattle.xc_story.specs.Played.{IsPlayedSoFar}
 use Rattle.xc_story.specs.Seen.{SeenTx, Now}
 use Rattle.xc_story.specs.Rows.{IsActiveAt, IsTurn}
 use Rattle.xc_turns.proofs.Apart.{apart_kept}
+use Rattle.xc_turns.proofs.Attempts.{turn_leaves_attempts}
 use Rattle.xc_turns.proofs.CountedTurns.{turn_keeps_count}
 use Rattle.xc_turns.proofs.Grounding.{grounds_kept}
 use Rattle.xc_turns.proofs.Lefts.{measured}
@@ -32,6 +33,7 @@ steady_kept s faults at old new answer steady turned =
       kept = record {
         told = a_turn_keeps_the_stories_but s at old new answer turned steady.kept.spoken played told
             (grounds_kept s at old new answer turned played told);
+        attempts = turn_leaves_attempts s at old new answer turned told steady.kept.attempts;
         spoken = turn_keeps_words s at old new answer turned steady.kept.apart steady.kept.spoken;
         apart = apart_kept s at old new answer turned steady.kept.apart;
         counted = turn_keeps_count s at faults old new answer turned told steady.kept.counted;

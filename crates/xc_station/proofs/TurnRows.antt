@@ -198,6 +198,7 @@ module _ {H : Type 0} (model : HostModel H) (shared : Shared H) (journal : List 
               jobs = slice_set (seen_jobs jobs) at (job' i);
               marks = marks_of ((same.1 i).seats);
             });
+        uses = (ends.uses.made, ends.uses.named, ends.uses.used.called);
         cause = ends.cause;
         does = λ tells. ends.does (telling tells);
       } in
@@ -228,6 +229,7 @@ module _ {H : Type 0} (model : HostModel H) (shared : Shared H) (journal : List 
               words = same.1 i;
               contents = model.contents (same.0 i);
               faults = model.fault_count (same.0 i);
+              calls = model.calls (same.0 i);
               journal = (entered ∙ ap (λ e. journal ++ e ∷ []) gave.1) i;
               jobs = slice_set (seen_jobs jobs) at (gave.0 i);
               started = blocks_of (seen_jobs jobs);
@@ -262,6 +264,7 @@ module _ {H : Type 0} (model : HostModel H) (shared : Shared H) (journal : List 
         newest = tried.was;
         legal = tried.legal;
         faults = tried.faults;
+        uses = (tried.uses.made, tried.uses.named, tried.uses.used.called);
         effect = tried.effect;
         behind = moment_set shared' journal job is.stands (ap (λ (j : SeenJob). j.block) gave.1)
             ∙ (λ i. record (moment model shared' journal jobs) {
@@ -293,6 +296,7 @@ module _ {H : Type 0} (model : HostModel H) (shared : Shared H) (journal : List 
               words = same.1 i;
               contents = model.contents shared'.host;
               faults = model.fault_count (same.0 i);
+              calls = model.calls (same.0 i);
               journal = (entered ∙ ap (λ e. journal ++ e ∷ []) gave.1) i;
               jobs = slice_set (seen_jobs jobs) at (gave.0 i);
               started = blocks_of (seen_jobs jobs);

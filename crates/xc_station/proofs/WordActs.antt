@@ -1,5 +1,5 @@
 -- Calls on words on the plain machine.
-use Rattle.std.proofs.Common.{◌≡◌, ℕ, Bool, true, false, List, [], ◌∷◌, ◌++◌, length, refl, ap, sym, ◌∙◌}
+use Rattle.std.proofs.Common.{◌≡◌, ℕ, Bool, true, false, List, [], ◌∷◌, ◌++◌, length, refl, ap, sym, ◌∙◌, arith}
 use Rattle.std.specs.Prelude.{slice_index, slice_set, nat_le, if◌then◌else◌}
 use Rattle.std.specs.declared.option.Option.TheVariants.{None}
 use Rattle.xc_data.specs.declared.call.Call.{Call}
@@ -8,8 +8,11 @@ use Rattle.xc_data.specs.declared.call.Answer.TheVariants as answer
 use Rattle.xc_data.specs.declared.call.Reply.{Reply}
 use Rattle.xc_data.specs.declared.call.Reply.TheVariants as reply
 use Rattle.xc_data.specs.declared.private.Private.{Private}
+use Rattle.xc_host.specs.Uses.{CallsOf}
 use Rattle.xc_world.specs.World.{World}
 use Rattle.xc_world.specs.Act.{act}
+use Rattle.xc_world.specs.After.{IsMeAfter, bytes_in}
+use Rattle.xc_world.specs.Checks.{IsChecked, is_check_reply, refusal_of}
 use Rattle.xc_world.specs.Act.Step.{step_to}
 use Rattle.xc_world.specs.Fits.{answer_of}
 use Rattle.xc_world.specs.Trail.{recorded}
@@ -76,6 +79,43 @@ pub word-quiet : (words : List ℕ) (c : Call) → is_word_call c ≡ true → i
 word-quiet words (call.Load at) is = quiet_load (nat_le (length words) at) (slice_index words at)
 word-quiet words (call.Store at value) is = quiet_store (nat_le (length words) at)
 word-quiet words _ is = cc
+
+-- ---- what they leave of the private state, and of the host
+check_load : (b : Bool) (at n : ℕ) → is_check_reply (call.Load at) (if b then reply.BadWord else reply.Number n) ≡ false
+check_load true at n = refl
+check_load false at n = refl
+
+check_store : (b : Bool) (at value : ℕ) → is_check_reply (call.Store at value) (if b then reply.BadWord else reply.Done) ≡ false
+check_store true at value = refl
+check_store false at value = refl
+
+-- no private check refuses one
+pub word-checked : (words : List ℕ) (me : Private) (c : Call) → is_word_call c ≡ true → IsChecked (refusal_of c me) c (word_reply words c)
+word-checked words me (call.Load at) is = check_load (nat_le (length words) at) at (slice_index words at)
+word-checked words me (call.Store at value) is = check_store (nat_le (length words) at) at value
+word-checked words me _ is = cc
+
+bytes_load : (b : Bool) (n : ℕ) → bytes_in (if b then reply.BadWord else reply.Number n) ≡ 0
+bytes_load true n = refl
+bytes_load false n = refl
+
+bytes_store : (b : Bool) → bytes_in (if b then reply.BadWord else reply.Done) ≡ 0
+bytes_store true = refl
+bytes_store false = refl
+
+-- the private state stays
+pub word-after : (words : List ℕ) (me : Private) (tx : ℕ) (c : Call) → is_word_call c ≡ true → IsMeAfter tx c (word_reply words c) me me
+word-after words me tx (call.Load at) is =
+    let none = bytes_load (nat_le (length words) at) (slice_index words at) in record { places = refl; made = refl; stored = omega (arith, none) }
+word-after words me tx (call.Store at value) is =
+    let none = bytes_store (nat_le (length words) at) in record { places = refl; made = refl; stored = omega (arith, none) }
+word-after words me tx _ is = cc
+
+-- and the host isn't called
+pub word-uses : (me : Private) (c : Call) (r : Reply) → is_word_call c ≡ true → CallsOf (refusal_of c me) c r []
+word-uses me (call.Load at) r is = refl
+word-uses me (call.Store at value) r is = refl
+word-uses me _ r is = cc
 
 -- ---- other calls
 -- they store to no word

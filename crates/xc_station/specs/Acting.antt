@@ -12,11 +12,17 @@ use Rattle.xc_data.specs.declared.undo.Undo.{Undo}
 use Rattle.xc_file.specs.Calls.{IsNewIn, IsOpenIn}
 use Rattle.xc_host.specs.Contents.{Contents}
 use Rattle.xc_host.specs.Model.{HostModel}
+use Rattle.xc_host.specs.Uses.{CallsOf, Uses}
+use Rattle.xc_script.specs.declared.ask.Ask.TheVariants as ask
 use Rattle.xc_txmem.specs.Overlay.{AreWithin, overlaid}
 use Rattle.xc_wordlocks.specs.Held.{HasRoomFor}
+use Rattle.xc_world.specs.After.{IsMeAfter}
+use Rattle.xc_world.specs.Checks.{IsChecked, refusal_of}
 use Rattle.xc_world.specs.Late.{kept_call}
+use Rattle.xc_world.specs.Trail.{recorded}
+use Rattle.xc_world.specs.World.{World}
 use Rattle.xc_story.specs.declared.phase.Phase.TheVariants.{Running}
-use Rattle.xc_story.specs.Rows.{DoesIn, DoesPartIn, IsReplyInTime, Parts, parts_of, stored_by}
+use Rattle.xc_story.specs.Rows.{DoesIn, DoesPartIn, IsReplyInTime, Parts, StopsAt, parts_of, stored_by}
 use Rattle.xc_story.specs.Seen.{SeenTx}
 use Rattle.xc_story.specs.WordCalls.{IsWordStep}
 use Rattle.xc_station.specs.declared.tx.Tx.{Tx}
@@ -67,27 +73,34 @@ abbrev pub leaving : SeenTx → List Undo → SeenTx
 leaving tx left = record tx { undo = record tx.undo { pending = tx.undo.pending ++ left } }
 
 module _ {H : Type 0} (model : HostModel H) (call : Call) (old new : Acting H) where
-  -- the call was done with this reply, as a row of calls says it: its stores, its records, its part on words, its fault,
-  -- whether it is kept for the commit, and over a host that tells the plain machine's step
+  -- the call was done with this reply, as a row of calls says it: whether a check refused it, its private state, its stores, its
+  -- records, its part on words, its calls of the host, its fault, whether it is kept for the commit, and over a host that tells
+  -- the plain machine's step
   pub record HasDone (reply : Reply) : Type 0 where
     pub tx : new.tx ≡ with_parts old.tx call reply (parts_of new.tx)
+    pub checked : IsChecked (refusal_of call old.tx.me) call reply
+    pub after : IsMeAfter old.tx.number call reply old.tx.me new.tx.me
     pub stores : new.tx.writes ≡ old.tx.writes ++ stored_by (length old.words) call
     pub stored : new.tx.me.stored ≤ 16384
     pub made : List Undo
     pub one : length made ≤ 1
+    pub count : (w : World) → length made ≡ length (recorded w old.tx.me old.tx.number call reply)
     pub undo : new.tx.undo ≡ record old.tx.undo { pending = old.tx.undo.pending ++ made }
     pub in_time : IsReplyInTime old.tx.me old.tx.number call reply
+    pub uses : Uses model (record { old = old.host; new = new.host }) (CallsOf (refusal_of call old.tx.me) call reply)
     pub cause : CountsFault (is_fault_reply reply) (model.fault_count old.host) (model.fault_count new.host)
     pub spoken : IsWordStep (overlaid old.words old.tx.writes) (overlaid old.words new.tx.writes) call reply
     pub does : IsTrue model.tells
         → DoesIn old.words (model.contents old.host) (model.contents new.host) (parts_of old.tx) (parts_of new.tx) call reply
 
-  -- memory was wanting: the transaction is as before but for what the call left, at most one record. Over a host that
-  -- tells nothing was left and nothing is changed, or with some answer the call did its part
+  -- memory was wanting: the transaction is as before but for what the call left, at most one record, and the host was called for
+  -- no more than the call. Over a host that tells nothing was left and nothing is changed, or with some answer the call did its
+  -- part
   pub record LeavesOff : Type 0 where
     pub left : List Undo
     pub one : length left ≤ 1
     pub tx : new.tx ≡ leaving old.tx left
+    pub uses : Uses model (record { old = old.host; new = new.host }) (StopsAt (ask.Call call))
     pub faults : model.fault_count new.host ≡ model.fault_count old.host
     pub contents : IsTrue model.tells
         → ((left ≡ []) × (model.contents new.host ≡ model.contents old.host))

@@ -2,5 +2,6 @@ pub mod Acting
 pub mod Beginning
 pub mod Jobs
 pub mod Moments
+pub mod PutBack
 pub mod Stations
 pub mod Waits

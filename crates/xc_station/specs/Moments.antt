@@ -85,6 +85,7 @@ module _ {H : Type 0} (model : HostModel H) (shared : Shared H) where
     pub words : now.words ≡ shared.words
     pub contents : now.contents ≡ model.contents shared.host
     pub faults : now.faults ≡ model.fault_count shared.host
+    pub calls : now.calls ≡ model.calls shared.host
     pub stands : slice_get now.jobs at ≡ Some job
     pub marks : now.marks ≡ marks_of shared.sentinels.seats
     pub table : IsTable shared.sentinels.claims now.jobs
@@ -99,6 +100,7 @@ module _ {H : Type 0} (model : HostModel H) (shared : Shared H) where
         words = shared.words;
         contents = model.contents shared.host;
         faults = model.fault_count shared.host;
+        calls = model.calls shared.host;
         jobs = slice_set now.jobs at job;
         marks = marks_of shared.sentinels.seats;
       }

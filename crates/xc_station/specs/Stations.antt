@@ -49,6 +49,7 @@ now_of model station =
       words = station.words;
       contents = model.contents station.host;
       faults = model.fault_count station.host;
+      calls = model.calls station.host;
       journal = station.journal;
       jobs = seen_jobs station.jobs;
       started = blocks_of (seen_jobs station.jobs);
@@ -119,6 +120,10 @@ pub record ChangesOne (at : ℕ) (old new : Now) : Type 0 where
   pub jobs : new.jobs ≡ slice_set old.jobs at behind
   pub front : IsFrontOf old.journal new.journal
 
+-- its jobs ran one after another
+abbrev pub RanAlone : {H : Type 0} → HostModel H → Seen H → Type 0
+RanAlone model station = (at : ℕ) × AreAlone (now_of model station) at
+
 -- all that a run of turns keeps: also the number of jobs
 pub record GoesOn {H : Type 0} (old new : Seen H) : Type 0 where
   pub origin : KeepsOrigin old new
@@ -133,9 +138,11 @@ pub record WorksOn {H : Type 0} (model : HostModel H) (job : ℕ) (old new : See
 
 -- ---- a list of turns
 module _ {H : Type 0} (model : HostModel H) (job : ℕ) (old new : Seen H) where
-  -- a job that goes on takes its turn, a row of the table; one that doesn't is passed over, and all but the events stays
+  -- a job that goes on takes its turn, a row of the table, and the opening and what is taken stays; one that doesn't is passed
+  -- over, and all but the events stays
   abbrev pub IsStepOf : Bool → Type 0
-  IsStepOf true = (answer : Turn) × IsTurn (setting_of model old) (job - 1) (now_of model old) answer (now_of model new)
+  IsStepOf true =
+      (answer : Turn) × IsTurn (setting_of model old) (job - 1) (now_of model old) answer (now_of model new) × KeepsOpening old new
   IsStepOf false = new ≡ record old { events = new.events; last = new.last }
 
 -- the jobs of these numbers do so one after another
@@ -157,9 +164,10 @@ pub record IsEvent {H : Type 0} (old new : Seen H) (event : Event) : Type 0 wher
   pub count : new.events ≡ (old.events + 1) % 18446744073709551616
   pub last : new.last ≡ Some event
 
--- a job that goes on takes its turn; for one that doesn't nothing is done
+-- a job that goes on takes its turn, and the opening and what is taken stays; for one that doesn't nothing is done
 abbrev pub IsTried : {H : Type 0} → HostModel H → ℕ → Seen H → Seen H → Bool → Option Turn → Type 0
-IsTried model job old new true (Some answer) = IsTurn (setting_of model old) (job - 1) (now_of model old) answer (now_of model new)
+IsTried model job old new true (Some answer) =
+    IsTurn (setting_of model old) (job - 1) (now_of model old) answer (now_of model new) × KeepsOpening old new
 IsTried model job old new false None = new ≡ noted old (Turned job None)
 IsTried model job old new _ _ = ⊥
 
@@ -200,6 +208,7 @@ moment model shared journal jobs =
       words = shared.words;
       contents = model.contents shared.host;
       faults = model.fault_count shared.host;
+      calls = model.calls shared.host;
       journal = journal;
       jobs = seen_jobs jobs;
       started = blocks_of (seen_jobs jobs);
@@ -211,3 +220,14 @@ pub record IsNextOf (jobs : List Job) (taken number : ℕ) : Type 0 where
   pub above : taken < number
   pub live : live_at jobs number ≡ true
   pub first : (other : ℕ) → taken < other → other < number → live_at jobs other ≡ false
+
+-- between a number and this one, at most one past the last, no job lives
+pub record IsAhead (jobs : List Job) (number next : ℕ) : Type 0 where
+  pub above : number < next
+  pub within : next ≤ length jobs + 1
+  pub ended : (other : ℕ) → number < other → other < next → live_at jobs other ≡ false
+
+-- there is such a number for 0 and for each job
+pub record AreAhead (jobs : List Job) (ahead : List ℕ) : Type 0 where
+  pub count : length ahead ≡ length jobs + 1
+  pub each : (number next : ℕ) → slice_get ahead number ≡ Some next → IsAhead jobs number next

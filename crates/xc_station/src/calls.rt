@@ -1,18 +1,21 @@
-ghost use Rattle.std.specs.Prelude.{◌≡◌, ◌<◌, ◌++◌, ◌∷◌, List, true, false, length, IfOk, OnOk, OnErr, IsTrue};
+ghost use Rattle.std.specs.Prelude.{◌≡◌, ◌<◌, ◌++◌, ℕ, slice_set, true, false, length, IfOk, OnOk, OnErr, IsTrue};
 ghost use Rattle.xc_data.specs.declared.call.Call.TheVariants as PlainCall;
 ghost use Rattle.xc_script.specs.declared.ask.Ask.TheVariants.{Call as AskedCall};
 ghost use Rattle.xc_script.specs.Ask.{asks, answered};
 ghost use Rattle.xc_script.specs.Position.{walk_of, IsSettled};
 ghost use Rattle.xc_txmem.specs.Overlay.{overlaid, AreWithin};
+ghost use Rattle.xc_data.specs.declared.private.Private.{Private as PlainPrivate};
+ghost use Rattle.xc_world.specs.After.{IsMeAfter};
 ghost use Rattle.xc_world.specs.Late.{is_late};
 ghost use Rattle.xc_story.specs.WordCalls.{is_word_call, word_reply, words_after};
 ghost use Rattle.xc_story.specs.Rows.{IsSameBegin, is_built, stored_by};
 ghost use Rattle.xc_station.specs.Acting.{AreReadyFor, HasActed, MayGo, acting};
 ghost use Rattle.xc_station.specs.Jobs.{begun_of, seen_tx};
+ghost use Rattle.xc_station.specs.PutBack.{changed_at, handle_in, place_before};
 
 use crate::tx::Tx;
 use std::alloc::Global;
-use xc_data::{Call, NoMemory, Reply};
+use xc_data::{Call, NoMemory, Place, Private, Reply};
 use xc_file::{
     x_close, x_create, x_len, x_open, x_read, x_rename, x_seek, x_sync, x_unlink, x_write_ovr,
     x_write_seq,
@@ -107,6 +110,83 @@ fn is_on_words(call: &Call) -> bool
     matches!(call, Call::Load { .. } | Call::Store { .. })
 }
 
+// What a call may change of the private state, as it was before.
+#[derive(Clone, Copy)]
+struct Before {
+    place: Place,
+    made: u16,
+    stored: u32,
+}
+
+// What stands at the handle that a call may change; nothing, where it gives one. Calls that aren't named change none.
+fn place_before(me: &Private, call: &Call) -> Place
+    ensures { result ≡ place_before call.now me.now.places }
+{
+    match call {
+        Call::XRead { h, .. } => me.place(*h),
+        Call::XWriteOvr { h, .. } => me.place(*h),
+        Call::XWriteSeq { h, .. } => me.place(*h),
+        Call::XSeek { h, .. } => me.place(*h),
+        Call::XClose { h } => me.place(*h),
+        _ => Place::Vacant,
+    }
+}
+
+fn state_before(me: &Private, call: &Call) -> Before
+    ensures { result ≡ record { place = place_before call.now me.now.places; made = me.now.made; stored = me.now.stored } }
+{
+    Before {
+        place: place_before(me, call),
+        made: me.made,
+        stored: me.stored,
+    }
+}
+
+fn handle_in(reply: &Reply) -> Option<u16>
+    ensures { result ≡ handle_in reply.now }
+{
+    match reply {
+        Reply::Made(h) => Some(*h),
+        _ => None,
+    }
+}
+
+// The handle at which a call with this reply may have changed what stands there. Calls that aren't named change none.
+fn changed_at(call: &Call, reply: &Reply) -> Option<u16>
+    ensures { result ≡ changed_at call.now reply.now }
+{
+    match call {
+        Call::XOpen { .. } => handle_in(reply),
+        Call::XCreate { .. } => handle_in(reply),
+        Call::XRead { h, .. } => Some(*h),
+        Call::XWriteOvr { h, .. } => Some(*h),
+        Call::XWriteSeq { h, .. } => Some(*h),
+        Call::XSeek { h, .. } => Some(*h),
+        Call::XClose { h } => Some(*h),
+        _ => None,
+    }
+}
+
+fn put_place(places: &mut [Place; 256], h: u16, place: Place)
+    ensures { places.new ≡ slice_set places.old h place }
+{
+    if (h as usize) < places.len() {
+        places[h as usize] = place;
+    }
+}
+
+// The private state is as it was before the call.
+fn put_back(me: &mut Private, call: &Call, reply: &Reply, before: &Before)
+    ensures { (tx : ℕ) (was : PlainPrivate) → IsMeAfter tx call.now reply.now was me.old
+        → before.now ≡ record { place = place_before call.now was.places; made = was.made; stored = was.stored } → me.new ≡ was }
+{
+    if let Some(h) = changed_at(call, reply) {
+        put_place(&mut me.places, h, before.place);
+    }
+    me.made = before.made;
+    me.stored = before.stored;
+}
+
 // A call that may change the handles. They are put back where memory is wanting behind it, for the variable that takes the
 // reply.
 fn do_host_call<H: Host>(
@@ -131,10 +211,10 @@ fn do_host_call<H: Host>(
     ensures acted { HasActed H.model call.now (acting host.old words.now tx.old) (acting host.new words.now tx.new) result }
 {
     tx.keep();
-    let before = *tx.me;
+    let before = state_before(&tx.me, call);
     let reply = act(alloc, host, words, tx, call)?;
     if place.answer(script, &reply).is_err() {
-        *tx.me = before;
+        put_back(&mut tx.me, call, &reply, &before);
         return Err(NoMemory);
     }
     Ok(reply)

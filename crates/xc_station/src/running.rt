@@ -114,6 +114,7 @@ fn try_call<H: Host>(
     requires count { length shared.old.words ≤ 4096 }
     requires ready { IsTrue H.model.tells → AreReadyFor (seen_tx tx.old) (H.model.contents shared.old.host) }
     ensures words { shared.new.words ≡ shared.old.words }
+    ensures plan { H.model.plan shared.new.host ≡ H.model.plan shared.old.host }
     ensures seats { KeepsSeated shared.old.sentinels.seats shared.new.sentinels.seats }
     ensures waits { (object : Object) (holder : ℕ) → result ≡ Turn.Busy object holder → terms.patient ≡ true }
     ensures begun { begun_of tx.new ≡ begun_of tx.old }
@@ -150,6 +151,7 @@ fn go<H: Host>(
     requires count { length shared.old.words ≤ 4096 }
     requires ready { IsTrue H.model.tells → AreReadyFor (seen_tx tx.old) (H.model.contents shared.old.host) }
     ensures count { length shared.new.words ≡ length shared.old.words }
+    ensures plan { H.model.plan shared.new.host ≡ H.model.plan shared.old.host }
     ensures seats { KeepsSeated shared.old.sentinels.seats shared.new.sentinels.seats }
     ensures waits { (object : Object) (holder : ℕ) → result ≡ Turn.Busy object holder → terms.patient ≡ true }
     ensures begun { begun_of tx.new ≡ begun_of tx.old }
@@ -229,6 +231,7 @@ pub fn run<H: Host>(
     requires running { CanRun script.now H.model shared.old (seen_job job.old) }
     requires count { length shared.old.words ≤ 4096 }
     ensures count { length shared.new.words ≡ length shared.old.words }
+    ensures plan { H.model.plan shared.new.host ≡ H.model.plan shared.old.host }
     ensures block { job.new.block ≡ job.old.block }
     ensures row { (now : Now) (at : ℕ) → let s = setting script.now rules.now H.model.tells in
         IsAt H.model shared.old now at (seen_job job.old) → length now.journal ≡ entered

@@ -1,9 +1,8 @@
-ghost use Rattle.std.specs.Prelude.{◌≡◌, ◌<◌, ◌+◌, ◌-◌, ◌%◌, ◌^◌, ℕ, true, false, length, slice_index, Option, Some};
+ghost use Rattle.std.specs.Prelude.{◌≡◌, ◌<◌, ◌≤◌, ◌+◌, ◌-◌, ◌%◌, ◌^◌, ℕ, true, false, length, slice_index, Option, Some};
 ghost use Rattle.xc_data.specs.declared.entry.Event.TheVariants.{Turned};
 ghost use Rattle.xc_story.specs.Alone.{AreAlone};
-ghost use Rattle.xc_story.specs.Truth.{IsSerial};
 ghost use Rattle.xc_station.specs.Stations.{GoesOn, IsStepOf, KeepsOrigin, IsFrontOf, NobodyLives, TakeRound, TakeRounds, TakeTurns};
-ghost use Rattle.xc_station.specs.Stations.{WorksOn};
+ghost use Rattle.xc_station.specs.Stations.{RanAlone, WorksOn};
 ghost use Rattle.xc_station.specs.Stations.{live_at, now_of, turns_of};
 
 use crate::Station;
@@ -39,9 +38,14 @@ pub fn work_alone<H: Host>(station: &mut Station<H>)
     ensures origin { KeepsOrigin station.old station.new }
     ensures front { IsFrontOf station.old.journal station.new.journal }
 
-    // From a start on, all jobs end, and their transactions run one after another.
+    // It takes each job that isn't taken, in rising number, to its end, and no other.
+    ensures taken { station.new.taken ≡ length station.new.jobs }
+    ensures done { (number : ℕ) → station.old.taken < number → live_at station.new.jobs number ≡ false }
+    ensures others { (number : ℕ) → number ≤ station.old.taken → live_at station.new.jobs number ≡ live_at station.old.jobs number }
+
+    // From a start on, all jobs end, and they run one after another.
     ensures ended { station.old.taken ≡ 0 → NobodyLives station.new.jobs }
-    ensures serial { station.old.taken ≡ 0 → AreAlone (now_of H.model station.old) 0 → IsSerial station.new.journal }
+    ensures alone { station.old.taken ≡ 0 → AreAlone (now_of H.model station.old) 0 → RanAlone H.model station.new }
 {
     while let Some(job) = station.next_job() {
         work_job(station, job);
@@ -73,13 +77,12 @@ fn round<H: Host>(station: &mut Station<H>) -> bool
     ensures none { result ≡ false → NobodyLives station.new.jobs }
     ensures round { TakeRound H.model station.old station.new }
 {
-    let mut more = false;
-    for job in 1..station.count() + 1 {
-        if step(station, job) {
-            more = true;
-        }
+    let mut at = 0;
+    while let Some(job) = station.next_live(at) {
+        station.turn(job);
+        at = job;
     }
-    more
+    at > 0
 }
 
 /// Rounds of turns, in each one of every job that goes on, in rising number, until none does.

@@ -1,9 +1,10 @@
-ghost use Rattle.std.specs.Prelude.{◌≡◌, ◌<◌, ◌≤◌, ◌-◌, ℕ, length, [], ◌&&◌, not, true, false};
-ghost use Rattle.std.specs.Prelude.{All, IfOk, IfErr, map, sum_by, IsTrue, MatchOption, Some};
-ghost use Rattle.xc_data.specs.Counts.{CountsFaults};
+ghost use Rattle.std.specs.Prelude.{◌≡◌, ◌<◌, ◌≤◌, ◌-◌, ◌+◌, ℕ, length, [], ◌&&◌, not, true, false};
+ghost use Rattle.std.specs.Prelude.{All, IfOk, IfErr, map, sum_by, IsTrue, IsNone, MatchOption, Some};
+ghost use Rattle.xc_data.specs.Counts.{RisesBy};
 ghost use Rattle.xc_data.specs.Faults.{entry_faults};
 ghost use Rattle.xc_data.specs.Limits.{KeepsLimits};
 ghost use Rattle.xc_host.specs.Contents.{needs_scripted, opened};
+ghost use Rattle.xc_host.specs.Model.{plan_of};
 ghost use Rattle.xc_text.specs.Scripts.{IsScript};
 ghost use Rattle.xc_story.specs.Ending.{IsTrueEnd};
 ghost use Rattle.xc_story.specs.Kept.{AreLinesOf, IsLineOf};
@@ -16,7 +17,7 @@ ghost use Rattle.xc_station.specs.declared.job.Job.{Job as PlainJob};
 ghost use Rattle.xc_station.specs.Jobs.{IsStage, is_live, seen_job, seen_jobs};
 ghost use Rattle.xc_data.specs.declared.entry.Event.TheVariants.{Turned, Picked, Looked};
 ghost use Rattle.xc_station.specs.Waits.{IsFairWait};
-ghost use Rattle.xc_station.specs.Stations.{ChangesOne, IsEvent, IsNextOf, IsTried, KeepsEvents, KeepsOpening, NobodyLives};
+ghost use Rattle.xc_station.specs.Stations.{AreAhead, ChangesOne, IsEvent, IsNextOf, IsTried, KeepsEvents, KeepsOpening, NobodyLives};
 ghost use Rattle.xc_station.specs.Stations.{live_at, noted, now_of, setting_of};
 
 use crate::begin::begin;
@@ -51,6 +52,8 @@ pub struct Station<H: Host> {
     jobs: Vec<Job>,
     // Room for a line of each job.
     lines: Roomy<JobLine>,
+    // For 0 and for each job a greater number: the jobs between have ended. One past the last is there where no more follow.
+    ahead: Vec<u32>,
     // Jobs in the places below this one were taken, or have ended.
     taken: usize,
     // How many events there were, modulo 2^64, and the last of them.
@@ -59,11 +62,13 @@ pub struct Station<H: Host> {
 }
 
 impl<H: Host> Model for Station<H> {
+    ghost use Rattle.std.specs.Prelude.{◌≡◌, ◌≤◌, length};
     ghost use Rattle.std.specs.Coded.{codes};
+    ghost use Rattle.xc_host.specs.Model.{plan_of};
     ghost use Rattle.xc_script.specs.Position.{coded_position};
     ghost use Rattle.xc_sentinel.specs.Seated.{coded_seats};
     ghost use Rattle.xc_story.specs.Setting.{setting};
-    ghost use Rattle.xc_station.specs.Stations.{Seen, IsSteady, HasRooms, moment};
+    ghost use Rattle.xc_station.specs.Stations.{Seen, AreAhead, IsSteady, HasRooms, moment};
 
     ghost Value = { Seen H };
 
@@ -84,7 +89,10 @@ impl<H: Host> Model for Station<H> {
 
     ghost invariant = { λ s. IsSteady (setting s.opening.script s.rules H.model.tells) s.opening.faults
         (moment H.model s.shared s.journal.items s.jobs.items)
-        × HasRooms s.shared.sentinels s.active s.journal.spare (moment H.model s.shared s.journal.items s.jobs.items) s.lines };
+        × HasRooms s.shared.sentinels s.active s.journal.spare (moment H.model s.shared s.journal.items s.jobs.items) s.lines
+        × AreAhead s.jobs.items s.ahead.items
+        × (s.taken ≤ length s.jobs.items)
+        × (H.model.plan s.shared.host ≡ plan_of s.opening.script.outline.prologue) };
 }
 
 impl<H: Host> Station<H> {
@@ -109,6 +117,25 @@ impl<H: Host> Station<H> {
         self.jobs.len() as u32
     }
 
+    /// The live job with the smallest number above this one. A job that has ended isn't looked at again from the same number on.
+    pub fn next_live(&mut self, above: u32) -> Option<u32>
+        requires { above ≤ length self.old.jobs }
+        ensures same { self.new ≡ self.old }
+        ensures next { MatchOption result ((number : ℕ) → above < number → live_at self.old.jobs number ≡ false)
+            (λ job. IsNextOf self.old.jobs above job) }
+    {
+        let mut next = self.ahead[above as usize];
+        while next <= self.count() && !self.live(next) {
+            next = self.ahead[next as usize];
+        }
+        self.ahead[above as usize] = next;
+        if next <= self.count() {
+            Some(next)
+        } else {
+            None
+        }
+    }
+
     // The live job with the smallest number that isn't taken. It is taken from then on.
     fn take_next(&mut self) -> Option<u32>
         ensures jobs { self.new.jobs ≡ self.old.jobs }
@@ -118,6 +145,8 @@ impl<H: Host> Station<H> {
         ensures first { MatchOption result
             ((number : ℕ) → self.old.taken < number → live_at self.old.jobs number ≡ false)
             (λ job. IsNextOf self.old.jobs self.old.taken job × (self.new.taken ≡ job)) }
+        ensures taken { (self.old.taken ≤ self.new.taken) × (self.new.taken ≤ length self.new.jobs) }
+        ensures all { IsNone result → self.new.taken ≡ length self.new.jobs }
     {
         while self.taken < self.jobs.len() {
             self.taken += 1;
@@ -339,7 +368,8 @@ impl<H: Host> Station<H> {
         None
     }
 
-    /// The live job with the smallest number that isn't taken. It is taken from then on.
+    /// The live job with the smallest number that isn't taken. It is taken from then on: nothing else changes what is taken, so each
+    /// job is handed out once at most.
     pub fn next_job(&mut self) -> Option<u32>
         ensures jobs { self.new.jobs ≡ self.old.jobs }
         ensures same { (self.new.opening ≡ self.old.opening) × (self.new.rules ≡ self.old.rules)
@@ -347,6 +377,8 @@ impl<H: Host> Station<H> {
         ensures first { MatchOption result
             ((number : ℕ) → self.old.taken < number → live_at self.old.jobs number ≡ false)
             (λ job. IsNextOf self.old.jobs self.old.taken job × (self.new.taken ≡ job)) }
+        ensures taken { (self.old.taken ≤ self.new.taken) × (self.new.taken ≤ length self.new.jobs) }
+        ensures all { IsNone result → self.new.taken ≡ length self.new.jobs }
         ensures event { IsEvent self.old self.new (Picked result) }
     {
         let job = self.take_next();
@@ -421,17 +453,45 @@ fn room_for(alloc: Global, jobs: &Vec<Job>) -> Result<Roomy<JobLine>, NoMemory>
     Ok(lines)
 }
 
+// For 0 and each of these jobs the next number.
+fn ahead_of(alloc: Global, jobs: &Vec<Job>) -> Result<Vec<u32>, NoMemory>
+    requires { length jobs.now.items ≤ 1000 }
+    ensures { IfOk result (λ ahead. AreAhead jobs.now.items ahead.items) }
+{
+    let mut ahead = Vec::with_capacity(alloc, jobs.len() + 1)?;
+    for number in 0..jobs.len() + 1 {
+        ahead.push(number as u32 + 1)?;
+    }
+    Ok(ahead)
+}
+
+// What a start takes memory for.
+#[derive(Drop)]
+struct Rooms {
+    words: Words,
+    jobs: Vec<Job>,
+    lines: Roomy<JobLine>,
+    ahead: Vec<u32>,
+}
+
 // The memory of a start.
-fn rooms(alloc: Global, script: &Script) -> Result<(Words, Vec<Job>, Roomy<JobLine>), NoMemory>
+fn make_rooms(alloc: Global, script: &Script) -> Result<Rooms, NoMemory>
     requires { IsScript script.now }
-    ensures words { IfOk result (λ made. made.0 ≡ script.now.outline.words) }
-    ensures jobs { IfOk result (λ made. seen_jobs made.1.items ≡ map (opened_job script.now) script.now.outline.jobs) }
-    ensures lines { IfOk result (λ made. (length made.1.items ≤ made.2.spare) × (made.2.items ≡ [])) }
+    ensures words { IfOk result (λ made. made.words ≡ script.now.outline.words) }
+    ensures jobs { IfOk result (λ made. seen_jobs made.jobs.items ≡ map (opened_job script.now) script.now.outline.jobs) }
+    ensures lines { IfOk result (λ made. (length made.jobs.items ≤ made.lines.spare) × (made.lines.items ≡ [])) }
+    ensures ahead { IfOk result (λ made. AreAhead made.jobs.items made.ahead.items) }
 {
     let words = Words::new(alloc, script.outline().words.as_slice())?;
     let jobs = opened_jobs(alloc, script)?;
     let lines = room_for(alloc, &jobs)?;
-    Ok((words, jobs, lines))
+    let ahead = ahead_of(alloc, &jobs)?;
+    Ok(Rooms {
+        words,
+        jobs,
+        lines,
+        ahead,
+    })
 }
 
 impl<H: Host> Station<H> {
@@ -458,7 +518,7 @@ impl<H: Host> Station<H> {
     {
         let mut host = host;
         let faults = host.faults();
-        let Ok((words, jobs, lines)) = rooms(alloc, &script) else {
+        let Ok(rooms) = make_rooms(alloc, &script) else {
             return Err(NotStarted {
                 host,
                 why: OpenErr::NoMemory,
@@ -475,13 +535,14 @@ impl<H: Host> Station<H> {
             rules,
             shared: Shared {
                 host,
-                words,
+                words: rooms.words,
                 sentinels,
             },
             journal,
             active: 0,
-            jobs,
-            lines,
+            jobs: rooms.jobs,
+            lines: rooms.lines,
+            ahead: rooms.ahead,
             taken: 0,
             events: 0,
             last: None,
@@ -494,12 +555,14 @@ impl<H: Host> Station<H> {
         ensures opening { result.opening ≡ self.opening }
         ensures handed { (result.host ≡ self.host) × (result.words ≡ self.words) × (result.journal.items ≡ self.journal)
             × AreLinesOf (seen_jobs self.jobs) result.jobs }
-        ensures few { length result.journal.items ≤ 10000 }
         ensures whole { IsTrueEnd (setting self.opening.script self.rules H.model.tells) result.journal.items
             (record { words = result.words; contents = H.model.contents result.host; lines = result.jobs }) }
 
         // The host's count rose by the faults that are recorded, and stayed where none is.
-        ensures faults { CountsFaults (sum_by entry_faults result.journal.items) self.opening.faults (H.model.fault_count result.host) }
+        ensures faults { RisesBy (sum_by entry_faults result.journal.items) self.opening.faults (H.model.fault_count result.host) }
+
+        // It followed the script's own faults and grain to the end.
+        ensures plan { H.model.plan result.host ≡ plan_of result.opening.script.outline.prologue }
     {
         let Station {
             opening,

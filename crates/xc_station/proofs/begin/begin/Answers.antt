@@ -1,6 +1,5 @@
 use Rattle.std.proofs.Common.{◌≡◌, ◌+◌, ℕ, refl, ap, sym, arith, ◌∙◌, Option, Some, None, true}
 use Rattle.xc_data.specs.declared.entry.JobEnd.TheVariants as job_end
-use Rattle.xc_data.specs.declared.entry.Turn.TheVariants as turn
 use Rattle.xc_data.specs.declared.entry.Mark.{Mark}
 use Rattle.xc_script.specs.Position.{Position}
 use Rattle.xc_sentinel.specs.Seating.{KeepsSeats, SetsSeat}

@@ -1,4 +1,7 @@
-use Rattle.std.proofs.Common.{ap, subst, sym}
+use Rattle.std.proofs.Common.{ap, subst, sym, ◌∙◌}
+use Rattle.xc_world.specs.After.{IsMeAfter}
+use Rattle.xc_station.specs.declared.calls.Before.{Before}
+use Rattle.xc_station.specs.PutBack.{place_before}
 use Rattle.xc_data.specs.declared.private.Private.{Private}
 use Rattle.xc_story.specs.Seen.{SeenTx}
 use Rattle.xc_station.specs.Acting.{LeavesOff, acting}
@@ -10,11 +13,18 @@ use Rattle.xc_station.proofs.calls.do_host_call.Goals as goal
 
 pub returns-then-is_err-clause-acted : goal.returns-then-is_err-clause-acted
 returns-then-is_err-clause-acted g c =
+    let model = g.H.Host.model in
     let old = λ (t : SeenTx). record (acting c.args.host.now c.args.words.now c.args.tx.now) { tx = t } in
     let done = acting c.act.new.host c.args.words.now c.act.new.tx in
     let behind = λ (me : Private). record done { tx = record done.tx { me = me } } in
-    subst (λ t. LeavesOff g.H.Host.model c.args.call.now (old t) (behind c.deref-before.result.now)) c.keep.ensures.tx
-    (unanswered g.H.Host.model _ _ _ _ _ c.in_ok-reply.ensures.acted
+    let acted = c.in_ok-reply.ensures.acted in
+    let was = c.keep.new.self.me.value in
+    let kept = c.state_before-before.ensures
+    ∙ ap (λ (me : Private). let b : Before = record { place = place_before c.args.call.now me.places; made = me.made; stored = me.stored } in b)
+    c.deref.ensures in
+    let after = subst (IsMeAfter c.keep.new.self.number c.args.call.now c.in_ok-reply.reply was) (sym c.deref_mut.ensures.value) acted.after in
+    subst (λ t. LeavesOff model c.args.call.now (old t) (behind c.put_back.new.me)) c.keep.ensures.tx
+    (unanswered model _ _ _ _ _ acted
     (built_untaken c.args.call.now (asked_built (walk_of c.args.script.now c.args.place.now) c.args.call.now c.requires.asked))
-    (ap behind c.deref-before.ensures)
+    (ap behind (c.put_back.ensures c.keep.new.self.number was after kept))
     (wants_value c.answer.result _ (sym c.if-is_err.ensures.value) c.answer.ensures.lasting))

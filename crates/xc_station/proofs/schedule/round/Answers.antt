@@ -1,38 +1,39 @@
-use Rattle.std.proofs.Common.{◌<◌, sym, subst, ◌∙◌, arith}
-use Rattle.xc_station.specs.Stations.{turns_of}
-use Rattle.xc_station.proofs.Runs.{all_ended, ended_further, falls_further, goes_further, round_more}
-use Rattle.xc_station.proofs.schedule.round.Goals.{then-step, else-step}
+use Rattle.std.proofs.Common.{◌-◌, ◌<◌, sym, subst, arith}
+use Rattle.xc_story.specs.Rows.{IsTurn}
+use Rattle.xc_station.specs.Stations.{ChangesOne, IsStepOf, KeepsOpening, TakeRound, now_of, setting_of, turns_of}
+use Rattle.xc_station.proofs.Runs.{falls_further, goes_further, live_within, next_turned, round_over, turn_goes}
 use Rattle.xc_station.proofs.schedule.round.Goals as goal
 
 pub loop-job-preserved : goal.loop-job-preserved
 loop-job-preserved g c =
     let model = g.H.Host.model in
+    let first = c.args.station.now in
+    let old = c.loop-job.station in
+    let new = c.turn.new.self in
     let was = c.loop-job.invariant in
-    let old = c.args.station.now in
-    let mid = c.loop-job.station in
-    let new = c.step.new.station in
-    let step = c.step.ensures in
-    let goes = goes_further old mid new was.goes step.goes in
-    let turns = round_more model c.loop-job.job old mid new c.loop-job.auto.job was.turns step.step in
-    elim c.if-step.branch [
-      | then-step w ↦ record {
-        goes = goes;
-        falls = λ yes. falls_further model c.loop-job.more old mid new was.falls was.same (step.falls w.if-step.true);
-        same = λ no. let clash = sym w.more-is ∙ no in absurd (cc);
-        turns = turns;
-        ended = λ no. let clash = sym w.more-is ∙ no in absurd (cc);
-      }
-      | else-step w ↦ let still = step.still w.if-step.false in record {
-        goes = goes;
-        falls = λ yes. subst (λ s. turns_of model s < turns_of model old) (sym still.0) (was.falls (sym w.more-is ∙ yes));
-        same = λ no. still.0 ∙ was.same (sym w.more-is ∙ no);
-        turns = turns;
-        ended = λ no. ended_further c.loop-job.job mid new still.0 still.1 (was.ended (sym w.more-is ∙ no));
-      }
-    ]
+    let job = c.in-Some.job in
+    let same = c.in-Some.ensures.same in
+    let next = c.in-Some.ensures.next in
+    let kept = subst (λ s. KeepsOpening s new) same c.turn.ensures.same in
+    let changes = subst (λ s. ChangesOne (job - 1) (now_of model s) (now_of model new)) same c.turn.ensures.changes in
+    let row = subst (λ s. IsTurn (setting_of model s) (job - 1) (now_of model s) c.turn.result (now_of model new)) same c.turn.ensures.row in
+    let fell = subst (λ s. turns_of model new < turns_of model s) same c.turn.ensures.falls in
+    let goes = turn_goes model job old new c.turn.result kept row changes in
+    let step = subst (IsStepOf model job old new) (sym next.live) (c.turn.result, row, kept) in
+    let low = live_within old.jobs job next.live in
+    let above = next.above in
+    let count = goes.count in
+    record {
+      goes = goes_further first old new was.goes goes;
+      within = omega (arith, low, count);
+      falls = λ _. falls_further model c.loop-job.at first old new was.falls was.same fell;
+      same = λ none. absurd (omega (arith, above, none));
+      turns = next_turned model c.loop-job.at job first old new next was.turns step;
+    }
 
-pub returns-clause-none : goal.returns-clause-none
-returns-clause-none g c = λ none.
-    let count = c.loop-job.invariant.goes.count in
-    all_ended c.loop-job.station.jobs c.loop-job.job (c.loop-job.invariant.ended none)
-    (omega (arith, count, c.count-job-end.ensures.all, c.loop-job-test.false))
+pub returns-clause-round : goal.returns-clause-round
+returns-clause-round g c =
+    let model = g.H.Host.model in
+    let first = c.args.station.now in
+    subst (TakeRound model first) (sym c.in_default.ensures.same)
+    (round_over model c.loop-job.at first c.loop-job.station c.loop-job.invariant.within c.loop-job.invariant.turns c.in_default.ensures.next)

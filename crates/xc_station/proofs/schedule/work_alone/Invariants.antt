@@ -1,14 +1,16 @@
-use Rattle.std.proofs.Common.{◌≡◌, ◌-◌, ◌≤◌, ℕ, length, false}
+use Rattle.std.proofs.Common.{◌≡◌, ◌-◌, ◌<◌, ◌≤◌, ℕ, length, false}
 use Rattle.xc_story.specs.Alone.{AreAlone}
 use Rattle.xc_station.specs.Stations.{GoesOn, live_at, now_of}
 use Rattle.xc_station.proofs.schedule.work_alone.Given as goal
 
--- from a start on, the jobs that were taken have ended, and the last of them was alone
+-- the jobs that were taken have ended, and the others are as they were; from a start on the last of them was alone
 abbrev pub invariant-loop-job : goal.invariant-loop-job
 invariant-loop-job g l =
     record {
       goes : GoesOn l.fn.station l.station;
-      ended : l.fn.station.taken ≡ 0 → (other : ℕ) → other ≤ l.station.taken → live_at l.station.jobs other ≡ false;
+      rises : l.fn.station.taken ≤ l.station.taken;
+      ended : (other : ℕ) → l.fn.station.taken < other → other ≤ l.station.taken → live_at l.station.jobs other ≡ false;
+      others : (other : ℕ) → other ≤ l.fn.station.taken → live_at l.station.jobs other ≡ live_at l.fn.station.jobs other;
       alone : l.fn.station.taken ≡ 0 → AreAlone (now_of g.H.Host.model l.fn.station) 0
           → AreAlone (now_of g.H.Host.model l.station) (l.station.taken - 1);
     }

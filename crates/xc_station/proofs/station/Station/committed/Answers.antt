@@ -6,8 +6,9 @@ use Rattle.xc_story.specs.Rows.{IsTurn}
 use Rattle.xc_station.specs.declared.calls.Shared.{Shared}
 use Rattle.xc_data.specs.declared.entry.Turn.TheVariants as turn
 use Rattle.xc_station.specs.declared.job.Stage.TheVariants as PlainStage
-use Rattle.xc_station.specs.Jobs.{IsStage, doing_of, seen_job}
+use Rattle.xc_station.specs.Jobs.{IsStage, doing_of, goes_on, seen_job}
 use Rattle.xc_station.specs.Stations.{moment, now_of, setting_of}
+use Rattle.xc_station.proofs.Ahead.{ahead_kept, taken_kept}
 use Rattle.xc_station.proofs.Placed.{get_map}
 use Rattle.xc_station.proofs.Ready.{fits_next, has_room, none_here}
 use Rattle.xc_station.proofs.RoomsKept.{rooms_entered}
@@ -104,6 +105,9 @@ invariant_of-self g c =
           c.self.invariant.1 s shared' c.enter.new.self.items c.enter.new.self.spare mine.tx c.self.invariant.0.kept.told mine.doing
           (ap active_of gave.0)
           freed some.0 c.enter.ensures.spare,
+      ahead_kept station.jobs.items at was job station.ahead.items is.stands (ap goes_on is.stage) c.self.invariant.2,
+      taken_kept station.jobs.items at job station.taken c.self.invariant.3,
+      c.self.invariant.4,
     )
 
 pub returns-clause-row : goal.returns-clause-row

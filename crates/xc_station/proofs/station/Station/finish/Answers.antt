@@ -1,6 +1,6 @@
 use Rattle.std.proofs.Common.{◌≡◌, ◌<◌, ap, sym, ◌∙◌, subst, length}
 use Rattle.std.specs.Prelude.{List, sum_by, slice_index_or}
-use Rattle.xc_data.specs.Counts.{CountsFaults}
+use Rattle.xc_data.specs.Counts.{RisesBy}
 use Rattle.xc_data.specs.Faults.{entry_faults}
 use Rattle.xc_story.specs.Ending.{IsTrueEnd}
 use Rattle.xc_story.specs.Kept.{AreLinesOf}
@@ -40,4 +40,4 @@ returns-clause-faults g c =
     let over : AreLinesOf (seen_jobs station.jobs.items) c.lines_of.result =
     subst (λ (all : List Job). AreLinesOf (seen_jobs all) c.lines_of.result) c.as_slice.ensures.value c.lines_of.ensures in
     let whole = counted_end (setting station.opening.script station.rules model.tells) station.opening.faults now c.lines_of.result c.self.invariant.0 over in
-    subst (λ v. CountsFaults (sum_by entry_faults station.journal.items) v.opening.faults (model.fault_count station.shared.host)) c.self.view_is whole
+    subst (λ v. RisesBy (sum_by entry_faults station.journal.items) v.opening.faults (model.fault_count station.shared.host)) c.self.view_is whole

@@ -5,8 +5,9 @@ use Rattle.xc_story.specs.Setting.{setting}
 use Rattle.xc_story.specs.Rows.{IsTurn}
 use Rattle.xc_data.specs.declared.entry.Turn.TheVariants as turn
 use Rattle.xc_station.specs.declared.job.Stage.TheVariants as PlainStage
-use Rattle.xc_station.specs.Jobs.{IsStage, doing_of}
+use Rattle.xc_station.specs.Jobs.{IsStage, doing_of, goes_on}
 use Rattle.xc_station.specs.Stations.{moment, now_of, setting_of}
+use Rattle.xc_station.proofs.Ahead.{ahead_kept, taken_kept}
 use Rattle.xc_station.proofs.Ready.{next_unseated}
 use Rattle.xc_station.proofs.RoomsKept.{rooms_idle_went, rooms_idle_halted}
 use Rattle.xc_station.proofs.Stages.{lent, idle_stage}
@@ -47,6 +48,9 @@ invariant_of-self g c =
           c.self.invariant.1 s c.begin-turn.new.sentinels journal.items journal.spare c.begin-turn.result (ap active_in (idle_stage
           (doing_of was) is.stage)) row c.begin-turn.ensures.claims c.begin-turn.ensures.seats c.self.invariant.0.kept.told
           went (c.begin-turn.ensures.room.0 went),
+      ahead_kept station.jobs.items at was job station.ahead.items is.stands (ap goes_on is.stage) c.self.invariant.2,
+      taken_kept station.jobs.items at job station.taken c.self.invariant.3,
+      c.self.invariant.4,
     )
 
 pub invariant_of-self-else-matches : goal.invariant_of-self-else-matches
@@ -74,6 +78,9 @@ invariant_of-self-else-matches g c =
           c.self.invariant.1 s c.begin-turn.new.sentinels journal.items journal.spare c.begin-turn.result
           (ap active_in (idle_stage (doing_of was) is.stage)) row
           c.begin-turn.ensures.claims c.begin-turn.ensures.seats ended c.begin-turn.ensures.room.1,
+      ahead_kept station.jobs.items at was job station.ahead.items is.stands (ap goes_on is.stage) c.self.invariant.2,
+      taken_kept station.jobs.items at job station.taken c.self.invariant.3,
+      c.self.invariant.4,
     )
 
 pub returns-then-matches-clause-row : goal.returns-then-matches-clause-row

@@ -1,10 +1,11 @@
-use Rattle.std.proofs.Common.{sym, subst}
+use Rattle.std.proofs.Common.{sym, subst, ◌∙◌, ap}
 use Rattle.std.specs.Prelude.{slice_set}
 use Rattle.xc_story.specs.Setting.{setting}
 use Rattle.xc_story.specs.Rows.{IsTurn}
 use Rattle.xc_station.specs.declared.job.Stage.TheVariants as PlainStage
-use Rattle.xc_station.specs.Jobs.{IsStage}
+use Rattle.xc_station.specs.Jobs.{IsStage, goes_on}
 use Rattle.xc_station.specs.Stations.{moment, now_of, setting_of}
+use Rattle.xc_station.proofs.Ahead.{ahead_kept, taken_kept}
 use Rattle.xc_station.proofs.Ready.{may_run, stands_now, few_words}
 use Rattle.xc_station.proofs.RoomsKept.{rooms_running}
 use Rattle.xc_station.proofs.Stages.{lent}
@@ -54,6 +55,9 @@ invariant_of-self g c =
       steady_kept s station.opening.faults at _ _ c.run.result c.self.invariant.0 turned,
       rooms_running model station.shared station.journal.items station.jobs.items at was job station.active station.journal.spare station.lines is.stands
           c.self.invariant.1 s shared' c.run.result row,
+      ahead_kept station.jobs.items at was job station.ahead.items is.stands (ap goes_on is.stage) c.self.invariant.2,
+      taken_kept station.jobs.items at job station.taken c.self.invariant.3,
+      c.run.ensures.plan ∙ c.self.invariant.4,
     )
 
 pub returns-clause-row : goal.returns-clause-row

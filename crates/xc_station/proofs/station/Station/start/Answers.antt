@@ -1,7 +1,8 @@
-use Rattle.std.proofs.Common.{ap, sym, ◌∙◌, subst, ◌≤◌}
+use Rattle.std.proofs.Common.{ap, sym, ◌∙◌, subst, ◌≤◌, arith}
 use Rattle.std.proofs.lemmas.List.{length-map}
 use Rattle.xc_data.specs.declared.script.Outline.{Outline}
 use Rattle.xc_host.specs.Contents.{opened}
+use Rattle.xc_host.specs.Model.{plan_of}
 use Rattle.xc_sentinel.specs.Asking.{mark_of}
 use Rattle.xc_story.specs.Opened.{IsOpening}
 use Rattle.xc_story.specs.Setting.{setting}
@@ -14,19 +15,24 @@ pub invariant_of-result : goal.invariant_of-result
 invariant_of-result g c =
     let model = g.H.Host.model in
     let s = setting c.args.script c.args.rules model.tells in
-    let opening : IsOpening c.args.script (moment model (record { host = c.open_with.new.self; words = c.in-Ok.words; sentinels = c.new-sentinels.result })
-    c.new-journal.result.items c.in-Ok.jobs.items) = record {
+    let rooms = c.in-Ok.rooms in
+    let opening : IsOpening c.args.script (moment model (record { host = c.open_with.new.self; words = rooms.words; sentinels = c.new-sentinels.result })
+    c.new-journal.result.items rooms.jobs.items) = record {
       words = c.in-Ok.ensures.words;
       journal = c.new-journal.ensures;
       jobs = c.in-Ok.ensures.jobs;
       started = opened_blocks c.args.script _ _ c.in-Ok.ensures.jobs;
       marks = λ n. ap mark_of (c.new-sentinels.ensures.nobody n);
+      calls = c.in_default-open_with.ensures.fresh;
     } in (
       started s _ _ (record { read = c.requires.script; attempts = c.requires.rules.0; tries = c.requires.rules.1 }) c.requires.limits opening
           (c.open_with.ensures.count ∙ sym c.faults-faults.ensures)
           (λ t. c.in_default-open_with.ensures.ok t ∙ ap (λ (p : Outline). opened p.prologue.objects) c.outline.ensures),
       roomy c.args.script _ _ _ _ c.requires.script opening c.new-sentinels.ensures.nothing c.new-sentinels.ensures.nobody
-          (subst (λ n. n ≤ c.in-Ok.lines.spare) (sym (length-map c.in-Ok.jobs.items seen_job)) c.in-Ok.ensures.lines.0) c.in-Ok.ensures.lines.1,
+          (subst (λ n. n ≤ c.in-Ok.rooms.lines.spare) (sym (length-map c.in-Ok.rooms.jobs.items seen_job)) c.in-Ok.ensures.lines.0) c.in-Ok.ensures.lines.1,
+      c.in-Ok.ensures.ahead,
+      omega arith,
+      c.in_default-open_with.ensures.plan ∙ ap (λ (p : Outline). plan_of p.prologue) c.outline.ensures,
     )
 
 pub returns-clause-opening : goal.returns-clause-opening
@@ -37,4 +43,5 @@ returns-clause-opening g c =
       jobs = c.in-Ok.ensures.jobs;
       started = opened_blocks c.args.script _ _ c.in-Ok.ensures.jobs;
       marks = λ n. ap mark_of (c.new-sentinels.ensures.nobody n);
+      calls = c.in_default-open_with.ensures.fresh;
     }

@@ -4,8 +4,9 @@ use Rattle.xc_story.specs.Seen.{active_in, active_of}
 use Rattle.xc_story.specs.Setting.{setting}
 use Rattle.xc_story.specs.Rows.{IsTurn}
 use Rattle.xc_station.specs.declared.job.Stage.TheVariants as PlainStage
-use Rattle.xc_station.specs.Jobs.{IsStage, doing_of}
+use Rattle.xc_station.specs.Jobs.{IsStage, doing_of, goes_on}
 use Rattle.xc_station.specs.Stations.{moment, now_of, setting_of}
+use Rattle.xc_station.proofs.Ahead.{ahead_kept, taken_kept}
 use Rattle.xc_station.proofs.RoomsKept.{rooms_still}
 use Rattle.xc_station.proofs.Stages.{lent, starved_stage}
 use Rattle.xc_station.proofs.Steady.{steady_kept}
@@ -29,6 +30,9 @@ invariant_of-self g c =
           (ap active_in (starved_stage (doing_of was) is.stage))
           (ap active_of c.end.ensures.0)
           (omega arith),
+      ahead_kept station.jobs.items at was job station.ahead.items is.stands (ap goes_on is.stage) c.self.invariant.2,
+      taken_kept station.jobs.items at job station.taken c.self.invariant.3,
+      c.self.invariant.4,
     )
 
 pub returns-clause-row : goal.returns-clause-row
