@@ -1,5 +1,5 @@
 -- A told script that is read without a fault is run.
-use Rattle.std.proofs.Common.{◌≡◌, ℕ, ◌<◌, ◌≤◌, List, [], ◌∷◌, ◌++◌, length, take, zero, suc, refl, ap, sym, ◌∙◌, subst, arith, ◌⊎◌, inl, inr}
+use Rattle.std.proofs.Common.{◌≡◌, ◌≢◌, ℕ, ◌<◌, ◌≤◌, List, [], ◌∷◌, ◌++◌, length, take, zero, suc, refl, ap, sym, ◌∙◌, subst, arith, ◌⊎◌, inl, inr}
 use Rattle.std.specs.Prelude.{Option, Result, Ok, Err}
 use Rattle.std.specs.declared.option.Option.TheVariants.{None, Some}
 use Rattle.std.specs.Prelude.{Bool, true, false, ◌||◌, ◌&&◌, IfSome, IsTrue}
@@ -10,11 +10,11 @@ use Rattle.xc_data.specs.declared.entry.JobLine.{JobLine}
 use Rattle.xc_settings.specs.declared.chosen.Chosen.{Chosen}
 use Rattle.xc_settings.specs.Options.{settings_of}
 use Rattle.xc_story.specs.Setting.{Setting, setting}
-use Rattle.xc_story.specs.Ending.{IsEnd, AreEnds, is_done, all_done, some_late_starved}
+use Rattle.xc_story.specs.Ending.{IsEnd, AreEnds, is_done, all_done, is_memory, is_starved, some_late_starved}
 use Rattle.xc_story.specs.Progress.{Following, progress_of}
 use Rattle.std.specs.Io.KnownBytes.{Consumes, IsAtEnd}
 use Rattle.xc_station.specs.declared.start.End.{End}
-use Rattle.xc_text.specs.declared.why.Why.{Why}
+use Rattle.xc_tokens.specs.declared.why.Why.{Why}
 use Rattle.xc_text.specs.declared.script.Script.{Script}
 use Rattle.xc_text.specs.Scripts.{parse_of}
 use Rattle.xc_app.specs.declared.finish.Status.{Status}
@@ -24,7 +24,7 @@ use Rattle.xc_edge.specs.Told.{Told}
 use Rattle.xc_host.specs.Model.{HostModel}
 use Rattle.xc_app.specs.Headline.{IsRead, IsRefusal, is_refused_by, IsUnscripted, AreScript, IsCaused, IsDone, IsDue, IsRun}
 use Rattle.xc_app.specs.Headline.{IsDoneWith, IsSaidPlainly, RunsAlone}
-use Rattle.xc_app.specs.Headline.{is_memory, is_starved, starves, is_given_up, gives_up}
+use Rattle.xc_app.specs.Headline.{end_text, starves, is_given_up, gives_up}
 use Rattle.xc_app.specs.Outcomes.{IsOfBytes}
 
 take_all : (n : ℕ) (bytes : List ℕ) → length bytes ≤ n → take n bytes ≡ bytes
@@ -149,10 +149,9 @@ all_done_of s entries (f ∷ jobs) (line ∷ lines) h e d =
     let left = or_false (gives_up line) (list_any gives_up lines) d in
     ap (λ b. b && all_done lines) (done_end s entries f line.end h.0.end parts.0 left.0) ∙ all_done_of s entries jobs lines h.1 parts.1 left.1
 
--- where memory wasn't wanting, no job starved, and no late call did
-none_starved : {H : Type 0} (end : End H) → starves end ≡ false
-    → (list_any is_starved end.jobs ≡ false) × (some_late_starved end.journal.items ≡ false)
-none_starved end h = or_false (list_any is_starved end.jobs) (some_late_starved end.journal.items) h
+-- no job of an end starved where nothing wanted memory
+all_fed : {H : Type 0} (end : End H) → starves end ≡ false → list_any is_starved end.jobs ≡ false
+all_fed end fed = (or_false (list_any is_starved end.jobs) (some_late_starved end.journal.items) fed).0
 
 -- a run whose whole text is due, without a job that starved or gave up, is done
 pub done_with : {H : Type 0} (model : HostModel H) (words : List (List ℕ)) (old new : Told) (host : H) (s : Status) (o : Option (End H)) (due : List ℕ)
@@ -162,13 +161,15 @@ done_with model words old new host status.Done (Some end) due h (chosen, chose, 
     let whole = run.whole in
     let s = setting end.opening.script chosen.rules model.tells in
     whole.complete
-    (all_done_of s (length end.journal.items) (progress_of end.opening.script end.journal.items).jobs end.jobs whole.ends (none_starved end h.1).0 h.3)
+    (all_done_of s (length end.journal.items) (progress_of end.opening.script end.journal.items).jobs end.jobs whole.ends
+    (all_fed end h.1) h.3)
 done_with model words old new host status.Left None due h run = h
 done_with model words old new host status.Left (Some end) due h (chosen, chose, bytes, came, (read, run)) = λ none.
     let whole = run.whole in
     let s = setting end.opening.script chosen.rules model.tells in
     whole.complete
-    (all_done_of s (length end.journal.items) (progress_of end.opening.script end.journal.items).jobs end.jobs whole.ends (none_starved end h.1).0 none)
+    (all_done_of s (length end.journal.items) (progress_of end.opening.script end.journal.items).jobs end.jobs whole.ends
+    (all_fed end h.1) none)
 done_with model words old new host status.GaveUp o due h run = tt
 done_with model words old new host (status.Refused line why) o due h run = tt
 done_with model words old new host status.Usage o due h run = tt
@@ -180,25 +181,29 @@ done_with model words old new host status.NoMemory o due h run = tt
 same_choice : (a b : Chosen) (o : Option Chosen) → o ≡ Some a → o ≡ Some b → a ≡ b
 same_choice a b o one two = let both : Some a ≡ Some b = sym one ∙ two in cc both
 
--- what a run that is done has written is the text of its script alone
+-- where the whole text is due it is that of the script alone
+plain_due : {H : Type 0} (model : HostModel H) (words : List (List ℕ)) (old new : Told) (host : H) (end : End H) (due : List ℕ) (before after : Told)
+    → due ≡ end_text end → starves end ≡ false → IsRun model words old new host end → AppendsWhole before after due → IsTrue model.tells
+    → IsSaidPlainly words before after end
+plain_due model words old new host end due before after text fed (by, chose, bytes, came, (read, run)) wrote tells = λ chosen again alone faults.
+    let one : by ≡ chosen = same_choice by chosen (settings_of words) chose again in
+    let plain = run.plain (subst RunsAlone (sym one) alone) tells faults fed in
+    subst (AppendsWhole before after) (text ∙ plain) wrote
+
+-- what a run has written is the text of its script alone, but where memory was wanting
 pub plainly : {H : Type 0} (model : HostModel H) (words : List (List ℕ)) (old new : Told) (host : H) (s : Status) (o : Option (End H)) (due : List ℕ)
     (before after : Told) → IsDue s o due → IfSome o (IsRun model words old new host) → AppendsWhole before after due → IsTrue model.tells
-    → s ≡ status.Done → IfSome o (IsSaidPlainly words before after)
-plainly model words old new host status.Done None due before after h run wrote tells is = tt
-plainly model words old new host status.Done (Some end) due before after h (by, chose, bytes, came, (read, run)) wrote tells is =
-    λ chosen again alone faults.
-    let one : by ≡ chosen = same_choice by chosen (settings_of words) chose again in
-    let whole = run.whole in
-    let s = setting end.opening.script by.rules model.tells in
-    let fed = none_starved end h.1 in
-    let done = all_done_of s (length end.journal.items) (progress_of end.opening.script end.journal.items).jobs end.jobs whole.ends fed.0 h.3 in
-    let plain = run.plain (subst RunsAlone (sym one) alone) tells faults fed.1 done in
-    subst (AppendsWhole before after) (h.0 ∙ plain) wrote
-plainly model words old new host (status.Refused line why) o due before after h run wrote tells is = cc is
-plainly model words old new host status.Usage o due before after h run wrote tells is = cc is
-plainly model words old new host status.ReadFault o due before after h run wrote tells is = cc is
-plainly model words old new host status.WriteFault o due before after h run wrote tells is = cc is
-plainly model words old new host status.NotScripted o due before after h run wrote tells is = cc is
-plainly model words old new host status.Left o due before after h run wrote tells is = cc is
-plainly model words old new host status.GaveUp o due before after h run wrote tells is = cc is
-plainly model words old new host status.NoMemory o due before after h run wrote tells is = cc is
+    → s ≢ status.NoMemory → IfSome o (IsSaidPlainly words before after)
+plainly model words old new host s None due before after h run wrote tells not = tt
+plainly model words old new host status.Done (Some end) due before after h run wrote tells not =
+    plain_due model words old new host end due before after h.0 h.1 run wrote tells
+plainly model words old new host status.Left (Some end) due before after h run wrote tells not =
+    plain_due model words old new host end due before after h.0 h.1 run wrote tells
+plainly model words old new host status.GaveUp (Some end) due before after h run wrote tells not =
+    plain_due model words old new host end due before after h.0 h.1 run wrote tells
+plainly model words old new host status.NoMemory (Some end) due before after h run wrote tells not = absurd (not refl)
+plainly model words old new host (status.Refused line why) (Some end) due before after h run wrote tells not = absurd h
+plainly model words old new host status.Usage (Some end) due before after h run wrote tells not = absurd h
+plainly model words old new host status.ReadFault (Some end) due before after h run wrote tells not = absurd h
+plainly model words old new host status.WriteFault (Some end) due before after h run wrote tells not = absurd h
+plainly model words old new host status.NotScripted (Some end) due before after h run wrote tells not = absurd h

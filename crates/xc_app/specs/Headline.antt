@@ -1,11 +1,11 @@
 -- What a run promises, in the words of the plain machine alone.
-use Rattle.std.specs.Prelude.{◌≡◌, ℕ, ◌⊎◌, ◌&&◌, ◌||◌, Bool, true, false, not, nat_lt, List, take, sum_by, IsSome, IsTrue, Option, Ok, Err}
+use Rattle.std.specs.Prelude.{◌≡◌, ℕ, ◌⊎◌, ◌&&◌, Bool, true, false, not, nat_lt, List, take, sum_by, IsSome, IsTrue, Option, Ok, Err}
 use Rattle.std.specs.declared.option.Option.TheVariants.{None, Some}
 use Rattle.std.specs.List.{list_any}
 use Rattle.xc_data.specs.declared.entry.JobEnd.{JobEnd}
 use Rattle.xc_data.specs.declared.entry.JobEnd.TheVariants as job_end
 use Rattle.xc_data.specs.declared.entry.JobLine.{JobLine}
-use Rattle.xc_data.specs.Counts.{CountsFaults}
+use Rattle.xc_data.specs.Counts.{RisesBy}
 use Rattle.xc_data.specs.Faults.{entry_faults}
 use Rattle.xc_host.specs.Contents.{needs_scripted}
 use Rattle.xc_text.specs.declared.script.Script.{Script}
@@ -16,16 +16,17 @@ use Rattle.xc_print.specs.Totals.{totals_of}
 use Rattle.xc_station.specs.declared.start.End.{End}
 use Rattle.xc_settings.specs.declared.chosen.Chosen.{Chosen}
 use Rattle.xc_settings.specs.Options.{settings_of}
-use Rattle.xc_story.specs.Ending.{Final, IsTrueEnd, IsComplete, all_done, some_late_starved}
+use Rattle.xc_story.specs.Accounted.{AreAccounted}
+use Rattle.xc_story.specs.Ending.{Final, IsTrueEnd, IsComplete, StopWhereFull, wanted_memory}
 use Rattle.xc_story.specs.Setting.{setting}
 use Rattle.xc_story.specs.Truth.{IsSerial}
-use Rattle.xc_text.specs.declared.why.Why.{Why}
+use Rattle.xc_tokens.specs.declared.why.Why.{Why}
 use Rattle.xc_text.specs.Scripts.{parse_of}
 use Rattle.xc_plain.specs.Plain.{plain_text}
 use Rattle.xc_app.specs.declared.finish.Finish.{Finish}
 use Rattle.xc_app.specs.declared.finish.Status.{Status}
 use Rattle.xc_app.specs.declared.finish.Status.TheVariants as status
-use Rattle.xc_host.specs.Model.{HostModel}
+use Rattle.xc_host.specs.Model.{HostModel, plan_of}
 use Rattle.xc_app.specs.Lines.{usage_line, read_fault_line, no_memory_line, not_scripted_line, refused_line}
 
 -- ---- what was read
@@ -58,6 +59,10 @@ pub record RunsAlone (chosen : Chosen) : Type 0 where
   pub schedule : chosen.schedule ≡ None
   pub workers : chosen.workers ≡ 1
 
+-- some job ended for want of memory, or some late call did
+abbrev pub starves : {H : Type 0} → End H → Bool
+starves end = wanted_memory end.jobs end.journal.items
+
 -- the text of a run's end
 abbrev pub end_text : {H : Type 0} → End H → List ℕ
 end_text end = rendered end.journal.items end.jobs end.words
@@ -75,12 +80,17 @@ module _ {H : Type 0} (model : HostModel H) where
     pub whole : IsTrueEnd (setting end.opening.script chosen.rules model.tells) end.journal.items (final_of end)
     -- with one worker and no schedule its transactions ran one after another
     pub serial : RunsAlone chosen → IsSerial end.journal.items
+    -- and none is of a job behind one that found the journal full
+    pub stops : RunsAlone chosen → StopWhereFull end.jobs end.journal.items
+    -- each transaction committed, but where there was a cause for its abort
+    pub accounted : AreAccounted (setting end.opening.script chosen.rules model.tells) end.journal.items
     -- the host's count rose by the recorded faults, and stayed where none is recorded
-    pub counted : CountsFaults (sum_by entry_faults end.journal.items) (model.fault_count host) (model.fault_count end.host)
-    -- so, where the host tells, no fault is recorded, no late call wanted memory and each job was done, the text
-    -- is that of the script alone
-    pub plain : RunsAlone chosen → IsTrue model.tells → sum_by entry_faults end.journal.items ≡ 0
-        → some_late_starved end.journal.items ≡ false → all_done end.jobs ≡ true → end_text end ≡ plain_text end.opening.script
+    pub counted : RisesBy (sum_by entry_faults end.journal.items) (model.fault_count host) (model.fault_count end.host)
+    -- the host was opened with the script's own fault lines and grain
+    pub plan : model.plan end.host ≡ plan_of end.opening.script.outline.prologue
+    -- so, where the host tells, no fault is recorded and nothing wanted memory, the text is that of the script alone
+    pub plain : RunsAlone chosen → IsTrue model.tells → sum_by entry_faults end.journal.items ≡ 0 → starves end ≡ false
+        → end_text end ≡ plain_text end.opening.script
 
   -- the bytes are a script, and this is the end of its run
   abbrev pub IsRunOf : List ℕ → Chosen → H → End H → Type 0
@@ -99,19 +109,6 @@ IsOneOf (Some end) None = Unit {0}
 IsOneOf (Some end) (Some host) = ⊥
 
 -- ---- what became of the jobs and of their effects
--- a job ended for want of memory
-abbrev pub is_memory : JobEnd → Bool
-is_memory job_end.NoMemory = true
-is_memory _ = false
-
--- the line of a job that ended for want of memory
-abbrev pub is_starved : JobLine → Bool
-is_starved line = is_memory line.end
-
--- some job ended for want of memory, or some late call did
-abbrev pub starves : {H : Type 0} → End H → Bool
-starves end = list_any is_starved end.jobs || some_late_starved end.journal.items
-
 -- a job gave up, or found the journal full
 abbrev pub is_given_up : JobEnd → Bool
 is_given_up (job_end.GaveUp c) = true

@@ -1,9 +1,9 @@
 -- The lines that a run writes in the place of its text.
 use Rattle.std.specs.Prelude.{ℕ, List, ◌++◌, codes}
 use Rattle.std.specs.Fmt.{decimal}
-use Rattle.xc_text.specs.declared.why.Why.{Why}
-use Rattle.xc_text.specs.declared.why.Why.TheVariants.{TooLong, BadByte, BadLiteral, UnknownLine, BadForm, BadNumber, BadName}
-use Rattle.xc_text.specs.declared.why.Why.TheVariants.{Twice, TooMany, Unclosed}
+use Rattle.xc_tokens.specs.declared.why.Why.{Why}
+use Rattle.xc_tokens.specs.declared.why.Why.TheVariants.{TooLong, BadByte, BadLiteral, UnknownLine, BadForm, BadNumber, BadName}
+use Rattle.xc_tokens.specs.declared.why.Why.TheVariants.{Twice, TooMany, Unclosed}
 
 -- with status 2
 abbrev pub usage_line : List ℕ

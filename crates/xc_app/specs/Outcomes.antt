@@ -2,7 +2,7 @@
 use Rattle.std.specs.Prelude.{◌≡◌, ℕ, List}
 use Rattle.xc_host.specs.Model.{HostModel}
 use Rattle.xc_station.specs.Stations.{Seen, TakeRounds, TakeTurns}
-use Rattle.xc_text.specs.declared.why.Why.{Why}
+use Rattle.xc_tokens.specs.declared.why.Why.{Why}
 use Rattle.xc_app.specs.declared.finish.Status.{Status}
 use Rattle.xc_app.specs.declared.finish.Status.TheVariants as status
 

@@ -1,13 +1,12 @@
-ghost use Rattle.std.specs.Prelude.{◌≡◌, ◌≤◌, ℕ, Some, None, Ok, Err, length, [], map, string_bytes, true, if◌then◌else◌};
+ghost use Rattle.std.specs.Prelude.{◌≡◌, ◌≢◌, ◌≤◌, ℕ, Some, None, Ok, Err, length, [], map, string_bytes, true, if◌then◌else◌};
 ghost use Rattle.std.specs.Prelude.{IfOk, IfSome, IsErrOf, IsTrue};
 ghost use Rattle.xc_data.specs.Limits.{KeepsLimits};
 ghost use Rattle.xc_text.specs.declared.script.Script.{Script};
-ghost use Rattle.xc_text.specs.declared.why.Why.{Why};
+ghost use Rattle.xc_tokens.specs.declared.why.Why.{Why};
 ghost use Rattle.xc_text.specs.Scripts.{parse_of, IsScript};
 ghost use Rattle.xc_settings.specs.Options.{settings_of};
 ghost use Rattle.xc_story.specs.Alone.{AreAlone};
-ghost use Rattle.xc_story.specs.Truth.{IsSerial};
-ghost use Rattle.xc_station.specs.Stations.{KeepsOrigin, NobodyLives, now_of};
+ghost use Rattle.xc_station.specs.Stations.{KeepsOrigin, NobodyLives, RanAlone, now_of};
 ghost use Rattle.xc_app.specs.Due.{due_bytes};
 ghost use Rattle.xc_app.specs.Headline.{is_refused_by, IsRun, IsRunOf, IsRunOver, IsOneOf, IsCaused, IsDoneWith, RunsAlone};
 ghost use Rattle.xc_app.specs.Headline.{IsDue, IsDueAlone, IsSaid, IsSaidPlainly};
@@ -166,7 +165,7 @@ fn take_alone<H: Host>(station: Station<H>) -> Station<H>
     requires { station.taken ≡ 0 }
     ensures origin { KeepsOrigin station result }
     ensures ended { NobodyLives result.jobs }
-    ensures serial { AreAlone (now_of H.model station) 0 → IsSerial result.journal }
+    ensures alone { AreAlone (now_of H.model station) 0 → RanAlone H.model result }
 {
     let mut station = station;
     work_alone(&mut station);
@@ -202,7 +201,7 @@ fn take_turns<H: Host + Send, P: Pace + Sync, R: AllocGlobal + Threads + Wait + 
     ensures origin { KeepsOrigin station result }
     ensures listed { IfSome chosen.now.schedule (λ jobs. TakeListed H.model jobs station result) }
     ensures ended { NobodyLives result.jobs }
-    ensures serial { RunsAlone chosen.now → AreAlone (now_of H.model station) 0 → IsSerial result.journal }
+    ensures alone { RunsAlone chosen.now → AreAlone (now_of H.model station) 0 → RanAlone H.model result }
 {
     match &chosen.schedule {
         Some(jobs) => take_listed(station, jobs.as_slice()),
@@ -335,8 +334,8 @@ pub fn xcalls_run<
         IsRun H.model (map string_bytes words.now) (S.told source.old) (S.told source.new) host) }
 
     // The text is a function of the script: jobs one after another, over a host that tells and met no fault, write the text
-    // of the script alone.
-    ensures plain { IsTrue H.model.tells → result.status ≡ Status.Done
+    // of the script alone, but where memory was wanting or the sink failed.
+    ensures plain { IsTrue H.model.tells → result.status ≢ Status.NoMemory → result.status ≢ Status.WriteFault
         → IfSome result.end (IsSaidPlainly (map string_bytes words.now) (K.told sink.old) (K.told sink.new)) }
 
     // Without a run the host is given back as it was handed in.

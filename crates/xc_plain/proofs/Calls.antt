@@ -10,7 +10,6 @@ use Rattle.xc_data.specs.Faults.{is_fault_reply}
 use Rattle.xc_data.specs.declared.call.Answer.TheVariants as answer
 use Rattle.xc_data.specs.declared.call.Asked.{Asked}
 use Rattle.xc_data.specs.declared.call.Call.{Call}
-use Rattle.xc_data.specs.declared.call.Call.TheVariants as call
 use Rattle.xc_data.specs.declared.call.Reply.{Reply}
 use Rattle.xc_data.specs.declared.call.Reply.TheVariants as reply
 use Rattle.xc_data.specs.declared.private.Private.{Private}
@@ -21,8 +20,7 @@ use Rattle.xc_script.specs.declared.ask.Ask.TheVariants as ask
 use Rattle.xc_story.specs.Rows.{is_built}
 use Rattle.xc_story.proofs.AskedCalls.{asked_built}
 use Rattle.xc_story.specs.Truth.{AsksEach}
-use Rattle.xc_text.specs.declared.script.Statement.{Statement}
-use Rattle.xc_text.specs.declared.script.Statement.TheVariants as statement
+use Rattle.xc_text.specs.Stated.{Statement}
 use Rattle.xc_world.specs.Act.{act}
 use Rattle.xc_world.specs.Checks.{bytes_of}
 use Rattle.xc_world.specs.Fits.{answer_of}

@@ -1,5 +1,5 @@
 -- The texts of a script of two jobs, and of one with a late call, computed.
-use Rattle.std.proofs.Common.{◌≡◌, ℕ, List, [], ◌∷◌, ◌++◌, refl, ap, ◌∙◌}
+use Rattle.std.proofs.Common.{◌≡◌, ℕ, suc, List, [], ◌∷◌, ◌++◌, refl, ap, ◌∙◌}
 use Rattle.std.specs.Prelude.{codes}
 use Rattle.std.specs.Fmt.{digits}
 use Rattle.std.specs.declared.option.Option.TheVariants.{None}
@@ -13,20 +13,21 @@ use Rattle.xc_data.specs.declared.entry.Entry.{Entry}
 use Rattle.xc_data.specs.declared.entry.Outcome.TheVariants.{Committed}
 use Rattle.xc_data.specs.declared.object.Object.TheVariants as object
 use Rattle.xc_print.specs.Text.{rendered}
-use Rattle.xc_story.specs.Progress.{progress_of}
+use Rattle.xc_story.specs.Progress.{opening_progress, progress_of}
 use Rattle.xc_text.specs.declared.script.Expression.TheVariants as expression
 use Rattle.xc_text.specs.declared.script.Script.{Script}
-use Rattle.xc_text.specs.declared.script.Statement.{Statement}
+use Rattle.xc_text.specs.Stated.{Statement}
+use Rattle.xc_text.specs.declared.script.CallForm.TheVariants as form
 use Rattle.xc_text.specs.declared.script.Statement.TheVariants as statement
 use Rattle.xc_text.specs.declared.script.Term.TheVariants as term
 use Rattle.xc_world.specs.Opening.{opening}
-use Rattle.xc_plain.specs.Plain.{plain_journal, done_lines, plain_text}
+use Rattle.xc_plain.specs.Plain.{plain_from, plain_journal, plain_lines, plain_text}
 
 abbrev loads : Statement
-loads = statement.Load (term.Number 0) None
+loads = statement.Call (form.Load (term.Number 0) None)
 
 abbrev stores : ℕ → Statement
-stores value = statement.Store (term.Number 0) (expression.Term (term.Number value))
+stores value = statement.Call (form.Store (term.Number 0) (expression.Term (term.Number value)))
 
 -- a job of two transactions, of which the second one aborts itself, and a job of one
 abbrev two_jobs : Script
@@ -46,6 +47,7 @@ two_jobs =
           }
           ∷ record { name = codes "next"; transactions = (loads ∷ []) ∷ [] }
           ∷ [];
+      variables = [];
       slots = [];
     }
 
@@ -80,7 +82,8 @@ unlinks =
             bodies = [];
             jobs = codes "main" ∷ [];
           };
-      blocks = record { name = codes "main"; transactions = (statement.Unlink (codes "a") None ∷ []) ∷ [] } ∷ [];
+      blocks = record { name = codes "main"; transactions = (statement.Call (form.Unlink (codes "a") None) ∷ []) ∷ [] } ∷ [];
+      variables = [];
       slots = [];
     }
 
@@ -101,11 +104,15 @@ its_entry =
       outcome = Committed (late_end.NoName ∷ []);
     }
 
+-- with room for two entries or more
+its_first : (n : ℕ) → plain_from (suc (suc n)) unlinks 0 (opening_progress unlinks) ≡ its_entry ∷ []
+its_first n = rw no_name refl
+
 its_journal : plain_journal unlinks ≡ its_entry ∷ []
-its_journal = rw no_name refl
+its_journal = its_first 9998
 
 abbrev text_with : List Entry → List ℕ
-text_with journal = let state = (progress_of unlinks journal).state in rendered journal (done_lines state) state.world.words
+text_with journal = let behind = progress_of unlinks journal in rendered journal (plain_lines unlinks behind.jobs) behind.state.world.words
 
 abbrev its_text : List ℕ
 its_text =

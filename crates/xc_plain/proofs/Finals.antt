@@ -1,12 +1,11 @@
--- The text of a run without faults: how many entries it has, and its jobs' lines.
-use Rattle.std.proofs.Common.{◌≡◌, ℕ, ◌+◌, ◌≤◌, Bool, true, false, not, ◌||◌, List, [], ◌∷◌, ◌++◌, length, zero, suc, cond, refl, ap, arith}
-use Rattle.std.proofs.Common.{ap₂, sym, ◌∙◌, subst}
-use Rattle.std.specs.Prelude.{◌-◌, slice_get, slice_set, map, Option, count_by, sum_by, is_some, IsTrue, unwrap_or}
+-- The text of a run without faults: its entries, and its jobs' lines.
+use Rattle.std.proofs.Common.{◌≡◌, ℕ, ◌+◌, ◌<◌, ◌≤◌, Bool, true, false, not, ◌||◌, List, [], ◌∷◌, length, zero, suc, refl, ap, ap₂, arith}
+use Rattle.std.proofs.Common.{sym, ◌∙◌, subst}
+use Rattle.std.specs.Prelude.{slice_get, map, Option, sum_by, is_some, IsTrue, unwrap_or, if◌then◌else◌}
 use Rattle.std.specs.declared.option.Option.TheVariants.{Some}
-use Rattle.std.specs.List.{fold, list_all}
-use Rattle.std.proofs.lemmas.Bool.{and_parts, and_from}
-use Rattle.std.proofs.lemmas.List.{append-nil}
-use Rattle.std.proofs.lemmas.List.Sums.{sum_by-cons}
+use Rattle.std.specs.List.{AllByRecursion, list_all, list_any}
+use Rattle.std.proofs.lemmas.Bool.{and_parts, and_from, or_parts}
+use Rattle.std.proofs.lemmas.Option.{get_or_from_slice_get, slice_get_within}
 use Rattle.xc_data.specs.Faults.{entry_faults}
 use Rattle.xc_data.specs.declared.entry.Entry.{Entry}
 use Rattle.xc_data.specs.declared.entry.JobEnd.{JobEnd}
@@ -15,20 +14,16 @@ use Rattle.xc_data.specs.declared.entry.JobLine.{JobLine}
 use Rattle.xc_data.specs.declared.entry.Outcome.{Outcome}
 use Rattle.xc_data.specs.declared.entry.Outcome.TheVariants.{Committed, Aborted}
 use Rattle.xc_print.specs.Text.{rendered}
-use Rattle.xc_script.specs.Ask.{fresh_job, block_place, next_body, transactions_at, walk_from}
-use Rattle.xc_story.specs.Ending.{IsEnd, AreEnds, Final, IsTrueEnd, is_done, all_done, is_settled_or_tried_again}
-use Rattle.xc_story.specs.Ending.{some_late_starved, transactions_of_jobs}
-use Rattle.xc_story.specs.Progress.{Following, Progress, untried, opening_progress, progress_of, started_job, committed_job}
-use Rattle.xc_story.specs.Progress.{following_abort, after_entry, after_following, after_outcome, following_of}
-use Rattle.xc_story.specs.Rows.{is_built}
+use Rattle.xc_script.specs.Ask.{fresh_job, block_place, next_body}
+use Rattle.xc_story.specs.Ending.{IsEnd, AreEnds, Final, IsTrueEnd, StopWhereFull, is_memory, is_starved, is_settled_or_tried_again}
+use Rattle.xc_story.specs.Ending.{some_late_starved, wanted_memory}
+use Rattle.xc_story.specs.Progress.{Following, untried, opening_progress, progress_of}
 use Rattle.xc_story.specs.Setting.{Setting}
-use Rattle.xc_story.specs.Truth.{AreTrue, AreInOrder, IsSerial, is_alone, is_asked, is_settled, is_tried_again, all_settled}
-use Rattle.xc_story.proofs.KeptCalls.{kept_starts}
+use Rattle.xc_story.specs.Truth.{AreInOrder, IsSerial, is_alone, is_asked, is_settled, is_tried_again, all_settled}
 use Rattle.xc_text.specs.declared.script.Script.{Script}
-use Rattle.xc_plain.specs.Plain.{plain_journal, plain_text, done_lines}
-use Rattle.xc_plain.proofs.Calls.{each_built}
-use Rattle.xc_plain.proofs.Entries.{asked_is}
-use Rattle.xc_plain.proofs.Journals.{AreUntried, AreOver, are_next, rise, same_journal}
+use Rattle.xc_turns.proofs.Completions.{GoesOn, all_go}
+use Rattle.xc_plain.specs.Plain.{plain_job_end, plain_journal, plain_lines, plain_text}
+use Rattle.xc_plain.proofs.Journals.{AreOver, AreOverBefore, AreUntried, are_next, rise, same_journal, untried_all}
 
 -- ---- where no attempt is tried again each entry is settled
 left_of_two : (a b : Bool) → (a || b) ≡ true → not b ≡ true → a ≡ true
@@ -49,110 +44,143 @@ all_are_settled place (e ∷ entries) order each =
     and_from (is_settled e.outcome) (all_settled entries) (settled_alone e.outcome both.0 order.2)
     (all_are_settled (place + 1) entries order.3 both.1)
 
--- ---- so many entries as transactions
-count_settled : (entries : List Entry) → all_settled entries ≡ true → count_by (λ (e : Entry). is_settled e.outcome) entries ≡ length entries
-count_settled [] settled = refl
-count_settled (e ∷ entries) settled =
-    let both = and_parts (is_settled e.outcome) (all_settled entries) settled in
-    let rest = count_settled entries both.1 in
-    let counts : Bool → ℕ = λ b. cond b 1 0 in
-    omega (arith, ap counts both.0, rest, sum_by-cons (λ (x : Entry). cond (is_settled x.outcome) 1 0) e entries)
-
--- a job that stays in its block has its transactions
-transactions_set : (script : Script) (jobs : List Following) (k : ℕ) (f g : Following) → slice_get jobs k ≡ Some f → g.job.block ≡ f.job.block
-    → transactions_of_jobs script (slice_set jobs k g) ≡ transactions_of_jobs script jobs
-transactions_set script [] k f g e same = cc
-transactions_set script (h ∷ jobs) zero f g e same =
-    let block : g.job.block ≡ h.job.block = same ∙ sym (ap (λ (o : Option Following). (unwrap_or o f).job.block) e) in
-    ap (λ b. length (transactions_at script b) + transactions_of_jobs script jobs) block
-transactions_set script (h ∷ jobs) (suc k) f g e same =
-    ap (λ n. length (transactions_at script h.job.block) + n) (transactions_set script jobs k f g e same)
-
--- a settled entry starts no job
-outcome_keeps : (script : Script) (p : Progress) (f : Following) (e : Entry) (o : Outcome) → following_of p e ≡ Some f
-    → list_all is_built e.calls ≡ true → is_settled o ≡ true
-    → transactions_of_jobs script (after_outcome script p f e o).jobs ≡ transactions_of_jobs script p.jobs
-outcome_keeps script p f e (Committed late) started built settled =
-    let job = committed_job script f.job e.calls e.replies late in
-    let mine : Following = untried f.block job (p.entered + 1) in
-    let jobs = slice_set p.jobs (e.job - 1) mine in
-    let more = λ (bs : List (List ℕ)). jobs ++ map (started_job script job (p.entered + 1)) bs in
-    ap (λ bs. transactions_of_jobs script (more bs)) (kept_starts e.calls e.replies late built) ∙ ap (transactions_of_jobs script) (append-nil jobs)
-    ∙ transactions_set script p.jobs (e.job - 1) f mine started refl
-outcome_keeps script p f e (Aborted report) started built settled =
-    transactions_set script p.jobs (e.job - 1) f (following_abort p.entered f e report.cause) started
-    (subst (λ c. (following_abort p.entered f e c).job.block ≡ f.job.block) (sym (asked_is report.cause settled)) refl)
-
--- entries that were settled leave the jobs as many
-jobs_keep : (s : Setting) (p : Progress) (entries : List Entry) → AreTrue s p entries → all_settled entries ≡ true
-    → transactions_of_jobs s.script (fold (after_entry s.script) p entries).jobs ≡ transactions_of_jobs s.script p.jobs
-jobs_keep s p [] told settled = refl
-jobs_keep s p (e ∷ entries) told settled =
-    let one = told.0 in
-    let f = one.following in
-    let both = and_parts (is_settled e.outcome) (all_settled entries) settled in
-    let built = each_built (walk_from s.script f.job) e.calls e.replies one.entry.story.calls in
-    let here = outcome_keeps s.script p f e e.outcome one.started built both.0 in
-    jobs_keep s (after_entry s.script p e) entries told.1 both.1
-    ∙ ap (λ o. transactions_of_jobs s.script (after_following s.script p e o).jobs) one.started ∙ here
-
 -- ---- the jobs' ends
-end_is : (d : JobEnd) → is_done d ≡ true → d ≡ job_end.Done
-end_is job_end.Done e = refl
-end_is _ e = cc
+-- where memory wasn't wanting no job starved
+goes_on : (s : Setting) (n : ℕ) (f : Following) (d : JobEnd) → IsEnd s n f d → is_memory d ≡ false → f.starved ≡ false
+goes_on s n f job_end.Done ends fed = ends.0
+goes_on s n f (job_end.GaveUp c) ends fed = ends.0
+goes_on s n f job_end.JournalFull ends fed = ends.0
+goes_on s n f job_end.NoMemory ends fed = cc
 
-ends_over : (s : Setting) (n : ℕ) (jobs : List Following) (lines : List JobLine) → AreEnds s n jobs lines → all_done lines ≡ true → AreOver s.script jobs
-ends_over s n [] lines ends done i g has = cc
-ends_over s n (f ∷ jobs) [] ends done i g has = absurd ends
-ends_over s n (f ∷ jobs) (line ∷ lines) ends done zero g has =
-    let parts = and_parts (is_done line.end) (all_done lines) done in
-    let over = subst (λ d. IsEnd s n f d) (end_is line.end parts.0) ends.0.end in
+all_go_on : (s : Setting) (n : ℕ) (jobs : List Following) (lines : List JobLine) → AreEnds s n jobs lines → list_any is_starved lines ≡ false
+    → AllByRecursion GoesOn jobs
+all_go_on s n [] lines ends fed = tt
+all_go_on s n (f ∷ jobs) [] ends fed = absurd ends
+all_go_on s n (f ∷ jobs) (line ∷ lines) ends fed =
+    let parts = or_parts (is_starved line) (list_any is_starved lines) fed in
+    (goes_on s n f line.end ends.0.end parts.0, all_go_on s n jobs lines ends.1 parts.1)
+
+-- an end where no attempt failed: the plain one, and behind a job that has a transaction left the journal is full
+record IsPlainEnd (s : Setting) (n : ℕ) (f : Following) (d : JobEnd) : Type 0 where
+  same : d ≡ plain_job_end s.script f
+  done : (d ≡ job_end.JournalFull → ⊥) → is_some (next_body s.script f.job) ≡ false
+  full : d ≡ job_end.JournalFull → 10000 ≤ n
+
+plain_is : (s : Setting) (n : ℕ) (f : Following) (d : JobEnd) → 1 ≤ s.rules.attempts → f.failed ≡ [] → IsEnd s n f d → is_memory d ≡ false → IsPlainEnd s n f d
+plain_is s n f job_end.Done some none ends fed =
+    let over : is_some (next_body s.script f.job) ≡ false = ap is_some ends.1 in
+    record { same = sym (ap (λ (b : Bool). if b then job_end.JournalFull else job_end.Done) over); done = λ other. over; full = λ e. cc }
+plain_is s n f (job_end.GaveUp c) some none ends fed = absurd (let most = ends.2.0 in omega (arith, ap length none))
+plain_is s n f job_end.JournalFull some none ends fed =
+    record {
+      same = sym (ap (λ (b : Bool). if b then job_end.JournalFull else job_end.Done) ends.1);
+      done = λ other. absurd (other refl);
+      full = λ e. ends.3;
+    }
+plain_is s n f job_end.NoMemory some none ends fed = cc
+
+-- the line of a job, and its end
+record HasPlainEnd (s : Setting) (n : ℕ) (f : Following) (line : JobLine) : Type 0 where
+  block : line.block ≡ f.block
+  end : IsPlainEnd s n f line.end
+
+-- each job has its line
+abbrev HavePlainEnds : Setting → ℕ → List Following → List JobLine → Type 0
+HavePlainEnds s n [] lines = lines ≡ []
+HavePlainEnds s n (f ∷ jobs) [] = ⊥
+HavePlainEnds s n (f ∷ jobs) (line ∷ lines) = HasPlainEnd s n f line × HavePlainEnds s n jobs lines
+
+plain_are : (s : Setting) (n : ℕ) (jobs : List Following) (lines : List JobLine) → 1 ≤ s.rules.attempts → AreUntried jobs → AreEnds s n jobs lines
+    → list_any is_starved lines ≡ false → HavePlainEnds s n jobs lines
+plain_are s n [] lines some untried ends fed = ends
+plain_are s n (f ∷ jobs) [] some untried ends fed = absurd ends
+plain_are s n (f ∷ jobs) (line ∷ lines) some untried ends fed =
+    let parts = or_parts (is_starved line) (list_any is_starved lines) fed in (
+      record { block = ends.0.block; end = plain_is s n f line.end some untried.0.1 ends.0.end parts.0 },
+      plain_are s n jobs lines some untried.1 ends.1 parts.1,
+    )
+
+lines_are : (s : Setting) (n : ℕ) (jobs : List Following) (lines : List JobLine) → HavePlainEnds s n jobs lines → lines ≡ plain_lines s.script jobs
+lines_are s n [] lines ends = ends
+lines_are s n (f ∷ jobs) [] ends = absurd ends
+lines_are s n (f ∷ jobs) (line ∷ lines) ends =
+    let block = ends.0.block in
+    let end = ends.0.end.same in
+    let here : line ≡ record { block = f.block; end = plain_job_end s.script f } = λ i. record { block = block i; end = end i } in
+    ap₂ (λ (l : JobLine) (ls : List JobLine). l ∷ ls) here (lines_are s n jobs lines ends.1)
+
+-- the line beside a job
+line_beside : (s : Setting) (n : ℕ) (jobs : List Following) (lines : List JobLine) (i : ℕ) (g : Following) → HavePlainEnds s n jobs lines
+    → slice_get jobs i ≡ Some g → (line : JobLine) × (slice_get lines i ≡ Some line) × IsPlainEnd s n g line.end
+line_beside s n [] lines i g ends has = cc
+line_beside s n (f ∷ jobs) [] i g ends has = absurd ends
+line_beside s n (f ∷ jobs) (line ∷ lines) zero g ends has =
     let same : f ≡ g = ap (λ (o : Option Following). unwrap_or o f) has in
-    subst (λ (x : Following). is_some (next_body s.script x.job) ≡ false) same (ap is_some over.1)
-ends_over s n (f ∷ jobs) (line ∷ lines) ends done (suc i) g has =
-    ends_over s n jobs lines ends.1 (and_parts (is_done line.end) (all_done lines) done).1 i g has
+    (line, refl, subst (λ (x : Following). IsPlainEnd s n x line.end) same ends.0.end)
+line_beside s n (f ∷ jobs) (line ∷ lines) (suc i) g ends has = line_beside s n jobs lines i g ends.1 has
 
-lines_of : (lines : List JobLine) → all_done lines ≡ true
-    → lines ≡ map (λ (block : List ℕ). record { block = block; end = job_end.Done }) (map (λ (line : JobLine). line.block) lines)
-lines_of [] done = refl
-lines_of (line ∷ lines) done =
-    let parts = and_parts (is_done line.end) (all_done lines) done in
-    let end = end_is line.end parts.0 in
-    let here : line ≡ record { block = line.block; end = job_end.Done } = λ i. record { block = line.block; end = end i } in
-    ap₂ (λ (l : JobLine) (ls : List JobLine). l ∷ ls) here (lines_of lines parts.1)
+-- with a journal that isn't full none has a transaction left
+all_over : (s : Setting) (n : ℕ) (jobs : List Following) (lines : List JobLine) → HavePlainEnds s n jobs lines → n < 10000 → AreOver s.script jobs
+all_over s n jobs lines ends room i g has =
+    let at = line_beside s n jobs lines i g ends has in
+    at.2.done (λ full. let most = at.2.full full in omega arith)
+
+-- and none has before one that made an entry
+over_before : (s : Setting) (n : ℕ) (jobs : List Following) (lines : List JobLine) (entries : List Entry) → HavePlainEnds s n jobs lines
+    → StopWhereFull lines entries → (k : ℕ) (e : Entry) → slice_get entries k ≡ Some e → AreOverBefore s.script jobs e.job
+over_before s n jobs lines entries ends stop k e there i g lt has =
+    let at = line_beside s n jobs lines i g ends has in
+    at.2.done (λ full.
+    let P : Entry → Type 0 = λ x. x.job ≤ i + 1 in
+    let low : e.job ≤ i + 1 =
+    subst P (get_or_from_slice_get entries k e e there) (stop i at.0 at.1 full k e (slice_get_within entries k e there)) in
+    omega arith)
 
 untried_opening : (script : Script) (names : List (List ℕ))
     → AreUntried (map (λ name. untried name (fresh_job script (block_place script name)) 0) names)
 untried_opening script [] = tt
-untried_opening script (name ∷ names) = (refl, untried_opening script names)
+untried_opening script (name ∷ names) = ((refl, refl), untried_opening script names)
 
 -- ---- the text
+-- a run that didn't want memory, of jobs one after another
+record IsFed (s : Setting) (entries : List Entry) (final : Final) : Type 0 where
+  settled : all_settled entries ≡ true
+  late : some_late_starved entries ≡ false
+  ends : HavePlainEnds s (length entries) (progress_of s.script entries).jobs final.lines
+
+is_fed : (s : Setting) (entries : List Entry) (final : Final) → 1 ≤ s.rules.attempts → IsTrueEnd s entries final → IsSerial entries
+    → wanted_memory final.lines entries ≡ false → IsFed s entries final
+is_fed s entries final some whole serial fed =
+    let told = whole.journal.entries in
+    let opening = opening_progress s.script in
+    let parts = or_parts (list_any is_starved final.lines) (some_late_starved entries) fed in
+    let jobs = (progress_of s.script entries).jobs in
+    let go = all_go_on s (length entries) jobs final.lines whole.ends parts.0 in
+    let settled = all_are_settled 0 entries serial.order (all_go s opening entries told go).1 in
+    let untried = untried_all s opening entries told settled (untried_opening s.script s.script.outline.jobs) in
+    record { settled = settled; late = parts.1; ends = plain_are s (length entries) jobs final.lines some untried whole.ends parts.0 }
+
 -- the journal is the plain one
-same_entries : (s : Setting) (entries : List Entry) (final : Final) → IsTrueEnd s entries final → IsSerial entries → IsTrue s.tells
-    → 1 ≤ s.rules.undo_tries → sum_by entry_faults entries ≡ 0 → some_late_starved entries ≡ false → all_done final.lines ≡ true
+same_entries : (s : Setting) (entries : List Entry) (final : Final) → IsTrue s.tells → 1 ≤ s.rules.undo_tries → IsTrueEnd s entries final
+    → IsSerial entries → StopWhereFull final.lines entries → sum_by entry_faults entries ≡ 0 → IsFed s entries final
     → entries ≡ plain_journal s.script
-same_entries s entries final whole serial tells tries faults starved done =
+same_entries s entries final tells tries whole serial stop faults fed =
     let opening = opening_progress s.script in
     let told = whole.journal.entries in
-    let complete = whole.complete done in
-    let settled = all_are_settled 0 entries serial.order complete.others in
-    let over = ends_over s (length entries) (progress_of s.script entries).jobs final.lines whole.ends done in
-    let next = are_next s opening entries told (rise entries serial.jobs) over in
-    let many : length entries ≡ transactions_of_jobs s.script opening.jobs =
-    sym (count_settled entries settled) ∙ complete.count ∙ jobs_keep s opening entries told settled in
-    same_journal s opening 0 (transactions_of_jobs s.script opening.jobs) entries told tells tries serial.order faults starved settled
-    (untried_opening s.script s.script.outline.jobs) (omega (arith, many)) next
+    let jobs = (progress_of s.script entries).jobs in
+    let next = are_next s opening 10000 entries told (rise entries serial.jobs)
+    (over_before s (length entries) jobs final.lines entries fed.ends stop) (all_over s (length entries) jobs final.lines fed.ends) in
+    same_journal s opening 0 10000 entries told tells tries serial.order faults fed.late fed.settled
+    (untried_opening s.script s.script.outline.jobs) whole.few next
 
--- the text of a run whose jobs ran one after another, each to its end, where no call met a fault and no late call wanted
--- memory, is the plain one
-pub plain_end : (s : Setting) (entries : List Entry) (final : Final) → IsTrueEnd s entries final → IsSerial entries → IsTrue s.tells
-    → 1 ≤ s.rules.undo_tries → sum_by entry_faults entries ≡ 0 → some_late_starved entries ≡ false → all_done final.lines ≡ true
-    → rendered entries final.lines final.words ≡ plain_text s.script
-plain_end s entries final whole serial tells tries faults starved done =
-    let same = same_entries s entries final whole serial tells tries faults starved done in
-    let state = (progress_of s.script entries).state in
-    let ended = whole.state tells in
-    let lines : final.lines ≡ done_lines state =
-    lines_of final.lines done ∙ ap (map (λ (block : List ℕ). record { block = block; end = job_end.Done })) ended.blocks in
-    ap₂ (rendered entries) lines ended.words
-    ∙ ap (λ (journal : List Entry). rendered journal (done_lines (progress_of s.script journal).state) (progress_of s.script journal).state.world.words) same
+-- the text of a run whose jobs ran one after another, where no call met a fault and nothing wanted memory, is the plain one
+pub plain_end : (s : Setting) (entries : List Entry) (final : Final) → IsTrue s.tells → 1 ≤ s.rules.attempts → 1 ≤ s.rules.undo_tries
+    → IsTrueEnd s entries final → IsSerial entries → StopWhereFull final.lines entries → sum_by entry_faults entries ≡ 0
+    → wanted_memory final.lines entries ≡ false → rendered entries final.lines final.words ≡ plain_text s.script
+plain_end s entries final tells some tries whole serial stop faults memory =
+    let fed = is_fed s entries final some whole serial memory in
+    let same = same_entries s entries final tells tries whole serial stop faults fed in
+    let lines = lines_are s (length entries) (progress_of s.script entries).jobs final.lines fed.ends in
+    let text = λ (journal : List Entry).
+    rendered journal (plain_lines s.script (progress_of s.script journal).jobs) (progress_of s.script journal).state.world.words in
+    ap₂ (rendered entries) lines (whole.state tells).words ∙ ap text same

@@ -24,11 +24,15 @@ use Rattle.xc_plain.proofs.Entries.{asked_is, same_entry}
 
 -- ---- no job was tried before at its next transaction
 -- no attempt at it is recorded
+abbrev pub IsUntried : Following → Type 0
+IsUntried f = (f.first ≡ None) × (f.failed ≡ [])
+
+-- of each
 abbrev pub AreUntried : List Following → Type 0
 AreUntried [] = Unit {0}
-AreUntried (f ∷ jobs) = (f.first ≡ None) × AreUntried jobs
+AreUntried (f ∷ jobs) = IsUntried f × AreUntried jobs
 
-untried_set : (jobs : List Following) (k : ℕ) (g : Following) → g.first ≡ None → AreUntried jobs → AreUntried (slice_set jobs k g)
+untried_set : (jobs : List Following) (k : ℕ) (g : Following) → IsUntried g → AreUntried jobs → AreUntried (slice_set jobs k g)
 untried_set [] k g e all = tt
 untried_set (f ∷ jobs) zero g e all = (e, all.1)
 untried_set (f ∷ jobs) (suc k) g e all = (all.0, untried_set jobs k g e all.1)
@@ -39,37 +43,48 @@ untried_append (f ∷ a) b first later = (first.0, untried_append a b first.1 la
 
 untried_started : (script : Script) (job : Job) (since : ℕ) (blocks : List (List ℕ)) → AreUntried (map (started_job script job since) blocks)
 untried_started script job since [] = tt
-untried_started script job since (b ∷ blocks) = (refl, untried_started script job since blocks)
+untried_started script job since (b ∷ blocks) = ((refl, refl), untried_started script job since blocks)
 
-untried_get : (jobs : List Following) (k : ℕ) (f : Following) → AreUntried jobs → slice_get jobs k ≡ Some f → f.first ≡ None
+untried_get : (jobs : List Following) (k : ℕ) (f : Following) → AreUntried jobs → slice_get jobs k ≡ Some f → IsUntried f
 untried_get [] k f all e = cc
-untried_get (g ∷ jobs) zero f all e = sym (ap (λ (o : Option Following). (unwrap_or o f).first) e) ∙ all.0
+untried_get (g ∷ jobs) zero f all e = subst IsUntried (ap (λ (o : Option Following). unwrap_or o f) e) all.0
 untried_get (g ∷ jobs) (suc k) f all e = untried_get jobs k f all.1 e
 
 untried_outcome : (script : Script) (p : Progress) (f : Following) (e : Entry) (o : Outcome) → is_settled o ≡ true → AreUntried p.jobs
     → AreUntried (after_outcome script p f e o).jobs
 untried_outcome script p f e (Committed late) settled all =
-    untried_append _ _ (untried_set p.jobs (e.job - 1) _ refl all)
+    untried_append _ _ (untried_set p.jobs (e.job - 1) _ (refl, refl) all)
     (untried_started script (committed_job script f.job e.calls e.replies late) (p.entered + 1) (started_blocks (kept_of e.calls e.replies) late))
 untried_outcome script p f e (Aborted report) settled all =
     untried_set p.jobs (e.job - 1) (following_abort p.entered f e report.cause)
-    (subst (λ c. (following_abort p.entered f e c).first ≡ None) (sym (asked_is report.cause settled)) refl) all
+    (subst (λ c. IsUntried (following_abort p.entered f e c)) (sym (asked_is report.cause settled)) (refl, refl)) all
 
 untried_after : (script : Script) (p : Progress) (f : Following) (e : Entry) → following_of p e ≡ Some f → is_settled e.outcome ≡ true
     → AreUntried p.jobs → AreUntried (after_entry script p e).jobs
 untried_after script p f e started settled all =
     subst (λ o. AreUntried (after_following script p e o).jobs) (sym started) (untried_outcome script p f e e.outcome settled all)
 
+-- so it is behind the whole journal
+pub untried_all : (s : Setting) (p : Progress) (entries : List Entry) → AreTrue s p entries → all_settled entries ≡ true → AreUntried p.jobs
+    → AreUntried (fold (after_entry s.script) p entries).jobs
+untried_all s p [] told settled all = all
+untried_all s p (e ∷ entries) told settled all =
+    let ended = and_parts (is_settled e.outcome) (all_settled entries) settled in
+    untried_all s (after_entry s.script p e) entries told.1 ended.1
+    (untried_after s.script p told.0.following e told.0.started ended.0 all)
+
 -- ---- the whole journal
--- each entry is of the first job that has a transaction left, and behind the last entry none has
-abbrev pub AreNext : Script → Progress → List Entry → Type 0
-AreNext script p [] = next_place script p.jobs ≡ None
-AreNext script p (e ∷ entries) = (next_place script p.jobs ≡ Some (e.job - 1)) × AreNext script (after_entry script p e) entries
+-- each of these entries, of at most so many, is of the first job that has a transaction left; and behind the last none has, where
+-- there are fewer
+abbrev pub AreNext : ℕ → Script → Progress → List Entry → Type 0
+AreNext zero script p entries = Unit {0}
+AreNext (suc n) script p [] = next_place script p.jobs ≡ None
+AreNext (suc n) script p (e ∷ entries) = (next_place script p.jobs ≡ Some (e.job - 1)) × AreNext n script (after_entry script p e) entries
 
 -- such a journal is the plain one
 pub same_journal : (s : Setting) (p : Progress) (place n : ℕ) (entries : List Entry) → AreTrue s p entries → IsTrue s.tells → 1 ≤ s.rules.undo_tries
     → AreInOrder place entries → sum_by entry_faults entries ≡ 0 → some_late_starved entries ≡ false → all_settled entries ≡ true
-    → AreUntried p.jobs → length entries ≤ n → AreNext s.script p entries → entries ≡ plain_from n s.script place p
+    → AreUntried p.jobs → length entries ≤ n → AreNext n s.script p entries → entries ≡ plain_from n s.script place p
 same_journal s p place zero [] told tells tries order faults starved settled all le next = refl
 same_journal s p place (suc n) [] told tells tries order faults starved settled all le next =
     sym (ap (journal_with s.script place p (λ (after : Progress). plain_from n s.script (place + 1) after)) next)
@@ -81,7 +96,7 @@ same_journal s p place (suc n) (e ∷ entries) told tells tries order faults sta
     let wanted = or_parts (has_memory_end e.outcome) (some_late_starved entries) starved in
     let ended = and_parts (is_settled e.outcome) (all_settled entries) settled in
     let more = λ (after : Progress). plain_from n s.script (place + 1) after in
-    let first = untried_get p.jobs (e.job - 1) f all one.started in
+    let first = (untried_get p.jobs (e.job - 1) f all one.started).0 in
     let same = same_entry s p f e place one.entry tells tries order.0 order.1 first none.0 wanted.0 ended.0 in
     let from = one.numbered in
     let job : e.job ≡ e.job - 1 + 1 = omega arith in
@@ -167,19 +182,26 @@ others_stay script p (e ∷ entries) k i g from lt has =
 abbrev pub AreOver : Script → List Following → Type 0
 AreOver script jobs = (i : ℕ) (g : Following) → slice_get jobs i ≡ Some g → is_some (next_body script g.job) ≡ false
 
--- where at the end no job has a transaction left, each entry is of the first job that has
-pub are_next : (s : Setting) (p : Progress) (entries : List Entry) → AreTrue s p entries → Rise entries
-    → AreOver s.script (fold (after_entry s.script) p entries).jobs → AreNext s.script p entries
-are_next s p [] told up over =
-    let P = λ (f : Following). is_some (next_body s.script f.job) in position_from-zero P p.jobs ∙ none_from P p.jobs 0 over
-are_next s p (e ∷ entries) told up over =
+-- the same of those before this one, which are counted from 1
+abbrev pub AreOverBefore : Script → List Following → ℕ → Type 0
+AreOverBefore script jobs job = (i : ℕ) (g : Following) → i < job - 1 → slice_get jobs i ≡ Some g → is_some (next_body script g.job) ≡ false
+
+-- where at the end none of the jobs before an entry's has a transaction left, and no job at all but behind so many entries, each
+-- entry is of the first job that has
+pub are_next : (s : Setting) (p : Progress) (n : ℕ) (entries : List Entry) → AreTrue s p entries → Rise entries
+    → ((k : ℕ) (e : Entry) → slice_get entries k ≡ Some e → AreOverBefore s.script (fold (after_entry s.script) p entries).jobs e.job)
+    → (length entries < n → AreOver s.script (fold (after_entry s.script) p entries).jobs) → AreNext n s.script p entries
+are_next s p zero entries told up before over = tt
+are_next s p (suc n) [] told up before over =
+    let P = λ (f : Following). is_some (next_body s.script f.job) in position_from-zero P p.jobs ∙ none_from P p.jobs 0 (over (omega arith))
+are_next s p (suc n) (e ∷ entries) told up before over =
     let P = λ (f : Following). is_some (next_body s.script f.job) in
     let one = told.0 in
     let less : AreFrom e.job (e ∷ entries) = (omega arith, up.0) in
     let at : 0 + (e.job - 1) ≡ e.job - 1 = omega arith in (
       position_from-zero P p.jobs
           ∙ first_from P p.jobs (e.job - 1) 0 one.following one.started one.entry.story.left
-          (λ j g lt has. over j g (others_stay s.script p (e ∷ entries) e.job j g less lt has))
+          (λ j g lt has. before 0 e refl j g lt (others_stay s.script p (e ∷ entries) e.job j g less lt has))
           ∙ ap Some at,
-      are_next s (after_entry s.script p e) entries told.1 up.1 over,
+      are_next s (after_entry s.script p e) n entries told.1 up.1 (λ k x there. before (suc k) x there) (λ short. over (omega arith)),
     )

@@ -1,5 +1,5 @@
 -- The text that a script gives where its jobs run one after another on the plain machine, and no call meets a fault.
-use Rattle.std.specs.Prelude.{ℕ, zero, suc, ◌+◌, List, [], ◌∷◌, length, map, position, slice_get, is_some, Option}
+use Rattle.std.specs.Prelude.{ℕ, zero, suc, ◌+◌, List, [], ◌∷◌, length, map, position, slice_get, is_some, Option, if◌then◌else◌}
 use Rattle.std.specs.declared.option.Option.TheVariants.{None, Some}
 use Rattle.xc_data.specs.Claims.{held_of}
 use Rattle.xc_data.specs.declared.call.Answer.TheVariants as answer
@@ -7,6 +7,7 @@ use Rattle.xc_data.specs.declared.call.Call.{Call}
 use Rattle.xc_data.specs.declared.call.Reply.{Reply}
 use Rattle.xc_data.specs.declared.entry.Cause.TheVariants as cause
 use Rattle.xc_data.specs.declared.entry.Entry.{Entry}
+use Rattle.xc_data.specs.declared.entry.JobEnd.{JobEnd}
 use Rattle.xc_data.specs.declared.entry.JobEnd.TheVariants as job_end
 use Rattle.xc_data.specs.declared.entry.JobLine.{JobLine}
 use Rattle.xc_data.specs.declared.entry.Outcome.{Outcome}
@@ -18,12 +19,11 @@ use Rattle.xc_print.specs.Text.{rendered}
 use Rattle.xc_script.specs.Ask.{Walk, asks, answered, all_answered, walk_from, next_body}
 use Rattle.xc_script.specs.declared.ask.Ask.{Ask}
 use Rattle.xc_script.specs.declared.ask.Ask.TheVariants as ask
-use Rattle.xc_story.specs.Ending.{transactions_of_jobs}
 use Rattle.xc_story.specs.Progress.{Following, Progress, opening_progress, private_of, after_entry, progress_of}
 use Rattle.xc_text.specs.declared.script.Script.{Script}
 use Rattle.xc_world.specs.Act.{act}
 use Rattle.xc_world.specs.Run.{Run, run, asked_of}
-use Rattle.xc_world.specs.World.{World, State}
+use Rattle.xc_world.specs.World.{World}
 
 -- a call and its reply
 abbrev pub Replied : Type 0
@@ -86,19 +86,21 @@ plain_from zero script place p = []
 plain_from (suc n) script place p =
     journal_with script place p (λ (after : Progress). plain_from n script (place + 1) after) (next_place script p.jobs)
 
--- the journal of the jobs one after another: an entry for each transaction of each job, since no call of a script starts a job
+-- the journal of the jobs one after another: an entry for each transaction of each job, until there are 10,000
 abbrev pub plain_journal : Script → List Entry
-plain_journal script =
-    let opening = opening_progress script in
-    plain_from (transactions_of_jobs script opening.jobs) script 0 opening
+plain_journal script = plain_from 10000 script 0 (opening_progress script)
+
+-- how a job ended that stands so behind that journal: the journal was full where a transaction is left
+abbrev pub plain_job_end : Script → Following → JobEnd
+plain_job_end script f = if is_some (next_body script f.job) then job_end.JournalFull else job_end.Done
 
 -- each started job with its end
-abbrev pub done_lines : State → List JobLine
-done_lines state = map (λ (block : List ℕ). record { block = block; end = job_end.Done }) state.world.started
+abbrev pub plain_lines : Script → List Following → List JobLine
+plain_lines script jobs = map (λ (f : Following). record { block = f.block; end = plain_job_end script f }) jobs
 
 -- the text of that journal, of its jobs and of the words that it leads to
 abbrev pub plain_text : Script → List ℕ
 plain_text script =
     let journal = plain_journal script in
-    let state = (progress_of script journal).state in
-    rendered journal (done_lines state) state.world.words
+    let behind = progress_of script journal in
+    rendered journal (plain_lines script behind.jobs) behind.state.world.words

@@ -32,11 +32,11 @@ returns-clause-answered g c =
     )
 
 pub returns-in-Ok-clause-plain : goal.returns-in-Ok-clause-plain
-returns-in-Ok-clause-plain g c = λ tells is.
+returns-in-Ok-clause-plain g c = λ tells fed unfailed.
     let told = g.K.Sink.told in
     let meant = c.decide-status.result in
     let d = c.decide-status.ensures in
     let wrote = subst (AppendsWhole (told c.args.sink.now) (told c.write_whole.new.sink)) c.as_bytes.ensures c.in-Ok.ensures.whole in
     plainly g.H.Host.model (map string_bytes c.args.words.now) (g.S.Source.told c.args.source.now)
     (g.S.Source.told c.decide-status.new.source) c.args.host meant.status meant.end (due_bytes meant.due)
-    (told c.args.sink.now) (told c.write_whole.new.sink) d.due d.run wrote tells is
+    (told c.args.sink.now) (told c.write_whole.new.sink) d.due d.run wrote tells fed
