@@ -19,12 +19,18 @@ is_commit (Aborted report) = false
 -- whether a call was answered by a fault
 abbrev pub is_fault_reply : Reply → Bool
 is_fault_reply (reply.Fault n) = true
+-- any other reply is none, also one yet to come
 is_fault_reply _ = false
 
 -- whether a late call ended in a fault
 abbrev pub is_fault_end : LateEnd → Bool
 is_fault_end (late_end.Fault n) = true
-is_fault_end _ = false
+is_fault_end late_end.Done = false
+is_fault_end (late_end.Full n) = false
+is_fault_end late_end.Shut = false
+is_fault_end late_end.NoName = false
+is_fault_end late_end.NoScript = false
+is_fault_end (late_end.NoMemory n) = false
 
 -- the faults that a compensation met
 abbrev pub end_faults : UndoEnd → ℕ

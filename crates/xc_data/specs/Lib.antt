@@ -1,3 +1,4 @@
+pub mod Calls
 pub mod Claims
 pub mod Counts
 pub mod Faults
@@ -6,3 +7,4 @@ pub mod Limits
 pub mod Private
 pub mod Spelling
 pub mod Standing
+pub mod Step

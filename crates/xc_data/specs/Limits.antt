@@ -15,12 +15,14 @@ IsOpenedFit Pair = Unit {0}
 -- whether a line opens a pipe
 abbrev pub is_pipe_line : Opened → Bool
 is_pipe_line (Pipe bytes) = true
-is_pipe_line _ = false
+is_pipe_line (File name bytes) = false
+is_pipe_line Pair = false
 
 -- whether a line opens a pair
 abbrev pub is_pair_line : Opened → Bool
 is_pair_line Pair = true
-is_pair_line _ = false
+is_pair_line (File name bytes) = false
+is_pair_line (Pipe bytes) = false
 
 -- no grain, or one from 1 to 65536
 abbrev pub IsGrain : Option ℕ → Type 0

@@ -20,7 +20,11 @@ objects_of (NewPair num) = object.Pair num ∷ []
 -- where a failed compensation stopped: after the restored bytes of an overwrite, else before all
 abbrev pub stopped_at : Undo → ℕ → ℕ
 stopped_at (Bytes file at before after n) done = done
-stopped_at _ done = 0
+stopped_at (Tail file from after n) done = 0
+stopped_at (Made name num) done = 0
+stopped_at (Moved from to) done = 0
+stopped_at (NewPipe num) done = 0
+stopped_at (NewPair num) done = 0
 
 -- the place in a record's covered bytes from which on its effect stands, none where it is undone
 abbrev pub stands_from : Undo → UndoEnd → Option ℕ
@@ -31,7 +35,11 @@ stands_from undo (Blocked by) = Some 0
 -- whether a failed compensation left something: an overwrite that was restored whole left nothing
 abbrev pub failed_short : Undo → ℕ → Bool
 failed_short (Bytes file at before after n) done = nat_lt done n
-failed_short _ done = true
+failed_short (Tail file from after n) done = true
+failed_short (Made name num) done = true
+failed_short (Moved from to) done = true
+failed_short (NewPipe num) done = true
+failed_short (NewPair num) done = true
 
 -- whether a record with its end leaves an effect
 abbrev pub leaves : Undo × UndoEnd → Bool

@@ -79,10 +79,6 @@ impl<T: Copy + Drop> Boxed<T> {
     }
 }
 
-impl<T: Eq> Eq for Boxed<T> {
-    ghost laws = { T.Eq.laws };
-}
-
 impl<T: Clone + Drop> Clone for Boxed<T> {
     ghost is_clone = { T.is_clone };
 

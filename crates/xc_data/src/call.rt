@@ -1,8 +1,11 @@
+ghost use Rattle.std.specs.Prelude.{◌≡◌};
+ghost use Rattle.xc_data.specs.Calls.{bytes_of, slot_of, is_late};
+
 use crate::{Boxed, Chunk, Ident, Name, Num, Object};
 
 /// A call as a transaction makes it. A handle is the number of a place of the job's; 65,535 stands
 /// for a variable that holds no handle.
-#[derive(Debug, Drop, PartialEq)]
+#[derive(Debug, Drop)]
 pub enum Call {
     Load {
         at: u64,
@@ -80,6 +83,44 @@ pub enum Call {
     },
 }
 
+impl Call {
+    /// The bytes that it carries.
+    pub fn bytes(&self) -> &[u8]
+        ensures { result.now ≡ bytes_of self.now }
+    {
+        match self {
+            Call::XWriteOvr { bytes, .. } | Call::XWriteSeq { bytes, .. } => bytes.as_slice(),
+            Call::XWritePipe { bytes, .. } | Call::XSendmsg { bytes, .. } => bytes.as_slice(),
+            Call::Load { .. } | Call::Store { .. } | Call::XOpen { .. } => &[],
+            Call::XCreate { .. } | Call::XRead { .. } | Call::XSeek { .. } => &[],
+            Call::XLen { .. } | Call::XRename { .. } | Call::XClose { .. } => &[],
+            Call::XPipe | Call::XReadPipe { .. } | Call::XPair | Call::XRecvmsg { .. } => &[],
+            Call::XUnlink { .. } | Call::XSync { .. } | Call::XShutdown { .. } => &[],
+            Call::XThreadCreate { .. } => &[],
+        }
+    }
+
+    /// The slot that takes how it ends, where it names one.
+    pub fn slot(&self) -> Option<Ident>
+        ensures { result ≡ slot_of self.now }
+    {
+        match self {
+            Call::XUnlink { slot, .. } | Call::XSync { slot, .. } => Boxed::optional_value(slot),
+            Call::XWritePipe { slot, .. } | Call::XShutdown { slot, .. } => Boxed::optional_value(
+                slot,
+            ),
+            Call::XSendmsg { slot, .. } | Call::XThreadCreate { slot, .. } => Boxed::optional_value(
+                slot,
+            ),
+            Call::Load { .. } | Call::Store { .. } | Call::XOpen { .. } => None,
+            Call::XCreate { .. } | Call::XRead { .. } | Call::XWriteOvr { .. } => None,
+            Call::XWriteSeq { .. } | Call::XSeek { .. } | Call::XLen { .. } => None,
+            Call::XRename { .. } | Call::XClose { .. } | Call::XPipe => None,
+            Call::XReadPipe { .. } | Call::XPair | Call::XRecvmsg { .. } => None,
+        }
+    }
+}
+
 /// What a call replies.
 #[derive(Debug, Drop, PartialEq)]
 pub enum Reply {
@@ -106,6 +147,15 @@ pub enum Reply {
     Late,
 }
 
+impl Reply {
+    /// Its call is kept until the commit.
+    pub fn is_late(&self) -> bool
+        ensures { result ≡ is_late self.now }
+    {
+        matches!(self, Reply::Late)
+    }
+}
+
 /// What a call met at the host. `Fault` has the number of bytes that were done.
 #[derive(Clone, Copy)]
 pub enum Answer {
@@ -121,7 +171,7 @@ pub struct Asked {
 }
 
 /// A call that is done after the commit, on the object that was fixed when it was made.
-#[derive(Debug, Drop)]
+#[derive(Drop)]
 pub enum LateCall {
     Unlink(Name),
     Sync(Num),
@@ -134,7 +184,7 @@ pub enum LateCall {
 }
 
 /// How a late call ended. A number is that of the bytes done.
-#[derive(Clone, Copy, Debug, PartialEq, Eq)]
+#[derive(Clone, Copy, Debug, PartialEq)]
 pub enum LateEnd {
     Done,
     Full(u32),

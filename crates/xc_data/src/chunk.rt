@@ -6,7 +6,7 @@ use std::alloc::Global;
 use std::marker::Model;
 
 /// Bytes that may have several owners. Another owner shares them and copies none.
-#[derive(Clone, Debug, Drop, PartialEq, Eq)]
+#[derive(Clone, Debug, Drop, PartialEq)]
 pub struct Chunk {
     bytes: Boxed<Bytes>,
 }

@@ -5,7 +5,7 @@ use crate::Object;
 
 /// How an object is held. Several transactions may hold one object Shared; who holds it Exclusive holds it
 /// alone.
-#[derive(Clone, Copy, Debug, Default, PartialEq, Eq)]
+#[derive(Clone, Copy, Debug, Default, PartialEq)]
 pub enum Mode {
     #[default]
     Shared,
@@ -32,7 +32,7 @@ impl Mode {
 }
 
 /// An object with the mode in which it is touched or held.
-#[derive(Clone, Copy, Debug, Default, PartialEq, Eq)]
+#[derive(Clone, Copy, Debug, Default, PartialEq)]
 pub struct Claim {
     pub object: Object,
     pub mode: Mode,

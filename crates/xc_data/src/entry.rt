@@ -23,7 +23,7 @@ pub type JobNumbers = Items<u32>;
 pub type Text = Items<u8>;
 
 /// Why a transaction was aborted. `at` is the length that the journal had then.
-#[derive(Clone, Copy, Debug, PartialEq, Eq)]
+#[derive(Clone, Copy, Debug, PartialEq)]
 pub enum Cause {
     /// The script said so.
     Asked,
@@ -43,7 +43,7 @@ pub enum Cause {
 }
 
 /// That a running transaction is to be revoked: an older one waits for what it holds.
-#[derive(Clone, Copy, Debug, PartialEq, Eq)]
+#[derive(Clone, Copy)]
 pub struct Mark {
     pub object: Object,
     /// The number of the older one.
@@ -81,7 +81,8 @@ fn is_left(undo: &Undo, end: &UndoEnd) -> bool
         UndoEnd::Blocked { .. } => true,
         UndoEnd::Failed { done, .. } => match undo {
             Undo::Bytes { n, .. } => done < n,
-            _ => true,
+            Undo::Tail { .. } | Undo::Made { .. } | Undo::Moved { .. } => true,
+            Undo::NewPipe(_) | Undo::NewPair(_) => true,
         },
     }
 }
@@ -108,7 +109,7 @@ pub struct Entry {
 }
 
 /// How a job ended.
-#[derive(Clone, Copy, Debug, PartialEq, Eq)]
+#[derive(Clone, Copy, Debug)]
 pub enum JobEnd {
     Done,
     /// After as many attempts at one transaction as are allowed, with the last one's cause.
@@ -118,7 +119,7 @@ pub enum JobEnd {
 }
 
 /// What a turn of a job answers.
-#[derive(Clone, Copy, Debug, PartialEq, Eq)]
+#[derive(Clone, Copy)]
 pub enum Turn {
     Went,
     /// The job waits for this object's holder.
@@ -128,7 +129,7 @@ pub enum Turn {
 }
 
 /// One event of the station.
-#[derive(Clone, Copy, Debug, PartialEq, Eq)]
+#[derive(Clone, Copy)]
 pub enum Event {
     /// A turn; no answer where the job wasn't live.
     Turned { job: u32, answer: Option<Turn> },
@@ -139,7 +140,7 @@ pub enum Event {
 }
 
 /// A job's block and end.
-#[derive(Clone, Copy, Debug, PartialEq, Eq)]
+#[derive(Clone, Copy, Debug)]
 pub struct JobLine {
     pub block: Ident,
     pub end: JobEnd,
@@ -147,7 +148,7 @@ pub struct JobLine {
 
 /// What was taken out of a pipe or a pair: the first bytes, or the first message for a side. What aborted
 /// transactions took is kept for the readers after them.
-#[derive(Debug, Drop)]
+#[derive(Drop)]
 pub enum KeptItem {
     Bytes { pipe: Num, bytes: Chunk },
     /// A message for this side.

@@ -11,6 +11,7 @@ mod claim;
 mod entry;
 mod ident;
 mod items;
+mod late;
 mod limits;
 mod memory;
 mod name;

@@ -1,7 +1,7 @@
 use std::alloc::{AllocError, AllocFailed};
 
 /// Want of memory. It may come at any call that answers it.
-#[derive(Clone, Copy, Debug, PartialEq, Eq)]
+#[derive(Clone, Copy, Debug)]
 pub struct NoMemory;
 
 impl From<AllocError> for NoMemory {

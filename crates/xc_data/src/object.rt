@@ -9,7 +9,7 @@ pub struct Num {
 }
 
 /// What a transaction touches and holds. A name is an object of its own, also where it is absent.
-#[derive(Clone, Copy, Debug, Default, PartialEq, Eq, Hash)]
+#[derive(Clone, Copy, Debug, Default, PartialEq, Eq)]
 pub enum Object {
     Word(u32),
     Name(Name),

@@ -6,7 +6,7 @@ ghost use Rattle.xc_data.specs.Private.{place_of, is_vacant, lowest_vacant, with
 
 use crate::Num;
 
-#[derive(Clone, Copy, Debug, PartialEq, Eq)]
+#[derive(Clone, Copy)]
 pub enum Place {
     Vacant,
     File { num: Num, at: u32 },

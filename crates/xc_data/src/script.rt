@@ -12,7 +12,7 @@ pub type OpenedList = Items<Opened>;
 pub type FaultList = Items<FaultLine>;
 
 /// The kinds of host calls. `Any` counts them all.
-#[derive(Clone, Copy, Debug, PartialEq, Eq)]
+#[derive(Clone, Copy, Debug, PartialEq)]
 pub enum Kind {
     Lookup,
     Create,
@@ -50,7 +50,7 @@ pub enum Opened {
 }
 
 /// The calls of a kind that fail: from the `first` to the `last` of them, counted from 1.
-#[derive(Clone, Copy, Debug, PartialEq, Eq)]
+#[derive(Clone, Copy, Debug)]
 pub struct FaultLine {
     pub kind: Kind,
     pub first: u64,

@@ -39,7 +39,7 @@ pub enum Undo {
 }
 
 /// How a compensation ended.
-#[derive(Clone, Copy, Debug, PartialEq, Eq)]
+#[derive(Clone, Copy, Debug)]
 pub enum UndoEnd {
     /// Done, after so many faults.
     Undone { faults: u32 },

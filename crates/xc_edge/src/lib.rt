@@ -7,8 +7,6 @@
 mod memory;
 mod standard;
 mod streams;
-#[cfg(test)]
-mod tests;
 mod whole;
 
 pub use memory::{MemSink, MemSource};

@@ -13,7 +13,8 @@ pub fn standing(undo: &Undo, end: &UndoEnd) -> Option<u32>
         UndoEnd::Blocked { .. } => Some(0),
         UndoEnd::Failed { done, .. } => match undo {
             Undo::Bytes { .. } => Some(*done),
-            _ => Some(0),
+            Undo::Tail { .. } | Undo::Made { .. } | Undo::Moved { .. } => Some(0),
+            Undo::NewPipe(_) | Undo::NewPair(_) => Some(0),
         },
     }
 }

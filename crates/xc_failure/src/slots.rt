@@ -102,14 +102,4 @@ impl Slots {
     {
         self.names.get(at as usize).copied()
     }
-
-    /// Another with the same ends.
-    pub fn copied(&self) -> Result<Slots, NoMemory>
-        ensures { IfOk result (λ copy. copy ≡ self.now) }
-    {
-        Ok(Slots {
-            names: self.names.clone()?,
-            ends: self.ends.clone()?,
-        })
-    }
 }

@@ -120,7 +120,7 @@ module _ (s : Standing) (job : ℕ) (t : Tx) (c : Asked) (h : InFlight s) (activ
   abbrev in_sight : Ran
   in_sight = record (noted s.state t) { world = seen s.now t; me = t.me }
 
-  both_alike : Alike (Has t) t.number (noted s.state t).world (seen s.now t) (noted s.state t) in_sight
+  both_alike : Alike (Has t) t.number ((noted s.state t).world, seen s.now t) (noted s.state t) in_sight
   both_alike =
       record {
         gave = record { me = inside.me; replies = refl; late = refl; trail = refl; taken = refl; touched = refl };
@@ -141,7 +141,7 @@ module _ (s : Standing) (job : ℕ) (t : Tx) (c : Asked) (h : InFlight s) (activ
   within = record { claimed = λ o at. inl (call_covers.objects o at); numbered = λ o e. inr e }
 
   -- one step more, in the body and in what it sees
-  steps : Alike (Has t) t.number (noted s.state t).world (seen s.now t) (step t.number (noted s.state t) c) (step t.number in_sight c)
+  steps : Alike (Has t) t.number ((noted s.state t).world, seen s.now t) (step t.number (noted s.state t) c) (step t.number in_sight c)
   steps = step_alike (Has t) t.number (noted s.state t).world (seen s.now t) (noted s.state t) in_sight c both_alike within
 
   -- its claims cover those of the call too

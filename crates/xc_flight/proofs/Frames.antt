@@ -147,13 +147,13 @@ words_there w x t stores keeps stored there =
 
 -- ---- two states that agree on what it has
 module _ (w v : World) (t : Tx) (count : length w.words ≡ length v.words) (blocks : w.blocks ≡ v.blocks) (agree : AgreeOn (Has t) w v) (i : Inside w t) where
-  noted_alike : Alike (Has t) t.number w v (noted w t) (noted v t)
+  noted_alike : Alike (Has t) t.number (w, v) (noted w t) (noted v t)
   noted_alike =
       goes_on_alike (Has t) t.number w v (begins w t.began) (begins v t.began) (asked_of t.calls t.replies)
       (begin_alike (Has t) t.number w v t.began count agree)
       (λ o at. inl (i.covers.objects o (keeps_touched t.number (noted w t) t.unnoted o at))) (λ o e. inr e)
 
-  ran_alike : Alike (Has t) t.number w v (ran w t) (ran v t)
+  ran_alike : Alike (Has t) t.number (w, v) (ran w t) (ran v t)
   ran_alike = goes_on_alike (Has t) t.number w v (noted w t) (noted v t) t.unnoted noted_alike (λ o at. inl (i.covers.objects o at)) (λ o e. inr e)
 
   fits_alike : body_fits w t.began t.number (asked t) ≡ body_fits v t.began t.number (asked t)

@@ -49,7 +49,8 @@ left w t Undoing = with_remains w (effects t)
 -- the world that is to be so: while it undoes, what it took from pipes and pairs is still to be given back
 abbrev pub returned : World → Tx → Phase → World
 returned now t Undoing = given_back now t.taken
-returned now t _ = now
+returned now t Running = now
+returned now t Committing = now
 
 -- ---- what each phase says
 -- a running one: its stores wait

@@ -4,6 +4,7 @@ use Rattle.xc_data.specs.Counts.{CountsFault}
 use Rattle.xc_data.specs.declared.script.FaultLine.{FaultLine}
 use Rattle.xc_data.specs.declared.script.Kind.{Kind}
 use Rattle.xc_data.specs.declared.script.Prologue.{Prologue}
+use Rattle.xc_data.specs.Step.{Step}
 use Rattle.xc_host.specs.Cause.{is_fault, IsCalled}
 use Rattle.xc_host.specs.Contents.{Contents}
 use Rattle.xc_host.specs.declared.errors.HostErr.{HostErr}
@@ -31,11 +32,6 @@ pub record HostModel (H : Type 0) : Type 0 where
   pub calls : H → Kind → ℕ
   -- what the prologue said with which it was opened last
   pub plan : H → Plan
-
--- a host before and after something
-pub record Step (H : Type 0) : Type 0 where
-  pub old : H
-  pub new : H
 
 -- it was called so, with so many faults, and follows the same plan
 pub record IsUsed {H : Type 0} (model : HostModel H) (made : List Kind) (step : Step H) : Type 0 where

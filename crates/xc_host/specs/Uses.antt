@@ -16,7 +16,8 @@ use Rattle.xc_data.specs.declared.undo.Undo.{Undo}
 use Rattle.xc_data.specs.declared.undo.Undo.TheVariants.{Bytes, Tail, Made, Moved, NewPipe, NewPair}
 use Rattle.xc_data.specs.declared.undo.UndoEnd.{UndoEnd}
 use Rattle.xc_data.specs.declared.undo.UndoEnd.TheVariants.{Undone, Failed, Blocked}
-use Rattle.xc_host.specs.Model.{HostModel, IsUsed, Step}
+use Rattle.xc_data.specs.Step.{Step}
+use Rattle.xc_host.specs.Model.{HostModel, IsUsed}
 
 -- so many calls may move n bytes piece by piece, none of them empty: one at least, where there are bytes
 pub record MayMove (n count : ℕ) : Type 0 where

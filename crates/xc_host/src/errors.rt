@@ -2,12 +2,12 @@ use std::alloc::{AllocError, AllocFailed};
 use thiserror::Error;
 
 /// The host failed. It doesn't say why, and nothing was changed.
-#[derive(Clone, Copy, Debug, PartialEq, Eq, Error)]
+#[derive(Clone, Copy, Debug, PartialEq, Error)]
 #[error("the host failed")]
 pub struct Fault;
 
 /// Why a call of the host did nothing.
-#[derive(Clone, Copy, Debug, PartialEq, Eq, Error)]
+#[derive(Clone, Copy, Debug, PartialEq, Error)]
 pub enum HostErr {
     #[error("the host failed")]
     Fault,
@@ -16,7 +16,7 @@ pub enum HostErr {
 }
 
 /// Why a host isn't opened with a prologue.
-#[derive(Clone, Copy, Debug, PartialEq, Eq, Error)]
+#[derive(Clone, Copy, Debug, Error)]
 pub enum OpenErr {
     /// It takes no script, and the prologue has a line for a host that does.
     #[error("not scripted")]

@@ -3,7 +3,5 @@
 #![tactic(auto)]
 
 mod roomy;
-#[cfg(test)]
-mod tests;
 
 pub use roomy::{Journal, Roomy};

@@ -38,6 +38,7 @@ pub fn taken_by(call: &Call, me: &Private, reply: &Reply) -> Result<Option<KeptI
     match (call, reply) {
         (Call::XReadPipe { h, .. }, Reply::Got(bytes)) => bytes_taken(me.place(*h), bytes),
         (Call::XRecvmsg { h }, Reply::Got(bytes)) => message_taken(me.place(*h), bytes),
+        // No other call takes what is in a pipe or a pair, and a reply without bytes tells that nothing was taken.
         _ => Ok(None),
     }
 }

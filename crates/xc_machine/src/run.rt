@@ -3,14 +3,15 @@ ghost use Rattle.xc_data.specs.Claims.{holding, held_of};
 ghost use Rattle.xc_world.specs.Sound.{IsSound};
 ghost use Rattle.xc_world.specs.Act.{act};
 ghost use Rattle.xc_world.specs.Fits.{fits};
-ghost use Rattle.xc_world.specs.Late.{late_call, kept_call};
+ghost use Rattle.xc_world.specs.Late.{kept_call};
+ghost use Rattle.xc_data.specs.Calls.{late_call};
 ghost use Rattle.xc_world.specs.Modes.{claims_of};
 ghost use Rattle.xc_world.specs.Run.{body, body_fits, taken_by};
 
 use crate::{World, hold, taken_by};
 use std::alloc::Global;
 use xc_data::{Asked, Claim, Items, KeptList, LateCall, NoMemory, Private, Reply, ReplyList};
-use xc_world::{late_call, touched};
+use xc_world::touched;
 
 /// What a body gave on its way, in the order of its calls: their replies, its late calls and what it
 /// took; and its claims, each object once.
@@ -46,7 +47,7 @@ impl Replied {
         ensures held { OnOk result (self.new.held ≡ self.old.held) }
     {
         if let Some(call) = late
-            && *reply == Reply::Late
+            && reply.is_late()
         {
             self.late.push(call)?;
         }
@@ -89,7 +90,7 @@ impl Replied {
             ≡ holding self.old.held.items (claims_of asked.now.call me.old (length world.old.words))) }
     {
         let before = *me;
-        let late = late_call(&asked.call, me)?;
+        let late = asked.call.late_call(me)?;
         let claims = touched(world.alloc(), &asked.call, me, world.word_count() as u32);
         hold(&mut self.held, claims.as_slice())?;
         let reply = world.act(me, tx, &asked.call, asked.answer)?;

@@ -73,7 +73,10 @@ changed s (call.Restore file at bytes) = written s file at bytes
 changed s (call.Cut file len) = shortened s.contents file len
 changed s (call.Uncreate name num) = uncreated s.contents name num
 changed s (call.NameBack from to) = renamed s.contents to from
-changed s _ = s.contents
+changed s (call.Lookup name) = s.contents
+changed s (call.Len file) = s.contents
+changed s (call.ReadAt file at n) = s.contents
+changed s (call.Sync file) = s.contents
 
 -- ---- any call: a listed one fails and changes nothing but the counts
 -- its answer

@@ -9,7 +9,7 @@ use xc_data::{Chunk, Items, Name, NoMemory, Num};
 use xc_host::{Fault, Host, HostErr};
 
 /// A call of a host.
-#[derive(Debug, Drop)]
+#[derive(Drop)]
 pub enum HostCall {
     Lookup(Name),
     Create { name: Name, num: Num },
@@ -27,7 +27,7 @@ pub enum HostCall {
 }
 
 /// What a call answers. A write, a restoration and an append answer how many bytes they did.
-#[derive(Debug, Drop, PartialEq, Eq)]
+#[derive(Drop, PartialEq)]
 pub enum HostAnswer {
     Found(Option<Num>),
     Number(u32),

@@ -7,7 +7,7 @@ use xc_data::{Entry, LateEnd, Outcome, Reply, Undo, UndoEnd};
 use xc_failure::standing;
 
 /// What the last line of a text counts.
-#[derive(Clone, Copy, Debug, PartialEq, Eq)]
+#[derive(Clone, Copy)]
 pub struct Totals {
     pub committed: usize,
     pub aborted: usize,

@@ -11,7 +11,7 @@ use xc_data::{Kind, Name, NoMemory, Num};
 use xc_host::KindCounts;
 
 /// A call of the host, with the place and the length that it asks for, each 0 where it asks for none.
-#[derive(Clone, Copy, Debug, PartialEq, Eq)]
+#[derive(Clone, Copy, Debug, PartialEq)]
 pub struct Asked {
     pub kind: Kind,
     pub at: u32,

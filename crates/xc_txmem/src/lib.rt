@@ -1,8 +1,6 @@
 //! The words of memory, and a transaction's stores laid over them until it commits.
 #![tactic(auto)]
 
-#[cfg(test)]
-mod tests;
 mod words;
 mod writes;
 

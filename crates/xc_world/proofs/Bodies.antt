@@ -73,13 +73,14 @@ keeps_touched tx ran (c ∷ asked) o at =
     keeps_touched tx (step tx ran c) asked o (in_front ran.touched (claims_of c.call ran.me (length ran.world.words)) o at)
 
 -- ---- one call of two bodies
--- two bodies gave the same so far, in worlds that agree on what P tells
-pub record Alike (P : Object → Type 0) (tx : ℕ) (w v : World) (r q : Ran) : Type 0 where
+-- two bodies gave the same so far, in worlds that agree on what P tells; and from the worlds in which they began, each
+-- changed nothing but its own
+pub record Alike (P : Object → Type 0) (tx : ℕ) (starts : World × World) (r q : Ran) : Type 0 where
   pub gave : GaveAlike r q
   pub agree : AgreeOn P r.world q.world
   pub count : length r.world.words ≡ length q.world.words
-  pub left : KeepsBut (Owns tx r.touched) w r.world
-  pub right : KeepsBut (Owns tx q.touched) v q.world
+  pub left : KeepsBut (Owns tx r.touched) starts.0 r.world
+  pub right : KeepsBut (Owns tx q.touched) starts.1 q.world
 
 -- the objects of a call are among those of P
 pub record Within (P : Object → Type 0) (tx : ℕ) (r : Ran) (c : Asked) : Type 0 where
@@ -112,8 +113,8 @@ step_keeps tx w r c before now =
     (owns_in_front tx r.touched (claims_of c.call r.me (length r.world.words))) before) now
 
 -- two bodies stay alike over one call on objects of P
-pub step_alike : (P : Object → Type 0) (tx : ℕ) (w v : World) (r q : Ran) (c : Asked) → Alike P tx w v r q → Within P tx r c
-    → Alike P tx w v (step tx r c) (step tx q c)
+pub step_alike : (P : Object → Type 0) (tx : ℕ) (w v : World) (r q : Ran) (c : Asked) → Alike P tx (w, v) r q → Within P tx r c
+    → Alike P tx (w, v) (step tx r c) (step tx q c)
 step_alike P tx w v r q c so within =
     let words = length r.world.words in
     let both = call_agreed P tx r q c so.agree within in
@@ -160,15 +161,15 @@ next_within P tx ran c asked touched numbered =
     }
 
 -- two bodies stay alike over calls on objects of P
-pub goes_on_alike : (P : Object → Type 0) (tx : ℕ) (w v : World) (r q : Ran) (asked : List Asked) → Alike P tx w v r q
+pub goes_on_alike : (P : Object → Type 0) (tx : ℕ) (w v : World) (r q : Ran) (asked : List Asked) → Alike P tx (w, v) r q
     → ((o : Object) → Contains (objects (goes_on tx r asked).touched) o → P o) → ((o : Object) → IsNumbered tx o → P o)
-    → Alike P tx w v (goes_on tx r asked) (goes_on tx q asked)
+    → Alike P tx (w, v) (goes_on tx r asked) (goes_on tx q asked)
 goes_on_alike P tx w v r q [] so touched numbered = so
 goes_on_alike P tx w v r q (c ∷ asked) so touched numbered =
     goes_on_alike P tx w v (step tx r c) (step tx q c) asked (step_alike P tx w v r q c so (next_within P tx r c asked touched numbered)) touched numbered
 
 -- the same answers fit the calls of both
-pub on_fits_alike : (P : Object → Type 0) (tx : ℕ) (w v : World) (r q : Ran) (asked : List Asked) → Alike P tx w v r q
+pub on_fits_alike : (P : Object → Type 0) (tx : ℕ) (w v : World) (r q : Ran) (asked : List Asked) → Alike P tx (w, v) r q
     → ((o : Object) → Contains (objects (goes_on tx r asked).touched) o → P o) → ((o : Object) → IsNumbered tx o → P o)
     → body_fits r.world r.me tx asked ≡ body_fits q.world q.me tx asked
 on_fits_alike P tx w v r q [] so touched numbered = refl
@@ -181,7 +182,7 @@ on_fits_alike P tx w v r q (c ∷ asked) so touched numbered =
 
 -- ---- from the begin
 pub begin_alike : (P : Object → Type 0) (tx : ℕ) (w v : World) (me : Private) → length w.words ≡ length v.words → AgreeOn P w v
-    → Alike P tx w v (begins w me) (begins v me)
+    → Alike P tx (w, v) (begins w me) (begins v me)
 begin_alike P tx w v me count agree =
     record {
       gave = record { me = refl; replies = refl; late = refl; trail = refl; taken = refl; touched = refl };

@@ -18,7 +18,8 @@ use Rattle.xc_data.specs.declared.private.Place.TheVariants as place
 use Rattle.xc_data.specs.declared.private.Private.{Private}
 use Rattle.xc_data.specs.Private.{place_of}
 use Rattle.xc_world.specs.World.{World}
-use Rattle.xc_world.specs.Checks.{bytes_of, is_refused, is_bad_handle, is_too_big, is_too_much, is_bad_word}
+use Rattle.xc_world.specs.Checks.{is_refused, is_bad_handle, is_too_big, is_too_much, is_bad_word}
+use Rattle.xc_data.specs.Calls.{bytes_of}
 use Rattle.xc_world.specs.Act.{act, fine, done}
 use Rattle.xc_world.specs.Act.Step.{Stepped, step_to, counted}
 use Rattle.xc_world.specs.Touch.{touch, objects_of_call, object_at, made_by}

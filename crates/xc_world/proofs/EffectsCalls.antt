@@ -19,7 +19,7 @@ use Rattle.xc_data.specs.Private.{place_of, with_place, lowest_vacant}
 use Rattle.xc_world.specs.World.{World, file_of, with_file}
 use Rattle.xc_world.specs.Act.Step.{Stepped, step_to}
 use Rattle.xc_world.specs.Act.Names.{next_num, opened, created, renamed}
-use Rattle.xc_world.specs.Act.Files.{got, read_at, overwritten, put, overwrite_at, appended, append_at, seek_at, len_at, overwrite_short, append_short}
+use Rattle.xc_world.specs.Act.Files.{open_at, got, read_at, overwritten, put, overwrite_at, appended, append_at, seek_at, len_at, overwrite_short, append_short}
 use Rattle.xc_world.specs.Act.Pipes.{new_pipe, pair_made, new_pair}
 use Rattle.xc_world.specs.Act.{fine, faulty, done, act}
 use Rattle.xc_world.specs.Trail.{done_of, overwrite_record, append_record, create_record, rename_record, pipe_record, pair_record, recorded, move_name}
@@ -60,7 +60,7 @@ overwrite_at-leads : (w : World) (me : Private) (h : ℕ) (bytes : List ℕ) (p 
 overwrite_at-leads w me h bytes (File num at) =
     let before = take (length bytes) (drop at (file_of w num)) in
     cond_both (length bytes == 0) _ _ (LeadsOverwrite w bytes (File num at)) (λ none. none_leads w _ (length bytes == 0) none) (λ some.
-    cond_both (nat_lt (length (file_of w num)) (at + length bytes)) (step_to w me reply.PastEnd) (put w me h num at bytes reply.Done)
+    cond_both (nat_lt (length (file_of w num)) (at + length bytes)) (step_to w me reply.PastEnd) (put w me (open_at h num at) bytes reply.Done)
     (LeadsOverwrite w bytes (File num at)) (λ _. refl) (λ _.
     one_leads w _ (Bytes num at before bytes (length bytes) ∷ []) (length bytes == 0) some
     (put-leads w num at (length bytes) before bytes bytes (sym (take_all (length bytes) bytes (omega arith))))))
@@ -68,7 +68,7 @@ overwrite_at-leads w me h bytes Vacant = refl
 overwrite_at-leads w me h bytes (Pipe num) = refl
 overwrite_at-leads w me h bytes (Pair num side) = refl
 
-overwrite_short-leads : (w : World) (me : Private) (h : ℕ) (bytes : List ℕ) (n : ℕ) (p : Place) → LeadsOverwrite w bytes p (overwrite_short w me h bytes n p)
+overwrite_short-leads : (w : World) (me : Private) (h : ℕ) (bytes : List ℕ) (n : ℕ) (p : Place) → LeadsOverwrite w bytes p (overwrite_short w me (h, p) bytes n)
 overwrite_short-leads w me h bytes n (File num at) =
     let before = take (length bytes) (drop at (file_of w num)) in
     cond_both (n == 0) _ _ (LeadsOverwrite w bytes (File num at)) (λ none. none_leads w _ (n == 0) none) (λ some.
@@ -89,15 +89,15 @@ append_at-leads : (w : World) (me : Private) (h : ℕ) (bytes : List ℕ) (p : P
 append_at-leads w me h bytes (File num at) =
     let from = length (file_of w num) in
     cond_both (length bytes == 0) _ _ (LeadsAppend w bytes (File num at)) (λ none. none_leads w _ (length bytes == 0) none) (λ some.
-    cond_both (nat_lt 65536 (from + length bytes)) (step_to w me reply.TooBig) (appended w me h num bytes reply.Done) (LeadsAppend w bytes (File num at))
-    (λ _. refl) (λ _.
+    cond_both (nat_lt 65536 (from + length bytes)) (step_to w me reply.TooBig) (appended w me (open_at h num at) bytes reply.Done)
+    (LeadsAppend w bytes (File num at)) (λ _. refl) (λ _.
     one_leads w _ (Tail num from bytes (length bytes) ∷ []) (length bytes == 0) some
     (appended-leads w num from (length bytes) bytes bytes (sym (take_all (length bytes) bytes (omega arith))))))
 append_at-leads w me h bytes Vacant = refl
 append_at-leads w me h bytes (Pipe num) = refl
 append_at-leads w me h bytes (Pair num side) = refl
 
-append_short-leads : (w : World) (me : Private) (h : ℕ) (bytes : List ℕ) (n : ℕ) (p : Place) → LeadsAppend w bytes p (append_short w me h bytes n p)
+append_short-leads : (w : World) (me : Private) (h : ℕ) (bytes : List ℕ) (n : ℕ) (p : Place) → LeadsAppend w bytes p (append_short w me (h, p) bytes n)
 append_short-leads w me h bytes n (File num at) =
     let from = length (file_of w num) in
     cond_both (n == 0) _ _ (LeadsAppend w bytes (File num at)) (λ none. none_leads w _ (n == 0) none) (λ some.
@@ -108,13 +108,13 @@ append_short-leads w me h bytes n (Pair num side) = refl
 
 -- ---- names, pipes and pairs
 created-leads : (w : World) (me : Private) (tx : ℕ) (name : List ℕ) (o : Option Num) (vacant : Option ℕ)
-    → Leads w (created w me tx name o vacant).world (create_record me tx name (created w me tx name o vacant).reply)
+    → Leads w (created w me tx name (o, vacant)).world (create_record me tx name (created w me tx name (o, vacant)).reply)
 created-leads w me tx name (Some num) vacant = refl
 created-leads w me tx name None None = refl
 created-leads w me tx name None (Some h) = refl
 
 renamed-leads : (w : World) (me : Private) (from to : List ℕ) (o there : Option Num) → finite.get w.names from ≡ o
-    → Leads w (renamed w me from to o there).world (rename_record from to (renamed w me from to o there).reply)
+    → Leads w (renamed w me from to (o, there)).world (rename_record from to (renamed w me from to (o, there)).reply)
 renamed-leads w me from to None there e = refl
 renamed-leads w me from to (Some num) (Some other) e = refl
 renamed-leads w me from to (Some num) None e = ap (λ o. with_words (move_name w from to o) w.words) (sym e)
@@ -145,8 +145,8 @@ new_pair-leads w me tx (Some h) =
 read_at-leads : (w : World) (me : Private) (h n : ℕ) (p : Place) → Rests w (read_at w me h n p)
 read_at-leads w me h n (File num at) =
     cond_both (n == 0) (step_to w me (reply.Got [])) _ (Rests w) (λ _. refl) (λ _.
-    cond_both (nat_le (length (file_of w num)) at) (step_to w me reply.End) (got w me h num at (take n (drop at (file_of w num)))) (Rests w) (λ _. refl)
-    (λ _. refl))
+    cond_both (nat_le (length (file_of w num)) at) (step_to w me reply.End) (got w me (open_at h num at) (take n (drop at (file_of w num)))) (Rests w)
+    (λ _. refl) (λ _. refl))
 read_at-leads w me h n Vacant = refl
 read_at-leads w me h n (Pipe num) = refl
 read_at-leads w me h n (Pair num side) = refl

@@ -22,7 +22,7 @@ use Rattle.xc_world.specs.World.{World, Pipe, Pair, file_of, pipe_of, pair_of, e
 use Rattle.xc_world.specs.Act.{fine, faulty, done}
 use Rattle.xc_world.specs.Act.Step.{Stepped, step_to}
 use Rattle.xc_world.specs.Act.Names.{next_num, opened, created, renamed}
-use Rattle.xc_world.specs.Act.Files.{read_at, overwritten, put, overwrite_at, appended, append_at, seek_at, len_at, overwrite_short, append_short}
+use Rattle.xc_world.specs.Act.Files.{open_at, read_at, overwritten, put, overwrite_at, appended, append_at, seek_at, len_at, overwrite_short, append_short}
 use Rattle.xc_world.specs.Act.Pipes.{nothing, new_pipe, read_pipe_at, pair_made, new_pair, received, receive_at}
 use Rattle.xc_world.specs.Touch.{object_at, objects_of_call, made_by}
 use Rattle.xc_world.specs.Laws.{AgreeAt, GoAlike, ActsAlike}
@@ -91,7 +91,7 @@ module _ (objects : List Object) (w v : World) where
   read_alike me h n (place.Pair num side) has agree = quiet me reply.BadHandle agree
 
   put_alike : (me : Private) (h : ℕ) (num : Num) (at : ℕ) (bytes : List ℕ) (r : Reply) → Contains objects (object.File num) → All (AgreeAt w v) objects
-      → ActsAlike objects w v (put w me h num at bytes r) (put v me h num at bytes r)
+      → ActsAlike objects w v (put w me (open_at h num at) bytes r) (put v me (open_at h num at) bytes r)
   put_alike me h num at bytes r has agree =
       changed _ _ _ _ r r refl refl (file_alike objects w v num (overwritten at bytes (file_of w num)) (overwritten at bytes (file_of v num))
       (ap (overwritten at bytes) (same_file num has agree)) has agree)
@@ -108,9 +108,9 @@ module _ (objects : List Object) (w v : World) where
   overwrite_alike me h bytes (place.Pipe num) has agree = quiet me reply.BadHandle agree
   overwrite_alike me h bytes (place.Pair num side) has agree = quiet me reply.BadHandle agree
 
-  appended_alike : (me : Private) (h : ℕ) (num : Num) (bytes : List ℕ) (r : Reply) → Contains objects (object.File num) → All (AgreeAt w v) objects
-      → ActsAlike objects w v (appended w me h num bytes r) (appended v me h num bytes r)
-  appended_alike me h num bytes r has agree =
+  appended_alike : (me : Private) (h : ℕ) (num : Num) (at : ℕ) (bytes : List ℕ) (r : Reply) → Contains objects (object.File num) → All (AgreeAt w v) objects
+      → ActsAlike objects w v (appended w me (open_at h num at) bytes r) (appended v me (open_at h num at) bytes r)
+  appended_alike me h num at bytes r has agree =
       let e = same_file num has agree in
       changed _ _ _ _ r r (ap (λ f. with_place me h (place.File num (length f + length bytes))) e) refl
       (file_alike objects w v num (file_of w num ++ bytes) (file_of v num ++ bytes) (ap (λ f. f ++ bytes) e) has agree)
@@ -122,7 +122,7 @@ module _ (objects : List Object) (w v : World) where
       both_so (ActsAlike objects w v) (length bytes == 0) (length bytes == 0) _ _ _ _ refl (λ _. quiet me reply.Done agree) (λ _.
       both_so (ActsAlike objects w v) (nat_lt 65536 (length (file_of w num) + length bytes)) (nat_lt 65536 (length (file_of v num) + length bytes)) _ _ _ _
       (ap (λ f. nat_lt 65536 (length f + length bytes)) e)
-      (λ _. quiet me reply.TooBig agree) (λ _. appended_alike me h num bytes reply.Done has agree))
+      (λ _. quiet me reply.TooBig agree) (λ _. appended_alike me h num at bytes reply.Done has agree))
   append_alike me h bytes place.Vacant has agree = quiet me reply.BadHandle agree
   append_alike me h bytes (place.Pipe num) has agree = quiet me reply.BadHandle agree
   append_alike me h bytes (place.Pair num side) has agree = quiet me reply.BadHandle agree
@@ -141,7 +141,7 @@ module _ (objects : List Object) (w v : World) where
 
   -- ---- with a fault
   overwrite_short_alike : (me : Private) (h : ℕ) (bytes : List ℕ) (n : ℕ) (p : Place) → Has objects p → All (AgreeAt w v) objects
-      → ActsAlike objects w v (overwrite_short w me h bytes n p) (overwrite_short v me h bytes n p)
+      → ActsAlike objects w v (overwrite_short w me (h, p) bytes n) (overwrite_short v me (h, p) bytes n)
   overwrite_short_alike me h bytes n (place.File num at) has agree =
       both_so (ActsAlike objects w v) (n == 0) (n == 0) _ _ _ _ refl (λ _. quiet me (reply.Fault n) agree)
       (λ _. put_alike me h num at (take n bytes) (reply.Fault n) has agree)
@@ -150,10 +150,10 @@ module _ (objects : List Object) (w v : World) where
   overwrite_short_alike me h bytes n (place.Pair num side) has agree = quiet me (reply.Fault n) agree
 
   append_short_alike : (me : Private) (h : ℕ) (bytes : List ℕ) (n : ℕ) (p : Place) → Has objects p → All (AgreeAt w v) objects
-      → ActsAlike objects w v (append_short w me h bytes n p) (append_short v me h bytes n p)
+      → ActsAlike objects w v (append_short w me (h, p) bytes n) (append_short v me (h, p) bytes n)
   append_short_alike me h bytes n (place.File num at) has agree =
       both_so (ActsAlike objects w v) (n == 0) (n == 0) _ _ _ _ refl (λ _. quiet me (reply.Fault n) agree)
-      (λ _. appended_alike me h num (take n bytes) (reply.Fault n) has agree)
+      (λ _. appended_alike me h num at (take n bytes) (reply.Fault n) has agree)
   append_short_alike me h bytes n place.Vacant has agree = quiet me (reply.Fault n) agree
   append_short_alike me h bytes n (place.Pipe num) has agree = quiet me (reply.Fault n) agree
   append_short_alike me h bytes n (place.Pair num side) has agree = quiet me (reply.Fault n) agree
@@ -170,23 +170,23 @@ module _ (objects : List Object) (w v : World) where
 
   created_alike : (me : Private) (tx : ℕ) (name : List ℕ) (o q : Option Num) (vacant : Option ℕ) → o ≡ q → Contains objects (object.Name name)
       → Contains objects (object.File (next_num me tx)) → All (AgreeAt w v) objects
-      → ActsAlike objects w v (created w me tx name o vacant) (created v me tx name q vacant)
+      → ActsAlike objects w v (created w me tx name (o, vacant)) (created v me tx name (q, vacant))
   created_alike me tx name o q vacant e named has agree =
-      subst (λ there. ActsAlike objects w v (created w me tx name o vacant) (created v me tx name there vacant)) e (same o vacant)
+      subst (λ there. ActsAlike objects w v (created w me tx name (o, vacant)) (created v me tx name (there, vacant))) e (same o vacant)
     where
-      same : (o : Option Num) (vacant : Option ℕ) → ActsAlike objects w v (created w me tx name o vacant) (created v me tx name o vacant)
+      same : (o : Option Num) (vacant : Option ℕ) → ActsAlike objects w v (created w me tx name (o, vacant)) (created v me tx name (o, vacant))
       same (Some num) vacant = quiet me reply.Exists agree
       same None None = quiet me reply.TooMuch agree
       same None (Some h) = changed _ _ _ _ (reply.Made h) (reply.Made h) refl refl (new_alike objects w v name (next_num me tx) named has agree)
 
   renamed_alike : (me : Private) (from to : List ℕ) (o q there here : Option Num) → o ≡ q → there ≡ here → Contains objects (object.Name from)
       → Contains objects (object.Name to) → All (AgreeAt w v) objects
-      → ActsAlike objects w v (renamed w me from to o there) (renamed v me from to q here)
+      → ActsAlike objects w v (renamed w me from to (o, there)) (renamed v me from to (q, here))
   renamed_alike me from to o q there here e f old new agree =
-      subst (λ a. ActsAlike objects w v (renamed w me from to o there) (renamed v me from to a here)) e
-      (subst (λ a. ActsAlike objects w v (renamed w me from to o there) (renamed v me from to o a)) f (same o there))
+      subst (λ a. ActsAlike objects w v (renamed w me from to (o, there)) (renamed v me from to (a, here))) e
+      (subst (λ a. ActsAlike objects w v (renamed w me from to (o, there)) (renamed v me from to (o, a))) f (same o there))
     where
-      same : (o there : Option Num) → ActsAlike objects w v (renamed w me from to o there) (renamed v me from to o there)
+      same : (o there : Option Num) → ActsAlike objects w v (renamed w me from to (o, there)) (renamed v me from to (o, there))
       same None there = quiet me reply.NoName agree
       same (Some num) (Some q) = quiet me reply.Exists agree
       same (Some num) None = changed _ _ me me reply.Done reply.Done refl refl (moved_alike objects w v from to num num refl old new agree)
@@ -259,14 +259,15 @@ to_in from to =
     (λ _. later_in (object.Name from) (object.Name to) (object.Name to ∷ []) (first_in (object.Name to) []))
 
 -- ---- each call
-abbrev pub OfCall : World → World → Private → ℕ → Call → Stepped → Stepped → Type 0
-OfCall w v me tx c = ActsAlike (objects_of_call c me ++ made_by c me tx) w v
+-- a call's objects, and what it makes
+abbrev pub all_of_call : Private → ℕ → Call → List Object
+all_of_call me tx c = objects_of_call c me ++ made_by c me tx
 
 -- two worlds agree on a call's objects and on what it makes
 abbrev pub AgreeOfCall : World → World → Private → ℕ → Call → Type 0
-AgreeOfCall w v me tx c = All (AgreeAt w v) (objects_of_call c me ++ made_by c me tx)
+AgreeOfCall w v me tx c = All (AgreeAt w v) (all_of_call me tx c)
 
-fine_alike : (w v : World) (me : Private) (tx : ℕ) (c : Call) → AgreeOfCall w v me tx c → OfCall w v me tx c (fine w me tx c) (fine v me tx c)
+fine_alike : (w v : World) (me : Private) (tx : ℕ) (c : Call) → AgreeOfCall w v me tx c → ActsAlike (all_of_call me tx c) w v (fine w me tx c) (fine v me tx c)
 fine_alike w v me tx (call.Load at) agree =
     looked _ w v me me _ _ refl (ap reply.Number (same_word (object.Word at ∷ []) w v at (first_in (object.Word at) []) agree)) agree
 fine_alike w v me tx (call.Store at value) agree =
@@ -295,7 +296,8 @@ fine_alike w v me tx call.XPair agree = new_pair_alike _ w v me tx (lowest_vacan
 fine_alike w v me tx (call.XRecvmsg h) agree = receive_alike _ w v me (place_of me.places h) (has_it (place_of me.places h) []) agree
 fine_alike w v me tx _ agree = quiet _ w v me reply.Late agree
 
-faulty_alike : (w v : World) (me : Private) (tx : ℕ) (c : Call) (n : ℕ) → AgreeOfCall w v me tx c → OfCall w v me tx c (faulty w me c n) (faulty v me c n)
+faulty_alike : (w v : World) (me : Private) (tx : ℕ) (c : Call) (n : ℕ) → AgreeOfCall w v me tx c
+    → ActsAlike (all_of_call me tx c) w v (faulty w me c n) (faulty v me c n)
 faulty_alike w v me tx (call.XWriteOvr h bytes) n agree =
     overwrite_short_alike _ w v me h bytes n (place_of me.places h) (has_it (place_of me.places h) []) agree
 faulty_alike w v me tx (call.XWriteSeq h bytes) n agree = append_short_alike _ w v me h bytes n (place_of me.places h) (has_it (place_of me.places h) []) agree
@@ -303,6 +305,6 @@ faulty_alike w v me tx _ n agree = quiet _ w v me (reply.Fault n) agree
 
 -- a call that passes gives the same in worlds that agree on its objects
 pub done_alike : (w v : World) (me : Private) (tx : ℕ) (c : Call) (a : Answer) → AgreeOfCall w v me tx c
-    → OfCall w v me tx c (done w me tx c a) (done v me tx c a)
+    → ActsAlike (all_of_call me tx c) w v (done w me tx c a) (done v me tx c a)
 done_alike w v me tx c answer.Fine agree = fine_alike w v me tx c agree
 done_alike w v me tx c (answer.Fault n) agree = faulty_alike w v me tx c n agree

@@ -43,11 +43,11 @@ appends w me h bytes (place.File num at) =
     chosen_so (StaysRefused w) (nat_lt 65536 (length (file_of w num) + length bytes)) _ _ (λ _ _. refl) (λ _ e. cc))
 appends w me h bytes _ = λ _. refl
 
-overwrites_short : (w : World) (me : Private) (h : ℕ) (bytes : List ℕ) (n : ℕ) (p : Place) → StaysRefused w (overwrite_short w me h bytes n p)
+overwrites_short : (w : World) (me : Private) (h : ℕ) (bytes : List ℕ) (n : ℕ) (p : Place) → StaysRefused w (overwrite_short w me (h, p) bytes n)
 overwrites_short w me h bytes n (place.File num at) = chosen_so (StaysRefused w) (n == 0) _ _ (λ _ _. refl) (λ some e. cc)
 overwrites_short w me h bytes n _ = λ _. refl
 
-appends_short : (w : World) (me : Private) (h : ℕ) (bytes : List ℕ) (n : ℕ) (p : Place) → StaysRefused w (append_short w me h bytes n p)
+appends_short : (w : World) (me : Private) (h : ℕ) (bytes : List ℕ) (n : ℕ) (p : Place) → StaysRefused w (append_short w me (h, p) bytes n)
 appends_short w me h bytes n (place.File num at) = chosen_so (StaysRefused w) (n == 0) _ _ (λ _ _. refl) (λ some e. cc)
 appends_short w me h bytes n _ = λ _. refl
 
@@ -64,12 +64,12 @@ opens w me None vacant = λ _. refl
 opens w me (Some num) None = λ _. refl
 opens w me (Some num) (Some h) = λ _. refl
 
-creates : (w : World) (me : Private) (tx : ℕ) (name : List ℕ) (o : Option Num) (vacant : Option ℕ) → StaysRefused w (created w me tx name o vacant)
+creates : (w : World) (me : Private) (tx : ℕ) (name : List ℕ) (o : Option Num) (vacant : Option ℕ) → StaysRefused w (created w me tx name (o, vacant))
 creates w me tx name (Some num) vacant = λ _. refl
 creates w me tx name None None = λ _. refl
 creates w me tx name None (Some h) = λ e. cc
 
-renames : (w : World) (me : Private) (from to : List ℕ) (o there : Option Num) → StaysRefused w (renamed w me from to o there)
+renames : (w : World) (me : Private) (from to : List ℕ) (o there : Option Num) → StaysRefused w (renamed w me from to (o, there))
 renames w me from to None there = λ _. refl
 renames w me from to (Some num) (Some q) = λ _. refl
 renames w me from to (Some num) None = λ e. cc

@@ -34,7 +34,7 @@ opened_well w me tx name (Some num) (Some h) e s =
 
 -- to make a file under a name steps well
 pub created_well : (w : World) (me : Private) (tx : ℕ) (name : List ℕ) (o : Option Num) (vacant : Option ℕ) → me.made < 16 → IsSound w me tx
-    → StepsWell w tx me 0 (created w me tx name o vacant)
+    → StepsWell w tx me 0 (created w me tx name (o, vacant))
 created_well w me tx name (Some num) vacant lt s = quiet w me tx 0 reply.Exists (omega arith) s
 created_well w me tx name None None lt s = quiet w me tx 0 reply.TooMuch (omega arith) s
 created_well w me tx name None (Some h) lt s =
@@ -49,7 +49,7 @@ created_well w me tx name None (Some h) lt s =
 
 -- to give a file another name steps well
 pub renamed_well : (w : World) (me : Private) (tx : ℕ) (from to : List ℕ) (o there : Option Num) → map.get w.names from ≡ o → IsSound w me tx
-    → StepsWell w tx me 0 (renamed w me from to o there)
+    → StepsWell w tx me 0 (renamed w me from to (o, there))
 renamed_well w me tx from to None there e s = quiet w me tx 0 reply.NoName (omega arith) s
 renamed_well w me tx from to (Some num) (Some q) e s = quiet w me tx 0 reply.Exists (omega arith) s
 renamed_well w me tx from to (Some num) None e s =

@@ -12,7 +12,7 @@ use Rattle.xc_world.specs.World.{World, file_of}
 use Rattle.xc_world.specs.Sound.{IsKnown, IsSound}
 use Rattle.xc_world.specs.Fits.{is_done}
 use Rattle.xc_world.specs.Act.Names.{next_num}
-use Rattle.xc_world.specs.Act.Files.{read_at, overwritten, put, overwrite_at, appended, append_at, seek_at, len_at, overwrite_short, append_short}
+use Rattle.xc_world.specs.Act.Files.{open_at, read_at, overwritten, put, overwrite_at, appended, append_at, seek_at, len_at, overwrite_short, append_short}
 use Rattle.xc_world.proofs.SoundParts.{chosen_so, keeps_all, keeps_file}
 use Rattle.xc_world.proofs.SoundSteps.{StepsWell, got_length, quiet, adds_nothing, kept_sound, with_place_sound}
 
@@ -37,7 +37,7 @@ length-overwritten at bytes file le = grind (arith, length-take {A = ℕ}, lengt
 
 put_well : (w : World) (me : Private) (tx h : ℕ) (num : Num) (at : ℕ) (bytes : List ℕ) (r : Reply) → is_some (map.get w.files num) ≡ true
     → at + length bytes ≤ length (file_of w num) → got_length r ≤ 0 → IsSound w me tx
-    → StepsWell w tx me 0 (put w me h num at bytes r)
+    → StepsWell w tx me 0 (put w me (open_at h num at) bytes r)
 put_well w me tx h num at bytes r there inside none s =
     let next = overwritten at bytes (file_of w num) in
     let keeps = keeps_file w num next (omega (arith, length-overwritten at bytes (file_of w num) inside, s.world.files num)) s.world in
@@ -61,10 +61,10 @@ overwrite_well w me tx h bytes place.Vacant known s = quiet w me tx 0 reply.BadH
 overwrite_well w me tx h bytes (place.Pipe num) known s = quiet w me tx 0 reply.BadHandle (omega arith) s
 overwrite_well w me tx h bytes (place.Pair num side) known s = quiet w me tx 0 reply.BadHandle (omega arith) s
 
-appended_well : (w : World) (me : Private) (tx h : ℕ) (num : Num) (bytes : List ℕ) (r : Reply) → is_some (map.get w.files num) ≡ true
+appended_well : (w : World) (me : Private) (tx h : ℕ) (num : Num) (at : ℕ) (bytes : List ℕ) (r : Reply) → is_some (map.get w.files num) ≡ true
     → length (file_of w num) + length bytes ≤ 65536 → got_length r ≤ 0 → IsSound w me tx
-    → StepsWell w tx me 0 (appended w me h num bytes r)
-appended_well w me tx h num bytes r there inside none s =
+    → StepsWell w tx me 0 (appended w me (open_at h num at) bytes r)
+appended_well w me tx h num at bytes r there inside none s =
     let next = file_of w num ++ bytes in
     let keeps = keeps_file w num next (omega (arith, length-append (file_of w num) bytes)) s.world in
     record {
@@ -82,7 +82,7 @@ pub append_well : (w : World) (me : Private) (tx h : ℕ) (bytes : List ℕ) (p 
 append_well w me tx h bytes (place.File num at) known s =
     chosen_so (StepsWell w tx me 0) (length bytes == 0) _ _ (λ _. quiet w me tx 0 reply.Done (omega arith) s) (λ _.
     chosen_so (StepsWell w tx me 0) (nat_lt 65536 (length (file_of w num) + length bytes)) _ _ (λ _. quiet w me tx 0 reply.TooBig (omega arith) s) (λ no.
-    appended_well w me tx h num bytes reply.Done known (grind (arith, no)) (omega arith) s))
+    appended_well w me tx h num at bytes reply.Done known (grind (arith, no)) (omega arith) s))
 append_well w me tx h bytes place.Vacant known s = quiet w me tx 0 reply.BadHandle (omega arith) s
 append_well w me tx h bytes (place.Pipe num) known s = quiet w me tx 0 reply.BadHandle (omega arith) s
 append_well w me tx h bytes (place.Pair num side) known s = quiet w me tx 0 reply.BadHandle (omega arith) s
@@ -111,7 +111,7 @@ may_overwrite w me h bytes n num at done lt = grind (arith, done)
 -- an overwrite that stops after n bytes steps well
 pub overwrite_short_well : (w : World) (me : Private) (tx h : ℕ) (bytes : List ℕ) (n : ℕ) (p : Place) → IsKnown w p
     → (n ≡ 0) ⊎ ((is_done (overwrite_at w me h bytes p).reply ≡ true) × (n < length bytes)) → IsSound w me tx
-    → StepsWell w tx me 0 (overwrite_short w me h bytes n p)
+    → StepsWell w tx me 0 (overwrite_short w me (h, p) bytes n)
 overwrite_short_well w me tx h bytes n (place.File num at) known (inl none) s =
     chosen_so (StepsWell w tx me 0) (n == 0) _ _ (λ _. quiet w me tx 0 (reply.Fault n) (omega arith) s) (λ no. absurd (grind (arith, no, none)))
 overwrite_short_well w me tx h bytes n (place.File num at) known (inr may) s =
@@ -130,12 +130,12 @@ may_append w me h bytes n num at done lt = grind (arith, done)
 -- an append that stops after n bytes steps well
 pub append_short_well : (w : World) (me : Private) (tx h : ℕ) (bytes : List ℕ) (n : ℕ) (p : Place) → IsKnown w p
     → (n ≡ 0) ⊎ ((is_done (append_at w me h bytes p).reply ≡ true) × (n < length bytes)) → IsSound w me tx
-    → StepsWell w tx me 0 (append_short w me h bytes n p)
+    → StepsWell w tx me 0 (append_short w me (h, p) bytes n)
 append_short_well w me tx h bytes n (place.File num at) known (inl none) s =
     chosen_so (StepsWell w tx me 0) (n == 0) _ _ (λ _. quiet w me tx 0 (reply.Fault n) (omega arith) s) (λ no. absurd (grind (arith, no, none)))
 append_short_well w me tx h bytes n (place.File num at) known (inr may) s =
     chosen_so (StepsWell w tx me 0) (n == 0) _ _ (λ _. quiet w me tx 0 (reply.Fault n) (omega arith) s) (λ _.
-    appended_well w me tx h num (take n bytes) (reply.Fault n) known (omega (arith, length-take n bytes, may_append w me h bytes n num at may.0 may.1))
+    appended_well w me tx h num at (take n bytes) (reply.Fault n) known (omega (arith, length-take n bytes, may_append w me h bytes n num at may.0 may.1))
     (omega arith) s)
 append_short_well w me tx h bytes n place.Vacant known may s = quiet w me tx 0 (reply.Fault n) (omega arith) s
 append_short_well w me tx h bytes n (place.Pipe num) known may s = quiet w me tx 0 (reply.Fault n) (omega arith) s

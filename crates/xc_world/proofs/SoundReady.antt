@@ -21,7 +21,8 @@ use Rattle.xc_world.specs.Checks.{is_bad_handle, is_too_big, is_too_much, is_bad
 use Rattle.xc_world.specs.Act.{act, done}
 use Rattle.xc_world.specs.Act.Step.{Stepped}
 use Rattle.xc_world.specs.Fits.{fits}
-use Rattle.xc_world.specs.Late.{late, late_call, kept_call, sync_of, write_pipe_of, shutdown_of, send_of}
+use Rattle.xc_world.specs.Late.{late, kept_call}
+use Rattle.xc_data.specs.Calls.{late_call, sync_of, write_pipe_of, shutdown_of, send_of}
 use Rattle.xc_world.specs.Sound.{IsFit, IsKnown, IsSound, IsShortCall, is_there, names_there, IsReady}
 use Rattle.xc_world.proofs.SoundParts.{chosen_so}
 use Rattle.xc_world.proofs.Sound.{act_well}

@@ -23,7 +23,8 @@ use Rattle.xc_world.specs.Act.{act}
 use Rattle.xc_world.specs.Act.Step.{Stepped}
 use Rattle.xc_world.specs.Act.Names.{next_num}
 use Rattle.xc_world.specs.Touch.{touch, objects_of_call, object_at}
-use Rattle.xc_world.specs.Late.{late_call, kept_call, sync_of, write_pipe_of, shutdown_of, send_of}
+use Rattle.xc_world.specs.Late.{kept_call}
+use Rattle.xc_data.specs.Calls.{late_call, sync_of, write_pipe_of, shutdown_of, send_of}
 use Rattle.xc_world.specs.Trail.{overwrite_record, append_record, create_record, rename_record, pipe_record, pair_record, recorded}
 use Rattle.xc_world.specs.Laws.{late_objects}
 use Rattle.xc_world.proofs.SoundParts.{chosen_so}
@@ -188,19 +189,19 @@ module _ (sees own : Object → Type 0) where
     kept_looks c _ look has = no_late
 
 -- ---- one call
--- what a call leaves, by its claims
-pub record CallSpeaks (sees own : Object → Type 0) (w : World) (me : Private) (tx : ℕ) (c : Call) (r : Reply) : Type 0 where
-  pub trail : All (Speaks own) (recorded w me tx c r)
-  pub late : All (LooksWithin sees own) (kept_call c me r)
+-- the records and the late calls that a call leaves, by its claims
+pub record CallSpeaks (sees own : Object → Type 0) (records : List Undo) (kept : List LateCall) : Type 0 where
+  pub trail : All (Speaks own) records
+  pub late : All (LooksWithin sees own) kept
 
 call_speaks : (sees own : Object → Type 0) (w : World) (me : Private) (tx : ℕ) (c : Call) (a : Answer)
     → ((o : Object) → Contains (objects (claims_of c me (length w.words))) o → sees o)
     → ((o : Object) → Contains (owned (claims_of c me (length w.words))) o → own o)
-    → ((o : Object) → IsNumbered tx o → own o) → CallSpeaks sees own w me tx c (act w me tx c a).reply
+    → ((o : Object) → IsNumbered tx o → own o) → CallSpeaks sees own (recorded w me tx c (act w me tx c a).reply) (kept_call c me (act w me tx c a).reply)
 call_speaks sees own w me tx c a look has numbered =
     let words = length w.words in
     let none = refusal-none w me tx c in
-    act_cases w me tx c a (λ (s : Stepped). CallSpeaks sees own w me tx c s.reply)
+    act_cases w me tx c a (λ (s : Stepped). CallSpeaks sees own (recorded w me tx c s.reply) (kept_call c me s.reply))
     (refused reply.BadHandle none.bad_handle refl) (refused reply.TooBig none.too_big refl) (refused reply.TooMuch none.too_much refl)
     (refused reply.BadWord none.bad_word refl)
     (λ passed.
@@ -211,7 +212,7 @@ call_speaks sees own w me tx c a look has numbered =
     λ e o at. has o (subst (λ l. Contains l o) (sym (owned_of_call c me words e ∙ all)) at) in
     record { trail = passed_speaks sees own w me tx c _ owns numbered; late = kept_looks sees own me c _ looks owns })
   where
-    refused : (r : Reply) → recorded w me tx c r ≡ [] → kept_call c me r ≡ [] → CallSpeaks sees own w me tx c r
+    refused : (r : Reply) → recorded w me tx c r ≡ [] → kept_call c me r ≡ [] → CallSpeaks sees own (recorded w me tx c r) (kept_call c me r)
     refused r e f =
         record {
           trail = subst (All (Speaks own)) (sym e) (All-nil (Speaks own));

@@ -17,7 +17,8 @@ use Rattle.xc_data.specs.Private.{place_of, lowest_vacant}
 use Rattle.xc_world.specs.World.{World}
 use Rattle.xc_world.specs.Sound.{IsFree, IsSound}
 use Rattle.xc_world.specs.Act.Names.{next_num}
-use Rattle.xc_world.specs.Checks.{bytes_of, is_bad_handle, is_too_big, is_too_much, is_bad_word, is_refused}
+use Rattle.xc_world.specs.Checks.{is_bad_handle, is_too_big, is_too_much, is_bad_word, is_refused}
+use Rattle.xc_data.specs.Calls.{bytes_of}
 use Rattle.xc_world.specs.Act.Step.{Stepped, step_to, counted}
 use Rattle.xc_world.specs.Act.{fine, faulty, done, act}
 use Rattle.xc_world.specs.Fits.{fits, asks_host, may_stop, is_write, is_done}

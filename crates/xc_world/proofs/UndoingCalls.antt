@@ -91,7 +91,7 @@ pub record Stops (n : ℕ) (bytes : List ℕ) (s : Stepped) : Type 0 where
 
 -- the record of an overwrite that stops after n bytes undoes it
 pub overwrite_short-undoes : (w : World) (me : Private) (h : ℕ) (bytes : List ℕ) (n : ℕ) (p : Place) → IsKnown w p
-    → ((n == 0) ≡ false → Stops n bytes (overwrite_at w me h bytes p)) → UndoesOverwrite w bytes p (overwrite_short w me h bytes n p)
+    → ((n == 0) ≡ false → Stops n bytes (overwrite_at w me h bytes p)) → UndoesOverwrite w bytes p (overwrite_short w me (h, p) bytes n)
 overwrite_short-undoes w me h bytes n (File num at) there stops =
     cond_both (n == 0) _ _ (UndoesOverwrite w bytes (File num at)) (λ none. none_recorded w _ (n == 0) none) (λ some.
     let before : n < length bytes = (stops some).before in
@@ -125,7 +125,7 @@ append_at-undoes w me h bytes (Pair num side) known = as_is w
 
 -- the record of an append that stops after n bytes undoes it
 pub append_short-undoes : (w : World) (me : Private) (h : ℕ) (bytes : List ℕ) (n : ℕ) (p : Place) → IsKnown w p
-    → UndoesAppend w bytes p (append_short w me h bytes n p)
+    → UndoesAppend w bytes p (append_short w me (h, p) bytes n)
 append_short-undoes w me h bytes n (File num at) there =
     cond_both (n == 0) _ _ (UndoesAppend w bytes (File num at)) (λ none. none_recorded w _ (n == 0) none) (λ some.
     one_recorded w _ _ (n == 0) some (appended-undoes w num n bytes (take n bytes) there))
@@ -137,7 +137,7 @@ append_short-undoes w me h bytes n (Pair num side) known = as_is w
 -- a new name and its new file are gone again
 pub created-undoes : (w : World) (me : Private) (tx : ℕ) (name : List ℕ) (o : Option Num) (vacant : Option ℕ) → map.get w.names name ≡ o
     → IsFree w (next_num me tx)
-    → Undoes w (created w me tx name o vacant).world (create_record me tx name (created w me tx name o vacant).reply)
+    → Undoes w (created w me tx name (o, vacant)).world (create_record me tx name (created w me tx name (o, vacant)).reply)
 created-undoes w me tx name (Some num) vacant e free v back = back
 created-undoes w me tx name None None e free v back = back
 created-undoes w me tx name None (Some h) e free v back =
@@ -160,7 +160,7 @@ none-removed m from to none =
 
 -- the file has its old name again
 pub renamed-undoes : (w : World) (me : Private) (from to : List ℕ) (o there : Option Num) → map.get w.names from ≡ o → map.get w.names to ≡ there
-    → Undoes w (renamed w me from to o there).world (rename_record from to (renamed w me from to o there).reply)
+    → Undoes w (renamed w me from to (o, there)).world (rename_record from to (renamed w me from to (o, there)).reply)
 renamed-undoes w me from to None there e f v back = back
 renamed-undoes w me from to (Some num) (Some other) e f v back = back
 renamed-undoes w me from to (Some num) None e f v back =

@@ -46,9 +46,27 @@ fine w me tx (call.XThreadCreate body slot) = step_to w me reply.Late
 
 -- a call that passed the checks, where the host fails after n bytes
 abbrev pub faulty : World → Private → Call → ℕ → Stepped
-faulty w me (call.XWriteOvr h bytes) n = overwrite_short w me h bytes n (place_of me.places h)
-faulty w me (call.XWriteSeq h bytes) n = append_short w me h bytes n (place_of me.places h)
-faulty w me _ n = step_to w me (reply.Fault n)
+faulty w me (call.XWriteOvr h bytes) n = overwrite_short w me (h, place_of me.places h) bytes n
+faulty w me (call.XWriteSeq h bytes) n = append_short w me (h, place_of me.places h) bytes n
+faulty w me (call.Load at) n = step_to w me (reply.Fault n)
+faulty w me (call.Store at value) n = step_to w me (reply.Fault n)
+faulty w me (call.XOpen name) n = step_to w me (reply.Fault n)
+faulty w me (call.XCreate name) n = step_to w me (reply.Fault n)
+faulty w me (call.XRead h count) n = step_to w me (reply.Fault n)
+faulty w me (call.XSeek h to) n = step_to w me (reply.Fault n)
+faulty w me (call.XLen h) n = step_to w me (reply.Fault n)
+faulty w me (call.XRename from to) n = step_to w me (reply.Fault n)
+faulty w me (call.XClose h) n = step_to w me (reply.Fault n)
+faulty w me call.XPipe n = step_to w me (reply.Fault n)
+faulty w me (call.XReadPipe h count) n = step_to w me (reply.Fault n)
+faulty w me call.XPair n = step_to w me (reply.Fault n)
+faulty w me (call.XRecvmsg h) n = step_to w me (reply.Fault n)
+faulty w me (call.XUnlink name slot) n = step_to w me (reply.Fault n)
+faulty w me (call.XSync h slot) n = step_to w me (reply.Fault n)
+faulty w me (call.XWritePipe h bytes slot) n = step_to w me (reply.Fault n)
+faulty w me (call.XShutdown h slot) n = step_to w me (reply.Fault n)
+faulty w me (call.XSendmsg h bytes slot) n = step_to w me (reply.Fault n)
+faulty w me (call.XThreadCreate body slot) n = step_to w me (reply.Fault n)
 
 -- what a call does that its private checks pass, as the host answers it
 abbrev pub done : World → Private → ℕ → Call → Answer → Stepped

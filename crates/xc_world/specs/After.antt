@@ -11,7 +11,8 @@ use Rattle.xc_data.specs.declared.private.Place.{Place}
 use Rattle.xc_data.specs.declared.private.Place.TheVariants as place
 use Rattle.xc_data.specs.declared.private.Private.{Private}
 use Rattle.xc_world.specs.Act.Names.{next_num}
-use Rattle.xc_world.specs.Checks.{bytes_of, refusal_of}
+use Rattle.xc_world.specs.Checks.{refusal_of}
+use Rattle.xc_data.specs.Calls.{bytes_of}
 use Rattle.xc_world.specs.Trail.{done_of}
 
 -- ---- handles
@@ -55,11 +56,13 @@ ArePlaces tx c me r is = is ≡ me.places
 -- how many objects are made behind it: a file that was created is one more
 abbrev pub made_after : Call → Reply → ℕ → ℕ
 made_after (call.XCreate name) (reply.Made h) made = made + 1
+-- of the calls on words, names and files no other makes one
 made_after c r made = made
 
 -- the bytes that a reply brings
 abbrev pub bytes_in : Reply → ℕ
 bytes_in (reply.Got bytes) = length bytes
+-- any other reply brings none, also one yet to come
 bytes_in r = 0
 
 -- the bytes of a call that passed the checks and of its reply are stored

@@ -1,15 +1,15 @@
 -- The private checks of a call: what refuses it before anything is touched.
-use Rattle.std.specs.Prelude.{◌≡◌, ℕ, ◌+◌, ◌||◌, Bool, true, false, not, is_none, List, [], length, count_by, nat_lt}
+use Rattle.std.specs.Prelude.{◌≡◌, ℕ, ◌+◌, ◌||◌, Bool, true, false, not, is_none, [], length, count_by, nat_lt}
 use Rattle.std.specs.Prelude.{nat_le, Option, if◌then◌else◌}
 use Rattle.std.specs.declared.option.Option.TheVariants.{None, Some}
 use Rattle.xc_data.specs.declared.call.Call.{Call}
-use Rattle.xc_data.specs.declared.call.Call.TheVariants.{Load, Store, XOpen, XCreate, XRead, XWriteOvr, XWriteSeq, XSeek, XLen, XClose}
-use Rattle.xc_data.specs.declared.call.Call.TheVariants.{XPipe, XReadPipe, XPair, XRecvmsg, XSync, XWritePipe, XShutdown, XSendmsg}
+use Rattle.xc_data.specs.declared.call.Call.TheVariants as call
 use Rattle.xc_data.specs.declared.call.Reply.{Reply}
 use Rattle.xc_data.specs.declared.call.Reply.TheVariants as reply
 use Rattle.xc_data.specs.declared.private.Place.{Place}
 use Rattle.xc_data.specs.declared.private.Place.TheVariants as place
 use Rattle.xc_data.specs.declared.private.Private.{Private}
+use Rattle.xc_data.specs.Calls.{bytes_of}
 use Rattle.xc_data.specs.Private.{place_of, is_vacant, lowest_vacant}
 
 -- whether a file stands at a place
@@ -27,35 +27,36 @@ abbrev pub is_pair : Place → Bool
 is_pair (place.Pair num side) = true
 is_pair _ = false
 
--- the bytes that a call carries
-abbrev pub bytes_of : Call → List ℕ
-bytes_of (XWriteOvr h bytes) = bytes
-bytes_of (XWriteSeq h bytes) = bytes
-bytes_of (XWritePipe h bytes slot) = bytes
-bytes_of (XSendmsg h bytes slot) = bytes
-bytes_of _ = []
-
 -- the handle isn't open, or is of another kind than the call needs
 abbrev pub is_bad_handle : Call → Private → Bool
-is_bad_handle (XRead h n) me = not (is_file (place_of me.places h))
-is_bad_handle (XWriteOvr h bytes) me = not (is_file (place_of me.places h))
-is_bad_handle (XWriteSeq h bytes) me = not (is_file (place_of me.places h))
-is_bad_handle (XSeek h to) me = not (is_file (place_of me.places h))
-is_bad_handle (XLen h) me = not (is_file (place_of me.places h))
-is_bad_handle (XClose h) me = is_vacant (place_of me.places h)
-is_bad_handle (XReadPipe h n) me = not (is_pipe (place_of me.places h))
-is_bad_handle (XRecvmsg h) me = not (is_pair (place_of me.places h))
-is_bad_handle (XSync h slot) me = not (is_file (place_of me.places h))
-is_bad_handle (XWritePipe h bytes slot) me = not (is_pipe (place_of me.places h))
-is_bad_handle (XShutdown h slot) me = not (is_pipe (place_of me.places h) || is_pair (place_of me.places h))
-is_bad_handle (XSendmsg h bytes slot) me = not (is_pair (place_of me.places h))
-is_bad_handle _ me = false
+is_bad_handle (call.XRead h n) me = not (is_file (place_of me.places h))
+is_bad_handle (call.XWriteOvr h bytes) me = not (is_file (place_of me.places h))
+is_bad_handle (call.XWriteSeq h bytes) me = not (is_file (place_of me.places h))
+is_bad_handle (call.XSeek h to) me = not (is_file (place_of me.places h))
+is_bad_handle (call.XLen h) me = not (is_file (place_of me.places h))
+is_bad_handle (call.XClose h) me = is_vacant (place_of me.places h)
+is_bad_handle (call.XReadPipe h n) me = not (is_pipe (place_of me.places h))
+is_bad_handle (call.XRecvmsg h) me = not (is_pair (place_of me.places h))
+is_bad_handle (call.XSync h slot) me = not (is_file (place_of me.places h))
+is_bad_handle (call.XWritePipe h bytes slot) me = not (is_pipe (place_of me.places h))
+is_bad_handle (call.XShutdown h slot) me = not (is_pipe (place_of me.places h) || is_pair (place_of me.places h))
+is_bad_handle (call.XSendmsg h bytes slot) me = not (is_pair (place_of me.places h))
+is_bad_handle (call.Load at) me = false
+is_bad_handle (call.Store at value) me = false
+is_bad_handle (call.XOpen name) me = false
+is_bad_handle (call.XCreate name) me = false
+is_bad_handle (call.XRename from to) me = false
+is_bad_handle call.XPipe me = false
+is_bad_handle call.XPair me = false
+is_bad_handle (call.XUnlink name slot) me = false
+is_bad_handle (call.XThreadCreate body slot) me = false
 
 -- bytes or a read of more than 1,024, a seek past 65,536
 abbrev pub is_too_big : Call → Bool
-is_too_big (XRead h n) = nat_lt 1024 n
-is_too_big (XReadPipe h n) = nat_lt 1024 n
-is_too_big (XSeek h to) = nat_lt 65536 to
+is_too_big (call.XRead h n) = nat_lt 1024 n
+is_too_big (call.XReadPipe h n) = nat_lt 1024 n
+is_too_big (call.XSeek h to) = nat_lt 65536 to
+-- of any other call its bytes count, also of one yet to come
 is_too_big call = nat_lt 1024 (length (bytes_of call))
 
 -- so many more bytes would pass what a transaction may store
@@ -68,24 +69,51 @@ has_made_all me = nat_le 16 me.made
 
 -- the bytes or a read would pass the store; an object or a handle too many
 abbrev pub is_too_much : Call → Private → Bool
-is_too_much (XRead h n) me = passes_store me n
-is_too_much (XReadPipe h n) me = passes_store me n
-is_too_much (XRecvmsg h) me = passes_store me 1024
-is_too_much (XWriteOvr h bytes) me = passes_store me (length bytes)
-is_too_much (XWriteSeq h bytes) me = passes_store me (length bytes)
-is_too_much (XWritePipe h bytes slot) me = passes_store me (length bytes)
-is_too_much (XSendmsg h bytes slot) me = passes_store me (length bytes)
-is_too_much (XOpen name) me = is_none (lowest_vacant me.places)
-is_too_much (XCreate name) me = has_made_all me || is_none (lowest_vacant me.places)
-is_too_much XPipe me = has_made_all me || is_none (lowest_vacant me.places)
-is_too_much XPair me = has_made_all me || nat_lt (count_by is_vacant me.places) 2
-is_too_much _ me = false
+is_too_much (call.XRead h n) me = passes_store me n
+is_too_much (call.XReadPipe h n) me = passes_store me n
+is_too_much (call.XRecvmsg h) me = passes_store me 1024
+is_too_much (call.XWriteOvr h bytes) me = passes_store me (length bytes)
+is_too_much (call.XWriteSeq h bytes) me = passes_store me (length bytes)
+is_too_much (call.XWritePipe h bytes slot) me = passes_store me (length bytes)
+is_too_much (call.XSendmsg h bytes slot) me = passes_store me (length bytes)
+is_too_much (call.XOpen name) me = is_none (lowest_vacant me.places)
+is_too_much (call.XCreate name) me = has_made_all me || is_none (lowest_vacant me.places)
+is_too_much call.XPipe me = has_made_all me || is_none (lowest_vacant me.places)
+is_too_much call.XPair me = has_made_all me || nat_lt (count_by is_vacant me.places) 2
+is_too_much (call.Load at) me = false
+is_too_much (call.Store at value) me = false
+is_too_much (call.XSeek h to) me = false
+is_too_much (call.XLen h) me = false
+is_too_much (call.XRename from to) me = false
+is_too_much (call.XClose h) me = false
+is_too_much (call.XUnlink name slot) me = false
+is_too_much (call.XSync h slot) me = false
+is_too_much (call.XShutdown h slot) me = false
+is_too_much (call.XThreadCreate body slot) me = false
 
 -- there is no such word
 abbrev pub is_bad_word : Call → ℕ → Bool
-is_bad_word (Load at) words = nat_le words at
-is_bad_word (Store at value) words = nat_le words at
-is_bad_word _ words = false
+is_bad_word (call.Load at) words = nat_le words at
+is_bad_word (call.Store at value) words = nat_le words at
+is_bad_word (call.XOpen name) words = false
+is_bad_word (call.XCreate name) words = false
+is_bad_word (call.XRead h n) words = false
+is_bad_word (call.XWriteOvr h bytes) words = false
+is_bad_word (call.XWriteSeq h bytes) words = false
+is_bad_word (call.XSeek h to) words = false
+is_bad_word (call.XLen h) words = false
+is_bad_word (call.XRename from to) words = false
+is_bad_word (call.XClose h) words = false
+is_bad_word call.XPipe words = false
+is_bad_word (call.XReadPipe h n) words = false
+is_bad_word call.XPair words = false
+is_bad_word (call.XRecvmsg h) words = false
+is_bad_word (call.XUnlink name slot) words = false
+is_bad_word (call.XSync h slot) words = false
+is_bad_word (call.XWritePipe h bytes slot) words = false
+is_bad_word (call.XShutdown h slot) words = false
+is_bad_word (call.XSendmsg h bytes slot) words = false
+is_bad_word (call.XThreadCreate body slot) words = false
 
 -- one of the checks refuses the call
 abbrev pub is_refused : Call → Private → ℕ → Bool
@@ -109,10 +137,11 @@ refusal_of call me =
 
 -- replies that only these checks give; an append is too big also where the file has no room for it
 abbrev pub is_check_reply : Call → Reply → Bool
-is_check_reply (XWriteSeq h bytes) reply.TooBig = false
+is_check_reply (call.XWriteSeq h bytes) reply.TooBig = false
 is_check_reply call reply.BadHandle = true
 is_check_reply call reply.TooBig = true
 is_check_reply call reply.TooMuch = true
+-- no other reply is given by these checks, nor one yet to come
 is_check_reply call _ = false
 
 -- refused exactly where one of them refuses the call, with its reply

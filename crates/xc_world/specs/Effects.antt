@@ -23,15 +23,34 @@ whole us = map (λ u. (u, 0)) us
 abbrev pub takes_data : Call → Bool
 takes_data (call.XReadPipe h n) = true
 takes_data (call.XRecvmsg h) = true
-takes_data _ = false
+takes_data (call.Load at) = false
+takes_data (call.Store at value) = false
+takes_data (call.XOpen name) = false
+takes_data (call.XCreate name) = false
+takes_data (call.XRead h n) = false
+takes_data (call.XWriteOvr h bytes) = false
+takes_data (call.XWriteSeq h bytes) = false
+takes_data (call.XSeek h to) = false
+takes_data (call.XLen h) = false
+takes_data (call.XRename from to) = false
+takes_data (call.XClose h) = false
+takes_data call.XPipe = false
+takes_data call.XPair = false
+takes_data (call.XUnlink name slot) = false
+takes_data (call.XSync h slot) = false
+takes_data (call.XWritePipe h bytes slot) = false
+takes_data (call.XShutdown h slot) = false
+takes_data (call.XSendmsg h bytes slot) = false
+takes_data (call.XThreadCreate body slot) = false
 
 -- ---- records that were made one after another, each in the world that the ones before it left
 module _ (w : World) where
-  -- the file is there, all the new bytes lie within it, and the old ones stood under them; some of them were written
-  pub record IsOverwriteIn (file : Num) (at : ℕ) (before after : List ℕ) (n : ℕ) : Type 0 where
-    pub there : is_some (finite.get w.files file) ≡ true
-    pub inside : at + length after ≤ length (file_of w file)
-    pub old : before ≡ take (length after) (drop at (file_of w file))
+  -- the place is a file and a position in it: the file is there, all the new bytes lie within it from there on, and the
+  -- old ones stood under them; some of them were written
+  pub record IsOverwriteIn (place : Num × ℕ) (before after : List ℕ) (n : ℕ) : Type 0 where
+    pub there : is_some (finite.get w.files place.0) ≡ true
+    pub inside : place.1 + length after ≤ length (file_of w place.0)
+    pub old : before ≡ take (length after) (drop place.1 (file_of w place.0))
     pub some : 1 ≤ n
     pub within : n ≤ length after
 
@@ -55,7 +74,7 @@ module _ (w : World) where
 
   -- what each kind of record asks of the world in which it is made
   abbrev pub IsMadeIn : Undo → Type 0
-  IsMadeIn (Bytes file at before after n) = IsOverwriteIn file at before after n
+  IsMadeIn (Bytes file at before after n) = IsOverwriteIn (file, at) before after n
   IsMadeIn (Tail file from after n) = IsAppendIn file from after n
   IsMadeIn (Made name num) = IsNewFileIn name num
   IsMadeIn (Moved from to) = IsRenameIn from to
@@ -72,14 +91,20 @@ abbrev pub SparesNew : Private → ℕ → Undo → Type 0
 SparesNew me tx (Made name num) = num.tx ≡ tx → num.k < me.made
 SparesNew me tx (NewPipe num) = num.tx ≡ tx → num.k < me.made
 SparesNew me tx (NewPair num) = num.tx ≡ tx → num.k < me.made
-SparesNew me tx _ = Unit {0}
+SparesNew me tx (Bytes file at before after n) = Unit {0}
+SparesNew me tx (Tail file from after n) = Unit {0}
+SparesNew me tx (Moved from to) = Unit {0}
 
 -- ---- one record's compensation
 -- the first bytes of an overwrite are the old ones again
 abbrev pub restored : World → Undo → ℕ → World
 restored w (Bytes file at before after n) done =
     if done == 0 then w else with_file w file (overwritten at (take done before) (file_of w file))
-restored w _ done = w
+restored w (Tail file from after n) done = w
+restored w (Made name num) done = w
+restored w (Moved from to) done = w
+restored w (NewPipe num) done = w
+restored w (NewPair num) done = w
 
 -- what a compensation with this end did: all, a front, or nothing
 abbrev pub undone_to : World → Undo → UndoEnd → World

@@ -3,7 +3,7 @@ use Rattle.std.specs.Prelude.{◌≡◌, ℕ, ◌+◌, ◌<◌, Bool, true, fals
 use Rattle.std.specs.declared.option.Option.TheVariants.{None, Some}
 use Rattle.std.specs.List.{list_any, filter_map}
 use Rattle.xc_data.specs.declared.undo.Undo.{Undo}
-use Rattle.xc_data.specs.declared.undo.Undo.TheVariants.{Bytes}
+use Rattle.xc_data.specs.declared.undo.Undo.TheVariants.{Bytes, Tail, Made, Moved, NewPipe, NewPair}
 use Rattle.xc_data.specs.declared.undo.UndoEnd.{UndoEnd}
 use Rattle.xc_data.specs.declared.undo.UndoEnd.TheVariants.{Undone, Failed, Blocked}
 use Rattle.xc_data.specs.Standing.{objects_of, stands_from}
@@ -22,7 +22,8 @@ share_object a b = list_any (λ o. list_any (is_object o) (objects_of b)) (objec
 -- whether a compensation undid its record
 abbrev pub is_undone : UndoEnd → Bool
 is_undone (Undone faults) = true
-is_undone _ = false
+is_undone (Failed done faults) = false
+is_undone (Blocked by) = false
 
 -- a newer record that stands in the way of an older one
 abbrev pub blocks : Undo → Ending → Bool
@@ -36,7 +37,11 @@ blocker from older (r ∷ newer) = if blocks older r then Some from else blocker
 -- how many bytes a failed compensation may have restored: fewer than are covered, none but of an overwrite
 abbrev pub RestoredFits : Undo → ℕ → Type 0
 RestoredFits (Bytes file at before after n) done = done < n
-RestoredFits _ done = done ≡ 0
+RestoredFits (Tail file from after n) done = done ≡ 0
+RestoredFits (Made name num) done = done ≡ 0
+RestoredFits (Moved from to) done = done ≡ 0
+RestoredFits (NewPipe num) done = done ≡ 0
+RestoredFits (NewPair num) done = done ≡ 0
 
 -- an end is legal for a number of tries and what stands in the way
 abbrev pub IsLegalEnd : ℕ → Undo → UndoEnd → Option ℕ → Type 0

@@ -1,49 +1,77 @@
 -- Which answers of the host fit a call, and a late call.
 use Rattle.std.specs.Prelude.{ℕ, ◌==◌, ◌&&◌, Bool, true, false, not, min, length, nat_lt, nat_le, if◌then◌else◌}
 use Rattle.xc_data.specs.declared.call.Call.{Call}
-use Rattle.xc_data.specs.declared.call.Call.TheVariants.{XOpen, XCreate, XRead, XWriteOvr, XWriteSeq, XLen, XRename, XPipe, XReadPipe}
-use Rattle.xc_data.specs.declared.call.Call.TheVariants.{XPair, XRecvmsg}
+use Rattle.xc_data.specs.declared.call.Call.TheVariants as call
 use Rattle.xc_data.specs.declared.call.Answer.{Answer}
 use Rattle.xc_data.specs.declared.call.Answer.TheVariants as answer
 use Rattle.xc_data.specs.declared.call.Reply.{Reply}
 use Rattle.xc_data.specs.declared.call.Reply.TheVariants as reply
 use Rattle.xc_data.specs.declared.call.LateCall.{LateCall}
-use Rattle.xc_data.specs.declared.call.LateCall.TheVariants.{WritePipe, Thread}
+use Rattle.xc_data.specs.declared.call.LateCall.TheVariants.{WritePipe, Thread, Unlink, Sync, Shutdown, Send}
 use Rattle.xc_data.specs.declared.call.LateAnswer.{LateAnswer}
 use Rattle.xc_data.specs.declared.call.LateAnswer.TheVariants as late_answer
 use Rattle.xc_data.specs.declared.call.LateEnd.{LateEnd}
 use Rattle.xc_data.specs.declared.call.LateEnd.TheVariants as end
 use Rattle.xc_data.specs.declared.private.Private.{Private}
 use Rattle.xc_world.specs.World.{World, pipe_of}
-use Rattle.xc_world.specs.Checks.{bytes_of, is_refused}
+use Rattle.xc_world.specs.Checks.{is_refused}
+use Rattle.xc_data.specs.Calls.{bytes_of}
 use Rattle.xc_world.specs.Act.{fine}
 use Rattle.xc_world.specs.Late.{room}
 use Rattle.xc_world.specs.Sound.{late_bytes_of}
 
 -- the call asks something of the host
 abbrev pub asks_host : Call → Bool
-asks_host (XOpen name) = true
-asks_host (XCreate name) = true
-asks_host (XRead h n) = nat_le 1 n
-asks_host (XWriteOvr h bytes) = nat_le 1 (length bytes)
-asks_host (XWriteSeq h bytes) = nat_le 1 (length bytes)
-asks_host (XLen h) = true
-asks_host (XRename from to) = true
-asks_host XPipe = true
-asks_host (XReadPipe h n) = nat_le 1 n
-asks_host XPair = true
-asks_host (XRecvmsg h) = true
-asks_host _ = false
+asks_host (call.XOpen name) = true
+asks_host (call.XCreate name) = true
+asks_host (call.XRead h n) = nat_le 1 n
+asks_host (call.XWriteOvr h bytes) = nat_le 1 (length bytes)
+asks_host (call.XWriteSeq h bytes) = nat_le 1 (length bytes)
+asks_host (call.XLen h) = true
+asks_host (call.XRename from to) = true
+asks_host call.XPipe = true
+asks_host (call.XReadPipe h n) = nat_le 1 n
+asks_host call.XPair = true
+asks_host (call.XRecvmsg h) = true
+asks_host (call.Load at) = false
+asks_host (call.Store at value) = false
+asks_host (call.XSeek h to) = false
+asks_host (call.XClose h) = false
+asks_host (call.XUnlink name slot) = false
+asks_host (call.XSync h slot) = false
+asks_host (call.XWritePipe h bytes slot) = false
+asks_host (call.XShutdown h slot) = false
+asks_host (call.XSendmsg h bytes slot) = false
+asks_host (call.XThreadCreate body slot) = false
 
 -- whether a call writes to a file
 abbrev pub is_write : Call → Bool
-is_write (XWriteOvr h bytes) = true
-is_write (XWriteSeq h bytes) = true
-is_write _ = false
+is_write (call.XWriteOvr h bytes) = true
+is_write (call.XWriteSeq h bytes) = true
+is_write (call.Load at) = false
+is_write (call.Store at value) = false
+is_write (call.XOpen name) = false
+is_write (call.XCreate name) = false
+is_write (call.XRead h n) = false
+is_write (call.XSeek h to) = false
+is_write (call.XLen h) = false
+is_write (call.XRename from to) = false
+is_write (call.XClose h) = false
+is_write call.XPipe = false
+is_write (call.XReadPipe h n) = false
+is_write call.XPair = false
+is_write (call.XRecvmsg h) = false
+is_write (call.XUnlink name slot) = false
+is_write (call.XSync h slot) = false
+is_write (call.XWritePipe h bytes slot) = false
+is_write (call.XShutdown h slot) = false
+is_write (call.XSendmsg h bytes slot) = false
+is_write (call.XThreadCreate body slot) = false
 
 -- whether a reply is `Done`
 abbrev pub is_done : Reply → Bool
 is_done reply.Done = true
+-- any other reply is not, nor one yet to come
 is_done _ = false
 
 -- a write that would be done stops before its last byte
@@ -59,12 +87,20 @@ fits w me tx call (answer.Fault n) =
 -- ---- late calls
 abbrev pub is_thread : LateCall → Bool
 is_thread (Thread body) = true
-is_thread _ = false
+is_thread (Unlink name) = false
+is_thread (Sync num) = false
+is_thread (WritePipe num bytes) = false
+is_thread (Shutdown object) = false
+is_thread (Send num side bytes) = false
 
 -- a write to a pipe stops before the last byte that would be put
 abbrev pub late_may_stop : World → LateCall → ℕ → Bool
 late_may_stop w (WritePipe num bytes) n = not (pipe_of w num).shut && nat_lt n (min (length bytes) (room (pipe_of w num)))
-late_may_stop w _ n = false
+late_may_stop w (Unlink name) n = false
+late_may_stop w (Sync num) n = false
+late_may_stop w (Shutdown object) n = false
+late_may_stop w (Send num side bytes) n = false
+late_may_stop w (Thread body) n = false
 
 -- with no byte done a fault fits all but a thread call, and want of memory fits all
 abbrev pub late_fits : World → LateCall → LateAnswer → Bool
@@ -85,10 +121,15 @@ is_within c answer = nat_le (late_done answer) (length (late_bytes_of c))
 -- ---- the answers that an entry records
 abbrev pub answer_of : Reply → Answer
 answer_of (reply.Fault n) = answer.Fault n
+-- any other reply tells of no fault, also one yet to come
 answer_of _ = answer.Fine
 
 -- the answer that a late call's end tells of
 abbrev pub late_answer_of : LateEnd → LateAnswer
 late_answer_of (end.Fault n) = late_answer.Fault n
 late_answer_of (end.NoMemory n) = late_answer.NoMemory n
-late_answer_of _ = late_answer.Fine
+late_answer_of end.Done = late_answer.Fine
+late_answer_of (end.Full n) = late_answer.Fine
+late_answer_of end.Shut = late_answer.Fine
+late_answer_of end.NoName = late_answer.Fine
+late_answer_of end.NoScript = late_answer.Fine

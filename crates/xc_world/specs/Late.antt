@@ -1,5 +1,5 @@
 -- Late calls: what a call leaves to be done after the commit, and how that ends.
-use Rattle.std.specs.Prelude.{ℕ, ◌-◌, ◌==◌, ◌||◌, Bool, true, false, not, min, Option, List, [], ◌∷◌, ◌++◌, length, take, nat_lt, nat_le}
+use Rattle.std.specs.Prelude.{ℕ, ◌-◌, ◌==◌, ◌||◌, Bool, true, not, min, Option, List, [], ◌∷◌, ◌++◌, length, take, nat_lt, nat_le}
 use Rattle.std.specs.Prelude.{nat_eq, if◌then◌else◌}
 use Rattle.std.specs.declared.option.Option.TheVariants.{None, Some}
 use Rattle.std.specs.FinMap as map
@@ -9,7 +9,6 @@ use Rattle.xc_data.specs.declared.object.Num.{Num}
 use Rattle.xc_data.specs.declared.object.Object.{Object}
 use Rattle.xc_data.specs.declared.object.Object.TheVariants as object
 use Rattle.xc_data.specs.declared.call.Call.{Call}
-use Rattle.xc_data.specs.declared.call.Call.TheVariants as call
 use Rattle.xc_data.specs.declared.call.Reply.{Reply}
 use Rattle.xc_data.specs.declared.call.Reply.TheVariants as reply
 use Rattle.xc_data.specs.declared.call.LateCall.{LateCall}
@@ -18,49 +17,11 @@ use Rattle.xc_data.specs.declared.call.LateEnd.{LateEnd}
 use Rattle.xc_data.specs.declared.call.LateEnd.TheVariants as end
 use Rattle.xc_data.specs.declared.call.LateAnswer.{LateAnswer}
 use Rattle.xc_data.specs.declared.call.LateAnswer.TheVariants as late_answer
-use Rattle.xc_data.specs.declared.private.Place.{Place}
-use Rattle.xc_data.specs.declared.private.Place.TheVariants as place
 use Rattle.xc_data.specs.declared.private.Private.{Private}
-use Rattle.xc_data.specs.Private.{place_of}
+use Rattle.xc_data.specs.Calls.{late_call}
 use Rattle.xc_world.specs.World.{World, Pipe, Pair, pipe_of, pair_of, with_pipe, with_pair, waiting, with_waiting, other_side}
 
--- ---- the late call on a handle's object, none where it is of another kind
-abbrev pub sync_of : Place → List LateCall
-sync_of (place.File num at) = Sync num ∷ []
-sync_of _ = []
-
--- a write to the pipe at a handle, if one is there
-abbrev pub write_pipe_of : Place → List ℕ → List LateCall
-write_pipe_of (place.Pipe num) bytes = WritePipe num bytes ∷ []
-write_pipe_of _ bytes = []
-
--- a shutdown of the pipe or the pair at a handle, if one is there
-abbrev pub shutdown_of : Place → List LateCall
-shutdown_of (place.Pipe num) = Shutdown (object.Pipe num) ∷ []
-shutdown_of (place.Pair num side) = Shutdown (object.Pair num) ∷ []
-shutdown_of _ = []
-
--- a message from the side of a pair at a handle, if one is there
-abbrev pub send_of : Place → List ℕ → List LateCall
-send_of (place.Pair num side) bytes = Send num side bytes ∷ []
-send_of _ bytes = []
-
--- the late call of a call, its object fixed by the handle as it is now
-abbrev pub late_call : Call → Private → List LateCall
-late_call (call.XUnlink name slot) me = Unlink name ∷ []
-late_call (call.XSync h slot) me = sync_of (place_of me.places h)
-late_call (call.XWritePipe h bytes slot) me = write_pipe_of (place_of me.places h) bytes
-late_call (call.XShutdown h slot) me = shutdown_of (place_of me.places h)
-late_call (call.XSendmsg h bytes slot) me = send_of (place_of me.places h) bytes
-late_call (call.XThreadCreate body slot) me = Thread body ∷ []
-late_call _ me = []
-
--- the call is kept until the commit
-abbrev pub is_late : Reply → Bool
-is_late reply.Late = true
-is_late _ = false
-
--- what a call that got this reply leaves: its late call where that is Late
+-- what a call that got this reply leaves: its late call where that is Late; any other reply leaves none
 abbrev pub kept_call : Call → Private → Reply → List LateCall
 kept_call call me reply.Late = late_call call me
 kept_call call me _ = []
@@ -138,7 +99,11 @@ abbrev pub stopped : World → LateCall → ℕ → World
 stopped w (WritePipe num bytes) n =
     if n == 0 || (pipe_of w num).shut then w
     else with_put w num (take (min n (room (pipe_of w num))) bytes)
-stopped w _ n = w
+stopped w (Unlink name) n = w
+stopped w (Sync num) n = w
+stopped w (Shutdown object) n = w
+stopped w (Send num side bytes) n = w
+stopped w (Thread body) n = w
 
 -- what a late call does, as the host answers it
 abbrev pub late : World → LateCall → LateAnswer → Ended

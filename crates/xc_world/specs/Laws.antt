@@ -23,7 +23,12 @@ is_refusal reply.PastEnd = true
 is_refusal reply.End = true
 is_refusal reply.Empty = true
 is_refusal (reply.Fault n) = n == 0
-is_refusal _ = false
+is_refusal (reply.Number n) = false
+is_refusal (reply.Got bytes) = false
+is_refusal (reply.Made h) = false
+is_refusal (reply.MadePair h g) = false
+is_refusal reply.Done = false
+is_refusal reply.Late = false
 
 -- two worlds have the same at an object
 abbrev pub AgreeAt : World → World → Object → Type 0

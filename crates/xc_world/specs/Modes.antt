@@ -16,6 +16,7 @@ mode_of (XOpen name) = Shared
 mode_of (XRead h n) = Shared
 mode_of (XLen h) = Shared
 mode_of (XSync h slot) = Shared
+-- any other call, also one yet to come: to keep all others away is never wrong
 mode_of _ = Exclusive
 
 -- what a call claims: the objects that it touches, in its mode

@@ -2,7 +2,7 @@
 use Rattle.std.specs.Prelude.{ℕ, ◌==◌, ◌&&◌, Bool, true, List, [], ◌∷◌, ◌++◌, length, if◌then◌else◌}
 use Rattle.std.specs.List.{fold}
 use Rattle.xc_data.specs.declared.call.Call.{Call}
-use Rattle.xc_data.specs.declared.call.Call.TheVariants.{XReadPipe, XRecvmsg}
+use Rattle.xc_data.specs.declared.call.Call.TheVariants as call
 use Rattle.xc_data.specs.declared.call.Answer.TheVariants as answer
 use Rattle.xc_data.specs.declared.call.Reply.{Reply}
 use Rattle.xc_data.specs.declared.call.Reply.TheVariants.{Got}
@@ -38,11 +38,31 @@ abbrev pub message_taken : Place → List ℕ → List KeptItem
 message_taken (Pair num side) bytes = Message num side bytes ∷ []
 message_taken _ bytes = []
 
--- with its reply
+-- what a call with its reply takes: a reply without bytes takes nothing
 abbrev pub taken_by : Call → Private → Reply → List KeptItem
-taken_by (XReadPipe h n) me (Got bytes) = bytes_taken (place_of me.places h) bytes
-taken_by (XRecvmsg h) me (Got bytes) = message_taken (place_of me.places h) bytes
-taken_by _ me _ = []
+taken_by (call.XReadPipe h n) me (Got bytes) = bytes_taken (place_of me.places h) bytes
+taken_by (call.XRecvmsg h) me (Got bytes) = message_taken (place_of me.places h) bytes
+taken_by (call.XReadPipe h n) me r = []
+taken_by (call.XRecvmsg h) me r = []
+taken_by (call.Load at) me r = []
+taken_by (call.Store at value) me r = []
+taken_by (call.XOpen name) me r = []
+taken_by (call.XCreate name) me r = []
+taken_by (call.XRead h n) me r = []
+taken_by (call.XWriteOvr h bytes) me r = []
+taken_by (call.XWriteSeq h bytes) me r = []
+taken_by (call.XSeek h to) me r = []
+taken_by (call.XLen h) me r = []
+taken_by (call.XRename from to) me r = []
+taken_by (call.XClose h) me r = []
+taken_by call.XPipe me r = []
+taken_by call.XPair me r = []
+taken_by (call.XUnlink name slot) me r = []
+taken_by (call.XSync h slot) me r = []
+taken_by (call.XWritePipe h bytes slot) me r = []
+taken_by (call.XShutdown h slot) me r = []
+taken_by (call.XSendmsg h bytes slot) me r = []
+taken_by (call.XThreadCreate body slot) me r = []
 
 -- ---- the same given back, in front of what is there now
 abbrev pub gives : World → KeptItem → World

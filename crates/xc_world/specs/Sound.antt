@@ -6,7 +6,7 @@ use Rattle.xc_data.specs.declared.object.Num.{Num}
 use Rattle.xc_data.specs.declared.object.Object.{Object}
 use Rattle.xc_data.specs.declared.object.Object.TheVariants as object
 use Rattle.xc_data.specs.declared.call.LateCall.{LateCall}
-use Rattle.xc_data.specs.declared.call.LateCall.TheVariants.{Sync, WritePipe, Shutdown, Send}
+use Rattle.xc_data.specs.declared.call.LateCall.TheVariants.{Sync, WritePipe, Shutdown, Send, Unlink, Thread}
 use Rattle.xc_data.specs.declared.private.Place.{Place}
 use Rattle.xc_data.specs.declared.private.Place.TheVariants as place
 use Rattle.xc_data.specs.declared.private.Private.{Private}
@@ -54,7 +54,10 @@ pub record IsSound (w : World) (me : Private) (tx : ℕ) : Type 0 where
 abbrev pub late_bytes_of : LateCall → List ℕ
 late_bytes_of (WritePipe num bytes) = bytes
 late_bytes_of (Send num side bytes) = bytes
-late_bytes_of _ = []
+late_bytes_of (Unlink name) = []
+late_bytes_of (Sync num) = []
+late_bytes_of (Shutdown object) = []
+late_bytes_of (Thread body) = []
 
 -- a late call carries at most 1024 bytes
 abbrev pub IsShortCall : LateCall → Type 0
@@ -73,7 +76,8 @@ names_there w (Sync num) = is_some (map.get w.files num)
 names_there w (WritePipe num bytes) = is_some (map.get w.pipes num)
 names_there w (Shutdown object) = is_there w object
 names_there w (Send num side bytes) = is_some (map.get w.pairs num)
-names_there w _ = true
+names_there w (Unlink name) = true
+names_there w (Thread body) = true
 
 -- a late call that may be done: short, and its object is there
 pub record IsReady (w : World) (c : LateCall) : Type 0 where

@@ -22,6 +22,7 @@ use Rattle.xc_world.specs.Act.Files.{overwritten}
 abbrev pub done_of : ℕ → Reply → ℕ
 done_of all reply.Done = all
 done_of all (reply.Fault n) = n
+-- with any other reply nothing was done, also with one yet to come
 done_of all _ = 0
 
 -- an overwrite that did n bytes
@@ -38,21 +39,25 @@ append_record w bytes n _ = []
 -- the record of a file that was made
 abbrev pub create_record : Private → ℕ → List ℕ → Reply → List Undo
 create_record me tx name (reply.Made h) = Made name (next_num me tx) ∷ []
+-- with any other reply no file was made
 create_record me tx name _ = []
 
 -- the record of a file that took another name
 abbrev pub rename_record : List ℕ → List ℕ → Reply → List Undo
 rename_record from to reply.Done = Moved from to ∷ []
+-- with any other reply no name was given
 rename_record from to _ = []
 
 -- the record of a pipe that was made
 abbrev pub pipe_record : Private → ℕ → Reply → List Undo
 pipe_record me tx (reply.Made h) = NewPipe (next_num me tx) ∷ []
+-- with any other reply no pipe was made
 pipe_record me tx _ = []
 
 -- the record of a pair that was made
 abbrev pub pair_record : Private → ℕ → Reply → List Undo
 pair_record me tx (reply.MadePair h g) = NewPair (next_num me tx) ∷ []
+-- with any other reply no pair was made
 pair_record me tx _ = []
 
 -- the record of a call with its reply, in the world before it
@@ -63,7 +68,21 @@ recorded w me tx (call.XCreate name) reply = create_record me tx name reply
 recorded w me tx (call.XRename from to) reply = rename_record from to reply
 recorded w me tx call.XPipe reply = pipe_record me tx reply
 recorded w me tx call.XPair reply = pair_record me tx reply
-recorded w me tx _ reply = []
+recorded w me tx (call.Load at) reply = []
+recorded w me tx (call.Store at value) reply = []
+recorded w me tx (call.XOpen name) reply = []
+recorded w me tx (call.XRead h n) reply = []
+recorded w me tx (call.XSeek h to) reply = []
+recorded w me tx (call.XLen h) reply = []
+recorded w me tx (call.XClose h) reply = []
+recorded w me tx (call.XReadPipe h n) reply = []
+recorded w me tx (call.XRecvmsg h) reply = []
+recorded w me tx (call.XUnlink name slot) reply = []
+recorded w me tx (call.XSync h slot) reply = []
+recorded w me tx (call.XWritePipe h bytes slot) reply = []
+recorded w me tx (call.XShutdown h slot) reply = []
+recorded w me tx (call.XSendmsg h bytes slot) reply = []
+recorded w me tx (call.XThreadCreate body slot) reply = []
 
 -- ---- what stands of a record: its effect, of its covered bytes from the k-th on
 abbrev pub move_name : World → List ℕ → List ℕ → Option Num → World

@@ -1,4 +1,4 @@
-ghost use Rattle.std.specs.Prelude.{◌≡◌, ◌<◌, ◌^◌, length, count_by};
+ghost use Rattle.std.specs.Prelude.{◌≡◌, ◌<◌, count_by};
 ghost use Rattle.xc_data.specs.Private.{is_vacant};
 ghost use Rattle.xc_world.specs.Checks as check;
 
@@ -36,7 +36,9 @@ pub fn is_bad_handle(call: &Call, me: &Private) -> bool
         Call::XReadPipe { h, .. } | Call::XWritePipe { h, .. } => !is_pipe(me.place(*h)),
         Call::XRecvmsg { h } | Call::XSendmsg { h, .. } => !is_pair(me.place(*h)),
         Call::XShutdown { h, .. } => !(is_pipe(me.place(*h)) || is_pair(me.place(*h))),
-        _ => false,
+        Call::Load { .. } | Call::Store { .. } | Call::XOpen { .. } | Call::XCreate { .. } => false,
+        Call::XRename { .. } | Call::XPipe | Call::XPair | Call::XUnlink { .. } => false,
+        Call::XThreadCreate { .. } => false,
     }
 }
 
@@ -47,19 +49,8 @@ pub fn is_too_big(call: &Call) -> bool
     match call {
         Call::XRead { n, .. } | Call::XReadPipe { n, .. } => *n > MOST_CALL_BYTES,
         Call::XSeek { to, .. } => *to > MOST_FILE_BYTES,
-        _ => bytes_len(call) as u64 > MOST_CALL_BYTES,
-    }
-}
-
-/// The length of the bytes that a call carries.
-pub fn bytes_len(call: &Call) -> usize
-    ensures value { result ≡ length (check.bytes_of call.now) }
-    ensures bound { result < 2 ^ 63 }
-{
-    match call {
-        Call::XWriteOvr { bytes, .. } | Call::XWriteSeq { bytes, .. } => bytes.len(),
-        Call::XWritePipe { bytes, .. } | Call::XSendmsg { bytes, .. } => bytes.len(),
-        _ => 0,
+        // Of any other call its bytes count, also of one yet to come.
+        _ => call.bytes().len() as u64 > MOST_CALL_BYTES,
     }
 }
 
@@ -98,7 +89,9 @@ pub fn is_too_much(call: &Call, me: &Private) -> bool
         Call::XOpen { .. } => me.vacant().is_none(),
         Call::XCreate { .. } | Call::XPipe => has_made_all(me) || me.vacant().is_none(),
         Call::XPair => has_made_all(me) || vacant_count(&me.places) < 2,
-        _ => false,
+        Call::Load { .. } | Call::Store { .. } | Call::XSeek { .. } | Call::XLen { .. } => false,
+        Call::XRename { .. } | Call::XClose { .. } | Call::XUnlink { .. } => false,
+        Call::XSync { .. } | Call::XShutdown { .. } | Call::XThreadCreate { .. } => false,
     }
 }
 
@@ -108,7 +101,12 @@ pub fn is_bad_word(call: &Call, words: u64) -> bool
 {
     match call {
         Call::Load { at } | Call::Store { at, .. } => *at >= words,
-        _ => false,
+        Call::XOpen { .. } | Call::XCreate { .. } | Call::XRead { .. } => false,
+        Call::XWriteOvr { .. } | Call::XWriteSeq { .. } | Call::XSeek { .. } => false,
+        Call::XLen { .. } | Call::XRename { .. } | Call::XClose { .. } | Call::XPipe => false,
+        Call::XReadPipe { .. } | Call::XPair | Call::XRecvmsg { .. } => false,
+        Call::XUnlink { .. } | Call::XSync { .. } | Call::XWritePipe { .. } => false,
+        Call::XShutdown { .. } | Call::XSendmsg { .. } | Call::XThreadCreate { .. } => false,
     }
 }
 

@@ -1,5 +1,5 @@
 //! The plain machine: what each call does to a world of whole lists and maps, by definition, with
-//! the laws of calls and of whole bodies; and what a call checks, touches and leaves to be done late.
+//! the laws of calls and of whole bodies; and what a call checks and touches.
 #![tactic(auto)]
 
 ghost use Rattle.xc_world.specs.Run.{run};
@@ -15,5 +15,5 @@ pub mod undoing;
 pub mod whole;
 
 pub use handles::opening_private;
-pub use touch::{late_call, touched};
+pub use touch::touched;
 pub use xc_data::NoMemory;

@@ -1,10 +1,9 @@
-ghost use Rattle.std.specs.Prelude.{◌≡◌, [], ◌∷◌, IfOk, MatchOption, map, nat_eq, if◌then◌else◌};
+ghost use Rattle.std.specs.Prelude.{◌≡◌, [], ◌∷◌, map, nat_eq, if◌then◌else◌};
 ghost use Rattle.std.specs.Cmp.Lexicographic.{pointwise};
 ghost use Rattle.xc_data.specs.declared.object.Object.TheVariants as object;
 ghost use Rattle.xc_world.specs.Touch.{object_at};
 ghost use Rattle.xc_data.specs.Claims.{claim};
 ghost use Rattle.xc_world.specs.Modes.{mode_of, claims_of};
-ghost use Rattle.xc_world.specs.Late.{late_call, sync_of, shutdown_of, write_pipe_of, send_of};
 
 use crate::checks::is_refused;
 use smallvec::SmallVec;
@@ -18,6 +17,7 @@ fn mode_of(call: &Call) -> Mode
     match call {
         Call::Load { .. } | Call::XOpen { .. } | Call::XRead { .. } => Mode::Shared,
         Call::XLen { .. } | Call::XSync { .. } => Mode::Shared,
+        // Any other call, also one yet to come: to keep all others away is never wrong.
         _ => Mode::Exclusive,
     }
 }
@@ -80,63 +80,5 @@ pub fn touched(alloc: Global, call: &Call, me: &Private, words: u32) -> SmallVec
         Call::XSeek { .. } | Call::XClose { .. } | Call::XPipe | Call::XPair => {
             SmallVec::new(alloc)
         }
-    }
-}
-
-// The late call of a call on a handle.
-fn sync_of(place: Place) -> Option<LateCall>
-    ensures { MatchOption result (sync_of place ≡ []) (λ late. sync_of place ≡ late ∷ []) }
-{
-    match place {
-        Place::File { num, .. } => Some(LateCall::Sync(num)),
-        _ => None,
-    }
-}
-
-fn shutdown_of(place: Place) -> Option<LateCall>
-    ensures { MatchOption result (shutdown_of place ≡ []) (λ late. shutdown_of place ≡ late ∷ []) }
-{
-    match place {
-        Place::Pipe(num) => Some(LateCall::Shutdown(Object::Pipe(num))),
-        Place::Pair { num, .. } => Some(LateCall::Shutdown(Object::Pair(num))),
-        _ => None,
-    }
-}
-
-fn write_pipe_of(place: Place, bytes: &Chunk) -> Result<Option<LateCall>, NoMemory>
-    ensures { IfOk result (λ found.
-        MatchOption found (write_pipe_of place bytes.now ≡ []) (λ late. write_pipe_of place bytes.now ≡ late ∷ [])) }
-{
-    match place {
-        Place::Pipe(num) => Ok(Some(LateCall::WritePipe(num, bytes.share()?))),
-        _ => Ok(None),
-    }
-}
-
-fn send_of(place: Place, bytes: &Chunk) -> Result<Option<LateCall>, NoMemory>
-    ensures { IfOk result (λ found. MatchOption found (send_of place bytes.now ≡ []) (λ late. send_of place bytes.now ≡ late ∷ [])) }
-{
-    match place {
-        Place::Pair { num, side } => Ok(Some(LateCall::Send {
-            pair: num,
-            side,
-            bytes: bytes.share()?,
-        })),
-        _ => Ok(None),
-    }
-}
-
-/// The late call that a call leaves, its object fixed by the handle as it is now.
-pub fn late_call(call: &Call, me: &Private) -> Result<Option<LateCall>, NoMemory>
-    ensures { IfOk result (λ found. MatchOption found (late_call call.now me.now ≡ []) (λ late. late_call call.now me.now ≡ late ∷ [])) }
-{
-    match call {
-        Call::XUnlink { name, .. } => Ok(Some(LateCall::Unlink(*name.value()))),
-        Call::XSync { h, .. } => Ok(sync_of(me.place(*h))),
-        Call::XWritePipe { h, bytes, .. } => write_pipe_of(me.place(*h), bytes),
-        Call::XShutdown { h, .. } => Ok(shutdown_of(me.place(*h))),
-        Call::XSendmsg { h, bytes, .. } => send_of(me.place(*h), bytes),
-        Call::XThreadCreate { body, .. } => Ok(Some(LateCall::Thread(*body.value()))),
-        _ => Ok(None),
     }
 }

@@ -1,7 +1,8 @@
 ghost use Rattle.std.specs.Prelude.{◌≡◌, ◌≤◌, ◌<◌, false, length, slice_index, IsTrue, IfOk, OnOk, OnErr};
 ghost use Rattle.xc_data.specs.declared.call.Answer.TheVariants as answer;
 ghost use Rattle.xc_data.specs.Private.{place_of, is_vacant, with_place};
-ghost use Rattle.xc_world.specs.Checks.{bytes_of, is_refused as refuses};
+ghost use Rattle.xc_world.specs.Checks.{is_refused as refuses};
+ghost use Rattle.xc_data.specs.Calls.{bytes_of};
 ghost use Rattle.xc_world.specs.Fits.{fits};
 ghost use Rattle.xc_world.specs.Sound.{IsSound};
 ghost use Rattle.xc_world.specs.Act.{act, done, fine, faulty};
@@ -10,7 +11,7 @@ ghost use Rattle.xc_world.specs.Act.Files.{seek_at};
 
 use super::World;
 use xc_data::{Answer, Call, NoMemory, Place, Private, Reply};
-use xc_world::checks::{bytes_len, is_bad_handle, is_bad_word, is_too_big, is_too_much};
+use xc_world::checks::{is_bad_handle, is_bad_word, is_too_big, is_too_much};
 
 // The bytes of a call and of its reply are stored.
 fn count(me: &mut Private, call: &Call, reply: &Reply)
@@ -19,7 +20,7 @@ fn count(me: &mut Private, call: &Call, reply: &Reply)
     requires reply { IsShortReply reply.now }
     ensures { me.new ≡ storing_reply reply.now (storing_call call.now me.old) }
 {
-    me.stored += bytes_len(call) as u32;
+    me.stored += call.bytes().len() as u32;
     if let Reply::Got(bytes) = reply {
         me.stored += bytes.len() as u32;
     }
@@ -83,7 +84,9 @@ impl World {
             Call::XReadPipe { h, n } => self.read_pipe(me, *h, *n),
             Call::XPair => self.make_pair(me, tx),
             Call::XRecvmsg { h } => self.receive(me, *h),
-            _ => Ok(Reply::Late),
+            Call::XUnlink { .. } | Call::XSync { .. } | Call::XWritePipe { .. } => Ok(Reply::Late),
+            Call::XShutdown { .. } | Call::XSendmsg { .. } => Ok(Reply::Late),
+            Call::XThreadCreate { .. } => Ok(Reply::Late),
         }
     }
 
@@ -98,6 +101,7 @@ impl World {
         match call {
             Call::XWriteOvr { h, bytes } => self.overwrite_short(me, *h, bytes, n),
             Call::XWriteSeq { h, bytes } => self.append_short(me, *h, bytes, n),
+            // Any other call leaves nothing behind a fault, also one yet to come.
             _ => Ok(Reply::Fault(n)),
         }
     }

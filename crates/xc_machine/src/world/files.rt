@@ -97,7 +97,7 @@ impl World {
         requires inside { (num : Num) (at : ℕ) → place_of me.old.places h ≡ File num at → 0 < n
             → (n ≤ length bytes.now) × (at + n ≤ length (file_of self.old num)) }
         ensures ok { IfOk result (λ reply.
-            overwrite_short self.old me.old h bytes.now n (place_of me.old.places h) ≡ step_to self.new me.new reply) }
+            overwrite_short self.old me.old (h, place_of me.old.places h) bytes.now n ≡ step_to self.new me.new reply) }
         ensures world { OnErr result (self.new ≡ self.old) }
         ensures me { OnErr result (me.new ≡ me.old) }
     {
@@ -164,7 +164,7 @@ impl World {
         requires inside { (num : Num) (at : ℕ) → place_of me.old.places h ≡ File num at → 0 < n
             → (n ≤ length bytes.now) × (length (file_of self.old num) + n ≤ 65536) }
         ensures ok { IfOk result (λ reply.
-            append_short self.old me.old h bytes.now n (place_of me.old.places h) ≡ step_to self.new me.new reply) }
+            append_short self.old me.old (h, place_of me.old.places h) bytes.now n ≡ step_to self.new me.new reply) }
         ensures world { OnErr result (self.new ≡ self.old) }
         ensures me { OnErr result (me.new ≡ me.old) }
     {

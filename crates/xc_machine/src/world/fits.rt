@@ -15,7 +15,9 @@ fn asks_host(call: &Call) -> bool
         Call::XWriteOvr { bytes, .. } | Call::XWriteSeq { bytes, .. } => bytes.len() >= 1,
         Call::XOpen { .. } | Call::XCreate { .. } | Call::XLen { .. } => true,
         Call::XRename { .. } | Call::XPipe | Call::XPair | Call::XRecvmsg { .. } => true,
-        _ => false,
+        Call::Load { .. } | Call::Store { .. } | Call::XSeek { .. } | Call::XClose { .. } => false,
+        Call::XUnlink { .. } | Call::XSync { .. } | Call::XWritePipe { .. } => false,
+        Call::XShutdown { .. } | Call::XSendmsg { .. } | Call::XThreadCreate { .. } => false,
     }
 }
 
@@ -57,6 +59,7 @@ impl World {
             Call::XWriteSeq { h, bytes } => {
                 self.appends(me, *h, bytes) && (n as usize) < bytes.len()
             }
+            // Any other call is done or not, also one yet to come.
             _ => false,
         }
     }
@@ -82,6 +85,7 @@ impl World {
     fn late_may_stop(&self, call: &LateCall, n: u32) -> bool
         ensures { result ≡ late_may_stop self.now call.now n }
     {
+        // Any other late call is done or not, also one yet to come.
         let LateCall::WritePipe(num, bytes) = call else {
             return false;
         };

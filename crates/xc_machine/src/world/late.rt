@@ -159,6 +159,7 @@ impl World {
         ensures ok { OnOk result (self.new ≡ stopped self.old call.now n) }
         ensures err { OnErr result (self.new ≡ self.old) }
     {
+        // Any other late call stops before it does anything, also one yet to come.
         let LateCall::WritePipe(num, bytes) = call else {
             return Ok(());
         };
@@ -189,7 +190,7 @@ impl World {
             LateCall::WritePipe(num, _) => self.pipes.get(*num).is_some(),
             LateCall::Shutdown(object) => self.has(object),
             LateCall::Send { pair, .. } => self.pairs.get(*pair).is_some(),
-            _ => true,
+            LateCall::Unlink(_) | LateCall::Thread(_) => true,
         }
     }
 

@@ -20,56 +20,69 @@ len_at w me (File num at) = step_to w me (Number (length (file_of w num)))
 len_at w me _ = step_to w me BadHandle
 
 -- ---- through a handle
-module _ (w : World) (me : Private) (h : ℕ) where
+-- a file that is open: its handle, its number, and the position there
+pub record OpenFile : Type 0 where
+  pub handle : ℕ
+  pub num : Num
+  pub at : ℕ
+
+-- the file of this number, open at a handle and there at a position
+abbrev pub open_at : ℕ → Num → ℕ → OpenFile
+open_at h num at = record { handle = h; num = num; at = at }
+
+module _ (w : World) (me : Private) where
   -- these bytes are read, and the position moves on
-  abbrev pub got : Num → ℕ → List ℕ → Stepped
-  got num at bytes = step_to w (with_place me h (File num (at + length bytes))) (Got bytes)
+  abbrev pub got : OpenFile → List ℕ → Stepped
+  got file bytes = step_to w (with_place me file.handle (File file.num (file.at + length bytes))) (Got bytes)
 
   -- the next n bytes, or all to the end where those are fewer
-  abbrev pub read_at : ℕ → Place → Stepped
-  read_at n (File num at) =
+  abbrev pub read_at : ℕ → ℕ → Place → Stepped
+  read_at h n (File num at) =
       if n == 0 then step_to w me (Got [])
       else if nat_le (length (file_of w num)) at then step_to w me End
-      else got num at (take n (drop at (file_of w num)))
-  read_at n _ = step_to w me BadHandle
+      else got (open_at h num at) (take n (drop at (file_of w num)))
+  read_at h n _ = step_to w me BadHandle
 
   -- these bytes are written over, and the position moves on
-  abbrev pub put : Num → ℕ → List ℕ → Reply → Stepped
-  put num at bytes r =
-      step_to (with_file w num (overwritten at bytes (file_of w num))) (with_place me h (File num (at + length bytes))) r
+  abbrev pub put : OpenFile → List ℕ → Reply → Stepped
+  put file bytes r =
+      step_to (with_file w file.num (overwritten file.at bytes (file_of w file.num)))
+      (with_place me file.handle (File file.num (file.at + length bytes))) r
 
   -- the bytes are written over those at the handle's position, and none where they would pass the end
-  abbrev pub overwrite_at : List ℕ → Place → Stepped
-  overwrite_at bytes (File num at) =
+  abbrev pub overwrite_at : ℕ → List ℕ → Place → Stepped
+  overwrite_at h bytes (File num at) =
       if length bytes == 0 then step_to w me Done
       else if nat_lt (length (file_of w num)) (at + length bytes) then step_to w me PastEnd
-      else put num at bytes Done
-  overwrite_at bytes _ = step_to w me BadHandle
+      else put (open_at h num at) bytes Done
+  overwrite_at h bytes _ = step_to w me BadHandle
 
   -- these bytes are appended, and the position is the new end
-  abbrev pub appended : Num → List ℕ → Reply → Stepped
-  appended num bytes r =
-      step_to (with_file w num (file_of w num ++ bytes)) (with_place me h (File num (length (file_of w num) + length bytes))) r
+  abbrev pub appended : OpenFile → List ℕ → Reply → Stepped
+  appended file bytes r =
+      step_to (with_file w file.num (file_of w file.num ++ bytes))
+      (with_place me file.handle (File file.num (length (file_of w file.num) + length bytes))) r
 
   -- the bytes are appended, and none where the file would pass 65536 bytes
-  abbrev pub append_at : List ℕ → Place → Stepped
-  append_at bytes (File num at) =
+  abbrev pub append_at : ℕ → List ℕ → Place → Stepped
+  append_at h bytes (File num at) =
       if length bytes == 0 then step_to w me Done
       else if nat_lt 65536 (length (file_of w num) + length bytes) then step_to w me TooBig
-      else appended num bytes Done
-  append_at bytes _ = step_to w me BadHandle
+      else appended (open_at h num at) bytes Done
+  append_at h bytes _ = step_to w me BadHandle
 
   -- the handle's position is set
-  abbrev pub seek_at : ℕ → Place → Stepped
-  seek_at to (File num at) = step_to w (with_place me h (File num to)) Done
-  seek_at to _ = step_to w me BadHandle
+  abbrev pub seek_at : ℕ → ℕ → Place → Stepped
+  seek_at h to (File num at) = step_to w (with_place me h (File num to)) Done
+  seek_at h to _ = step_to w me BadHandle
 
-  -- with a fault after n bytes, which are done
-  abbrev pub overwrite_short : List ℕ → ℕ → Place → Stepped
-  overwrite_short bytes n (File num at) = if n == 0 then step_to w me (Fault n) else put num at (take n bytes) (Fault n)
-  overwrite_short bytes n _ = step_to w me (Fault n)
+  -- ---- with a fault after n bytes, which are done: through a handle with what stands there
+  -- an overwrite that stops after n bytes
+  abbrev pub overwrite_short : ℕ × Place → List ℕ → ℕ → Stepped
+  overwrite_short (h, File num at) bytes n = if n == 0 then step_to w me (Fault n) else put (open_at h num at) (take n bytes) (Fault n)
+  overwrite_short (h, place) bytes n = step_to w me (Fault n)
 
   -- an append that stops after n bytes
-  abbrev pub append_short : List ℕ → ℕ → Place → Stepped
-  append_short bytes n (File num at) = if n == 0 then step_to w me (Fault n) else appended num (take n bytes) (Fault n)
-  append_short bytes n _ = step_to w me (Fault n)
+  abbrev pub append_short : ℕ × Place → List ℕ → ℕ → Stepped
+  append_short (h, File num at) bytes n = if n == 0 then step_to w me (Fault n) else appended (open_at h num at) (take n bytes) (Fault n)
+  append_short (h, place) bytes n = step_to w me (Fault n)

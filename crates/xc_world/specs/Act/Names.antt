@@ -37,23 +37,23 @@ module _ (w : World) (me : Private) where
   abbrev pub opens : List ℕ → Stepped
   opens name = opened (map.get w.names name) (lowest_vacant me.places)
 
-  -- a new name and a vacant handle make an empty file at its start
-  abbrev pub created : ℕ → List ℕ → Option Num → Option ℕ → Stepped
-  created tx name (Some num) vacant = step_to w me Exists
-  created tx name None (Some h) =
+  -- a new name and a vacant handle make an empty file at its start: by what has the name, and the vacant handle
+  abbrev pub created : ℕ → List ℕ → Option Num × Option ℕ → Stepped
+  created tx name (Some num, vacant) = step_to w me Exists
+  created tx name (None, Some h) =
       step_to (with_new_file w name (next_num me tx)) (making (with_place me h (File (next_num me tx) 0))) (Made h)
-  created tx name None None = step_to w me TooMuch
+  created tx name (None, None) = step_to w me TooMuch
 
   -- an empty file is made under a name, at the lowest vacant handle
   abbrev pub creates : ℕ → List ℕ → Stepped
-  creates tx name = created tx name (map.get w.names name) (lowest_vacant me.places)
+  creates tx name = created tx name (map.get w.names name, lowest_vacant me.places)
 
-  -- a file that is there takes a name that is not
-  abbrev pub renamed : List ℕ → List ℕ → Option Num → Option Num → Stepped
-  renamed from to None there = step_to w me NoName
-  renamed from to (Some num) (Some there) = step_to w me Exists
-  renamed from to (Some num) None = step_to (with_moved w from to num) me Done
+  -- a file that is there takes a name that is not: by what has the first name, and what the second
+  abbrev pub renamed : List ℕ → List ℕ → Option Num × Option Num → Stepped
+  renamed from to (None, there) = step_to w me NoName
+  renamed from to (Some num, Some there) = step_to w me Exists
+  renamed from to (Some num, None) = step_to (with_moved w from to num) me Done
 
   -- a file takes another name
   abbrev pub renames : List ℕ → List ℕ → Stepped
-  renames from to = renamed from to (map.get w.names from) (map.get w.names to)
+  renames from to = renamed from to (map.get w.names from, map.get w.names to)

@@ -1,7 +1,7 @@
 -- What a step gives.
 use Rattle.std.specs.Prelude.{ℕ, ◌+◌, ◌≤◌, length}
 use Rattle.xc_data.specs.declared.call.Call.{Call}
-use Rattle.xc_data.specs.declared.call.Call.TheVariants.{XWriteOvr, XWriteSeq, XWritePipe, XSendmsg}
+use Rattle.xc_data.specs.declared.call.Call.TheVariants as call
 use Rattle.xc_data.specs.declared.call.Reply.{Reply}
 use Rattle.xc_data.specs.declared.call.Reply.TheVariants.{Got}
 use Rattle.xc_data.specs.declared.private.Private.{Private}
@@ -23,15 +23,32 @@ storing me n = record me { stored = me.stored + n }
 
 -- the bytes of a call are stored
 abbrev pub storing_call : Call → Private → Private
-storing_call (XWriteOvr h bytes) me = storing me (length bytes)
-storing_call (XWriteSeq h bytes) me = storing me (length bytes)
-storing_call (XWritePipe h bytes slot) me = storing me (length bytes)
-storing_call (XSendmsg h bytes slot) me = storing me (length bytes)
-storing_call _ me = me
+storing_call (call.XWriteOvr h bytes) me = storing me (length bytes)
+storing_call (call.XWriteSeq h bytes) me = storing me (length bytes)
+storing_call (call.XWritePipe h bytes slot) me = storing me (length bytes)
+storing_call (call.XSendmsg h bytes slot) me = storing me (length bytes)
+storing_call (call.Load at) me = me
+storing_call (call.Store at value) me = me
+storing_call (call.XOpen name) me = me
+storing_call (call.XCreate name) me = me
+storing_call (call.XRead h n) me = me
+storing_call (call.XSeek h to) me = me
+storing_call (call.XLen h) me = me
+storing_call (call.XRename from to) me = me
+storing_call (call.XClose h) me = me
+storing_call call.XPipe me = me
+storing_call (call.XReadPipe h n) me = me
+storing_call call.XPair me = me
+storing_call (call.XRecvmsg h) me = me
+storing_call (call.XUnlink name slot) me = me
+storing_call (call.XSync h slot) me = me
+storing_call (call.XShutdown h slot) me = me
+storing_call (call.XThreadCreate body slot) me = me
 
 -- the bytes of a reply are stored
 abbrev pub storing_reply : Reply → Private → Private
 storing_reply (Got bytes) me = storing me (length bytes)
+-- any other reply brings no bytes, also one yet to come
 storing_reply _ me = me
 
 -- a call that passed the checks has its bytes and its reply's counted
@@ -41,4 +58,5 @@ counted call s = step_to s.world (storing_reply s.reply (storing_call call s.me)
 -- the bytes that a reply brings are at most 1,024
 abbrev pub IsShortReply : Reply → Type 0
 IsShortReply (Got bytes) = length bytes ≤ 1024
+-- any other reply brings none, also one yet to come
 IsShortReply _ = Unit {0}
