@@ -3,7 +3,6 @@ use Rattle.std.proofs.Common.{◌≡◌, ℕ, zero, suc, Bool, true, false, cond
 use Rattle.std.proofs.Common.{refl, ap, sym, ◌∙◌, arith}
 use Rattle.std.specs.Prelude.{◌+◌, ◌≤◌, slice_get, is_some, IfSome, IfNone, OnSome, if◌then◌else◌}
 use Rattle.std.specs.declared.cmp.Ordering.{Ordering}
-use Rattle.std.specs.Ordering.{is_eq, eq_by_cmp}
 use Rattle.std.specs.Cmp.{IsTotalOrder, eq_by_cmp_equiv}
 use Rattle.std.specs.List as list
 use Rattle.std.specs.BTreeMap.{is_at}
@@ -20,14 +19,14 @@ module _ {K : Type 0} {R : K → K → Ordering} (o : IsTotalOrder R) (same : Cm
   tie : (a b : K) → is_at (R a) b ≡ true → a ≡ b
   tie a b e = tied o same a b e
 
+-- a tree that differs from another at one key
+abbrev pub Changes : {K X : Type 0} → (K → K → Ordering) → K → Option X → List (K × X) → List (K × X) → Type 0
+Changes {K = K} R k w es fs = (q : K) → lookup (is_at (R q)) fs ≡ cond (is_at (R k) q) w (lookup (is_at (R q)) es)
+
 module _ {K X : Type 0} {R : K → K → Ordering} (o : IsTotalOrder R) (same : CmpEqualImpliesEq R) where
   -- what two lists, one behind the other, have at a key
   abbrev pub at : List (K × X) → List (K × X) → K → Option X
   at es tree q = lookup (is_at (R q)) (es ++ tree)
-
-  -- a tree that differs from another at one key
-  abbrev pub Changes : K → Option X → List (K × X) → List (K × X) → Type 0
-  Changes k w es fs = (q : K) → lookup (is_at (R q)) fs ≡ cond (is_at (R k) q) w (lookup (is_at (R q)) es)
 
   parts : (b : Bool) (x : X) (r : Option X) → cond b (Some x) r ≡ None → (b ≡ false) × (r ≡ None)
   parts true x r e = absurd (cc)
@@ -74,7 +73,7 @@ module _ {K X : Type 0} {R : K → K → Ordering} (o : IsTotalOrder R) (same : 
 
   -- it is taken out
   pub cut_at : (es tree : List (K × X)) (i : ℕ) (k : K) (x : X) → AreNew R es tree → slice_get es i ≡ Some (k, x)
-      → Changes k None (es ++ tree) (list.remove es i ++ tree)
+      → Changes R k None (es ++ tree) (list.remove es i ++ tree)
   cut_at [] tree i k x h is q = absurd (cc)
   cut_at (e ∷ es) tree zero k x h is q =
       let p : e ≡ (k, x) = cc in
@@ -84,22 +83,22 @@ module _ {K X : Type 0} {R : K → K → Ordering} (o : IsTotalOrder R) (same : 
       step k q e None _ _ (other_at es tree k e.0 x _ refl h.0 (found_at es tree i k x h.1 is)) (cut_at es tree i k x h.1 is q)
 
   -- the tree changes at a key that no entry outside has
-  pub tree_changed : (es tree next : List (K × X)) (k : K) (w : Option X) → lookup (is_at (R k)) es ≡ None → Changes k w tree next
-      → Changes k w (es ++ tree) (es ++ next)
+  pub tree_changed : (es tree next : List (K × X)) (k : K) (w : Option X) → lookup (is_at (R k)) es ≡ None → Changes R k w tree next
+      → Changes R k w (es ++ tree) (es ++ next)
   tree_changed [] tree next k w none h q = h q
   tree_changed (e ∷ es) tree next k w none h q =
       let p = parts _ _ _ none in
       step k q e w _ _ p.0 (tree_changed es tree next k w p.1 h q)
 
   -- an entry of a new key is put outside
-  pub put_at : (es tree : List (K × X)) (k : K) (x : X) → at es tree k ≡ None → Changes k (Some x) (es ++ tree) ((es ++ (k, x) ∷ []) ++ tree)
+  pub put_at : (es tree : List (K × X)) (k : K) (x : X) → at es tree k ≡ None → Changes R k (Some x) (es ++ tree) ((es ++ (k, x) ∷ []) ++ tree)
   put_at [] tree k x none q = ap (λ b. cond b (Some x) (lookup (is_at (R q)) tree)) (turn o same q k)
   put_at (e ∷ es) tree k x none q =
       let p = parts _ _ _ none in
       step k q e (Some x) _ _ p.0 (put_at es tree k x p.1 q)
 
   -- the last entry outside is put into the tree
-  pub away_at : (es tree next : List (K × X)) (k : K) (x : X) → Changes k (Some x) tree next → (q : K) → at es next q ≡ at (es ++ (k, x) ∷ []) tree q
+  pub away_at : (es tree next : List (K × X)) (k : K) (x : X) → Changes R k (Some x) tree next → (q : K) → at es next q ≡ at (es ++ (k, x) ∷ []) tree q
   away_at [] tree next k x h q = h q ∙ ap (λ b. cond b (Some x) (lookup (is_at (R q)) tree)) (turn o same k q)
   away_at (e ∷ es) tree next k x h q = ap (cond (is_at (R q) e.0) (Some e.1)) (away_at es tree next k x h q)
 
@@ -117,7 +116,7 @@ module _ {K X : Type 0} {R : K → K → Ordering} (o : IsTotalOrder R) (same : 
   fresh_cut (e ∷ es) tree (suc i) k x h is = (cut_at es tree i k x h.1 is e.0 ∙ none_either _ _ h.0, fresh_cut es tree i k x h.1 is)
 
   -- beside a tree that changed at another key
-  pub fresh_changed : (es tree next : List (K × X)) (k : K) (w : Option X) → lookup (is_at (R k)) es ≡ None → Changes k w tree next
+  pub fresh_changed : (es tree next : List (K × X)) (k : K) (w : Option X) → lookup (is_at (R k)) es ≡ None → Changes R k w tree next
       → AreNew R es tree → AreNew R es next
   fresh_changed [] tree next k w none h fresh = tt
   fresh_changed (e ∷ es) tree next k w none h fresh =
@@ -132,7 +131,7 @@ module _ {K X : Type 0} {R : K → K → Ordering} (o : IsTotalOrder R) (same : 
       (put_at es tree k x p.1 e.0 ∙ ap (λ b. cond b (Some x) (at es tree e.0)) p.0 ∙ fresh.0, fresh_put es tree k x p.1 fresh.1)
 
   -- with the last entry in the tree
-  pub fresh_away : (es tree next : List (K × X)) (k : K) (x : X) → Changes k (Some x) tree next → AreNew R (es ++ (k, x) ∷ []) tree → AreNew R es next
+  pub fresh_away : (es tree next : List (K × X)) (k : K) (x : X) → Changes R k (Some x) tree next → AreNew R (es ++ (k, x) ∷ []) tree → AreNew R es next
   fresh_away [] tree next k x h fresh = tt
   fresh_away (e ∷ es) tree next k x h fresh = (away_at es tree next k x h e.0 ∙ fresh.0, fresh_away es tree next k x h fresh.1)
 
@@ -152,7 +151,7 @@ module _ {K X : Type 0} {R : K → K → Ordering} (o : IsTotalOrder R) (same : 
 
   -- an entry outside has another value
   pub replaced_at : (es tree : List (K × X)) (i : ℕ) (k : K) (x y : X) → AreNew R es tree → slice_get es i ≡ Some (k, x)
-      → Changes k (Some y) (es ++ tree) ((list.remove es i ++ (k, y) ∷ []) ++ tree)
+      → Changes R k (Some y) (es ++ tree) ((list.remove es i ++ (k, y) ∷ []) ++ tree)
   replaced_at es tree i k x y h is q =
       put_at (list.remove es i) tree k y (none_left es tree i k x h is) q ∙ ap (cond (is_at (R k) q) (Some y)) (cut_at es tree i k x h is q)
       ∙ twice_at y (at es tree q) (is_at (R k) q)

@@ -2,6 +2,7 @@
 use Rattle.std.specs.Prelude.{◌≡◌, ℕ, ◌<◌, Bool, true, false, All, List, Option, Some, None}
 use Rattle.xc_data.specs.declared.claim.Claim.{Claim}
 use Rattle.xc_data.specs.declared.object.Object.{Object}
+use Rattle.xc_data.specs.Step.{Step}
 use Rattle.xc_wordlocks.specs.Table.{KeepsOthers, claimed, mode_of}
 use Rattle.xc_wordlocks.specs.Met.{IsFirstMet, IsNotMet}
 use Rattle.xc_data.specs.declared.entry.Mark.{Mark}
@@ -39,34 +40,41 @@ changed f (Some seat) = Some (f seat)
 -- both are active, and the second is younger
 abbrev pub IsYounger : Option Seat → Option Seat → Type 0
 IsYounger (Some mine) (Some its) = mine.rank < its.rank
-IsYounger _ _ = ⊥
+IsYounger (Some mine) None = ⊥
+IsYounger None its = ⊥
 
-module _ (old new : Sentinels) (claims : List Claim) (tx : ℕ) where
-  -- no claim is met, and all is claimed
-  pub record AreGranted : Type 0 where
-    pub free : All (IsNotMet old.claims tx) claims
-    pub held : (o : Object) → mode_of new.claims tx o ≡ claimed (mode_of old.claims tx o) claims o
-    pub others : KeepsOthers tx old.claims new.claims
-    pub seats : KeepsSeats old.seats new.seats
+-- what a transaction claims, whether it may wait for a younger holder, and how long the journal is
+pub record Claiming : Type 0 where
+  pub claims : List Claim
+  pub patient : Bool
+  pub at : ℕ
 
+-- no claim is met, and all is claimed
+pub record AreGranted (step : Step Sentinels) (tx : ℕ) (claims : List Claim) : Type 0 where
+  pub free : All (IsNotMet step.old.claims tx) claims
+  pub held : (o : Object) → mode_of step.new.claims tx o ≡ claimed (mode_of step.old.claims tx o) claims o
+  pub others : KeepsOthers tx step.old.claims step.new.claims
+  pub seats : KeepsSeats step.old.seats step.new.seats
+
+module _ (step : Step Sentinels) (tx : ℕ) (c : Claiming) where
   -- the first claim that is met meets a younger holder, and there is patience: that one is marked
-  pub record IsBusy (patient : Bool) (at : ℕ) (object : Object) (holder : ℕ) : Type 0 where
-    pub met : IsFirstMet old.claims claims tx object holder
-    pub patience : patient ≡ true
-    pub younger : IsYounger (seat_in old.seats tx) (seat_in old.seats holder)
-    pub table : new.claims ≡ old.claims
-    pub mark : SetsSeat old.seats new.seats holder
-        (changed (λ seat. marked_seat seat (record { object = object; by = tx; at = at })) (seat_in old.seats holder))
+  pub record IsBusy (object : Object) (holder : ℕ) : Type 0 where
+    pub met : IsFirstMet step.old.claims c.claims tx object holder
+    pub patience : c.patient ≡ true
+    pub younger : IsYounger (seat_in step.old.seats tx) (seat_in step.old.seats holder)
+    pub table : step.new.claims ≡ step.old.claims
+    pub mark : SetsSeat step.old.seats step.new.seats holder
+        (changed (λ seat. marked_seat seat (record { object = object; by = tx; at = c.at })) (seat_in step.old.seats holder))
 
   -- it meets a holder that isn't younger, or there is no patience: nothing changes
-  pub record IsConflict (patient : Bool) (object : Object) (holder : ℕ) : Type 0 where
-    pub met : IsFirstMet old.claims claims tx object holder
-    pub stops : patient ≡ true → IsYounger (seat_in old.seats tx) (seat_in old.seats holder) → ⊥
-    pub same : new ≡ old
+  pub record IsConflict (object : Object) (holder : ℕ) : Type 0 where
+    pub met : IsFirstMet step.old.claims c.claims tx object holder
+    pub stops : c.patient ≡ true → IsYounger (seat_in step.old.seats tx) (seat_in step.old.seats holder) → ⊥
+    pub same : step.new ≡ step.old
 
   -- the answer, and what changed
-  abbrev pub IsAnswer : Bool → ℕ → Verdict → Type 0
-  IsAnswer patient at verdict.Granted = AreGranted
-  IsAnswer patient at (verdict.Busy object holder) = IsBusy patient at object holder
-  IsAnswer patient at (verdict.Conflict object holder) = IsConflict patient object holder
-  IsAnswer patient at verdict.NoMemory = All (IsNotMet old.claims tx) claims × (new ≡ old)
+  abbrev pub IsAnswer : Verdict → Type 0
+  IsAnswer verdict.Granted = AreGranted step tx c.claims
+  IsAnswer (verdict.Busy object holder) = IsBusy object holder
+  IsAnswer (verdict.Conflict object holder) = IsConflict object holder
+  IsAnswer verdict.NoMemory = All (IsNotMet step.old.claims tx) c.claims × (step.new ≡ step.old)

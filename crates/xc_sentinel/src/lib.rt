@@ -5,8 +5,6 @@ mod keys;
 mod seat;
 mod seats;
 mod sentinels;
-#[cfg(test)]
-mod tests;
 
 pub use seat::{Seat, Verdict};
 pub use sentinels::Sentinels;

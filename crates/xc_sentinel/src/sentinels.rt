@@ -103,7 +103,8 @@ impl Sentinels {
     /// The transaction claims, at a place in the journal. The first claim that is met decides: where there is patience and the holder
     /// is younger, the holder is marked, and the transaction waits for it. Of several marks a transaction keeps the first.
     pub fn ask(&mut self, claims: &[Claim], tx: u32, patient: bool, at: u32) -> Verdict
-        ensures { IsAnswer self.old self.new claims.now tx patient at result }
+        ensures { IsAnswer (record { old = self.old; new = self.new }) tx
+            (record { claims = claims.now; patient = patient; at = at }) result }
     {
         match self.claims.claim(claims, tx) {
             Ok(()) => Verdict::Granted,

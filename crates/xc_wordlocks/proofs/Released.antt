@@ -11,6 +11,7 @@ use Rattle.xc_data.specs.declared.object.Object.{Object}
 use Rattle.xc_data.specs.declared.claim.Mode.{Mode}
 use Rattle.xc_data.specs.declared.claim.Claim.{Claim}
 use Rattle.xc_data.specs.Claims.{claim, is_object, merged, holding_one, objects}
+use Rattle.xc_data.specs.Step.{Step}
 use Rattle.xc_wordlocks.specs.Released.{with_one, each_once, claims_on}
 use Rattle.xc_wordlocks.specs.Table.{Table, KeepsOthers, has, mode_of, set_mode}
 use Rattle.xc_wordlocks.proofs.Claimed.{is_object-swap, left-cons, take-more, without}
@@ -87,15 +88,16 @@ claims_more modes os p =
 
 -- ---- the loop over the claims
 -- the objects of the claims so far are taken out of the table, each is kept once in the front, and the claims behind stand as they were
-pub record Taking (tx : ℕ) (was now : Table) (log items : List Claim) (at count : ℕ) : Type 0 where
-  pub kept : take count items ≡ claims_on (mode_of was tx) (each_once (objects (take at log)))
-  pub own : (o : Object) → mode_of now tx o ≡ cond (has (objects (take at log)) o) None (mode_of was tx o)
-  pub others : KeepsOthers tx was now
-  pub rest : drop at items ≡ drop at log
+pub record Taking (tx : ℕ) (table : Step Table) (claims : Step (List Claim)) (at count : ℕ) : Type 0 where
+  pub kept : take count claims.new ≡ claims_on (mode_of table.old tx) (each_once (objects (take at claims.old)))
+  pub own : (o : Object) → mode_of table.new tx o ≡ cond (has (objects (take at claims.old)) o) None (mode_of table.old tx o)
+  pub others : KeepsOthers tx table.old table.new
+  pub rest : drop at claims.new ≡ drop at claims.old
   pub behind : count ≤ at
-  pub same_length : length items ≡ length log
+  pub same_length : length claims.new ≡ length claims.old
 
-module _ (tx : ℕ) (was now : Table) (log items : List Claim) (at count : ℕ) (t : Taking tx was now log items at count) (c : Claim)
+module _ (tx : ℕ) (was now : Table) (log items : List Claim) (at count : ℕ)
+    (t : Taking tx (record { old = was; new = now }) (record { old = log; new = items }) at count) (c : Claim)
     (within : at < length items) (is : c ≡ get_or items at c) where
   -- the claim is the log's next one, and behind it all stands as it was
   both : c ∷ drop (at + 1) items ≡ get_or log at c ∷ drop (at + 1) log
@@ -114,7 +116,7 @@ module _ (tx : ℕ) (was now : Table) (log items : List Claim) (at count : ℕ) 
   -- a claim more is done
   pub taking_more : (next : List Claim) (n : ℕ) → take n next ≡ take count items ++ claim_in (mode_of now tx c.object) c.object
       → drop (at + 1) next ≡ drop (at + 1) items → n ≤ at + 1 → length next ≡ length items
-      → Taking tx was (set_mode now tx c.object None) log next (at + 1) n
+      → Taking tx (record { old = was; new = set_mode now tx c.object None }) (record { old = log; new = next }) (at + 1) n
   taking_more next n front back behind same = record {
     kept =
         front ∙ ap₂ (λ cs m. cs ++ claim_in m c.object) t.kept (t.own c.object)

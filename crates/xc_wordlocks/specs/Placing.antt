@@ -5,6 +5,7 @@ use Rattle.xc_data.specs.declared.object.Object.{Object}
 use Rattle.xc_data.specs.declared.claim.Mode.TheVariants.{Shared}
 use Rattle.xc_data.specs.declared.claim.Claim.{Claim}
 use Rattle.xc_data.specs.Claims.{is_object}
+use Rattle.xc_data.specs.Step.{Step}
 use Rattle.xc_wordlocks.specs.Table.{has, Table, mode_of, KeepsOthers}
 
 -- whether a claim of a list is on an object
@@ -21,6 +22,6 @@ module _ (tx : ℕ) (claims : List Claim) (was now : Table) where
     pub held : All (λ (c : Claim). IsSome (mode_of now tx c.object)) claims
     pub others : KeepsOthers tx was now
 
-  -- the same, where what was added came behind others
-  abbrev pub PlacedBehind : List Object → List Object → Type 0
-  PlacedBehind front all = (more : List Object) × (all ≡ front ++ more) × Placed more
+-- the same, where what was added came behind others
+abbrev pub PlacedBehind : ℕ → List Claim → Step Table → Step (List Object) → Type 0
+PlacedBehind tx claims table added = (more : List Object) × (added.new ≡ added.old ++ more) × Placed tx claims table.old table.new more

@@ -14,8 +14,6 @@ mod reading;
 mod refusal;
 mod releasing;
 mod steps;
-#[cfg(test)]
-mod tests;
 mod words;
 
 pub use claims::Claims;

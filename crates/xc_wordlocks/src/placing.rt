@@ -20,7 +20,8 @@ fn place<L: Ledger>(
     tx: u32,
     steps: &mut Steps<L>,
 ) -> Result<(), NoMemory>
-    ensures ok { OnOk result (PlacedBehind tx (claim.now ∷ []) holders.old holders.new added.old.items added.new.items) }
+    ensures ok { OnOk result (PlacedBehind tx (claim.now ∷ []) (record { old = holders.old; new = holders.new })
+        (record { old = added.old.items; new = added.new.items })) }
     ensures err { OnErr result (holders.new ≡ holders.old) }
     ensures err_added { OnErr result (added.new.items ≡ added.old.items) }
 {

@@ -21,7 +21,8 @@ loop-at-preserved g c =
     let more = taking_more c.args.tx c.args.holders.now c.loop-at.holders c.args.claims.now.items items at count t item within c.index-claim.ensures in
     record {
       taking =
-          subst (λ (now : Table). Taking c.args.tx c.args.holders.now now c.args.claims.now.items c.match-take.claims.items (at + 1) c.match-take.count)
+          subst (λ (now : Table). Taking c.args.tx (record { old = c.args.holders.now; new = now })
+          (record { old = c.args.claims.now.items; new = c.match-take.claims.items }) (at + 1) c.match-take.count)
           (sym c.take.ensures.removed)
           (elim c.match-take.branch [
             | in-Some w ↦

@@ -6,6 +6,7 @@ use Rattle.xc_wordlocks.proofs.releasing.take_all.Given as goal
 abbrev pub invariant-loop-at : goal.invariant-loop-at
 invariant-loop-at g l =
     record {
-      taking : Taking l.tx l.fn.holders l.holders l.fn.claims.items l.claims.items l.at l.count;
+      taking : Taking l.tx (record { old = l.fn.holders; new = l.holders }) (record { old = l.fn.claims.items; new = l.claims.items })
+          l.at l.count;
       cost : l.steps ≡ l.fn.steps + l.at;
     }

@@ -1,5 +1,4 @@
-use Rattle.std.proofs.Common.{vec_capacity, ◌≡◌, ◌++◌, ◌∷◌, [], Some, is_some, false, true, length, length-append, sym, ap, ◌∙◌, subst, arith}
-use Rattle.std.specs.List as list
+use Rattle.std.proofs.Common.{vec_capacity, ◌++◌, ◌∷◌, [], Some, length, length-append, sym, ap, ◌∙◌, subst, arith}
 use Rattle.std.specs.BTreeMap.{is_at}
 use Rattle.std.specs.Map.{lookup}
 use Rattle.std.specs.FinMap as map
