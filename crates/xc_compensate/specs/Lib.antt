@@ -2,3 +2,4 @@ pub mod Hindered
 pub mod Records
 pub mod Restoring
 pub mod Turns
+pub mod Undoes

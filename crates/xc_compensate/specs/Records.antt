@@ -6,7 +6,7 @@ use Rattle.std.specs.declared.option.Option.TheVariants.{None}
 use Rattle.xc_data.specs.Counts.{RisesBy}
 use Rattle.xc_data.specs.Faults.{end_faults}
 use Rattle.xc_data.specs.declared.undo.Undo.{Undo}
-use Rattle.xc_data.specs.declared.undo.Undo.TheVariants.{Bytes, Tail, Made, Moved}
+use Rattle.xc_data.specs.declared.undo.Undo.TheVariants.{Bytes, Tail, Made, Moved, NewPipe, NewPair}
 use Rattle.xc_data.specs.declared.undo.UndoEnd.{UndoEnd}
 use Rattle.xc_world.specs.Ends.{Ending, blocker, IsLegalEnd}
 use Rattle.xc_world.specs.Effects.{undone_to, IsCovered}
@@ -28,12 +28,17 @@ IsRecord (Bytes file at before after n) = (1 ≤ n) × (n ≤ length after) × (
 IsRecord (Tail file from after n) = (1 ≤ n) × (n ≤ length after) × (from + length after ≤ 65536)
 IsRecord (Made name num) = Unit {0}
 IsRecord (Moved from to) = Unit {0}
-IsRecord _ = ⊥
+IsRecord (NewPipe num) = ⊥
+IsRecord (NewPair num) = ⊥
 
 -- whether the host puts a record's bytes back piece by piece; one call undoes each other kind
 abbrev pub is_overwrite : Undo → Bool
 is_overwrite (Bytes file at before after n) = true
-is_overwrite _ = false
+is_overwrite (Tail file from after n) = false
+is_overwrite (Made name num) = false
+is_overwrite (Moved from to) = false
+is_overwrite (NewPipe num) = false
+is_overwrite (NewPair num) = false
 
 -- what the lists and the room behind them keep: each record has room for its end, and numbers are a u32's
 pub record IsStack (records : List Undo) (newest : List Ending) (spare : ℕ) : Type 0 where
@@ -45,7 +50,10 @@ pub record IsStack (records : List Undo) (newest : List Ending) (spare : ℕ) : 
 abbrev pub covers : Undo → ℕ
 covers (Bytes file at before after n) = n
 covers (Tail file from after n) = n
-covers _ = 0
+covers (Made name num) = 0
+covers (Moved from to) = 0
+covers (NewPipe num) = 0
+covers (NewPair num) = 0
 
 -- the record, covering its first n bytes
 abbrev pub covered : Undo → ℕ → Undo

@@ -16,7 +16,7 @@ use xc_host::Host;
 use xc_journal::Roomy;
 
 /// What one turn of an undoing did.
-#[derive(Clone, Copy, Debug, PartialEq, Eq)]
+#[derive(Clone, Copy, PartialEq)]
 pub enum UndoTurn {
     /// Every record has its end.
     Ended,
@@ -59,7 +59,7 @@ fn cover(undo: &mut Undo, n: u32)
     match undo {
         Undo::Bytes { n: covers, .. } => *covers = n,
         Undo::Tail { n: covers, .. } => *covers = n,
-        _ => {}
+        Undo::Made { .. } | Undo::Moved { .. } | Undo::NewPipe(_) | Undo::NewPair(_) => {}
     }
 }
 

@@ -1,15 +1,14 @@
 ghost use Rattle.std.specs.Prelude.{◌≡◌, ◌≤◌, false, IsTrue};
 ghost use Rattle.std.specs.declared.option.Option.TheVariants.{None};
-ghost use Rattle.xc_data.specs.Counts.{RisesBy};
-ghost use Rattle.xc_data.specs.Faults.{end_faults};
-ghost use Rattle.xc_world.specs.Effects.{undone_to, IsCovered};
+ghost use Rattle.xc_world.specs.Effects.{IsCovered};
 ghost use Rattle.xc_world.specs.Ends.{IsLegalEnd};
 ghost use Rattle.xc_world.specs.Trail.{undone};
 ghost use Rattle.xc_host.specs.Cause.{without_memory};
 ghost use Rattle.xc_host.specs.Contents.{contents_of, world_of};
 ghost use Rattle.xc_host.specs.Model.{Answers};
-ghost use Rattle.xc_host.specs.Uses.{Uses, BacksFor, back_kind};
+ghost use Rattle.xc_host.specs.Uses.{back_kind};
 ghost use Rattle.xc_compensate.specs.Records.{IsRecord, is_overwrite};
+ghost use Rattle.xc_compensate.specs.Undoes.{Undoes};
 
 use xc_data::{Undo, UndoEnd};
 use xc_host::{Fault, Host};
@@ -26,7 +25,7 @@ fn call_back<H: Host>(host: &mut H, undo: &Undo) -> Result<(), Fault>
         Undo::Tail { file, from, .. } => host.cut(*file, *from),
         Undo::Made { name, num } => host.uncreate(name, *num),
         Undo::Moved { from, to } => host.name_back(from, to),
-        _ => unreachable!(),
+        Undo::Bytes { .. } | Undo::NewPipe(_) | Undo::NewPair(_) => unreachable!(),
     }
 }
 
@@ -37,10 +36,7 @@ pub(crate) fn take_back<H: Host>(host: &mut H, undo: &Undo, tries: u32) -> UndoE
     requires one { is_overwrite undo.now ≡ false }
     requires covered { IsTrue H.model.tells → IsCovered (world_of (H.model.contents host.old)) undo.now }
     ensures legal { IsLegalEnd tries undo.now result None }
-    ensures uses { Uses H.model (record { old = host.old; new = host.new }) (BacksFor undo.now result) }
-    ensures faults { RisesBy (end_faults result) (H.model.fault_count host.old) (H.model.fault_count host.new) }
-    ensures effect { IsTrue H.model.tells
-        → H.model.contents host.new ≡ contents_of (undone_to (world_of (H.model.contents host.old)) undo.now result) }
+    ensures undoes { Undoes H.model undo.now (record { old = host.old; new = host.new }) result }
 {
     for faults in 0..tries {
         if call_back(host, undo).is_ok() {

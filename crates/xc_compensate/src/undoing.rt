@@ -5,13 +5,14 @@ ghost use Rattle.xc_data.specs.Counts.{RisesBy};
 ghost use Rattle.xc_data.specs.Faults.{end_faults};
 ghost use Rattle.xc_data.specs.Claims.{is_object};
 ghost use Rattle.xc_data.specs.declared.script.Kind.TheVariants.{Restore};
-ghost use Rattle.xc_world.specs.Effects.{undone_to, IsCovered};
+ghost use Rattle.xc_world.specs.Effects.{IsCovered};
 ghost use Rattle.xc_world.specs.Ends.{share_object, is_undone, blocks, blocker, IsLegalEnd};
-ghost use Rattle.xc_host.specs.Contents.{Contents, contents_of, world_of, wrote_front};
+ghost use Rattle.xc_host.specs.Contents.{Contents, world_of, wrote_front};
 ghost use Rattle.xc_host.specs.Model.{IsUsed};
-ghost use Rattle.xc_host.specs.Uses.{Uses, BacksFor, MovesBy};
+ghost use Rattle.xc_host.specs.Uses.{Uses, MovesBy};
 ghost use Rattle.xc_compensate.specs.Records.{IsRecord};
 ghost use Rattle.xc_compensate.specs.Restoring.{IsStep, IsRestoreEnd, FitsIn, done_by};
+ghost use Rattle.xc_compensate.specs.Undoes.{Undoes};
 
 use crate::taking_back::take_back;
 use std::alloc::Global;
@@ -155,10 +156,7 @@ fn undo_one<H: Host>(host: &mut H, undo: &Undo, tries: u32) -> UndoEnd
     requires record { IsRecord undo.now }
     requires covered { IsTrue H.model.tells → IsCovered (world_of (H.model.contents host.old)) undo.now }
     ensures legal { IsLegalEnd tries undo.now result None }
-    ensures uses { Uses H.model (record { old = host.old; new = host.new }) (BacksFor undo.now result) }
-    ensures faults { RisesBy (end_faults result) (H.model.fault_count host.old) (H.model.fault_count host.new) }
-    ensures effect { IsTrue H.model.tells
-        → H.model.contents host.new ≡ contents_of (undone_to (world_of (H.model.contents host.old)) undo.now result) }
+    ensures undoes { Undoes H.model undo.now (record { old = host.old; new = host.new }) result }
 {
     match undo {
         Undo::Bytes {
@@ -168,7 +166,8 @@ fn undo_one<H: Host>(host: &mut H, undo: &Undo, tries: u32) -> UndoEnd
             n,
             ..
         } => restore_whole(host, *file, *at, &before.as_slice()[..*n as usize], tries),
-        _ => take_back(host, undo, tries),
+        Undo::Tail { .. } | Undo::Made { .. } | Undo::Moved { .. } => take_back(host, undo, tries),
+        Undo::NewPipe(_) | Undo::NewPair(_) => take_back(host, undo, tries),
     }
 }
 
@@ -187,11 +186,8 @@ pub(crate) fn try_one<H: Host>(
     requires covered { IsTrue H.model.tells → blocker (number + 1) undo.now (reverse newest_first.now) ≡ None
         → IsCovered (world_of (H.model.contents host.old)) undo.now }
     ensures legal { IsLegalEnd tries undo.now result (blocker (number + 1) undo.now (reverse newest_first.now)) }
-    ensures uses { Uses H.model (record { old = host.old; new = host.new }) (BacksFor undo.now result) }
+    ensures undoes { Undoes H.model undo.now (record { old = host.old; new = host.new }) result }
     ensures still { blocker (number + 1) undo.now (reverse newest_first.now) ≢ None → host.new ≡ host.old }
-    ensures faults { RisesBy (end_faults result) (H.model.fault_count host.old) (H.model.fault_count host.new) }
-    ensures effect { IsTrue H.model.tells
-        → H.model.contents host.new ≡ contents_of (undone_to (world_of (H.model.contents host.old)) undo.now result) }
 {
     match blocker(alloc, number, undo, newest_first) {
         Some(by) => UndoEnd::Blocked { by },

@@ -1,13 +1,11 @@
 -- The first late call that has no end yet, and how it ends.
-use Rattle.std.proofs.Common.{◌≡◌, ℕ, zero, suc, Some, IsTrue, List, [], ◌∷◌, ◌++◌, length, drop, ap, sym, ◌∙◌, subst}
+use Rattle.std.proofs.Common.{◌≡◌, ℕ, zero, suc, Some, List, [], ◌∷◌, ◌++◌, length, drop, ap, sym, ◌∙◌, subst}
 use Rattle.std.specs.List.{slice_get}
-use Rattle.xc_data.specs.Counts.{CountsFault}
-use Rattle.xc_data.specs.Faults.{is_fault_end}
 use Rattle.xc_data.specs.declared.call.LateCall.{LateCall}
 use Rattle.xc_data.specs.declared.call.LateEnd.{LateEnd}
 use Rattle.xc_host.specs.Model.{HostModel}
-use Rattle.xc_host.specs.Uses.{Uses, LatesFor}
-use Rattle.xc_deferred.specs.Does.{DoesLate, EndsNext}
+use Rattle.xc_deferred.specs.Does.{EndsNext}
+use Rattle.xc_deferred.specs.Ended.{EndsAt}
 use Rattle.xc_deferred.specs.Queue.{Queue, left}
 
 abbrev of : List LateCall → List LateEnd → Queue
@@ -26,17 +24,17 @@ left_at q calls ends n call view size there = sym (ap left view) ∙ ap (λ k. d
 -- the first call that is left was done, and its end stands behind the others
 pub ends_next : {H : Type 0} (model : HostModel H) (was is : H) (q : Queue) (calls : List LateCall) (ends now : List LateEnd) (n : ℕ) (done : LateCall)
     (end : LateEnd) → of calls ends ≡ q → n ≡ length ends → slice_get calls n ≡ Some done → now ≡ ends ++ end ∷ []
-    → CountsFault (is_fault_end end) (model.fault_count was) (model.fault_count is) → Uses model (record { old = was; new = is }) (LatesFor done end)
-    → (IsTrue model.tells → DoesLate (model.contents was) (model.contents is) done end)
+    → EndsAt model done (record { old = was; new = is }) end
     → (call : LateCall) (others : List LateCall) → left q ≡ call ∷ others
     → EndsNext model call (record { host = was; late = q }) (record { host = is; late = of calls now })
-ends_next model was is q calls ends now n done end view size there noted cause uses does call others first =
+ends_next model was is q calls ends now n done end view size there noted ended call others first =
     let next : left q ≡ done ∷ drop (suc n) calls = left_at q calls ends n done view size there in
     let same : done ≡ call = cc in
+    let at = subst (λ c. EndsAt model c (record { old = was; new = is }) end) same ended in
     record {
       end = end;
       noted = ap (of calls) noted ∙ ap (λ (p : Queue). record p { ends = p.ends ++ end ∷ [] }) view;
-      cause = cause;
-      uses = subst (λ c. Uses model (record { old = was; new = is }) (LatesFor c end)) same uses;
-      does = λ t. subst (λ c. DoesLate (model.contents was) (model.contents is) c end) same (does t);
+      cause = at.cause;
+      uses = at.uses;
+      does = at.does;
     }

@@ -2,7 +2,7 @@
 use Rattle.std.specs.Prelude.{◌≡◌, ℕ, ◌+◌, ◌≤◌, Bool, true, false, List, length, drop}
 use Rattle.std.specs.List.{All}
 use Rattle.xc_data.specs.declared.call.LateCall.{LateCall}
-use Rattle.xc_data.specs.declared.call.LateCall.TheVariants.{Unlink, Sync}
+use Rattle.xc_data.specs.declared.call.LateCall.TheVariants.{Unlink, Sync, WritePipe, Shutdown, Send, Thread}
 use Rattle.xc_data.specs.declared.call.LateEnd.{LateEnd}
 
 -- a transaction's calls that are kept for the commit, each on the object that was fixed at the call, and the ends of the
@@ -19,7 +19,10 @@ left q = drop (length q.ends) q.calls
 abbrev pub is_late_built : LateCall → Bool
 is_late_built (Unlink name) = true
 is_late_built (Sync num) = true
-is_late_built _ = false
+is_late_built (WritePipe num bytes) = false
+is_late_built (Shutdown object) = false
+is_late_built (Send num side bytes) = false
+is_late_built (Thread body) = false
 
 -- what the lists and the room behind them keep: each call without an end has room for it
 pub record IsQueue (calls : List LateCall) (ends : List LateEnd) (spare : ℕ) : Type 0 where

@@ -1,10 +1,8 @@
 ghost use Rattle.std.specs.Prelude.{◌≡◌, true, IsTrue};
-ghost use Rattle.xc_data.specs.Counts.{CountsFault};
-ghost use Rattle.xc_data.specs.Faults.{is_fault_end};
 ghost use Rattle.xc_data.specs.declared.call.LateCall.TheVariants.{Unlink, Sync};
 ghost use Rattle.xc_host.specs.Contents.{has_file};
-ghost use Rattle.xc_host.specs.Uses.{Uses, LatesFor};
-ghost use Rattle.xc_deferred.specs.Does.{DoesLate, IsThereFor};
+ghost use Rattle.xc_deferred.specs.Does.{IsThereFor};
+ghost use Rattle.xc_deferred.specs.Ended.{EndsAt};
 ghost use Rattle.xc_deferred.specs.Queue.{is_late_built};
 
 use xc_data::{LateCall, LateEnd, Name, Num};
@@ -12,10 +10,7 @@ use xc_host::{Host, HostErr};
 
 // The host removes no name that is absent, so it is asked for the name first.
 fn unlink<H: Host>(host: &mut H, name: &Name) -> LateEnd
-    ensures uses { Uses H.model (record { old = host.old; new = host.new }) (LatesFor (Unlink name.now) result) }
-    ensures cause { CountsFault (is_fault_end result) (H.model.fault_count host.old) (H.model.fault_count host.new) }
-    ensures does { IsTrue H.model.tells
-        → DoesLate (H.model.contents host.old) (H.model.contents host.new) (Unlink name.now) result }
+    ensures { EndsAt H.model (Unlink name.now) (record { old = host.old; new = host.new }) result }
 {
     match host.lookup(name) {
         Ok(Some(_)) => {}
@@ -31,10 +26,7 @@ fn unlink<H: Host>(host: &mut H, name: &Name) -> LateEnd
 
 fn sync<H: Host>(host: &mut H, file: Num) -> LateEnd
     requires there { IsTrue H.model.tells → has_file (H.model.contents host.old) file ≡ true }
-    ensures uses { Uses H.model (record { old = host.old; new = host.new }) (LatesFor (Sync file) result) }
-    ensures cause { CountsFault (is_fault_end result) (H.model.fault_count host.old) (H.model.fault_count host.new) }
-    ensures does { IsTrue H.model.tells
-        → DoesLate (H.model.contents host.old) (H.model.contents host.new) (Sync file) result }
+    ensures { EndsAt H.model (Sync file) (record { old = host.old; new = host.new }) result }
 {
     match host.sync(file) {
         Ok(_) => LateEnd::Done,
@@ -46,14 +38,12 @@ fn sync<H: Host>(host: &mut H, file: Num) -> LateEnd
 pub(crate) fn do_late<H: Host>(host: &mut H, call: &LateCall) -> LateEnd
     requires built { is_late_built call.now ≡ true }
     requires there { IsTrue H.model.tells → IsThereFor (H.model.contents host.old) call.now }
-    ensures uses { Uses H.model (record { old = host.old; new = host.new }) (LatesFor call.now result) }
-    ensures cause { CountsFault (is_fault_end result) (H.model.fault_count host.old) (H.model.fault_count host.new) }
-    ensures does { IsTrue H.model.tells
-        → DoesLate (H.model.contents host.old) (H.model.contents host.new) call.now result }
+    ensures { EndsAt H.model call.now (record { old = host.old; new = host.new }) result }
 {
     match call {
         LateCall::Unlink(name) => unlink(host, name),
         LateCall::Sync(file) => sync(host, *file),
-        _ => unreachable!(),
+        LateCall::WritePipe(..) | LateCall::Shutdown(_) => unreachable!(),
+        LateCall::Send { .. } | LateCall::Thread(_) => unreachable!(),
     }
 }

@@ -3,7 +3,6 @@ use Rattle.std.proofs.Common.{◌≡◌, ℕ, ◌<◌, ◌≤◌, ◌+◌, ◌++
 use Rattle.std.proofs.Common.{ap, sym, ◌∙◌, inr, arith, if◌then◌else◌}
 use Rattle.std.proofs.lemmas.Grind.{common_steps}
 use Rattle.std.specs.Prelude.{Result, IfOk, OnErr, ◌==◌}
-use Rattle.xc_data.specs.Counts.{CountsFault}
 use Rattle.xc_data.specs.declared.memory.NoMemory.{NoMemory}
 use Rattle.xc_data.specs.declared.object.Num.{Num}
 use Rattle.xc_data.specs.declared.call.Call.{Call}
@@ -25,21 +24,26 @@ use Rattle.xc_world.specs.Fits.{fits, answer_of}
 use Rattle.xc_world.specs.Trail.{recorded, append_record}
 use Rattle.xc_host.specs.Contents.{Contents, file_in, with_contents}
 use Rattle.xc_host.specs.Model.{HostModel}
-use Rattle.xc_host.specs.Uses.{Uses}
 use Rattle.xc_compensate.specs.Records.{Records}
 use Rattle.xc_file.specs.Appending.{Appends, StopsShort, tail}
-use Rattle.xc_file.specs.Calls.{CallState, Moment, moment_of, Acts, AreRecorded, DidPart, IsFileCall, IsMePassed, IsPassedReply, PassedBy, replies_fault}
+use Rattle.xc_file.specs.Calls.{CallState, Moment, Acts, AreRecorded, DidPart, IsFileCall}
+use Rattle.xc_file.specs.Passing.{Passes}
+use Rattle.xc_file.specs.declared.checks.OpenFile.{OpenFile}
 use Rattle.xc_file.specs.Writing.{moved_on}
 use Rattle.xc_file.proofs.FileCalls.{moment, Grows, replied_call, some_refusal}
 
--- the state behind an append of n of the bytes
-abbrev behind : Contents → Private → ℕ → Num → List ℕ → ℕ → Private
-behind was me h num bytes n = storing (moved_on me h num (length (file_in was num)) n) (length bytes)
+-- the state behind an append of n of the bytes, at the file's end
+abbrev behind : Private → OpenFile → List ℕ → ℕ → Private
+behind me file bytes n = storing (moved_on me file.h file.num file.at n) (length bytes)
+
+-- a file that is open at a handle, at its end
+abbrev at_end : Contents → ℕ → Num → OpenFile
+at_end c h num = record { h = h; num = num; at = length (file_in c num) }
 
 front_step : (was is : Contents) (number : ℕ) (me : Private) (h : ℕ) (num : Num) (at : ℕ) (bytes : List ℕ) (n : ℕ) (w : World)
     → length bytes ≤ 1024 → me.stored + length bytes ≤ 16384 → place_of me.places h ≡ File num at → 0 < length bytes
     → Appends was is num bytes (Fault n)
-    → act (with_contents w was) me number (XWriteSeq h bytes) (answer.Fault n) ≡ step_to (with_contents w is) (behind was me h num bytes n) (Fault n)
+    → act (with_contents w was) me number (XWriteSeq h bytes) (answer.Fault n) ≡ step_to (with_contents w is) (behind me (at_end was h num) bytes n) (Fault n)
 front_step was is number me h num at bytes n w big much there some did = grind (arith, common_steps)
 
 front_fits : (was is : Contents) (number : ℕ) (me : Private) (h : ℕ) (num : Num) (at : ℕ) (bytes : List ℕ) (n : ℕ) (w : World)
@@ -62,7 +66,7 @@ front_part : (was is : Contents) (number : ℕ) (me : Private) (h : ℕ) (num : 
     → Appends was is num bytes (Fault n) → from ≡ length (file_in was num)
     → DidPart (XWriteSeq h bytes) (moment was number me) is (tail num from bytes n)
 front_part was is number me h num at bytes from n (big, much) there some did end =
-    part_of (XWriteSeq h bytes) (moment was number me) (moment is number (behind was me h num bytes n)) (tail num from bytes n) (Fault n)
+    part_of (XWriteSeq h bytes) (moment was number me) (moment is number (behind me (at_end was h num) bytes n)) (tail num from bytes n) (Fault n)
     (record {
       step = λ w. front_step was is number me h num at bytes n w big much there some did;
       fits = λ w. front_fits was is number me h num at bytes n w big much there some did;
@@ -76,33 +80,29 @@ one_at_most false u = omega arith
 -- an append that the checks let pass
 pub append_call : {H : Type 0} (model : HostModel H) (h : ℕ) (bytes : List ℕ) (num : Num) (at : ℕ) (old new : CallState H) (result : Result Reply NoMemory)
     → refusal_of (XWriteSeq h bytes) old.me ≡ None → (length bytes ≤ 1024) × (old.me.stored + length bytes ≤ 16384)
-    → place_of old.me.places h ≡ File num at → old.undo.ended ≡ [] → IfOk result (IsPassedReply (XWriteSeq h bytes))
-    → Uses model (record { old = old.host; new = new.host }) (PassedBy (XWriteSeq h bytes) result)
-    → IfOk result (IsMePassed old.number (XWriteSeq h bytes) old.me new.me)
-    → (IsTrue model.tells → IfOk result (Acts (XWriteSeq h bytes) (moment_of model old) (moment_of model new)))
-    → IfOk result (Grows model (XWriteSeq h bytes) old new) → OnErr result (new.me ≡ old.me)
+    → place_of old.me.places h ≡ File num at → old.undo.ended ≡ []
+    → Passes model (XWriteSeq h bytes) (record { old = old; new = new }) result → IfOk result (Grows model (XWriteSeq h bytes) old new)
     → OnErr result (StopsShort model num bytes (record { host = old.host; undo = old.undo }) (record { host = new.host; undo = new.undo }))
     → OnErr result (0 < length bytes)
-    → CountsFault (replies_fault result) (model.fault_count old.host) (model.fault_count new.host)
     → IsFileCall model (XWriteSeq h bytes) old new result
-append_call model h bytes num at old new (Ok r) free few there none reply uses after acts grows err stops some cause =
-    replied_call model (XWriteSeq h bytes) old new r free reply.0 uses after acts cause grows
-append_call model h bytes num at old new (Err e) free few there none reply uses after acts grows err stops some cause =
+append_call model h bytes num at old new (Ok r) free few there none passes grows stops some =
+    replied_call model (XWriteSeq h bytes) old new r free passes grows
+append_call model h bytes num at old new (Err e) free few there none passes grows stops some =
     let made = tail num stops.from bytes stops.done in
     record {
       checked = tt;
       unchanged = some_refusal (refusal_of (XWriteSeq h bytes) old.me) _ free;
       after = tt;
-      uses = uses;
+      uses = passes.uses;
       made = made;
       one = one_at_most (stops.done == 0) (Tail num stops.from bytes stops.done);
       count = λ w. tt;
       undo = stops.undo ∙ ap (λ (rs : List Ending). let u : Records = record { pending = old.undo.pending ++ made; ended = rs } in u) (sym none);
       acts = λ _. tt;
       records = λ _. tt;
-      cause = cause;
+      cause = passes.cause;
       memory = record {
-        me = err;
+        me = passes.err;
         effect = λ t. inr (front_part (model.contents old.host) (model.contents new.host) old.number old.me h num at bytes stops.from stops.done few there some
             (stops.told t) (stops.end t));
         none = λ first. cc;

@@ -16,17 +16,18 @@ use Rattle.xc_world.specs.World.{World}
 use Rattle.xc_world.specs.Act.{act}
 use Rattle.xc_world.specs.Act.Step.{step_to}
 use Rattle.xc_world.specs.After.{IsMeAfter, stored_after}
-use Rattle.xc_world.specs.Checks.{IsChecked, is_bad_handle, is_too_big, is_too_much, is_check_reply, refusal_of}
+use Rattle.xc_world.specs.Checks.{IsChecked, is_bad_handle, is_too_big, is_too_much, refusal_of}
 use Rattle.xc_world.specs.Ends.{Ending}
 use Rattle.xc_world.specs.Fits.{fits, answer_of}
 use Rattle.xc_world.specs.Trail.{recorded}
-use Rattle.xc_host.specs.Model.{HostModel, Step}
-use Rattle.xc_host.specs.Uses.{Uses, CallsFor, CallsOf, StopsFor}
+use Rattle.xc_data.specs.Step.{Step}
+use Rattle.xc_host.specs.Model.{HostModel}
+use Rattle.xc_host.specs.Uses.{Uses, CallsFor, CallsOf}
 use Rattle.xc_host.proofs.Called.{unused}
 use Rattle.xc_host.specs.Contents.{Contents, with_contents}
 use Rattle.xc_compensate.specs.Records.{Records}
-use Rattle.xc_file.specs.Calls.{CallState, Moment, moment_of, IsFileCall, IsMePassed, Acts, AreRecorded, PassedBy, StepsAlone, replies_fault}
-use Rattle.xc_file.specs.Writing.{AddsFor}
+use Rattle.xc_file.specs.Calls.{CallState, Moment, moment_of, IsFileCall, IsMePassed, AreRecorded, StepsAlone}
+use Rattle.xc_file.specs.Passing.{IsAsBefore, Leaves, Passes, at_host}
 use Rattle.xc_file.proofs.Refusals.{plain_first, refused_acts}
 
 -- a record with nothing behind
@@ -104,65 +105,52 @@ pub record Grows {H : Type 0} (model : HostModel H) (call : Call) (old new : Cal
 
 -- a call that is passed, and replies
 pub replied_call : {H : Type 0} (model : HostModel H) (call : Call) (old new : CallState H) (r : Reply)
-    → refusal_of call old.me ≡ None → is_check_reply call r ≡ false
-    → Uses model (record { old = old.host; new = new.host }) (CallsFor call r) → IsMePassed old.number call old.me new.me r
-    → (IsTrue model.tells → Acts call (moment_of model old) (moment_of model new) r)
-    → CountsFault (is_fault_reply r) (model.fault_count old.host) (model.fault_count new.host)
-    → Grows model call old new r
+    → refusal_of call old.me ≡ None → Passes model call (record { old = old; new = new }) (Ok r) → Grows model call old new r
     → IsFileCall model call old new (Ok r)
-replied_call model call old new r free reply uses after acts cause grows =
+replied_call model call old new r free passes grows =
     record {
-      checked = subst (λ o. IsChecked o call r) (sym free) reply;
+      checked = subst (λ o. IsChecked o call r) (sym free) passes.reply;
       unchanged = some_refusal (refusal_of call old.me) _ free;
-      after = free_me call old.me new.me old.number r free after;
-      uses = free_uses model _ call old.me r free uses;
+      after = free_me call old.me new.me old.number r free passes.after;
+      uses = free_uses model _ call old.me r free passes.uses;
       made = grows.made;
       one = grows.one;
       count = grows.count;
       undo = grows.undo;
-      acts = acts;
+      acts = passes.acts;
       records = grows.records;
-      cause = cause;
+      cause = passes.cause;
       memory = tt;
     }
 
 -- a call that is passed, and wants memory before it changes anything
 starved_call : {H : Type 0} (model : HostModel H) (call : Call) (old new : CallState H) (e : NoMemory)
-    → refusal_of call old.me ≡ None
-    → Uses model (record { old = old.host; new = new.host }) (StopsFor call) → new.me ≡ old.me → new.undo ≡ old.undo
-    → (IsTrue model.tells → model.contents new.host ≡ model.contents old.host)
-    → model.fault_count new.host ≡ model.fault_count old.host
+    → refusal_of call old.me ≡ None → Passes model call (record { old = old; new = new }) (Err e)
+    → IsAsBefore model (at_host (record { old = old; new = new }))
     → IsFileCall model call old new (Err e)
-starved_call model call old new e free uses me undo still cause =
+starved_call model call old new e free passes before =
     record {
       checked = tt;
       unchanged = some_refusal (refusal_of call old.me) _ free;
       after = tt;
-      uses = uses;
+      uses = passes.uses;
       made = [];
       one = omega arith;
       count = λ w. tt;
-      undo = undo ∙ grown_by_none old.undo;
+      undo = before.undo ∙ grown_by_none old.undo;
       acts = λ _. tt;
       records = λ _. tt;
-      cause = cause;
-      memory = record { me = me; effect = λ t. inl (refl, still t); none = λ _. refl };
+      cause = passes.cause;
+      memory = record { me = passes.err; effect = λ t. inl (refl, before.contents t); none = λ _. refl };
     }
 
 -- a call that is passed
 pub passed_call : {H : Type 0} (model : HostModel H) (call : Call) (old new : CallState H) (result : Result Reply NoMemory)
-    → refusal_of call old.me ≡ None → IfOk result (λ r. is_check_reply call r ≡ false)
-    → Uses model (record { old = old.host; new = new.host }) (PassedBy call result)
-    → IfOk result (IsMePassed old.number call old.me new.me)
-    → (IsTrue model.tells → IfOk result (Acts call (moment_of model old) (moment_of model new)))
-    → IfOk result (Grows model call old new) → OnErr result (new.me ≡ old.me) → OnErr result (new.undo ≡ old.undo)
-    → (IsTrue model.tells → OnErr result (model.contents new.host ≡ model.contents old.host))
-    → CountsFault (replies_fault result) (model.fault_count old.host) (model.fault_count new.host)
+    → refusal_of call old.me ≡ None → Passes model call (record { old = old; new = new }) result
+    → IfOk result (Grows model call old new) → OnErr result (IsAsBefore model (at_host (record { old = old; new = new })))
     → IsFileCall model call old new result
-passed_call model call old new (Ok r) free reply uses after acts grows err_me err_undo still cause =
-    replied_call model call old new r free reply uses after acts cause grows
-passed_call model call old new (Err e) free reply uses after acts grows err_me err_undo still cause =
-    starved_call model call old new e free uses err_me err_undo still cause
+passed_call model call old new (Ok r) free passes grows before = replied_call model call old new r free passes grows
+passed_call model call old new (Err e) free passes grows before = starved_call model call old new e free passes before
 
 -- a call that leaves no record
 pub none_grow : {H : Type 0} (model : HostModel H) (call : Call) (old new : CallState H) (result : Result Reply NoMemory)
@@ -203,20 +191,20 @@ one_or_none false n e = omega (arith, e)
 -- a call that leaves one record where it did some bytes, which the host tells
 pub some_grow : {H : Type 0} (model : HostModel H) (call : Call) (made : Reply → List Undo) (done : Reply → ℕ) (old new : CallState H)
     (result : Result Reply NoMemory)
-    → IfOk result (λ r. AddsFor (done r) old.undo new.undo)
+    → IfOk result (λ r. Leaves model (at_host (record { old = old; new = new })) (done r) (made r))
     → ((r : Reply) (w : World) → length (recorded w old.me old.number call r) ≡ (if done r == 0 then 0 else 1))
-    → (IsTrue model.tells → IfOk result (λ r. new.undo ≡ record { pending = old.undo.pending ++ made r; ended = [] }))
     → ((r : Reply) → AreRecorded call (moment_of model old) (made r) r)
     → IfOk result (Grows model call old new)
-some_grow model call made done old new (Ok r) adds sizes records are =
+some_grow model call made done old new (Ok r) leaves sizes are =
+    let adds = leaves.adds in
     record {
       made = adds.made;
       one = one_or_none (done r == 0) (length adds.made) adds.count;
       count = λ w. adds.count ∙ sym (sizes r w);
       undo = adds.undo;
-      records = λ t w. same_made old.undo new.undo adds.made (made r) adds.undo (records t) ∙ are r w;
+      records = λ t w. same_made old.undo new.undo adds.made (made r) adds.undo (leaves.records t) ∙ are r w;
     }
-some_grow model call made done old new (Err e) adds sizes records are = tt
+some_grow model call made done old new (Err e) leaves sizes are = tt
 
 -- the moment of these contents, with this private state
 abbrev pub moment : Contents → ℕ → Private → Moment

@@ -28,16 +28,16 @@ use Rattle.xc_file.specs.Naming.{Renames, Creates, IsMadeAt, with_made}
 
 -- ---- a rename
 -- its step, by what stands at both names
-abbrev step_renamed : World → Private → List ℕ → List ℕ → Option Num → Option Num → Stepped
-step_renamed w me from to o p = counted (XRename from to) (renamed w me from to o p)
+abbrev step_renamed : World → Private → List ℕ → List ℕ → Option Num × Option Num → Stepped
+step_renamed w me from to found = counted (XRename from to) (renamed w me from to found)
 
 renamed_done : (w : World) (was : Contents) (me : Private) (from to : List ℕ) (o : Option Num) → is_some o ≡ true → o ≡ map.get was.names from
-    → step_renamed (with_contents w was) me from to o None ≡ step_to (with_contents w (renamed_file was from to o)) me reply.Done
+    → step_renamed (with_contents w was) me from to (o, None) ≡ step_to (with_contents w (renamed_file was from to o)) me reply.Done
 renamed_done w was me from to None some e = cc
 renamed_done w was me from to (Some num) some e = refl
 
 renamed_exists : (w : World) (me : Private) (from to : List ℕ) (o p : Option Num) → is_some o ≡ true → is_some p ≡ true
-    → step_renamed w me from to o p ≡ step_to w me reply.Exists
+    → step_renamed w me from to (o, p) ≡ step_to w me reply.Exists
 renamed_exists w me from to None p some there = cc
 renamed_exists w me from to (Some num) None some there = cc
 renamed_exists w me from to (Some num) (Some other) some there = refl
@@ -47,13 +47,13 @@ pub rename_acts : (was is : Contents) (number : ℕ) (me : Private) (from to : L
     → Acts (XRename from to) (moment was number me) (moment is number me) r
 rename_acts was is number me from to reply.Done (same, named, absent) =
     record {
-      step = λ w. ap (step_renamed (with_contents w was) me from to (map.get was.names from)) absent
+      step = λ w. ap (λ p. step_renamed (with_contents w was) me from to (map.get was.names from, p)) absent
           ∙ renamed_done w was me from to (map.get was.names from) named refl ∙ ap (λ c. step_to (with_contents w c) me reply.Done) (sym same);
       fits = λ w. refl;
     }
 rename_acts was is number me from to reply.NoName (same, absent) =
     record {
-      step = λ w. ap (λ o. step_renamed (with_contents w was) me from to o (map.get was.names to)) absent
+      step = λ w. ap (λ o. step_renamed (with_contents w was) me from to (o, map.get was.names to)) absent
           ∙ ap (λ c. step_to (with_contents w c) me reply.NoName) (sym same);
       fits = λ w. refl;
     }
@@ -96,11 +96,11 @@ passes w me number name answer free =
     ap (λ b. if b then step_to w me reply.TooMuch else counted (XCreate name) (done w me number (XCreate name) answer)) free
 
 -- its step, by what stands at the name and the lowest vacant handle
-abbrev step_created : World → Private → ℕ → List ℕ → Option Num → Option ℕ → Stepped
-step_created w me number name o vacant = counted (XCreate name) (created w me number name o vacant)
+abbrev step_created : World → Private → ℕ → List ℕ → Option Num × Option ℕ → Stepped
+step_created w me number name found = counted (XCreate name) (created w me number name found)
 
 created_exists : (w : World) (me : Private) (number : ℕ) (name : List ℕ) (o : Option Num) (vacant : Option ℕ) → is_some o ≡ true
-    → step_created w me number name o vacant ≡ step_to w me reply.Exists
+    → step_created w me number name (o, vacant) ≡ step_to w me reply.Exists
 created_exists w me number name None vacant there = cc
 created_exists w me number name (Some num) vacant there = refl
 
@@ -114,8 +114,8 @@ create_acts was is number me name h (reply.Made k) few vacant at (same, absent) 
     subst (λ j. Acts (XCreate name) (moment was number me) (moment is number next) (reply.Made j)) (sym at)
     (record {
       step = λ w. passes (with_contents w was) me number name answer.Fine free
-          ∙ ap (λ o. step_created (with_contents w was) me number name o (lowest_vacant me.places)) absent
-          ∙ ap (step_created (with_contents w was) me number name None) vacant
+          ∙ ap (λ o. step_created (with_contents w was) me number name (o, lowest_vacant me.places)) absent
+          ∙ ap (λ v. step_created (with_contents w was) me number name (None, v)) vacant
           ∙ ap (λ c. step_to (with_contents w c) next (reply.Made h)) (sym same);
       fits = λ w. refl;
     })

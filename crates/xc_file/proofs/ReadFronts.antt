@@ -17,7 +17,7 @@ front_more file at len n so_far piece e f =
 
 -- what one read more adds, over a host that tells
 pub read_more_told : (was c : Contents) (num : Num) (at len n more : ℕ) (old new : List ℕ) → c ≡ was → old ≡ take len (drop at (file_in was num))
-    → AppendsFront (file_in c num) (at + len) n more old new → new ≡ take (len + more) (drop at (file_in was num))
+    → AppendsFront (file_in c num) (at + len) n more (record { old = old; new = new }) → new ≡ take (len + more) (drop at (file_in was num))
 read_more_told was c num at len n more old new same told adds =
     adds.grown
     ∙ front_more (file_in was num) at len n old adds.piece told (subst (λ d. IsFront (file_in d num) (at + len) n adds.piece) same adds.front)

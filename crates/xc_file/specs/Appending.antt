@@ -1,6 +1,8 @@
 -- What an append does.
 use Rattle.std.specs.Prelude.{◌≡◌, ◌⊎◌, ℕ, ◌+◌, ◌<◌, ◌≤◌, ◌==◌, IsTrue, List, [], ◌∷◌, ◌++◌, length, take, replicate}
-use Rattle.std.specs.Prelude.{Result, Ok, Err, if◌then◌else◌}
+use Rattle.std.specs.Prelude.{Result, Ok, Err, OnOk, OnErr, if◌then◌else◌}
+use Rattle.xc_data.specs.Counts.{CountsFault}
+use Rattle.xc_data.specs.Step.{Step}
 use Rattle.xc_data.specs.declared.object.Num.{Num}
 use Rattle.xc_data.specs.declared.call.Reply.{Reply}
 use Rattle.xc_data.specs.declared.call.Reply.TheVariants.{Done, TooBig, Fault}
@@ -8,12 +10,14 @@ use Rattle.xc_data.specs.declared.script.Kind.{Kind}
 use Rattle.xc_data.specs.declared.script.Kind.TheVariants as kind
 use Rattle.xc_data.specs.declared.undo.Undo.{Undo}
 use Rattle.xc_data.specs.declared.undo.Undo.TheVariants.{Tail}
+use Rattle.xc_host.specs.Cause.{is_fault}
 use Rattle.xc_host.specs.Contents.{Contents, file_in, appended_front}
 use Rattle.xc_host.specs.Model.{HostModel}
-use Rattle.xc_host.specs.Uses.{MovesBy}
+use Rattle.xc_host.specs.Uses.{Uses, MovesBy}
 use Rattle.xc_host.specs.declared.errors.HostErr.{HostErr}
 use Rattle.xc_host.specs.declared.errors.HostErr.TheVariants as host_err
 use Rattle.xc_compensate.specs.Records.{AtHost}
+use Rattle.xc_file.specs.declared.appending.Appended.{Appended}
 
 -- a file has room for more bytes
 abbrev pub HasRoom : Contents → Num → List ℕ → Type 0
@@ -25,6 +29,7 @@ Appends was is file bytes TooBig = (is ≡ was) × (65536 < length (file_in was 
 Appends was is file bytes Done = (is ≡ appended_front was file bytes) × HasRoom was file bytes
 Appends was is file bytes (Fault n) = (is ≡ appended_front was file (take n bytes))
     × ((n ≡ 0) ⊎ ((n < length bytes) × HasRoom was file bytes))
+-- it has no other reply
 Appends was is file bytes _ = ⊥
 
 -- the record of n bytes that were appended to a file of `from` bytes; none where n is 0
@@ -36,6 +41,16 @@ abbrev pub AppendsUntil : ℕ → ℕ → Result (Unit {0}) HostErr → List Kin
 AppendsUntil n done (Ok x) made = MovesBy kind.Append done 0 made
 AppendsUntil n done (Err host_err.Fault) made = MovesBy kind.Append done 1 made
 AppendsUntil n done (Err host_err.NoMemory) made = (count : ℕ) × (count ≤ n) × (made ≡ replicate count kind.Append)
+
+-- so much of the bytes is appended at the host: all, or a front and what stopped it
+pub record IsAppended {H : Type 0} (model : HostModel H) (file : Num) (bytes : List ℕ) (step : Step H) (appended : Appended)
+    : Type 0 where
+  pub whole : OnOk appended.end (appended.done ≡ length bytes)
+  pub short : OnErr appended.end (appended.done < length bytes)
+  pub uses : Uses model step (AppendsUntil (length bytes) appended.done appended.end)
+  pub contents : IsTrue model.tells
+      → model.contents step.new ≡ appended_front (model.contents step.old) file (take appended.done bytes)
+  pub cause : CountsFault (is_fault appended.end) (model.fault_count step.old) (model.fault_count step.new)
 
 -- an append that wanted memory behind a front, which a record tells of
 pub record StopsShort {H : Type 0} (model : HostModel H) (file : Num) (bytes : List ℕ) (old new : AtHost H) : Type 0 where

@@ -86,6 +86,7 @@ replies_fault (Err e) = false
 -- calls that have all their memory before the host does anything; an append may want it behind a front
 abbrev pub takes_memory_first : Call → Bool
 takes_memory_first (call.XWriteSeq h bytes) = false
+-- every other call has to, also one yet to come
 takes_memory_first _ = true
 
 -- a call did its part at the host, as a record tells, before memory was wanting for the rest

@@ -1,5 +1,6 @@
 -- What one read adds to what was read before it, and how many there are.
 use Rattle.std.specs.Prelude.{◌≡◌, ℕ, ◌+◌, ◌≤◌, List, ◌++◌, length, replicate}
+use Rattle.xc_data.specs.Step.{Step}
 use Rattle.xc_data.specs.declared.script.Kind.{Kind}
 use Rattle.xc_data.specs.declared.script.Kind.TheVariants as kind
 use Rattle.xc_host.specs.Fronts.{IsFront}
@@ -9,10 +10,9 @@ use Rattle.xc_host.specs.Uses.{MayMove}
 abbrev pub ReadsBy : ℕ → ℕ → List Kind → Type 0
 ReadsBy n len made = (count : ℕ) × MayMove n count × (count ≤ len + 1) × (made ≡ replicate count kind.ReadAt)
 
-module _ (file : List ℕ) (at n : ℕ) where
-  -- new is old and a front of the n bytes from `at`, of `more` bytes
-  pub record AppendsFront (more : ℕ) (old new : List ℕ) : Type 0 where
-    pub piece : List ℕ
-    pub size : length piece ≡ more
-    pub grown : new ≡ old ++ piece
-    pub front : IsFront file at n piece
+-- behind the bytes so far comes a front of the n bytes from `at`, of `more` bytes
+pub record AppendsFront (file : List ℕ) (at n more : ℕ) (bytes : Step (List ℕ)) : Type 0 where
+  pub piece : List ℕ
+  pub size : length piece ≡ more
+  pub grown : bytes.new ≡ bytes.old ++ piece
+  pub front : IsFront file at n piece

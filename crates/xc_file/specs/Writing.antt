@@ -9,6 +9,7 @@ use Rattle.xc_data.specs.declared.private.Private.{Private}
 use Rattle.xc_data.specs.declared.script.Kind.{Kind}
 use Rattle.xc_data.specs.declared.undo.Undo.{Undo}
 use Rattle.xc_data.specs.Private.{with_place}
+use Rattle.xc_data.specs.Step.{Step}
 use Rattle.xc_host.specs.Contents.{Contents, file_in, wrote_front}
 use Rattle.xc_host.specs.Uses.{MayMove, overwrites}
 use Rattle.xc_host.specs.declared.errors.HostErr.{HostErr}
@@ -18,14 +19,14 @@ use Rattle.xc_compensate.specs.Records.{Records}
 abbrev pub IsInside : Contents → Num → ℕ → List ℕ → Type 0
 IsInside c file at bytes = at + length bytes ≤ length (file_in c file)
 
-module _ (was is : Contents) where
-  -- what an overwrite with this reply did: past the end nothing, else all the bytes, or with a fault a front
-  abbrev pub Overwrote : Num → ℕ → List ℕ → Reply → Type 0
-  Overwrote file at bytes PastEnd = (is ≡ was) × (length (file_in was file) < at + length bytes)
-  Overwrote file at bytes Done = (is ≡ wrote_front was file at bytes) × IsInside was file at bytes
-  Overwrote file at bytes (Fault n) = (is ≡ wrote_front was file at (take n bytes))
-      × ((n ≡ 0) ⊎ ((n < length bytes) × IsInside was file at bytes))
-  Overwrote file at bytes _ = ⊥
+-- what an overwrite with this reply did: past the end nothing, else all the bytes, or with a fault a front
+abbrev pub Overwrote : Step Contents → Num → ℕ → List ℕ → Reply → Type 0
+Overwrote c file at bytes PastEnd = (c.new ≡ c.old) × (length (file_in c.old file) < at + length bytes)
+Overwrote c file at bytes Done = (c.new ≡ wrote_front c.old file at bytes) × IsInside c.old file at bytes
+Overwrote c file at bytes (Fault n) = (c.new ≡ wrote_front c.old file at (take n bytes))
+    × ((n ≡ 0) ⊎ ((n < length bytes) × IsInside c.old file at bytes))
+-- it has no other reply
+Overwrote c file at bytes _ = ⊥
 
 -- the position of an open file is behind what was done
 abbrev pub moved_on : Private → ℕ → Num → ℕ → ℕ → Private

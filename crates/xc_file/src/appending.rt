@@ -1,21 +1,21 @@
 ghost use Rattle.std.specs.Prelude.{◌≡◌, ◌<◌, ◌≤◌, ◌+◌, ℕ, ◌++◌, ◌∷◌, [], ◌^◌, true, false};
-ghost use Rattle.std.specs.Prelude.{length, take, IfOk, IfSome, MatchOption, OnOk, OnErr, IsTrue, is_err};
-ghost use Rattle.xc_world.specs.Late.{is_late};
+ghost use Rattle.std.specs.Prelude.{length, IfOk, IfSome, MatchOption, OnOk, OnErr, IsTrue, is_err};
+ghost use Rattle.xc_data.specs.Calls.{is_late};
 ghost use Rattle.xc_data.specs.Counts.{CountsFault};
 ghost use Rattle.xc_data.specs.Private.{place_of};
 ghost use Rattle.xc_data.specs.declared.call.Call.TheVariants.{XWriteSeq};
 ghost use Rattle.xc_data.specs.declared.script.Kind.TheVariants.{Len};
 ghost use Rattle.xc_data.specs.declared.private.Place.TheVariants.{File};
-ghost use Rattle.xc_world.specs.Trail.{append_record, done_of};
-ghost use Rattle.xc_host.specs.Cause.{is_fault};
-ghost use Rattle.xc_host.specs.Contents.{file_in, has_file, appended_front, world_of};
+ghost use Rattle.xc_world.specs.Trail.{done_of};
+ghost use Rattle.xc_host.specs.Contents.{file_in};
 ghost use Rattle.xc_host.specs.Model.{IsUsed};
 ghost use Rattle.xc_host.specs.Uses.{Uses};
-ghost use Rattle.xc_file.specs.Appending.{Appends, AppendsUntil, HasRoom, StopsShort, tail};
-ghost use Rattle.xc_file.specs.Calls.{Acts, IsFileCall, IsMePassed, IsOpenIn, IsPassedReply, PassedBy, replies_fault};
-ghost use Rattle.xc_world.specs.After.{IsAppendedAt};
+ghost use Rattle.xc_file.specs.Appending.{Appends, HasRoom, IsAppended, tail};
+ghost use Rattle.xc_file.specs.Calls.{IsFileCall, IsOpenIn, IsPassedReply, PassedBy, replies_fault};
+ghost use Rattle.xc_world.specs.After.{IsAppendedAt, bytes_in};
 ghost use Rattle.xc_file.specs.Checks.{IsOpenAt};
-ghost use Rattle.xc_file.specs.Writing.{AddsFor, moved_on};
+ghost use Rattle.xc_file.specs.Passing.{IsThere, LeavesAppend, Looks, Passes};
+ghost use Rattle.xc_file.specs.Writing.{moved_on};
 
 use crate::checks::{OpenFile, open_file};
 use crate::moving::move_on;
@@ -32,14 +32,13 @@ struct Appended {
 
 // The length of a file that has room for n bytes more.
 fn end_of<H: Host>(host: &mut H, file: Num, n: u32) -> Result<Option<u32>, Fault>
-    requires there { IsTrue H.model.tells → has_file (H.model.contents host.old) file ≡ true }
+    requires there { IsThere H.model host.old file }
     ensures room { IfOk result (λ found. IfSome found (λ from. from + n ≤ 65536)) }
     ensures value { IsTrue H.model.tells → IfOk result (λ found. MatchOption found
         (65536 < length (file_in (H.model.contents host.old) file) + n)
         (λ from. from ≡ length (file_in (H.model.contents host.old) file))) }
     ensures used { IsUsed H.model (Len ∷ []) (record { old = host.old; new = host.new }) }
-    ensures contents { IsTrue H.model.tells → H.model.contents host.new ≡ H.model.contents host.old }
-    ensures cause { CountsFault (is_err result) (H.model.fault_count host.old) (H.model.fault_count host.new) }
+    ensures looks { Looks H.model (record { old = host.old; new = host.new }) (is_err result) }
 {
     let len = host.len(file)?;
     if len as u64 + n as u64 > MOST_FILE_BYTES {
@@ -51,14 +50,9 @@ fn end_of<H: Host>(host: &mut H, file: Num, n: u32) -> Result<Option<u32>, Fault
 // Appends until all is appended or an append fails.
 fn append_whole<H: Host>(host: &mut H, file: Num, bytes: &[u8]) -> Appended
     requires few { length bytes.now < 2 ^ 32 }
-    requires there { IsTrue H.model.tells → has_file (H.model.contents host.old) file ≡ true }
+    requires there { IsThere H.model host.old file }
     requires room { IsTrue H.model.tells → HasRoom (H.model.contents host.old) file bytes.now }
-    ensures whole { OnOk result.end (result.done ≡ length bytes.now) }
-    ensures short { OnErr result.end (result.done < length bytes.now) }
-    ensures uses { Uses H.model (record { old = host.old; new = host.new }) (AppendsUntil (length bytes.now) result.done result.end) }
-    ensures contents { IsTrue H.model.tells
-        → H.model.contents host.new ≡ appended_front (H.model.contents host.old) file (take result.done bytes.now) }
-    ensures cause { CountsFault (is_fault result.end) (H.model.fault_count host.old) (H.model.fault_count host.new) }
+    ensures { IsAppended H.model file bytes.now (record { old = host.old; new = host.new }) result }
 {
     let mut done: u32 = 0;
     while (done as usize) < bytes.len() {
@@ -104,17 +98,12 @@ fn append_recorded<H: Host>(
 ) -> Appended
     requires some { 0 < length bytes.now }
     requires room { from + length bytes.now ≤ 65536 }
-    requires there { IsTrue H.model.tells → has_file (H.model.contents host.old) file ≡ true }
+    requires there { IsThere H.model host.old file }
     requires end { IsTrue H.model.tells → from ≡ length (file_in (H.model.contents host.old) file) }
     requires none { undo.old.ended ≡ [] }
-    ensures whole { OnOk result.end (result.done ≡ length bytes.now) }
-    ensures short { OnErr result.end (result.done < length bytes.now) }
-    ensures uses { Uses H.model (record { old = host.old; new = host.new }) (AppendsUntil (length bytes.now) result.done result.end) }
-    ensures contents { IsTrue H.model.tells
-        → H.model.contents host.new ≡ appended_front (H.model.contents host.old) file (take result.done bytes.now) }
+    ensures appended { IsAppended H.model file bytes.now (record { old = host.old; new = host.new }) result }
     ensures records { undo.new
         ≡ record { pending = undo.old.pending ++ tail file from bytes.now result.done; ended = [] } }
-    ensures cause { CountsFault (is_fault result.end) (H.model.fault_count host.old) (H.model.fault_count host.new) }
 {
     if push_tail(undo, file, from, bytes).is_err() {
         return Appended {
@@ -140,7 +129,7 @@ fn append<H: Host>(
     requires some { 0 < length bytes.now }
     requires most { length bytes.now ≤ 1024 }
     requires file { IsOpenAt me.old file }
-    requires there { IsTrue H.model.tells → has_file (H.model.contents host.old) file.num ≡ true }
+    requires there { IsThere H.model host.old file.num }
     requires none { undo.old.ended ≡ [] }
     ensures told { IsTrue H.model.tells
         → IfOk result (Appends (H.model.contents host.old) (H.model.contents host.new) file.num bytes.now) }
@@ -150,15 +139,11 @@ fn append<H: Host>(
     ensures me { IsTrue H.model.tells → IfOk result (λ reply. me.new ≡ moved_on me.old file.h file.num
         (length (file_in (H.model.contents host.old) file.num)) (done_of (length bytes.now) reply)) }
     ensures same { (me.new.stored ≡ me.old.stored) × (me.new.made ≡ me.old.made) }
-    ensures records { IsTrue H.model.tells → IfOk result (λ reply. undo.new ≡ record {
-      pending = undo.old.pending ++ append_record (world_of (H.model.contents host.old)) bytes.now (done_of (length bytes.now) reply)
-          (File file.num file.at);
-      ended = [];
-    }) }
-    ensures grows { IfOk result (λ reply. AddsFor (done_of (length bytes.now) reply) undo.old undo.new) }
+    ensures leaves { LeavesAppend H.model file bytes.now (record {
+      old = record { host = host.old; undo = undo.old };
+      new = record { host = host.new; undo = undo.new };
+    }) result }
     ensures err { OnErr result (me.new ≡ me.old) }
-    ensures stops { OnErr result (StopsShort H.model file.num bytes.now
-        (record { host = host.old; undo = undo.old }) (record { host = host.new; undo = undo.new })) }
     ensures cause { CountsFault (replies_fault result) (H.model.fault_count host.old) (H.model.fault_count host.new) }
     ensures now { IfOk result (λ reply. is_late reply ≡ false) }
 {
@@ -191,25 +176,18 @@ fn append_next<H: Host>(
     requires few { (length bytes.now ≤ 1024) × (me.old.stored + length bytes.now ≤ 16384) }
     requires there { IsTrue H.model.tells → IsOpenIn (H.model.contents host.old) (File file.num file.at) }
     requires none { undo.old.ended ≡ [] }
-    ensures acts { (number : ℕ) → IsTrue H.model.tells → IfOk result (Acts (XWriteSeq file.h bytes.now)
-        (record { contents = H.model.contents host.old; number = number; me = me.old })
-        (record { contents = H.model.contents host.new; number = number; me = me.new })) }
-    ensures uses { Uses H.model (record { old = host.old; new = host.new }) (PassedBy (XWriteSeq file.h bytes.now) result) }
-    ensures after { (number : ℕ) → IfOk result (IsMePassed number (XWriteSeq file.h bytes.now) me.old me.new) }
-    ensures reply { IfOk result (IsPassedReply (XWriteSeq file.h bytes.now)) }
-    ensures records { IsTrue H.model.tells → IfOk result (λ reply. undo.new ≡ record {
-      pending = undo.old.pending ++ append_record (world_of (H.model.contents host.old)) bytes.now (done_of (length bytes.now) reply)
-          (File file.num file.at);
-      ended = [];
-    }) }
-    ensures grows { IfOk result (λ reply. AddsFor (done_of (length bytes.now) reply) undo.old undo.new) }
+    ensures passes { (number : ℕ) → Passes H.model (XWriteSeq file.h bytes.now) (record {
+      old = record { host = host.old; number = number; me = me.old; undo = undo.old };
+      new = record { host = host.new; number = number; me = me.new; undo = undo.new };
+    }) result }
+    ensures bytes { IfOk result (λ reply. bytes_in reply ≡ 0) }
+    ensures leaves { LeavesAppend H.model file bytes.now (record {
+      old = record { host = host.old; undo = undo.old };
+      new = record { host = host.new; undo = undo.new };
+    }) result }
     ensures stored { me.new.stored ≤ 16384 }
     ensures made { me.new.made ≡ me.old.made }
-    ensures err { OnErr result (me.new ≡ me.old) }
-    ensures stops { OnErr result (StopsShort H.model file.num bytes.now
-        (record { host = host.old; undo = undo.old }) (record { host = host.new; undo = undo.new })) }
     ensures some { OnErr result (0 < length bytes.now) }
-    ensures cause { CountsFault (replies_fault result) (H.model.fault_count host.old) (H.model.fault_count host.new) }
     ensures now { IfOk result (λ reply. is_late reply ≡ false) }
 {
     if bytes.is_empty() {

@@ -2,7 +2,7 @@ ghost use Rattle.std.specs.Prelude.{◌≡◌, ◌≤◌, ◌+◌, false, is_som
 ghost use Rattle.std.specs.declared.option.Option.TheVariants.{None, Some};
 ghost use Rattle.xc_data.specs.Private.{place_of};
 ghost use Rattle.xc_world.specs.Checks.{is_file};
-ghost use Rattle.xc_world.specs.Late.{is_late};
+ghost use Rattle.xc_data.specs.Calls.{is_late};
 ghost use Rattle.xc_file.specs.Checks.{IsOpenAt, refusal_at};
 
 use xc_data::{MOST_CALL_BYTES, MOST_STORED, Num, Place, Private, Reply};

@@ -1,13 +1,10 @@
-ghost use Rattle.std.specs.Prelude.{◌≡◌, ◌≤◌, ◌<◌, ◌++◌, [], Some, false, IfOk, OnErr, IsTrue};
-ghost use Rattle.xc_world.specs.Late.{is_late};
-ghost use Rattle.xc_world.specs.Trail.{create_record};
+ghost use Rattle.std.specs.Prelude.{◌≡◌, ◌≤◌, ◌<◌, [], false, IfOk, OnErr, IsTrue};
+ghost use Rattle.xc_data.specs.Calls.{is_late};
 ghost use Rattle.xc_world.specs.Act.Names.{next_num};
-ghost use Rattle.xc_data.specs.Counts.{CountsFault};
 ghost use Rattle.xc_data.specs.declared.call.Call.TheVariants.{XCreate};
 ghost use Rattle.xc_host.specs.Uses.{Uses};
-ghost use Rattle.xc_file.specs.Calls.{IsFileCall, IsNewIn, PassedBy, replies_fault};
-ghost use Rattle.xc_world.specs.Checks.{is_check_reply};
-ghost use Rattle.xc_file.specs.Naming.{IsAbsent, IsMadeAt, Creates, CreatesOnce, with_made};
+ghost use Rattle.xc_file.specs.Calls.{IsFileCall, IsNewIn, PassedBy};
+ghost use Rattle.xc_file.specs.Naming.{CreatesOnce, IsAbsent, IsCreate, with_made};
 
 use xc_compensate::Stack;
 use xc_data::{MOST_MADE, Name, NoMemory, Num, Place, Private, Reply, Undo};
@@ -25,17 +22,11 @@ fn create_recorded<H: Host>(
     requires absent { IsTrue H.model.tells → IsAbsent (H.model.contents host.old) name.now }
     requires new { IsTrue H.model.tells → IsNewIn (H.model.contents host.old) me.now tx }
     requires none { undo.old.ended ≡ [] }
-    ensures made { IfOk result (λ reply. IsMadeAt h reply) }
+    ensures create { IsCreate H.model name.now h (record {
+      old = record { host = host.old; number = tx; me = me.now; undo = undo.old };
+      new = record { host = host.new; number = tx; me = me.now; undo = undo.new };
+    }) result }
     ensures uses { Uses H.model (record { old = host.old; new = host.new }) (CreatesOnce result) }
-    ensures reply { IfOk result (λ reply. is_check_reply (XCreate name.now) reply ≡ false) }
-    ensures told { IsTrue H.model.tells
-        → IfOk result (Creates (H.model.contents host.old) (H.model.contents host.new) name.now (next_num me.now tx)) }
-    ensures records { IfOk result (λ reply. undo.new
-        ≡ record { pending = undo.old.pending ++ create_record me.now tx name.now reply; ended = [] }) }
-    ensures err_undo { OnErr result (undo.new ≡ undo.old) }
-    ensures err_contents { IsTrue H.model.tells → OnErr result (H.model.contents host.new ≡ H.model.contents host.old) }
-    ensures cause { CountsFault (replies_fault result) (H.model.fault_count host.old) (H.model.fault_count host.new) }
-    ensures now { IfOk result (λ reply. is_late reply ≡ false) }
 {
     let num = Num { tx, k: me.made };
     undo.push(Undo::Made { name: *name, num })?;
@@ -61,17 +52,11 @@ fn create<H: Host>(
 ) -> Result<Reply, NoMemory>
     requires new { IsTrue H.model.tells → IsNewIn (H.model.contents host.old) me.now tx }
     requires none { undo.old.ended ≡ [] }
-    ensures made { IfOk result (λ reply. IsMadeAt h reply) }
+    ensures create { IsCreate H.model name.now h (record {
+      old = record { host = host.old; number = tx; me = me.now; undo = undo.old };
+      new = record { host = host.new; number = tx; me = me.now; undo = undo.new };
+    }) result }
     ensures uses { Uses H.model (record { old = host.old; new = host.new }) (PassedBy (XCreate name.now) result) }
-    ensures reply { IfOk result (λ reply. is_check_reply (XCreate name.now) reply ≡ false) }
-    ensures told { IsTrue H.model.tells
-        → IfOk result (Creates (H.model.contents host.old) (H.model.contents host.new) name.now (next_num me.now tx)) }
-    ensures records { IfOk result (λ reply. undo.new
-        ≡ record { pending = undo.old.pending ++ create_record me.now tx name.now reply; ended = [] }) }
-    ensures err_undo { OnErr result (undo.new ≡ undo.old) }
-    ensures err_contents { IsTrue H.model.tells → OnErr result (H.model.contents host.new ≡ H.model.contents host.old) }
-    ensures cause { CountsFault (replies_fault result) (H.model.fault_count host.old) (H.model.fault_count host.new) }
-    ensures now { IfOk result (λ reply. is_late reply ≡ false) }
 {
     match host.lookup(name) {
         Ok(None) => create_recorded(host, me, undo, tx, name, h),
@@ -94,19 +79,13 @@ fn create_at<H: Host>(
     requires handle { h < 256 }
     requires new { IsTrue H.model.tells → IsNewIn (H.model.contents host.old) me.old tx }
     requires none { undo.old.ended ≡ [] }
-    ensures made { IfOk result (λ reply. IsMadeAt h reply) }
+    ensures create { IsCreate H.model name.now h (record {
+      old = record { host = host.old; number = tx; me = me.old; undo = undo.old };
+      new = record { host = host.new; number = tx; me = me.new; undo = undo.new };
+    }) result }
     ensures me { IfOk result (λ reply. me.new ≡ with_made me.old h (next_num me.old tx) reply) }
     ensures err { OnErr result (me.new ≡ me.old) }
     ensures uses { Uses H.model (record { old = host.old; new = host.new }) (PassedBy (XCreate name.now) result) }
-    ensures reply { IfOk result (λ reply. is_check_reply (XCreate name.now) reply ≡ false) }
-    ensures told { IsTrue H.model.tells
-        → IfOk result (Creates (H.model.contents host.old) (H.model.contents host.new) name.now (next_num me.old tx)) }
-    ensures records { IfOk result (λ reply. undo.new
-        ≡ record { pending = undo.old.pending ++ create_record me.old tx name.now reply; ended = [] }) }
-    ensures err_undo { OnErr result (undo.new ≡ undo.old) }
-    ensures err_contents { IsTrue H.model.tells → OnErr result (H.model.contents host.new ≡ H.model.contents host.old) }
-    ensures cause { CountsFault (replies_fault result) (H.model.fault_count host.old) (H.model.fault_count host.new) }
-    ensures now { IfOk result (λ reply. is_late reply ≡ false) }
 {
     let num = Num { tx, k: me.made };
     let reply = create(host, me, undo, tx, name, h)?;

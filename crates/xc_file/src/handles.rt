@@ -1,14 +1,10 @@
-ghost use Rattle.std.specs.Prelude.{◌≡◌, ℕ, true, false, Ok, IsTrue};
-ghost use Rattle.xc_world.specs.Late.{is_late};
-ghost use Rattle.xc_data.specs.Counts.{CountsFault};
-ghost use Rattle.xc_data.specs.Faults.{is_fault_reply};
+ghost use Rattle.std.specs.Prelude.{◌≡◌, ℕ, false, Ok, IsTrue};
+ghost use Rattle.xc_data.specs.Calls.{is_late};
 ghost use Rattle.xc_data.specs.Private.{place_of};
 ghost use Rattle.xc_data.specs.declared.call.Call.TheVariants.{XSeek, XLen, XClose};
-ghost use Rattle.xc_host.specs.Contents.{has_file};
-ghost use Rattle.xc_host.specs.Uses.{Uses, CallsFor};
 ghost use Rattle.xc_compensate.specs.Records.{Records};
-ghost use Rattle.xc_world.specs.Checks.{is_check_reply};
-ghost use Rattle.xc_file.specs.Calls.{Acts, IsFileCall, IsMePassed, IsOpenIn, StepsAlone};
+ghost use Rattle.xc_file.specs.Calls.{IsFileCall, IsOpenIn, StepsAlone};
+ghost use Rattle.xc_file.specs.Passing.{IsThere, Passes};
 ghost use Rattle.xc_file.specs.Checks.{IsOpenAt};
 
 use crate::checks::{OpenFile, file_at};
@@ -48,15 +44,12 @@ pub fn x_close(me: &mut Private, h: u16) -> Reply
 // Asks the host for an open file's length.
 fn len_of<H: Host>(host: &mut H, me: &Private, file: OpenFile) -> Reply
     requires file { IsOpenAt me.now file }
-    requires there { IsTrue H.model.tells → has_file (H.model.contents host.old) file.num ≡ true }
-    ensures acts { (number : ℕ) → IsTrue H.model.tells → Acts (XLen file.h)
-        (record { contents = H.model.contents host.old; number = number; me = me.now })
-        (record { contents = H.model.contents host.new; number = number; me = me.now }) result }
-    ensures after { (number : ℕ) → IsMePassed number (XLen file.h) me.now me.now result }
-    ensures reply { is_check_reply (XLen file.h) result ≡ false }
-    ensures uses { Uses H.model (record { old = host.old; new = host.new }) (CallsFor (XLen file.h) result) }
+    requires there { IsThere H.model host.old file.num }
+    ensures passes { (number : ℕ) (undo : Records) → Passes H.model (XLen file.h) (record {
+      old = record { host = host.old; number = number; me = me.now; undo = undo };
+      new = record { host = host.new; number = number; me = me.now; undo = undo };
+    }) (Ok result) }
     ensures contents { IsTrue H.model.tells → H.model.contents host.new ≡ H.model.contents host.old }
-    ensures cause { CountsFault (is_fault_reply result) (H.model.fault_count host.old) (H.model.fault_count host.new) }
     ensures now { is_late result ≡ false }
 {
     match host.len(file.num) {

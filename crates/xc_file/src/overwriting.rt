@@ -1,19 +1,21 @@
 ghost use Rattle.std.specs.Prelude.{◌≡◌, ◌<◌, ◌≤◌, ◌+◌, ℕ, ◌++◌, ◌∷◌, [], ◌^◌, ◌==◌, true};
 ghost use Rattle.std.specs.Prelude.{false, length, take, drop, cond, IfOk, IfSome, MatchOption, OnErr, IsTrue, if◌then◌else◌};
-ghost use Rattle.xc_world.specs.Late.{is_late};
+ghost use Rattle.xc_world.specs.After.{bytes_in};
+ghost use Rattle.xc_data.specs.Calls.{is_late};
 ghost use Rattle.xc_data.specs.Counts.{CountsFault};
 ghost use Rattle.xc_data.specs.Private.{place_of};
 ghost use Rattle.xc_data.specs.declared.call.Call.TheVariants.{XWriteOvr};
 ghost use Rattle.xc_data.specs.declared.private.Place.TheVariants.{File};
 ghost use Rattle.xc_data.specs.declared.script.Kind.TheVariants.{WriteAt};
 ghost use Rattle.xc_data.specs.declared.undo.Undo.TheVariants.{Bytes};
-ghost use Rattle.xc_world.specs.Trail.{overwrite_record, done_of};
+ghost use Rattle.xc_world.specs.Trail.{done_of};
 ghost use Rattle.xc_host.specs.Cause.{is_fault};
-ghost use Rattle.xc_host.specs.Contents.{file_in, has_file, wrote_front, world_of};
+ghost use Rattle.xc_host.specs.Contents.{file_in, wrote_front};
 ghost use Rattle.xc_host.specs.Uses.{Uses, MovesBy};
-ghost use Rattle.xc_file.specs.Calls.{Acts, IsFileCall, IsMePassed, IsOpenIn, IsPassedReply, PassedBy, replies_fault};
+ghost use Rattle.xc_file.specs.Calls.{IsFileCall, IsOpenIn, IsPassedReply, PassedBy, replies_fault};
 ghost use Rattle.xc_file.specs.Checks.{IsOpenAt};
-ghost use Rattle.xc_file.specs.Writing.{AddsFor, IsInside, LooksFor, Overwrote};
+ghost use Rattle.xc_file.specs.Passing.{IsThere, LeavesOverwrite, Looks, Passes};
+ghost use Rattle.xc_file.specs.Writing.{IsInside, LooksFor, Overwrote};
 
 use crate::checks::{OpenFile, open_file};
 use crate::moving::move_on;
@@ -32,15 +34,14 @@ fn bytes_under<H: Host>(
     at: u32,
     n: u32,
 ) -> Result<Option<Vec<u8>>, HostErr>
-    requires there { IsTrue H.model.tells → has_file (H.model.contents host.old) file ≡ true }
+    requires there { IsThere H.model host.old file }
     ensures size { IfOk result (λ found. IfSome found (λ before. (length before.items ≡ n) × (at + n < 2 ^ 32))) }
     ensures value { IsTrue H.model.tells → IfOk result (λ found. MatchOption found
         (length (file_in (H.model.contents host.old) file) < at + n)
         (λ before. (before.items ≡ take n (drop at (file_in (H.model.contents host.old) file)))
         × (at + n ≤ length (file_in (H.model.contents host.old) file)))) }
     ensures uses { Uses H.model (record { old = host.old; new = host.new }) (LooksFor n result) }
-    ensures contents { IsTrue H.model.tells → H.model.contents host.new ≡ H.model.contents host.old }
-    ensures cause { CountsFault (is_fault result) (H.model.fault_count host.old) (H.model.fault_count host.new) }
+    ensures looks { Looks H.model (record { old = host.old; new = host.new }) (is_fault result) }
 {
     let Ok(len) = host.len(file) else {
         return Err(HostErr::Fault);
@@ -67,7 +68,7 @@ fn write_recorded<H: Host>(
     requires some { 0 < length bytes.now }
     requires room { at + length bytes.now < 2 ^ 32 }
     requires size { length before.items ≡ length bytes.now }
-    requires there { IsTrue H.model.tells → has_file (H.model.contents host.old) file ≡ true }
+    requires there { IsThere H.model host.old file }
     requires inside { IsTrue H.model.tells → IsInside (H.model.contents host.old) file at bytes.now }
     requires none { undo.old.ended ≡ [] }
     ensures whole { IfOk result (λ written. written.fault ≡ false → written.done ≡ length bytes.now) }
@@ -113,21 +114,18 @@ fn overwrite<H: Host>(
 ) -> Result<Reply, NoMemory>
     requires some { 0 < length bytes.now }
     requires most { length bytes.now ≤ 1024 }
-    requires there { IsTrue H.model.tells → has_file (H.model.contents host.old) file.num ≡ true }
+    requires there { IsThere H.model host.old file.num }
     requires none { undo.old.ended ≡ [] }
     ensures room { IfOk result (λ reply. file.at + done_of (length bytes.now) reply < 2 ^ 32) }
     ensures told { IsTrue H.model.tells
-        → IfOk result (Overwrote (H.model.contents host.old) (H.model.contents host.new) file.num file.at bytes.now) }
+        → IfOk result (Overwrote (record { old = H.model.contents host.old; new = H.model.contents host.new }) file.num file.at
+        bytes.now) }
     ensures uses { Uses H.model (record { old = host.old; new = host.new }) (PassedBy (XWriteOvr file.h bytes.now) result) }
     ensures reply { IfOk result (IsPassedReply (XWriteOvr file.h bytes.now)) }
-    ensures records { IsTrue H.model.tells → IfOk result (λ reply. undo.new ≡ record {
-      pending = undo.old.pending ++ overwrite_record (world_of (H.model.contents host.old)) bytes.now (done_of (length bytes.now) reply)
-          (File file.num file.at);
-      ended = [];
-    }) }
-    ensures grows { IfOk result (λ reply. AddsFor (done_of (length bytes.now) reply) undo.old undo.new) }
-    ensures err_undo { OnErr result (undo.new ≡ undo.old) }
-    ensures err_contents { IsTrue H.model.tells → OnErr result (H.model.contents host.new ≡ H.model.contents host.old) }
+    ensures leaves { LeavesOverwrite H.model file bytes.now (record {
+      old = record { host = host.old; undo = undo.old };
+      new = record { host = host.new; undo = undo.new };
+    }) result }
     ensures cause { CountsFault (replies_fault result) (H.model.fault_count host.old) (H.model.fault_count host.new) }
     ensures now { IfOk result (λ reply. is_late reply ≡ false) }
 {
@@ -170,24 +168,17 @@ fn write_next<H: Host>(
     requires few { (length bytes.now ≤ 1024) × (me.old.stored + length bytes.now ≤ 16384) }
     requires there { IsTrue H.model.tells → IsOpenIn (H.model.contents host.old) (File file.num file.at) }
     requires none { undo.old.ended ≡ [] }
-    ensures acts { (number : ℕ) → IsTrue H.model.tells → IfOk result (Acts (XWriteOvr file.h bytes.now)
-        (record { contents = H.model.contents host.old; number = number; me = me.old })
-        (record { contents = H.model.contents host.new; number = number; me = me.new })) }
-    ensures uses { Uses H.model (record { old = host.old; new = host.new }) (PassedBy (XWriteOvr file.h bytes.now) result) }
-    ensures after { (number : ℕ) → IfOk result (IsMePassed number (XWriteOvr file.h bytes.now) me.old me.new) }
-    ensures reply { IfOk result (IsPassedReply (XWriteOvr file.h bytes.now)) }
-    ensures records { IsTrue H.model.tells → IfOk result (λ reply. undo.new ≡ record {
-      pending = undo.old.pending ++ overwrite_record (world_of (H.model.contents host.old)) bytes.now (done_of (length bytes.now) reply)
-          (File file.num file.at);
-      ended = [];
-    }) }
-    ensures grows { IfOk result (λ reply. AddsFor (done_of (length bytes.now) reply) undo.old undo.new) }
+    ensures passes { (number : ℕ) → Passes H.model (XWriteOvr file.h bytes.now) (record {
+      old = record { host = host.old; number = number; me = me.old; undo = undo.old };
+      new = record { host = host.new; number = number; me = me.new; undo = undo.new };
+    }) result }
+    ensures bytes { IfOk result (λ reply. bytes_in reply ≡ 0) }
+    ensures leaves { LeavesOverwrite H.model file bytes.now (record {
+      old = record { host = host.old; undo = undo.old };
+      new = record { host = host.new; undo = undo.new };
+    }) result }
     ensures stored { me.new.stored ≤ 16384 }
     ensures made { me.new.made ≡ me.old.made }
-    ensures err { OnErr result (me.new ≡ me.old) }
-    ensures err_undo { OnErr result (undo.new ≡ undo.old) }
-    ensures err_contents { IsTrue H.model.tells → OnErr result (H.model.contents host.new ≡ H.model.contents host.old) }
-    ensures cause { CountsFault (replies_fault result) (H.model.fault_count host.old) (H.model.fault_count host.new) }
     ensures now { IfOk result (λ reply. is_late reply ≡ false) }
 {
     if bytes.is_empty() {

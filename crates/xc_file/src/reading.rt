@@ -1,19 +1,18 @@
 ghost use Rattle.std.specs.Prelude.{◌≡◌, ◌<◌, ◌≤◌, ◌+◌, ◌^◌, ◌∷◌, ◌⊎◌, [], ℕ, true, false, length, take, drop, IfOk, OnErr, IsTrue};
-ghost use Rattle.xc_world.specs.Late.{is_late};
-ghost use Rattle.xc_data.specs.Counts.{CountsFault};
+ghost use Rattle.xc_data.specs.Calls.{is_late};
 ghost use Rattle.xc_data.specs.Private.{place_of};
 ghost use Rattle.xc_data.specs.declared.call.Call.TheVariants.{XRead};
 ghost use Rattle.xc_data.specs.declared.call.Reply.TheVariants.{End, Fault};
 ghost use Rattle.xc_data.specs.declared.script.Kind.TheVariants.{ReadAt};
 ghost use Rattle.xc_data.specs.declared.private.Place.TheVariants.{File};
 ghost use Rattle.xc_host.specs.Cause.{is_fault};
-ghost use Rattle.xc_host.specs.Contents.{file_in, has_file};
+ghost use Rattle.xc_host.specs.Contents.{file_in};
 ghost use Rattle.xc_host.specs.Model.{IsUsed};
 ghost use Rattle.xc_host.specs.Uses.{Uses, MovesBy};
 ghost use Rattle.xc_compensate.specs.Records.{Records};
-ghost use Rattle.xc_file.specs.Calls.{Acts, IsFileCall, IsMePassed, IsOpenIn, PassedBy, replies_fault};
-ghost use Rattle.xc_world.specs.Checks.{is_check_reply};
+ghost use Rattle.xc_file.specs.Calls.{IsFileCall, IsOpenIn, replies_fault};
 ghost use Rattle.xc_file.specs.Checks.{IsOpenAt};
+ghost use Rattle.xc_file.specs.Passing.{IsThere, Looks, Passes};
 ghost use Rattle.xc_file.specs.Reading.{AppendsFront, ReadsBy};
 
 use crate::checks::{OpenFile, open_file};
@@ -29,13 +28,13 @@ fn read_more<H: Host>(
     n: u32,
     bytes: &mut Vec<u8>,
 ) -> Result<u32, HostErr>
-    requires there { IsTrue H.model.tells → has_file (H.model.contents host.old) file ≡ true }
+    requires there { IsThere H.model host.old file }
     ensures bound { IfOk result (λ more. (more ≤ n) × (length bytes.new.items ≡ length bytes.old.items + more)) }
     ensures value { IsTrue H.model.tells
-        → IfOk result (λ more. AppendsFront (file_in (H.model.contents host.old) file) at n more bytes.old.items bytes.new.items) }
+        → IfOk result (λ more. AppendsFront (file_in (H.model.contents host.old) file) at n more
+        (record { old = bytes.old.items; new = bytes.new.items })) }
     ensures used { IsUsed H.model (ReadAt ∷ []) (record { old = host.old; new = host.new }) }
-    ensures contents { IsTrue H.model.tells → H.model.contents host.new ≡ H.model.contents host.old }
-    ensures cause { CountsFault (is_fault result) (H.model.fault_count host.old) (H.model.fault_count host.new) }
+    ensures looks { Looks H.model (record { old = host.old; new = host.new }) (is_fault result) }
 {
     let piece = host.read_at(file, at, n)?;
     bytes.extend_from_slice(piece.as_slice())?;
@@ -52,14 +51,13 @@ pub(crate) fn read_whole<H: Host>(
     n: u32,
 ) -> Result<Vec<u8>, HostErr>
     requires room { at + n < 2 ^ 32 }
-    requires there { IsTrue H.model.tells → has_file (H.model.contents host.old) file ≡ true }
+    requires there { IsThere H.model host.old file }
     ensures bound { IfOk result (λ bytes. length bytes.items ≤ n) }
     ensures value { IsTrue H.model.tells
         → IfOk result (λ bytes. bytes.items ≡ take n (drop at (file_in (H.model.contents host.old) file))) }
     ensures uses { IfOk result (λ bytes. Uses H.model (record { old = host.old; new = host.new }) (ReadsBy n (length bytes.items))) }
     ensures uses_err { OnErr result (Uses H.model (record { old = host.old; new = host.new }) (MovesBy ReadAt n 0)) }
-    ensures contents { IsTrue H.model.tells → H.model.contents host.new ≡ H.model.contents host.old }
-    ensures cause { CountsFault (is_fault result) (H.model.fault_count host.old) (H.model.fault_count host.new) }
+    ensures looks { Looks H.model (record { old = host.old; new = host.new }) (is_fault result) }
 {
     let mut bytes = Vec::new(alloc);
     let mut len: u32 = 0;
@@ -75,11 +73,10 @@ pub(crate) fn read_whole<H: Host>(
 
 // Asks for a byte behind the last place that a number can name. No file has one there.
 fn read_past<H: Host>(host: &mut H, file: Num, at: u32) -> Result<Reply, NoMemory>
-    requires there { IsTrue H.model.tells → has_file (H.model.contents host.old) file ≡ true }
+    requires there { IsThere H.model host.old file }
     ensures end { IfOk result (λ reply. (reply ≡ End) ⊎ (reply ≡ Fault 0)) }
     ensures used { IsUsed H.model (ReadAt ∷ []) (record { old = host.old; new = host.new }) }
-    ensures contents { IsTrue H.model.tells → H.model.contents host.new ≡ H.model.contents host.old }
-    ensures cause { CountsFault (replies_fault result) (H.model.fault_count host.old) (H.model.fault_count host.new) }
+    ensures looks { Looks H.model (record { old = host.old; new = host.new }) (replies_fault result) }
 {
     match host.read_at(file, at, 1) {
         Ok(_) => Ok(Reply::End),
@@ -99,17 +96,13 @@ fn read_next<H: Host>(
     requires file { IsOpenAt me.old file }
     requires few { (n ≤ 1024) × (me.old.stored + n ≤ 16384) }
     requires there { IsTrue H.model.tells → IsOpenIn (H.model.contents host.old) (File file.num file.at) }
-    ensures acts { (number : ℕ) → IsTrue H.model.tells → IfOk result (Acts (XRead file.h n)
-        (record { contents = H.model.contents host.old; number = number; me = me.old })
-        (record { contents = H.model.contents host.new; number = number; me = me.new })) }
-    ensures uses { Uses H.model (record { old = host.old; new = host.new }) (PassedBy (XRead file.h n) result) }
-    ensures after { (number : ℕ) → IfOk result (IsMePassed number (XRead file.h n) me.old me.new) }
-    ensures reply { IfOk result (λ reply. is_check_reply (XRead file.h n) reply ≡ false) }
+    ensures passes { (number : ℕ) (undo : Records) → Passes H.model (XRead file.h n) (record {
+      old = record { host = host.old; number = number; me = me.old; undo = undo };
+      new = record { host = host.new; number = number; me = me.new; undo = undo };
+    }) result }
     ensures contents { IsTrue H.model.tells → H.model.contents host.new ≡ H.model.contents host.old }
     ensures stored { me.new.stored ≤ 16384 }
     ensures made { me.new.made ≡ me.old.made }
-    ensures err { OnErr result (me.new ≡ me.old) }
-    ensures cause { CountsFault (replies_fault result) (H.model.fault_count host.old) (H.model.fault_count host.new) }
     ensures now { IfOk result (λ reply. is_late reply ≡ false) }
 {
     let OpenFile { h, num, at } = file;

@@ -1,12 +1,10 @@
-ghost use Rattle.std.specs.Prelude.{◌≡◌, ℕ, ◌++◌, [], false, IfOk, OnErr, IsTrue};
-ghost use Rattle.xc_world.specs.Late.{is_late};
-ghost use Rattle.xc_world.specs.Trail.{rename_record};
-ghost use Rattle.xc_data.specs.Counts.{CountsFault};
+ghost use Rattle.std.specs.Prelude.{◌≡◌, ℕ, [], false, IfOk, IsTrue};
+ghost use Rattle.xc_data.specs.Calls.{is_late};
 ghost use Rattle.xc_data.specs.declared.call.Call.TheVariants.{XRename};
 ghost use Rattle.xc_data.specs.declared.private.Private.{Private};
 ghost use Rattle.xc_host.specs.Uses.{Uses};
-ghost use Rattle.xc_file.specs.Calls.{IsFileCall, IsPassedReply, PassedBy, replies_fault};
-ghost use Rattle.xc_file.specs.Naming.{IsNamed, IsAbsent, Renames, RenamesOnce};
+ghost use Rattle.xc_file.specs.Calls.{IsFileCall, PassedBy};
+ghost use Rattle.xc_file.specs.Naming.{IsAbsent, IsNamed, IsRename, RenamesOnce};
 
 use xc_compensate::Stack;
 use xc_data::{Name, NoMemory, Reply, Undo};
@@ -23,15 +21,10 @@ fn rename_recorded<H: Host>(
     requires absent { IsTrue H.model.tells → IsAbsent (H.model.contents host.old) to.now }
     requires none { undo.old.ended ≡ [] }
     ensures uses { Uses H.model (record { old = host.old; new = host.new }) (RenamesOnce result) }
-    ensures reply { IfOk result (IsPassedReply (XRename from.now to.now)) }
-    ensures told { IsTrue H.model.tells
-        → IfOk result (Renames (H.model.contents host.old) (H.model.contents host.new) from.now to.now) }
-    ensures records { IfOk result (λ reply. undo.new
-        ≡ record { pending = undo.old.pending ++ rename_record from.now to.now reply; ended = [] }) }
-    ensures err { OnErr result (undo.new ≡ undo.old) }
-    ensures err_contents { IsTrue H.model.tells → OnErr result (H.model.contents host.new ≡ H.model.contents host.old) }
-    ensures cause { CountsFault (replies_fault result) (H.model.fault_count host.old) (H.model.fault_count host.new) }
-    ensures now { IfOk result (λ reply. is_late reply ≡ false) }
+    ensures rename { IsRename H.model from.now to.now (record {
+      old = record { host = host.old; undo = undo.old };
+      new = record { host = host.new; undo = undo.new };
+    }) result }
 {
     let record = Undo::Moved {
         from: *from,
@@ -54,15 +47,10 @@ fn rename<H: Host>(
 ) -> Result<Reply, NoMemory>
     requires none { undo.old.ended ≡ [] }
     ensures uses { Uses H.model (record { old = host.old; new = host.new }) (PassedBy (XRename from.now to.now) result) }
-    ensures reply { IfOk result (IsPassedReply (XRename from.now to.now)) }
-    ensures told { IsTrue H.model.tells
-        → IfOk result (Renames (H.model.contents host.old) (H.model.contents host.new) from.now to.now) }
-    ensures records { IfOk result (λ reply. undo.new
-        ≡ record { pending = undo.old.pending ++ rename_record from.now to.now reply; ended = [] }) }
-    ensures err { OnErr result (undo.new ≡ undo.old) }
-    ensures err_contents { IsTrue H.model.tells → OnErr result (H.model.contents host.new ≡ H.model.contents host.old) }
-    ensures cause { CountsFault (replies_fault result) (H.model.fault_count host.old) (H.model.fault_count host.new) }
-    ensures now { IfOk result (λ reply. is_late reply ≡ false) }
+    ensures rename { IsRename H.model from.now to.now (record {
+      old = record { host = host.old; undo = undo.old };
+      new = record { host = host.new; undo = undo.new };
+    }) result }
 {
     match host.lookup(from) {
         Ok(Some(_)) => {}

@@ -1,12 +1,16 @@
-use Rattle.std.proofs.Common.{[], ◌∷◌, inr, refl}
+use Rattle.std.proofs.Common.{[], ◌∷◌, inr, refl, rules}
 use Rattle.xc_data.specs.declared.script.Kind.TheVariants.{Lookup, Unlink}
 use Rattle.xc_host.proofs.Called.{used_then}
 use Rattle.xc_deferred.proofs.doing.unlink.Goals as goal
 
-pub returns-in-Err-clause-uses : goal.returns-in-Err-clause-uses
-returns-in-Err-clause-uses g c = record {
-  made = Lookup ∷ Unlink ∷ [];
-  named = inr refl;
-  used = used_then g.H.Host.model (Lookup ∷ []) (Unlink ∷ []) c.args.host.now c.lookup.new.self c.unlink.new.self
-      c.lookup.ensures.answered.used c.unlink.ensures.answered.used;
+pub returns-in-Err : goal.returns-in-Err
+returns-in-Err g c = record {
+  cause = search rules;
+  uses = record {
+    made = Lookup ∷ Unlink ∷ [];
+    named = inr refl;
+    used = used_then g.H.Host.model (Lookup ∷ []) (Unlink ∷ []) c.args.host.now c.lookup.new.self c.unlink.new.self
+        c.lookup.ensures.answered.used c.unlink.ensures.answered.used;
+  };
+  does = search rules;
 }

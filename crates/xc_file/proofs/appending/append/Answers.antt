@@ -16,7 +16,7 @@ returns-in-NoMemory-clause-uses g c =
     append_starves model c.args.file.h (length c.args.bytes.now) did.result.done c.args.bytes.now c.args.host.now c.end_of.new.host did.new.host refl
     c.end_of.ensures.used
     (subst (λ e. Uses model (record { old = c.end_of.new.host; new = did.new.host }) (AppendsUntil (length c.args.bytes.now) did.result.done e))
-    ended did.ensures.uses)
+    ended did.ensures.appended.uses)
 
 pub returns-clause-uses : goal.returns-clause-uses
 returns-clause-uses g c =
@@ -27,13 +27,13 @@ returns-clause-uses g c =
       | in-Ok w ↦
           subst (λ r. Uses model (record { old = c.args.host.now; new = did.new.host }) (CallsFor (XWriteSeq c.args.file.h bytes) r)) (sym w.reply-is)
           (appends_all model c.args.file.h did.result.done bytes c.args.host.now c.end_of.new.host did.new.host c.requires.some
-          (subst (λ e. OnOk e (did.result.done ≡ length bytes)) w.in-Ok.is did.ensures.whole) c.end_of.ensures.used
+          (subst (λ e. OnOk e (did.result.done ≡ length bytes)) w.in-Ok.is did.ensures.appended.whole) c.end_of.ensures.used
           (subst (λ e. Uses model (record { old = c.end_of.new.host; new = did.new.host }) (AppendsUntil (length bytes) did.result.done e))
-          w.in-Ok.is did.ensures.uses))
+          w.in-Ok.is did.ensures.appended.uses))
       | in-Err-end+in-Fault w ↦
           let ended : did.result.end ≡ Err Fault = w.in-Err-end.is ∙ ap Err w.in-Fault.is in
           subst (λ r. Uses model (record { old = c.args.host.now; new = did.new.host }) (CallsFor (XWriteSeq c.args.file.h bytes) r)) (sym w.reply-is)
           (appends_front model c.args.file.h did.result.done bytes c.args.host.now c.end_of.new.host did.new.host c.requires.some c.end_of.ensures.used
           (subst (λ e. Uses model (record { old = c.end_of.new.host; new = did.new.host }) (AppendsUntil (length bytes) did.result.done e))
-          ended did.ensures.uses))
+          ended did.ensures.appended.uses))
     ]

@@ -1,4 +1,4 @@
-use Rattle.std.proofs.Common.{◌∙◌, ◌+◌, ◌-◌, ◌≤◌, length, take, drop, arith, length-take, length-drop}
+use Rattle.std.proofs.Common.{rules, ◌∙◌, ◌+◌, ◌-◌, ◌≤◌, length, take, drop, arith, length-take, length-drop}
 use Rattle.xc_data.specs.declared.script.Kind.TheVariants.{Append}
 use Rattle.xc_host.proofs.Called.{moves_more}
 use Rattle.xc_file.proofs.Appends.{append_more, append_grows}
@@ -28,7 +28,21 @@ loop-done-preserved g c =
       faults = did.answered.cause ∙ was.faults;
     }
 
-pub returns-in-Err-clause-uses : goal.returns-in-Err-clause-uses
-returns-in-Err-clause-uses g c =
-    append_stops g.H.Host.model (length c.args.bytes.now) c.loop-done.done c.in-Err.error c.args.host.now c.loop-done.host c.append.new.self
-    c.loop-done-test.true c.loop-done.invariant.uses c.append.ensures.answered.used
+pub returns-in-Err : goal.returns-in-Err
+returns-in-Err g c =
+    let model = g.H.Host.model in
+    let was = c.loop-done.invariant in
+    let did = c.in-Err.ensures.answered in
+    record {
+      whole = tt;
+      short = c.loop-done-test.true;
+      uses = append_stops model (length c.args.bytes.now) c.loop-done.done c.in-Err.error c.args.host.now c.loop-done.host c.append.new.self
+          c.loop-done-test.true was.uses did.used;
+      contents = λ t. did.refused t ∙ was.told t;
+      cause = search rules;
+    }
+
+pub returns : goal.returns
+returns g c =
+    let was = c.loop-done.invariant in
+    record { whole = omega (arith, was.room, c.loop-done-test.false); short = tt; uses = was.uses; contents = was.told; cause = was.faults }

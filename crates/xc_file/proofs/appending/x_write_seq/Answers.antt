@@ -30,8 +30,8 @@ returns-clause-call g c =
     λ number. at_handle g.H.Host.model (λ h. XWriteSeq h c.args.bytes.now) _ _
     (record { host = c.args.host.now; number = number; me = c.args.me.now; undo = c.args.undo.now }) _ _ open_at.0 free
     (λ passes. append_call g.H.Host.model file.h c.args.bytes.now file.num file.at _ _ c.append_next.result passes few
-    open_at.1.place c.requires.none next.reply next.uses (next.after number) (next.acts number)
-    (some_grow g.H.Host.model call made (done_of size) _ _ c.append_next.result next.grows
-    (λ r v. append_size v c.args.bytes.now (done_of size r) _ file.num file.at open_at.1.place) next.records
+    open_at.1.place c.requires.none (next.passes number)
+    (some_grow g.H.Host.model call made (done_of size) _ _ c.append_next.result next.leaves.records
+    (λ r v. append_size v c.args.bytes.now (done_of size r) _ file.num file.at open_at.1.place)
     (λ r v. ap (append_record w c.args.bytes.now (done_of size r)) (sym open_at.1.place)))
-    next.err next.stops next.some next.cause)
+    next.leaves.stops next.some)

@@ -31,12 +31,19 @@ returns-clause-call g c =
     let few = c.if-me-ge-MOST_MADE.false in
     let vacant = sym c.vacant.ensures.value ∙ c.in-Some.is in
     let next = c.create_at.ensures in
+    let create = next.create in
     let result = c.create_at.result in
     passed_call model (XCreate name) (record { host = c.args.host.now; number = c.args.tx; me = me; undo = c.args.undo.now })
     (record { host = c.create_at.new.host; number = c.args.tx; me = c.create_at.new.me; undo = c.create_at.new.undo }) result
-    (ap by_much (much_none (has_made_all me) (lowest_vacant me.places) c.in-Some.h (lt-leb 16 me.made few) vacant)) next.reply next.uses
-    (create_me c.args.tx me c.create_at.new.me name c.in-Some.h result vacant next.made next.me)
-    (λ t. created_acts (model.contents c.args.host.now) (model.contents c.create_at.new.host) c.args.tx me c.create_at.new.me name c.in-Some.h
-    result few vacant next.made next.me (next.told t))
-    (told_grow model (XCreate name) (create_record me c.args.tx name) _ _ result c.requires.none (create_one me c.args.tx name) (λ r w. refl) next.records)
-    next.err next.err_undo next.err_contents next.cause
+    (ap by_much (much_none (has_made_all me) (lowest_vacant me.places) c.in-Some.h (lt-leb 16 me.made few) vacant))
+    (record {
+      reply = create.reply;
+      uses = next.uses;
+      after = create_me c.args.tx me c.create_at.new.me name c.in-Some.h result vacant create.made next.me;
+      acts = λ t. created_acts (model.contents c.args.host.now) (model.contents c.create_at.new.host) c.args.tx me c.create_at.new.me name c.in-Some.h
+          result few vacant create.made next.me (create.told t);
+      err = next.err;
+      cause = create.cause;
+    })
+    (told_grow model (XCreate name) (create_record me c.args.tx name) _ _ result c.requires.none (create_one me c.args.tx name) (λ r w. refl) create.records)
+    create.err

@@ -1,4 +1,4 @@
-use Rattle.std.proofs.Common.{◌≡◌, refl, ap, sym, ◌∙◌}
+use Rattle.std.proofs.Common.{refl, ap, sym, ◌∙◌}
 use Rattle.std.specs.Prelude.{is_none}
 use Rattle.xc_file.proofs.FileCalls.{refused_call, passed_call, none_grow, always_err}
 use Rattle.xc_file.proofs.Refusals.{by_much}
@@ -13,6 +13,6 @@ pub returns-clause-call : goal.returns-clause-call
 returns-clause-call g c =
     let next = c.open_at.ensures in
     λ number undo. passed_call g.H.Host.model _ (record { host = c.args.host.now; number = number; me = c.args.me.now; undo = undo }) _ c.open_at.result
-    (ap (λ o. by_much (is_none o)) (sym c.vacant.ensures.value ∙ c.in-Some.is)) next.reply next.uses (next.after number) (next.acts number)
-    (none_grow g.H.Host.model _ _ _ c.open_at.result refl (λ r w. refl)) next.err (always_err (undo ≡ undo) c.open_at.result refl)
-    (λ t. always_err _ c.open_at.result (next.contents t)) next.cause
+    (ap (λ o. by_much (is_none o)) (sym c.vacant.ensures.value ∙ c.in-Some.is)) (next.passes number undo)
+    (none_grow g.H.Host.model _ _ _ c.open_at.result refl (λ r w. refl))
+    (always_err _ c.open_at.result (record { undo = refl; contents = next.contents }))

@@ -1,13 +1,11 @@
-use Rattle.std.proofs.Common.{◌≡◌, false, ap, sym, ◌∙◌, length}
+use Rattle.std.proofs.Common.{ap, sym, ◌∙◌, length}
 use Rattle.xc_data.specs.declared.call.Call.TheVariants.{XWriteOvr}
 use Rattle.xc_data.specs.declared.call.Reply.{Reply}
 use Rattle.xc_data.specs.declared.private.Place.TheVariants.{File}
 use Rattle.xc_world.specs.Trail.{overwrite_record, done_of}
 use Rattle.xc_host.specs.Contents.{world_of}
-use Rattle.xc_world.specs.Checks.{is_check_reply}
-use Rattle.xc_file.specs.Calls.{IsPassedReply}
 use Rattle.xc_file.specs.Checks.{refusal_at}
-use Rattle.xc_file.proofs.FileCalls.{refused_call, passed_call, some_grow, ok_more, at_handle}
+use Rattle.xc_file.proofs.FileCalls.{refused_call, passed_call, some_grow, at_handle}
 use Rattle.xc_file.proofs.Refusals.{refused_overwrite, overwrite_size}
 use Rattle.xc_file.proofs.overwriting.x_write_ovr.Goals as goal
 
@@ -31,8 +29,8 @@ returns-clause-call g c =
     λ number. at_handle g.H.Host.model (λ h. XWriteOvr h c.args.bytes.now) _ _
     (record { host = c.args.host.now; number = number; me = c.args.me.now; undo = c.args.undo.now }) _ _ c.in-Ok.ensures.open.0 free
     (λ passes. passed_call g.H.Host.model call _ _ result passes
-    (ok_more (IsPassedReply call) (λ r. is_check_reply call r ≡ false) result (λ r p. p.0) next.reply) next.uses (next.after number) (next.acts number)
-    (some_grow g.H.Host.model call made (done_of size) _ _ result next.grows
-    (λ r v. overwrite_size v c.args.bytes.now (done_of size r) _ file.num file.at there) next.records
+    (next.passes number)
+    (some_grow g.H.Host.model call made (done_of size) _ _ result next.leaves.records
+    (λ r v. overwrite_size v c.args.bytes.now (done_of size r) _ file.num file.at there)
     (λ r v. ap (overwrite_record w c.args.bytes.now (done_of size r)) (sym there)))
-    next.err next.err_undo next.err_contents next.cause)
+    next.leaves.err)

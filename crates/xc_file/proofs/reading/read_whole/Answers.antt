@@ -28,8 +28,8 @@ loop-len-preserved g c =
       room = omega (arith, next.bound.0, c.loop-len-test.true);
       told = λ t. read_more_told _ _ c.args.file c.args.at c.loop-len.len (c.args.n - c.loop-len.len) c.in_ok-more.more _ _ (was.contents t) (was.told t)
           (next.value t);
-      contents = λ t. next.contents t ∙ was.contents t;
+      contents = λ t. next.looks.contents t ∙ was.contents t;
       uses = moves_more model ReadAt c.loop-len.len 0 (c.loop-len.len + c.in_ok-more.more) c.args.host.now c.loop-len.host c.read_more.new.host
           (omega (arith, c.if-more-eq0.false)) was.uses next.used;
-      faults = next.cause ∙ was.faults;
+      faults = next.looks.cause ∙ was.faults;
     }

@@ -1,4 +1,4 @@
-use Rattle.std.proofs.Common.{◌≡◌, refl}
+use Rattle.std.proofs.Common.{refl}
 use Rattle.xc_data.specs.declared.call.Call.TheVariants.{XRead}
 use Rattle.xc_file.proofs.FileCalls.{refused_call, passed_call, none_grow, at_handle, always_err}
 use Rattle.xc_file.proofs.reading.x_read.Goals as goal
@@ -13,6 +13,6 @@ returns-clause-call g c =
     λ number undo. at_handle g.H.Host.model (λ h. XRead h c.args.n) _ _
     (record { host = c.args.host.now; number = number; me = c.args.me.now; undo = undo }) _ _
     c.in-Ok.ensures.open.0 c.in-Ok.ensures.checks
-    (λ free. passed_call g.H.Host.model _ _ _ c.read_next.result free next.reply next.uses (next.after number) (next.acts number)
-    (none_grow g.H.Host.model _ _ _ c.read_next.result refl (λ r w. refl)) next.err (always_err (undo ≡ undo) c.read_next.result refl)
-    (λ t. always_err _ c.read_next.result (next.contents t)) next.cause)
+    (λ free. passed_call g.H.Host.model _ _ _ c.read_next.result free (next.passes number undo)
+    (none_grow g.H.Host.model _ _ _ c.read_next.result refl (λ r w. refl))
+    (always_err _ c.read_next.result (record { undo = refl; contents = next.contents })))

@@ -15,13 +15,19 @@ returns-clause-call g c =
     let to = c.args.to.now in
     let was = model.contents c.args.host.now in
     let is = model.contents c.rename.new.host in
-    let next = c.rename.ensures in
+    let did = c.rename.ensures.rename in
     let result = c.rename.result in
     λ number me. passed_call model (XRename from to) (record { host = c.args.host.now; number = number; me = me; undo = c.args.undo.now })
     (record { host = c.rename.new.host; number = number; me = me; undo = c.rename.new.undo }) result refl
-    (ok_more (IsPassedReply (XRename from to)) (λ r. is_check_reply (XRename from to) r ≡ false) result (λ r p. p.0) next.reply) next.uses
-    (ok_more (IsPassedReply (XRename from to)) (IsMePassed number (XRename from to) me me) result (λ r p. rename_me number me from to r p.1) next.reply)
-    (λ t. ok_more (Renames was is from to) (Acts (XRename from to) (moment was number me) (moment is number me)) result
-    (rename_acts was is number me from to) (next.told t))
-    (told_grow model (XRename from to) (rename_record from to) _ _ result c.requires.none (rename_one from to) (λ r w. refl) next.records)
-    (always_err (me ≡ me) result refl) next.err next.err_contents next.cause
+    (record {
+      reply = ok_more (IsPassedReply (XRename from to)) (λ r. is_check_reply (XRename from to) r ≡ false) result (λ r p. p.0) did.reply;
+      uses = c.rename.ensures.uses;
+      after = ok_more (IsPassedReply (XRename from to)) (IsMePassed number (XRename from to) me me) result (λ r p. rename_me number me from to r p.1)
+          did.reply;
+      acts = λ t. ok_more (Renames was is from to) (Acts (XRename from to) (moment was number me) (moment is number me)) result
+          (rename_acts was is number me from to) (did.told t);
+      err = always_err _ result refl;
+      cause = did.cause;
+    })
+    (told_grow model (XRename from to) (rename_record from to) _ _ result c.requires.none (rename_one from to) (λ r w. refl) did.records)
+    did.err

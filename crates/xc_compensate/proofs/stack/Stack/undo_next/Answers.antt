@@ -21,5 +21,5 @@ returns-clause-tried g c =
     let way : (from : ℕ) → blocker from u (reverse newer) ≡ blocker from u (reverse ended) =
     λ from. c.hindering-newer.ensures.way from u ∙ ap (λ rs. blocker from u (reverse rs)) c.as_slice.ensures in
     λ some. tried_now g.H.Host.model c.args.tries c.args.self.now _ c.pop.new.self.items ended _ _ _ u c.try_one-end.result _ c.len.result newer c.self.view_is
-    c.in-Some.ensures.items c.enter.ensures.items (c.len.ensures ∙ c.pop.new.self.ok.0) way c.try_one-end.ensures.legal c.try_one-end.ensures.faults
-    c.try_one-end.ensures.effect c.try_one-end.ensures.uses c.try_one-end.ensures.still c.turn_of.ensures
+    c.in-Some.ensures.items c.enter.ensures.items (c.len.ensures ∙ c.pop.new.self.ok.0) way c.try_one-end.ensures.legal c.try_one-end.ensures.undoes
+    c.try_one-end.ensures.still c.turn_of.ensures

@@ -9,5 +9,4 @@ do_late-end-requires-clause-there g c =
 pub returns : goal.returns
 returns g c =
     ends_next g.H.Host.model c.args.host.now c.do_late-end.new.host c.args.self.now c.self.inside.calls.items c.self.inside.ends.items c.enter.new.self.items
-    c.len.result c.get.result.now c.do_late-end.result c.self.view_is c.len.ensures c.get.ensures c.enter.ensures.items c.do_late-end.ensures.cause
-    c.do_late-end.ensures.uses c.do_late-end.ensures.does
+    c.len.result c.get.result.now c.do_late-end.result c.self.view_is c.len.ensures c.get.ensures c.enter.ensures.items c.do_late-end.ensures
