@@ -1,7 +1,13 @@
 -- Lines that are calls: the word that one begins with, and the shape of what stands behind it.
 use Rattle.std.specs.Prelude.{ℕ, List, [], ◌∷◌, codes, Option, Some, None, Result, Err}
 use Rattle.xc_text.specs.declared.calls.CallKind.{CallKind}
-use Rattle.xc_text.specs.declared.calls.CallKind.TheVariants as kind
+use Rattle.xc_text.specs.declared.calls.CallKind.TheVariants.{Word, Name, Handle}
+use Rattle.xc_text.specs.declared.calls.WordCall.{WordCall}
+use Rattle.xc_text.specs.declared.calls.WordCall.TheVariants as word
+use Rattle.xc_text.specs.declared.calls.NameCall.{NameCall}
+use Rattle.xc_text.specs.declared.calls.NameCall.TheVariants as named
+use Rattle.xc_text.specs.declared.calls.HandleCall.{HandleCall}
+use Rattle.xc_text.specs.declared.calls.HandleCall.TheVariants as handled
 use Rattle.xc_text.specs.declared.script.CallForm.TheVariants as form
 use Rattle.xc_text.specs.declared.script.Statement.TheVariants as statement
 use Rattle.xc_text.specs.Pieces.{data_of}
@@ -18,19 +24,19 @@ use Rattle.xc_tokens.specs.Words.{ident, name}
 -- the words of all calls
 abbrev pub call_kinds : List (Entry CallKind)
 call_kinds =
-    (codes "load", kind.Load)
-    ∷ (codes "store", kind.Store)
-    ∷ (codes "x_open", kind.Open)
-    ∷ (codes "x_create", kind.Create)
-    ∷ (codes "x_rename", kind.Rename)
-    ∷ (codes "x_unlink", kind.Unlink)
-    ∷ (codes "x_read", kind.Read)
-    ∷ (codes "x_write_ovr", kind.Overwrite)
-    ∷ (codes "x_write_seq", kind.Append)
-    ∷ (codes "x_seek", kind.Seek)
-    ∷ (codes "x_len", kind.Length)
-    ∷ (codes "x_close", kind.Close)
-    ∷ (codes "x_sync", kind.Sync)
+    (codes "load", Word word.Load)
+    ∷ (codes "store", Word word.Store)
+    ∷ (codes "x_open", Name named.Open)
+    ∷ (codes "x_create", Name named.Create)
+    ∷ (codes "x_rename", Name named.Rename)
+    ∷ (codes "x_unlink", Name named.Unlink)
+    ∷ (codes "x_read", Handle handled.Read)
+    ∷ (codes "x_write_ovr", Handle handled.Overwrite)
+    ∷ (codes "x_write_seq", Handle handled.Append)
+    ∷ (codes "x_seek", Handle handled.Seek)
+    ∷ (codes "x_len", Handle handled.Length)
+    ∷ (codes "x_close", Handle handled.Close)
+    ∷ (codes "x_sync", Handle handled.Sync)
     ∷ []
 
 -- a name or a handle, and nothing or a variable or a slot
@@ -41,22 +47,33 @@ NameAnd = List ℕ × Option (List ℕ)
 abbrev pub HandleTermInto : Type 0
 HandleTermInto = List ℕ × (Term × Option (List ℕ))
 
--- the call of a kind that the tokens behind its word make: `T`, `T E`, `NAME`, `NAME NAME`, `H`, `H T` or `H D`, and
--- behind most of them `-> V` or `slot S` where that is wanted
+-- the call on a word that the tokens behind its word make: `T`, `T -> V` or `T E`
+abbrev pub word_form : WordCall → List Lexeme → Result CallForm Why
+word_form word.Load rest = seen (λ (p : Term × Option (List ℕ)). form.Load p.0 p.1) (led term target rest)
+word_form word.Store rest = seen (λ (p : Term × Expression). form.Store p.0 p.1) (led term expression_of rest)
+
+-- the call on a name: `NAME`, behind it `-> V` or `slot S` where that is wanted, or `NAME NAME`
+abbrev pub name_form : NameCall → List Lexeme → Result CallForm Why
+name_form named.Open rest = seen (λ (p : NameAnd). form.Open p.0 p.1) (led name target rest)
+name_form named.Create rest = seen (λ (p : NameAnd). form.Create p.0 p.1) (led name target rest)
+name_form named.Rename rest = seen (λ (p : List ℕ × List ℕ). form.Rename p.0 p.1) (led name (alone name) rest)
+name_form named.Unlink rest = seen (λ (p : NameAnd). form.Unlink p.0 p.1) (led name slot_ending rest)
+
+-- the call through a handle: `H`, `H T` or `H D`, and behind some of them `-> V` or `slot S` where that is wanted
+abbrev pub handle_form : HandleCall → List Lexeme → Result CallForm Why
+handle_form handled.Read rest = seen (λ (p : HandleTermInto). form.Read p.0 p.1.0 p.1.1) (led ident (led term target) rest)
+handle_form handled.Overwrite rest = seen (λ (p : List ℕ × List Item). form.Overwrite p.0 p.1) (led ident data_of rest)
+handle_form handled.Append rest = seen (λ (p : List ℕ × List Item). form.Append p.0 p.1) (led ident data_of rest)
+handle_form handled.Seek rest = seen (λ (p : List ℕ × Term). form.Seek p.0 p.1) (led ident (alone term) rest)
+handle_form handled.Length rest = seen (λ (p : NameAnd). form.Length p.0 p.1) (led ident target rest)
+handle_form handled.Close rest = seen (λ (h : List ℕ). form.Close h) (alone ident rest)
+handle_form handled.Sync rest = seen (λ (p : NameAnd). form.Sync p.0 p.1) (led ident slot_ending rest)
+
+-- the call of a kind that the tokens behind its word make
 abbrev pub form_of : CallKind → List Lexeme → Result CallForm Why
-form_of kind.Load rest = seen (λ (p : Term × Option (List ℕ)). form.Load p.0 p.1) (led term target rest)
-form_of kind.Store rest = seen (λ (p : Term × Expression). form.Store p.0 p.1) (led term expression_of rest)
-form_of kind.Open rest = seen (λ (p : NameAnd). form.Open p.0 p.1) (led name target rest)
-form_of kind.Create rest = seen (λ (p : NameAnd). form.Create p.0 p.1) (led name target rest)
-form_of kind.Rename rest = seen (λ (p : List ℕ × List ℕ). form.Rename p.0 p.1) (led name (alone name) rest)
-form_of kind.Unlink rest = seen (λ (p : NameAnd). form.Unlink p.0 p.1) (led name slot_ending rest)
-form_of kind.Read rest = seen (λ (p : HandleTermInto). form.Read p.0 p.1.0 p.1.1) (led ident (led term target) rest)
-form_of kind.Overwrite rest = seen (λ (p : List ℕ × List Item). form.Overwrite p.0 p.1) (led ident data_of rest)
-form_of kind.Append rest = seen (λ (p : List ℕ × List Item). form.Append p.0 p.1) (led ident data_of rest)
-form_of kind.Seek rest = seen (λ (p : List ℕ × Term). form.Seek p.0 p.1) (led ident (alone term) rest)
-form_of kind.Length rest = seen (λ (p : NameAnd). form.Length p.0 p.1) (led ident target rest)
-form_of kind.Close rest = seen (λ (h : List ℕ). form.Close h) (alone ident rest)
-form_of kind.Sync rest = seen (λ (p : NameAnd). form.Sync p.0 p.1) (led ident slot_ending rest)
+form_of (Word call) rest = word_form call rest
+form_of (Name call) rest = name_form call rest
+form_of (Handle call) rest = handle_form call rest
 
 -- a call, where its word is one
 abbrev pub call_line : Option CallKind → List Lexeme → Result Statement Why

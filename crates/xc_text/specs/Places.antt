@@ -81,6 +81,10 @@ placed_data names (i ∷ items) = two (λ i is. i ∷ is) (placed_item names i) 
 abbrev pub placed_term_into : Names → named.Term → Option (List ℕ) → Placed (Term × Option ℕ)
 placed_term_into names term into = two (λ t v. (t, v)) (placed_term names term) (λ behind. placed_target behind into)
 
+-- a handle, and what is written through it
+abbrev pub placed_written : Names → List ℕ → List named.Item → Placed (ℕ × List Item)
+placed_written names handle items = two (λ h is. (h, is)) (variable names handle) (λ behind. placed_data behind items)
+
 -- a line that is a call
 abbrev pub placed_form : Names → named.CallForm → Placed CallForm
 placed_form names (form.Load at into) = one (λ p. form.Load p.0 p.1) (placed_term_into names at into)
@@ -90,8 +94,8 @@ placed_form names (form.Create file into) = one (form.Create file) (placed_targe
 placed_form names (form.Rename from to) = (names, form.Rename from to)
 placed_form names (form.Read handle n into) =
     two (λ h p. form.Read h p.0 p.1) (variable names handle) (λ behind. placed_term_into behind n into)
-placed_form names (form.Overwrite handle items) = two form.Overwrite (variable names handle) (λ behind. placed_data behind items)
-placed_form names (form.Append handle items) = two form.Append (variable names handle) (λ behind. placed_data behind items)
+placed_form names (form.Overwrite handle items) = one (λ p. form.Overwrite p.0 p.1) (placed_written names handle items)
+placed_form names (form.Append handle items) = one (λ p. form.Append p.0 p.1) (placed_written names handle items)
 placed_form names (form.Seek handle to) = two form.Seek (variable names handle) (λ behind. placed_term behind to)
 placed_form names (form.Length handle into) = two form.Length (variable names handle) (λ behind. placed_target behind into)
 placed_form names (form.Close handle) = one form.Close (variable names handle)

@@ -1,7 +1,8 @@
 //! Lines that are calls.
 
 ghost use Rattle.std.specs.Prelude.{◌≡◌, map};
-ghost use Rattle.xc_text.specs.Calls.{call_kinds, call_line as call_said};
+ghost use Rattle.xc_text.specs.Calls.{call_kinds, word_form, name_form, handle_form, form_of, call_line as call_said};
+ghost use Rattle.xc_text.specs.declared.calls.NameCall.TheVariants.{Rename};
 ghost use Rattle.xc_tokens.specs.Answers.{Gives};
 ghost use Rattle.xc_tokens.specs.ByWord.{by_word as found_by};
 ghost use Rattle.xc_tokens.specs.Views.{lexeme};
@@ -12,18 +13,28 @@ use crate::shapes::{
     name_and_slot, name_into, term_and_expression, term_into, two_names,
 };
 use std::alloc::Global;
-use xc_data::{Boxed, Ident};
-use xc_tokens::{Stop, Token, Why, by_word};
+use xc_data::Boxed;
+use xc_tokens::{IdentWord, Stop, Token, Why, by_word};
 
-/// The kinds of calls, which the first word of a line tells.
-#[derive(Clone, Copy, Debug, PartialEq, Eq)]
-pub enum CallKind {
+/// The calls on words.
+#[derive(Clone, Copy)]
+pub enum WordCall {
     Load,
     Store,
+}
+
+/// The calls on names of files.
+#[derive(Clone, Copy)]
+pub enum NameCall {
     Open,
     Create,
     Rename,
     Unlink,
+}
+
+/// The calls through a handle.
+#[derive(Clone, Copy)]
+pub enum HandleCall {
     Read,
     Overwrite,
     Append,
@@ -33,21 +44,29 @@ pub enum CallKind {
     Sync,
 }
 
+/// The kinds of calls, which the first word of a line tells: what comes behind it first is a term, a name or a handle.
+#[derive(Clone, Copy)]
+pub enum CallKind {
+    Word(WordCall),
+    Name(NameCall),
+    Handle(HandleCall),
+}
+
 /// The words that lines begin with which are calls.
 const CALL_KINDS: [(&[u8], CallKind); 13] = [
-    (b"load", CallKind::Load),
-    (b"store", CallKind::Store),
-    (b"x_open", CallKind::Open),
-    (b"x_create", CallKind::Create),
-    (b"x_rename", CallKind::Rename),
-    (b"x_unlink", CallKind::Unlink),
-    (b"x_read", CallKind::Read),
-    (b"x_write_ovr", CallKind::Overwrite),
-    (b"x_write_seq", CallKind::Append),
-    (b"x_seek", CallKind::Seek),
-    (b"x_len", CallKind::Length),
-    (b"x_close", CallKind::Close),
-    (b"x_sync", CallKind::Sync),
+    (b"load", CallKind::Word(WordCall::Load)),
+    (b"store", CallKind::Word(WordCall::Store)),
+    (b"x_open", CallKind::Name(NameCall::Open)),
+    (b"x_create", CallKind::Name(NameCall::Create)),
+    (b"x_rename", CallKind::Name(NameCall::Rename)),
+    (b"x_unlink", CallKind::Name(NameCall::Unlink)),
+    (b"x_read", CallKind::Handle(HandleCall::Read)),
+    (b"x_write_ovr", CallKind::Handle(HandleCall::Overwrite)),
+    (b"x_write_seq", CallKind::Handle(HandleCall::Append)),
+    (b"x_seek", CallKind::Handle(HandleCall::Seek)),
+    (b"x_len", CallKind::Handle(HandleCall::Length)),
+    (b"x_close", CallKind::Handle(HandleCall::Close)),
+    (b"x_sync", CallKind::Handle(HandleCall::Sync)),
 ];
 
 fn call_kind(word: &[u8]) -> Option<CallKind>
@@ -56,88 +75,122 @@ fn call_kind(word: &[u8]) -> Option<CallKind>
     by_word(&CALL_KINDS, word)
 }
 
-// The call of a kind that the tokens behind its word make.
-fn read_form(
-    alloc: Global,
-    kind: CallKind,
-    rest: &[Token],
-    out: &mut Statement<Ident>,
-) -> Result<(), Stop>
-    ensures { Gives (λ _. out.new) result (call_said (Some kind) (map lexeme rest.now)) }
+fn word_call<'a>(call: WordCall, rest: &[Token<'a>]) -> Result<CallForm<IdentWord<'a>>, Why>
+    ensures { result ≡ word_form call (map lexeme rest.now) }
 {
-    match kind {
-        CallKind::Load => {
+    match call {
+        WordCall::Load => {
             let (at, into) = term_into(rest)?;
-            *out = Statement::Call(CallForm::Load { at, into });
+            Ok(CallForm::Load { at, into })
         }
-        CallKind::Store => {
+        WordCall::Store => {
             let (at, value) = term_and_expression(rest)?;
-            *out = Statement::Call(CallForm::Store { at, value });
-        }
-        CallKind::Open => {
-            let (name, into) = name_into(rest)?;
-            let name = Boxed::new(alloc, name)?;
-            *out = Statement::Call(CallForm::Open { name, into });
-        }
-        CallKind::Create => {
-            let (name, into) = name_into(rest)?;
-            let name = Boxed::new(alloc, name)?;
-            *out = Statement::Call(CallForm::Create { name, into });
-        }
-        CallKind::Rename => {
-            let (from, to) = two_names(rest)?;
-            let from = Boxed::new(alloc, from)?;
-            let to = Boxed::new(alloc, to)?;
-            *out = Statement::Call(CallForm::Rename { from, to });
-        }
-        CallKind::Unlink => {
-            let (name, slot) = name_and_slot(rest)?;
-            let name = Boxed::new(alloc, name)?;
-            *out = Statement::Call(CallForm::Unlink { name, slot });
-        }
-        CallKind::Read => {
-            let (handle, (n, into)) = handle_term_into(rest)?;
-            *out = Statement::Call(CallForm::Read { handle, n, into });
-        }
-        CallKind::Overwrite => {
-            let (handle, data) = handle_and_data(alloc, rest)?;
-            *out = Statement::Call(CallForm::Overwrite { handle, data });
-        }
-        CallKind::Append => {
-            let (handle, data) = handle_and_data(alloc, rest)?;
-            *out = Statement::Call(CallForm::Append { handle, data });
-        }
-        CallKind::Seek => {
-            let (handle, to) = handle_and_term(rest)?;
-            *out = Statement::Call(CallForm::Seek { handle, to });
-        }
-        CallKind::Length => {
-            let (handle, into) = handle_into(rest)?;
-            *out = Statement::Call(CallForm::Length { handle, into });
-        }
-        CallKind::Close => {
-            let handle = handle_alone(rest)?;
-            *out = Statement::Call(CallForm::Close { handle });
-        }
-        CallKind::Sync => {
-            let (handle, slot) = handle_and_slot(rest)?;
-            *out = Statement::Call(CallForm::Sync { handle, slot });
+            Ok(CallForm::Store { at, value })
         }
     }
-    Ok(())
+}
+
+fn two_boxed_names<'a>(alloc: Global, rest: &[Token]) -> Result<CallForm<IdentWord<'a>>, Stop>
+    ensures { Gives (λ form. form) result (name_form Rename (map lexeme rest.now)) }
+{
+    let (from, to) = two_names(rest)?;
+    let from = Boxed::new(alloc, from)?;
+    let to = Boxed::new(alloc, to)?;
+    Ok(CallForm::Rename { from, to })
+}
+
+fn name_call<'a>(
+    alloc: Global,
+    call: NameCall,
+    rest: &[Token<'a>],
+) -> Result<CallForm<IdentWord<'a>>, Stop>
+    ensures { Gives (λ form. form) result (name_form call (map lexeme rest.now)) }
+{
+    match call {
+        NameCall::Open => {
+            let (name, into) = name_into(rest)?;
+            let name = Boxed::new(alloc, name)?;
+            Ok(CallForm::Open { name, into })
+        }
+        NameCall::Create => {
+            let (name, into) = name_into(rest)?;
+            let name = Boxed::new(alloc, name)?;
+            Ok(CallForm::Create { name, into })
+        }
+        NameCall::Rename => two_boxed_names(alloc, rest),
+        NameCall::Unlink => {
+            let (name, slot) = name_and_slot(rest)?;
+            let name = Boxed::new(alloc, name)?;
+            Ok(CallForm::Unlink { name, slot })
+        }
+    }
+}
+
+fn handle_call<'a>(
+    alloc: Global,
+    call: HandleCall,
+    rest: &[Token<'a>],
+) -> Result<CallForm<IdentWord<'a>>, Stop>
+    ensures { Gives (λ form. form) result (handle_form call (map lexeme rest.now)) }
+{
+    match call {
+        HandleCall::Read => {
+            let (handle, (n, into)) = handle_term_into(rest)?;
+            Ok(CallForm::Read { handle, n, into })
+        }
+        HandleCall::Overwrite => {
+            let (handle, data) = handle_and_data(alloc, rest)?;
+            Ok(CallForm::Overwrite { handle, data })
+        }
+        HandleCall::Append => {
+            let (handle, data) = handle_and_data(alloc, rest)?;
+            Ok(CallForm::Append { handle, data })
+        }
+        HandleCall::Seek => {
+            let (handle, to) = handle_and_term(rest)?;
+            Ok(CallForm::Seek { handle, to })
+        }
+        HandleCall::Length => {
+            let (handle, into) = handle_into(rest)?;
+            Ok(CallForm::Length { handle, into })
+        }
+        HandleCall::Close => Ok(CallForm::Close {
+            handle: handle_alone(rest)?,
+        }),
+        HandleCall::Sync => {
+            let (handle, slot) = handle_and_slot(rest)?;
+            Ok(CallForm::Sync { handle, slot })
+        }
+    }
+}
+
+// The call of a kind that the tokens behind its word make.
+fn call_form<'a>(
+    alloc: Global,
+    kind: CallKind,
+    rest: &[Token<'a>],
+) -> Result<CallForm<IdentWord<'a>>, Stop>
+    ensures { Gives (λ form. form) result (form_of kind (map lexeme rest.now)) }
+{
+    match kind {
+        CallKind::Word(call) => Ok(word_call(call, rest)?),
+        CallKind::Name(call) => name_call(alloc, call, rest),
+        CallKind::Handle(call) => handle_call(alloc, call, rest),
+    }
 }
 
 /// Reads the call that a line of a transaction is.
-pub fn read_call(
+pub fn read_call<'a>(
     alloc: Global,
     word: &[u8],
-    rest: &[Token],
-    out: &mut Statement<Ident>,
+    rest: &[Token<'a>],
+    out: &mut Statement<IdentWord<'a>>,
 ) -> Result<(), Stop>
     ensures { Gives (λ _. out.new) result (call_said (found_by call_kinds word.now) (map lexeme rest.now)) }
 {
-    match call_kind(word) {
-        Some(kind) => read_form(alloc, kind, rest, out),
-        None => Err(Stop::Refused(Why::UnknownLine)),
-    }
+    let Some(kind) = call_kind(word) else {
+        return Err(Stop::Refused(Why::UnknownLine));
+    };
+    *out = Statement::Call(call_form(alloc, kind, rest)?);
+    Ok(())
 }

@@ -1,4 +1,4 @@
-ghost use Rattle.std.specs.Prelude.{◌≡◌, ◌≤◌, ◌++◌, ◌∷◌, [], count_by, OnOk, OnErr};
+ghost use Rattle.std.specs.Prelude.{◌≡◌, ◌≤◌, ◌++◌, ◌∷◌, [], count_by, IfOk, OnOk, OnErr};
 ghost use Rattle.xc_text.specs.Steps.{is_call, has_few_calls};
 
 use crate::limits::MOST_CALLS;
@@ -10,7 +10,7 @@ use xc_data::{Items, NoMemory};
 /// The statements of a transaction, and how many of them are calls.
 #[derive(Drop)]
 pub struct Counted {
-    statements: Body,
+    statements: Vec<Statement<Place>>,
     calls: u32,
 }
 
@@ -21,9 +21,9 @@ impl Model for Counted {
 
     ghost Value = { List Statement };
 
-    ghost view = { λ a. a.statements };
+    ghost view = { λ a. a.statements.items };
 
-    ghost invariant = { λ a. a.calls ≡ count_by is_call a.statements };
+    ghost invariant = { λ a. a.calls ≡ count_by is_call a.statements.items };
 }
 
 fn is_call(statement: &Statement<Place>) -> bool
@@ -41,7 +41,7 @@ impl Counted {
         ensures { result ≡ [] }
     {
         Counted {
-            statements: Items::new(alloc),
+            statements: Vec::new(alloc),
             calls: 0,
         }
     }
@@ -69,10 +69,14 @@ impl Counted {
         Ok(())
     }
 
-    /// The room that is left is given back. It takes no memory.
-    pub fn into_body(self) -> Body
-        ensures { result ≡ self }
+    /// The statements in a list of just their size. None is left, but their room.
+    pub fn take_body(&mut self, alloc: Global) -> Result<Body, NoMemory>
+        ensures taken { IfOk result (λ body. body ≡ self.old) }
+        ensures left { OnOk result (self.new ≡ []) }
     {
-        self.statements.trimmed()
+        let mut body = Vec::with_capacity(alloc, self.statements.len())?;
+        body.append(&mut self.statements)?;
+        self.calls = 0;
+        Ok(Items::from_vec(body))
     }
 }

@@ -1,7 +1,7 @@
-ghost use Rattle.std.specs.Prelude.{◌≡◌, ◌≤◌, map, replicate, IfOk, IsSome, None};
+ghost use Rattle.std.specs.Prelude.{◌≡◌, ◌≤◌, map, replicate, IfOk};
 ghost use Rattle.xc_tokens.specs.Answers.{Gives, and_then};
 ghost use Rattle.xc_tokens.specs.Views.{lexeme};
-ghost use Rattle.xc_text.specs.Grammar.{first_line, transaction_line};
+ghost use Rattle.xc_text.specs.Grammar.{prologue_line, between_line, block_line, transaction_line, worded_line, first_line};
 ghost use Rattle.xc_text.specs.Said.{opening};
 ghost use Rattle.xc_text.specs.Scripts.{script_of};
 ghost use Rattle.xc_text.specs.Sections.{block_in, is_outside, transaction_in};
@@ -10,7 +10,7 @@ ghost use Rattle.xc_text.specs.Steps.{started, begun, stated, committed, ended_b
 use crate::block_names::BlockNames;
 use crate::counted::Counted;
 use crate::files::Files;
-use crate::grammar::line_of;
+use crate::grammar::{between_line, prologue_line};
 use crate::limits::{FIRST_WORDS, MOST_BLOCKS, MOST_TRANSACTIONS};
 use crate::line::{Line, Section};
 use crate::names::Names;
@@ -22,7 +22,7 @@ use std::alloc::Global;
 use std::marker::Model;
 use std::mem;
 use xc_data::{FaultList, Ident, Items, NoMemory, Outline, Prologue, WordList};
-use xc_tokens::{Stop, Token, Why, are_line_bytes, read_tokens, spells};
+use xc_tokens::{IdentWord, Stop, Token, Why, are_line_bytes, read_tokens, spells};
 
 mod opening;
 
@@ -154,8 +154,8 @@ impl Draft {
         Ok(())
     }
 
-    fn state(&mut self, alloc: Global, statement: Statement<Ident>) -> Result<(), Stop>
-        ensures { Gives (λ _. self.new) result (stated self.old statement) }
+    fn state(&mut self, alloc: Global, statement: &Statement<IdentWord>) -> Result<(), Stop>
+        ensures { Gives (λ _. self.new) result (stated self.old statement.now) }
     {
         let placed = place_statement(alloc, &mut self.names, statement)?;
         if !self.body.has_room(&placed) || !self.names.are_few() {
@@ -171,8 +171,8 @@ impl Draft {
         let Some(name) = self.section.transaction() else {
             return Err(Stop::Refused(Why::UnknownLine));
         };
-        let body = mem::replace(&mut self.body, Counted::new(alloc));
-        self.transactions.push(body.into_body())?;
+        let body = self.body.take_body(alloc)?;
+        self.transactions.push(body)?;
         self.section = Section::Block(name);
         Ok(())
     }
@@ -190,7 +190,7 @@ impl Draft {
     }
 
     fn add(&mut self, alloc: Global, line: Line) -> Result<(), Stop>
-        ensures { Gives (λ _. self.new) result (after self.old line) }
+        ensures { Gives (λ _. self.new) result (after self.old line.entry) }
     {
         match line {
             Line::Words(n) => self.size(alloc, n),
@@ -200,14 +200,47 @@ impl Draft {
             Line::Grain(n) => self.set_grain(n),
             Line::Job(name) => self.start(name),
             Line::Begin => self.begin(),
-            Line::Statement(statement) => self.state(alloc, statement),
+            Line::Statement(statement) => self.state(alloc, &statement),
             Line::Commit => self.commit(alloc),
             Line::End => self.end(alloc),
         }
     }
 
-    // A line of a transaction that begins with a word.
-    fn read_word(&mut self, alloc: Global, word: &[u8], rest: &[Token]) -> Result<(), Stop>
+    fn read_in_prologue(&mut self, alloc: Global, word: &[u8], rest: &[Token]) -> Result<(), Stop>
+        ensures { Gives (λ _. self.new) result (and_then (prologue_line word.now (map lexeme rest.now)) (λ says. after self.old says)) }
+    {
+        let line = prologue_line(alloc, word, rest)?;
+        self.add(alloc, line)
+    }
+
+    fn read_between(&mut self, alloc: Global, word: &[u8], rest: &[Token]) -> Result<(), Stop>
+        ensures { Gives (λ _. self.new) result (and_then (between_line word.now (map lexeme rest.now)) (λ says. after self.old says)) }
+    {
+        let line = between_line(word, rest)?;
+        self.add(alloc, line)
+    }
+
+    fn read_in_block(&mut self, alloc: Global, word: &[u8], rest: &[Token]) -> Result<(), Stop>
+        ensures { Gives (λ _. self.new) result (and_then (block_line word.now (map lexeme rest.now)) (λ says. after self.old says)) }
+    {
+        if spells(word, b"tx") {
+            bare(rest)?;
+            return self.begin();
+        }
+        if spells(word, b"end") {
+            bare(rest)?;
+            return self.end(alloc);
+        }
+        Err(Stop::Refused(Why::UnknownLine))
+    }
+
+    // Its statement is read into one place, and not handed on from line to line.
+    fn read_in_transaction(
+        &mut self,
+        alloc: Global,
+        word: &[u8],
+        rest: &[Token],
+    ) -> Result<(), Stop>
         ensures { Gives (λ _. self.new) result (and_then (transaction_line word.now (map lexeme rest.now)) (λ says. after self.old says)) }
     {
         if spells(word, b"commit") {
@@ -216,11 +249,23 @@ impl Draft {
         }
         let mut statement = Statement::Abort;
         read_statement(alloc, word, rest, &mut statement)?;
-        self.state(alloc, statement)
+        self.state(alloc, &statement)
+    }
+
+    // A line that begins with a word, by the section that it stands in.
+    fn read_word(&mut self, alloc: Global, word: &[u8], rest: &[Token]) -> Result<(), Stop>
+        ensures { Gives (λ _. self.new) result
+            (and_then (worded_line self.old.section word.now (map lexeme rest.now)) (λ says. after self.old says)) }
+    {
+        match self.section {
+            Section::Prologue => self.read_in_prologue(alloc, word, rest),
+            Section::Between => self.read_between(alloc, word, rest),
+            Section::Block(_) => self.read_in_block(alloc, word, rest),
+            Section::Transaction(_) => self.read_in_transaction(alloc, word, rest),
+        }
     }
 
     fn read_first(&mut self, alloc: Global, first: &Token, rest: &[Token]) -> Result<(), Stop>
-        requires { IsSome (transaction_in self.old.section) }
         ensures { Gives (λ _. self.new) result
             (and_then (first_line self.old.section (lexeme first.now) (map lexeme rest.now)) (λ says. after self.old says)) }
     {
@@ -230,24 +275,12 @@ impl Draft {
         }
     }
 
-    // A line of a transaction: its statement is read into one place, and not handed on from line to line.
-    fn read_inside(&mut self, alloc: Global, tokens: &[Token]) -> Result<(), Stop>
-        requires { IsSome (transaction_in self.old.section) }
+    fn read_line(&mut self, alloc: Global, tokens: &[Token]) -> Result<(), Stop>
         ensures { Gives (λ _. self.new) result (after_tokens self.old (map lexeme tokens.now)) }
     {
         match tokens {
             [] => Ok(()),
             [first, rest @ ..] => self.read_first(alloc, first, rest),
-        }
-    }
-
-    fn read_outside(&mut self, alloc: Global, tokens: &[Token]) -> Result<(), Stop>
-        requires { transaction_in self.old.section ≡ None }
-        ensures { Gives (λ _. self.new) result (after_tokens self.old (map lexeme tokens.now)) }
-    {
-        match line_of(alloc, &self.section, tokens)? {
-            Some(line) => self.add(alloc, line),
-            None => Ok(()),
         }
     }
 
@@ -264,9 +297,6 @@ impl Draft {
             return Err(Stop::Refused(Why::BadByte));
         }
         read_tokens(alloc, tokens, bytes)?;
-        if self.section.transaction().is_some() {
-            return self.read_inside(alloc, tokens.as_slice());
-        }
-        self.read_outside(alloc, tokens.as_slice())
+        self.read_line(alloc, tokens.as_slice())
     }
 }

@@ -1,23 +1,19 @@
-//! Lines, by the section that they stand in.
+//! Lines outside of blocks.
 
-ghost use Rattle.std.specs.Prelude.{◌≡◌, None, map};
+ghost use Rattle.std.specs.Prelude.{◌≡◌, map};
 ghost use Rattle.xc_tokens.specs.Answers.{Gives};
 ghost use Rattle.xc_text.specs.Grammar.{words_line as words_said, word_line as word_said, file_line as file_said, job_line as job_said};
 ghost use Rattle.xc_text.specs.Grammar.{fault_line as fault_said, grain_line as grain_said};
-ghost use Rattle.xc_text.specs.Grammar.{prologue_line as prologue_said, between_line as between_said, block_line as block_said};
-ghost use Rattle.xc_text.specs.Grammar.{worded_line as worded_said};
-ghost use Rattle.xc_text.specs.Sections.{transaction_in};
-ghost use Rattle.xc_text.specs.Grammar.{first_line as first_word_said, line_of as line_said};
+ghost use Rattle.xc_text.specs.Grammar.{prologue_line as prologue_said, between_line as between_said};
 ghost use Rattle.xc_tokens.specs.Literals.{only_literals as literals_alone};
 ghost use Rattle.xc_tokens.specs.Views.{lexeme};
 
 use crate::kinds::kind;
-use crate::line::{Line, Section};
-use crate::shapes::bare;
+use crate::line::Line;
 use std::alloc::Global;
 use xc_tokens::{Stop, Token, Why, are_literals, both, contents, ident, name, number, spells};
 
-fn words_line(tokens: &[Token]) -> Result<Line, Why>
+fn words_line<'a>(tokens: &[Token<'a>]) -> Result<Line<'a>, Why>
     ensures { result ≡ words_said (map lexeme tokens.now) }
 {
     match tokens {
@@ -26,7 +22,7 @@ fn words_line(tokens: &[Token]) -> Result<Line, Why>
     }
 }
 
-fn word_line(tokens: &[Token]) -> Result<Line, Why>
+fn word_line<'a>(tokens: &[Token<'a>]) -> Result<Line<'a>, Why>
     ensures { result ≡ word_said (map lexeme tokens.now) }
 {
     match tokens {
@@ -47,7 +43,7 @@ fn check_literals(tokens: &[Token]) -> Result<(), Why>
     Ok(())
 }
 
-fn file_line(alloc: Global, tokens: &[Token]) -> Result<Line, Stop>
+fn file_line<'a>(alloc: Global, tokens: &[Token<'a>]) -> Result<Line<'a>, Stop>
     ensures { Gives (λ line. line) result (file_said (map lexeme tokens.now)) }
 {
     match tokens {
@@ -60,7 +56,7 @@ fn file_line(alloc: Global, tokens: &[Token]) -> Result<Line, Stop>
     }
 }
 
-fn job_line(tokens: &[Token]) -> Result<Line, Why>
+fn job_line<'a>(tokens: &[Token<'a>]) -> Result<Line<'a>, Why>
     ensures { result ≡ job_said (map lexeme tokens.now) }
 {
     match tokens {
@@ -69,7 +65,7 @@ fn job_line(tokens: &[Token]) -> Result<Line, Why>
     }
 }
 
-fn fault_line(tokens: &[Token]) -> Result<Line, Why>
+fn fault_line<'a>(tokens: &[Token<'a>]) -> Result<Line<'a>, Why>
     ensures { result ≡ fault_said (map lexeme tokens.now) }
 {
     match tokens {
@@ -81,7 +77,7 @@ fn fault_line(tokens: &[Token]) -> Result<Line, Why>
     }
 }
 
-fn grain_line(tokens: &[Token]) -> Result<Line, Why>
+fn grain_line<'a>(tokens: &[Token<'a>]) -> Result<Line<'a>, Why>
     ensures { result ≡ grain_said (map lexeme tokens.now) }
 {
     match tokens {
@@ -90,7 +86,8 @@ fn grain_line(tokens: &[Token]) -> Result<Line, Why>
     }
 }
 
-fn prologue_line(alloc: Global, word: &[u8], rest: &[Token]) -> Result<Line, Stop>
+/// A line before the first block.
+pub fn prologue_line<'a>(alloc: Global, word: &[u8], rest: &[Token<'a>]) -> Result<Line<'a>, Stop>
     ensures { Gives (λ line. line) result (prologue_said word.now (map lexeme rest.now)) }
 {
     if spells(word, b"words") {
@@ -114,58 +111,12 @@ fn prologue_line(alloc: Global, word: &[u8], rest: &[Token]) -> Result<Line, Sto
     Err(Stop::Refused(Why::UnknownLine))
 }
 
-fn between_line(word: &[u8], rest: &[Token]) -> Result<Line, Why>
+/// A line behind a block.
+pub fn between_line<'a>(word: &[u8], rest: &[Token<'a>]) -> Result<Line<'a>, Why>
     ensures { result ≡ between_said word.now (map lexeme rest.now) }
 {
     if spells(word, b"job") {
         return job_line(rest);
     }
     Err(Why::UnknownLine)
-}
-
-fn block_line(word: &[u8], rest: &[Token]) -> Result<Line, Why>
-    ensures { result ≡ block_said word.now (map lexeme rest.now) }
-{
-    if spells(word, b"tx") {
-        bare(rest)?;
-        return Ok(Line::Begin);
-    }
-    if spells(word, b"end") {
-        bare(rest)?;
-        return Ok(Line::End);
-    }
-    Err(Why::UnknownLine)
-}
-
-fn worded_line(alloc: Global, section: &Section, word: &[u8], rest: &[Token]) -> Result<Line, Stop>
-    requires { transaction_in section.now ≡ None }
-    ensures { Gives (λ line. line) result (worded_said section.now word.now (map lexeme rest.now)) }
-{
-    match section {
-        Section::Prologue => prologue_line(alloc, word, rest),
-        Section::Between => Ok(between_line(word, rest)?),
-        Section::Block(_) => Ok(block_line(word, rest)?),
-        Section::Transaction(_) => unreachable!(),
-    }
-}
-
-fn first_said(alloc: Global, section: &Section, first: &Token, rest: &[Token]) -> Result<Line, Stop>
-    requires { transaction_in section.now ≡ None }
-    ensures { Gives (λ line. line) result (first_word_said section.now (lexeme first.now) (map lexeme rest.now)) }
-{
-    match first {
-        Token::Word(word) => worded_line(alloc, section, word, rest),
-        Token::Literal { .. } => Err(Stop::Refused(Why::UnknownLine)),
-    }
-}
-
-/// What the tokens of a line outside of transactions say, by the section that it stands in. A line without tokens says nothing.
-pub fn line_of(alloc: Global, section: &Section, tokens: &[Token]) -> Result<Option<Line>, Stop>
-    requires { transaction_in section.now ≡ None }
-    ensures { Gives (λ line. line) result (line_said section.now (map lexeme tokens.now)) }
-{
-    match tokens {
-        [] => Ok(None),
-        [first, rest @ ..] => Ok(Some(first_said(alloc, section, first, rest)?)),
-    }
 }

@@ -3,9 +3,10 @@ ghost use Rattle.xc_text.specs.Sections.{block_in, is_outside, transaction_in};
 
 use crate::script::Statement;
 use xc_data::{Chunk, Ident, Kind, Name};
+use xc_tokens::IdentWord;
 
 /// Where in a script a line stands.
-#[derive(Clone, Copy, Debug, PartialEq)]
+#[derive(Clone, Copy)]
 pub enum Section {
     /// Before the first block.
     Prologue,
@@ -47,8 +48,8 @@ impl Section {
 }
 
 /// What a line says. A line of a transaction is read by the draft itself, and stands here for the grammar.
-#[derive(Debug, Drop)]
-pub enum Line {
+#[derive(Drop)]
+pub enum Line<'a> {
     /// The number of words.
     Words(u64),
     /// A word opens with a value.
@@ -63,7 +64,7 @@ pub enum Line {
     Job(Ident),
     /// A transaction begins.
     Begin,
-    Statement(Statement<Ident>),
+    Statement(Statement<IdentWord<'a>>),
     /// The transaction ends.
     Commit,
     /// The block ends.

@@ -8,6 +8,7 @@ use crate::script::Place;
 use std::alloc::Global;
 use std::marker::Model;
 use xc_data::{Ident, IdentList, Items, NoMemory};
+use xc_tokens::IdentWord;
 
 /// The names of a script's variables and of its slots, each once.
 #[derive(Drop)]
@@ -43,22 +44,22 @@ impl Names {
 }
 
 // The place of a name, where it has one.
-fn place_of(names: &[Ident], name: Ident) -> Option<usize>
-    ensures { result ≡ place_of names.now name }
+fn place_of(names: &[Ident], name: &IdentWord) -> Option<usize>
+    ensures { result ≡ place_of names.now name.now }
 {
-    names.iter().position(|other| *other == name)
+    names.iter().position(|other| name.spells(other))
 }
 
 // The place of a name, which takes the next one where it has none.
-fn take(names: &mut IdentList, name: Ident) -> Result<usize, NoMemory>
-    ensures names { OnOk result (names.new ≡ (taken names.old name).0) }
-    ensures at { IfOk result (λ at. at ≡ (taken names.old name).1) }
+fn take(names: &mut IdentList, name: &IdentWord) -> Result<usize, NoMemory>
+    ensures names { OnOk result (names.new ≡ (taken names.old name.now).0) }
+    ensures at { IfOk result (λ at. at ≡ (taken names.old name.now).1) }
 {
     match place_of(names.as_slice(), name) {
         Some(at) => Ok(at),
         None => {
             let at = names.len();
-            names.push(name)?;
+            names.push(name.ident())?;
             Ok(at)
         }
     }
@@ -76,17 +77,17 @@ fn narrow(at: usize) -> Result<Place, NoMemory>
 
 impl Names {
     /// The place of a variable.
-    pub fn variable(&mut self, name: Ident) -> Result<Place, NoMemory>
-        ensures names { OnOk result (self.new ≡ (variable self.old name).0) }
-        ensures at { IfOk result (λ at. at ≡ (variable self.old name).1) }
+    pub fn variable(&mut self, name: &IdentWord) -> Result<Place, NoMemory>
+        ensures names { OnOk result (self.new ≡ (variable self.old name.now).0) }
+        ensures at { IfOk result (λ at. at ≡ (variable self.old name.now).1) }
     {
         narrow(take(&mut self.variables, name)?)
     }
 
     /// The place of a slot.
-    pub fn slot(&mut self, name: Ident) -> Result<Place, NoMemory>
-        ensures names { OnOk result (self.new ≡ (slot self.old name).0) }
-        ensures at { IfOk result (λ at. at ≡ (slot self.old name).1) }
+    pub fn slot(&mut self, name: &IdentWord) -> Result<Place, NoMemory>
+        ensures names { OnOk result (self.new ≡ (slot self.old name.now).0) }
+        ensures at { IfOk result (λ at. at ≡ (slot self.old name.now).1) }
     {
         narrow(take(&mut self.slots, name)?)
     }

@@ -7,10 +7,10 @@ use crate::limits::MOST_ITEMS;
 use crate::script::{Data, Item};
 use crate::term::term_word;
 use std::alloc::Global;
-use xc_data::{Ident, Items, MOST_CALL_BYTES};
-use xc_tokens::{Stop, Token, Why, beside, ident_word, is_within, repeated};
+use xc_data::{Items, MOST_CALL_BYTES};
+use xc_tokens::{IdentWord, Stop, Token, Why, beside, ident_word, is_within, repeated};
 
-fn word_item(word: &[u8]) -> Result<Item<Ident>, Why>
+fn word_item<'a>(word: &'a [u8]) -> Result<Item<IdentWord<'a>>, Why>
     ensures { result ≡ word_item_said word.now }
 {
     match word {
@@ -30,7 +30,7 @@ fn check_item(token: &Token) -> Result<(), Why>
     Ok(())
 }
 
-fn item(alloc: Global, token: &Token) -> Result<Item<Ident>, Stop>
+fn item<'a>(alloc: Global, token: &Token<'a>) -> Result<Item<IdentWord<'a>>, Stop>
     ensures { Gives (λ item. item) result (item_of (lexeme token.now)) }
 {
     match token {
@@ -50,7 +50,7 @@ fn check_items(tokens: &[Token]) -> Result<(), Why>
     }
 }
 
-fn items(alloc: Global, tokens: &[Token]) -> Result<Data<Ident>, Stop>
+fn items<'a>(alloc: Global, tokens: &[Token<'a>]) -> Result<Data<IdentWord<'a>>, Stop>
     requires good { IsOk (items_of (map lexeme tokens.now)) }
     ensures { Gives (λ items. items) result (items_of (map lexeme tokens.now)) }
 {
@@ -76,7 +76,7 @@ pub fn check_data(tokens: &[Token]) -> Result<(), Why>
 }
 
 /// The data of a line that writes.
-pub fn data(alloc: Global, tokens: &[Token]) -> Result<Data<Ident>, Stop>
+pub fn data<'a>(alloc: Global, tokens: &[Token<'a>]) -> Result<Data<IdentWord<'a>>, Stop>
     requires good { IsOk (data_of (map lexeme tokens.now)) }
     ensures { Gives (λ items. items) result (data_of (map lexeme tokens.now)) }
 {

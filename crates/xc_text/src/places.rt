@@ -1,20 +1,22 @@
 //! Statements with the places of their names.
 
 ghost use Rattle.std.specs.Prelude.{◌≡◌, IfOk, OnOk};
+ghost use Rattle.xc_text.specs.declared.script.CallForm.TheVariants as call;
 ghost use Rattle.xc_text.specs.Places.{placed_term, placed_expression, placed_target, placed_ending, placed_item, placed_data};
-ghost use Rattle.xc_text.specs.Places.{placed_term_into, placed_form, placed_test, placed as placed_statement};
+ghost use Rattle.xc_text.specs.Places.{placed_term_into, placed_written, placed_form, placed_test, placed as placed_statement};
 
 use crate::names::Names;
 use crate::script::{CallForm, Data, Expression, Item, Place, Statement, Term, Test};
 use std::alloc::Global;
-use xc_data::{Ident, Items, NoMemory};
+use xc_data::{Items, NoMemory};
+use xc_tokens::IdentWord;
 
-fn place_term(names: &mut Names, term: Term<Ident>) -> Result<Term<Place>, NoMemory>
-    ensures names { OnOk result (names.new ≡ (placed_term names.old term).0) }
-    ensures placed { IfOk result (λ placed. placed ≡ (placed_term names.old term).1) }
+fn place_term(names: &mut Names, term: &Term<IdentWord>) -> Result<Term<Place>, NoMemory>
+    ensures names { OnOk result (names.new ≡ (placed_term names.old term.now).0) }
+    ensures placed { IfOk result (λ placed. placed ≡ (placed_term names.old term.now).1) }
 {
     match term {
-        Term::Number(n) => Ok(Term::Number(n)),
+        Term::Number(n) => Ok(Term::Number(*n)),
         Term::Variable(name) => Ok(Term::Variable(names.variable(name)?)),
         Term::Slot(name) => Ok(Term::Slot(names.slot(name)?)),
     }
@@ -22,10 +24,10 @@ fn place_term(names: &mut Names, term: Term<Ident>) -> Result<Term<Place>, NoMem
 
 fn place_expression(
     names: &mut Names,
-    value: Expression<Ident>,
+    value: &Expression<IdentWord>,
 ) -> Result<Expression<Place>, NoMemory>
-    ensures names { OnOk result (names.new ≡ (placed_expression names.old value).0) }
-    ensures placed { IfOk result (λ placed. placed ≡ (placed_expression names.old value).1) }
+    ensures names { OnOk result (names.new ≡ (placed_expression names.old value.now).0) }
+    ensures placed { IfOk result (λ placed. placed ≡ (placed_expression names.old value.now).1) }
 {
     match value {
         Expression::Term(a) => Ok(Expression::Term(place_term(names, a)?)),
@@ -40,9 +42,9 @@ fn place_expression(
     }
 }
 
-fn place_target(names: &mut Names, into: Option<Ident>) -> Result<Option<Place>, NoMemory>
-    ensures names { OnOk result (names.new ≡ (placed_target names.old into).0) }
-    ensures placed { IfOk result (λ placed. placed ≡ (placed_target names.old into).1) }
+fn place_target(names: &mut Names, into: &Option<IdentWord>) -> Result<Option<Place>, NoMemory>
+    ensures names { OnOk result (names.new ≡ (placed_target names.old into.now).0) }
+    ensures placed { IfOk result (λ placed. placed ≡ (placed_target names.old into.now).1) }
 {
     match into {
         Some(name) => Ok(Some(names.variable(name)?)),
@@ -50,9 +52,9 @@ fn place_target(names: &mut Names, into: Option<Ident>) -> Result<Option<Place>,
     }
 }
 
-fn place_ending(names: &mut Names, slot: Option<Ident>) -> Result<Option<Place>, NoMemory>
-    ensures names { OnOk result (names.new ≡ (placed_ending names.old slot).0) }
-    ensures placed { IfOk result (λ placed. placed ≡ (placed_ending names.old slot).1) }
+fn place_ending(names: &mut Names, slot: &Option<IdentWord>) -> Result<Option<Place>, NoMemory>
+    ensures names { OnOk result (names.new ≡ (placed_ending names.old slot.now).0) }
+    ensures placed { IfOk result (λ placed. placed ≡ (placed_ending names.old slot.now).1) }
 {
     match slot {
         Some(name) => Ok(Some(names.slot(name)?)),
@@ -61,21 +63,21 @@ fn place_ending(names: &mut Names, slot: Option<Ident>) -> Result<Option<Place>,
 }
 
 // The bytes of a literal are shared.
-fn place_item(names: &mut Names, item: &Item<Ident>) -> Result<Item<Place>, NoMemory>
+fn place_item(names: &mut Names, item: &Item<IdentWord>) -> Result<Item<Place>, NoMemory>
     ensures names { OnOk result (names.new ≡ (placed_item names.old item.now).0) }
     ensures placed { IfOk result (λ placed. placed ≡ (placed_item names.old item.now).1) }
 {
     match item {
         Item::Literal(bytes) => Ok(Item::Literal(bytes.share()?)),
-        Item::Bytes(name) => Ok(Item::Bytes(names.variable(*name)?)),
-        Item::Digits(term) => Ok(Item::Digits(place_term(names, *term)?)),
+        Item::Bytes(name) => Ok(Item::Bytes(names.variable(name)?)),
+        Item::Digits(term) => Ok(Item::Digits(place_term(names, term)?)),
     }
 }
 
 fn place_data(
     alloc: Global,
     names: &mut Names,
-    items: &[Item<Ident>],
+    items: &[Item<IdentWord>],
 ) -> Result<Data<Place>, NoMemory>
     ensures names { OnOk result (names.new ≡ (placed_data names.old items.now).0) }
     ensures placed { IfOk result (λ placed. placed ≡ (placed_data names.old items.now).1) }
@@ -90,93 +92,159 @@ fn place_data(
 
 fn place_term_into(
     names: &mut Names,
-    term: Term<Ident>,
-    into: Option<Ident>,
+    term: &Term<IdentWord>,
+    into: &Option<IdentWord>,
 ) -> Result<(Term<Place>, Option<Place>), NoMemory>
-    ensures names { OnOk result (names.new ≡ (placed_term_into names.old term into).0) }
-    ensures placed { IfOk result (λ placed. placed ≡ (placed_term_into names.old term into).1) }
+    ensures names { OnOk result (names.new ≡ (placed_term_into names.old term.now into.now).0) }
+    ensures placed { IfOk result (λ placed. placed ≡ (placed_term_into names.old term.now into.now).1) }
 {
     let term = place_term(names, term)?;
     let into = place_target(names, into)?;
     Ok((term, into))
 }
 
+// What is written through a handle.
+fn place_written(
+    alloc: Global,
+    names: &mut Names,
+    handle: &IdentWord,
+    items: &Data<IdentWord>,
+) -> Result<(Place, Data<Place>), NoMemory>
+    ensures names { OnOk result (names.new ≡ (placed_written names.old handle.now items.now).0) }
+    ensures placed { IfOk result (λ placed. placed ≡ (placed_written names.old handle.now items.now).1) }
+{
+    let handle = names.variable(handle)?;
+    let items = place_data(alloc, names, items.as_slice())?;
+    Ok((handle, items))
+}
+
+fn place_store(
+    names: &mut Names,
+    at: &Term<IdentWord>,
+    value: &Expression<IdentWord>,
+) -> Result<CallForm<Place>, NoMemory>
+    ensures names { OnOk result (names.new ≡ (placed_form names.old (call.Store at.now value.now)).0) }
+    ensures placed { IfOk result (λ placed. placed ≡ (placed_form names.old (call.Store at.now value.now)).1) }
+{
+    let at = place_term(names, at)?;
+    let value = place_expression(names, value)?;
+    Ok(CallForm::Store { at, value })
+}
+
+fn place_read(
+    names: &mut Names,
+    handle: &IdentWord,
+    n: &Term<IdentWord>,
+    into: &Option<IdentWord>,
+) -> Result<CallForm<Place>, NoMemory>
+    ensures names { OnOk result (names.new ≡ (placed_form names.old (call.Read handle.now n.now into.now)).0) }
+    ensures placed { IfOk result (λ placed. placed ≡ (placed_form names.old (call.Read handle.now n.now into.now)).1) }
+{
+    let handle = names.variable(handle)?;
+    let (n, into) = place_term_into(names, n, into)?;
+    Ok(CallForm::Read { handle, n, into })
+}
+
+fn place_seek(
+    names: &mut Names,
+    handle: &IdentWord,
+    to: &Term<IdentWord>,
+) -> Result<CallForm<Place>, NoMemory>
+    ensures names { OnOk result (names.new ≡ (placed_form names.old (call.Seek handle.now to.now)).0) }
+    ensures placed { IfOk result (λ placed. placed ≡ (placed_form names.old (call.Seek handle.now to.now)).1) }
+{
+    let handle = names.variable(handle)?;
+    let to = place_term(names, to)?;
+    Ok(CallForm::Seek { handle, to })
+}
+
+fn place_length(
+    names: &mut Names,
+    handle: &IdentWord,
+    into: &Option<IdentWord>,
+) -> Result<CallForm<Place>, NoMemory>
+    ensures names { OnOk result (names.new ≡ (placed_form names.old (call.Length handle.now into.now)).0) }
+    ensures placed { IfOk result (λ placed. placed ≡ (placed_form names.old (call.Length handle.now into.now)).1) }
+{
+    let handle = names.variable(handle)?;
+    let into = place_target(names, into)?;
+    Ok(CallForm::Length { handle, into })
+}
+
+fn place_sync(
+    names: &mut Names,
+    handle: &IdentWord,
+    slot: &Option<IdentWord>,
+) -> Result<CallForm<Place>, NoMemory>
+    ensures names { OnOk result (names.new ≡ (placed_form names.old (call.Sync handle.now slot.now)).0) }
+    ensures placed { IfOk result (λ placed. placed ≡ (placed_form names.old (call.Sync handle.now slot.now)).1) }
+{
+    let handle = names.variable(handle)?;
+    let slot = place_ending(names, slot)?;
+    Ok(CallForm::Sync { handle, slot })
+}
+
 fn place_form(
     alloc: Global,
     names: &mut Names,
-    form: CallForm<Ident>,
+    form: &CallForm<IdentWord>,
 ) -> Result<CallForm<Place>, NoMemory>
-    ensures names { OnOk result (names.new ≡ (placed_form names.old form).0) }
-    ensures placed { IfOk result (λ placed. placed ≡ (placed_form names.old form).1) }
+    ensures names { OnOk result (names.new ≡ (placed_form names.old form.now).0) }
+    ensures placed { IfOk result (λ placed. placed ≡ (placed_form names.old form.now).1) }
 {
     match form {
         CallForm::Load { at, into } => {
             let (at, into) = place_term_into(names, at, into)?;
             Ok(CallForm::Load { at, into })
         }
-        CallForm::Store { at, value } => {
-            let at = place_term(names, at)?;
-            let value = place_expression(names, value)?;
-            Ok(CallForm::Store { at, value })
-        }
+        CallForm::Store { at, value } => place_store(names, at, value),
         CallForm::Open { name, into } => {
             let into = place_target(names, into)?;
+            let name = name.copied(alloc)?;
             Ok(CallForm::Open { name, into })
         }
         CallForm::Create { name, into } => {
             let into = place_target(names, into)?;
+            let name = name.copied(alloc)?;
             Ok(CallForm::Create { name, into })
         }
-        CallForm::Rename { from, to } => Ok(CallForm::Rename { from, to }),
-        CallForm::Read { handle, n, into } => {
-            let handle = names.variable(handle)?;
-            let (n, into) = place_term_into(names, n, into)?;
-            Ok(CallForm::Read { handle, n, into })
+        CallForm::Rename { from, to } => {
+            let from = from.copied(alloc)?;
+            let to = to.copied(alloc)?;
+            Ok(CallForm::Rename { from, to })
         }
+        CallForm::Unlink { name, slot } => {
+            let slot = place_ending(names, slot)?;
+            let name = name.copied(alloc)?;
+            Ok(CallForm::Unlink { name, slot })
+        }
+        CallForm::Read { handle, n, into } => place_read(names, handle, n, into),
         CallForm::Overwrite { handle, data } => {
-            let handle = names.variable(handle)?;
-            let data = place_data(alloc, names, data.as_slice())?;
+            let (handle, data) = place_written(alloc, names, handle, data)?;
             Ok(CallForm::Overwrite { handle, data })
         }
         CallForm::Append { handle, data } => {
-            let handle = names.variable(handle)?;
-            let data = place_data(alloc, names, data.as_slice())?;
+            let (handle, data) = place_written(alloc, names, handle, data)?;
             Ok(CallForm::Append { handle, data })
         }
-        CallForm::Seek { handle, to } => {
-            let handle = names.variable(handle)?;
-            let to = place_term(names, to)?;
-            Ok(CallForm::Seek { handle, to })
-        }
-        CallForm::Length { handle, into } => {
-            let handle = names.variable(handle)?;
-            let into = place_target(names, into)?;
-            Ok(CallForm::Length { handle, into })
-        }
+        CallForm::Seek { handle, to } => place_seek(names, handle, to),
+        CallForm::Length { handle, into } => place_length(names, handle, into),
         CallForm::Close { handle } => {
             let handle = names.variable(handle)?;
             Ok(CallForm::Close { handle })
         }
-        CallForm::Unlink { name, slot } => {
-            let slot = place_ending(names, slot)?;
-            Ok(CallForm::Unlink { name, slot })
-        }
-        CallForm::Sync { handle, slot } => {
-            let handle = names.variable(handle)?;
-            let slot = place_ending(names, slot)?;
-            Ok(CallForm::Sync { handle, slot })
-        }
+        CallForm::Sync { handle, slot } => place_sync(names, handle, slot),
     }
 }
 
 fn place_test(
     names: &mut Names,
-    left: Term<Ident>,
+    left: &Term<IdentWord>,
     test: Test,
-    right: Term<Ident>,
+    right: &Term<IdentWord>,
 ) -> Result<Statement<Place>, NoMemory>
-    ensures names { OnOk result (names.new ≡ (placed_test names.old left test right).0) }
-    ensures placed { IfOk result (λ placed. placed ≡ (placed_test names.old left test right).1) }
+    ensures names { OnOk result (names.new ≡ (placed_test names.old left.now test right.now).0) }
+    ensures placed { IfOk result (λ placed. placed ≡ (placed_test names.old left.now test right.now).1) }
 {
     let left = place_term(names, left)?;
     let right = place_term(names, right)?;
@@ -187,10 +255,10 @@ fn place_test(
 pub fn place_statement(
     alloc: Global,
     names: &mut Names,
-    statement: Statement<Ident>,
+    statement: &Statement<IdentWord>,
 ) -> Result<Statement<Place>, NoMemory>
-    ensures names { OnOk result (names.new ≡ (placed_statement names.old statement).0) }
-    ensures placed { IfOk result (λ placed. placed ≡ (placed_statement names.old statement).1) }
+    ensures names { OnOk result (names.new ≡ (placed_statement names.old statement.now).0) }
+    ensures placed { IfOk result (λ placed. placed ≡ (placed_statement names.old statement.now).1) }
 {
     match statement {
         Statement::Call(form) => Ok(Statement::Call(place_form(alloc, names, form)?)),
@@ -200,7 +268,7 @@ pub fn place_statement(
             Ok(Statement::Let { into, value })
         }
         Statement::Abort => Ok(Statement::Abort),
-        Statement::AbortIf { left, test, right } => place_test(names, left, test, right),
+        Statement::AbortIf { left, test, right } => place_test(names, left, *test, right),
         Statement::Require => Ok(Statement::Require),
     }
 }

@@ -4,7 +4,7 @@ use xc_data::{Boxed, Chunk, Ident, IdentList, Items, Name, Outline};
 
 /// A number, the number in a variable, or one that tells how the last late call with a slot ended. Here and below a
 /// variable and a slot stand as an `N`.
-#[derive(Clone, Copy, Debug, PartialEq)]
+#[derive(Clone, Copy, Drop)]
 pub enum Term<N> {
     Number(u64),
     Variable(N),
@@ -12,7 +12,7 @@ pub enum Term<N> {
 }
 
 /// A term, a sum or a difference of two, taken modulo 2^64.
-#[derive(Clone, Copy, Debug, PartialEq)]
+#[derive(Clone, Copy, Drop)]
 pub enum Expression<N> {
     Term(Term<N>),
     Sum(Term<N>, Term<N>),
@@ -20,7 +20,7 @@ pub enum Expression<N> {
 }
 
 /// How two numbers are compared, the first one with the second.
-#[derive(Clone, Copy, Debug, PartialEq)]
+#[derive(Clone, Copy)]
 pub enum Test {
     Equal,
     NotEqual,
@@ -31,7 +31,7 @@ pub enum Test {
 }
 
 /// A part of the bytes that a call writes.
-#[derive(Debug, Drop)]
+#[derive(Drop)]
 pub enum Item<N> {
     /// A literal with its repeat.
     Literal(Chunk),
@@ -45,7 +45,7 @@ pub enum Item<N> {
 pub type Data<N> = Items<Item<N>>;
 
 /// A line that is a call. A variable takes what it replies where one is named.
-#[derive(Debug, Drop)]
+#[derive(Drop)]
 pub enum CallForm<N> {
     Load {
         at: Term<N>,
@@ -111,7 +111,7 @@ pub enum CallForm<N> {
 }
 
 /// A line of a transaction between its `tx` and its `commit`.
-#[derive(Debug, Drop)]
+#[derive(Drop)]
 pub enum Statement<N> {
     Call(CallForm<N>),
     /// A variable takes a number.
@@ -138,14 +138,14 @@ pub type Place = u16;
 pub type Body = Items<Statement<Place>>;
 
 /// A `job` block and its transactions, in order.
-#[derive(Debug, Drop)]
+#[derive(Drop)]
 pub struct Block {
     pub name: Ident,
     pub transactions: Items<Body>,
 }
 
 /// A whole script.
-#[derive(Debug, Drop)]
+#[derive(Drop)]
 pub struct Script {
     pub outline: Outline,
     /// The blocks in the order of the script.

@@ -12,8 +12,8 @@ use crate::pieces::{check_data, data};
 use crate::script::{Data, Expression, Term};
 use crate::term::{expression, term};
 use std::alloc::Global;
-use xc_data::{Ident, Name};
-use xc_tokens::{Stop, Token, Why, beside, both, ident, is_sign, name};
+use xc_data::Name;
+use xc_tokens::{IdentWord, Stop, Token, Why, beside, both, ident_token, is_sign, name};
 
 /// Nothing.
 pub fn bare(tokens: &[Token]) -> Result<(), Why>
@@ -25,16 +25,16 @@ pub fn bare(tokens: &[Token]) -> Result<(), Why>
     }
 }
 
-fn target_in(arrow: &Token, into: &Token) -> Result<Option<Ident>, Why>
+fn target_in<'a>(arrow: &Token, into: &Token<'a>) -> Result<Option<IdentWord<'a>>, Why>
     ensures { result ≡ target_said (lexeme arrow.now ∷ lexeme into.now ∷ []) }
 {
     if !is_sign(arrow, b"->") {
         return Err(Why::BadForm);
     }
-    Ok(Some(ident(into)?))
+    Ok(Some(ident_token(into)?))
 }
 
-fn target(tokens: &[Token]) -> Result<Option<Ident>, Why>
+fn target<'a>(tokens: &[Token<'a>]) -> Result<Option<IdentWord<'a>>, Why>
     ensures { result ≡ target_said (map lexeme tokens.now) }
 {
     match tokens {
@@ -44,16 +44,16 @@ fn target(tokens: &[Token]) -> Result<Option<Ident>, Why>
     }
 }
 
-fn slot_in(word: &Token, slot: &Token) -> Result<Option<Ident>, Why>
+fn slot_in<'a>(word: &Token, slot: &Token<'a>) -> Result<Option<IdentWord<'a>>, Why>
     ensures { result ≡ slot_ending_said (lexeme word.now ∷ lexeme slot.now ∷ []) }
 {
     if !is_sign(word, b"slot") {
         return Err(Why::BadForm);
     }
-    Ok(Some(ident(slot)?))
+    Ok(Some(ident_token(slot)?))
 }
 
-fn slot_ending(tokens: &[Token]) -> Result<Option<Ident>, Why>
+fn slot_ending<'a>(tokens: &[Token<'a>]) -> Result<Option<IdentWord<'a>>, Why>
     ensures { result ≡ slot_ending_said (map lexeme tokens.now) }
 {
     match tokens {
@@ -72,7 +72,7 @@ fn name_alone(tokens: &[Token]) -> Result<Name, Why>
     }
 }
 
-fn term_alone(tokens: &[Token]) -> Result<Term<Ident>, Why>
+fn term_alone<'a>(tokens: &[Token<'a>]) -> Result<Term<IdentWord<'a>>, Why>
     ensures { result ≡ alone term_said (map lexeme tokens.now) }
 {
     match tokens {
@@ -82,17 +82,19 @@ fn term_alone(tokens: &[Token]) -> Result<Term<Ident>, Why>
 }
 
 /// `H`
-pub fn handle_alone(tokens: &[Token]) -> Result<Ident, Why>
+pub fn handle_alone<'a>(tokens: &[Token<'a>]) -> Result<IdentWord<'a>, Why>
     ensures { result ≡ alone ident_said (map lexeme tokens.now) }
 {
     match tokens {
-        [handle] => ident(handle),
+        [handle] => ident_token(handle),
         _ => Err(Why::BadForm),
     }
 }
 
 /// `T`, `T -> V`
-pub fn term_into(tokens: &[Token]) -> Result<(Term<Ident>, Option<Ident>), Why>
+pub fn term_into<'a>(
+    tokens: &[Token<'a>],
+) -> Result<(Term<IdentWord<'a>>, Option<IdentWord<'a>>), Why>
     ensures { result ≡ led term_said target_said (map lexeme tokens.now) }
 {
     match tokens {
@@ -102,7 +104,9 @@ pub fn term_into(tokens: &[Token]) -> Result<(Term<Ident>, Option<Ident>), Why>
 }
 
 /// `T E`
-pub fn term_and_expression(tokens: &[Token]) -> Result<(Term<Ident>, Expression<Ident>), Why>
+pub fn term_and_expression<'a>(
+    tokens: &[Token<'a>],
+) -> Result<(Term<IdentWord<'a>>, Expression<IdentWord<'a>>), Why>
     ensures { result ≡ led term_said expression_of (map lexeme tokens.now) }
 {
     match tokens {
@@ -112,17 +116,19 @@ pub fn term_and_expression(tokens: &[Token]) -> Result<(Term<Ident>, Expression<
 }
 
 /// `V E`
-pub fn variable_and_expression(tokens: &[Token]) -> Result<(Ident, Expression<Ident>), Why>
+pub fn variable_and_expression<'a>(
+    tokens: &[Token<'a>],
+) -> Result<(IdentWord<'a>, Expression<IdentWord<'a>>), Why>
     ensures { result ≡ led ident_said expression_of (map lexeme tokens.now) }
 {
     match tokens {
         [] => Err(Why::BadForm),
-        [first, behind @ ..] => both(ident(first), expression(behind)),
+        [first, behind @ ..] => both(ident_token(first), expression(behind)),
     }
 }
 
 /// `NAME`, `NAME -> V`
-pub fn name_into(tokens: &[Token]) -> Result<(Name, Option<Ident>), Why>
+pub fn name_into<'a>(tokens: &[Token<'a>]) -> Result<(Name, Option<IdentWord<'a>>), Why>
     ensures { result ≡ led name_said target_said (map lexeme tokens.now) }
 {
     match tokens {
@@ -142,7 +148,7 @@ pub fn two_names(tokens: &[Token]) -> Result<(Name, Name), Why>
 }
 
 /// `NAME`, `NAME slot S`
-pub fn name_and_slot(tokens: &[Token]) -> Result<(Name, Option<Ident>), Why>
+pub fn name_and_slot<'a>(tokens: &[Token<'a>]) -> Result<(Name, Option<IdentWord<'a>>), Why>
     ensures { result ≡ led name_said slot_ending_said (map lexeme tokens.now) }
 {
     match tokens {
@@ -152,53 +158,62 @@ pub fn name_and_slot(tokens: &[Token]) -> Result<(Name, Option<Ident>), Why>
 }
 
 /// `H`, `H -> V`
-pub fn handle_into(tokens: &[Token]) -> Result<(Ident, Option<Ident>), Why>
+pub fn handle_into<'a>(tokens: &[Token<'a>]) -> Result<(IdentWord<'a>, Option<IdentWord<'a>>), Why>
     ensures { result ≡ led ident_said target_said (map lexeme tokens.now) }
 {
     match tokens {
         [] => Err(Why::BadForm),
-        [first, behind @ ..] => both(ident(first), target(behind)),
+        [first, behind @ ..] => both(ident_token(first), target(behind)),
     }
 }
 
 /// `H T`, `H T -> V`
-pub fn handle_term_into(tokens: &[Token]) -> Result<(Ident, (Term<Ident>, Option<Ident>)), Why>
+pub fn handle_term_into<'a>(
+    tokens: &[Token<'a>],
+) -> Result<(IdentWord<'a>, (Term<IdentWord<'a>>, Option<IdentWord<'a>>)), Why>
     ensures { result ≡ led ident_said (led term_said target_said) (map lexeme tokens.now) }
 {
     match tokens {
         [] => Err(Why::BadForm),
-        [first, behind @ ..] => both(ident(first), term_into(behind)),
+        [first, behind @ ..] => both(ident_token(first), term_into(behind)),
     }
 }
 
 /// `H T`
-pub fn handle_and_term(tokens: &[Token]) -> Result<(Ident, Term<Ident>), Why>
+pub fn handle_and_term<'a>(
+    tokens: &[Token<'a>],
+) -> Result<(IdentWord<'a>, Term<IdentWord<'a>>), Why>
     ensures { result ≡ led ident_said (alone term_said) (map lexeme tokens.now) }
 {
     match tokens {
         [] => Err(Why::BadForm),
-        [first, behind @ ..] => both(ident(first), term_alone(behind)),
+        [first, behind @ ..] => both(ident_token(first), term_alone(behind)),
     }
 }
 
 /// `H`, `H slot S`
-pub fn handle_and_slot(tokens: &[Token]) -> Result<(Ident, Option<Ident>), Why>
+pub fn handle_and_slot<'a>(
+    tokens: &[Token<'a>],
+) -> Result<(IdentWord<'a>, Option<IdentWord<'a>>), Why>
     ensures { result ≡ led ident_said slot_ending_said (map lexeme tokens.now) }
 {
     match tokens {
         [] => Err(Why::BadForm),
-        [first, behind @ ..] => both(ident(first), slot_ending(behind)),
+        [first, behind @ ..] => both(ident_token(first), slot_ending(behind)),
     }
 }
 
 /// `H D`
-pub fn handle_and_data(alloc: Global, tokens: &[Token]) -> Result<(Ident, Data<Ident>), Stop>
+pub fn handle_and_data<'a>(
+    alloc: Global,
+    tokens: &[Token<'a>],
+) -> Result<(IdentWord<'a>, Data<IdentWord<'a>>), Stop>
     ensures { Gives (λ written. written) result (led ident_said data_of (map lexeme tokens.now)) }
 {
     match tokens {
         [] => Err(Stop::Refused(Why::BadForm)),
         [handle, items @ ..] => {
-            let handle = beside(ident(handle), check_data(items))?;
+            let handle = beside(ident_token(handle), check_data(items))?;
             let data = data(alloc, items)?;
             Ok((handle, data))
         }

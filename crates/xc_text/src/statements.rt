@@ -13,10 +13,9 @@ use crate::script::{Statement, Term, Test};
 use crate::shapes::{bare, variable_and_expression};
 use crate::term::{term, test};
 use std::alloc::Global;
-use xc_data::Ident;
-use xc_tokens::{Stop, Token, Why, both, is_sign, spells};
+use xc_tokens::{IdentWord, Stop, Token, Why, both, is_sign, spells};
 
-fn read_let(tokens: &[Token], out: &mut Statement<Ident>) -> Result<(), Stop>
+fn read_let<'a>(tokens: &[Token<'a>], out: &mut Statement<IdentWord<'a>>) -> Result<(), Stop>
     ensures { Gives (λ _. out.new) result (let_said (map lexeme tokens.now)) }
 {
     let (into, value) = variable_and_expression(tokens)?;
@@ -24,18 +23,18 @@ fn read_let(tokens: &[Token], out: &mut Statement<Ident>) -> Result<(), Stop>
     Ok(())
 }
 
-fn test_with(sign: &Token, right: &Token) -> Result<(Test, Term<Ident>), Why>
+fn test_with<'a>(sign: &Token, right: &Token<'a>) -> Result<(Test, Term<IdentWord<'a>>), Why>
     ensures { result ≡ together (test_of_token (lexeme sign.now)) (term_of_token (lexeme right.now)) }
 {
     both(test(sign), term(right))
 }
 
-fn abort_if(
+fn abort_if<'a>(
     word: &Token,
-    left: &Token,
+    left: &Token<'a>,
     sign: &Token,
-    right: &Token,
-) -> Result<Statement<Ident>, Why>
+    right: &Token<'a>,
+) -> Result<Statement<IdentWord<'a>>, Why>
     ensures { result ≡ abort_said (lexeme word.now ∷ lexeme left.now ∷ lexeme sign.now ∷ lexeme right.now ∷ []) }
 {
     if !is_sign(word, b"if") {
@@ -45,7 +44,7 @@ fn abort_if(
     Ok(Statement::AbortIf { left, test, right })
 }
 
-fn abort_line(tokens: &[Token]) -> Result<Statement<Ident>, Why>
+fn abort_line<'a>(tokens: &[Token<'a>]) -> Result<Statement<IdentWord<'a>>, Why>
     ensures { result ≡ abort_said (map lexeme tokens.now) }
 {
     match tokens {
@@ -55,14 +54,14 @@ fn abort_line(tokens: &[Token]) -> Result<Statement<Ident>, Why>
     }
 }
 
-fn read_abort(tokens: &[Token], out: &mut Statement<Ident>) -> Result<(), Stop>
+fn read_abort<'a>(tokens: &[Token<'a>], out: &mut Statement<IdentWord<'a>>) -> Result<(), Stop>
     ensures { Gives (λ _. out.new) result (abort_said (map lexeme tokens.now)) }
 {
     *out = abort_line(tokens)?;
     Ok(())
 }
 
-fn read_require(tokens: &[Token], out: &mut Statement<Ident>) -> Result<(), Stop>
+fn read_require(tokens: &[Token], out: &mut Statement<IdentWord>) -> Result<(), Stop>
     ensures { Gives (λ _. out.new) result (require_said (map lexeme tokens.now)) }
 {
     bare(tokens)?;
@@ -71,11 +70,11 @@ fn read_require(tokens: &[Token], out: &mut Statement<Ident>) -> Result<(), Stop
 }
 
 /// Reads the statement that a line of a transaction is.
-pub fn read_statement(
+pub fn read_statement<'a>(
     alloc: Global,
     word: &[u8],
-    rest: &[Token],
-    out: &mut Statement<Ident>,
+    rest: &[Token<'a>],
+    out: &mut Statement<IdentWord<'a>>,
 ) -> Result<(), Stop>
     ensures { Gives (λ _. out.new) result (statement_said word.now (map lexeme rest.now)) }
 {

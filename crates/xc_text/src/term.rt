@@ -3,11 +3,12 @@ ghost use Rattle.xc_text.specs.Terms.{term as term_of_token, term_in, test as te
 ghost use Rattle.xc_tokens.specs.Views.{lexeme};
 
 use crate::script::{Expression, Term, Test};
-use xc_data::Ident;
-use xc_tokens::{Token, Why, both, by_word, ident_word, is_digit_byte, is_sign, number_word};
+use xc_tokens::{
+    IdentWord, Token, Why, both, by_word, ident_word, is_digit_byte, is_sign, number_word,
+};
 
 /// What a word in the place of a term means.
-pub fn term_word(word: &[u8]) -> Result<Term<Ident>, Why>
+pub fn term_word<'a>(word: &'a [u8]) -> Result<Term<IdentWord<'a>>, Why>
     ensures { result ≡ term_in word.now }
 {
     match word {
@@ -18,7 +19,7 @@ pub fn term_word(word: &[u8]) -> Result<Term<Ident>, Why>
 }
 
 /// What stands in the place of a term.
-pub fn term(token: &Token) -> Result<Term<Ident>, Why>
+pub fn term<'a>(token: &Token<'a>) -> Result<Term<IdentWord<'a>>, Why>
     ensures { result ≡ term_of_token (lexeme token.now) }
 {
     match token {
@@ -56,7 +57,11 @@ pub fn test(token: &Token) -> Result<Test, Why>
     }
 }
 
-fn two_terms(a: &Token, sign: &Token, b: &Token) -> Result<Expression<Ident>, Why>
+fn two_terms<'a>(
+    a: &Token<'a>,
+    sign: &Token,
+    b: &Token<'a>,
+) -> Result<Expression<IdentWord<'a>>, Why>
     ensures { result ≡ expression_of (lexeme a.now ∷ lexeme sign.now ∷ lexeme b.now ∷ []) }
 {
     if is_sign(sign, b"+") {
@@ -71,7 +76,7 @@ fn two_terms(a: &Token, sign: &Token, b: &Token) -> Result<Expression<Ident>, Wh
 }
 
 /// A term, or two with their sign.
-pub fn expression(tokens: &[Token]) -> Result<Expression<Ident>, Why>
+pub fn expression<'a>(tokens: &[Token<'a>]) -> Result<Expression<IdentWord<'a>>, Why>
     ensures { result ≡ expression_of (map lexeme tokens.now) }
 {
     match tokens {

@@ -2,3 +2,4 @@ pub mod LineCuts
 pub mod LiteralLemmas
 pub mod Quotes
 pub mod TokenLists
+pub mod PlainBytes

@@ -53,11 +53,13 @@ with_repeat (meant, behind) =
 abbrev pub literal_from : List ℕ → Result (Lexeme × List ℕ) Why
 literal_from bs = and_then (ok_or (literal_of bs) BadLiteral) with_repeat
 
+-- how many bytes stand before the next blank, none where a quote is among them
+abbrev pub unquoted_run_len : List ℕ → Option ℕ
+unquoted_run_len bs = if list_any (λ c. c == 34) (take (run_len bs) bs) then None else Some (run_len bs)
+
 -- the word that begins with a byte, and what stands behind it; no quote stands within a word
 abbrev pub word_from : ℕ → List ℕ → Option (Lexeme × List ℕ)
-word_from b bs =
-    if list_any (λ c. c == 34) (take (run_len bs) bs) then None
-    else Some (Word (b ∷ take (run_len bs) bs), drop (run_len bs) bs)
+word_from b bs = option_map (λ n. (Word (b ∷ take n bs), drop n bs)) (unquoted_run_len bs)
 
 -- the token in front of the bytes, and what stands behind it; none at a line's end and where `#` stands
 abbrev pub token_at : List ℕ → Result (Option (Lexeme × List ℕ)) Why

@@ -5,14 +5,24 @@ ghost use Rattle.xc_tokens.specs.Lines.{lines_of, is_line_byte};
 fn is_line_byte_at(b: u8) -> bool
     ensures { result ≡ is_line_byte b }
 {
-    b == b'\t' || (b' ' <= b && b <= b'~')
+    if b' ' <= b && b <= b'~' {
+        return true;
+    }
+    b == b'\t'
 }
 
 /// The bytes may all stand in a line.
 pub fn are_line_bytes(bytes: &[u8]) -> bool
     ensures { result ≡ list_all is_line_byte bytes.now }
 {
-    bytes.iter().all(|b| is_line_byte_at(*b))
+    let mut rest = bytes;
+    while let [b, behind @ ..] = rest {
+        if !is_line_byte_at(*b) {
+            return false;
+        }
+        rest = behind;
+    }
+    true
 }
 
 // How long the first line is, without its LF.

@@ -29,7 +29,7 @@ fn earlier_of(a: Why, b: Why) -> Why
 }
 
 /// Two parts of a line. Where both are bad the earlier reason decides.
-pub fn both<A: Copy, B: Copy>(a: Result<A, Why>, b: Result<B, Why>) -> Result<(A, B), Why>
+pub fn both<A: Drop, B: Drop>(a: Result<A, Why>, b: Result<B, Why>) -> Result<(A, B), Why>
     ensures { result ≡ together a b }
 {
     match a {
@@ -45,7 +45,7 @@ pub fn both<A: Copy, B: Copy>(a: Result<A, Why>, b: Result<B, Why>) -> Result<(A
 }
 
 /// The first of two parts, where the second is only checked.
-pub fn beside<A: Copy>(a: Result<A, Why>, b: Result<(), Why>) -> Result<A, Why>
+pub fn beside<A: Drop>(a: Result<A, Why>, b: Result<(), Why>) -> Result<A, Why>
     ensures { result ≡ seen (λ p. p.0) (together a b) }
 {
     let (a, ()) = both(a, b)?;

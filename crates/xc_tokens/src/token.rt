@@ -1,9 +1,9 @@
-ghost use Rattle.std.specs.Prelude.{◌≡◌, false, ◌≤◌, ◌<◌, ◌+◌, ◌==◌, ◌∷◌, length, map, option_map, ok_or, IfSome, IfOk};
-ghost use Rattle.std.specs.List.{list_any};
+ghost use Rattle.std.specs.Prelude.{◌≡◌, false, ◌≤◌, ◌<◌, ◌+◌, ◌==◌, ◌∷◌, take, drop, length, map, option_map, ok_or, IfSome, IfOk};
 ghost use Rattle.xc_tokens.specs.declared.why.Why.TheVariants.{BadLiteral};
 ghost use Rattle.xc_tokens.specs.Answers.{Gives};
 ghost use Rattle.xc_tokens.specs.Quoted.{is_hex, is_escape, escaped, digit_value, hex_byte, literal_of, escape_of, hex_of};
-ghost use Rattle.xc_tokens.specs.Tokens.{is_blank, past_blanks as behind_blanks, run_len as length_of_run, repeat_of, repeat_from};
+ghost use Rattle.xc_tokens.specs.Tokens.{Word, is_blank, past_blanks as behind_blanks, run_len as length_of_run};
+ghost use Rattle.xc_tokens.specs.Tokens.{unquoted_run_len, repeat_of, repeat_from};
 ghost use Rattle.xc_tokens.specs.Tokens.{literal_from, word_from, token_at, tokens_of};
 ghost use Rattle.xc_tokens.specs.Views.{behind_piece, lexeme};
 
@@ -89,6 +89,24 @@ fn run_len(bytes: &[u8]) -> usize
         n += 1;
     }
     n
+}
+
+// How many bytes stand before the next blank; none where a quote is among them.
+fn unquoted_run(bytes: &[u8]) -> Option<usize>
+    ensures value { result ≡ unquoted_run_len bytes.now }
+    ensures bound { IfSome result (λ n. n ≤ length bytes.now) }
+{
+    let mut n = 0;
+    while n < bytes.len() {
+        if is_blank_byte(bytes[n]) {
+            return Some(n);
+        }
+        if bytes[n] == b'"' {
+            return None;
+        }
+        n += 1;
+    }
+    Some(n)
 }
 
 // The byte that two hexadecimal digits mean, and what stands behind them.
@@ -200,23 +218,15 @@ fn literal<'a>(alloc: Global, bytes: &'a [u8]) -> Result<(Token<'a>, &'a [u8]), 
     }
 }
 
-fn has_quote(bytes: &[u8]) -> bool
-    ensures { result ≡ list_any (λ b. b == 34) bytes.now }
-{
-    bytes.iter().any(|b| *b == b'"')
-}
-
-// The word in front, and what stands behind it.
-fn word(bytes: &[u8]) -> Option<(Token, &[u8])>
+// How long the word in front is; none where a quote stands within it.
+fn word_len(bytes: &[u8]) -> Option<usize>
     requires some { 0 < length bytes.now }
-    ensures value { (b : _) (bs : _) → bytes.now ≡ b ∷ bs → option_map (λ p. (lexeme p.0, p.1.now)) result ≡ word_from b bs }
-    ensures fewer { IfSome result (λ p. length p.1.now < length bytes.now) }
+    ensures value { (b : _) (bs : _) → bytes.now ≡ b ∷ bs
+        → option_map (λ n. (Word (take n bytes.now), drop n bytes.now)) result ≡ word_from b bs }
+    ensures fits { IfSome result (λ n. (0 < n) × (n ≤ length bytes.now)) }
 {
-    let n = run_len(&bytes[1..]) + 1;
-    if has_quote(&bytes[1..n]) {
-        return None;
-    }
-    Some((Token::Word(&bytes[..n]), &bytes[n..]))
+    let n = unquoted_run(&bytes[1..])?;
+    Some(n + 1)
 }
 
 // The first token, and what stands behind it; none where no token is left.
@@ -234,8 +244,8 @@ fn next_token<'a>(alloc: Global, bytes: &'a [u8]) -> Result<Option<(Token<'a>, &
     if *first == b'"' {
         return Ok(Some(literal(alloc, behind)?));
     }
-    match word(start) {
-        Some(token) => Ok(Some(token)),
+    match word_len(start) {
+        Some(n) => Ok(Some((Token::Word(&start[..n]), &start[n..]))),
         None => Err(Stop::Refused(Why::BadLiteral)),
     }
 }

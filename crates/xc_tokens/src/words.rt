@@ -4,6 +4,7 @@ ghost use Rattle.xc_tokens.specs.Words.{spells as is_spelled, is_sign as is_sign
 ghost use Rattle.xc_tokens.specs.Words.{ident as ident_of_token, ident_in, name as name_of_token, name_in};
 
 use crate::numbers::spelled_number;
+use crate::spelled::IdentWord;
 use crate::token::Token;
 use crate::why::Why;
 use xc_data::{Ident, Name};
@@ -35,11 +36,11 @@ pub fn number_word(word: &[u8]) -> Result<u64, Why>
     }
 }
 
-/// The identifier that a word spells.
-pub fn ident_word(word: &[u8]) -> Result<Ident, Why>
+/// The identifier that a word is.
+pub fn ident_word<'a>(word: &'a [u8]) -> Result<IdentWord<'a>, Why>
     ensures { result ≡ ident_in word.now }
 {
-    match Ident::new(word) {
+    match IdentWord::new(word) {
         Some(ident) => Ok(ident),
         None => Err(Why::BadName),
     }
@@ -64,14 +65,22 @@ pub fn number(token: &Token) -> Result<u64, Why>
     }
 }
 
-/// What stands in the place of an identifier.
-pub fn ident(token: &Token) -> Result<Ident, Why>
+/// What stands in the place of an identifier, as it stands there.
+pub fn ident_token<'a>(token: &Token<'a>) -> Result<IdentWord<'a>, Why>
     ensures { result ≡ ident_of_token (lexeme token.now) }
 {
     match token {
         Token::Word(word) => ident_word(word),
         Token::Literal { .. } => Err(Why::BadForm),
     }
+}
+
+/// What stands in the place of an identifier.
+pub fn ident(token: &Token) -> Result<Ident, Why>
+    ensures { result ≡ ident_of_token (lexeme token.now) }
+{
+    let word = ident_token(token)?;
+    Ok(word.ident())
 }
 
 /// What stands in the place of a file's name.
