@@ -10,7 +10,7 @@ use Rattle.xc_script.specs.declared.ask.Ask.{Ask}
 use Rattle.xc_script.specs.declared.ask.Ask.TheVariants as ask
 use Rattle.xc_script.specs.Ask.{Variables, Walk, is_silent, set_by, settled, stands, asks, asks_of, answered, behind_ask}
 use Rattle.xc_script.specs.Ask.{bound, target_of, stored_after, refuses}
-use Rattle.xc_world.specs.Checks.{bytes_of}
+use Rattle.xc_data.specs.Calls.{bytes_of}
 use Rattle.xc_script.specs.Position.{Position, IsSettled, left_at}
 
 -- as many statements are left, or fewer

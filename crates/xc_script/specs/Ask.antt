@@ -10,7 +10,7 @@ use Rattle.xc_data.specs.declared.call.Call.TheVariants as call
 use Rattle.xc_data.specs.declared.call.Reply.{Reply}
 use Rattle.xc_data.specs.declared.call.Reply.TheVariants as reply
 use Rattle.xc_failure.specs.Slots.{Slots, unset, slot_number, slot_name}
-use Rattle.xc_world.specs.Checks.{bytes_of}
+use Rattle.xc_data.specs.Calls.{bytes_of}
 use Rattle.xc_text.specs.declared.script.Script.{Script}
 use Rattle.xc_text.specs.declared.script.Block.{Block}
 use Rattle.xc_text.specs.declared.script.CallForm.TheVariants as form

@@ -1,7 +1,7 @@
 -- A job's place as it goes on from reply to reply.
 use mathlib.Core.Logic.{inl, inr}
 use Rattle.std.specs.Prelude.{◌≡◌, ℕ, ◌⊎◌, IsTrue, Bool, true, false, List, [], ◌∷◌, drop, unwrap_or, refl, Option}
-use Rattle.std.specs.declared.option.Option.TheVariants.{None}
+use Rattle.std.specs.declared.option.Option.TheVariants.{None, Some}
 use Rattle.std.specs.Coded.{Coded, code_by, coded×, coded⊎, coded_ℕ, coded_bool, coded_list, coded_option}
 use Rattle.xc_maps.specs.Keys.{coded_name}
 use Rattle.xc_failure.specs.Slots.{Slots, coded_slots, no_slots}
@@ -90,6 +90,11 @@ pub record IsSettled (script : Script) (place : Position) : Type 0 where
 -- nothing is kept for an abort
 abbrev pub nothing_kept : Variables
 nothing_kept = record { values = []; slots = no_slots }
+
+-- the variables at the begin, where what they held is kept; their slots are those of now, since only a commit changes them
+abbrev pub kept_values : Option Values → Slots → Variables
+kept_values None slots = nothing_kept
+kept_values (Some values) slots = record { values = values; slots = slots }
 
 -- a job before its next transaction: none has begun
 abbrev pub at_begin : Job → Position

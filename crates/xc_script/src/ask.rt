@@ -11,7 +11,7 @@ use xc_data::{Boxed, Call, Chunk, Ident, MOST_STORED, Name, NoMemory};
 use xc_text::{CallForm, Data, Expression, Place, Statement, Term};
 
 /// What a job is asked to do next.
-#[derive(Debug, Drop, PartialEq)]
+#[derive(Drop)]
 pub enum Ask {
     Call(Call),
     Commit,

@@ -1,9 +1,9 @@
 ghost use Rattle.std.specs.Prelude.{◌≡◌, ◌≤◌, ◌<◌, is_some, ◌+◌, ◌^◌, nat_eq, position, slice_get, None, IfOk, IsOk, OnOk, OnErr};
 ghost use Rattle.std.specs.Option.{option_copied};
 ghost use Rattle.std.specs.Cmp.Lexicographic.{pointwise};
-ghost use Rattle.xc_script.specs.Ask.{asks_from, answered, next_body, transactions_at, fresh_job, block_place, value_in};
+ghost use Rattle.xc_script.specs.Ask.{asks_from, answered, next_body, transactions_at, fresh_job, value_in};
 ghost use Rattle.xc_script.specs.Slots.{kept_of, with_ends};
-ghost use Rattle.xc_script.specs.Position.{Position, job_of, walk_of, at_begin, IsSettled, IsAskedCall, target_at};
+ghost use Rattle.xc_script.specs.Position.{Position, job_of, walk_of, at_begin, nothing_kept, IsSettled, IsAskedCall, target_at};
 
 use crate::Ask;
 use crate::answer::{bind, refuses, stored_after, target_of};
@@ -11,18 +11,18 @@ use crate::ask::{ask_of, carried};
 use crate::ends::set_ends;
 use crate::silent::settle;
 use crate::value::Variables;
+use crate::values::Values;
 use std::alloc::Global;
 use std::marker::Model;
-use std::mem;
-use xc_data::{Call, Ident, LateEnd, NoMemory, Reply};
-use xc_text::{Block, Place, Script, Statement};
+use xc_data::{Call, LateEnd, NoMemory, Reply};
+use xc_text::{Place, Script, Statement};
 
 /// A job's place in its block, and its variables. What each call reads stands behind what only a begin and an end do.
 #[derive(Drop)]
 pub struct JobState {
     alloc: Global,
-    // Those at the begin of the transaction.
-    begun: Variables,
+    // What the variables held at the begin of the transaction. The slots change at its commit alone.
+    begun: Option<Values>,
     variables: Variables,
     block: usize,
     next: usize,
@@ -35,7 +35,7 @@ pub struct JobState {
 
 impl Model for JobState {
     ghost use Rattle.std.specs.Prelude.{◌≤◌, ◌*◌, ◌^◌};
-    ghost use Rattle.xc_script.specs.Position.{Position, coded_position};
+    ghost use Rattle.xc_script.specs.Position.{Position, coded_position, kept_values};
 
     ghost Value = { Position };
 
@@ -48,32 +48,10 @@ impl Model for JobState {
       stored = j.stored;
       refused = j.refused;
       variables = j.variables;
-      begun = j.begun;
+      begun = kept_values j.begun j.variables.slots;
     } };
 
     ghost invariant = { λ j. j.stored ≤ j.at * 2 ^ 64 };
-}
-
-fn is_named(block: &Block, name: Ident) -> bool
-    ensures { result ≡ pointwise nat_eq block.now.name name }
-{
-    block.name == name
-}
-
-fn first_named(blocks: &[Block], name: Ident) -> Option<usize>
-    ensures { result ≡ position (λ block. pointwise nat_eq block.name name) blocks.now }
-{
-    blocks.iter().position(|block| is_named(block, name))
-}
-
-// The place of the block of this name among the script's.
-fn place_of(script: &Script, name: Ident) -> usize
-    ensures { result ≡ block_place script.now name }
-{
-    match first_named(script.blocks.as_slice(), name) {
-        Some(at) => at,
-        None => 0,
-    }
 }
 
 // The statements of a transaction of a block.
@@ -90,20 +68,20 @@ fn body_at(script: &Script, block: usize, next: usize) -> Option<&[Statement<Pla
 }
 
 impl JobState {
-    /// A job at the begin of its block, with no variable and no slot set. Its block is one of the script's. Room for the
-    /// ends of late calls is made here, for all of the script's slots.
-    pub fn new(alloc: Global, script: &Script, block: Ident) -> Result<JobState, NoMemory>
-        ensures { IfOk result (λ job. job ≡ at_begin (fresh_job script.now (block_place script.now block))) }
+    /// A job at the begin of the block at this place in the script, with no variable and no slot set. Room for the ends of
+    /// late calls is made here, for all of the script's slots.
+    pub fn new(alloc: Global, script: &Script, block: usize) -> Result<JobState, NoMemory>
+        ensures { IfOk result (λ job. job ≡ at_begin (fresh_job script.now block)) }
     {
         Ok(JobState {
             alloc,
-            block: place_of(script, block),
+            block,
             next: 0,
             at: 0,
             stored: 0,
             refused: false,
             variables: Variables::unset(alloc, script.variables.len(), script.slots.as_slice())?,
-            begun: Variables::nothing(alloc),
+            begun: None,
         })
     }
 
@@ -112,7 +90,7 @@ impl JobState {
         ensures ok { OnOk result (self.new ≡ record self.old { begun = self.old.variables }) }
         ensures err { OnErr result (self.new ≡ self.old) }
     {
-        self.begun = self.variables.copied()?;
+        self.begun = Some(self.variables.values_copied()?);
         Ok(())
     }
 
@@ -172,7 +150,10 @@ impl JobState {
     pub fn back(&mut self)
         ensures { self.new ≡ at_begin (record { block = self.old.block; next = self.old.next; variables = self.old.begun }) }
     {
-        mem::swap(&mut self.variables, &mut self.begun);
+        match self.begun.take() {
+            Some(values) => self.variables.take_values(values),
+            None => self.variables = Variables::nothing(self.alloc),
+        }
         self.rewind();
     }
 
@@ -185,10 +166,15 @@ impl JobState {
         self.rewind();
     }
 
-    /// The slots of the calls that were kept for a commit take their ends, in order. It takes no memory.
+    /// The slots of the calls that were kept for a commit take their ends, in order. What was kept for an abort is dropped.
+    /// It takes no memory.
     pub fn set_ends(&mut self, calls: &[Call], replies: &[Reply], ends: &[LateEnd])
-        ensures { self.new ≡ record self.old { variables = with_ends self.old.variables (kept_of calls.now replies.now) ends.now } }
+        ensures { self.new ≡ record self.old {
+          variables = with_ends self.old.variables (kept_of calls.now replies.now) ends.now;
+          begun = nothing_kept;
+        } }
     {
+        self.begun = None;
         set_ends(&mut self.variables, calls, replies, ends);
     }
 
@@ -199,7 +185,7 @@ impl JobState {
         self.at = 0;
         self.stored = 0;
         self.refused = false;
-        self.begun = Variables::nothing(self.alloc);
+        self.begun = None;
     }
 }
 

@@ -54,6 +54,7 @@ fn set(variables: &mut Variables, statement: &Statement<Place>)
 pub fn settle(variables: &mut Variables, at: &mut usize, refused: bool, body: &[Statement<Place>])
     ensures walk { (stored : ℕ) → settled variables.new stored refused (drop at.new body.now)
         ≡ settled variables.old stored refused (drop at.old body.now) }
+    ensures slots { variables.new.slots ≡ variables.old.slots }
     ensures settled { stands variables.new refused (drop at.new body.now) ≡ true }
     ensures at { at.old ≤ at.new }
     ensures stays { stands variables.old refused (drop at.old body.now) ≡ true → (variables.new ≡ variables.old) × (at.new ≡ at.old) }

@@ -99,13 +99,17 @@ impl Variables {
         }
     }
 
-    /// Another with the same values, whose bytes are shared, and the same ends.
-    pub fn copied(&self) -> Result<Variables, NoMemory>
-        ensures { IfOk result (λ copy. copy ≡ self.now) }
+    /// What the variables hold. Their bytes are shared.
+    pub fn values_copied(&self) -> Result<Values, NoMemory>
+        ensures { IfOk result (λ copy. copy ≡ self.now.values) }
     {
-        Ok(Variables {
-            slots: self.slots.copied()?,
-            values: self.values.copied()?,
-        })
+        self.values.copied()
+    }
+
+    /// The variables hold this, and the slots stay. It takes no memory.
+    pub fn take_values(&mut self, values: Values)
+        ensures { self.new ≡ record self.old { values = values } }
+    {
+        self.values = values;
     }
 }

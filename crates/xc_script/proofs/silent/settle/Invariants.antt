@@ -7,6 +7,7 @@ abbrev pub invariant-loop-statement : goal.invariant-loop-statement
 invariant-loop-statement l =
     record {
       walk : (stored : ℕ) → settled l.variables stored l.refused (drop l.at l.body) ≡ settled l.fn.variables stored l.refused (drop l.fn.at l.body);
+      slots : l.variables.slots ≡ l.fn.variables.slots;
       at : l.fn.at ≤ l.at;
       stays : stands l.fn.variables l.refused (drop l.fn.at l.body) ≡ true → (l.variables ≡ l.fn.variables) × (l.at ≡ l.fn.at);
     }

@@ -1,0 +1,49 @@
+-- Blocks by their places.
+use Rattle.std.proofs.Common.{◌≡◌, ℕ, zero, suc, ◌+◌, ◌<◌, Bool, true, false, List, [], ◌∷◌, Some, None, cond, refl, ap, sym, ◌∙◌, subst, length, map, arith}
+use Rattle.std.specs.Prelude.{nat_eq, nat_lt, not, unwrap_or, slice_get}
+use Rattle.std.specs.Cmp.Lexicographic.{pointwise, nat_list_eq_equiv}
+use Rattle.std.specs.List.{IsDistinct, AllByRecursion, position_or_len}
+use Rattle.std.proofs.lemmas.Bool.{lt-ltb}
+use Rattle.std.proofs.lemmas.List.{length-map}
+use Rattle.std.proofs.lemmas.Option.{slice_get_within}
+use Rattle.xc_text.specs.declared.script.Block.{Block}
+use Rattle.xc_text.specs.declared.script.Script.{Script}
+use Rattle.xc_text.specs.Scripts.{IsScript, names_of}
+use Rattle.xc_script.specs.Ask.{block_place}
+
+-- a name apart from all of a list is apart from the one at a place
+apart_at : (name other : List ℕ) (names : List (List ℕ)) (at : ℕ) → AllByRecursion (λ n. pointwise nat_eq name n ≡ false) names →
+    slice_get names at ≡ Some other → pointwise nat_eq name other ≡ false
+apart_at name other [] at apart is = absurd (let none : None ≡ Some other = is in cc)
+apart_at name other (n ∷ names) zero apart is = subst (λ m. pointwise nat_eq name m ≡ false) (cc is) apart.0
+apart_at name other (n ∷ names) (suc at) apart is = apart_at name other names at apart.1 is
+
+-- whether a block has this name
+abbrev named : List ℕ → Block → Bool
+named name b = pointwise nat_eq b.name name
+
+-- of blocks with different names the first one that has the name at a place stands there
+first_there : (blocks : List Block) (at : ℕ) (name : List ℕ) → IsDistinct (pointwise nat_eq) (names_of blocks) →
+    slice_get (names_of blocks) at ≡ Some name → position_or_len (named name) blocks ≡ at
+unfolding IsDistinct
+first_there [] at name distinct is = absurd (let none : None ≡ Some name = is in cc)
+first_there (b ∷ blocks) zero name distinct is =
+    let same : pointwise nat_eq b.name name ≡ true = subst (λ n. pointwise nat_eq b.name n ≡ true) (cc is) (nat_list_eq_equiv.refl b.name) in
+    ap (λ t. cond (not t) (1 + position_or_len (named name) blocks) 0) same
+first_there (b ∷ blocks) (suc at) name distinct is =
+    let passed : position_or_len (named name) (b ∷ blocks) ≡ 1 + position_or_len (named name) blocks =
+    ap (λ t. cond (not t) (1 + position_or_len (named name) blocks) 0) (apart_at b.name name (names_of blocks) at distinct.0 is) in
+    let behind = first_there blocks at name distinct.1 is in
+    omega (arith, passed, behind)
+
+place_within : (n len at : ℕ) → n ≡ at → at < len → unwrap_or (cond (nat_lt n len) (Some n) None) 0 ≡ at
+place_within n len at same within =
+    ap (λ b. unwrap_or (cond b (Some n) None) 0) (lt-ltb n len (subst (λ m. m < len) (sym same) within)) ∙ same
+
+-- in a script that was read the block of the job at a place stands at that place
+pub block_there : (script : Script) (at : ℕ) (name : List ℕ) → IsScript script → slice_get script.outline.jobs at ≡ Some name →
+    block_place script name ≡ at
+block_there script at name is there =
+    let there' : slice_get (names_of script.blocks) at ≡ Some name = subst (λ names. slice_get names at ≡ Some name) is.jobs there in
+    let within : at < length (names_of script.blocks) = slice_get_within (names_of script.blocks) at name there' in
+    place_within _ (length script.blocks) at (first_there script.blocks at name is.distinct there') (rw length-map at within)
