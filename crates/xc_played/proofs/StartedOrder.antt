@@ -8,7 +8,8 @@ use Rattle.xc_data.specs.Claims.{owned}
 use Rattle.xc_world.specs.World.{World}
 use Rattle.xc_world.specs.Laws.{AgreeAt}
 use Rattle.xc_story.specs.Setting.{Setting}
-use Rattle.xc_story.specs.LateCalls.{started_late, started_with, thread_in}
+use Rattle.xc_story.specs.LateCalls.{started_late, started_with}
+use Rattle.xc_data.specs.Calls.{thread_in}
 use Rattle.xc_story.specs.Seen.{SeenTx, SeenJob, Now, active_of}
 use Rattle.xc_story.specs.Rows.{IsActiveAt}
 use Rattle.xc_flight.specs.Active.{Tx, Phase, Running, Committing, Undoing}

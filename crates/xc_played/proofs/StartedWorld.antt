@@ -22,7 +22,8 @@ use Rattle.xc_world.specs.Late.{Ended, ends, late, late_fine, is_block, room, se
 use Rattle.xc_world.specs.Fits.{late_fits, late_answer_of}
 use Rattle.xc_world.specs.Run.{given_back, lates, late_asked_of}
 use Rattle.xc_world.specs.Sound.{IsSound}
-use Rattle.xc_story.specs.LateCalls.{started_late, started_with, thread_in}
+use Rattle.xc_story.specs.LateCalls.{started_late, started_with}
+use Rattle.xc_data.specs.Calls.{thread_in}
 use Rattle.xc_story.specs.Rows.{IsStart, is_block_in}
 use Rattle.xc_world.specs.Effects.{whole}
 use Rattle.xc_flight.specs.Active.{Tx}

@@ -30,11 +30,11 @@ use Rattle.xc_flight.proofs.Undoing.{aborted}
 use Rattle.xc_played.specs.Flying.{flown, flown_phase, ran_at}
 use Rattle.xc_played.proofs.FlownLists.{flown_there, is_active}
 use Rattle.xc_played.proofs.TurnBack.{records_so}
-use Rattle.xc_played.proofs.TurnEnters.{Leads, GivesSame, apart_of}
+use Rattle.xc_played.proofs.TurnEnters.{Leads, GivesSame, apart_of, landing}
 use Rattle.std.proofs.Common.{append-nil}
 use Rattle.xc_played.proofs.TurnLists.{map-put_same}
 use Rattle.xc_played.proofs.StartedWorld.{remains_base}
-use Rattle.xc_played.proofs.TurnParts.{Flying, standing_in, world_in}
+use Rattle.xc_played.proofs.TurnParts.{Flying, standing_in, world_in, airfield}
 
 -- ---- what is given back is given back to the host's contents alone
 given_in : (w : World) (words : List ℕ) (contents : Contents) (started : List (List ℕ)) (items : List KeptItem)
@@ -47,7 +47,7 @@ given_in w words contents started (Message pair side bytes ∷ items) = ap (λ v
 module _ (s : Setting) (p : Progress) (words : List ℕ) (contents : Contents) (started : List (List ℕ)) (jobs : List SeenJob) (next at : ℕ) (job : SeenJob)
     (tx : SeenTx) (c : Cause)
     (there : slice_get jobs at ≡ Some job) (doing : job.doing ≡ Active tx) (undoes : tx.phase ≡ Undoing c) (none : tx.undo.pending ≡ [])
-    (f : Flying s p words contents started jobs next) where
+    (f : Flying s p (airfield words contents started jobs next)) where
   abbrev standing : Standing
   standing = standing_in p.state.world (world_in p.state.world words contents started) f.unnoted jobs next
 
@@ -99,7 +99,8 @@ module _ (s : Setting) (p : Progress) (words : List ℕ) (contents : Contents) (
       → p'.state.handles ≡ map (λ (job : SeenJob). job.me.places) (slice_set jobs at job')
       → ((j : ℕ) → j ≢ at → slice_get p'.jobs j ≡ slice_get p.jobs j) → job'.me ≡ job.me → job'.block ≡ job.block
       → ((j : ℕ) (other : SeenJob) → slice_get jobs j ≡ Some other → other.me ≡ beginning other.me.places)
-      → Leads p p' (record standing { now = world_in p.state.world words (with_kept contents tx.taken) started }) jobs [] at job'
+      → Leads (record { old = p; new = p' }) (record standing { now = world_in p.state.world words (with_kept contents tx.taken) started })
+      (landing jobs [] at job')
   abort_leads p' job' is handles followings me block fresh =
       let w = p.state.world in
       let sound = f.sound at tx_flown active in

@@ -40,7 +40,7 @@ use Rattle.xc_flight.proofs.Aborting.{newest_undone, records_made}
 use Rattle.xc_flight.proofs.Undoing.{turns_back}
 use Rattle.xc_played.specs.Flying.{IsUnnoted, flown, flown_phase, ran_at}
 use Rattle.xc_played.proofs.FlownLists.{flown_there, none_unnoted}
-use Rattle.xc_played.proofs.TurnParts.{Flying, world_in, standing_in, asked_same, goes_on}
+use Rattle.xc_played.proofs.TurnParts.{Flying, world_in, standing_in, asked_same, goes_on, airfield}
 
 -- ---- what is held
 -- what its calls claimed, in each phase
@@ -87,7 +87,7 @@ undone_in v u (Blocked by) = refl
 -- its records were made one after another
 pub records_so : (s : Setting) (p : Progress) (words : List ℕ) (contents : Contents) (started : List (List ℕ)) (jobs : List SeenJob) (next at : ℕ)
     (job : SeenJob) (tx : SeenTx)
-    → slice_get jobs at ≡ Some job → job.doing ≡ Active tx → Flying s p words contents started jobs next
+    → slice_get jobs at ≡ Some job → job.doing ≡ Active tx → Flying s p (airfield words contents started jobs next)
     → AreMadeIn p.state.world (tx.undo.pending ++ map (λ r. r.0) tx.undo.ended)
 records_so s p words contents started jobs next at job tx there doing f =
     let t = flown job.me (f.unnoted at) tx in
@@ -98,7 +98,7 @@ records_so s p words contents started jobs next at job tx there doing f =
 module _ (s : Setting) (p : Progress) (words : List ℕ) (contents : Contents) (started : List (List ℕ)) (jobs : List SeenJob) (next at : ℕ)
     (job : SeenJob) (place : Position)
     (tx : SeenTx)
-    (there : slice_get jobs at ≡ Some job) (doing : job.doing ≡ Active tx) (f : Flying s p words contents started jobs next) where
+    (there : slice_get jobs at ≡ Some job) (doing : job.doing ≡ Active tx) (f : Flying s p (airfield words contents started jobs next)) where
   abbrev standing : Standing
   standing = standing_in p.state.world (world_in p.state.world words contents started) f.unnoted jobs next
 
@@ -126,7 +126,7 @@ module _ (s : Setting) (p : Progress) (words : List ℕ) (contents : Contents) (
 
   -- it turns back
   pub back_keeps : (c : Cause) → tx.phase ≡ Running
-      → Flying s p words contents started (slice_set jobs at (with_tx job place (record tx { phase = Undoing c }))) next
+      → Flying s p (airfield words contents started (slice_set jobs at (with_tx job place (record tx { phase = Undoing c }))) next)
   back_keeps c runs =
       goes_on s p words words contents contents started started jobs next at (f.unnoted at) job place tx (record tx { phase = Undoing c }) there doing refl f
       (turns_back standing at tx_flown f.flies active (running runs) (f.sound at tx_flown active))
@@ -135,7 +135,7 @@ module _ (s : Setting) (p : Progress) (words : List ℕ) (contents : Contents) (
 
   -- it commits
   pub commit_keeps : tx.phase ≡ Running
-      → Flying s p (overlaid words tx.writes) contents started (slice_set jobs at (with_tx job place (record tx { phase = Committing }))) next
+      → Flying s p (airfield (overlaid words tx.writes) contents started (slice_set jobs at (with_tx job place (record tx { phase = Committing }))) next)
   commit_keeps runs =
       goes_on s p words (overlaid words tx.writes) contents contents started started jobs next at (f.unnoted at) job place tx
       (record tx { phase = Committing }) there
@@ -147,8 +147,8 @@ module _ (s : Setting) (p : Progress) (words : List ℕ) (contents : Contents) (
   pub tried_keeps : (c : Cause) (older : List Undo) (u : Undo) (end : UndoEnd) (contents' : Contents) → tx.phase ≡ Undoing c
       → tx.undo.pending ≡ older ++ u ∷ [] → IsLegalEnd s.rules.undo_tries u end (way_of older u tx.undo)
       → contents' ≡ contents_of (undone_to (world_of contents) u end)
-      → Flying s p words contents' started
-      (slice_set jobs at (with_tx job place (record tx { undo = record { pending = older; ended = (u, end) ∷ tx.undo.ended } }))) next
+      → Flying s p (airfield words contents' started
+      (slice_set jobs at (with_tx job place (record tx { undo = record { pending = older; ended = (u, end) ∷ tx.undo.ended } }))) next)
   tried_keeps c older u end contents' undoes newest legal effect =
       let w = p.state.world in
       let tx' : SeenTx = record tx { undo = record { pending = older; ended = (u, end) ∷ tx.undo.ended } } in

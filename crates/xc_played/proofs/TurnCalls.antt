@@ -4,6 +4,7 @@ use Rattle.std.specs.Prelude.{All, Contains, map, slice_get, slice_set, nat_lt, 
 use Rattle.std.proofs.lemmas.List.Elements.{All-nil, All-cons, All-weaker, All-append, Contains-append_left, Contains-append_right, filter_map-append}
 use Rattle.std.proofs.lemmas.Bool.Decides.{nat_tests}
 use Rattle.std.proofs.lemmas.List.Sums.{fold-append}
+use Rattle.xc_data.specs.Step.{Step}
 use Rattle.xc_data.specs.declared.call.Asked.{Asked}
 use Rattle.xc_data.specs.declared.call.Call.{Call}
 use Rattle.xc_data.specs.declared.call.Call.TheVariants as call
@@ -44,7 +45,7 @@ use Rattle.xc_flight.proofs.Claiming.{merged_held}
 use Rattle.xc_flight.proofs.Together.{called_with_claims}
 use Rattle.xc_played.specs.Flying.{flown, flown_phase, ran_at}
 use Rattle.xc_played.proofs.FlownLists.{flown_there, none_unnoted}
-use Rattle.xc_played.proofs.TurnParts.{Flying, world_in, standing_in, goes_on}
+use Rattle.xc_played.proofs.TurnParts.{Flying, world_in, standing_in, goes_on, airfield}
 use Rattle.xc_played.proofs.TurnRivals.{no_rivals}
 
 -- ---- a call more
@@ -85,14 +86,16 @@ stored_own me count c own within = All-nil (λ (s : ℕ × ℕ). own (object.Wor
 
 -- ---- the transaction behind its call
 -- what the step to it shows
-pub record Stepping (from to : World) (tx : SeenTx) (c : Call) (reply : Reply) (parts : Parts) : Type 0 where
-  pub does : Does from to (parts_of tx) parts c reply
+pub record Stepping (worlds : Step World) (tx : SeenTx) (c : Call) (reply : Reply) (parts : Parts) : Type 0 where
+  pub does : Does worlds (record { old = parts_of tx; new = parts }) c reply
   pub ended : parts.undo.ended ≡ tx.undo.ended
 
 module _ (w : World) (words : List ℕ) (was is : Contents) (started : List (List ℕ)) (us : List Asked) (job : SeenJob) (tx : SeenTx) (c : Call)
     (reply : Reply) (parts : Parts)
-    (go : Stepping (seen (record w { words = words; started = started }) was tx.writes) (seen (record w { words = words; started = started }) is parts.stores)
-    tx c reply parts) where
+    (go : Stepping (record {
+      old = seen (record w { words = words; started = started }) was tx.writes;
+      new = seen (record w { words = words; started = started }) is parts.stores;
+    }) tx c reply parts) where
   abbrev now : World
   now = world_in w words was started
 
@@ -147,9 +150,10 @@ holding-more a b = sym (fold-append holding_one [] a b)
 module _ (s : Setting) (p : Progress) (words : List ℕ) (was is : Contents) (started : List (List ℕ)) (jobs : List SeenJob) (next at : ℕ) (job : SeenJob)
     (place : Position) (tx : SeenTx)
     (c : Call) (reply : Reply) (parts : Parts) (there : slice_get jobs at ≡ Some job) (doing : job.doing ≡ Active tx) (runs : tx.phase ≡ Running)
-    (go : Stepping (seen (record p.state.world { words = words; started = started }) was tx.writes)
-    (seen (record p.state.world { words = words; started = started }) is parts.stores)
-    tx c reply parts) (f : Flying s p words was started jobs next) where
+    (go : Stepping (record {
+      old = seen (record p.state.world { words = words; started = started }) was tx.writes;
+      new = seen (record p.state.world { words = words; started = started }) is parts.stores;
+    }) tx c reply parts) (f : Flying s p (airfield words was started jobs next)) where
   abbrev standing : Standing
   standing = standing_in p.state.world (world_in p.state.world words was started) f.unnoted jobs next
 
@@ -228,7 +232,7 @@ module _ (s : Setting) (p : Progress) (words : List ℕ) (was is : Contents) (st
 
   -- a call keeps all
   pub calls_keep : All (HasNoRival jobs at) claimed → parts.stores ≡ tx.writes ++ stored_by (length words) c → length tx.calls ≡ length tx.replies
-      → Flying s p words is started (slice_set jobs at (with_tx job place behind)) next
+      → Flying s p (airfield words is started (slice_set jobs at (with_tx job place behind)) next)
   calls_keep alone stores count =
       goes_on s p words words was is started started jobs next at (f.unnoted at) job place tx behind there doing refl f (flies alone stores)
       (none_unnoted tx.phase (asked_of_tx s (slice_get p.jobs at) behind) (f.unnoted at) flies_so.all_noted)

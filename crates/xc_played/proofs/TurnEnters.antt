@@ -1,6 +1,7 @@
 -- The entry of an active transaction keeps all flights.
 use Rattle.std.proofs.Common.{◌≡◌, ◌≢◌, ℕ, inl, inr, List, [], ◌++◌, length, refl, ap, sym, ◌∙◌, subst, Some, None}
 use Rattle.std.specs.Prelude.{map, slice_get, slice_set}
+use Rattle.xc_data.specs.Step.{Step}
 use Rattle.xc_data.specs.declared.claim.Claim.{Claim}
 use Rattle.xc_data.specs.declared.entry.Cause.TheVariants as cause
 use Rattle.xc_data.specs.declared.object.Object.{Object}
@@ -42,7 +43,7 @@ use Rattle.xc_story.specs.LateCalls.{started_late}
 use Rattle.xc_played.proofs.Grown.{AreNew, grown_cases, grown_flies, grown_sound}
 use Rattle.xc_played.proofs.StartedWorld.{body_started, ended_start}
 use Rattle.xc_played.proofs.TurnLists.{inside}
-use Rattle.xc_played.proofs.TurnParts.{Flying, world_in, standing_in, put_cases}
+use Rattle.xc_played.proofs.TurnParts.{Flying, world_in, standing_in, put_cases, airfield}
 
 -- ---- what others hold, in another world
 wanted_alike : (ran ran' : Ran) (next : Ask) → ran.me ≡ ran'.me → length ran.world.words ≡ length ran'.world.words
@@ -67,25 +68,42 @@ holds_alike r q next (Undoing (cause.Revoked object by at)) held g e = e ∙ ap 
 holds_alike r q next (Undoing cause.NoMemory) held g e =
     (e.0, subst (IsPartOf e.0) (wanted_alike r q next g.me g.count) e.1, e.2 ∙ ap (λ t. held_of (t ++ e.0)) g.touched)
 
--- ---- an entry, by what it leads to; the station's world is this one then, and these jobs come behind
-pub record Leads (p p' : Progress) (st : Standing) (jobs more : List SeenJob) (at : ℕ) (job' : SeenJob) : Type 0 where
-  pub flies : InFlight (entered st at p'.state.world st.now)
-  pub sound : AreSound (entered st at p'.state.world st.now)
-  pub others : (places : List Handle) → IsIdleSound p.state.world st.next places → IsIdleSound p'.state.world st.next places
-  pub own : IsIdleSound p'.state.world st.next job'.me.places
-  pub started : p'.state.world.started ≡ map (λ (job : SeenJob). job.block) (slice_set jobs at job' ++ more)
-  pub handles : p'.state.handles ≡ map (λ (job : SeenJob). job.me.places) (slice_set jobs at job' ++ more)
-  pub followings : (j : ℕ) → j ≢ at → j < length jobs → slice_get p'.jobs j ≡ slice_get p.jobs j
-  pub new : AreNew job'.me.places more
-  pub bodies : (j : ℕ) (other : SeenJob) (u : SeenTx) → j ≢ at → slice_get jobs j ≡ Some other → active_of other ≡ Some u
-      → GivesSame (ran_at p.state.world other.me u) (ran_at p'.state.world other.me u)
+-- ---- an entry
+-- of one of these jobs, which stands like this behind it, and more jobs come
+pub record Landing : Type 0 where
+  pub jobs : List SeenJob
+  pub more : List SeenJob
+  pub at : ℕ
+  pub job : SeenJob
+
+-- this
+abbrev pub landing : List SeenJob → List SeenJob → ℕ → SeenJob → Landing
+landing jobs more at job = record { jobs = jobs; more = more; at = at; job = job }
+
+-- the jobs behind it
+abbrev pub landed : Landing → List SeenJob
+landed l = slice_set l.jobs l.at l.job ++ l.more
+
+-- what it leads to; the station's world is this one then
+pub record Leads (p : Step Progress) (st : Standing) (l : Landing) : Type 0 where
+  pub flies : InFlight (entered st l.at p.new.state.world st.now)
+  pub sound : AreSound (entered st l.at p.new.state.world st.now)
+  pub others : (places : List Handle) → IsIdleSound p.old.state.world st.next places → IsIdleSound p.new.state.world st.next places
+  pub own : IsIdleSound p.new.state.world st.next l.job.me.places
+  pub started : p.new.state.world.started ≡ map (λ (job : SeenJob). job.block) (landed l)
+  pub handles : p.new.state.handles ≡ map (λ (job : SeenJob). job.me.places) (landed l)
+  pub followings : (j : ℕ) → j ≢ l.at → j < length l.jobs → slice_get p.new.jobs j ≡ slice_get p.old.jobs j
+  pub new : AreNew l.job.me.places l.more
+  pub bodies : (j : ℕ) (other : SeenJob) (u : SeenTx) → j ≢ l.at → slice_get l.jobs j ≡ Some other → active_of other ≡ Some u
+      → GivesSame (ran_at p.old.state.world other.me u) (ran_at p.new.state.world other.me u)
 
 -- it keeps all
 pub enters : (s : Setting) (p p' : Progress) (words : List ℕ) (contents contents' : Contents) (started : List (List ℕ)) (jobs more : List SeenJob)
     (next at : ℕ) (job job' : SeenJob)
-    → slice_get jobs at ≡ Some job → active_of job' ≡ None → (f : Flying s p words contents started jobs next)
-    → Leads p p' (standing_in p.state.world (world_in p.state.world words contents' started) f.unnoted jobs next) jobs more at job'
-    → Flying s p' words contents' started (slice_set jobs at job' ++ more) next
+    → slice_get jobs at ≡ Some job → active_of job' ≡ None → (f : Flying s p (airfield words contents started jobs next))
+    → Leads (record { old = p; new = p' }) (standing_in p.state.world (world_in p.state.world words contents' started) f.unnoted jobs next)
+    (landing jobs more at job')
+    → Flying s p' (airfield words contents' started (slice_set jobs at job' ++ more) next)
 enters s p p' words contents contents' started jobs more next at job job' there none f l =
     let w = p.state.world in
     let w' = p'.state.world in
@@ -137,7 +155,7 @@ enters s p p' words contents contents' started jobs more next at job job' there 
 pub apart_of : (s : Setting) (p : Progress) (words : List ℕ) (contents : Contents) (started : List (List ℕ)) (jobs : List SeenJob) (next at j : ℕ)
     (job other : SeenJob) (tx u : SeenTx)
     → slice_get jobs at ≡ Some job → job.doing ≡ Active tx → slice_get jobs j ≡ Some other → other.doing ≡ Active u → j ≢ at
-    → (f : Flying s p words contents started jobs next) → (o : Object)
+    → (f : Flying s p (airfield words contents started jobs next)) → (o : Object)
     → Sees u.number (ran_at p.state.world other.me u).touched o → Own (flown job.me (f.unnoted at) tx) o → ⊥
 apart_of s p words contents started jobs next at j job other tx u there doing here does ne f o sees owns =
     let v = flown other.me (f.unnoted j) u in
@@ -156,7 +174,7 @@ apart_of s p words contents started jobs next at j job other tx u there doing he
 -- ---- a commit enters
 module _ (s : Setting) (p : Progress) (words : List ℕ) (contents : Contents) (started : List (List ℕ)) (jobs : List SeenJob) (next at : ℕ)
     (job : SeenJob) (tx : SeenTx)
-    (there : slice_get jobs at ≡ Some job) (doing : job.doing ≡ Active tx) (f : Flying s p words contents started jobs next) where
+    (there : slice_get jobs at ≡ Some job) (doing : job.doing ≡ Active tx) (f : Flying s p (airfield words contents started jobs next)) where
   abbrev standing : Standing
   standing = standing_in p.state.world (world_in p.state.world words contents started) f.unnoted jobs next
 
@@ -219,7 +237,7 @@ module _ (s : Setting) (p : Progress) (words : List ℕ) (contents : Contents) (
       → p'.state.handles ≡ map (λ (job : SeenJob). job.me.places) (slice_set jobs at job' ++ more)
       → ((j : ℕ) → j ≢ at → j < length jobs → slice_get p'.jobs j ≡ slice_get p.jobs j)
       → job'.me.places ≡ tx.me.places → job'.block ≡ job.block → started_late tx.late tx.ends ≡ map (λ (job : SeenJob). job.block) more
-      → AreNew job'.me.places more → Leads p p' standing jobs more at job'
+      → AreNew job'.me.places more → Leads (record { old = p; new = p' }) standing (landing jobs more at job')
   commit_leads p' job' more commits done is handles followings places block blocks new =
       let w = p.state.world in
       let phase = ap flown_phase commits in

@@ -26,7 +26,7 @@ use Rattle.xc_flight.proofs.Ending.{does_late}
 use Rattle.xc_played.specs.Flying.{IsUnnoted, flown, flown_phase, ran_at}
 use Rattle.xc_played.proofs.FlownLists.{flown_there}
 use Rattle.xc_played.proofs.NextLate.{late_split}
-use Rattle.xc_played.proofs.TurnParts.{Flying, world_in, standing_in, asked_same, goes_on}
+use Rattle.xc_played.proofs.TurnParts.{Flying, world_in, standing_in, asked_same, goes_on, airfield}
 
 -- an answer fits a late call by what the host has alone
 late_fits_in : (w : World) (words : List ℕ) (contents : Contents) (started : List (List ℕ)) (c : LateCall) (a : LateAnswer)
@@ -38,7 +38,8 @@ late_fits_in w words contents started c a = refl
 
 module _ (s : Setting) (p : Progress) (words : List ℕ) (was is : Contents) (started started' : List (List ℕ)) (jobs : List SeenJob) (next at : ℕ)
     (job : SeenJob) (place : Position) (tx : SeenTx)
-    (there : slice_get jobs at ≡ Some job) (doing : job.doing ≡ Active tx) (commits : tx.phase ≡ Committing) (f : Flying s p words was started jobs next)
+    (there : slice_get jobs at ≡ Some job) (doing : job.doing ≡ Active tx) (commits : tx.phase ≡ Committing)
+    (f : Flying s p (airfield words was started jobs next))
     (call : LateCall) (end : LateEnd) (fits : IsTrue (late_fits (world_in p.state.world words was started) call (late_answer_of end)))
     (ends_so : late (world_in p.state.world words was started) call (late_answer_of end) ≡ ends (world_in p.state.world words is started') end) where
   abbrev standing : Standing
@@ -68,7 +69,7 @@ module _ (s : Setting) (p : Progress) (words : List ℕ) (was is : Contents) (st
 
   -- it keeps all
   pub late_keeps : (calls : List LateCall) → late_left tx ≡ call ∷ calls → length tx.ends ≤ length tx.late
-      → Flying s p words is started' (slice_set jobs at (with_tx job place after)) next
+      → Flying s p (airfield words is started' (slice_set jobs at (with_tx job place after)) next)
   late_keeps calls left few =
       let behind : InFlight (turned standing at (Some (flown job.me (f.unnoted at) after)) (world_in p.state.world words is started')) =
       subst (λ (e : Ended). InFlight (turned standing at (Some (with_end tx_flown e.end)) e.world)) ends_so

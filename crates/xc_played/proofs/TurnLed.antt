@@ -15,7 +15,8 @@ use Rattle.xc_world.specs.Run.{asked_of, body, run}
 use Rattle.xc_story.specs.Progress.{Following, Progress, untried, private_of, committed_job}
 use Rattle.xc_story.specs.Progress.{following_abort, after_outcome, after_following, words_left, after_entry, opening_progress, progress_of}
 use Rattle.xc_story.specs.Seen.{SeenTx, SeenJob}
-use Rattle.xc_story.specs.LateCalls.{started_late, thread_asked, thread_in}
+use Rattle.xc_story.specs.LateCalls.{started_late}
+use Rattle.xc_data.specs.Calls.{thread_asked, thread_in}
 use Rattle.xc_story.specs.Rows.{entry_of, started_job as seen_started}
 use Rattle.xc_story.proofs.StartedCalls.{started_same}
 use Rattle.xc_script.specs.Slots.{kept_of}

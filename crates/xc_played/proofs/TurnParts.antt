@@ -32,23 +32,39 @@ world_in w words contents started = record (with_contents w contents) { words = 
 abbrev pub standing_in : World → World → (ℕ → List Asked) → List SeenJob → ℕ → Standing
 standing_in w now unnoted jobs next = record { state = w; now = now; active = flown_jobs unnoted jobs; next = next }
 
+-- what they fly over: the words, what the host tells, the blocks of all that were started, the jobs, and the number that is next
+pub record Airfield : Type 0 where
+  pub words : List ℕ
+  pub contents : Contents
+  pub started : List (List ℕ)
+  pub jobs : List SeenJob
+  pub next : ℕ
+
+-- these
+abbrev pub airfield : List ℕ → Contents → List (List ℕ) → List SeenJob → ℕ → Airfield
+airfield words contents started jobs next = record { words = words; contents = contents; started = started; jobs = jobs; next = next }
+
+-- the jobs in flight over it, behind a journal that has led to this world; what isn't noted is by their places
+abbrev pub standing_at : World → Airfield → (ℕ → List Asked) → Standing
+standing_at w a unnoted = standing_in w (world_in w a.words a.contents a.started) unnoted a.jobs a.next
+
 -- what is true of them, behind a journal that has led here
-pub record Flying (s : Setting) (p : Progress) (words : List ℕ) (contents : Contents) (started : List (List ℕ)) (jobs : List SeenJob) (next : ℕ) : Type 0 where
+pub record Flying (s : Setting) (p : Progress) (a : Airfield) : Type 0 where
   pub unnoted : ℕ → List Asked
-  pub was_asked : (at : ℕ) (job : SeenJob) (tx : SeenTx) → slice_get jobs at ≡ Some job → active_of job ≡ Some tx
+  pub was_asked : (at : ℕ) (job : SeenJob) (tx : SeenTx) → slice_get a.jobs at ≡ Some job → active_of job ≡ Some tx
       → IsUnnoted tx.phase (asked_of_tx s (slice_get p.jobs at) tx) (unnoted at)
-  pub flies : InFlight (standing_in p.state.world (world_in p.state.world words contents started) unnoted jobs next)
-  pub sound : AreSound (standing_in p.state.world (world_in p.state.world words contents started) unnoted jobs next)
-  pub idle : (at : ℕ) (job : SeenJob) → slice_get jobs at ≡ Some job → active_of job ≡ None → IsIdleSound p.state.world next job.me.places
-  pub handles : p.state.handles ≡ map (λ (job : SeenJob). job.me.places) jobs
-  pub live : p.state.world.started ≡ map (λ (job : SeenJob). job.block) jobs
+  pub flies : InFlight (standing_at p.state.world a unnoted)
+  pub sound : AreSound (standing_at p.state.world a unnoted)
+  pub idle : (at : ℕ) (job : SeenJob) → slice_get a.jobs at ≡ Some job → active_of job ≡ None → IsIdleSound p.state.world a.next job.me.places
+  pub handles : p.state.handles ≡ map (λ (job : SeenJob). job.me.places) a.jobs
+  pub live : p.state.world.started ≡ map (λ (job : SeenJob). job.block) a.jobs
   pub blocks : p.state.world.blocks ≡ s.script.outline.jobs ++ s.script.outline.bodies
-  pub holds : (at : ℕ) (job : SeenJob) (tx : SeenTx) → slice_get jobs at ≡ Some job → active_of job ≡ Some tx
+  pub holds : (at : ℕ) (job : SeenJob) (tx : SeenTx) → slice_get a.jobs at ≡ Some job → active_of job ≡ Some tx
       → HoldsFor (ran_at p.state.world job.me tx) (asked_of_tx s (slice_get p.jobs at) tx) tx.phase tx.held
 
 -- of a station
 pub flying_of : (s : Setting) (now : Now) → AreFlying s now
-    → Flying s (progress_of s.script now.journal) now.words now.contents now.started now.jobs (begun_count now + 1)
+    → Flying s (progress_of s.script now.journal) (airfield now.words now.contents now.started now.jobs (begun_count now + 1))
 flying_of s now f =
     record {
       unnoted = f.unnoted;
@@ -63,7 +79,8 @@ flying_of s now f =
     }
 
 -- and back
-pub flying_from : (s : Setting) (now : Now) → Flying s (progress_of s.script now.journal) now.words now.contents now.started now.jobs (begun_count now + 1)
+pub flying_from : (s : Setting) (now : Now)
+    → Flying s (progress_of s.script now.journal) (airfield now.words now.contents now.started now.jobs (begun_count now + 1))
     → AreFlying s now
 flying_from s now f =
     record {
@@ -79,14 +96,14 @@ flying_from s now f =
     }
 
 -- ---- what the journal tells of a job
-pub record Follows (s : Setting) (begun entered : ℕ) (p : Progress) (at : ℕ) (job : SeenJob) : Type 0 where
+pub record Follows (s : Setting) (now : Now) (at : ℕ) (job : SeenJob) : Type 0 where
   pub following : Following
-  pub at_place : slice_get p.jobs at ≡ Some following
-  pub told : IsJobTold s begun entered following job
+  pub at_place : slice_get (progress_of s.script now.journal).jobs at ≡ Some following
+  pub told : IsJobTold s (begun_count now) (length now.journal) following job
 
 -- each job is told
 pub told_at : (s : Setting) (words : ℕ) (now : Now) (at : ℕ) (job : SeenJob) → AreTold s words now.marks now.journal now.jobs → slice_get now.jobs at ≡ Some job
-    → Follows s (begun_count now) (length now.journal) (progress_of s.script now.journal) at job
+    → Follows s now at job
 told_at s words now at job told there =
     let lt = inside now.jobs at job there in
     let f = found_at (progress_of s.script now.journal).jobs at (omega (arith, lt, told.count)) in
@@ -99,9 +116,8 @@ asked_same s (Some f) a b e = ap (next_of s.script f) e
 
 -- ---- a job changes, behind the same journal
 -- what is true of the job with its transaction, and with what isn't noted
-pub record Right (s : Setting) (p : Progress) (next at : ℕ) (us : List Asked) (job : SeenJob) : Type 0 where
+pub record Right (s : Setting) (p : Progress) (at : ℕ) (us : List Asked) (job : SeenJob) : Type 0 where
   pub was_asked : (tx : SeenTx) → active_of job ≡ Some tx → IsUnnoted tx.phase (asked_of_tx s (slice_get p.jobs at) tx) us
-  pub idle : active_of job ≡ None → IsIdleSound p.state.world next job.me.places
   pub holds : (tx : SeenTx) → active_of job ≡ Some tx
       → HoldsFor (ran_at p.state.world job.me tx) (asked_of_tx s (slice_get p.jobs at) tx) tx.phase tx.held
 
@@ -120,11 +136,12 @@ put_cases jobs at job job' P there mine others j other e = dite (ℕ_discrete j 
 pub changed : (s : Setting) (p : Progress) (words words' : List ℕ) (contents contents' : Contents) (started started' : List (List ℕ))
     (jobs : List SeenJob) (next next' at : ℕ)
     (us : List Asked) (job job' : SeenJob) → slice_get jobs at ≡ Some job → next ≤ next' → job'.me ≡ job.me → job'.block ≡ job.block
-    → (f : Flying s p words contents started jobs next)
+    → (f : Flying s p (airfield words contents started jobs next))
     → InFlight (standing_in p.state.world (world_in p.state.world words' contents' started') (put_in f.unnoted at us) (slice_set jobs at job') next')
     → AreSound (standing_in p.state.world (world_in p.state.world words' contents' started') (put_in f.unnoted at us) (slice_set jobs at job') next')
-    → Right s p next' at us job' → Flying s p words' contents' started' (slice_set jobs at job') next'
-changed s p words words' contents contents' started started' jobs next next' at us job job' there le me block f flies sound right =
+    → (active_of job' ≡ None → IsIdleSound p.state.world next' job'.me.places) → Right s p at us job'
+    → Flying s p (airfield words' contents' started' (slice_set jobs at job') next')
+changed s p words words' contents contents' started started' jobs next next' at us job job' there le me block f flies sound idle right =
     let w = p.state.world in
     let Idle_so : ℕ → SeenJob → Type 0 = λ j other. active_of other ≡ None → IsIdleSound w next' other.me.places in
     let Holds_so : ℕ → SeenJob → Type 0 = λ j other. (u : SeenTx) → active_of other ≡ Some u
@@ -139,7 +156,7 @@ changed s p words words' contents contents' started started' jobs next next' at 
           (f.was_asked j other u e a)) j other e u a;
       flies = flies;
       sound = sound;
-      idle = put_cases jobs at job job' Idle_so there right.idle (λ j other ne e none m low. f.idle j other e none m (omega (arith, low, le)));
+      idle = put_cases jobs at job job' Idle_so there idle (λ j other ne e none m low. f.idle j other e none m (omega (arith, low, le)));
       handles = f.handles ∙ sym (map-put_same (λ (job : SeenJob). job.me.places) jobs at job' job there (ap (λ (m : Private). m.places) me));
       live = f.live ∙ sym (map-put_same (λ (job : SeenJob). job.block) jobs at job' job there block);
       blocks = f.blocks;
@@ -151,15 +168,14 @@ active_one : (job : SeenJob) (place : Position) (tx u : SeenTx) → active_of (w
 active_one job place tx u e = cc e
 
 -- what is true of an active transaction
-pub right_active : (s : Setting) (p : Progress) (next at : ℕ) (us : List Asked) (job : SeenJob) (place : Position) (tx : SeenTx) (busy : ℕ)
+pub right_active : (s : Setting) (p : Progress) (at : ℕ) (us : List Asked) (job : SeenJob) (place : Position) (tx : SeenTx) (busy : ℕ)
     → IsUnnoted tx.phase (asked_of_tx s (slice_get p.jobs at) tx) us
     → HoldsFor (ran_at p.state.world job.me tx) (asked_of_tx s (slice_get p.jobs at) tx) tx.phase tx.held
-    → Right s p next at us (record (with_tx job place tx) { busy = busy })
-right_active s p next at us job place tx busy asked holds =
+    → Right s p at us (record (with_tx job place tx) { busy = busy })
+right_active s p at us job place tx busy asked holds =
     let w = p.state.world in
     record {
       was_asked = λ u e. subst (λ (v : SeenTx). IsUnnoted v.phase (asked_of_tx s (slice_get p.jobs at) v) us) (active_one job place tx u e) asked;
-      idle = λ none. cc none;
       holds = λ u e. subst (λ (v : SeenTx). HoldsFor (ran_at w job.me v) (asked_of_tx s (slice_get p.jobs at) v) v.phase v.held)
           (active_one job place tx u e) holds;
     }
@@ -168,12 +184,12 @@ right_active s p next at us job place tx busy asked holds =
 pub goes_on : (s : Setting) (p : Progress) (words words' : List ℕ) (contents contents' : Contents) (started started' : List (List ℕ)) (jobs : List SeenJob)
     (next at : ℕ) (us : List Asked)
     (job : SeenJob) (place : Position) (tx tx' : SeenTx) → slice_get jobs at ≡ Some job → job.doing ≡ Active tx → tx'.number ≡ tx.number
-    → (f : Flying s p words contents started jobs next)
+    → (f : Flying s p (airfield words contents started jobs next))
     → InFlight (turned (standing_in p.state.world (world_in p.state.world words contents started) f.unnoted jobs next) at (Some (flown job.me us tx'))
     (world_in p.state.world words' contents' started'))
     → IsUnnoted tx'.phase (asked_of_tx s (slice_get p.jobs at) tx') us
     → HoldsFor (ran_at p.state.world job.me tx') (asked_of_tx s (slice_get p.jobs at) tx') tx'.phase tx'.held
-    → Flying s p words' contents' started' (slice_set jobs at (with_tx job place tx')) next
+    → Flying s p (airfield words' contents' started' (slice_set jobs at (with_tx job place tx')) next)
 goes_on s p words words' contents contents' started started' jobs next at us job place tx tx' there is number f flies asked holds =
     let w = p.state.world in
     let job' : SeenJob = with_tx job place tx' in
@@ -186,16 +202,14 @@ goes_on s p words words' contents contents' started started' jobs next at us job
     changed s p words words' contents contents' started started' jobs next next at us job job' there (omega arith) refl refl f
     (subst (λ active. InFlight (behind active)) (sym put) flies)
     (subst (λ active. AreSound (behind active)) (sym put) sound)
-    (right_active s p next at us job place tx' job.busy asked holds)
+    (λ none. cc none) (right_active s p at us job place tx' job.busy asked holds)
 
 -- ---- an idle job
 -- what is true of a job without a transaction
-pub right_idle : (s : Setting) (p : Progress) (next at : ℕ) (us : List Asked) (job : SeenJob) → active_of job ≡ None
-    → IsIdleSound p.state.world next job.me.places → Right s p next at us job
-right_idle s p next at us job none sound =
+pub right_idle : (s : Setting) (p : Progress) (at : ℕ) (us : List Asked) (job : SeenJob) → active_of job ≡ None → Right s p at us job
+right_idle s p at us job none =
     record {
       was_asked = λ u e. absurd (cc (none, e));
-      idle = λ same. sound;
       holds = λ u e. absurd (cc (none, e));
     }
 
@@ -203,7 +217,7 @@ right_idle s p next at us job none sound =
 pub rests : (s : Setting) (p : Progress) (words : List ℕ) (contents : Contents) (started : List (List ℕ)) (jobs : List SeenJob)
     (next at : ℕ) (job job' : SeenJob)
     → slice_get jobs at ≡ Some job → active_of job ≡ None → active_of job' ≡ None → job'.me ≡ job.me → job'.block ≡ job.block
-    → Flying s p words contents started jobs next → Flying s p words contents started (slice_set jobs at job') next
+    → Flying s p (airfield words contents started jobs next) → Flying s p (airfield words contents started (slice_set jobs at job') next)
 rests s p words contents started jobs next at job job' there none none' me block f =
     let w = p.state.world in
     let same : flown_jobs (put_in f.unnoted at []) (slice_set jobs at job') ≡ flown_jobs f.unnoted jobs =
@@ -214,13 +228,13 @@ rests s p words contents started jobs next at job job' there none none' me block
     changed s p words words contents contents started started jobs next next at [] job job' there (omega arith) me block f
     (subst (λ active. InFlight (behind active)) (sym same) f.flies)
     (subst (λ active. AreSound (behind active)) (sym same) f.sound)
-    (right_idle s p next at [] job' none' (subst (λ (m : Private). IsIdleSound w next m.places) (sym me) (f.idle at job there none)))
+    (λ same. subst (λ (m : Private). IsIdleSound w next m.places) (sym me) (f.idle at job there none)) (right_idle s p at [] job' none')
 
 -- it does what it did: it passed silent statements, or was told to wait
 pub waits : (s : Setting) (p : Progress) (words : List ℕ) (contents : Contents) (started : List (List ℕ)) (jobs : List SeenJob)
     (next at : ℕ) (job job' : SeenJob)
     → slice_get jobs at ≡ Some job → job'.doing ≡ job.doing → job'.me ≡ job.me → job'.block ≡ job.block
-    → Flying s p words contents started jobs next → Flying s p words contents started (slice_set jobs at job') next
+    → Flying s p (airfield words contents started jobs next) → Flying s p (airfield words contents started (slice_set jobs at job') next)
 waits s p words contents started jobs next at job job' there doing me block f =
     let w = p.state.world in
     let us = f.unnoted at in
@@ -232,9 +246,9 @@ waits s p words contents started jobs next at job job' there doing me block f =
     changed s p words words contents contents started started jobs next next at us job job' there (omega arith) me block f
     (subst (λ active. InFlight (behind active)) (sym same) f.flies)
     (subst (λ active. AreSound (behind active)) (sym same) f.sound)
+    (λ none. subst (λ (m : Private). IsIdleSound w next m.places) (sym me) (f.idle at job there (was None none)))
     (record {
       was_asked = λ u e. f.was_asked at job u there (was (Some u) e);
-      idle = λ none. subst (λ (m : Private). IsIdleSound w next m.places) (sym me) (f.idle at job there (was None none));
       holds = λ u e. subst (λ (m : Private). HoldsFor (ran_at w m u) (asked_of_tx s (slice_get p.jobs at) u) u.phase u.held) (sym me)
           (f.holds at job u there (was (Some u) e));
     })
@@ -243,8 +257,8 @@ waits s p words contents started jobs next at job job' there doing me block f =
 pub begins_next : (s : Setting) (p : Progress) (words : List ℕ) (contents : Contents) (started : List (List ℕ)) (jobs : List SeenJob) (next at : ℕ)
     (job : SeenJob) (place : Position)
     (rank began : ℕ) → slice_get jobs at ≡ Some job → active_of job ≡ None → job.me ≡ beginning job.me.places
-    → Flying s p words contents started jobs next
-    → Flying s p words contents started (slice_set jobs at (record (with_tx job place (new_tx next rank began job.me)) { busy = 0 })) (next + 1)
+    → Flying s p (airfield words contents started jobs next)
+    → Flying s p (airfield words contents started (slice_set jobs at (record (with_tx job place (new_tx next rank began job.me)) { busy = 0 })) (next + 1))
 begins_next s p words contents started jobs next at job place rank began there none fresh f =
     let w = p.state.world in
     let tx : SeenTx = new_tx next rank began job.me in
@@ -262,4 +276,4 @@ begins_next s p words contents started jobs next at job place rank began there n
     changed s p words words contents contents started started jobs next (next + 1) at [] job job' there (omega arith) refl refl f
     (subst (λ active. InFlight (behind active)) (sym put) flies)
     (subst (λ active. AreSound (behind active)) (sym put) sound)
-    (right_active s p (next + 1) at [] job place tx 0 tt refl)
+    (λ none. cc none) (right_active s p at [] job place tx 0 tt refl)

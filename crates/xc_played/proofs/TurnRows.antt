@@ -36,9 +36,9 @@ use Rattle.xc_played.proofs.TurnLists.{picked-put, size}
 use Rattle.std.proofs.Common.{append-nil}
 use Rattle.xc_data.specs.declared.call.LateCall.TheVariants.{Thread}
 use Rattle.xc_story.specs.LateCalls.{started_late}
-use Rattle.xc_story.specs.Rows.{Starts, started_jobs}
+use Rattle.xc_story.specs.Rows.{Starts, started_jobs, mover}
 use Rattle.xc_story.specs.Seen.{joined}
-use Rattle.xc_played.proofs.TurnParts.{world_in, Flying, Follows, begins_next, flying_from, flying_of, rests, told_at, waits}
+use Rattle.xc_played.proofs.TurnParts.{world_in, Flying, Follows, begins_next, flying_from, flying_of, rests, told_at, waits, airfield}
 use Rattle.xc_played.proofs.TurnWants.{wants_so}
 
 -- ---- a station behind a turn
@@ -46,14 +46,14 @@ use Rattle.xc_played.proofs.TurnWants.{wants_so}
 pub flies_so : (s : Setting) (now : Now) (p : Progress) (words : List ℕ) (contents : Contents) (started : List (List ℕ)) (jobs : List SeenJob) (next : ℕ)
     → progress_of s.script now.journal ≡ p → now.words ≡ words → now.contents ≡ contents → now.started ≡ started → now.jobs ≡ jobs
     → begun_count now + 1 ≡ next
-    → Flying s p words contents started jobs next → AreFlying s now
+    → Flying s p (airfield words contents started jobs next) → AreFlying s now
 flies_so s now p words contents started jobs next led was is begun put count f =
-    flying_from s now (subst (λ q. Flying s q now.words now.contents now.started now.jobs (begun_count now + 1)) (sym led)
-    (subst (λ w. Flying s p w now.contents now.started now.jobs (begun_count now + 1)) (sym was)
-    (subst (λ c. Flying s p words c now.started now.jobs (begun_count now + 1)) (sym is)
-    (subst (λ bs. Flying s p words contents bs now.jobs (begun_count now + 1)) (sym begun)
-    (subst (λ j. Flying s p words contents started j (begun_count now + 1)) (sym put)
-    (subst (λ n. Flying s p words contents started jobs n) (sym count) f))))))
+    flying_from s now (subst (λ q. Flying s q (airfield now.words now.contents now.started now.jobs (begun_count now + 1))) (sym led)
+    (subst (λ w. Flying s p (airfield w now.contents now.started now.jobs (begun_count now + 1))) (sym was)
+    (subst (λ c. Flying s p (airfield words c now.started now.jobs (begun_count now + 1))) (sym is)
+    (subst (λ bs. Flying s p (airfield words contents bs now.jobs (begun_count now + 1))) (sym begun)
+    (subst (λ j. Flying s p (airfield words contents started j (begun_count now + 1))) (sym put)
+    (subst (λ n. Flying s p (airfield words contents started jobs n)) (sym count) f))))))
 
 -- how many have begun where one job is put
 count_put : (jobs : List SeenJob) (at : ℕ) (job job' : SeenJob) → slice_get jobs at ≡ Some job
@@ -63,7 +63,8 @@ count_put jobs at job job' there = picked-put active_of jobs at job' job there
 -- where the journal stays, and as many are active
 row_kept : (s : Setting) (old new : Now) (at : ℕ) (job job' : SeenJob) → slice_get old.jobs at ≡ Some job → size (active_of job') ≡ size (active_of job)
     → new.journal ≡ old.journal → new.jobs ≡ slice_set old.jobs at job'
-    → Flying s (progress_of s.script old.journal) new.words new.contents new.started (slice_set old.jobs at job') (begun_count old + 1) → AreFlying s new
+    → Flying s (progress_of s.script old.journal) (airfield new.words new.contents new.started (slice_set old.jobs at job') (begun_count old + 1))
+    → AreFlying s new
 row_kept s old new at job job' there same journal put f =
     let count = count_put old.jobs at job job' there in
     let many : length (actives new.jobs) ≡ length (actives (slice_set old.jobs at job')) = ap (λ js. length (actives js)) put in
@@ -90,10 +91,10 @@ module _ (s : Setting) (old : Now) (at : ℕ) (job : SeenJob) (there : slice_get
   abbrev before : Progress
   before = progress_of s.script old.journal
 
-  f : Flying s before old.words old.contents old.started old.jobs (begun_count old + 1)
+  f : Flying s before (airfield old.words old.contents old.started old.jobs (begun_count old + 1))
   f = flying_of s old flying
 
-  follows : Follows s (begun_count old) (length old.journal) before at job
+  follows : Follows s old at job
   follows = told_at s (length old.words) old at job told there
 
   -- ---- an idle job
@@ -138,22 +139,23 @@ module _ (s : Setting) (old : Now) (at : ℕ) (job : SeenJob) (there : slice_get
         ap (λ o. asked_of_tx s o tx) follows.at_place ∙ ap asks (sym running.ahead)
 
     as_new : (new : Now) (jobs : List SeenJob) → new.words ≡ old.words → new.started ≡ old.started
-        → Flying s before old.words new.contents old.started jobs (begun_count old + 1)
-        → Flying s before new.words new.contents new.started jobs (begun_count old + 1)
+        → Flying s before (airfield old.words new.contents old.started jobs (begun_count old + 1))
+        → Flying s before (airfield new.words new.contents new.started jobs (begun_count old + 1))
     as_new new jobs words begun f =
-        subst (λ ws. Flying s before ws new.contents new.started jobs (begun_count old + 1)) (sym words)
-        (subst (λ bs. Flying s before old.words new.contents bs jobs (begun_count old + 1)) (sym begun) f)
+        subst (λ ws. Flying s before (airfield ws new.contents new.started jobs (begun_count old + 1))) (sym words)
+        (subst (λ bs. Flying s before (airfield old.words new.contents bs jobs (begun_count old + 1))) (sym begun) f)
 
     kept : (new : Now) (place : Position) (tx' : SeenTx) → new.journal ≡ old.journal → new.jobs ≡ slice_set old.jobs at (with_tx job place tx')
-        → Flying s before new.words new.contents new.started (slice_set old.jobs at (with_tx job place tx')) (begun_count old + 1) → AreFlying s new
+        → Flying s before (airfield new.words new.contents new.started (slice_set old.jobs at (with_tx job place tx')) (begun_count old + 1)) → AreFlying s new
     kept new place tx' = row_kept s old new at job (with_tx job place tx') there (sym one)
 
     -- a call
-    pub row_calls : (new : Now) (c : Call) → IsTrue s.tells → tx.phase ≡ Running → Calls s at old job tx c new → AreFlying s new
+    pub row_calls : (new : Now) (c : Call) → IsTrue s.tells → tx.phase ≡ Running → Calls (mover s at old job) tx c new → AreFlying s new
     row_calls new c tells runs row =
         let w = before.state.world in
         let at_words = record w { words = old.words; started = old.started } in
-        let go : Stepping (seen at_words old.contents tx.writes) (seen at_words new.contents row.parts.stores) tx c row.reply row.parts = record {
+        let go : Stepping (record { old = seen at_words old.contents tx.writes; new = seen at_words new.contents row.parts.stores }) tx c row.reply row.parts
+        = record {
           does = row.does tells at_words refl;
           ended = ap (λ (u : Records). u.ended) row.undo;
         } in
@@ -172,26 +174,26 @@ module _ (s : Setting) (old : Now) (at : ℕ) (job : SeenJob) (there : slice_get
         (back_keeps s before old.words old.contents old.started old.jobs (begun_count old + 1) at job place tx there doing f c runs)
 
     -- at a holder
-    pub row_conflicts : (new : Now) (c : Call) → tx.phase ≡ Running → Conflicts s at old job tx c new → AreFlying s new
+    pub row_conflicts : (new : Now) (c : Call) → tx.phase ≡ Running → Conflicts (mover s at old job) tx c new → AreFlying s new
     row_conflicts new c runs row = subst (AreFlying s) (sym row.behind) (row_back (cause.Conflict row.object row.holder (length old.journal)) row.place runs)
 
     -- where it is marked
-    pub row_revokes : (new : Now) (m : Mark) → tx.phase ≡ Running → Revokes s at old job tx m new → AreFlying s new
+    pub row_revokes : (new : Now) (m : Mark) → tx.phase ≡ Running → Revokes (mover s at old job) tx m new → AreFlying s new
     row_revokes new m runs row = subst (AreFlying s) (sym row) (row_back (revoked m) job.place runs)
 
     -- where the abort is asked
-    pub row_turns_back : (new : Now) → tx.phase ≡ Running → TurnsBack s at old job tx new → AreFlying s new
+    pub row_turns_back : (new : Now) → tx.phase ≡ Running → TurnsBack (mover s at old job) tx new → AreFlying s new
     row_turns_back new runs row = subst (AreFlying s) (sym row.behind) (row_back cause.Asked row.place runs)
 
     -- a commit
-    pub row_commits : (new : Now) → tx.phase ≡ Running → Commits s at old job tx new → AreFlying s new
+    pub row_commits : (new : Now) → tx.phase ≡ Running → Commits (mover s at old job) tx new → AreFlying s new
     row_commits new runs row = subst (AreFlying s) (sym row.behind)
         (kept (record (with_job old at (with_tx job row.place (record tx { phase = Committing }))) { words = overlaid old.words tx.writes })
         row.place (record tx { phase = Committing }) refl refl
         (commit_keeps s before old.words old.contents old.started old.jobs (begun_count old + 1) at job row.place tx there doing f runs))
 
     -- where memory was wanting
-    pub row_wants : (new : Now) → IsTrue s.tells → tx.phase ≡ Running → Wants s at old job tx new → AreFlying s new
+    pub row_wants : (new : Now) → IsTrue s.tells → tx.phase ≡ Running → Wants (mover s at old job) tx new → AreFlying s new
     row_wants new tells runs row =
         let next : SeenTx = wanting tx row.left row.held in
         kept new row.place next (ap (λ (n : Now). n.journal) row.behind) (ap (λ (n : Now). n.jobs) row.behind)
@@ -200,7 +202,7 @@ module _ (s : Setting) (old : Now) (at : ℕ) (job : SeenJob) (there : slice_get
         row.holds (row.contents tells)))
 
     -- a record is tried
-    pub row_compensates : (new : Now) (c : Cause) → IsTrue s.tells → tx.phase ≡ Undoing c → Compensates s at old job tx new → AreFlying s new
+    pub row_compensates : (new : Now) (c : Cause) → IsTrue s.tells → tx.phase ≡ Undoing c → Compensates (mover s at old job) tx new → AreFlying s new
     row_compensates new c tells undoes row =
         let tx' : SeenTx = record tx { undo = record { pending = row.older; ended = (row.tried, row.end) ∷ tx.undo.ended } } in
         kept new job.place tx' (ap (λ (n : Now). n.journal) row.behind) (ap (λ (n : Now). n.jobs) row.behind)
@@ -214,7 +216,7 @@ module _ (s : Setting) (old : Now) (at : ℕ) (job : SeenJob) (there : slice_get
 
     -- a late call
     pub row_ends_late : (new : Now) (call : LateCall) (calls : List LateCall) → IsTrue s.tells → tx.phase ≡ Committing → late_left tx ≡ call ∷ calls
-        → EndsLate s at old job tx call new → AreFlying s new
+        → EndsLate (mover s at old job) tx call new → AreFlying s new
     row_ends_late new call calls tells commits left row =
         let tx' : SeenTx = record tx { ends = tx.ends ++ row.end ∷ [] } in
         let done = host_late before.state.world old.words old.contents new.contents old.started call row.end (row.does tells) in
@@ -226,7 +228,7 @@ module _ (s : Setting) (old : Now) (at : ℕ) (job : SeenJob) (there : slice_get
 
     -- one that starts a job
     pub row_starts : (new : Now) (block : List ℕ) (calls : List LateCall) → tx.phase ≡ Committing → late_left tx ≡ Thread block ∷ calls
-        → Starts s at old job tx block new → AreFlying s new
+        → Starts (mover s at old job) tx block new → AreFlying s new
     row_starts new block calls commits left row =
         let tx' : SeenTx = record tx { ends = tx.ends ++ row.end ∷ [] } in
         let jobs = slice_set old.jobs at (with_tx job job.place tx') in
@@ -236,13 +238,13 @@ module _ (s : Setting) (old : Now) (at : ℕ) (job : SeenJob) (there : slice_get
         let flown = late_keeps s before old.words old.contents old.contents old.started new.started old.jobs next at job job.place tx there doing commits f
         (Thread block) row.end done.fits done.step calls left (committing commits).few_ends in
         kept new job.place tx' (ap (λ (n : Now). n.journal) row.behind) (ap (λ (n : Now). n.jobs) row.behind)
-        (subst (λ ws. Flying s before ws new.contents new.started jobs next) (sym (ap (λ (n : Now). n.words) row.behind))
-        (subst (λ cs. Flying s before old.words cs new.started jobs next) (sym (ap (λ (n : Now). n.contents) row.behind)) flown))
+        (subst (λ ws. Flying s before (airfield ws new.contents new.started jobs next)) (sym (ap (λ (n : Now). n.words) row.behind))
+        (subst (λ cs. Flying s before (airfield old.words cs new.started jobs next)) (sym (ap (λ (n : Now). n.contents) row.behind)) flown))
 
     -- ---- an entry
     entered_so : (job' : SeenJob) (e : Entry) (contents : Contents) (more : List SeenJob) → active_of job' ≡ None
         → actives (slice_set old.jobs at job' ++ more) ≡ actives (slice_set old.jobs at job')
-        → Flying s (after_entry s.script before e) old.words contents old.started (slice_set old.jobs at job' ++ more) (begun_count old + 1)
+        → Flying s (after_entry s.script before e) (airfield old.words contents old.started (slice_set old.jobs at job' ++ more) (begun_count old + 1))
         → AreFlying s (joined (record (entering old at job' e) { contents = contents }) more)
     entered_so job' e contents more none same flown =
         let new : Now = joined (record (entering old at job' e) { contents = contents }) more in
@@ -279,7 +281,7 @@ module _ (s : Setting) (old : Now) (at : ℕ) (job : SeenJob) (there : slice_get
 
     -- of an abort
     pub row_abort_enters : (new : Now) (c : Cause) → IsTrue s.tells → tx.phase ≡ Undoing c → tx.undo.pending ≡ []
-        → EntersAborted s at old job tx c new → AreFlying s new
+        → EntersAborted (mover s at old job) tx c new → AreFlying s new
     row_abort_enters new c tells undoes none row =
         let fresh = follows.told.fresh in
         let next = begun_count old + 1 in

@@ -20,7 +20,7 @@ use Rattle.xc_story.specs.Seen.{SeenJob, Now, active_of, actives}
 use Rattle.xc_flight.specs.Standing.{IsIdleSound}
 use Rattle.xc_flight.proofs.Rows.{starts}
 use Rattle.xc_played.specs.Flying.{AreFlying, flown_jobs}
-use Rattle.xc_played.proofs.TurnParts.{Flying, standing_in, world_in}
+use Rattle.xc_played.proofs.TurnParts.{Flying, standing_in, world_in, airfield}
 use Rattle.xc_played.proofs.TurnRows.{flies_so}
 
 -- ---- what is opened
@@ -100,8 +100,8 @@ module _ (script : Script) where
 
 -- ---- the start
 opening_flies : (s : Setting) → KeepsLimits s.script.outline
-    → Flying s (opening_progress s.script) s.script.outline.words (opened s.script.outline.prologue.objects) s.script.outline.jobs
-    (map (opened_job s.script) s.script.outline.jobs) 1
+    → Flying s (opening_progress s.script) (airfield s.script.outline.words (opened s.script.outline.prologue.objects) s.script.outline.jobs
+    (map (opened_job s.script) s.script.outline.jobs) 1)
 opening_flies s limits =
     let script = s.script in
     let names = script.outline.jobs in

@@ -17,7 +17,7 @@ use Rattle.xc_story.specs.Setting.{Setting}
 use Rattle.xc_story.specs.Told.{AreTold}
 use Rattle.xc_story.specs.Seen.{SeenTx, SeenJob, Doing, Idle, Active, Starved, Ended, Now, active_in, late_left, waiting}
 use Rattle.xc_story.specs.Rows.{with_tx, IsTurn, TurnOf, IdleTurn, ActiveTurn, MarkedTurn, RunningTurn, AskedTurn, CommittingTurn, LateTurn, NextLate}
-use Rattle.xc_story.specs.Rows.{UndoingTurn, BackTurn, StarvedTurn}
+use Rattle.xc_story.specs.Rows.{UndoingTurn, BackTurn, StarvedTurn, mover}
 use Rattle.xc_played.specs.Flying.{AreFlying}
 use Rattle.xc_played.proofs.TurnRows.{row_begins, row_ends, row_calls, row_conflicts, row_turns_back, row_commits, row_wants, row_waits, row_revokes}
 use Rattle.xc_played.proofs.TurnRows.{row_compensates, row_ends_late, row_starts, row_commit_enters, row_abort_enters}
@@ -30,14 +30,14 @@ waits_only old new at job' marks is =
 
 module _ (s : Setting) (old : Now) (at : ℕ) (job : SeenJob) (there : slice_get old.jobs at ≡ Some job)
     (told : AreTold s (length old.words) old.marks old.journal old.jobs) (flying : AreFlying s old) (tells : IsTrue s.tells) (new : Now) where
-  idle_flies : (answer : Turn) → job.doing ≡ Idle → IdleTurn s at old job answer new → AreFlying s new
+  idle_flies : (answer : Turn) → job.doing ≡ Idle → IdleTurn (mover s at old job) answer new → AreFlying s new
   idle_flies (turn.Ended end) doing row = subst (AreFlying s) (sym row.1) (row_ends s old at job there told flying (Ended end) (ap active_in doing) refl)
   idle_flies turn.Went doing row = subst (AreFlying s) (sym row.1) (row_begins s old at job there told flying (ap active_in doing))
   idle_flies (turn.Busy object number) doing row =
       row_waits s old at job there told flying new (waiting job) refl refl refl (waits_only old new at (waiting job) old.marks row.1)
   idle_flies turn.NoMemory doing row = absurd row
 
-  starved_flies : (answer : Turn) → job.doing ≡ Starved → StarvedTurn at old job answer new → AreFlying s new
+  starved_flies : (answer : Turn) → job.doing ≡ Starved → StarvedTurn (mover s at old job) answer new → AreFlying s new
   starved_flies (turn.Ended job_end.NoMemory) doing row =
       subst (AreFlying s) (sym row) (row_ends s old at job there told flying (Ended job_end.NoMemory) (ap active_in doing) refl)
   starved_flies (turn.Ended job_end.Done) doing row = absurd row
@@ -48,14 +48,14 @@ module _ (s : Setting) (old : Now) (at : ℕ) (job : SeenJob) (there : slice_get
   starved_flies turn.NoMemory doing row = absurd row
 
   module _ (tx : SeenTx) (doing : job.doing ≡ Active tx) where
-    asked_flies : (a : Ask) → tx.phase ≡ Running → AskedTurn s at old job tx a new → AreFlying s new
+    asked_flies : (a : Ask) → tx.phase ≡ Running → AskedTurn (mover s at old job) tx a new → AreFlying s new
     asked_flies (ask.Call c) runs (inl row) = row_calls s old at job there told flying tx doing new c tells runs row
     asked_flies (ask.Call c) runs (inr row) = row_conflicts s old at job there told flying tx doing new c runs row
     asked_flies ask.Commit runs row = row_commits s old at job there told flying tx doing new runs row
     asked_flies ask.Abort runs row = row_turns_back s old at job there told flying tx doing new runs row
     asked_flies ask.End runs row = absurd row
 
-    running_flies : (answer : Turn) → tx.phase ≡ Running → RunningTurn s at old job tx answer new → AreFlying s new
+    running_flies : (answer : Turn) → tx.phase ≡ Running → RunningTurn (mover s at old job) tx answer new → AreFlying s new
     running_flies turn.Went runs row = asked_flies _ runs row
     running_flies turn.NoMemory runs row = row_wants s old at job there told flying tx doing new tells runs row
     running_flies (turn.Busy object holder) runs row =
@@ -63,44 +63,45 @@ module _ (s : Setting) (old : Now) (at : ℕ) (job : SeenJob) (there : slice_get
         (waits_only old new at (waiting (with_tx job row.place tx)) _ row.behind)
     running_flies (turn.Ended end) runs row = absurd row
 
-    marked_flies : (m : Option Mark) (answer : Turn) → tx.phase ≡ Running → MarkedTurn s at old job tx m answer new → AreFlying s new
+    marked_flies : (m : Option Mark) (answer : Turn) → tx.phase ≡ Running → MarkedTurn (mover s at old job) tx m answer new → AreFlying s new
     marked_flies None answer runs row = running_flies answer runs row
     marked_flies (Some m) turn.Went runs row = row_revokes s old at job there told flying tx doing new m runs row
     marked_flies (Some m) turn.NoMemory runs row = absurd row
     marked_flies (Some m) (turn.Busy object holder) runs row = absurd row
     marked_flies (Some m) (turn.Ended end) runs row = absurd row
 
-    next_flies : (call : LateCall) (calls : List LateCall) → tx.phase ≡ Committing → late_left tx ≡ call ∷ calls → NextLate s at old job tx call new
+    next_flies : (call : LateCall) (calls : List LateCall) → tx.phase ≡ Committing → late_left tx ≡ call ∷ calls → NextLate (mover s at old job) tx call new
         → AreFlying s new
     next_flies (Thread block) calls commits some row = row_starts s old at job there told flying tx doing new block calls commits some row
     next_flies call calls commits some row = row_ends_late s old at job there told flying tx doing new call calls tells commits some row
 
-    late_flies : (left : List LateCall) → tx.phase ≡ Committing → late_left tx ≡ left → LateTurn s at old job tx left new → AreFlying s new
+    late_flies : (left : List LateCall) → tx.phase ≡ Committing → late_left tx ≡ left → LateTurn (mover s at old job) tx left new → AreFlying s new
     late_flies [] commits none row = subst (AreFlying s) (sym row.0) (row_commit_enters s old at job there told flying tx doing commits none)
     late_flies (call ∷ calls) commits some row = next_flies call calls commits some row
 
-    committing_flies : (answer : Turn) → tx.phase ≡ Committing → CommittingTurn s at old job tx answer new → AreFlying s new
+    committing_flies : (answer : Turn) → tx.phase ≡ Committing → CommittingTurn (mover s at old job) tx answer new → AreFlying s new
     committing_flies turn.Went commits row = late_flies (late_left tx) commits refl row
     committing_flies turn.NoMemory commits row = absurd row
     committing_flies (turn.Busy object holder) commits row = absurd row
     committing_flies (turn.Ended end) commits row = absurd row
 
-    back_flies : (c : Cause) (pending : List Undo) → tx.phase ≡ Undoing c → tx.undo.pending ≡ pending → BackTurn s at old job tx c pending new → AreFlying s new
+    back_flies : (c : Cause) (pending : List Undo) → tx.phase ≡ Undoing c → tx.undo.pending ≡ pending → BackTurn (mover s at old job) tx c pending new
+        → AreFlying s new
     back_flies c [] undoes none row = row_abort_enters s old at job there told flying tx doing new c tells undoes none row
     back_flies c (u ∷ pending) undoes some row = row_compensates s old at job there told flying tx doing new c tells undoes row
 
-    undoing_flies : (c : Cause) (answer : Turn) → tx.phase ≡ Undoing c → UndoingTurn s at old job tx c answer new → AreFlying s new
+    undoing_flies : (c : Cause) (answer : Turn) → tx.phase ≡ Undoing c → UndoingTurn (mover s at old job) tx c answer new → AreFlying s new
     undoing_flies c turn.Went undoes row = back_flies c tx.undo.pending undoes refl row
     undoing_flies c turn.NoMemory undoes row = absurd row
     undoing_flies c (turn.Busy object holder) undoes row = absurd row
     undoing_flies c (turn.Ended end) undoes row = absurd row
 
-    active_flies : (p : Phase) (answer : Turn) → tx.phase ≡ p → ActiveTurn s at old job tx p answer new → AreFlying s new
+    active_flies : (p : Phase) (answer : Turn) → tx.phase ≡ p → ActiveTurn (mover s at old job) tx p answer new → AreFlying s new
     active_flies Running answer is row = marked_flies (old.marks tx.number) answer is row
     active_flies Committing answer is row = committing_flies answer is row
     active_flies (Undoing c) answer is row = undoing_flies c answer is row
 
-  doing_flies : (d : Doing) (answer : Turn) → job.doing ≡ d → TurnOf s at old job d answer new → AreFlying s new
+  doing_flies : (d : Doing) (answer : Turn) → job.doing ≡ d → TurnOf (mover s at old job) d answer new → AreFlying s new
   doing_flies Idle answer doing row = idle_flies answer doing row
   doing_flies (Active tx) answer doing row = active_flies tx doing tx.phase answer refl row
   doing_flies Starved answer doing row = starved_flies answer doing row

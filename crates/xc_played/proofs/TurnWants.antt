@@ -24,7 +24,7 @@ use Rattle.xc_story.specs.Played.{HoldsFor}
 use Rattle.xc_story.specs.Told.{asked_of_tx}
 use Rattle.xc_story.specs.Truth.{IsPartOf, next_claims}
 use Rattle.xc_story.specs.Seen.{SeenTx, SeenJob, Active, Now, active_in}
-use Rattle.xc_story.specs.Rows.{DoesPart, HasNoRival, HoldsWanting, IsLeft, asked_at, claims_at, parts_of, seen, wanting, with_tx}
+use Rattle.xc_story.specs.Rows.{DoesPart, HasNoRival, HoldsWanting, IsLeft, asked_at, claims_at, parts_of, seen, wanting, with_tx, mover}
 use Rattle.xc_flight.specs.Active.{Tx, HoldTheSame}
 use Rattle.xc_flight.specs.Active as flight
 use Rattle.xc_flight.specs.Standing.{Standing, InFlight, IsActive, turned}
@@ -39,7 +39,7 @@ use Rattle.xc_played.proofs.FlownLists.{flown_there, none_unnoted}
 use Rattle.xc_played.proofs.TurnBack.{back_keeps}
 use Rattle.xc_played.proofs.TurnCalls.{holding-more}
 use Rattle.xc_played.proofs.TurnLists.{put_at}
-use Rattle.xc_played.proofs.TurnParts.{Flying, world_in, standing_in, asked_same, goes_on}
+use Rattle.xc_played.proofs.TurnParts.{Flying, world_in, standing_in, asked_same, goes_on, airfield}
 use Rattle.xc_played.proofs.TurnRivals.{no_rivals}
 
 part_itself : {A : Type 0} (xs : List A) → IsPartOf xs xs
@@ -53,12 +53,13 @@ asked_by c answer = record { call = c; answer = answer }
 module _ (s : Setting) (p : Progress) (words : List ℕ) (contents : Contents) (started : List (List ℕ)) (jobs : List SeenJob) (next at : ℕ)
     (job : SeenJob) (place : Position)
     (tx : SeenTx)
-    (there : slice_get jobs at ≡ Some job) (doing : job.doing ≡ Active tx) (f : Flying s p words contents started jobs next) (runs : tx.phase ≡ Running) where
+    (there : slice_get jobs at ≡ Some job) (doing : job.doing ≡ Active tx)
+    (f : Flying s p (airfield words contents started jobs next)) (runs : tx.phase ≡ Running) where
   -- it leaves nothing, and holds no more
-  pub wants_keeps : Flying s p words contents started (slice_set jobs at (with_tx job place (wanting tx [] tx.held))) next
+  pub wants_keeps : Flying s p (airfield words contents started (slice_set jobs at (with_tx job place (wanting tx [] tx.held))) next)
   wants_keeps =
-      subst (λ us. Flying s p words contents started
-      (slice_set jobs at (with_tx job place (record tx { phase = Undoing cause.NoMemory; undo = record tx.undo { pending = us } }))) next)
+      subst (λ us. Flying s p (airfield words contents started
+      (slice_set jobs at (with_tx job place (record tx { phase = Undoing cause.NoMemory; undo = record tx.undo { pending = us } }))) next))
       (sym (append-nil tx.undo.pending)) (back_keeps s p words contents started jobs next at job place tx there doing f cause.NoMemory runs)
 
   abbrev standing : Standing
@@ -134,12 +135,12 @@ module _ (s : Setting) (p : Progress) (words : List ℕ) (contents : Contents) (
       wanter_keeps : (us : List Asked) (contents' : Contents)
           → InFlight (turned standing at (Some (flown job.me us wanter)) (world_in p.state.world words contents' started))
           → IsUnnoted (Undoing cause.NoMemory) (asked_of_tx s (slice_get p.jobs at) wanter) us
-          → Flying s p words contents' started (slice_set jobs at (with_tx job place wanter)) next
+          → Flying s p (airfield words contents' started (slice_set jobs at (with_tx job place wanter)) next)
       wanter_keeps us contents' flies was =
           goes_on s p words words contents contents' started started jobs next at us job place tx wanter there doing refl f flies was wanter_holds
 
     -- it leaves nothing, behind its claims
-    pub wants_claims_keeps : Flying s p words contents started (slice_set jobs at (with_tx job place (wanting tx [] all_held))) next
+    pub wants_claims_keeps : Flying s p (airfield words contents started (slice_set jobs at (with_tx job place (wanting tx [] all_held))) next)
     wants_claims_keeps =
         wanter_keeps [] (f.unnoted at) contents
         (subst (λ us. InFlight (turned standing at (Some (flown job.me (f.unnoted at)
@@ -150,9 +151,10 @@ module _ (s : Setting) (p : Progress) (words : List ℕ) (contents : Contents) (
 
     -- the call did its part, with this answer, and these records are left
     module _ (left : List Undo) (answer : Answer) (contents' : Contents)
-        (does : DoesPart (seen (record p.state.world { words = words; started = started }) contents tx.writes)
-        (seen (record p.state.world { words = words; started = started }) contents' tx.writes)
-        (parts_of tx) (asked_by c answer) left) where
+        (does : DoesPart (record {
+          old = seen (record p.state.world { words = words; started = started }) contents tx.writes;
+          new = seen (record p.state.world { words = words; started = started }) contents' tx.writes;
+        }) (parts_of tx) (asked_by c answer) left) where
       abbrev asked_last : Asked
       asked_last = asked_by c answer
 
@@ -176,7 +178,7 @@ module _ (s : Setting) (p : Progress) (words : List ℕ) (contents : Contents) (
       part_there = ap (λ (v : World). record v { words = words }) (sym does.world)
 
       -- it keeps all
-      pub wants_part_keeps : Flying s p words contents' started (slice_set jobs at (with_tx job place (wanting tx left all_held))) next
+      pub wants_part_keeps : Flying s p (airfield words contents' started (slice_set jobs at (with_tx job place (wanting tx left all_held))) next)
       wants_part_keeps =
           let wanter : SeenTx = wanting tx left all_held in
           wanter_keeps left (asked_last ∷ []) contents'
@@ -186,10 +188,10 @@ module _ (s : Setting) (p : Progress) (words : List ℕ) (contents : Contents) (
 
 -- ---- whatever it left
 module _ (s : Setting) (p : Progress) (old new : Now) (next at : ℕ) (job : SeenJob) (place : Position) (tx : SeenTx) (there : slice_get old.jobs at ≡ Some job)
-    (doing : job.doing ≡ Active tx) (f : Flying s p old.words old.contents old.started old.jobs next) (runs : tx.phase ≡ Running)
+    (doing : job.doing ≡ Active tx) (f : Flying s p (airfield old.words old.contents old.started old.jobs next)) (runs : tx.phase ≡ Running)
     (asks : asked_of_tx s (slice_get p.jobs at) tx ≡ asked_at s job.place) where
   abbrev Wanting : List Undo → List Claim → Contents → Type 0
-  Wanting left held contents = Flying s p old.words contents old.started (slice_set old.jobs at (with_tx job place (wanting tx left held))) next
+  Wanting left held contents = Flying s p (airfield old.words contents old.started (slice_set old.jobs at (with_tx job place (wanting tx left held))) next)
 
   -- a call that left nothing changed nothing at the host
   same_there : (a : Ask) → asked_at s job.place ≡ a → IsLeft old new (parts_of tx) a [] → new.contents ≡ old.contents
@@ -213,7 +215,7 @@ module _ (s : Setting) (p : Progress) (old new : Now) (next at : ℕ) (job : See
       (wants_keeps s p old.words old.contents old.started old.jobs next at job place tx there doing f runs)))
 
   -- it keeps all
-  pub wants_so : (a : Ask) (left : List Undo) (held : List Claim) → asked_at s job.place ≡ a → HoldsWanting old at tx a left held
+  pub wants_so : (a : Ask) (left : List Undo) (held : List Claim) → asked_at s job.place ≡ a → HoldsWanting (mover s at old job) tx a left held
       → IsLeft old new (parts_of tx) a left → Wanting left held new.contents
   wants_so (ask.Call c) left held asked (inl same) leaves = wants_same (ask.Call c) left held asked same leaves
   wants_so (ask.Call c) left held asked (inr more) (inl none) =

@@ -101,6 +101,7 @@ taken_from (Message pair side bytes) = object.Pair pair
 abbrev pub IsEmptyNew : World → Undo → Type 0
 IsEmptyNew w (NewPipe num) = (pipe_of w num).held ≡ []
 IsEmptyNew w (NewPair num) = ((pair_of w num).first ≡ []) × ((pair_of w num).second ≡ [])
+-- no other record makes a pipe or a pair
 IsEmptyNew w _ = Unit {0}
 
 -- ---- between two turns: the jobs' transactions fly, and beside it what an entry and a begin need

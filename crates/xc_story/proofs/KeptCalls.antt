@@ -7,7 +7,7 @@ use Rattle.xc_data.specs.declared.call.Call.{Call}
 use Rattle.xc_data.specs.declared.call.Call.TheVariants as call
 use Rattle.xc_data.specs.declared.call.LateEnd.{LateEnd}
 use Rattle.xc_data.specs.declared.call.Reply.{Reply}
-use Rattle.xc_world.specs.Late.{is_late}
+use Rattle.xc_data.specs.Calls.{is_late}
 use Rattle.xc_script.specs.Slots.{kept_of}
 use Rattle.xc_story.specs.Progress.{started_blocks, started_by}
 use Rattle.xc_story.specs.Rows.{is_built}

@@ -6,7 +6,8 @@ use Rattle.xc_data.specs.declared.call.Call.TheVariants as call
 use Rattle.xc_data.specs.declared.call.LateCall.{LateCall}
 use Rattle.xc_data.specs.declared.call.LateEnd.{LateEnd}
 use Rattle.xc_data.specs.declared.call.LateEnd.TheVariants as end
-use Rattle.xc_story.specs.LateCalls.{started_late, started_with, thread_asked, thread_in}
+use Rattle.xc_story.specs.LateCalls.{started_late, started_with}
+use Rattle.xc_data.specs.Calls.{thread_asked, thread_in}
 use Rattle.xc_story.specs.Progress.{started_blocks, started_by}
 
 started_one : (c : Call) (o : Option (List ℕ)) (e : LateEnd) → o ≡ thread_asked c → started_with o e ≡ started_by c e

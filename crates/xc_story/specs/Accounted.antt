@@ -17,7 +17,7 @@ use Rattle.xc_script.specs.Slots.{kept_of}
 use Rattle.xc_world.specs.Fits.{late_answer_of}
 use Rattle.xc_world.specs.Late.{late}
 use Rattle.xc_world.specs.World.{World}
-use Rattle.xc_story.specs.Grounds.{Ground, Revocation}
+use Rattle.xc_story.specs.Grounds.{Scene, Ground, Part, Revocation, scene_of}
 use Rattle.xc_story.specs.Progress.{Progress, body_of, following_of, progress_of}
 use Rattle.xc_story.specs.Setting.{Setting}
 use Rattle.xc_story.specs.Truth.{asked_behind, part_of, parts_of}
@@ -34,35 +34,59 @@ AreLateEnds w [] ends = ends ≡ []
 AreLateEnds w (call ∷ calls) [] = ⊥
 AreLateEnds w (call ∷ calls) (end ∷ ends) = IsLateEnd w call end × AreLateEnds (late w call (late_answer_of end)).world calls ends
 
--- behind its calls a transaction was asked its commit, and each call that was kept for it has an end; over a host that
--- tells, the plain machine's
-pub record HasCommitted (s : Setting) (p : Progress) (next : Ask) (e : Entry) (ends : List LateEnd) : Type 0 where
-  pub asked : next ≡ ask.Commit
-  pub each : length ends ≡ length (kept_of e.calls e.replies)
-  pub late : IsTrue s.tells → AreLateEnds (body_of p.state e).world (body_of p.state e).late ends
+-- what an entry is judged by: its journal and its place in it, what the entries before led to, and what was asked behind its replies
+pub record Account : Type 0 where
+  pub setting : Setting
+  pub journal : List Entry
+  pub place : ℕ
+  pub before : Progress
+  pub next : Ask
+  pub entry : Entry
 
-module _ (s : Setting) (journal : List Entry) (place : ℕ) (p : Progress) (next : Ask) (e : Entry) where
+module _ (a : Account) where
+  -- behind its calls a transaction was asked its commit, and each call that was kept for it has an end; over a host that
+  -- tells, the plain machine's
+  pub record HasCommitted (ends : List LateEnd) : Type 0 where
+    pub asked : a.next ≡ ask.Commit
+    pub each : length ends ≡ length (kept_of a.entry.calls a.entry.replies)
+    pub late : IsTrue a.setting.tells
+        → AreLateEnds (body_of a.before.state a.entry).world (body_of a.before.state a.entry).late ends
+
+  -- its part
+  abbrev pub own_part : Part
+  own_part = part_of a.setting a.before a.entry
+
+  -- all entries, and none that is active
+  abbrev pub own_scene : Scene
+  own_scene = scene_of a.setting.tells (parts_of a.setting a.journal) []
+
   -- behind its calls a transaction was asked an abort; or a call, which met what another one held; an older one revoked
   -- it; or memory was wanting
   abbrev pub HasCause : Cause → Type 0
-  HasCause cause.Asked = next ≡ ask.Abort
+  HasCause cause.Asked = a.next ≡ ask.Abort
   HasCause (cause.Conflict object holder at) =
-      (is_call next ≡ true) × Ground s.tells (parts_of s journal) [] place (part_of s p e) object holder at
-  HasCause (cause.Revoked object by at) = Revocation s.tells (parts_of s journal) [] place (part_of s p e) object by at
+      (is_call a.next ≡ true) × Ground own_scene a.place own_part (record { object = object; number = holder; at = at })
+  HasCause (cause.Revoked object by at) =
+      Revocation own_scene a.place own_part (record { object = object; number = by; at = at })
   HasCause cause.NoMemory = Unit {0}
 
   -- it committed so, or was aborted with a cause
   abbrev pub IsAccounted : Outcome → Type 0
-  IsAccounted (Committed ends) = HasCommitted s p next e ends
+  IsAccounted (Committed ends) = HasCommitted ends
   IsAccounted (Aborted report) = HasCause report.cause
 
 -- what the entries before this place led to
 abbrev pub progress_before : Setting → List Entry → ℕ → Progress
 progress_before s journal place = progress_of s.script (take place journal)
 
+-- what the entry at this place is judged by
+abbrev pub account_of : Setting → List Entry → ℕ → Entry → Account
+account_of s journal place e =
+    let before = progress_before s journal place in
+    let next = asked_behind s.script (following_of before e) e.replies in
+    record { setting = s; journal = journal; place = place; before = before; next = next; entry = e }
+
 -- each transaction of a journal: it committed, but where there was a cause for its abort
 abbrev pub AreAccounted : Setting → List Entry → Type 0
 AreAccounted s journal =
-    (place : ℕ) (e : Entry) → slice_get journal place ≡ Some e
-    → IsAccounted s journal place (progress_before s journal place)
-    (asked_behind s.script (following_of (progress_before s journal place) e) e.replies) e e.outcome
+    (place : ℕ) (e : Entry) → slice_get journal place ≡ Some e → IsAccounted (account_of s journal place e) e.outcome

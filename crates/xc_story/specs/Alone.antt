@@ -12,6 +12,7 @@ use Rattle.xc_story.specs.Rows.{IsActiveAt}
 -- it undoes for a cause for which it is tried again
 abbrev pub MeetsNobody : Phase → Type 0
 MeetsNobody (Undoing c) = is_tried_again c ≡ false
+-- in any other phase it met nobody who made it undo
 MeetsNobody _ = Unit {0}
 
 -- the journal is full, and no entry is of a job behind this place

@@ -65,6 +65,7 @@ is_starved line = is_memory line.end
 -- a late call ended for want of memory
 abbrev pub is_memory_end : LateEnd → Bool
 is_memory_end (late_end.NoMemory n) = true
+-- no other end is, nor one yet to come
 is_memory_end _ = false
 
 -- some late call of a transaction did

@@ -19,18 +19,34 @@ pub record Part : Type 0 where
   -- why it is aborted, or will be at its next turn, where it is
   pub cause : Option Cause
 
-module _ (log : List Part) (active : List (Option Part)) where
-  -- it stands in the journal at this place or later, or is active
-  abbrev pub Stands : ℕ → Part → Type 0
-  Stands at who = ((p : ℕ) × (slice_get log p ≡ Some who) × (at ≤ p)) ⊎ ((j : ℕ) × (get_or active j None ≡ Some who))
+-- what they are judged against: whether the host tells, those in the journal, and of each job its active one
+pub record Scene : Type 0 where
+  pub tells : Bool
+  pub log : List Part
+  pub active : List (Option Part)
 
-  -- the transaction of this number, of another job, that had begun by then and hadn't ended
-  pub record Other (number at job : ℕ) : Type 0 where
-    pub who : Part
-    pub stands : Stands at who
-    pub numbered : who.number ≡ number
-    pub other : who.job ≢ job
-    pub began : who.began ≤ at
+-- these
+abbrev pub scene_of : Bool → List Part → List (Option Part) → Scene
+scene_of tells log active = record { tells = tells; log = log; active = active }
+
+-- what they name: an object, another transaction by its number, and the length that the journal had
+pub record Blame : Type 0 where
+  pub object : Object
+  pub number : ℕ
+  pub at : ℕ
+
+-- it stands in the journal at this place or later, or is active
+abbrev pub Stands : Scene → ℕ → Part → Type 0
+Stands scene at who =
+    ((p : ℕ) × (slice_get scene.log p ≡ Some who) × (at ≤ p)) ⊎ ((j : ℕ) × (get_or scene.active j None ≡ Some who))
+
+-- the transaction of this number, of another job, that had begun by then and hadn't ended
+pub record Other (scene : Scene) (number at job : ℕ) : Type 0 where
+  pub who : Part
+  pub stands : Stands scene at who
+  pub numbered : who.number ≡ number
+  pub other : who.job ≢ job
+  pub began : who.began ≤ at
 
 -- one of these claims is of this object
 pub record Holds (held : List Claim) (object : Object) : Type 0 where
@@ -42,33 +58,33 @@ pub record Holds (held : List Claim) (object : Object) : Type 0 where
 abbrev pub Clashes : List Claim → Claim → Type 0
 Clashes wanted held = (c : Claim) × Contains wanted c × (c.object ≡ held.object) × (compatible c.mode held.mode ≡ false)
 
-module _ (tells : Bool) (log : List Part) (active : List (Option Part)) where
-  -- a conflict of the one at this place: it had begun by then, and names a holder; over a host that tells, the call that
-  -- it was asked next touches what that one holds
-  pub record Ground (place : ℕ) (e : Part) (object : Object) (holder at : ℕ) : Type 0 where
-    pub before : e.began ≤ at
-    pub within : at ≤ place
-    pub named : Other log active holder at e.job
-    pub holds : Holds named.who.held object
-    pub clash : IsTrue tells → Clashes e.wanted holds.claim
+-- a conflict of the one at this place: it had begun by then, and names a holder; over a host that tells, the call that
+-- it was asked next touches what that one holds
+pub record Ground (scene : Scene) (place : ℕ) (e : Part) (blame : Blame) : Type 0 where
+  pub before : e.began ≤ blame.at
+  pub within : blame.at ≤ place
+  pub named : Other scene blame.number blame.at e.job
+  pub holds : Holds named.who.held blame.object
+  pub clash : IsTrue scene.tells → Clashes e.wanted holds.claim
 
-  -- a revocation of the one at this place: it had begun by then, holds the object, and names an older transaction; over a
-  -- host that tells, that one holds what this one holds, or the call that it was asked next touches it
-  pub record Revocation (place : ℕ) (e : Part) (object : Object) (by at : ℕ) : Type 0 where
-    pub before : e.began ≤ at
-    pub within : at ≤ place
-    pub named : Other log active by at e.job
-    pub older : named.who.rank < e.rank
-    pub holds : Holds e.held object
-    pub clash : IsTrue tells → Clashes (named.who.held ++ named.who.wanted) holds.claim
+-- a revocation of the one at this place: it had begun by then, holds the object, and names an older transaction; over a
+-- host that tells, that one holds what this one holds, or the call that it was asked next touches it
+pub record Revocation (scene : Scene) (place : ℕ) (e : Part) (blame : Blame) : Type 0 where
+  pub before : e.began ≤ blame.at
+  pub within : blame.at ≤ place
+  pub named : Other scene blame.number blame.at e.job
+  pub older : named.who.rank < e.rank
+  pub holds : Holds e.held blame.object
+  pub clash : IsTrue scene.tells → Clashes (named.who.held ++ named.who.wanted) holds.claim
 
-  -- why one is aborted is grounded
-  abbrev pub IsGrounded : ℕ → Part → Option Cause → Type 0
-  IsGrounded place e (Some (Conflict object holder at)) = Ground place e object holder at
-  IsGrounded place e (Some (Revoked object by at)) = Revocation place e object by at
-  IsGrounded place e _ = Unit {0}
+-- why one is aborted is grounded
+abbrev pub IsGrounded : Scene → ℕ → Part → Option Cause → Type 0
+IsGrounded scene place e (Some (Conflict object holder at)) =
+    Ground scene place e (record { object = object; number = holder; at = at })
+IsGrounded scene place e (Some (Revoked object by at)) = Revocation scene place e (record { object = object; number = by; at = at })
+IsGrounded scene place e _ = Unit {0}
 
 -- of all, those in the journal and the active ones, by job
-pub record AreGrounded (tells : Bool) (log : List Part) (active : List (Option Part)) : Type 0 where
-  pub entries : (i : ℕ) (e : Part) → slice_get log i ≡ Some e → IsGrounded tells log active i e e.cause
-  pub actives : (j : ℕ) (e : Part) → get_or active j None ≡ Some e → IsGrounded tells log active (length log) e e.cause
+pub record AreGrounded (scene : Scene) : Type 0 where
+  pub entries : (i : ℕ) (e : Part) → slice_get scene.log i ≡ Some e → IsGrounded scene i e e.cause
+  pub actives : (j : ℕ) (e : Part) → get_or scene.active j None ≡ Some e → IsGrounded scene (length scene.log) e e.cause

@@ -5,9 +5,8 @@ use Rattle.xc_data.specs.declared.call.Call.{Call}
 use Rattle.xc_data.specs.declared.call.Reply.{Reply}
 use Rattle.xc_data.specs.declared.private.Private.{Private}
 use Rattle.xc_world.specs.Act.{act}
-use Rattle.xc_world.specs.Late.{is_late}
+use Rattle.xc_data.specs.Calls.{is_late, is_kept}
 use Rattle.xc_world.specs.World.{World}
-use Rattle.xc_story.specs.LateCalls.{waits}
 
 -- the plain machine's reply to a call in some private state, whatever the world is: late, or refused by a private check
 abbrev pub IsKeptReply : Call → Reply → Type 0
@@ -15,8 +14,8 @@ IsKeptReply call reply = (me : Private) × (tx : ℕ) × ((w : World) → reply 
 
 -- a call that is kept for the commit has such a reply, and no other one replies late
 pub record RepliesInTime (call : Call) (reply : Reply) : Type 0 where
-  pub kept : waits call ≡ true → IsKeptReply call reply
-  pub now : waits call ≡ false → is_late reply ≡ false
+  pub kept : is_kept call ≡ true → IsKeptReply call reply
+  pub now : is_kept call ≡ false → is_late reply ≡ false
 
 -- each of several calls does
 abbrev pub AreInTime : List Call → List Reply → Type 0

@@ -19,11 +19,13 @@ use Rattle.xc_story.specs.Seen.{SeenTx}
 -- it holds what its calls claimed; where memory was wanting perhaps also what the next call claims
 abbrev pub HoldsFor : Ran → Ask → Phase → List Claim → Type 0
 HoldsFor ran next (Undoing cause.NoMemory) held = IsHeldAt ran next cause.NoMemory held
+-- in any other phase, and for any other cause, no call was cut short
 HoldsFor ran next _ held = held ≡ held_of ran.touched
 
 -- its records are those of its calls; where memory was wanting perhaps also one of the next call
 abbrev pub RecordsFor : Ran → ℕ → Ask → Phase → List Undo → Type 0
 RecordsFor ran number next (Undoing cause.NoMemory) records = AreRecords ran number next cause.NoMemory records
+-- in any other phase, and for any other cause, no call was cut short
 RecordsFor ran number next _ records = records ≡ ran.trail
 
 -- the body of the job in this place, which counts from 0, in the world that the journal left

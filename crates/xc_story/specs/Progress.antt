@@ -78,6 +78,7 @@ run_of state e late = run state.world (private_of state e.job) e.tx (asked_of e.
 -- the block that a kept call with its end started
 abbrev pub started_by : Call → LateEnd → List (List ℕ)
 started_by (XThreadCreate block slot) end.Done = block ∷ []
+-- no other call starts one, nor does one that was not done
 started_by _ _ = []
 
 -- the blocks that kept calls with their ends started

@@ -7,6 +7,7 @@ use Rattle.std.specs.List.{list_any}
 use Rattle.std.specs.declared.option.Option.TheVariants.{None, Some}
 use Rattle.xc_data.specs.Claims.{compatible, holding}
 use Rattle.xc_data.specs.Counts.{CountsFault, RisesBy}
+use Rattle.xc_data.specs.Step.{Step}
 use Rattle.xc_data.specs.Faults.{is_fault_reply, is_fault_end, end_faults}
 use Rattle.xc_data.specs.declared.call.Answer.{Answer}
 use Rattle.xc_data.specs.declared.call.Answer.TheVariants as answer
@@ -54,7 +55,8 @@ use Rattle.xc_world.specs.Act.Step.{step_to}
 use Rattle.xc_world.specs.Ends.{IsLegalEnd}
 use Rattle.xc_world.specs.Effects.{takes_data, undone_to}
 use Rattle.xc_world.specs.Fits.{fits, answer_of}
-use Rattle.xc_world.specs.Late.{is_late, kept_call}
+use Rattle.xc_world.specs.Late.{kept_call}
+use Rattle.xc_data.specs.Calls.{is_late, is_kept}
 use Rattle.xc_world.specs.Modes.{claims_of}
 use Rattle.xc_world.specs.Run.{taken_by}
 use Rattle.xc_world.specs.Trail.{recorded}
@@ -64,7 +66,7 @@ use Rattle.xc_story.specs.declared.phase.Phase.{Phase}
 use Rattle.xc_story.specs.declared.phase.Phase.TheVariants.{Running, Committing, Undoing}
 use Rattle.xc_story.specs.Setting.{Setting}
 use Rattle.xc_story.specs.WordCalls.{IsWordStep}
-use Rattle.xc_story.specs.LateCalls.{waits, started_late}
+use Rattle.xc_story.specs.LateCalls.{started_late}
 use Rattle.xc_story.specs.Progress.{started_from}
 use Rattle.xc_story.specs.Seen.{SeenTx, SeenJob, Doing, Idle, Active, Starved, Ended, Now}
 use Rattle.xc_story.specs.Seen.{active_of, begun_count, failures, late_left, rank_of, with_job, with_kept, entering, joined}
@@ -99,12 +101,24 @@ with_tx job place tx = record job { place = place; doing = Active tx }
 abbrev pub IsActiveAt : List SeenJob → ℕ → SeenTx → Type 0
 IsActiveAt jobs j tx = (job : SeenJob) × (slice_get jobs j ≡ Some job) × (active_of job ≡ Some tx)
 
+-- the job that takes its turn: by which setting, in which place, counted from 0, from which moment, and how it stands
+pub record Mover : Type 0 where
+  pub setting : Setting
+  pub at : ℕ
+  pub old : Now
+  pub job : SeenJob
+
+-- the job in this place, from this moment
+abbrev pub mover : Setting → ℕ → Now → SeenJob → Mover
+mover s at old job = record { setting = s; at = at; old = old; job = job }
+
 -- ---- an idle job
 -- this cause names this transaction, for this object
 abbrev pub Names : Cause → Object → ℕ → Type 0
 Names (cause.Conflict met holder at) object number = (met ≡ object) × (holder ≡ number)
 Names (cause.Revoked met by at) object number = (met ≡ object) × (by ≡ number)
-Names _ object number = ⊥
+Names cause.Asked object number = ⊥
+Names cause.NoMemory object number = ⊥
 
 -- the last attempt's does, where one failed
 abbrev pub NamesLast : Option Attempts → Object → ℕ → Type 0
@@ -178,12 +192,12 @@ IsEnding s now job job_end.JournalFull =
     IsSome (body_at s job.place) × (failures job.attempts < s.rules.attempts) × IsFree s now job × (10000 ≤ begun_count now)
 IsEnding s now job job_end.NoMemory = IsSome (body_at s job.place)
 
-module _ (s : Setting) (at : ℕ) (old : Now) (job : SeenJob) where
+module _ (m : Mover) where
   -- an idle job ends, waits, or its next transaction begins
   abbrev pub IdleTurn : Turn → Now → Type 0
-  IdleTurn (turn.Ended end) new = IsEnding s old job end × (new ≡ with_job old at (record job { doing = Ended end }))
-  IdleTurn turn.Went new = IsReady s old job × (new ≡ beginning_at old at job)
-  IdleTurn (turn.Busy object number) new = IsWaiting s old job object number × (new ≡ with_job old at (waiting job))
+  IdleTurn (turn.Ended end) new = IsEnding m.setting m.old m.job end × (new ≡ with_job m.old m.at (record m.job { doing = Ended end }))
+  IdleTurn turn.Went new = IsReady m.setting m.old m.job × (new ≡ beginning_at m.old m.at m.job)
+  IdleTurn (turn.Busy object number) new = IsWaiting m.setting m.old m.job object number × (new ≡ with_job m.old m.at (waiting m.job))
   IdleTurn _ new = ⊥
 
 -- ---- claims of a running transaction against what others hold
@@ -244,6 +258,7 @@ is_built (call.XCreate name) = true
 is_built (call.XRename from to) = true
 is_built (call.XUnlink name slot) = true
 is_built (call.XSync h slot) = true
+-- no other call is built so far, nor one yet to come
 is_built _ = false
 
 -- what a call works on beside the host: its transaction's number, the private state, the stores that wait, the records
@@ -257,18 +272,17 @@ pub record Parts : Type 0 where
 abbrev pub seen : World → Contents → List (ℕ × ℕ) → World
 seen w contents stores = record (with_contents w contents) { words = overlaid w.words stores }
 
-module _ (from to : World) where
-  -- from one world to another a call is the plain machine's, with the answer that its reply records
-  pub record Does (old new : Parts) (call : Call) (reply : Reply) : Type 0 where
-    pub step : act from old.me old.number call (answer_of reply) ≡ step_to to new.me reply
-    pub fits : IsTrue (fits from old.me old.number call (answer_of reply))
-    pub records : new.undo.pending ≡ old.undo.pending ++ recorded from old.me old.number call reply
+-- from one world to another a call is the plain machine's, with the answer that its reply records
+pub record Does (worlds : Step World) (parts : Step Parts) (call : Call) (reply : Reply) : Type 0 where
+  pub step : act worlds.old parts.old.me parts.old.number call (answer_of reply) ≡ step_to worlds.new parts.new.me reply
+  pub fits : IsTrue (fits worlds.old parts.old.me parts.old.number call (answer_of reply))
+  pub records : parts.new.undo.pending ≡ parts.old.undo.pending ++ recorded worlds.old parts.old.me parts.old.number call reply
 
-module _ (words : List ℕ) (was is : Contents) where
-  -- the same in every world with these words, from these contents of the host to those
-  abbrev pub DoesIn : Parts → Parts → Call → Reply → Type 0
-  DoesIn old new call reply =
-      (w : World) → w.words ≡ words → Does (seen w was old.stores) (seen w is new.stores) old new call reply
+-- the same in every world with these words, from contents of the host to others
+abbrev pub DoesIn : List ℕ → Step Contents → Step Parts → Call → Reply → Type 0
+DoesIn words contents parts call reply =
+    (w : World) → w.words ≡ words
+    → Does (record { old = seen w contents.old parts.old.stores; new = seen w contents.new parts.new.stores }) parts call reply
 
 -- these parts of a transaction
 abbrev pub parts_of : SeenTx → Parts
@@ -292,6 +306,7 @@ noting tx call reply claims parts =
 -- the stores that a call adds, over so many words
 abbrev pub stored_by : ℕ → Call → List (ℕ × ℕ)
 stored_by count (call.Store at value) = if nat_lt at count then (at, value) ∷ [] else []
+-- no other call stores to words
 stored_by count _ = []
 
 -- what a transaction's call claims
@@ -301,22 +316,22 @@ claims_at now tx call = claims_of call tx.me (length now.words)
 -- over every host: a call that is kept for the commit replies as the plain machine does, which asks no host, and every
 -- other one replies now
 pub record IsReplyInTime (me : Private) (number : ℕ) (call : Call) (reply : Reply) : Type 0 where
-  pub kept : waits call ≡ true → (w : World) → reply ≡ (act w me number call answer.Fine).reply
-  pub now : waits call ≡ false → is_late reply ≡ false
+  pub kept : is_kept call ≡ true → (w : World) → reply ≡ (act w me number call answer.Fine).reply
+  pub now : is_kept call ≡ false → is_late reply ≡ false
 
-module _ (s : Setting) (at : ℕ) (old : Now) (job : SeenJob) (tx : SeenTx) where
+module _ (m : Mover) (tx : SeenTx) where
   -- the call is done and noted
   pub record Calls (call : Call) (new : Now) : Type 0 where
     -- what it claims nobody else holds against it
-    pub free : All (HasNoRival old.jobs at) (claims_at old tx call)
+    pub free : All (HasNoRival m.old.jobs m.at) (claims_at m.old tx call)
     pub reply : Reply
     pub place : Position
     pub parts : Parts
-    pub behind : Touches old at (with_tx job place (noting tx call reply (claims_at old tx call) parts)) new
+    pub behind : Touches m.old m.at (with_tx m.job place (noting tx call reply (claims_at m.old tx call) parts)) new
     -- the job stands behind the reply
-    pub begin : IsSameBegin job.place place
-    pub walk : walk_of s.script place ≡ answered (walk_of s.script job.place) reply
-    pub nearer : job.place.at < place.at
+    pub begin : IsSameBegin m.job.place place
+    pub walk : walk_of m.setting.script place ≡ answered (walk_of m.setting.script m.job.place) reply
+    pub nearer : m.job.place.at < place.at
     -- it is kept for the commit or done now
     pub in_time : IsReplyInTime tx.me tx.number call reply
     -- over every host: refused exactly where a private check refuses it, with its reply, and its handles, what it made and stored
@@ -325,81 +340,84 @@ module _ (s : Setting) (at : ℕ) (old : Now) (job : SeenJob) (tx : SeenTx) wher
     pub after : IsMeAfter tx.number call reply tx.me parts.me
     pub stored : parts.me.stored ≤ 16384
     -- the host was called so, and not where a check refused it
-    pub uses : HasCalled (CallsOf (refusal_of call tx.me) call reply) old new
+    pub uses : HasCalled (CallsOf (refusal_of call tx.me) call reply) m.old new
     -- the older records stay, and one comes behind them exactly where the plain machine leaves one
     pub made : List Undo
     pub one : length made ≤ 1
     pub count : (w : World) → length made ≡ length (recorded w tx.me tx.number call reply)
     pub undo : parts.undo ≡ record tx.undo { pending = tx.undo.pending ++ made }
     -- its stores wait behind the older ones
-    pub stores : parts.stores ≡ tx.writes ++ stored_by (length old.words) call
+    pub stores : parts.stores ≡ tx.writes ++ stored_by (length m.old.words) call
     -- on words its reply and its effect are those of the words with the transaction's stores, over every host
-    pub spoken : IsWordStep (overlaid old.words tx.writes) (overlaid old.words parts.stores) call reply
+    pub spoken : IsWordStep (overlaid m.old.words tx.writes) (overlaid m.old.words parts.stores) call reply
     -- a fault exactly where the host's count rose
-    pub cause : CountsFault (is_fault_reply reply) old.faults new.faults
+    pub cause : CountsFault (is_fault_reply reply) m.old.faults new.faults
     -- over a host that tells, all is the plain machine's
-    pub does : IsTrue s.tells → DoesIn old.words old.contents new.contents (parts_of tx) parts call reply
+    pub does : IsTrue m.setting.tells → DoesIn m.old.words (record { old = m.old.contents; new = new.contents })
+        (record { old = parts_of tx; new = parts }) call reply
 
   -- a claim of the call meets a holder, which isn't younger, or for which no patience is left: the transaction undoes
   pub record Conflicts (call : Call) (new : Now) : Type 0 where
     pub object : Object
     pub holder : ℕ
-    pub met : IsFirstMet old.jobs at (claims_at old tx call) object holder
-    pub stops : (met.rival.rival.rank ≤ tx.rank) ⊎ (s.rules.patience ≤ job.busy)
+    pub met : IsFirstMet m.old.jobs m.at (claims_at m.old tx call) object holder
+    pub stops : (met.rival.rival.rank ≤ tx.rank) ⊎ (m.setting.rules.patience ≤ m.job.busy)
     pub place : Position
-    pub same : IsSamePosition s job.place place
+    pub same : IsSamePosition m.setting m.job.place place
     pub behind : new
-        ≡ with_job old at (with_tx job place (record tx { phase = Undoing (cause.Conflict object holder (length old.journal)) }))
+        ≡ with_job m.old m.at (with_tx m.job place (record tx { phase = Undoing (cause.Conflict object holder (length m.old.journal)) }))
 
   -- a claim of the call meets a younger holder, and patience is left: the transaction waits, and the holder is marked
   pub record Waits (object : Object) (holder : ℕ) (new : Now) : Type 0 where
     pub call : Call
-    pub asked : asked_at s job.place ≡ ask.Call call
-    pub met : IsFirstMet old.jobs at (claims_at old tx call) object holder
+    pub asked : asked_at m.setting m.job.place ≡ ask.Call call
+    pub met : IsFirstMet m.old.jobs m.at (claims_at m.old tx call) object holder
     pub younger : tx.rank < met.rival.rival.rank
-    pub patient : job.busy < s.rules.patience
+    pub patient : m.job.busy < m.setting.rules.patience
     pub place : Position
-    pub same : IsSamePosition s job.place place
-    pub behind : new ≡ record (with_job old at (waiting (with_tx job place tx))) {
-      marks = marked old.marks met.rival.rival (record { object = object; by = tx.number; at = length old.journal });
+    pub same : IsSamePosition m.setting m.job.place place
+    pub behind : new ≡ record (with_job m.old m.at (waiting (with_tx m.job place tx))) {
+      marks = marked m.old.marks met.rival.rival (record { object = object; by = tx.number; at = length m.old.journal });
     }
 
   -- it is revoked, as its mark says
   abbrev pub Revokes : Mark → Now → Type 0
-  Revokes m new = new ≡ with_job old at (with_tx job job.place (record tx { phase = Undoing (revoked m) }))
+  Revokes mark new = new ≡ with_job m.old m.at (with_tx m.job m.job.place (record tx { phase = Undoing (revoked mark) }))
 
   -- it goes over to its commit: its stores are written
   pub record Commits (new : Now) : Type 0 where
     pub place : Position
-    pub same : IsSamePosition s job.place place
-    pub settled : IsSettled s.script place
+    pub same : IsSamePosition m.setting m.job.place place
+    pub settled : IsSettled m.setting.script place
     pub behind : new
-        ≡ record (with_job old at (with_tx job place (record tx { phase = Committing }))) { words = overlaid old.words tx.writes }
+        ≡ record (with_job m.old m.at (with_tx m.job place (record tx { phase = Committing }))) { words = overlaid m.old.words tx.writes }
 
   -- the script asks its abort
   pub record TurnsBack (new : Now) : Type 0 where
     pub place : Position
-    pub same : IsSamePosition s job.place place
-    pub behind : new ≡ with_job old at (with_tx job place (record tx { phase = Undoing cause.Asked }))
+    pub same : IsSamePosition m.setting m.job.place place
+    pub behind : new ≡ with_job m.old m.at (with_tx m.job place (record tx { phase = Undoing cause.Asked }))
 
 -- from one world to another a call did its part, with this answer, before memory was wanting; these records are left of it.
 -- One that takes data gives it back, and did nothing
-pub record DoesPart (from to : World) (parts : Parts) (asked : Asked) (left : List Undo) : Type 0 where
+pub record DoesPart (worlds : Step World) (parts : Parts) (asked : Asked) (left : List Undo) : Type 0 where
   pub untaken : takes_data asked.call ≡ false
-  pub fits : IsTrue (fits from parts.me parts.number asked.call asked.answer)
-  pub world : to ≡ (act from parts.me parts.number asked.call asked.answer).world
-  pub records : left ≡ recorded from parts.me parts.number asked.call (act from parts.me parts.number asked.call asked.answer).reply
+  pub fits : IsTrue (fits worlds.old parts.me parts.number asked.call asked.answer)
+  pub world : worlds.new ≡ (act worlds.old parts.me parts.number asked.call asked.answer).world
+  pub records : left
+      ≡ recorded worlds.old parts.me parts.number asked.call (act worlds.old parts.me parts.number asked.call asked.answer).reply
 
-module _ (words : List ℕ) (was is : Contents) where
-  -- the same in every world with these words, from these contents of the host to those
-  abbrev pub DoesPartIn : Parts → Asked → List Undo → Type 0
-  DoesPartIn parts asked left =
-      (w : World) → w.words ≡ words → DoesPart (seen w was parts.stores) (seen w is parts.stores) parts asked left
+-- the same in every world with these words, from contents of the host to others
+abbrev pub DoesPartIn : List ℕ → Step Contents → Parts → Asked → List Undo → Type 0
+DoesPartIn words contents parts asked left =
+    (w : World) → w.words ≡ words
+    → DoesPart (record { old = seen w contents.old parts.stores; new = seen w contents.new parts.stores }) parts asked left
 
 -- a call that is asked left these records before memory was wanting: with some answer it did its part
 abbrev pub LeavesPart : Now → Now → Parts → Ask → List Undo → Type 0
 LeavesPart old new parts (ask.Call call) left =
-    (answer : Answer) × DoesPartIn old.words old.contents new.contents parts (record { call = call; answer = answer }) left
+    (answer : Answer)
+    × DoesPartIn old.words (record { old = old.contents; new = new.contents }) parts (record { call = call; answer = answer }) left
 LeavesPart old new parts _ left = ⊥
 
 -- which calls of the host a transaction may have made where memory was wanting: none; those that the asked call makes first; or all
@@ -412,13 +430,13 @@ StopsAt _ made = made ≡ []
 abbrev pub IsLeft : Now → Now → Parts → Ask → List Undo → Type 0
 IsLeft old new parts next left = ((left ≡ []) × (new.contents ≡ old.contents)) ⊎ LeavesPart old new parts next left
 
-module _ (old : Now) (at : ℕ) (tx : SeenTx) where
+module _ (m : Mover) (tx : SeenTx) where
   -- what it holds where memory was wanting: no more than before, if the asked call left nothing; or also what that call
   -- claims, which nobody else holds against it
   abbrev pub HoldsWanting : Ask → List Undo → List Claim → Type 0
   HoldsWanting (ask.Call call) left held =
       ((left ≡ []) × (held ≡ tx.held))
-      ⊎ (All (HasNoRival old.jobs at) (claims_at old tx call) × (held ≡ holding tx.held (claims_at old tx call)))
+      ⊎ (All (HasNoRival m.old.jobs m.at) (claims_at m.old tx call) × (held ≡ holding tx.held (claims_at m.old tx call)))
   HoldsWanting _ left held = (left ≡ []) × (held ≡ tx.held)
 
 -- the transaction turns back for want of memory; these records are left of a call that isn't noted
@@ -426,41 +444,41 @@ abbrev pub wanting : SeenTx → List Undo → List Claim → SeenTx
 wanting tx left held =
     record tx { phase = Undoing cause.NoMemory; undo = record tx.undo { pending = tx.undo.pending ++ left }; held = held }
 
-module _ (s : Setting) (at : ℕ) (old : Now) (job : SeenJob) (tx : SeenTx) where
+module _ (m : Mover) (tx : SeenTx) where
   -- memory is wanting: nothing is noted, and the host is as before but for what the asked call did before, which at most
   -- one record tells
   pub record Wants (new : Now) : Type 0 where
     pub place : Position
-    pub same : IsSamePosition s job.place place
+    pub same : IsSamePosition m.setting m.job.place place
     pub left : List Undo
     pub one : length left ≤ 1
     pub held : List Claim
-    pub holds : HoldsWanting old at tx (asked_at s job.place) left held
+    pub holds : HoldsWanting m tx (asked_at m.setting m.job.place) left held
     pub behind : new
-        ≡ record (with_job old at (with_tx job place (wanting tx left held))) { contents = new.contents; calls = new.calls }
+        ≡ record (with_job m.old m.at (with_tx m.job place (wanting tx left held))) { contents = new.contents; calls = new.calls }
     -- the host was called for no more than the asked call
-    pub uses : HasCalled (StopsAt (asked_at s job.place)) old new
-    pub contents : IsTrue s.tells → IsLeft old new (parts_of tx) (asked_at s job.place) left
+    pub uses : HasCalled (StopsAt (asked_at m.setting m.job.place)) m.old new
+    pub contents : IsTrue m.setting.tells → IsLeft m.old new (parts_of tx) (asked_at m.setting m.job.place) left
 
   -- by what is asked
   abbrev pub AskedTurn : Ask → Now → Type 0
-  AskedTurn (ask.Call call) new = Calls s at old job tx call new ⊎ Conflicts s at old job tx call new
-  AskedTurn ask.Commit new = Commits s at old job tx new
-  AskedTurn ask.Abort new = TurnsBack s at old job tx new
+  AskedTurn (ask.Call call) new = Calls m tx call new ⊎ Conflicts m tx call new
+  AskedTurn ask.Commit new = Commits m tx new
+  AskedTurn ask.Abort new = TurnsBack m tx new
   AskedTurn ask.End new = ⊥
 
   -- a running transaction does what is asked, waits, or memory is wanting
   abbrev pub RunningTurn : Turn → Now → Type 0
-  RunningTurn turn.Went new = AskedTurn (asked_at s job.place) new
-  RunningTurn (turn.Busy object holder) new = Waits s at old job tx object holder new
+  RunningTurn turn.Went new = AskedTurn (asked_at m.setting m.job.place) new
+  RunningTurn (turn.Busy object holder) new = Waits m tx object holder new
   RunningTurn turn.NoMemory new = Wants new
   RunningTurn _ new = ⊥
 
   -- but where it is marked
   abbrev pub MarkedTurn : Option Mark → Turn → Now → Type 0
   MarkedTurn None answer new = RunningTurn answer new
-  MarkedTurn (Some m) turn.Went new = Revokes s at old job tx m new
-  MarkedTurn (Some m) _ new = ⊥
+  MarkedTurn (Some mark) turn.Went new = Revokes m tx mark new
+  MarkedTurn (Some mark) _ new = ⊥
 
 -- ---- what a transaction leaves at its end
 -- the entry of a transaction that ended so, of the job in this place
@@ -488,25 +506,27 @@ IsStart script was block late_end.Done is = (is_block_in script block ≡ true) 
 IsStart script was block late_end.NoScript is = (is_block_in script block ≡ false) × (is ≡ was)
 IsStart script was block (late_end.Full n) is = (is_block_in script block ≡ true) × (1000 ≤ length was) × (n ≡ 0) × (is ≡ was)
 IsStart script was block (late_end.NoMemory n) is = (n ≡ 0) × (is ≡ was)
+-- it has no other end
 IsStart script was block _ is = ⊥
 
-module _ (s : Setting) (at : ℕ) (old : Now) (job : SeenJob) (tx : SeenTx) where
+module _ (m : Mover) (tx : SeenTx) where
   -- the next late call is done, in the order in which they were made, under the claims of its transaction
   pub record EndsLate (call : LateCall) (new : Now) : Type 0 where
     pub end : LateEnd
-    pub behind : Touches old at (with_tx job job.place (record tx { ends = tx.ends ++ end ∷ [] })) new
+    pub behind : Touches m.old m.at (with_tx m.job m.job.place (record tx { ends = tx.ends ++ end ∷ [] })) new
     -- the host was called so
-    pub uses : HasCalled (LatesFor call end) old new
+    pub uses : HasCalled (LatesFor call end) m.old new
     -- a fault exactly where the host's count rose
-    pub cause : CountsFault (is_fault_end end) old.faults new.faults
+    pub cause : CountsFault (is_fault_end end) m.old.faults new.faults
     -- over a host that tells, its end and what it did are the plain machine's
-    pub does : IsTrue s.tells → DoesLate old.contents new.contents call end
+    pub does : IsTrue m.setting.tells → DoesLate m.old.contents new.contents call end
 
   -- the next late call starts a job, which is live from the entry on; no host is called
   pub record Starts (block : List ℕ) (new : Now) : Type 0 where
     pub end : LateEnd
-    pub behind : new ≡ record (with_job old at (with_tx job job.place (record tx { ends = tx.ends ++ end ∷ [] }))) { started = new.started }
-    pub starts : IsStart s.script old.started block end new.started
+    pub behind : new
+        ≡ record (with_job m.old m.at (with_tx m.job m.job.place (record tx { ends = tx.ends ++ end ∷ [] }))) { started = new.started }
+    pub starts : IsStart m.setting.script m.old.started block end new.started
 
   -- by the call
   abbrev pub NextLate : LateCall → Now → Type 0
@@ -570,27 +590,27 @@ started_job script starter block =
 abbrev pub started_jobs : Script → SeenJob → SeenTx → List SeenJob
 started_jobs script job tx = map (started_job script (behind_commit job tx)) (started_late tx.late tx.ends)
 
--- a committed transaction, each of whose late calls has its end, enters, and the jobs that it started are live: no more
--- than 1,000 are
-module _ (s : Setting) (at : ℕ) (old : Now) (job : SeenJob) (tx : SeenTx) where
+module _ (m : Mover) (tx : SeenTx) where
+  -- a committed transaction, each of whose late calls has its end, enters, and the jobs that it started are live: no more
+  -- than 1,000 are
   abbrev pub EntersCommitted : Now → Type 0
   EntersCommitted new =
-      (new ≡ joined (entering old at (behind_commit job tx) (entry_of tx at (Committed tx.ends))) (started_jobs s.script job tx))
+      (new ≡ joined (entering m.old m.at (behind_commit m.job tx) (entry_of tx m.at (Committed tx.ends)))
+      (started_jobs m.setting.script m.job tx))
       × (length new.jobs ≤ 1000)
 
-module _ (s : Setting) (at : ℕ) where
   -- by the late calls that have no end yet
-  abbrev pub LateTurn : Now → SeenJob → SeenTx → List LateCall → Now → Type 0
-  LateTurn old job tx [] new = EntersCommitted s at old job tx new
-  LateTurn old job tx (call ∷ calls) new = NextLate s at old job tx call new
+  abbrev pub LateTurn : List LateCall → Now → Type 0
+  LateTurn [] new = EntersCommitted new
+  LateTurn (call ∷ calls) new = NextLate m tx call new
 
   -- a committing transaction
-  abbrev pub CommittingTurn : Now → SeenJob → SeenTx → Turn → Now → Type 0
-  CommittingTurn old job tx turn.Went new = LateTurn old job tx (late_left tx) new
-  CommittingTurn old job tx _ new = ⊥
+  abbrev pub CommittingTurn : Turn → Now → Type 0
+  CommittingTurn turn.Went new = LateTurn (late_left tx) new
+  CommittingTurn _ new = ⊥
 
 -- ---- the way back
-module _ (s : Setting) (at : ℕ) (old : Now) (job : SeenJob) (tx : SeenTx) where
+module _ (m : Mover) (tx : SeenTx) where
   -- the newest record without an end is tried
   pub record Compensates (new : Now) : Type 0 where
     pub older : List Undo
@@ -598,58 +618,56 @@ module _ (s : Setting) (at : ℕ) (old : Now) (job : SeenJob) (tx : SeenTx) wher
     pub end : UndoEnd
     pub newest : tx.undo.pending ≡ older ++ tried ∷ []
     -- blocked exactly where a newer record stands in the way; failed exactly after so many tries
-    pub legal : IsLegalEnd s.rules.undo_tries tried end (way_of older tried tx.undo)
-    pub faults : RisesBy (end_faults end) old.faults new.faults
+    pub legal : IsLegalEnd m.setting.rules.undo_tries tried end (way_of older tried tx.undo)
+    pub faults : RisesBy (end_faults end) m.old.faults new.faults
     -- the host was called once for each fault and each part that was restored
-    pub uses : HasCalled (BacksFor tried end) old new
+    pub uses : HasCalled (BacksFor tried end) m.old new
     -- the host did what the end says
-    pub effect : IsTrue s.tells → new.contents ≡ contents_of (undone_to (world_of old.contents) tried end)
-    pub behind : Touches old at
-        (with_tx job job.place (record tx { undo = record { pending = older; ended = (tried, end) ∷ tx.undo.ended } })) new
+    pub effect : IsTrue m.setting.tells → new.contents ≡ contents_of (undone_to (world_of m.old.contents) tried end)
+    pub behind : Touches m.old m.at
+        (with_tx m.job m.job.place (record tx { undo = record { pending = older; ended = (tried, end) ∷ tx.undo.ended } })) new
 
-module _ (s : Setting) (at : ℕ) (old : Now) (job : SeenJob) (tx : SeenTx) where
   -- an aborted transaction, each of whose records has its end, gives back what it took, and enters
   pub record EntersAborted (c : Cause) (new : Now) : Type 0 where
-    pub behind : new ≡ record (entering old at (behind_abort job tx c)
-        (entry_of tx at (Aborted (record { cause = c; records = tx.undo.ended })))) {
+    pub behind : new ≡ record (entering m.old m.at (behind_abort m.job tx c)
+        (entry_of tx m.at (Aborted (record { cause = c; records = tx.undo.ended })))) {
           contents = new.contents;
         }
     -- over a host that tells, it is in front of what is there
-    pub returned : IsTrue s.tells → new.contents ≡ with_kept old.contents tx.taken
+    pub returned : IsTrue m.setting.tells → new.contents ≡ with_kept m.old.contents tx.taken
 
-module _ (s : Setting) (at : ℕ) where
   -- by the records that have no end yet
-  abbrev pub BackTurn : Now → SeenJob → SeenTx → Cause → List Undo → Now → Type 0
-  BackTurn old job tx c [] new = EntersAborted s at old job tx c new
-  BackTurn old job tx c (u ∷ pending) new = Compensates s at old job tx new
+  abbrev pub BackTurn : Cause → List Undo → Now → Type 0
+  BackTurn c [] new = EntersAborted c new
+  BackTurn c (u ∷ pending) new = Compensates new
 
   -- an undoing transaction
-  abbrev pub UndoingTurn : Now → SeenJob → SeenTx → Cause → Turn → Now → Type 0
-  UndoingTurn old job tx c turn.Went new = BackTurn old job tx c tx.undo.pending new
-  UndoingTurn old job tx c _ new = ⊥
+  abbrev pub UndoingTurn : Cause → Turn → Now → Type 0
+  UndoingTurn c turn.Went new = BackTurn c tx.undo.pending new
+  UndoingTurn c _ new = ⊥
 
 -- ---- all rows
--- a job whose last transaction was aborted for want of memory ends
-abbrev pub StarvedTurn : ℕ → Now → SeenJob → Turn → Now → Type 0
-StarvedTurn at old job (turn.Ended job_end.NoMemory) new = new ≡ with_job old at (record job { doing = Ended job_end.NoMemory })
-StarvedTurn at old job _ new = ⊥
+module _ (m : Mover) where
+  -- a job whose last transaction was aborted for want of memory ends
+  abbrev pub StarvedTurn : Turn → Now → Type 0
+  StarvedTurn (turn.Ended job_end.NoMemory) new = new ≡ with_job m.old m.at (record m.job { doing = Ended job_end.NoMemory })
+  StarvedTurn _ new = ⊥
 
-module _ (s : Setting) (at : ℕ) where
   -- a job with an active transaction, by the transaction's phase
-  abbrev pub ActiveTurn : Now → SeenJob → SeenTx → Phase → Turn → Now → Type 0
-  ActiveTurn old job tx Running answer new = MarkedTurn s at old job tx (old.marks tx.number) answer new
-  ActiveTurn old job tx Committing answer new = CommittingTurn s at old job tx answer new
-  ActiveTurn old job tx (Undoing c) answer new = UndoingTurn s at old job tx c answer new
+  abbrev pub ActiveTurn : SeenTx → Phase → Turn → Now → Type 0
+  ActiveTurn tx Running answer new = MarkedTurn m tx (m.old.marks tx.number) answer new
+  ActiveTurn tx Committing answer new = CommittingTurn m tx answer new
+  ActiveTurn tx (Undoing c) answer new = UndoingTurn m tx c answer new
 
   -- by what the job does; one that has ended has no turn
-  abbrev pub TurnOf : Now → SeenJob → Doing → Turn → Now → Type 0
-  TurnOf old job Idle answer new = IdleTurn s at old job answer new
-  TurnOf old job (Active tx) answer new = ActiveTurn old job tx tx.phase answer new
-  TurnOf old job Starved answer new = StarvedTurn at old job answer new
-  TurnOf old job (Ended end) answer new = ⊥
+  abbrev pub TurnOf : Doing → Turn → Now → Type 0
+  TurnOf Idle answer new = IdleTurn m answer new
+  TurnOf (Active tx) answer new = ActiveTurn tx tx.phase answer new
+  TurnOf Starved answer new = StarvedTurn answer new
+  TurnOf (Ended end) answer new = ⊥
 
 -- one turn of the job in this place, which counts from 0
 pub record IsTurn (s : Setting) (at : ℕ) (old : Now) (answer : Turn) (new : Now) : Type 0 where
   pub job : SeenJob
   pub stands : slice_get old.jobs at ≡ Some job
-  pub row : TurnOf s at old job job.doing answer new
+  pub row : TurnOf (mover s at old job) job.doing answer new

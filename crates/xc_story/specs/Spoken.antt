@@ -15,11 +15,13 @@ use Rattle.xc_story.specs.Rows.{IsActiveAt}
 abbrev pub speaks_of : ℕ → Call → Bool
 speaks_of word (Load at) = nat_eq at word
 speaks_of word (Store at value) = nat_eq at word
+-- no other call is on words (`is_word_call`)
 speaks_of word _ = false
 
 -- a call stores to this word
 abbrev pub stores_to : ℕ → Call → Bool
 stores_to word (Store at value) = nat_eq at word
+-- no other call stores to words
 stores_to word _ = false
 
 -- it holds what its calls on words speak of, and exclusively what they store to

@@ -18,13 +18,13 @@ use Rattle.xc_data.specs.declared.entry.Mark.{Mark}
 use Rattle.xc_story.specs.declared.phase.Phase.{Phase}
 use Rattle.xc_story.specs.declared.phase.Phase.TheVariants.{Running, Committing, Undoing}
 use Rattle.xc_story.specs.Setting.{Setting}
-use Rattle.xc_story.specs.Grounds.{Part, AreGrounded}
+use Rattle.xc_story.specs.Grounds.{Part, AreGrounded, Scene, scene_of}
 use Rattle.xc_script.specs.Slots.{kept_of}
 use Rattle.xc_story.specs.Progress.{Following, opening_progress, progress_of}
 use Rattle.xc_story.specs.Truth.{AsksEach, AreTrue, IsCauseOf, counting, next_of, parts_of}
 use Rattle.xc_story.specs.Ending.{IsEnd}
 use Rattle.xc_story.specs.InTime.{AreInTime}
-use Rattle.xc_story.specs.LateCalls.{thread_asked, thread_in}
+use Rattle.xc_data.specs.Calls.{thread_asked, thread_in}
 use Rattle.xc_story.specs.Seen.{SeenTx, SeenJob, Doing, Idle, Active, Starved, Ended, actives, active_of, revoked}
 
 -- ---- an active transaction, as a part of its job's story
@@ -133,15 +133,25 @@ wanted_by words tx _ = []
 abbrev pub cause_of_phase : Option Mark → Phase → Option Cause
 cause_of_phase (Some m) Running = Some (revoked m)
 cause_of_phase mark (Undoing c) = Some c
-cause_of_phase _ _ = None
+cause_of_phase None Running = None
+cause_of_phase mark Committing = None
 
 -- what it is asked behind its replies
 abbrev pub asked_of_tx : Setting → Option Following → SeenTx → Ask
 asked_of_tx s None tx = ask.End
 asked_of_tx s (Some f) tx = next_of s.script f tx.replies
 
--- `words` is the number of words
-module _ (s : Setting) (words : ℕ) (marks : ℕ → Option Mark) where
+-- what they are read by: the setting, the number of words, and the marks
+pub record Reading : Type 0 where
+  pub setting : Setting
+  pub words : ℕ
+  pub marks : ℕ → Option Mark
+
+-- these
+abbrev pub reading : Setting → ℕ → (ℕ → Option Mark) → Reading
+reading s words marks = record { setting = s; words = words; marks = marks }
+
+module _ (r : Reading) where
   -- an active transaction of the job of this number
   abbrev pub part_under_way : Option Following → ℕ → SeenTx → Part
   part_under_way f number tx =
@@ -151,8 +161,8 @@ module _ (s : Setting) (words : ℕ) (marks : ℕ → Option Mark) where
         rank = tx.rank;
         began = tx.began;
         held = tx.held;
-        wanted = wanted_by words tx (asked_of_tx s f tx);
-        cause = cause_of_phase (marks tx.number) tx.phase;
+        wanted = wanted_by r.words tx (asked_of_tx r.setting f tx);
+        cause = cause_of_phase (r.marks tx.number) tx.phase;
       }
 
   -- a job's active transaction, where it has one
@@ -167,6 +177,12 @@ module _ (s : Setting) (words : ℕ) (marks : ℕ → Option Mark) where
   active_parts number (f ∷ followings) (job ∷ jobs) =
       active_part (Some f) number (active_of job) ∷ active_parts (number + 1) followings jobs
 
+-- what they are judged against, behind this journal
+abbrev pub scene_at : Reading → List Entry → List SeenJob → Scene
+scene_at r journal jobs =
+    let told = (progress_of r.setting.script journal).jobs in
+    scene_of r.setting.tells (parts_of r.setting journal) (active_parts r 1 told jobs)
+
 -- ---- all together
 -- `words` is the number of words
 pub record AreTold (s : Setting) (words : ℕ) (marks : ℕ → Option Mark) (journal : List Entry) (jobs : List SeenJob) : Type 0 where
@@ -178,4 +194,4 @@ pub record AreTold (s : Setting) (words : ℕ) (marks : ℕ → Option Mark) (jo
       → IsJobTold s (length journal + length (actives jobs)) (length journal) f job
   pub begins : AreBegins journal (begins_of journal jobs)
   pub few : length journal + length (actives jobs) ≤ 10000
-  pub grounded : AreGrounded s.tells (parts_of s journal) (active_parts s words marks 1 (progress_of s.script journal).jobs jobs)
+  pub grounded : AreGrounded (scene_at (reading s words marks) journal jobs)

@@ -29,7 +29,7 @@ use Rattle.xc_world.specs.Run.{Ran, body_fits, lates_fit, asked_of, late_asked_o
 use Rattle.xc_world.specs.Ends.{AreLegal}
 use Rattle.xc_world.specs.Trail.{recorded}
 use Rattle.xc_story.specs.Setting.{Setting}
-use Rattle.xc_story.specs.Grounds.{Part, AreGrounded}
+use Rattle.xc_story.specs.Grounds.{Part, AreGrounded, scene_of}
 use Rattle.xc_story.specs.InTime.{AreInTime}
 use Rattle.xc_story.specs.WordCalls.{AreWordReplies}
 use Rattle.xc_script.specs.Slots.{kept_of}
@@ -66,7 +66,8 @@ IsAskedFor tries e next (Aborted report) = IsCauseOf report.cause next × AreLeg
 abbrev pub is_tried_again : Cause → Bool
 is_tried_again (cause.Conflict object holder at) = true
 is_tried_again (cause.Revoked object by at) = true
-is_tried_again _ = false
+is_tried_again cause.Asked = false
+is_tried_again cause.NoMemory = false
 
 -- how many attempts of its transaction failed, this one among them
 abbrev pub failures_with : Following → Outcome → ℕ
@@ -103,6 +104,7 @@ next_claims ran _ = []
 -- an aborted transaction held what its calls claimed; without memory it may have claimed for the next call too
 abbrev pub IsHeldAt : Ran → Ask → Cause → List Claim → Type 0
 IsHeldAt ran next cause.NoMemory held = (more : List Claim) × IsPartOf more (next_claims ran next) × (held ≡ held_of (ran.touched ++ more))
+-- for any other cause no call was cut short
 IsHeldAt ran next _ held = held ≡ held_of ran.touched
 
 -- what an entry held
@@ -124,6 +126,7 @@ AreLeft ran tx _ records = records ≡ []
 -- an aborted transaction's records are those of its calls; without memory one of the next call may stand last
 abbrev pub AreRecords : Ran → ℕ → Ask → Cause → List Undo → Type 0
 AreRecords ran tx next cause.NoMemory records = (more : List Undo) × AreLeft ran tx next more × (records ≡ ran.trail ++ more)
+-- for any other cause no call was cut short
 AreRecords ran tx next _ records = records ≡ ran.trail
 
 -- a committed entry: each late call ended as the plain machine's did
@@ -220,7 +223,7 @@ pub record IsTrueJournal (s : Setting) (journal : List Entry) : Type 0 where
   pub numbers : IsPermutation (numbers_of journal) (counting 1 (length journal))
   pub begins : BeginInOrder journal
   -- each conflict names a holder, and each revocation an older transaction
-  pub grounded : AreGrounded s.tells (parts_of s journal) []
+  pub grounded : AreGrounded (scene_of s.tells (parts_of s journal) [])
 
 -- ---- transactions one after another
 -- none of its attempts is to be tried again
@@ -247,6 +250,7 @@ pub record IsSerial (journal : List Entry) : Type 0 where
 -- an abort that the script asked
 abbrev pub is_asked : Cause → Bool
 is_asked cause.Asked = true
+-- no other cause is, nor one yet to come
 is_asked _ = false
 
 -- a transaction that was done with: it committed, or aborted itself

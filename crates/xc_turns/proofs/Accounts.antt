@@ -11,17 +11,16 @@ use Rattle.xc_data.specs.declared.entry.Cause.TheVariants as cause
 use Rattle.xc_data.specs.declared.entry.Entry.{Entry}
 use Rattle.xc_data.specs.declared.entry.Outcome.{Outcome}
 use Rattle.xc_data.specs.declared.entry.Outcome.TheVariants.{Committed, Aborted}
-use Rattle.xc_script.specs.declared.ask.Ask.{Ask}
 use Rattle.xc_world.specs.Fits.{late_answer_of}
 use Rattle.xc_world.specs.Late.{late}
 use Rattle.xc_world.specs.Run.{lates, late_asked_of}
 use Rattle.xc_world.specs.World.{World}
-use Rattle.xc_story.specs.Accounted.{AreAccounted, AreLateEnds, HasCause, IsAccounted, IsLateEnd, progress_before}
+use Rattle.xc_story.specs.Accounted.{Account, AreAccounted, AreLateEnds, HasCause, IsAccounted, IsLateEnd, account_of, own_part, own_scene, progress_before}
 use Rattle.xc_story.specs.Grounds.{IsGrounded}
-use Rattle.xc_story.specs.Progress.{Progress, after_entry, body_of, following_of, opening_progress}
+use Rattle.xc_story.specs.Progress.{Progress, after_entry, body_of, opening_progress}
 use Rattle.xc_story.specs.Setting.{Setting}
 use Rattle.xc_story.specs.Truth.{AreTrue, IsAskedFor, IsCauseOf, IsPlayedOutcome, IsTrueEntry, IsTrueJournal, asked_behind, cause_in, next_of}
-use Rattle.xc_story.specs.Truth.{part_of, parts_from, parts_of}
+use Rattle.xc_story.specs.Truth.{part_of, parts_from}
 
 -- ---- late calls
 end_is : (w : World) (call : LateCall) (end : LateEnd) → (late w call (late_answer_of end)).end ≡ end → IsLateEnd w call end
@@ -38,34 +37,34 @@ ends_are w (call ∷ calls) (end ∷ ends) same =
     (end_is w call end here, ends_are (late w call (late_answer_of end)).world calls ends rest)
 
 -- ---- one entry
-module _ (s : Setting) (journal : List Entry) (place : ℕ) (p : Progress) (next : Ask) (e : Entry) where
+module _ (a : Account) where
   -- its part's cause is grounded
   abbrev HasGround : Option Cause → Type 0
-  HasGround c = IsGrounded s.tells (parts_of s journal) [] place (part_of s p e) c
+  HasGround c = IsGrounded (own_scene a) a.place (own_part a) c
 
-  cause_accounts : (c : Cause) → IsCauseOf c next → HasGround (Some c) → HasCause s journal place p next e c
+  cause_accounts : (c : Cause) → IsCauseOf c a.next → HasGround (Some c) → HasCause a c
   cause_accounts cause.Asked caused ground = caused
   cause_accounts (cause.Conflict object holder at) caused ground = (caused, ground)
   cause_accounts (cause.Revoked object by at) caused ground = ground
   cause_accounts cause.NoMemory caused ground = tt
 
-  outcome_accounts : (o : Outcome) → IsAskedFor s.rules.undo_tries e next o → (IsTrue s.tells → IsPlayedOutcome p next e o) → HasGround (cause_in o)
-      → IsAccounted s journal place p next e o
+  outcome_accounts : (o : Outcome) → IsAskedFor a.setting.rules.undo_tries a.entry a.next o
+      → (IsTrue a.setting.tells → IsPlayedOutcome a.before a.next a.entry o) → HasGround (cause_in o) → IsAccounted a o
   outcome_accounts (Committed ends) asked played ground =
       record {
         asked = asked.0;
         each = asked.1;
-        late = λ tells. ends_are (body_of p.state e).world (body_of p.state e).late ends (played tells).ends;
+        late = λ tells. ends_are (body_of a.before.state a.entry).world (body_of a.before.state a.entry).late ends (played tells).ends;
       }
   outcome_accounts (Aborted report) asked played ground = cause_accounts report.cause asked.0 ground
 
-entry_accounts : (s : Setting) (journal : List Entry) (place : ℕ) (p : Progress) (e : Entry) → IsTrueEntry s p e
-    → IsGrounded s.tells (parts_of s journal) [] place (part_of s p e) (cause_in e.outcome)
-    → IsAccounted s journal place p (asked_behind s.script (following_of p e) e.replies) e e.outcome
-entry_accounts s journal place p e one ground =
+entry_accounts : (s : Setting) (journal : List Entry) (place : ℕ) (e : Entry) → IsTrueEntry s (progress_before s journal place) e
+    → HasGround (account_of s journal place e) (cause_in e.outcome) → IsAccounted (account_of s journal place e) e.outcome
+entry_accounts s journal place e one ground =
     let entry = one.entry in
-    subst (λ o. IsAccounted s journal place p (asked_behind s.script o e.replies) e e.outcome) (sym one.started)
-    (outcome_accounts s journal place p (next_of s.script one.following e.replies) e e.outcome entry.story.asked
+    let account = account_of s journal place e in
+    subst (λ o. IsAccounted (record account { next = asked_behind s.script o e.replies }) e.outcome) (sym one.started)
+    (outcome_accounts (record account { next = next_of s.script one.following e.replies }) e.outcome entry.story.asked
     (λ tells. (entry.played tells).outcome) ground)
 
 -- ---- the whole journal
@@ -86,5 +85,5 @@ pub journal_accounts : (s : Setting) (journal : List Entry) → IsTrueJournal s 
 journal_accounts s journal is place e there =
     let opening = opening_progress s.script in
     let part = part_of s (progress_before s journal place) e in
-    entry_accounts s journal place (progress_before s journal place) e (true_there s opening journal place e is.entries there)
+    entry_accounts s journal place e (true_there s opening journal place e is.entries there)
     (is.grounded.entries place part (part_there s opening journal place e there))

@@ -11,13 +11,13 @@ use Rattle.xc_data.specs.declared.entry.Entry.{Entry}
 use Rattle.xc_data.specs.declared.entry.JobLine.{JobLine}
 use Rattle.xc_data.specs.declared.entry.Mark.{Mark}
 use Rattle.xc_story.specs.Setting.{Setting}
-use Rattle.xc_story.specs.Grounds.{Part, Stands, Other, IsGrounded, AreGrounded}
+use Rattle.xc_story.specs.Grounds.{Part, Stands, Other, IsGrounded, AreGrounded, scene_of}
 use Rattle.xc_story.specs.Progress.{Following, progress_of}
 use Rattle.xc_story.specs.Truth.{IsTrueJournal, counting, numbers_of, parts_of}
 use Rattle.xc_story.specs.Ending.{AreEnds, IsEnd}
 use Rattle.xc_story.specs.Seen.{SeenTx, SeenJob, Doing, Idle, Active, Starved, Ended, active_in, active_of, actives}
 use Rattle.xc_story.specs.Rows.{IsActiveAt}
-use Rattle.xc_story.specs.Told.{AreTold, AreBegins, IsJobTold, IsDoing, active_begin, active_part, active_parts, begins_of, entry_begin}
+use Rattle.xc_story.specs.Told.{AreTold, AreBegins, IsJobTold, IsDoing, active_begin, active_part, active_parts, begins_of, entry_begin, reading}
 use Rattle.xc_story.specs.Spoken.{AreSpoken}
 use Rattle.xc_story.specs.Kept.{AreLinesOf, IsLineOf}
 use Rattle.xc_turns.proofs.Jobs.{none_active}
@@ -56,39 +56,41 @@ entry_there journal i e at =
 -- ---- conflicts
 parts_none : (s : Setting) (words : ℕ) (marks : ℕ → Option Mark) (number : ℕ) (followings : List Following) (jobs : List SeenJob) (lines : List JobLine)
     → AreLinesOf jobs lines
-    → (j : ℕ) → get_or (active_parts s words marks number followings jobs) j None ≡ None
+    → (j : ℕ) → get_or (active_parts (reading s words marks) number followings jobs) j None ≡ None
 parts_none s words marks number [] [] lines are zero = refl
 parts_none s words marks number [] [] lines are (suc j) = refl
 parts_none s words marks number (f ∷ fs) [] lines are zero = refl
 parts_none s words marks number (f ∷ fs) [] lines are (suc j) = refl
 parts_none s words marks number fs (job ∷ jobs) [] are j = absurd are
-parts_none s words marks number [] (job ∷ jobs) (line ∷ lines) are zero = ap (active_part s words marks None number) (line_none line job job.doing are.0)
+parts_none s words marks number [] (job ∷ jobs) (line ∷ lines) are zero =
+    ap (active_part (reading s words marks) None number) (line_none line job job.doing are.0)
 parts_none s words marks number [] (job ∷ jobs) (line ∷ lines) are (suc j) = parts_none s words marks (number + 1) [] jobs lines are.1 j
 parts_none s words marks number (f ∷ fs) (job ∷ jobs) (line ∷ lines) are zero =
-    ap (active_part s words marks (Some f) number) (line_none line job job.doing are.0)
+    ap (active_part (reading s words marks) (Some f) number) (line_none line job job.doing are.0)
 parts_none s words marks number (f ∷ fs) (job ∷ jobs) (line ∷ lines) are (suc j) = parts_none s words marks (number + 1) fs jobs lines are.1 j
 
 -- none of these parts is there
 abbrev AreNone : List (Option Part) → Type 0
 AreNone active = (j : ℕ) → get_or active j None ≡ None
 
-stands_logged : (log : List Part) (active : List (Option Part)) (at : ℕ) (who : Part) → AreNone active → Stands log active at who → Stands log [] at who
-stands_logged log active at who none (inl there) = inl there
-stands_logged log active at who none (inr (j, there)) = absurd (let h : ◌≡◌ {A = Option Part} None (Some who) = sym (none j) ∙ there in cc)
+stands_logged : (tells : Bool) (log : List Part) (active : List (Option Part)) (at : ℕ) (who : Part) → AreNone active
+    → Stands (scene_of tells log active) at who → Stands (scene_of tells log []) at who
+stands_logged tells log active at who none (inl there) = inl there
+stands_logged tells log active at who none (inr (j, there)) = absurd (let h : ◌≡◌ {A = Option Part} None (Some who) = sym (none j) ∙ there in cc)
 
-other_logged : (log : List Part) (active : List (Option Part)) (number at job : ℕ) → AreNone active → Other log active number at job
-    → Other log [] number at job
-other_logged log active number at job none n =
+other_logged : (tells : Bool) (log : List Part) (active : List (Option Part)) (number at job : ℕ) → AreNone active
+    → Other (scene_of tells log active) number at job → Other (scene_of tells log []) number at job
+other_logged tells log active number at job none n =
     record {
       who = n.who;
-      stands = stands_logged log active at n.who none n.stands;
+      stands = stands_logged tells log active at n.who none n.stands;
       numbered = n.numbered;
       other = n.other;
       began = n.began;
     }
 
 grounded_logged : (tells : Bool) (log : List Part) (active : List (Option Part)) (place : ℕ) (e : Part) (c : Option Cause) → AreNone active
-    → IsGrounded tells log active place e c → IsGrounded tells log [] place e c
+    → IsGrounded (scene_of tells log active) place e c → IsGrounded (scene_of tells log []) place e c
 unfolding other_logged
 grounded_logged tells log active place e None none h = h
 grounded_logged tells log active place e (Some cause.Asked) none h = h
@@ -96,7 +98,7 @@ grounded_logged tells log active place e (Some (cause.Conflict object holder at)
     record {
       before = g.before;
       within = g.within;
-      named = other_logged log active holder at e.job none g.named;
+      named = other_logged tells log active holder at e.job none g.named;
       holds = g.holds;
       clash = g.clash;
     }
@@ -104,14 +106,15 @@ grounded_logged tells log active place e (Some (cause.Revoked object by at)) non
     record {
       before = g.before;
       within = g.within;
-      named = other_logged log active by at e.job none g.named;
+      named = other_logged tells log active by at e.job none g.named;
       older = g.older;
       holds = g.holds;
       clash = g.clash;
     }
 grounded_logged tells log active place e (Some cause.NoMemory) none h = h
 
-all_logged : (tells : Bool) (log : List Part) (active : List (Option Part)) → AreNone active → AreGrounded tells log active → AreGrounded tells log []
+all_logged : (tells : Bool) (log : List Part) (active : List (Option Part)) → AreNone active
+    → AreGrounded (scene_of tells log active) → AreGrounded (scene_of tells log [])
 all_logged tells log active none g =
     record {
       entries = λ i e at. grounded_logged tells log active i e e.cause none (g.entries i e at);
@@ -132,7 +135,7 @@ journal_true s words marks journal jobs lines told are =
       numbers = subst (λ n. IsPermutation (numbers_of journal) (counting 1 n)) many
           (subst (λ ns. IsPermutation ns (counting 1 (length (map entry_begin journal)))) (numbers_there journal) begins.numbers);
       begins = λ i j a b ea eb less. begins.order (entry_begin a) (entry_begin b) (entry_there journal i a ea) (entry_there journal j b eb) less;
-      grounded = all_logged s.tells (parts_of s journal) (active_parts s words marks 1 (progress_of s.script journal).jobs jobs)
+      grounded = all_logged s.tells (parts_of s journal) (active_parts (reading s words marks) 1 (progress_of s.script journal).jobs jobs)
           (parts_none s words marks 1 (progress_of s.script journal).jobs jobs lines are) told.grounded;
     }
 

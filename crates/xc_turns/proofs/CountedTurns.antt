@@ -27,7 +27,7 @@ use Rattle.xc_story.specs.Progress.{Following, progress_of}
 use Rattle.xc_story.specs.Seen.{SeenTx, SeenJob, Doing, Idle, Active, Starved, Ended, Now, active_in, active_of, actives, late_left, revoked, waiting}
 use Rattle.xc_story.specs.Seen.{with_job, entering}
 use Rattle.xc_story.specs.Rows.{asked_at, beginning_job, claims_at, noting, wanting, with_tx, entry_of, behind_commit, behind_abort}
-use Rattle.xc_story.specs.Rows.{Calls, LateTurn, Compensates, started_jobs}
+use Rattle.xc_story.specs.Rows.{Calls, LateTurn, Compensates, started_jobs, mover}
 use Rattle.xc_story.specs.Rows.{IdleTurn, AskedTurn, MarkedTurn, RunningTurn, CommittingTurn, BackTurn, UndoingTurn, StarvedTurn, ActiveTurn, TurnOf, IsTurn}
 use Rattle.xc_story.specs.Told.{IsCommitting, IsInPhase, IsUndoing, IsDoing, AreTold}
 use Rattle.xc_story.specs.Counted.{tx_faults, recorded_faults, AreCounted}
@@ -106,7 +106,7 @@ module _ (s : Setting) (at from : ℕ) (old : Now) (job : SeenJob) (new : Now) (
       more_counted job' 0 (ap (λ (n : Now). actives n.jobs) is ∙ put) (omega (arith, sums, none, same)) (ap (λ (n : Now). n.faults) is)
 
   -- ---- no active transaction
-  by_idle : job.doing ≡ Idle → (answer : Turn) → IdleTurn s at old job answer new → AreCounted from new
+  by_idle : job.doing ≡ Idle → (answer : Turn) → IdleTurn (mover s at old job) answer new → AreCounted from new
   by_idle is (turn.Ended end) row = with_counted (record job { doing = Ended end }) row.1 (ap (λ d. adds tx_faults (active_in d)) (sym is))
   by_idle is turn.Went row =
       still_counted (beginning_job old job) (ap (λ (n : Now). n.jobs) row.1) (ap (λ (n : Now). n.journal) row.1) (ap (λ (n : Now). n.faults) row.1)
@@ -114,7 +114,7 @@ module _ (s : Setting) (at from : ℕ) (old : Now) (job : SeenJob) (new : Now) (
   by_idle is (turn.Busy object number) row = with_counted (waiting job) row.1 refl
   by_idle is turn.NoMemory row = absurd row
 
-  by_starved : job.doing ≡ Starved → (answer : Turn) → StarvedTurn at old job answer new → AreCounted from new
+  by_starved : job.doing ≡ Starved → (answer : Turn) → StarvedTurn (mover s at old job) answer new → AreCounted from new
   by_starved is (turn.Ended job_end.NoMemory) row =
       with_counted (record job { doing = Ended job_end.NoMemory }) row (ap (λ d. adds tx_faults (active_in d)) (sym is))
   by_starved is (turn.Ended job_end.Done) row = absurd row
@@ -129,7 +129,7 @@ module _ (s : Setting) (at from : ℕ) (old : Now) (job : SeenJob) (new : Now) (
     recorded = ap (λ d. adds tx_faults (active_in d)) (sym is)
 
     -- ---- a running one
-    call_counted : (call : Call) → Calls s at old job tx call new → AreCounted from new
+    call_counted : (call : Call) → Calls (mover s at old job) tx call new → AreCounted from new
     call_counted call row =
         let tx' = noting tx call row.reply (claims_at old tx call) row.parts in
         let one = cond (is_fault_reply row.reply) 1 0 in
@@ -141,7 +141,7 @@ module _ (s : Setting) (at from : ℕ) (old : Now) (job : SeenJob) (new : Now) (
         more_counted (with_tx job row.place tx') one (ap (λ (n : Now). actives n.jobs) row.behind) (omega (arith, replies, ended, sums, was))
         (fault_as_count (is_fault_reply row.reply) old.faults new.faults row.cause)
 
-    by_ask : (a : Ask) → AskedTurn s at old job tx a new → AreCounted from new
+    by_ask : (a : Ask) → AskedTurn (mover s at old job) tx a new → AreCounted from new
     by_ask (ask.Call call) (inl row) = call_counted call row
     by_ask (ask.Call call) (inr row) =
         with_counted (with_tx job row.place (record tx { phase = Undoing (cause.Conflict row.object row.holder (length old.journal)) })) row.behind recorded
@@ -152,7 +152,7 @@ module _ (s : Setting) (at from : ℕ) (old : Now) (job : SeenJob) (new : Now) (
     by_ask ask.Abort row = with_counted (with_tx job row.place (record tx { phase = Undoing cause.Asked })) row.behind recorded
     by_ask ask.End row = absurd row
 
-    by_running : (answer : Turn) → RunningTurn s at old job tx answer new → AreCounted from new
+    by_running : (answer : Turn) → RunningTurn (mover s at old job) tx answer new → AreCounted from new
     by_running turn.Went row = by_ask (asked_at s job.place) row
     by_running turn.NoMemory row =
         still_counted (with_tx job row.place (wanting tx row.left row.held)) (ap (λ (n : Now). n.jobs) row.behind) (ap (λ (n : Now). n.journal) row.behind)
@@ -162,7 +162,7 @@ module _ (s : Setting) (at from : ℕ) (old : Now) (job : SeenJob) (new : Now) (
         (ap (λ (n : Now). n.faults) row.behind) recorded
     by_running (turn.Ended end) row = absurd row
 
-    by_mark : (m : Option Mark) (answer : Turn) → MarkedTurn s at old job tx m answer new → AreCounted from new
+    by_mark : (m : Option Mark) (answer : Turn) → MarkedTurn (mover s at old job) tx m answer new → AreCounted from new
     by_mark None answer row = by_running answer row
     by_mark (Some m) turn.Went row = with_counted (with_tx job job.place (record tx { phase = Undoing (revoked m) })) row recorded
     by_mark (Some m) _ row = absurd row
@@ -178,7 +178,7 @@ module _ (s : Setting) (at from : ℕ) (old : Now) (job : SeenJob) (new : Now) (
         more_counted (with_tx job job.place (record tx { ends = tx.ends ++ row.end ∷ [] })) one (ap actives row.jobs) (omega (arith, ends, sums, was))
         (fault_as_count (is_fault_end row.end) old.faults new.faults row.cause)
 
-    by_late : tx.phase ≡ Committing → (calls : List LateCall) → LateTurn s at old job tx calls new → AreCounted from new
+    by_late : tx.phase ≡ Committing → (calls : List LateCall) → LateTurn (mover s at old job) tx calls new → AreCounted from new
     by_late commits [] row =
         let none : sum_by undo_faults tx.undo.ended ≡ 0 = ap (sum_by undo_faults) (none_ended s at old job tx stands is commits told) in
         let was = recorded in
@@ -187,14 +187,14 @@ module _ (s : Setting) (at from : ℕ) (old : Now) (job : SeenJob) (new : Now) (
         (started_idle s.script (behind_commit job tx) (started_late tx.late tx.ends))) refl (omega (arith, none, was))
     by_late commits (call ∷ calls) row = late_counted (next_ends s at old job tx new call row)
 
-    by_committing : tx.phase ≡ Committing → (answer : Turn) → CommittingTurn s at old job tx answer new → AreCounted from new
+    by_committing : tx.phase ≡ Committing → (answer : Turn) → CommittingTurn (mover s at old job) tx answer new → AreCounted from new
     by_committing commits turn.Went row = by_late commits (late_left tx) row
     by_committing commits (turn.Busy object holder) row = absurd row
     by_committing commits turn.NoMemory row = absurd row
     by_committing commits (turn.Ended end) row = absurd row
 
     -- ---- one on its way back
-    tried_counted : Compensates s at old job tx new → AreCounted from new
+    tried_counted : Compensates (mover s at old job) tx new → AreCounted from new
     tried_counted row =
         let undo : Records = record { pending = row.older; ended = (row.tried, row.end) ∷ tx.undo.ended } in
         let ended : sum_by undo_faults ((row.tried, row.end) ∷ tx.undo.ended) ≡ end_faults row.end + sum_by undo_faults tx.undo.ended =
@@ -204,7 +204,7 @@ module _ (s : Setting) (at from : ℕ) (old : Now) (job : SeenJob) (new : Now) (
         more_counted (with_tx job job.place (record tx { undo = undo })) (end_faults row.end) (ap (λ (n : Now). actives n.jobs) row.behind)
         (omega (arith, ended, sums, was)) row.faults
 
-    by_records : (c : Cause) → tx.phase ≡ Undoing c → (pending : List Undo) → BackTurn s at old job tx c pending new → AreCounted from new
+    by_records : (c : Cause) → tx.phase ≡ Undoing c → (pending : List Undo) → BackTurn (mover s at old job) tx c pending new → AreCounted from new
     by_records c undoes [] row =
         let none : count_by is_fault_end tx.ends ≡ 0 = ap (count_by is_fault_end) (none_late s at old job tx c stands is undoes told) in
         let was = recorded in
@@ -212,18 +212,18 @@ module _ (s : Setting) (at from : ℕ) (old : Now) (job : SeenJob) (new : Now) (
         (ap (adds tx_faults) (behind_abort_none job tx c)) (omega (arith, none, was))
     by_records c undoes (u ∷ pending) row = tried_counted row
 
-    by_undoing : (c : Cause) → tx.phase ≡ Undoing c → (answer : Turn) → UndoingTurn s at old job tx c answer new → AreCounted from new
+    by_undoing : (c : Cause) → tx.phase ≡ Undoing c → (answer : Turn) → UndoingTurn (mover s at old job) tx c answer new → AreCounted from new
     by_undoing c undoes turn.Went row = by_records c undoes tx.undo.pending row
     by_undoing c undoes (turn.Busy object holder) row = absurd row
     by_undoing c undoes turn.NoMemory row = absurd row
     by_undoing c undoes (turn.Ended end) row = absurd row
 
-    by_phase : (p : Phase) → tx.phase ≡ p → (answer : Turn) → ActiveTurn s at old job tx p answer new → AreCounted from new
+    by_phase : (p : Phase) → tx.phase ≡ p → (answer : Turn) → ActiveTurn (mover s at old job) tx p answer new → AreCounted from new
     by_phase Running e answer row = by_mark (old.marks tx.number) answer row
     by_phase Committing e answer row = by_committing e answer row
     by_phase (Undoing c) e answer row = by_undoing c e answer row
 
-  by_doing : (d : Doing) → job.doing ≡ d → (answer : Turn) → TurnOf s at old job d answer new → AreCounted from new
+  by_doing : (d : Doing) → job.doing ≡ d → (answer : Turn) → TurnOf (mover s at old job) d answer new → AreCounted from new
   by_doing Idle is answer row = by_idle is answer row
   by_doing (Active tx) is answer row = by_phase tx is tx.phase refl answer row
   by_doing Starved is answer row = by_starved is answer row

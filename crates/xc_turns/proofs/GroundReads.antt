@@ -17,58 +17,59 @@ use Rattle.xc_story.specs.Grounds.{Part}
 use Rattle.xc_story.specs.Progress.{Following, Progress, with_job, following_of, after_outcome, after_following, after_entry}
 use Rattle.xc_story.specs.Truth.{asked_behind, next_claims}
 use Rattle.xc_story.specs.Rows.{IsActiveAt}
-use Rattle.xc_story.specs.Told.{active_part, active_parts, asked_of_tx, cause_of_phase, part_under_way, wanted_by}
+use Rattle.xc_story.specs.Told.{active_part, active_parts, asked_of_tx, cause_of_phase, part_under_way, wanted_by, reading}
 use Rattle.xc_turns.proofs.Lists.{get_set_other, get_inside}
 
 -- ---- active transactions by job
 module _ (s : Setting) (words : ℕ) (marks : ℕ → Option Mark) where
   abbrev read_part : Option Following → ℕ → Option SeenJob → Option Part
   read_part f number None = None
-  read_part f number (Some job) = active_part s words marks f number (active_of job)
+  read_part f number (Some job) = active_part (reading s words marks) f number (active_of job)
 
   active_read : (number : ℕ) (fs : List Following) (jobs : List SeenJob) (j n : ℕ) → number + j ≡ n
-      → get_or (active_parts s words marks number fs jobs) j None ≡ read_part (slice_get fs j) n (slice_get jobs j)
+      → get_or (active_parts (reading s words marks) number fs jobs) j None ≡ read_part (slice_get fs j) n (slice_get jobs j)
   active_read number [] [] j n e = refl
   active_read number (f ∷ fs) [] j n e = refl
   active_read number [] (job ∷ jobs) zero n e =
-      ap (λ (k : ℕ). active_part s words marks None k (active_of job)) (let same : number ≡ n = omega arith in same)
+      ap (λ (k : ℕ). active_part (reading s words marks) None k (active_of job)) (let same : number ≡ n = omega arith in same)
   active_read number [] (job ∷ jobs) (suc j) n e = active_read (number + 1) [] jobs j n (omega arith)
   active_read number (f ∷ fs) (job ∷ jobs) zero n e =
-      ap (λ (k : ℕ). active_part s words marks (Some f) k (active_of job)) (let same : number ≡ n = omega arith in same)
+      ap (λ (k : ℕ). active_part (reading s words marks) (Some f) k (active_of job)) (let same : number ≡ n = omega arith in same)
   active_read number (f ∷ fs) (job ∷ jobs) (suc j) n e = active_read (number + 1) fs jobs j n (omega arith)
 
   -- a job's
   pub part_read : (fs : List Following) (jobs : List SeenJob) (j : ℕ) (job : SeenJob) (o : Option SeenTx)
       → slice_get jobs j ≡ Some job → active_of job ≡ o
-      → get_or (active_parts s words marks 1 fs jobs) j None ≡ active_part s words marks (slice_get fs j) (j + 1) o
+      → get_or (active_parts (reading s words marks) 1 fs jobs) j None ≡ active_part (reading s words marks) (slice_get fs j) (j + 1) o
   part_read fs jobs j job o stands is =
       active_read 1 fs jobs j (j + 1) (omega arith) ∙ ap (read_part (slice_get fs j) (j + 1)) stands
-      ∙ ap (active_part s words marks (slice_get fs j) (j + 1)) is
+      ∙ ap (active_part (reading s words marks) (slice_get fs j) (j + 1)) is
 
 -- a part is that of an active transaction
 pub part_there : (s : Setting) (words : ℕ) (marks : ℕ → Option Mark) (fs : List Following) (jobs : List SeenJob) (j : ℕ) (a : Part)
-    → get_or (active_parts s words marks 1 fs jobs) j None ≡ Some a
-    → (tx : SeenTx) × IsActiveAt jobs j tx × (part_under_way s words marks (slice_get fs j) (j + 1) tx ≡ a)
+    → get_or (active_parts (reading s words marks) 1 fs jobs) j None ≡ Some a
+    → (tx : SeenTx) × IsActiveAt jobs j tx × (part_under_way (reading s words marks) (slice_get fs j) (j + 1) tx ≡ a)
 part_there s words marks fs jobs j a got =
     by_job (slice_get jobs j) refl (sym (active_read s words marks 1 fs jobs j (j + 1) (omega arith)) ∙ got)
   where
     by_tx : (job : SeenJob) (o : Option SeenTx) → slice_get jobs j ≡ Some job → active_of job ≡ o
-        → active_part s words marks (slice_get fs j) (j + 1) o ≡ Some a
-        → (tx : SeenTx) × IsActiveAt jobs j tx × (part_under_way s words marks (slice_get fs j) (j + 1) tx ≡ a)
+        → active_part (reading s words marks) (slice_get fs j) (j + 1) o ≡ Some a
+        → (tx : SeenTx) × IsActiveAt jobs j tx × (part_under_way (reading s words marks) (slice_get fs j) (j + 1) tx ≡ a)
     by_tx job None there has e = cc e
     by_tx job (Some tx) there has e = (tx, (job, there, has), cc e)
 
     by_job : (o : Option SeenJob) → slice_get jobs j ≡ o → read_part s words marks (slice_get fs j) (j + 1) o ≡ Some a
-        → (tx : SeenTx) × IsActiveAt jobs j tx × (part_under_way s words marks (slice_get fs j) (j + 1) tx ≡ a)
+        → (tx : SeenTx) × IsActiveAt jobs j tx × (part_under_way (reading s words marks) (slice_get fs j) (j + 1) tx ≡ a)
     by_job None there e = cc e
     by_job (Some job) there e = by_tx job (active_of job) there refl e
 
 -- with other marks a transaction has the same part, where its own mark stays
 part_marked : (s : Setting) (words : ℕ) (marks marks' : ℕ → Option Mark) (f : Option Following) (n : ℕ) (o : Option SeenTx)
-    → ((tx : SeenTx) → o ≡ Some tx → marks' tx.number ≡ marks tx.number) → active_part s words marks' f n o ≡ active_part s words marks f n o
+    → ((tx : SeenTx) → o ≡ Some tx → marks' tx.number ≡ marks tx.number)
+    → active_part (reading s words marks') f n o ≡ active_part (reading s words marks) f n o
 part_marked s words marks marks' f n None same = refl
 part_marked s words marks marks' f n (Some tx) same =
-    ap (λ (m : Option Mark). Some (record (part_under_way s words marks f n tx) { cause = cause_of_phase m tx.phase })) (same tx refl)
+    ap (λ (m : Option Mark). Some (record (part_under_way (reading s words marks) f n tx) { cause = cause_of_phase m tx.phase })) (same tx refl)
 
 read_marked : (s : Setting) (words : ℕ) (marks marks' : ℕ → Option Mark) (f : Option Following) (n : ℕ) (o : Option SeenJob)
     → ((job : SeenJob) (tx : SeenTx) → o ≡ Some job → active_of job ≡ Some tx → marks' tx.number ≡ marks tx.number)
@@ -80,7 +81,7 @@ read_marked s words marks marks' f n (Some job) same = part_marked s words marks
 pub part_elsewhere : (s : Setting) (words : ℕ) (marks marks' : ℕ → Option Mark) (fs fs' : List Following) (jobs jobs' : List SeenJob) (j : ℕ)
     → slice_get jobs' j ≡ slice_get jobs j → ((tx : SeenTx) → IsActiveAt jobs j tx → marks' tx.number ≡ marks tx.number)
     → (slice_get fs' j ≡ slice_get fs j) ⊎ (slice_get jobs j ≡ None)
-    → get_or (active_parts s words marks' 1 fs' jobs') j None ≡ get_or (active_parts s words marks 1 fs jobs) j None
+    → get_or (active_parts (reading s words marks') 1 fs' jobs') j None ≡ get_or (active_parts (reading s words marks) 1 fs jobs) j None
 part_elsewhere s words marks marks' fs fs' jobs jobs' j same unmarked told =
     active_read s words marks' 1 fs' jobs' j (j + 1) (omega arith) ∙ ap (read_part s words marks' (slice_get fs' j) (j + 1)) same ∙ by_told told
     ∙ read_marked s words marks marks' (slice_get fs j) (j + 1) (slice_get jobs j) (λ job tx there has. unmarked tx (job, there, has))

@@ -11,7 +11,7 @@ use Rattle.xc_data.specs.declared.claim.Claim.{Claim}
 use Rattle.xc_data.specs.declared.object.Object.{Object}
 use Rattle.xc_data.specs.declared.entry.Cause.{Cause}
 use Rattle.xc_data.specs.declared.entry.Cause.TheVariants.{Conflict, Revoked}
-use Rattle.xc_story.specs.Grounds.{Part, Stands, Other, Holds, Clashes, IsGrounded, AreGrounded}
+use Rattle.xc_story.specs.Grounds.{Part, Stands, Other, Holds, Clashes, IsGrounded, AreGrounded, scene_of}
 use Rattle.xc_turns.proofs.Lists.{get_front, get_last, get_cases, not_both}
 use Rattle.xc_turns.proofs.HeldClaims.{IsCovered, AreCovered, covered_same, either_way}
 
@@ -39,18 +39,19 @@ follows_itself tells a = record {
 module _ (tells : Bool) (log log' : List Part) (active active' : List (Option Part)) where
   -- each one that may be named is followed by one that may
   record OthersGoOn : Type 0 where
-    each : (number at job : ℕ) → at ≤ length log → (h : Other log active number at job)
-        → (k : Other log' active' number at job) × Follows tells h.who k.who
+    each : (number at job : ℕ) → at ≤ length log → (h : Other (scene_of tells log active) number at job)
+        → (k : Other (scene_of tells log' active') number at job) × Follows tells h.who k.who
 
   -- where each one that stands is followed by one that does
   record StandOn : Type 0 where
-    each : (at : ℕ) (who : Part) → at ≤ length log → Stands log active at who → (next : Part) × Follows tells who next × Stands log' active' at next
+    each : (at : ℕ) (who : Part) → at ≤ length log → Stands (scene_of tells log active) at who
+        → (next : Part) × Follows tells who next × Stands (scene_of tells log' active') at next
 
   others_on : StandOn → OthersGoOn
   others_on on = record { each = each }
     where
-      each : (number at job : ℕ) → at ≤ length log → (h : Other log active number at job)
-          → (k : Other log' active' number at job) × Follows tells h.who k.who
+      each : (number at job : ℕ) → at ≤ length log → (h : Other (scene_of tells log active) number at job)
+          → (k : Other (scene_of tells log' active') number at job) × Follows tells h.who k.who
       each number at job le h =
           let next = on.each at h.who le h.stands in
           let follows = next.1 in
@@ -101,7 +102,7 @@ clash_on wanted wanted' c d more covers clash =
 -- where those that are named go on, each ground stays
 module _ (tells : Bool) (log log' : List Part) (active active' : List (Option Part)) (on : OthersGoOn tells log log' active active') where
   ground_on : (place place' : ℕ) (a b : Part) (why : Option Cause) → IsJudgedAs tells a b → place ≤ place' → place ≤ length log
-      → IsGrounded tells log active place a why → IsGrounded tells log' active' place' b why
+      → IsGrounded (scene_of tells log active) place a why → IsGrounded (scene_of tells log' active') place' b why
   ground_on place place' a b (Some (Conflict object holder at)) judged later within g =
       let low = g.within in
       let before = g.before in
@@ -149,7 +150,7 @@ module _ (tells : Bool) (log log' : List Part) (active active' : List (Option Pa
 
 -- where nothing else changes, the second is grounded as the first
 pub ground_as : (tells : Bool) (log : List Part) (active : List (Option Part)) (a b : Part) (why : Option Cause) → IsJudgedAs tells a b
-    → IsGrounded tells log active (length log) a why → IsGrounded tells log active (length log) b why
+    → IsGrounded (scene_of tells log active) (length log) a why → IsGrounded (scene_of tells log active) (length log) b why
 ground_as tells log active a b why judged g =
     ground_on tells log log active active
     (others_on tells log log active active (record { each = λ at who le stands. (who, follows_itself tells who, stands) }))
@@ -160,25 +161,26 @@ module _ (tells : Bool) (log : List Part) (active active' : List (Option Part)) 
   -- each active one is followed by an active one, and each is as before or grounded
   pub record GoOn : Type 0 where
     pub kept : (j : ℕ) (a : Part) → get_or active j None ≡ Some a → (b : Part) × Follows tells a b × (get_or active' j None ≡ Some b)
-    pub fresh : (j : ℕ) (b : Part) → get_or active' j None ≡ Some b → IsGrounded tells log active (length log) b b.cause
+    pub fresh : (j : ℕ) (b : Part) → get_or active' j None ≡ Some b → IsGrounded (scene_of tells log active) (length log) b b.cause
 
-  stands_on : GoOn → (at : ℕ) (who : Part) → Stands log active at who → (next : Part) × Follows tells who next × Stands log active' at next
+  stands_on : GoOn → (at : ℕ) (who : Part) → Stands (scene_of tells log active) at who
+      → (next : Part) × Follows tells who next × Stands (scene_of tells log active') at next
   stands_on on at who (inl entry) = (who, follows_itself tells who, inl entry)
   stands_on on at who (inr one) = let next = on.kept one.0 who one.1 in (next.0, next.1, inr (one.0, next.2))
 
   -- then all stay grounded
-  pub grounds_go_on : GoOn → AreGrounded tells log active → AreGrounded tells log active'
+  pub grounds_go_on : GoOn → AreGrounded (scene_of tells log active) → AreGrounded (scene_of tells log active')
   grounds_go_on on g = record { entries = entries; actives = actives }
     where
       others : OthersGoOn tells log log active active'
       others = others_on tells log log active active' (record { each = λ at who le stands. stands_on on at who stands })
 
-      entries : (i : ℕ) (e : Part) → slice_get log i ≡ Some e → IsGrounded tells log active' i e e.cause
+      entries : (i : ℕ) (e : Part) → slice_get log i ≡ Some e → IsGrounded (scene_of tells log active') i e e.cause
       entries i e got =
           let low = slice_get_within log i e got in
           ground_on tells log log active active' others i i e e e.cause (judged_itself tells e) (omega arith) (omega arith) (g.entries i e got)
 
-      actives : (j : ℕ) (b : Part) → get_or active' j None ≡ Some b → IsGrounded tells log active' (length log) b b.cause
+      actives : (j : ℕ) (b : Part) → get_or active' j None ≡ Some b → IsGrounded (scene_of tells log active') (length log) b b.cause
       actives j b got =
           ground_on tells log log active active' others (length log) (length log) b b b.cause (judged_itself tells b) (omega arith) (omega arith)
           (on.fresh j b got)
@@ -199,8 +201,8 @@ module _ (tells : Bool) (log : List Part) (active active' : List (Option Part)) 
       let same : Some a ≡ Some who = sym m.before ∙ ap (λ (k : ℕ). get_or active k None) (sym here) ∙ got in
       cc
 
-  stands_enter : Enter → (from : ℕ) (who : Part) → from ≤ length log → Stands log active from who
-      → (next : Part) × Follows tells who next × Stands (log ++ e ∷ []) active' from next
+  stands_enter : Enter → (from : ℕ) (who : Part) → from ≤ length log → Stands (scene_of tells log active) from who
+      → (next : Part) × Follows tells who next × Stands (scene_of tells (log ++ e ∷ []) active') from next
   stands_enter m from who le (inl entry) = (who, follows_itself tells who, inl (entry.0, get_front log (e ∷ []) entry.0 who entry.1, entry.2))
   stands_enter m from who le (inr one) = dite (ℕ_discrete one.0 at)
       (λ (here : one.0 ≡ at).
@@ -208,24 +210,24 @@ module _ (tells : Bool) (log : List Part) (active active' : List (Option Part)) 
       (λ (away : one.0 ≢ at). (who, follows_itself tells who, inr (one.0, m.others one.0 away ∙ one.1)))
 
   -- then all stay grounded
-  pub grounds_enter : Enter → AreGrounded tells log active → AreGrounded tells (log ++ e ∷ []) active'
+  pub grounds_enter : Enter → AreGrounded (scene_of tells log active) → AreGrounded (scene_of tells (log ++ e ∷ []) active')
   grounds_enter m g = record { entries = λ i x got. entry i x (get_cases log e i x got); actives = actives }
     where
       others : OthersGoOn tells log (log ++ e ∷ []) active active'
       others = others_on tells log (log ++ e ∷ []) active active' (record { each = stands_enter m })
 
-      entry : (i : ℕ) (x : Part) → (slice_get log i ≡ Some x) ⊎ ((i ≡ length log) × (e ≡ x)) → IsGrounded tells (log ++ e ∷ []) active' i x x.cause
+      entry : (i : ℕ) (x : Part) → (slice_get log i ≡ Some x) ⊎ ((i ≡ length log) × (e ≡ x)) → IsGrounded (scene_of tells (log ++ e ∷ []) active') i x x.cause
       entry i x (inl got) =
           let low = slice_get_within log i x got in
           ground_on tells log (log ++ e ∷ []) active active' others i i x x x.cause (judged_itself tells x) (omega arith) (omega arith) (g.entries i x got)
       entry i x (inr last) =
           let place = last.0 in
-          subst (λ (y : Part). IsGrounded tells (log ++ e ∷ []) active' i y y.cause) last.1
-          (subst (IsGrounded tells (log ++ e ∷ []) active' i e) (sym m.cause)
+          subst (λ (y : Part). IsGrounded (scene_of tells (log ++ e ∷ []) active') i y y.cause) last.1
+          (subst (IsGrounded (scene_of tells (log ++ e ∷ []) active') i e) (sym m.cause)
           (ground_on tells log (log ++ e ∷ []) active active' others (length log) i a e a.cause m.judged (omega arith) (omega arith)
           (g.actives at a m.before)))
 
-      actives : (j : ℕ) (b : Part) → get_or active' j None ≡ Some b → IsGrounded tells (log ++ e ∷ []) active' (length (log ++ e ∷ [])) b b.cause
+      actives : (j : ℕ) (b : Part) → get_or active' j None ≡ Some b → IsGrounded (scene_of tells (log ++ e ∷ []) active') (length (log ++ e ∷ [])) b b.cause
       actives j b got = dite (ℕ_discrete j at)
           (λ (here : j ≡ at).
           absurd (not_both (get_or active' at None) b m.after (ap (λ (k : ℕ). get_or active' k None) (sym here) ∙ got)))

@@ -26,13 +26,13 @@ use Rattle.xc_story.specs.declared.phase.Phase.{Phase}
 use Rattle.xc_story.specs.declared.phase.Phase.TheVariants.{Running, Committing, Undoing}
 use Rattle.xc_story.specs.Setting.{Setting}
 use Rattle.xc_story.specs.Seen.{SeenTx, SeenJob, Doing, Idle, Active, Starved, Ended, Now, active_in, active_of, revoked, unmarked}
-use Rattle.xc_story.specs.Rows.{IsTurn, IsActiveAt, IsFirstMet, IsRival, asked_at, claims_at, entry_of, mark_behind, marked}
-use Rattle.xc_story.specs.Grounds.{Part, Other, Holds, Ground, IsGrounded, AreGrounded}
+use Rattle.xc_story.specs.Rows.{IsTurn, IsActiveAt, IsFirstMet, IsRival, asked_at, claims_at, entry_of, mark_behind, marked, mover}
+use Rattle.xc_story.specs.Grounds.{Part, Other, Holds, Ground, IsGrounded, AreGrounded, scene_of}
 use Rattle.xc_story.specs.Progress.{Following, Progress, progress_of, following_of, after_entry}
 use Rattle.xc_story.specs.Truth.{next_of, part_of, parts_of}
 use Rattle.xc_story.specs.Played.{IsPlayedSoFar, ran_behind}
 use Rattle.xc_story.specs.Told.{AreTold, IsDoing, IsUnderway, IsInPhase, IsRunning, active_begin, active_part, active_parts, part_under_way}
-use Rattle.xc_story.specs.Told.{asked_of_tx, cause_of_phase, wanted_by}
+use Rattle.xc_story.specs.Told.{asked_of_tx, cause_of_phase, wanted_by, reading, scene_at}
 use Rattle.xc_turns.proofs.Lists.{contains_first, get_beside, get_front, get_inside, get_set_same, get_set_other, not_both}
 use Rattle.xc_turns.proofs.Progressing.{parts_length, parts_more, progress-more}
 use Rattle.xc_turns.proofs.StoryBegins.{active_begun}
@@ -48,7 +48,7 @@ use Rattle.xc_turns.proofs.TurnKinds.{Rests, Begins, Moves, Stays, Enters, Kind,
 -- all conflicts and revocations of these entries and jobs are grounded
 abbrev AreAllGrounded : Setting → ℕ → (ℕ → Option Mark) → List Entry → List SeenJob → Type 0
 AreAllGrounded s words marks journal jobs =
-    AreGrounded s.tells (parts_of s journal) (active_parts s words marks 1 (progress_of s.script journal).jobs jobs)
+    AreGrounded (scene_at (reading s words marks) journal jobs)
 
 -- ---- marks
 unmarked_other : (marks : ℕ → Option Mark) (number n : ℕ) → (n ≡ number → ⊥) → unmarked marks number n ≡ marks n
@@ -115,19 +115,19 @@ module _ (s : Setting) (at : ℕ) (old new : Now) (job : SeenJob) (stands : slic
   log = parts_of s old.journal
 
   abbrev before : List (Option Part)
-  before = active_parts s words old.marks 1 led.jobs old.jobs
+  before = active_parts (reading s words old.marks) 1 led.jobs old.jobs
 
   abbrev behind_of : (ℕ → Option Mark) → SeenJob → List (Option Part)
-  behind_of marks behind = active_parts s words marks 1 led.jobs (slice_set old.jobs at behind)
+  behind_of marks behind = active_parts (reading s words marks) 1 led.jobs (slice_set old.jobs at behind)
 
   abbrev part_here : (ℕ → Option Mark) → SeenTx → Part
-  part_here marks tx = part_under_way s words marks led_here (at + 1) tx
+  part_here marks tx = part_under_way (reading s words marks) led_here (at + 1) tx
 
-  here_before : (o : Option SeenTx) → active_of job ≡ o → get_or before at None ≡ active_part s words old.marks led_here (at + 1) o
+  here_before : (o : Option SeenTx) → active_of job ≡ o → get_or before at None ≡ active_part (reading s words old.marks) led_here (at + 1) o
   here_before o e = part_read s words old.marks led.jobs old.jobs at job o stands e
 
   here_after : (marks : ℕ → Option Mark) (behind : SeenJob) (o : Option SeenTx) → active_of behind ≡ o
-      → get_or (behind_of marks behind) at None ≡ active_part s words marks led_here (at + 1) o
+      → get_or (behind_of marks behind) at None ≡ active_part (reading s words marks) led_here (at + 1) o
   here_after marks behind o e =
       part_read s words marks led.jobs (slice_set old.jobs at behind) at behind o (get_set_same old.jobs at job behind stands) e
 
@@ -141,8 +141,8 @@ module _ (s : Setting) (at : ℕ) (old new : Now) (job : SeenJob) (stands : slic
   -- ---- no transaction enters
   go_at : (marks : ℕ → Option Mark) (behind : SeenJob) → MarksElsewhere marks
       → ((a : Part) → get_or before at None ≡ Some a → (b : Part) × Follows s.tells a b × (get_or (behind_of marks behind) at None ≡ Some b))
-      → ((b : Part) → get_or (behind_of marks behind) at None ≡ Some b → IsGrounded s.tells log before (length log) b b.cause)
-      → AreGrounded s.tells log (behind_of marks behind)
+      → ((b : Part) → get_or (behind_of marks behind) at None ≡ Some b → IsGrounded (scene_of s.tells log before) (length log) b b.cause)
+      → AreGrounded (scene_of s.tells log (behind_of marks behind))
   go_at marks behind others own new = grounds_go_on s.tells log before (behind_of marks behind) (record { kept = kept; fresh = fresh }) told.grounded
     where
       elsewhere : (j : ℕ) → j ≢ at → get_or (behind_of marks behind) j None ≡ get_or before j None
@@ -158,18 +158,18 @@ module _ (s : Setting) (at : ℕ) (old new : Now) (job : SeenJob) (stands : slic
           (next.0, next.1, ap (λ (k : ℕ). get_or (behind_of marks behind) k None) here ∙ next.2))
           (λ (away : j ≢ at). (a, follows_itself s.tells a, elsewhere j away ∙ got))
 
-      fresh : (j : ℕ) (b : Part) → get_or (behind_of marks behind) j None ≡ Some b → IsGrounded s.tells log before (length log) b b.cause
+      fresh : (j : ℕ) (b : Part) → get_or (behind_of marks behind) j None ≡ Some b → IsGrounded (scene_of s.tells log before) (length log) b b.cause
       fresh j b got = dite (ℕ_discrete j at)
           (λ (here : j ≡ at). new b (ap (λ (k : ℕ). get_or (behind_of marks behind) k None) (sym here) ∙ got))
           (λ (away : j ≢ at). told.grounded.actives j b (sym (elsewhere j away) ∙ got))
 
-  rests_grounded : (k : Rests at old job new) → AreGrounded s.tells log (behind_of old.marks k.behind)
+  rests_grounded : (k : Rests at old job new) → AreGrounded (scene_of s.tells log (behind_of old.marks k.behind))
   rests_grounded k =
       go_at old.marks k.behind (λ j tx away active. refl) (λ a got. absurd (not_both (get_or before at None) a (here_before None k.before) got))
       (λ b got. absurd (not_both (get_or (behind_of old.marks k.behind) at None) b (here_after old.marks k.behind None k.after) got))
 
   -- a new one is not marked, and has no number of another
-  begins_grounded : (k : Begins at old job new) → AreGrounded s.tells log (behind_of (unmarked old.marks k.tx.number) k.behind)
+  begins_grounded : (k : Begins at old job new) → AreGrounded (scene_of s.tells log (behind_of (unmarked old.marks k.tx.number) k.behind))
   begins_grounded k =
       go_at marks k.behind others (λ a got. absurd (not_both (get_or before at None) a (here_before None k.before) got)) fresh
     where
@@ -183,13 +183,13 @@ module _ (s : Setting) (at : ℕ) (old new : Now) (job : SeenJob) (stands : slic
           let number = k.number in
           unmarked_other old.marks k.tx.number tx.number (λ e. omega arith)
 
-      fresh : (b : Part) → get_or (behind_of marks k.behind) at None ≡ Some b → IsGrounded s.tells log before (length log) b b.cause
+      fresh : (b : Part) → get_or (behind_of marks k.behind) at None ≡ Some b → IsGrounded (scene_of s.tells log before) (length log) b b.cause
       fresh b got =
           let none : cause_of_phase (marks k.tx.number) k.tx.phase ≡ None =
           ap (λ m. cause_of_phase m k.tx.phase) (unmarked_itself old.marks k.tx.number) ∙ ap (cause_of_phase None) k.running in
-          subst (λ (x : Part). IsGrounded s.tells log before (length log) x x.cause)
+          subst (λ (x : Part). IsGrounded (scene_of s.tells log before) (length log) x x.cause)
           (is_part (behind_of marks k.behind) (part_here marks k.tx) b (here_after marks k.behind (Some k.tx) k.after) got)
-          (subst (IsGrounded s.tells log before (length log) (part_here marks k.tx)) (sym none) tt)
+          (subst (IsGrounded (scene_of s.tells log before) (length log) (part_here marks k.tx)) (sym none) tt)
 
   -- ---- an active one goes on
   -- what it is asked next depends on its private state and its replies alone
@@ -207,18 +207,18 @@ module _ (s : Setting) (at : ℕ) (old new : Now) (job : SeenJob) (stands : slic
       by_replies None = refl
       by_replies (Some f) = ap (next_of s.script f) replies
 
-  no_conflict : (e : Part) (why : Option Cause) → IsNoConflict why → IsGrounded s.tells log before (length log) e why
+  no_conflict : (e : Part) (why : Option Cause) → IsNoConflict why → IsGrounded (scene_of s.tells log before) (length log) e why
   no_conflict e (Some (cause.Conflict object holder from)) none = absurd none
   no_conflict e (Some (cause.Revoked object by from)) none = absurd none
   no_conflict e _ none = tt
 
   -- the one that it meets is another
   rival_named : (j number : ℕ) (rival : SeenTx) → IsActiveAt old.jobs j rival → rival.number ≡ number → j ≢ at
-      → Other log before number (length old.journal) (at + 1)
+      → Other (scene_of s.tells log before) number (length old.journal) (at + 1)
   rival_named j number rival active numbered other =
       let there = active in
       record {
-        who = part_under_way s words old.marks (slice_get led.jobs j) (j + 1) rival;
+        who = part_under_way (reading s words old.marks) (slice_get led.jobs j) (j + 1) rival;
         stands = inr (j, part_read s words old.marks led.jobs old.jobs j there.0 (Some rival) there.1 there.2);
         numbered = numbered;
         other = λ (e : j + 1 ≡ at + 1). other (omega arith);
@@ -249,8 +249,9 @@ module _ (s : Setting) (at : ℕ) (old new : Now) (job : SeenJob) (stands : slic
       (Contains-append_right met.front (met.met ∷ met.rest) met.met (contains_first met.met met.rest))
 
   -- so the conflict is grounded
-  met_grounded : (was tx : SeenTx) → active_of job ≡ Some was → tx.began ≡ was.began → (m : Meets s at old job was tx)
-      → Ground s.tells log before (length log) (part_here old.marks tx) m.object m.holder (length old.journal)
+  met_grounded : (was tx : SeenTx) → active_of job ≡ Some was → tx.began ≡ was.began → (m : Meets (mover s at old job) was tx)
+      → Ground (scene_of s.tells log before) (length log) (part_here old.marks tx)
+      (record { object = m.object; number = m.holder; at = length old.journal })
   unfolding rival_named rival_holds
   met_grounded was tx active began m =
       let met = m.met in
@@ -274,15 +275,15 @@ module _ (s : Setting) (at : ℕ) (old new : Now) (job : SeenJob) (stands : slic
 
   -- its cause is the old one, none that names another, or this
   why_grounded : (was tx : SeenTx) → active_of job ≡ Some was → tx.rank ≡ was.rank → tx.began ≡ was.began → AreCovered was.held tx.held
-      → CauseOn s at old job was tx → IsGrounded s.tells log before (length log) (part_here old.marks tx) (cause_on old tx)
+      → CauseOn (mover s at old job) was tx → IsGrounded (scene_of s.tells log before) (length log) (part_here old.marks tx) (cause_on old tx)
   why_grounded was tx active rank began held (same k) =
-      subst (IsGrounded s.tells log before (length log) (part_here old.marks tx)) (sym k.cause)
+      subst (IsGrounded (scene_of s.tells log before) (length log) (part_here old.marks tx)) (sym k.cause)
       (ground_as s.tells log before (part_here old.marks was) (part_here old.marks tx) (cause_on old was)
       (record { job = refl; rank = rank; began = began; held = held; wanted = λ t. wanted_on led_here was tx k.me k.replies })
       (told.grounded.actives at (part_here old.marks was) (here_before (Some was) active)))
   why_grounded was tx active rank began held (free none) = no_conflict (part_here old.marks tx) (cause_on old tx) none
   why_grounded was tx active rank began held (meets m) =
-      subst (IsGrounded s.tells log before (length log) (part_here old.marks tx))
+      subst (IsGrounded (scene_of s.tells log before) (length log) (part_here old.marks tx))
       (sym (ap (cause_of_phase (old.marks tx.number)) m.phase ∙ undoing_is (old.marks tx.number) _)) (met_grounded was tx active began m)
 
   covered_on : (was held : List Claim) → HoldsOn old.jobs at was held → AreCovered was held
@@ -306,7 +307,7 @@ module _ (s : Setting) (at : ℕ) (old new : Now) (job : SeenJob) (stands : slic
       (covered_front a.wanted b.held b.wanted
       (subst (λ (cs : List Claim). AreCovered cs b.held) (sym (asked_wants was was active refl refl done.call done.asked done.running)) claimed))
 
-  moves_grounded : (k : Moves s at old job new) → AreGrounded s.tells log (behind_of old.marks k.behind)
+  moves_grounded : (k : Moves s at old job new) → AreGrounded (scene_of s.tells log (behind_of old.marks k.behind))
   moves_grounded k = go_at old.marks k.behind (λ j tx away active. refl) own fresh
     where
       held : AreCovered k.was.held k.tx.held
@@ -331,9 +332,9 @@ module _ (s : Setting) (at : ℕ) (old new : Now) (job : SeenJob) (stands : slic
         here_after old.marks k.behind (Some k.tx) k.after,
       )
 
-      fresh : (b : Part) → get_or (behind_of old.marks k.behind) at None ≡ Some b → IsGrounded s.tells log before (length log) b b.cause
+      fresh : (b : Part) → get_or (behind_of old.marks k.behind) at None ≡ Some b → IsGrounded (scene_of s.tells log before) (length log) b b.cause
       fresh b got =
-          subst (λ (x : Part). IsGrounded s.tells log before (length log) x x.cause)
+          subst (λ (x : Part). IsGrounded (scene_of s.tells log before) (length log) x x.cause)
           (is_part (behind_of old.marks k.behind) (part_here old.marks k.tx) b (here_after old.marks k.behind (Some k.tx) k.after) got)
           (why_grounded k.was k.tx k.before k.rank k.began held k.why)
 
@@ -365,7 +366,7 @@ module _ (s : Setting) (at : ℕ) (old new : Now) (job : SeenJob) (stands : slic
         (λ (away : j ≢ at). active_after old.jobs at j k.behind tx away a)
 
     abbrev part_at : (ℕ → Option Mark) → ℕ → SeenTx → Part
-    part_at marks j tx = part_under_way s words marks (slice_get led.jobs j) (j + 1) tx
+    part_at marks j tx = part_under_way (reading s words marks) (slice_get led.jobs j) (j + 1) tx
 
     old_part : (j : ℕ) (tx : SeenTx) → IsActiveAt old.jobs j tx → get_or before j None ≡ Some (part_at old.marks j tx)
     old_part j tx a = let there = a in part_read s words old.marks led.jobs old.jobs j there.0 (Some tx) there.1 there.2
@@ -376,7 +377,7 @@ module _ (s : Setting) (at : ℕ) (old new : Now) (job : SeenJob) (stands : slic
         part_read s words marks_behind led.jobs (slice_set old.jobs at k.behind) j there.0 (Some tx) there.1 there.2
 
     -- the one that is marked
-    rival_grounded : IsGrounded s.tells log before (length log) (part_at marks_behind k.waits.met.rival.place rival) (Some (revoked its_mark))
+    rival_grounded : IsGrounded (scene_of s.tells log before) (length log) (part_at marks_behind k.waits.met.rival.place rival) (Some (revoked its_mark))
     unfolding rival_holds
     rival_grounded =
         let met = k.waits.met in
@@ -406,21 +407,22 @@ module _ (s : Setting) (at : ℕ) (old new : Now) (job : SeenJob) (stands : slic
         }
 
     marked_grounded : (j : ℕ) (tx : SeenTx) → j ≡ k.waits.met.rival.place → tx ≡ rival
-        → IsGrounded s.tells log before (length log) (part_at marks_behind j tx) (Some (revoked its_mark))
+        → IsGrounded (scene_of s.tells log before) (length log) (part_at marks_behind j tx) (Some (revoked its_mark))
     marked_grounded j tx one is =
-        subst (λ (x : SeenTx). IsGrounded s.tells log before (length log) (part_at marks_behind j x) (Some (revoked its_mark))) (sym is)
-        (subst (λ (n : ℕ). IsGrounded s.tells log before (length log) (part_at marks_behind n rival) (Some (revoked its_mark))) (sym one) rival_grounded)
+        subst (λ (x : SeenTx). IsGrounded (scene_of s.tells log before) (length log) (part_at marks_behind j x) (Some (revoked its_mark))) (sym is)
+        (subst (λ (n : ℕ). IsGrounded (scene_of s.tells log before) (length log) (part_at marks_behind n rival) (Some (revoked its_mark))) (sym one)
+        rival_grounded)
 
     -- all others are as before
     unmarked_grounded : (j : ℕ) (tx : SeenTx) → IsActiveAt old.jobs j tx → marks_behind tx.number ≡ old.marks tx.number
-        → IsGrounded s.tells log before (length log) (part_at marks_behind j tx) (cause_of_phase (marks_behind tx.number) tx.phase)
+        → IsGrounded (scene_of s.tells log before) (length log) (part_at marks_behind j tx) (cause_of_phase (marks_behind tx.number) tx.phase)
     unmarked_grounded j tx active kept_mark =
-        subst (λ m. IsGrounded s.tells log before (length log) (part_at marks_behind j tx) (cause_of_phase m tx.phase)) (sym kept_mark)
+        subst (λ m. IsGrounded (scene_of s.tells log before) (length log) (part_at marks_behind j tx) (cause_of_phase m tx.phase)) (sym kept_mark)
         (ground_as s.tells log before (part_at old.marks j tx) (part_at marks_behind j tx) (cause_on old tx)
         (record { job = refl; rank = refl; began = refl; held = covered_same tx.held tx.held refl; wanted = λ t. refl })
         (told.grounded.actives j (part_at old.marks j tx) (old_part j tx active)))
 
-    stays_grounded : AreGrounded s.tells log (behind_of marks_behind k.behind)
+    stays_grounded : AreGrounded (scene_of s.tells log (behind_of marks_behind k.behind))
     stays_grounded = grounds_go_on s.tells log before (behind_of marks_behind k.behind) (record { kept = kept; fresh = fresh }) told.grounded
       where
         kept : (j : ℕ) (a : Part) → get_or before j None ≡ Some a
@@ -441,7 +443,7 @@ module _ (s : Setting) (at : ℕ) (old new : Now) (job : SeenJob) (stands : slic
             )
 
         by_number : (j : ℕ) (tx : SeenTx) → IsActiveAt old.jobs j tx
-            → IsGrounded s.tells log before (length log) (part_at marks_behind j tx) (cause_of_phase (marks_behind tx.number) tx.phase)
+            → IsGrounded (scene_of s.tells log before) (length log) (part_at marks_behind j tx) (cause_of_phase (marks_behind tx.number) tx.phase)
         by_number j tx active = dite (ℕ_discrete tx.number rival.number)
             (λ (here : tx.number ≡ rival.number).
             let is = marked_itself old.marks rival its_mark tx.number here in
@@ -454,14 +456,14 @@ module _ (s : Setting) (at : ℕ) (old new : Now) (job : SeenJob) (stands : slic
                   let runs : tx.phase ≡ Running = ap (λ (x : SeenTx). x.phase) its ∙ new_mark.0 in
                   let why : cause_of_phase (marks_behind tx.number) tx.phase ≡ Some (revoked its_mark) =
                   ap (λ m. cause_of_phase m tx.phase) (is ∙ new_mark.1) ∙ ap (cause_of_phase (Some its_mark)) runs in
-                  subst (IsGrounded s.tells log before (length log) (part_at marks_behind j tx)) (sym why) (marked_grounded j tx one its)
+                  subst (IsGrounded (scene_of s.tells log before) (length log) (part_at marks_behind j tx)) (sym why) (marked_grounded j tx one its)
             ])
             (λ (away : tx.number ≢ rival.number). unmarked_grounded j tx active (marked_other old.marks rival its_mark tx.number away))
 
-        fresh : (j : ℕ) (b : Part) → get_or (behind_of marks_behind k.behind) j None ≡ Some b → IsGrounded s.tells log before (length log) b b.cause
+        fresh : (j : ℕ) (b : Part) → get_or (behind_of marks_behind k.behind) j None ≡ Some b → IsGrounded (scene_of s.tells log before) (length log) b b.cause
         fresh j b got =
             let (tx, active, is) = part_there s words marks_behind led.jobs (slice_set old.jobs at k.behind) j b got in
-            subst (λ (x : Part). IsGrounded s.tells log before (length log) x x.cause) is (by_number j tx (active_still j tx active))
+            subst (λ (x : Part). IsGrounded (scene_of s.tells log before) (length log) x x.cause) is (by_number j tx (active_still j tx active))
 
   -- ---- an active one enters
   module _ (k : Enters at old job new)
@@ -476,7 +478,7 @@ module _ (s : Setting) (at : ℕ) (old new : Now) (job : SeenJob) (stands : slic
     jobs_on = slice_set old.jobs at k.behind ++ k.more
 
     abbrev behind_entry : List (Option Part)
-    behind_entry = active_parts s words (unmarked old.marks k.tx.number) 1 led_on.jobs jobs_on
+    behind_entry = active_parts (reading s words (unmarked old.marks k.tx.number)) 1 led_on.jobs jobs_on
 
     gone : get_or behind_entry at None ≡ None
     gone =
@@ -517,7 +519,7 @@ module _ (s : Setting) (at : ℕ) (old new : Now) (job : SeenJob) (stands : slic
         wanted_same s (ran_behind led at k.tx) words led_here (following_of led entry) k.tx so_far.me so_far.count
         (ap (slice_get led.jobs) (let place : at + 1 - 1 ≡ at = omega arith in place))
 
-    entry_grounded : AreGrounded s.tells (log ++ part_of s led entry ∷ []) behind_entry
+    entry_grounded : AreGrounded (scene_of s.tells (log ++ part_of s led entry ∷ []) behind_entry)
     entry_grounded =
         grounds_enter s.tells log before behind_entry at (part_here old.marks k.tx) (part_of s led entry)
         (record {
@@ -540,11 +542,11 @@ module _ (s : Setting) (at : ℕ) (old new : Now) (job : SeenJob) (stands : slic
     enters_grounded : AreAllGrounded s words (unmarked old.marks k.tx.number) (old.journal ++ entry ∷ []) jobs_on
     enters_grounded =
         subst
-        (λ (ps : List Part). AreGrounded s.tells ps
-        (active_parts s words (unmarked old.marks k.tx.number) 1 (progress_of s.script (old.journal ++ entry ∷ [])).jobs jobs_on))
+        (λ (ps : List Part). AreGrounded (scene_of s.tells ps
+        (active_parts (reading s words (unmarked old.marks k.tx.number)) 1 (progress_of s.script (old.journal ++ entry ∷ [])).jobs jobs_on)))
         (sym (parts_more s old.journal entry))
-        (subst (λ (p : Progress). AreGrounded s.tells (log ++ part_of s led entry ∷ [])
-        (active_parts s words (unmarked old.marks k.tx.number) 1 p.jobs jobs_on))
+        (subst (λ (p : Progress). AreGrounded (scene_of s.tells (log ++ part_of s led entry ∷ [])
+        (active_parts (reading s words (unmarked old.marks k.tx.number)) 1 p.jobs jobs_on)))
         (sym (progress-more s.script old.journal entry)) entry_grounded)
 
 -- ---- each kind of turn
@@ -577,6 +579,6 @@ kind_grounded s at old new job stands played told (enters k) =
 pub grounds_kept : (s : Setting) (at : ℕ) (old new : Now) (answer : Turn) → IsTurn s at old answer new
     → (IsTrue s.tells → (tx : SeenTx) → IsActiveAt old.jobs at tx → IsPlayedSoFar s (length old.words) (progress_of s.script old.journal) at tx)
     → AreTold s (length old.words) old.marks old.journal old.jobs
-    → AreGrounded s.tells (parts_of s new.journal) (active_parts s (length new.words) new.marks 1 (progress_of s.script new.journal).jobs new.jobs)
+    → AreGrounded (scene_at (reading s (length new.words) new.marks) new.journal new.jobs)
 grounds_kept s at old new answer t played told =
     kind_grounded s at old new t.job t.stands played told (kind_of s at old new answer t)

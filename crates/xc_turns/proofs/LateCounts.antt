@@ -18,9 +18,9 @@ use Rattle.xc_data.specs.Private.{place_of}
 use Rattle.xc_world.specs.World.{World}
 use Rattle.xc_world.specs.Checks.{is_bad_handle, is_file, is_pipe, is_pair}
 use Rattle.xc_world.specs.Act.Step.{Stepped, step_to}
-use Rattle.xc_world.specs.Late.{is_late, kept_call, late_call, sync_of, write_pipe_of, shutdown_of, send_of}
+use Rattle.xc_world.specs.Late.{kept_call}
+use Rattle.xc_data.specs.Calls.{is_late, late_call, sync_of, write_pipe_of, shutdown_of, send_of, is_kept, thread_asked, thread_in}
 use Rattle.xc_script.specs.Slots.{kept_of}
-use Rattle.xc_story.specs.LateCalls.{waits, thread_asked, thread_in}
 use Rattle.xc_story.specs.Rows.{IsReplyInTime}
 
 -- ---- one late call for each, which starts the same block
@@ -41,7 +41,7 @@ send_one : (p : Place) (bytes : List ℕ) → not (is_pair p) ≡ false → map 
 send_one (place.Pair num side) bytes good = refl
 send_one _ bytes good = cc good
 
-waiting_one : (c : Call) (me : Private) → waits c ≡ true → is_bad_handle c me ≡ false → map thread_in (late_call c me) ≡ thread_asked c ∷ []
+waiting_one : (c : Call) (me : Private) → is_kept c ≡ true → is_bad_handle c me ≡ false → map thread_in (late_call c me) ≡ thread_asked c ∷ []
 waiting_one (call.XUnlink name slot) me kept good = refl
 waiting_one (call.XSync h slot) me kept good = sync_one (place_of me.places h) good
 waiting_one (call.XWritePipe h bytes slot) me kept good = write_one (place_of me.places h) bytes good
@@ -56,9 +56,9 @@ passed false w me s late = refl
 
 late_one : (w : World) (me : Private) (number : ℕ) (c : Call) (r : Reply) → IsReplyInTime me number c r → is_late r ≡ true
     → map thread_in (late_call c me) ≡ thread_asked c ∷ []
-late_one w me number c r in_time late = by_test (waits c) refl
+late_one w me number c r in_time late = by_test (is_kept c) refl
   where
-    by_test : (b : Bool) → waits c ≡ b → map thread_in (late_call c me) ≡ thread_asked c ∷ []
+    by_test : (b : Bool) → is_kept c ≡ b → map thread_in (late_call c me) ≡ thread_asked c ∷ []
     by_test true kept = waiting_one c me kept (passed (is_bad_handle c me) w me _ (ap is_late (sym (in_time.kept kept w)) ∙ late))
     by_test false now = let no : true ≡ false = sym late ∙ in_time.now now in cc no
 

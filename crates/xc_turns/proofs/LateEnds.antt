@@ -10,7 +10,7 @@ use Rattle.xc_data.specs.declared.call.LateEnd.TheVariants as end
 use Rattle.xc_text.specs.declared.script.Script.{Script}
 use Rattle.xc_story.specs.Setting.{Setting}
 use Rattle.xc_story.specs.Seen.{SeenTx, SeenJob, Now}
-use Rattle.xc_story.specs.Rows.{EndsLate, IsStart, NextLate, Starts, with_tx}
+use Rattle.xc_story.specs.Rows.{EndsLate, IsStart, NextLate, Starts, with_tx, mover}
 
 -- it has one end more, and nothing else changes but what the host tells and counts, and which jobs are started
 pub record Ends (at : ℕ) (old : Now) (job : SeenJob) (tx : SeenTx) (new : Now) : Type 0 where
@@ -33,7 +33,7 @@ start_faults script was block end.Shut is n m same h = absurd h
 start_faults script was block end.NoName is n m same h = absurd h
 
 module _ (s : Setting) (at : ℕ) (old : Now) (job : SeenJob) (tx : SeenTx) (new : Now) where
-  host_ends : (call : LateCall) → EndsLate s at old job tx call new → Ends at old job tx new
+  host_ends : (call : LateCall) → EndsLate (mover s at old job) tx call new → Ends at old job tx new
   host_ends call row =
       record {
         end = row.end;
@@ -44,7 +44,7 @@ module _ (s : Setting) (at : ℕ) (old : Now) (job : SeenJob) (tx : SeenTx) (new
         cause = row.cause;
       }
 
-  start_ends : (block : List ℕ) → Starts s at old job tx block new → Ends at old job tx new
+  start_ends : (block : List ℕ) → Starts (mover s at old job) tx block new → Ends at old job tx new
   start_ends block row =
       record {
         end = row.end;
@@ -56,6 +56,6 @@ module _ (s : Setting) (at : ℕ) (old : Now) (job : SeenJob) (tx : SeenTx) (new
       }
 
   -- by the call
-  pub next_ends : (call : LateCall) → NextLate s at old job tx call new → Ends at old job tx new
+  pub next_ends : (call : LateCall) → NextLate (mover s at old job) tx call new → Ends at old job tx new
   next_ends (Thread block) row = start_ends block row
   next_ends call row = host_ends call row

@@ -44,7 +44,7 @@ use Rattle.std.proofs.lemmas.List.Elements.{All-nil, All-cons}
 use Rattle.std.specs.Prelude.{All}
 use Rattle.xc_text.specs.declared.script.Block.{Block}
 use Rattle.xc_story.specs.LateCalls.{started_late}
-use Rattle.xc_story.specs.Rows.{started_job, started_jobs}
+use Rattle.xc_story.specs.Rows.{started_job, started_jobs, Mover, mover}
 use Rattle.xc_turns.proofs.LateEnds.{next_ends}
 use Rattle.xc_turns.proofs.LeftParts.{again_falls, begun_falls, called_less, late_less, on_falls, on_stays, passed_falls, tried_less, turned_less, wanting_less}
 
@@ -134,7 +134,7 @@ below_waiting s job d n is patient less =
 
 -- ---- an idle job
 idle_falls : (s : Setting) (at : ℕ) (old new : Now) (job : SeenJob) (answer : Turn) → slice_get old.jobs at ≡ Some job → job.doing ≡ Idle
-    → IdleTurn s at old job answer new → turns_left s new < turns_left s old
+    → IdleTurn (mover s at old job) answer new → turns_left s new < turns_left s old
 idle_falls s at old new job turn.Went stands is (ready, same) =
     falls_by s at old new job (beginning_job old job) stands (ap (λ (n : Now). n.jobs) same)
     (below_doing s job Idle (job_turns s (beginning_job old job)) is
@@ -180,7 +180,7 @@ asked_before s place call e =
     omega arith
 
 call_falls : (s : Setting) (at : ℕ) (old new : Now) (job : SeenJob) (tx : SeenTx) (call : Call) → slice_get old.jobs at ≡ Some job
-    → job.doing ≡ Active tx → tx.phase ≡ Running → asked_at s job.place ≡ ask.Call call → Calls s at old job tx call new
+    → job.doing ≡ Active tx → tx.phase ≡ Running → asked_at s job.place ≡ ask.Call call → Calls (mover s at old job) tx call new
     → turns_left s new < turns_left s old
 call_falls s at old new job tx call stands is runs asked c =
     let noted : SeenTx = noting tx call c.reply (claims_at old tx call) c.parts in
@@ -201,7 +201,7 @@ turn_falls s at old new job place tx next stands is runs jobs same other records
     (λ n e. turned_less n job.place.at place.at tx next tx.phase next.phase runs other records kept)
 
 ask_falls : (s : Setting) (at : ℕ) (old new : Now) (job : SeenJob) (tx : SeenTx) (a : Ask) → slice_get old.jobs at ≡ Some job → job.doing ≡ Active tx
-    → tx.phase ≡ Running → asked_at s job.place ≡ a → AskedTurn s at old job tx a new → turns_left s new < turns_left s old
+    → tx.phase ≡ Running → asked_at s job.place ≡ a → AskedTurn (mover s at old job) tx a new → turns_left s new < turns_left s old
 ask_falls s at old new job tx (ask.Call call) stands is runs asked (inl c) = call_falls s at old new job tx call stands is runs asked c
 ask_falls s at old new job tx (ask.Call call) stands is runs asked (inr c) =
     turn_falls s at old new job c.place tx (record tx { phase = Undoing (cause.Conflict c.object c.holder (length old.journal)) }) stands is runs
@@ -214,21 +214,21 @@ ask_falls s at old new job tx ask.Abort stands is runs asked c =
 ask_falls s at old new job tx ask.End stands is runs asked c = absurd c
 
 -- what left a record is a call, whose statement is still to come
-left_before : (s : Setting) (at : ℕ) (old : Now) (place : Position) (tx : SeenTx) (a : Ask) (left : List Undo) (held : List Claim) → asked_at s place ≡ a
-    → length left ≤ 1 → HoldsWanting old at tx a left held → length left ≤ length (first_of (bodies_at s place)) - place.at
-left_before s at old place tx (ask.Call call) left held asked one holds = omega (arith, asked_before s place call asked)
-left_before s at old place tx ask.Commit left held asked one kept = let none = ap length kept.0 in omega arith
-left_before s at old place tx ask.Abort left held asked one kept = let none = ap length kept.0 in omega arith
-left_before s at old place tx ask.End left held asked one kept = let none = ap length kept.0 in omega arith
+left_before : (m : Mover) (tx : SeenTx) (a : Ask) (left : List Undo) (held : List Claim) → asked_at m.setting m.job.place ≡ a → length left ≤ 1
+    → HoldsWanting m tx a left held → length left ≤ length (first_of (bodies_at m.setting m.job.place)) - m.job.place.at
+left_before m tx (ask.Call call) left held asked one holds = omega (arith, asked_before m.setting m.job.place call asked)
+left_before m tx ask.Commit left held asked one kept = let none = ap length kept.0 in omega arith
+left_before m tx ask.Abort left held asked one kept = let none = ap length kept.0 in omega arith
+left_before m tx ask.End left held asked one kept = let none = ap length kept.0 in omega arith
 
 running_falls : (s : Setting) (at : ℕ) (old new : Now) (job : SeenJob) (tx : SeenTx) (answer : Turn) → slice_get old.jobs at ≡ Some job
-    → job.doing ≡ Active tx → tx.phase ≡ Running → RunningTurn s at old job tx answer new → turns_left s new < turns_left s old
+    → job.doing ≡ Active tx → tx.phase ≡ Running → RunningTurn (mover s at old job) tx answer new → turns_left s new < turns_left s old
 running_falls s at old new job tx turn.Went stands is runs h = ask_falls s at old new job tx (asked_at s job.place) stands is runs refl h
 running_falls s at old new job tx turn.NoMemory stands is runs c =
     goes_on s at old new job c.place tx (wanting tx c.left c.held) stands is (ap (λ (n : Now). n.jobs) c.behind) c.same.begin
     (λ n e. subst (λ m. m + 2 < phase_turns n job.place.at tx tx.phase) (sym (length-append tx.undo.pending c.left))
     (wanting_less n job.place.at (length c.left) tx tx.phase runs
-    (subst (λ m. length c.left ≤ m - job.place.at) (sym e) (left_before s at old job.place tx (asked_at s job.place) c.left c.held refl c.one c.holds))))
+    (subst (λ m. length c.left ≤ m - job.place.at) (sym e) (left_before (mover s at old job) tx (asked_at s job.place) c.left c.held refl c.one c.holds))))
 running_falls s at old new job tx (turn.Busy object holder) stands is runs w =
     let moved : doing_turns s (failures job.attempts) w.place.at (bodies_at s w.place) (Active tx)
     ≡ doing_turns s (failures job.attempts) w.place.at (bodies_at s job.place) (Active tx) =
@@ -241,7 +241,7 @@ running_falls s at old new job tx (turn.Ended end) stands is runs h = absurd h
 
 -- a marked one turns back
 marked_falls : (s : Setting) (at : ℕ) (old new : Now) (job : SeenJob) (tx : SeenTx) (m : Option Mark) (answer : Turn) → slice_get old.jobs at ≡ Some job
-    → job.doing ≡ Active tx → tx.phase ≡ Running → MarkedTurn s at old job tx m answer new → turns_left s new < turns_left s old
+    → job.doing ≡ Active tx → tx.phase ≡ Running → MarkedTurn (mover s at old job) tx m answer new → turns_left s new < turns_left s old
 marked_falls s at old new job tx None answer stands is runs h = running_falls s at old new job tx answer stands is runs h
 marked_falls s at old new job tx (Some m) turn.Went stands is runs same =
     turn_falls s at old new job job.place tx (record tx { phase = Undoing (revoked m) }) stands is runs (ap (λ (n : Now). n.jobs) same)
@@ -266,7 +266,7 @@ passes s job tx =
     (passed_falls s (failures job.attempts) job.place.at (bodies_at s job.place) tx)
 
 late_falls : (s : Setting) (at : ℕ) (old new : Now) (job : SeenJob) (tx : SeenTx) (calls : List LateCall) → slice_get old.jobs at ≡ Some job
-    → job.doing ≡ Active tx → tx.phase ≡ Committing → late_left tx ≡ calls → LateTurn s at old job tx calls new → turns_left s new < turns_left s old
+    → job.doing ≡ Active tx → tx.phase ≡ Committing → late_left tx ≡ calls → LateTurn (mover s at old job) tx calls new → turns_left s new < turns_left s old
 late_falls s at old new job tx [] stands is commits none same =
     joins_by s at old new job (behind_commit job tx) (started_jobs s.script job tx) stands (ap (λ (n : Now). n.jobs) same.0) same.1
     (started_few s (behind_commit job tx) (started_late tx.late tx.ends)) (below_doing s job (Active tx) (job_turns s (behind_commit job tx)) is
@@ -278,7 +278,7 @@ late_falls s at old new job tx (call ∷ calls) stands is commits some row =
     (λ n e. late_less n job.place.at tx next tx.phase commits (left_less tx.late tx.ends t.end (left_some tx.late tx.ends call calls some)))
 
 commit_falls : (s : Setting) (at : ℕ) (old new : Now) (job : SeenJob) (tx : SeenTx) (answer : Turn) → slice_get old.jobs at ≡ Some job
-    → job.doing ≡ Active tx → tx.phase ≡ Committing → CommittingTurn s at old job tx answer new → turns_left s new < turns_left s old
+    → job.doing ≡ Active tx → tx.phase ≡ Committing → CommittingTurn (mover s at old job) tx answer new → turns_left s new < turns_left s old
 commit_falls s at old new job tx turn.Went stands is commits h = late_falls s at old new job tx (late_left tx) stands is commits refl h
 commit_falls s at old new job tx turn.NoMemory stands is commits h = absurd h
 commit_falls s at old new job tx (turn.Busy object holder) stands is commits h = absurd h
@@ -297,7 +297,7 @@ abort_less s job tx (cause.Revoked object by at) = again_falls s (failures job.a
 
 -- ---- the way back
 back_falls : (s : Setting) (at : ℕ) (old new : Now) (job : SeenJob) (tx : SeenTx) (c : Cause) (pending : List Undo) → slice_get old.jobs at ≡ Some job
-    → job.doing ≡ Active tx → tx.phase ≡ Undoing c → BackTurn s at old job tx c pending new → turns_left s new < turns_left s old
+    → job.doing ≡ Active tx → tx.phase ≡ Undoing c → BackTurn (mover s at old job) tx c pending new → turns_left s new < turns_left s old
 back_falls s at old new job tx c [] stands is undoes same =
     enters s at old new job (behind_abort job tx c) tx (entry_of tx at (Aborted (record { cause = c; records = tx.undo.ended }))) new.contents stands is
     same.behind
@@ -308,7 +308,7 @@ back_falls s at old new job tx c (u ∷ pending) stands is undoes t =
     (λ n e. tried_less n job.place.at c tx next t.tried tx.phase undoes t.newest)
 
 undoing_falls : (s : Setting) (at : ℕ) (old new : Now) (job : SeenJob) (tx : SeenTx) (c : Cause) (answer : Turn) → slice_get old.jobs at ≡ Some job
-    → job.doing ≡ Active tx → tx.phase ≡ Undoing c → UndoingTurn s at old job tx c answer new → turns_left s new < turns_left s old
+    → job.doing ≡ Active tx → tx.phase ≡ Undoing c → UndoingTurn (mover s at old job) tx c answer new → turns_left s new < turns_left s old
 undoing_falls s at old new job tx c turn.Went stands is undoes h = back_falls s at old new job tx c tx.undo.pending stands is undoes h
 undoing_falls s at old new job tx c turn.NoMemory stands is undoes h = absurd h
 undoing_falls s at old new job tx c (turn.Busy object holder) stands is undoes h = absurd h
@@ -316,14 +316,14 @@ undoing_falls s at old new job tx c (turn.Ended end) stands is undoes h = absurd
 
 -- ---- all rows
 active_falls : (s : Setting) (at : ℕ) (old new : Now) (job : SeenJob) (tx : SeenTx) (p : Phase) (answer : Turn) → slice_get old.jobs at ≡ Some job
-    → job.doing ≡ Active tx → tx.phase ≡ p → ActiveTurn s at old job tx p answer new → turns_left s new < turns_left s old
+    → job.doing ≡ Active tx → tx.phase ≡ p → ActiveTurn (mover s at old job) tx p answer new → turns_left s new < turns_left s old
 active_falls s at old new job tx Running answer stands is phase h =
     marked_falls s at old new job tx (old.marks tx.number) answer stands is phase h
 active_falls s at old new job tx Committing answer stands is phase h = commit_falls s at old new job tx answer stands is phase h
 active_falls s at old new job tx (Undoing c) answer stands is phase h = undoing_falls s at old new job tx c answer stands is phase h
 
 starved_falls : (s : Setting) (at : ℕ) (old new : Now) (job : SeenJob) (answer : Turn) → slice_get old.jobs at ≡ Some job → job.doing ≡ Starved
-    → StarvedTurn at old job answer new → turns_left s new < turns_left s old
+    → StarvedTurn (mover s at old job) answer new → turns_left s new < turns_left s old
 starved_falls s at old new job (turn.Ended job_end.NoMemory) stands is same =
     let bodies = bodies_at s job.place in
     let failed = failures job.attempts in
@@ -338,7 +338,7 @@ starved_falls s at old new job turn.NoMemory stands is h = absurd h
 starved_falls s at old new job (turn.Busy object holder) stands is h = absurd h
 
 doing_falls : (s : Setting) (at : ℕ) (old new : Now) (job : SeenJob) (d : Doing) (answer : Turn) → slice_get old.jobs at ≡ Some job → job.doing ≡ d
-    → TurnOf s at old job d answer new → turns_left s new < turns_left s old
+    → TurnOf (mover s at old job) d answer new → turns_left s new < turns_left s old
 doing_falls s at old new job Idle answer stands is h = idle_falls s at old new job answer stands is h
 doing_falls s at old new job (Active tx) answer stands is h = active_falls s at old new job tx tx.phase answer stands is refl h
 doing_falls s at old new job Starved answer stands is h = starved_falls s at old new job answer stands is h

@@ -38,7 +38,7 @@ use Rattle.xc_story.specs.Opened.{IsOpening, opened_job}
 use Rattle.xc_story.specs.Alone.{AreAlone, IsFullAt, MeetsNobody}
 use Rattle.xc_turns.proofs.Lists.{get_cases, get_set_other, get_set_same}
 use Rattle.xc_story.specs.LateCalls.{started_late}
-use Rattle.xc_story.specs.Rows.{started_jobs}
+use Rattle.xc_story.specs.Rows.{started_jobs, mover}
 use Rattle.xc_turns.proofs.Grown.{AreIdle, grown_active, started_idle}
 use Rattle.xc_turns.proofs.LateEnds.{next_ends}
 use Rattle.xc_turns.proofs.Jobs.{active_is, active_before, behind_abort_none, none_active, opened_rests}
@@ -240,7 +240,7 @@ ended_full s at old job (job_end.GaveUp c) stands is ending alone full = cc
 ended_full s at old job job_end.NoMemory stands is ending alone full = cc
 
 idle_row : (s : Setting) (at : ℕ) (old new : Now) (job : SeenJob) (answer : Turn) → slice_get old.jobs at ≡ Some job → job.doing ≡ Idle
-    → IdleTurn s at old job answer new → AreAlone old at → AreAlone new at
+    → IdleTurn (mover s at old job) answer new → AreAlone old at → AreAlone new at
 idle_row s at old new job turn.Went stands is (ready, same) alone =
     let first = idle_alone at old job stands is alone in
     let room = ready.room in
@@ -258,7 +258,7 @@ idle_row s at old new job (turn.Busy object number) stands is (waits, same) alon
 idle_row s at old new job turn.NoMemory stands is h alone = absurd h
 
 ask_row : (s : Setting) (at : ℕ) (old new : Now) (job : SeenJob) (tx : SeenTx) (a : Ask) → slice_get old.jobs at ≡ Some job → job.doing ≡ Active tx
-    → AskedTurn s at old job tx a new → AreAlone old at → AreAlone new at
+    → AskedTurn (mover s at old job) tx a new → AreAlone old at → AreAlone new at
 ask_row s at old new job tx (ask.Call call) stands is (inl c) alone =
     let next = next_of at old job tx stands is alone in
     let noted : SeenTx = noting tx call c.reply (claims_at old tx call) c.parts in
@@ -281,7 +281,7 @@ ask_row s at old new job tx ask.Abort stands is c alone =
 ask_row s at old new job tx ask.End stands is h alone = absurd h
 
 running_row : (s : Setting) (at : ℕ) (old new : Now) (job : SeenJob) (tx : SeenTx) (answer : Turn) → slice_get old.jobs at ≡ Some job
-    → job.doing ≡ Active tx → RunningTurn s at old job tx answer new → AreAlone old at → AreAlone new at
+    → job.doing ≡ Active tx → RunningTurn (mover s at old job) tx answer new → AreAlone old at → AreAlone new at
 running_row s at old new job tx turn.Went stands is h alone = ask_row s at old new job tx (asked_at s job.place) stands is h alone
 running_row s at old new job tx turn.NoMemory stands is c alone =
     let next = next_of at old job tx stands is alone in
@@ -294,13 +294,13 @@ running_row s at old new job tx (turn.Busy object holder) stands is w alone =
 running_row s at old new job tx (turn.Ended end) stands is h alone = absurd h
 
 marked_row : (s : Setting) (at : ℕ) (old new : Now) (job : SeenJob) (tx : SeenTx) (m : Option Mark) (answer : Turn) → slice_get old.jobs at ≡ Some job
-    → job.doing ≡ Active tx → old.marks tx.number ≡ m → MarkedTurn s at old job tx m answer new → AreAlone old at → AreAlone new at
+    → job.doing ≡ Active tx → old.marks tx.number ≡ m → MarkedTurn (mover s at old job) tx m answer new → AreAlone old at → AreAlone new at
 marked_row s at old new job tx None answer stands is has h alone = running_row s at old new job tx answer stands is h alone
 marked_row s at old new job tx (Some m) answer stands is has h alone =
     absurd (let e : ◌≡◌ {A = Option Mark} None (Some m) = sym (alone.unmarked tx.number) ∙ has in cc)
 
 late_row : (s : Setting) (at : ℕ) (old new : Now) (job : SeenJob) (tx : SeenTx) (calls : List LateCall) → slice_get old.jobs at ≡ Some job
-    → job.doing ≡ Active tx → LateTurn s at old job tx calls new → AreAlone old at → AreAlone new at
+    → job.doing ≡ Active tx → LateTurn (mover s at old job) tx calls new → AreAlone old at → AreAlone new at
 late_row s at old new job tx [] stands is same alone =
     let next = next_of at old job tx stands is alone in
     let mid = entering old at (behind_commit job tx) (entry_of tx at (Committed tx.ends)) in
@@ -317,7 +317,7 @@ late_row s at old new job tx (call ∷ calls) stands is row alone =
     goes_on at old new job (with_tx job job.place tx') tx' stands t.jobs t.journal (none_marked old new t.marks alone.unmarked) refl next alone
 
 commit_row : (s : Setting) (at : ℕ) (old new : Now) (job : SeenJob) (tx : SeenTx) (answer : Turn) → slice_get old.jobs at ≡ Some job
-    → job.doing ≡ Active tx → CommittingTurn s at old job tx answer new → AreAlone old at → AreAlone new at
+    → job.doing ≡ Active tx → CommittingTurn (mover s at old job) tx answer new → AreAlone old at → AreAlone new at
 commit_row s at old new job tx turn.Went stands is h alone = late_row s at old new job tx (late_left tx) stands is h alone
 commit_row s at old new job tx turn.NoMemory stands is h alone = absurd h
 commit_row s at old new job tx (turn.Busy object holder) stands is h alone = absurd h
@@ -331,7 +331,7 @@ back_goes job tx (cause.Conflict object holder at) e = cc
 back_goes job tx (cause.Revoked object by at) e = cc
 
 back_row : (s : Setting) (at : ℕ) (old new : Now) (job : SeenJob) (tx : SeenTx) (c : Cause) (pending : List Undo) → slice_get old.jobs at ≡ Some job
-    → job.doing ≡ Active tx → tx.phase ≡ Undoing c → BackTurn s at old job tx c pending new → AreAlone old at → AreAlone new at
+    → job.doing ≡ Active tx → tx.phase ≡ Undoing c → BackTurn (mover s at old job) tx c pending new → AreAlone old at → AreAlone new at
 back_row s at old new job tx c [] stands is undoes same alone =
     let next = next_of at old job tx stands is alone in
     let lone : is_tried_again c ≡ false = subst MeetsNobody undoes next.2 in
@@ -344,36 +344,36 @@ back_row s at old new job tx c (u ∷ pending) stands is undoes t alone =
     (none_marked old new (ap (λ (n : Now). n.marks) t.behind) alone.unmarked) refl next alone
 
 undoing_row : (s : Setting) (at : ℕ) (old new : Now) (job : SeenJob) (tx : SeenTx) (c : Cause) (answer : Turn) → slice_get old.jobs at ≡ Some job
-    → job.doing ≡ Active tx → tx.phase ≡ Undoing c → UndoingTurn s at old job tx c answer new → AreAlone old at → AreAlone new at
+    → job.doing ≡ Active tx → tx.phase ≡ Undoing c → UndoingTurn (mover s at old job) tx c answer new → AreAlone old at → AreAlone new at
 undoing_row s at old new job tx c turn.Went stands is undoes h alone = back_row s at old new job tx c tx.undo.pending stands is undoes h alone
 undoing_row s at old new job tx c turn.NoMemory stands is undoes h alone = absurd h
 undoing_row s at old new job tx c (turn.Busy object holder) stands is undoes h alone = absurd h
 undoing_row s at old new job tx c (turn.Ended end) stands is undoes h alone = absurd h
 
 active_row : (s : Setting) (at : ℕ) (old new : Now) (job : SeenJob) (tx : SeenTx) (p : Phase) (answer : Turn) → slice_get old.jobs at ≡ Some job
-    → job.doing ≡ Active tx → tx.phase ≡ p → ActiveTurn s at old job tx p answer new → AreAlone old at → AreAlone new at
+    → job.doing ≡ Active tx → tx.phase ≡ p → ActiveTurn (mover s at old job) tx p answer new → AreAlone old at → AreAlone new at
 active_row s at old new job tx Running answer stands is phase h alone =
     marked_row s at old new job tx (old.marks tx.number) answer stands is refl h alone
 active_row s at old new job tx Committing answer stands is phase h alone = commit_row s at old new job tx answer stands is h alone
 active_row s at old new job tx (Undoing c) answer stands is phase h alone = undoing_row s at old new job tx c answer stands is phase h alone
 
-starved_row : (at : ℕ) (old new : Now) (job : SeenJob) (answer : Turn) → slice_get old.jobs at ≡ Some job → StarvedTurn at old job answer new
-    → AreAlone old at → AreAlone new at
-starved_row at old new job (turn.Ended job_end.NoMemory) stands same alone =
+starved_row : (s : Setting) (at : ℕ) (old new : Now) (job : SeenJob) (answer : Turn) → slice_get old.jobs at ≡ Some job
+    → StarvedTurn (mover s at old job) answer new → AreAlone old at → AreAlone new at
+starved_row s at old new job (turn.Ended job_end.NoMemory) stands same alone =
     rests at old new job (record job { doing = Ended job_end.NoMemory }) stands (ap (λ (n : Now). n.jobs) same) (ap (λ (n : Now). n.journal) same)
     (none_marked old new (ap (λ (n : Now). n.marks) same) alone.unmarked) refl (λ e. cc) alone
-starved_row at old new job (turn.Ended job_end.Done) stands h alone = absurd h
-starved_row at old new job (turn.Ended (job_end.GaveUp c)) stands h alone = absurd h
-starved_row at old new job (turn.Ended job_end.JournalFull) stands h alone = absurd h
-starved_row at old new job turn.Went stands h alone = absurd h
-starved_row at old new job turn.NoMemory stands h alone = absurd h
-starved_row at old new job (turn.Busy object holder) stands h alone = absurd h
+starved_row s at old new job (turn.Ended job_end.Done) stands h alone = absurd h
+starved_row s at old new job (turn.Ended (job_end.GaveUp c)) stands h alone = absurd h
+starved_row s at old new job (turn.Ended job_end.JournalFull) stands h alone = absurd h
+starved_row s at old new job turn.Went stands h alone = absurd h
+starved_row s at old new job turn.NoMemory stands h alone = absurd h
+starved_row s at old new job (turn.Busy object holder) stands h alone = absurd h
 
 doing_row : (s : Setting) (at : ℕ) (old new : Now) (job : SeenJob) (d : Doing) (answer : Turn) → slice_get old.jobs at ≡ Some job → job.doing ≡ d
-    → TurnOf s at old job d answer new → AreAlone old at → AreAlone new at
+    → TurnOf (mover s at old job) d answer new → AreAlone old at → AreAlone new at
 doing_row s at old new job Idle answer stands is h alone = idle_row s at old new job answer stands is h alone
 doing_row s at old new job (Active tx) answer stands is h alone = active_row s at old new job tx tx.phase answer stands is refl h alone
-doing_row s at old new job Starved answer stands is h alone = starved_row at old new job answer stands h alone
+doing_row s at old new job Starved answer stands is h alone = starved_row s at old new job answer stands h alone
 doing_row s at old new job (Ended end) answer stands is h alone = absurd h
 
 -- a turn of the one job that goes on

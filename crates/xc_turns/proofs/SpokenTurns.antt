@@ -27,7 +27,7 @@ use Rattle.xc_story.specs.Progress.{words_left, progress_of}
 use Rattle.xc_story.specs.Seen.{SeenTx, SeenJob, Doing, Idle, Active, Starved, Ended, Now, active_in, active_of, begun_count, late_left, rank_of}
 use Rattle.xc_story.specs.Seen.{revoked, waiting, with_job}
 use Rattle.xc_story.specs.Rows.{asked_at, new_tx, beginning_job, claims_at, noting, wanting, with_tx, entry_of, behind_commit, behind_abort}
-use Rattle.xc_story.specs.Rows.{Calls, Conflicts, HoldsWanting, Wants, LateTurn, started_jobs, Compensates, EntersAborted}
+use Rattle.xc_story.specs.Rows.{Calls, Conflicts, HoldsWanting, Wants, LateTurn, started_jobs, Compensates, EntersAborted, mover}
 use Rattle.xc_story.specs.Rows.{IdleTurn, AskedTurn, MarkedTurn, RunningTurn, CommittingTurn, BackTurn, UndoingTurn, StarvedTurn, ActiveTurn, TurnOf, IsTurn}
 use Rattle.xc_story.specs.Holding.{AreApart}
 use Rattle.xc_story.specs.Spoken.{HasSpoken, AreSpoken}
@@ -86,7 +86,7 @@ module _ (s : Setting) (at : ℕ) (old : Now) (job : SeenJob) (new : Now) (stand
   idles : (job' : SeenJob) → active_of job ≡ None → active_of job' ≡ None → KeepsWords s (with_job old at job')
   idles job' was is = quiet_turn before old.words old.jobs at job stands h job' (idle_quiet job was) (idle_quiet job' is) (idle_speaks before job' is)
 
-  by_idle : job.doing ≡ Idle → (answer : Turn) → IdleTurn s at old job answer new → KeepsWords s new
+  by_idle : job.doing ≡ Idle → (answer : Turn) → IdleTurn (mover s at old job) answer new → KeepsWords s new
   by_idle is (turn.Ended end) row = subst (KeepsWords s) (sym row.1) (idles (record job { doing = Ended end }) (ap active_in is) refl)
   by_idle is turn.Went row =
       let number = begun_count old + 1 in
@@ -98,7 +98,7 @@ module _ (s : Setting) (at : ℕ) (old : Now) (job : SeenJob) (new : Now) (stand
   by_idle is (turn.Busy object number) row = subst (KeepsWords s) (sym row.1) (idles (waiting job) (ap active_in is) (ap active_in is))
   by_idle is turn.NoMemory row = absurd row
 
-  by_starved : job.doing ≡ Starved → (answer : Turn) → StarvedTurn at old job answer new → KeepsWords s new
+  by_starved : job.doing ≡ Starved → (answer : Turn) → StarvedTurn (mover s at old job) answer new → KeepsWords s new
   by_starved is (turn.Ended job_end.NoMemory) row =
       subst (KeepsWords s) (sym row) (idles (record job { doing = Ended job_end.NoMemory }) (ap active_in is) refl)
   by_starved is (turn.Ended job_end.Done) row = absurd row
@@ -129,17 +129,17 @@ module _ (s : Setting) (at : ℕ) (old : Now) (job : SeenJob) (new : Now) (stand
         goes_on place (record tx { phase = Undoing c }) (running_is_none tx.phase runs) (undoing_is_none (Undoing c) c refl)
         (turned_spoken before tx c tx.held (λ word e. e) (λ word e. e) said)
 
-    call_kept : (call : Call) → tx.phase ≡ Running → Calls s at old job tx call new → KeepsWords s new
+    call_kept : (call : Call) → tx.phase ≡ Running → Calls (mover s at old job) tx call new → KeepsWords s new
     call_kept call runs row =
         let tx' = noting tx call row.reply (claims_at old tx call) row.parts in
         kept_words s old new _ (ap (λ (n : Now). n.jobs) row.behind) (ap (λ (n : Now). n.words) row.behind) (ap (λ (n : Now). n.journal) row.behind)
         (goes_on row.place tx' (running_is_none tx.phase runs) (running_is_none tx'.phase runs)
         (called_spoken before old.words old.jobs at job tx stands active runs h call row.reply row.parts row.free row.stores row.spoken))
 
-    conflict_kept : (call : Call) → tx.phase ≡ Running → Conflicts s at old job tx call new → KeepsWords s new
+    conflict_kept : (call : Call) → tx.phase ≡ Running → Conflicts (mover s at old job) tx call new → KeepsWords s new
     conflict_kept call runs row = subst (KeepsWords s) (sym row.behind) (turns_back row.place _ runs)
 
-    by_ask : tx.phase ≡ Running → (a : Ask) → AskedTurn s at old job tx a new → KeepsWords s new
+    by_ask : tx.phase ≡ Running → (a : Ask) → AskedTurn (mover s at old job) tx a new → KeepsWords s new
     by_ask runs (ask.Call call) (inl row) = call_kept call runs row
     by_ask runs (ask.Call call) (inr row) = conflict_kept call runs row
     by_ask runs ask.Commit row =
@@ -148,7 +148,8 @@ module _ (s : Setting) (at : ℕ) (old : Now) (job : SeenJob) (new : Now) (stand
     by_ask runs ask.Abort row = subst (KeepsWords s) (sym row.behind) (turns_back row.place cause.Asked runs)
     by_ask runs ask.End row = absurd row
 
-    held_still : (a : Ask) (left : List Undo) (held : List Claim) → HoldsWanting old at tx a left held → (word : ℕ) → Sees tx.number tx.held (object.Word word)
+    held_still : (a : Ask) (left : List Undo) (held : List Claim) → HoldsWanting (mover s at old job) tx a left held → (word : ℕ)
+        → Sees tx.number tx.held (object.Word word)
         → Sees tx.number held (object.Word word)
     held_still (ask.Call call) left held (inl kept) word e = subst (λ cs. Sees tx.number cs (object.Word word)) (sym kept.1) e
     held_still (ask.Call call) left held (inr more) word e =
@@ -157,7 +158,8 @@ module _ (s : Setting) (at : ℕ) (old : Now) (job : SeenJob) (new : Now) (stand
     held_still ask.Abort left held kept word e = subst (λ cs. Sees tx.number cs (object.Word word)) (sym kept.1) e
     held_still ask.End left held kept word e = subst (λ cs. Sees tx.number cs (object.Word word)) (sym kept.1) e
 
-    owned_still : (a : Ask) (left : List Undo) (held : List Claim) → HoldsWanting old at tx a left held → (word : ℕ) → Owns tx.number tx.held (object.Word word)
+    owned_still : (a : Ask) (left : List Undo) (held : List Claim) → HoldsWanting (mover s at old job) tx a left held → (word : ℕ)
+        → Owns tx.number tx.held (object.Word word)
         → Owns tx.number held (object.Word word)
     owned_still (ask.Call call) left held (inl kept) word e = subst (λ cs. Owns tx.number cs (object.Word word)) (sym kept.1) e
     owned_still (ask.Call call) left held (inr more) word e =
@@ -166,7 +168,8 @@ module _ (s : Setting) (at : ℕ) (old : Now) (job : SeenJob) (new : Now) (stand
     owned_still ask.Abort left held kept word e = subst (λ cs. Owns tx.number cs (object.Word word)) (sym kept.1) e
     owned_still ask.End left held kept word e = subst (λ cs. Owns tx.number cs (object.Word word)) (sym kept.1) e
 
-    want_kept : (a : Ask) → tx.phase ≡ Running → (row : Wants s at old job tx new) → HoldsWanting old at tx a row.left row.held → KeepsWords s new
+    want_kept : (a : Ask) → tx.phase ≡ Running → (row : Wants (mover s at old job) tx new) → HoldsWanting (mover s at old job) tx a row.left row.held
+        → KeepsWords s new
     want_kept a runs row holds =
         let tx' = wanting tx row.left row.held in
         kept_words s old new _ (ap (λ (n : Now). n.jobs) row.behind) (ap (λ (n : Now). n.words) row.behind) (ap (λ (n : Now). n.journal) row.behind)
@@ -174,7 +177,7 @@ module _ (s : Setting) (at : ℕ) (old : Now) (job : SeenJob) (new : Now) (stand
         (tried_spoken before (record tx { phase = Undoing cause.NoMemory; held = row.held }) tx'.undo
         (turned_spoken before tx cause.NoMemory row.held (held_still a row.left row.held holds) (owned_still a row.left row.held holds) said)))
 
-    by_running : tx.phase ≡ Running → (answer : Turn) → RunningTurn s at old job tx answer new → KeepsWords s new
+    by_running : tx.phase ≡ Running → (answer : Turn) → RunningTurn (mover s at old job) tx answer new → KeepsWords s new
     by_running runs turn.Went row = by_ask runs (asked_at s job.place) row
     by_running runs turn.NoMemory row = want_kept (asked_at s job.place) runs row row.holds
     by_running runs (turn.Busy object holder) row =
@@ -184,7 +187,7 @@ module _ (s : Setting) (at : ℕ) (old : Now) (job : SeenJob) (new : Now) (stand
         (active_quiet job' tx refl (running_is_none tx.phase runs)) (active_speaks before job' tx refl said))
     by_running runs (turn.Ended end) row = absurd row
 
-    by_mark : tx.phase ≡ Running → (m : Option Mark) (answer : Turn) → MarkedTurn s at old job tx m answer new → KeepsWords s new
+    by_mark : tx.phase ≡ Running → (m : Option Mark) (answer : Turn) → MarkedTurn (mover s at old job) tx m answer new → KeepsWords s new
     by_mark runs None answer row = by_running runs answer row
     by_mark runs (Some m) turn.Went row = subst (KeepsWords s) (sym row) (turns_back job.place (revoked m) runs)
     by_mark runs (Some m) _ row = absurd row
@@ -196,7 +199,7 @@ module _ (s : Setting) (at : ℕ) (old : Now) (job : SeenJob) (new : Now) (stand
         kept_words s old new _ row.jobs row.words row.journal
         (late_turn before old.words old.jobs at job stands h tx active apart ends (with_tx job job.place (record tx { ends = ends })) refl)
 
-    by_late : tx.phase ≡ Committing → (calls : List LateCall) → LateTurn s at old job tx calls new → KeepsWords s new
+    by_late : tx.phase ≡ Committing → (calls : List LateCall) → LateTurn (mover s at old job) tx calls new → KeepsWords s new
     by_late commits (call ∷ calls) row = late_kept (next_ends s at old job tx new call row)
     by_late commits [] row =
         let e = entry_of tx at (Committed tx.ends) in
@@ -207,14 +210,14 @@ module _ (s : Setting) (at : ℕ) (old : Now) (job : SeenJob) (new : Now) (stand
         (started_idle s.script (behind_commit job tx) (started_late tx.late tx.ends))
         (enters_turn before old.words old.jobs at job stands h tx active apart commits (behind_commit job tx) refl)))
 
-    by_committing : tx.phase ≡ Committing → (answer : Turn) → CommittingTurn s at old job tx answer new → KeepsWords s new
+    by_committing : tx.phase ≡ Committing → (answer : Turn) → CommittingTurn (mover s at old job) tx answer new → KeepsWords s new
     by_committing commits turn.Went row = by_late commits (late_left tx) row
     by_committing commits (turn.Busy object holder) row = absurd row
     by_committing commits turn.NoMemory row = absurd row
     by_committing commits (turn.Ended end) row = absurd row
 
     -- ---- one on its way back
-    abort_kept : (c : Cause) → tx.phase ≡ Undoing c → EntersAborted s at old job tx c new → KeepsWords s new
+    abort_kept : (c : Cause) → tx.phase ≡ Undoing c → EntersAborted (mover s at old job) tx c new → KeepsWords s new
     abort_kept c undoes row =
         let e = entry_of tx at (Aborted (record { cause = c; records = tx.undo.ended })) in
         let job' = behind_abort job tx c in
@@ -223,29 +226,29 @@ module _ (s : Setting) (at : ℕ) (old : Now) (job : SeenJob) (new : Now) (stand
         (quiet_turn before old.words old.jobs at job stands h job' (active_quiet job tx active (undoing_is_none tx.phase c undoes))
         (idle_quiet job' none) (idle_speaks before job' none)))
 
-    tried_kept : (c : Cause) → tx.phase ≡ Undoing c → Compensates s at old job tx new → KeepsWords s new
+    tried_kept : (c : Cause) → tx.phase ≡ Undoing c → Compensates (mover s at old job) tx new → KeepsWords s new
     tried_kept c undoes row =
         let undo : Records = record { pending = row.older; ended = (row.tried, row.end) ∷ tx.undo.ended } in
         kept_words s old new _ (ap (λ (n : Now). n.jobs) row.behind) (ap (λ (n : Now). n.words) row.behind) (ap (λ (n : Now). n.journal) row.behind)
         (goes_on job.place (record tx { undo = undo }) (undoing_is_none tx.phase c undoes) (undoing_is_none tx.phase c undoes)
         (tried_spoken before tx undo said))
 
-    by_records : (c : Cause) → tx.phase ≡ Undoing c → (pending : List Undo) → BackTurn s at old job tx c pending new → KeepsWords s new
+    by_records : (c : Cause) → tx.phase ≡ Undoing c → (pending : List Undo) → BackTurn (mover s at old job) tx c pending new → KeepsWords s new
     by_records c undoes [] row = abort_kept c undoes row
     by_records c undoes (u ∷ pending) row = tried_kept c undoes row
 
-    by_undoing : (c : Cause) → tx.phase ≡ Undoing c → (answer : Turn) → UndoingTurn s at old job tx c answer new → KeepsWords s new
+    by_undoing : (c : Cause) → tx.phase ≡ Undoing c → (answer : Turn) → UndoingTurn (mover s at old job) tx c answer new → KeepsWords s new
     by_undoing c undoes turn.Went row = by_records c undoes tx.undo.pending row
     by_undoing c undoes (turn.Busy object holder) row = absurd row
     by_undoing c undoes turn.NoMemory row = absurd row
     by_undoing c undoes (turn.Ended end) row = absurd row
 
-    by_phase : (p : Phase) → tx.phase ≡ p → (answer : Turn) → ActiveTurn s at old job tx p answer new → KeepsWords s new
+    by_phase : (p : Phase) → tx.phase ≡ p → (answer : Turn) → ActiveTurn (mover s at old job) tx p answer new → KeepsWords s new
     by_phase Running e answer row = by_mark e (old.marks tx.number) answer row
     by_phase Committing e answer row = by_committing e answer row
     by_phase (Undoing c) e answer row = by_undoing c e answer row
 
-  by_doing : (d : Doing) → job.doing ≡ d → (answer : Turn) → TurnOf s at old job d answer new → KeepsWords s new
+  by_doing : (d : Doing) → job.doing ≡ d → (answer : Turn) → TurnOf (mover s at old job) d answer new → KeepsWords s new
   by_doing Idle is answer row = by_idle is answer row
   by_doing (Active tx) is answer row = by_phase tx is tx.phase refl answer row
   by_doing Starved is answer row = by_starved is answer row

@@ -20,12 +20,13 @@ use Rattle.xc_data.specs.declared.entry.Mark.{Mark}
 use Rattle.xc_story.specs.declared.phase.Phase.{Phase}
 use Rattle.xc_story.specs.declared.phase.Phase.TheVariants.{Running, Committing, Undoing}
 use Rattle.xc_story.specs.Setting.{Setting}
-use Rattle.xc_story.specs.LateCalls.{started_late, started_with, thread_in}
+use Rattle.xc_story.specs.LateCalls.{started_late, started_with}
+use Rattle.xc_data.specs.Calls.{thread_in}
 use Rattle.xc_story.specs.Told.{AreTold, IsInPhase, IsRunning}
 use Rattle.xc_story.specs.Seen.{SeenTx, SeenJob, Doing, Idle, Active, Starved, Ended, Now, active_in, active_of, actives, late_left, waiting}
 use Rattle.xc_story.specs.Started.{AreStarted, starting}
 use Rattle.xc_story.specs.Rows.{IsActiveAt, Calls, EndsLate, IsStart, LateTurn, NextLate, noting, claims_at, with_tx, beginning_job, behind_commit}
-use Rattle.xc_story.specs.Rows.{behind_abort, started_job, started_jobs}
+use Rattle.xc_story.specs.Rows.{behind_abort, started_job, started_jobs, mover}
 use Rattle.xc_story.specs.Rows.{IdleTurn, AskedTurn, MarkedTurn, RunningTurn, CommittingTurn, BackTurn, UndoingTurn, StarvedTurn, ActiveTurn, TurnOf, IsTurn}
 use Rattle.xc_turns.proofs.CountedSums.{adds, sum_set}
 use Rattle.xc_turns.proofs.CountedTurns.{in_phase, none_late}
@@ -83,7 +84,7 @@ module _ (s : Setting) (at : ℕ) (old : Now) (job : SeenJob) (new : Now) (stand
       more_started job' 0 (ap actives jobs) (ap length jobs ∙ length-set old.jobs at job' ∙ (let z : length old.jobs ≡ length old.jobs + 0 = omega arith in z))
       (omega (arith, as_many, same)) (omega (arith, as_many, few))
 
-  by_idle : job.doing ≡ Idle → (answer : Turn) → IdleTurn s at old job answer new → AreStarted new
+  by_idle : job.doing ≡ Idle → (answer : Turn) → IdleTurn (mover s at old job) answer new → AreStarted new
   by_idle is (turn.Ended end) row = still_started (record job { doing = Ended end }) (ap (λ (n : Now). n.jobs) row.1) (ap (λ (n : Now). n.started) row.1)
       (ap (λ d. adds starting (active_in d)) (sym is))
   by_idle is turn.Went row = still_started (beginning_job old job) (ap (λ (n : Now). n.jobs) row.1) (ap (λ (n : Now). n.started) row.1)
@@ -91,7 +92,7 @@ module _ (s : Setting) (at : ℕ) (old : Now) (job : SeenJob) (new : Now) (stand
   by_idle is (turn.Busy object number) row = still_started (waiting job) (ap (λ (n : Now). n.jobs) row.1) (ap (λ (n : Now). n.started) row.1) refl
   by_idle is turn.NoMemory row = absurd row
 
-  by_starved : job.doing ≡ Starved → (answer : Turn) → StarvedTurn at old job answer new → AreStarted new
+  by_starved : job.doing ≡ Starved → (answer : Turn) → StarvedTurn (mover s at old job) answer new → AreStarted new
   by_starved is (turn.Ended job_end.NoMemory) row =
       still_started (record job { doing = Ended job_end.NoMemory }) (ap (λ (n : Now). n.jobs) row) (ap (λ (n : Now). n.started) row)
       (ap (λ d. adds starting (active_in d)) (sym is))
@@ -119,7 +120,7 @@ module _ (s : Setting) (at : ℕ) (old : Now) (job : SeenJob) (new : Now) (stand
         let running : IsRunning s phase.0 job.place tx = subst (IsInPhase s phase.0 job.place tx) runs phase.1 in
         running.no_ends
 
-    call_started : (call : Call) → tx.phase ≡ Running → Calls s at old job tx call new → AreStarted new
+    call_started : (call : Call) → tx.phase ≡ Running → Calls (mover s at old job) tx call new → AreStarted new
     call_started call runs row =
         let tx' = noting tx call row.reply (claims_at old tx call) row.parts in
         let none = runs_none runs in
@@ -127,7 +128,7 @@ module _ (s : Setting) (at : ℕ) (old : Now) (job : SeenJob) (new : Now) (stand
         let is_now : starting tx' ≡ 0 = ap (λ es. length (started_late tx'.late es)) none ∙ ap length (none_started tx'.late) in
         still_started (with_tx job row.place tx') (ap (λ (n : Now). n.jobs) row.behind) (ap (λ (n : Now). n.started) row.behind) (is_now ∙ sym was ∙ mine)
 
-    by_ask : tx.phase ≡ Running → (a : Ask) → AskedTurn s at old job tx a new → AreStarted new
+    by_ask : tx.phase ≡ Running → (a : Ask) → AskedTurn (mover s at old job) tx a new → AreStarted new
     by_ask runs (ask.Call call) (inl row) = call_started call runs row
     by_ask runs (ask.Call call) (inr row) = goes row.place _ refl refl (ap (λ (n : Now). n.jobs) row.behind) (ap (λ (n : Now). n.started) row.behind)
     by_ask runs ask.Commit row =
@@ -135,14 +136,14 @@ module _ (s : Setting) (at : ℕ) (old : Now) (job : SeenJob) (new : Now) (stand
     by_ask runs ask.Abort row = goes row.place _ refl refl (ap (λ (n : Now). n.jobs) row.behind) (ap (λ (n : Now). n.started) row.behind)
     by_ask runs ask.End row = absurd row
 
-    by_running : tx.phase ≡ Running → (answer : Turn) → RunningTurn s at old job tx answer new → AreStarted new
+    by_running : tx.phase ≡ Running → (answer : Turn) → RunningTurn (mover s at old job) tx answer new → AreStarted new
     by_running runs turn.Went row = by_ask runs _ row
     by_running runs turn.NoMemory row = goes row.place _ refl refl (ap (λ (n : Now). n.jobs) row.behind) (ap (λ (n : Now). n.started) row.behind)
     by_running runs (turn.Busy object holder) row =
         still_started (waiting (with_tx job row.place tx)) (ap (λ (n : Now). n.jobs) row.behind) (ap (λ (n : Now). n.started) row.behind) mine
     by_running runs (turn.Ended end) row = absurd row
 
-    by_mark : tx.phase ≡ Running → (m : Option Mark) (answer : Turn) → MarkedTurn s at old job tx m answer new → AreStarted new
+    by_mark : tx.phase ≡ Running → (m : Option Mark) (answer : Turn) → MarkedTurn (mover s at old job) tx m answer new → AreStarted new
     by_mark runs None answer row = by_running runs answer row
     by_mark runs (Some m) turn.Went row = goes job.place _ refl refl (ap (λ (n : Now). n.jobs) row) (ap (λ (n : Now). n.started) row)
     by_mark runs (Some m) _ row = absurd row
@@ -161,7 +162,7 @@ module _ (s : Setting) (at : ℕ) (old : Now) (job : SeenJob) (new : Now) (stand
         ∙ (let z : length old.jobs ≡ length old.jobs + 0 = omega arith in z))
         (omega (arith, grew, was, more)) few
 
-    at_host : (c : LateCall) (rest : List LateCall) → thread_in c ≡ None → late_left tx ≡ c ∷ rest → EndsLate s at old job tx c new → AreStarted new
+    at_host : (c : LateCall) (rest : List LateCall) → thread_in c ≡ None → late_left tx ≡ c ∷ rest → EndsLate (mover s at old job) tx c new → AreStarted new
     at_host c rest none left row =
         let same : new.started ≡ old.started = ap (λ (n : Now). n.started) row.behind in
         let nothing : length (started_with (thread_in c) row.end) ≡ 0 = ap (λ o. length (started_with o row.end)) none ∙ ap length (no_thread row.end) in
@@ -183,7 +184,7 @@ module _ (s : Setting) (at : ℕ) (old : Now) (job : SeenJob) (new : Now) (stand
     adds_one block end.Shut is k = absurd k
     adds_one block end.NoName is k = absurd k
 
-    by_next : (c : LateCall) (rest : List LateCall) → late_left tx ≡ c ∷ rest → NextLate s at old job tx c new → AreStarted new
+    by_next : (c : LateCall) (rest : List LateCall) → late_left tx ≡ c ∷ rest → NextLate (mover s at old job) tx c new → AreStarted new
     by_next (Thread block) rest left row =
         let one = adds_one block row.end new.started row.starts in
         ended row.end (Thread block) rest left (ap (λ (n : Now). n.jobs) row.behind) one.0 one.1
@@ -193,7 +194,7 @@ module _ (s : Setting) (at : ℕ) (old : Now) (job : SeenJob) (new : Now) (stand
     by_next (Shutdown o) rest left row = at_host (Shutdown o) rest refl left row
     by_next (Send num side bytes) rest left row = at_host (Send num side bytes) rest refl left row
 
-    by_late : (calls : List LateCall) → late_left tx ≡ calls → LateTurn s at old job tx calls new → AreStarted new
+    by_late : (calls : List LateCall) → late_left tx ≡ calls → LateTurn (mover s at old job) tx calls new → AreStarted new
     by_late [] left row =
         let job' = behind_commit job tx in
         let more = started_jobs s.script job tx in
@@ -208,14 +209,14 @@ module _ (s : Setting) (at : ℕ) (old : Now) (job : SeenJob) (new : Now) (stand
         (omega (arith, same, many, was)) (omega (arith, same, few))
     by_late (c ∷ calls) left row = by_next c calls left row
 
-    by_committing : (answer : Turn) → CommittingTurn s at old job tx answer new → AreStarted new
+    by_committing : (answer : Turn) → CommittingTurn (mover s at old job) tx answer new → AreStarted new
     by_committing turn.Went row = by_late (late_left tx) refl row
     by_committing turn.NoMemory row = absurd row
     by_committing (turn.Busy object holder) row = absurd row
     by_committing (turn.Ended end) row = absurd row
 
     -- ---- one on its way back
-    by_records : (c : Cause) → tx.phase ≡ Undoing c → (pending : List Undo) → BackTurn s at old job tx c pending new → AreStarted new
+    by_records : (c : Cause) → tx.phase ≡ Undoing c → (pending : List Undo) → BackTurn (mover s at old job) tx c pending new → AreStarted new
     by_records c undoes [] row =
         let none : tx.ends ≡ [] = none_late s at old job tx c stands is undoes told in
         let was : starting tx ≡ 0 = ap (λ es. length (started_late tx.late es)) none ∙ ap length (none_started tx.late) in
@@ -223,18 +224,18 @@ module _ (s : Setting) (at : ℕ) (old : Now) (job : SeenJob) (new : Now) (stand
         (ap (adds starting) (behind_abort_none job tx c) ∙ sym was ∙ mine)
     by_records c undoes (u ∷ pending) row = goes job.place _ refl refl (ap (λ (n : Now). n.jobs) row.behind) (ap (λ (n : Now). n.started) row.behind)
 
-    by_undoing : (c : Cause) → tx.phase ≡ Undoing c → (answer : Turn) → UndoingTurn s at old job tx c answer new → AreStarted new
+    by_undoing : (c : Cause) → tx.phase ≡ Undoing c → (answer : Turn) → UndoingTurn (mover s at old job) tx c answer new → AreStarted new
     by_undoing c undoes turn.Went row = by_records c undoes tx.undo.pending row
     by_undoing c undoes turn.NoMemory row = absurd row
     by_undoing c undoes (turn.Busy object holder) row = absurd row
     by_undoing c undoes (turn.Ended end) row = absurd row
 
-    by_phase : (p : Phase) → tx.phase ≡ p → (answer : Turn) → ActiveTurn s at old job tx p answer new → AreStarted new
+    by_phase : (p : Phase) → tx.phase ≡ p → (answer : Turn) → ActiveTurn (mover s at old job) tx p answer new → AreStarted new
     by_phase Running e answer row = by_mark e (old.marks tx.number) answer row
     by_phase Committing e answer row = by_committing answer row
     by_phase (Undoing c) e answer row = by_undoing c e answer row
 
-  by_doing : (d : Doing) → job.doing ≡ d → (answer : Turn) → TurnOf s at old job d answer new → AreStarted new
+  by_doing : (d : Doing) → job.doing ≡ d → (answer : Turn) → TurnOf (mover s at old job) d answer new → AreStarted new
   by_doing Idle e answer row = by_idle e answer row
   by_doing (Active tx) e answer row = by_phase tx e tx.phase refl answer row
   by_doing Starved e answer row = by_starved e answer row

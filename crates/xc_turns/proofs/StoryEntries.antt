@@ -25,7 +25,8 @@ use Rattle.xc_story.specs.Progress.{Following, Progress, after_entry, after_foll
 use Rattle.xc_story.specs.Progress.{committed_job, started_job, untried}
 use Rattle.xc_story.specs.Truth.{AreRecords, IsHeldAt, IsPlayed, IsTrueEntry, is_tried_again, next_of}
 use Rattle.xc_story.specs.Seen.{SeenTx, late_left}
-use Rattle.xc_story.specs.LateCalls.{started_late, thread_asked, thread_in}
+use Rattle.xc_story.specs.LateCalls.{started_late}
+use Rattle.xc_data.specs.Calls.{thread_asked, thread_in}
 use Rattle.xc_story.specs.Rows.{entry_of}
 use Rattle.xc_story.specs.Told.{IsCommitting, IsInPhase, IsUndoing, IsUnderway, asked_of_tx}
 use Rattle.xc_story.specs.Played.{HoldsFor, IsPlayedSoFar, RecordsFor, ran_behind}

@@ -13,10 +13,10 @@ use Rattle.xc_data.specs.declared.entry.Mark.{Mark}
 use Rattle.xc_story.specs.Setting.{Setting}
 use Rattle.xc_story.specs.Grounds.{AreGrounded}
 use Rattle.xc_story.specs.Progress.{Following, opening_progress, progress_of}
-use Rattle.xc_story.specs.Truth.{AreTrue, parts_of}
+use Rattle.xc_story.specs.Truth.{AreTrue}
 use Rattle.xc_story.specs.Ending.{IsEnd}
 use Rattle.xc_story.specs.Seen.{SeenTx, SeenJob, Doing, Idle, Active, Starved, Ended, active_of, actives}
-use Rattle.xc_story.specs.Told.{AreTold, AreBegins, IsDoing, IsJobTold, active_begin, active_parts, begins_of, entry_begin}
+use Rattle.xc_story.specs.Told.{AreTold, AreBegins, IsDoing, IsJobTold, active_begin, begins_of, entry_begin, reading, scene_at}
 use Rattle.xc_turns.proofs.Lists.{get_beside, get_set_same, get_set_other}
 use Rattle.xc_turns.proofs.StoryBegins.{begins_begun, begins_count, begins_moved, begins_stay, begins_with, count_stays}
 
@@ -45,7 +45,7 @@ told_but s words marks journal jobs told =
 
 -- and with the grounds it is all of it
 pub told_whole : (s : Setting) (words : ℕ) (marks : ℕ → Option Mark) (journal : List Entry) (jobs : List SeenJob) → AreToldBut s journal jobs
-    → AreGrounded s.tells (parts_of s journal) (active_parts s words marks 1 (progress_of s.script journal).jobs jobs)
+    → AreGrounded (scene_at (reading s words marks) journal jobs)
     → AreTold s words marks journal jobs
 told_whole s words marks journal jobs told grounded =
     record { entries = told.entries; count = told.count; jobs_told = told.jobs_told; begins = told.begins; few = told.few; grounded = grounded }

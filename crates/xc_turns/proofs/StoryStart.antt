@@ -17,7 +17,7 @@ use Rattle.xc_story.specs.Kept.{IsKept}
 use Rattle.xc_story.specs.Opened.{IsOpening, opened_job}
 use Rattle.xc_story.specs.Seen.{SeenTx, SeenJob, Now, actives}
 use Rattle.xc_story.specs.Spoken.{AreSpoken}
-use Rattle.xc_story.specs.Told.{AreBegins, AreTold, IsJobTold, active_begin, active_parts}
+use Rattle.xc_story.specs.Told.{AreBegins, AreTold, IsJobTold, active_begin, active_parts, reading}
 use Rattle.xc_story.specs.Started.{starting}
 use Rattle.xc_turns.proofs.Jobs.{none_active, opened_rests}
 
@@ -54,7 +54,7 @@ opened_told s begun entered (name ∷ names) (suc at) f job got_f got = opened_t
 
 -- no conflict has to be grounded
 none_wanted : (s : Setting) (words : ℕ) (marks : ℕ → Option Mark) (number : ℕ) (fs : List Following) (names : List (List ℕ)) (j : ℕ) (e : Part)
-    → get_or (active_parts s words marks number fs (opened_jobs s.script names)) j None ≡ Some e → ⊥
+    → get_or (active_parts (reading s words marks) number fs (opened_jobs s.script names)) j None ≡ Some e → ⊥
 none_wanted s words marks number [] [] j e got = cc
 none_wanted s words marks number (f ∷ fs) [] j e got = cc
 none_wanted s words marks number [] (name ∷ names) zero e got = cc

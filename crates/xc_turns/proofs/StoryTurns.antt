@@ -29,11 +29,10 @@ use Rattle.xc_story.specs.Seen.{SeenTx, SeenJob, Doing, Idle, Active, Starved, E
 use Rattle.xc_story.specs.Rows.{ActiveTurn, AskedTurn, BackTurn, Calls, Commits, Compensates, Conflicts, IdleTurn, IsActiveAt, IsEnding, IsReady, IsTurn}
 use Rattle.xc_story.specs.Rows.{MarkedTurn, Revokes, RunningTurn, Waits}
 use Rattle.xc_story.specs.Rows.{LateTurn, NextLate, started_job, started_jobs, StarvedTurn, TurnOf, TurnsBack, Wants, asked_at, behind_abort}
-use Rattle.xc_story.specs.Rows.{behind_commit, beginning_job}
+use Rattle.xc_story.specs.Rows.{behind_commit, beginning_job, mover}
 use Rattle.xc_story.specs.Rows.{claims_at, entry_of, new_tx, noting, wanting, with_tx}
 use Rattle.xc_story.specs.Grounds.{AreGrounded}
-use Rattle.xc_story.specs.Truth.{parts_of}
-use Rattle.xc_story.specs.Told.{AreTold, IsDoing, IsUnderway, active_begin, active_parts}
+use Rattle.xc_story.specs.Told.{AreTold, IsDoing, IsUnderway, active_begin, reading, scene_at}
 use Rattle.xc_story.specs.Played.{IsPlayedSoFar}
 use Rattle.xc_story.specs.Spoken.{AreSpoken}
 use Rattle.xc_turns.proofs.Lists.{get_beside}
@@ -87,7 +86,7 @@ module _ (s : Setting) (at : ℕ) (old new : Now) (job : SeenJob) (b : Before s 
       (begins_in s old.journal old.jobs at job (beginning_job old job) tx b.stands (ap active_in idle) refl refl refl ready.room
       (λ f told. begun_told s old f job idle ready told) b.told)
 
-  idle_row : (answer : Turn) → job.doing ≡ Idle → IdleTurn s at old job answer new → After
+  idle_row : (answer : Turn) → job.doing ≡ Idle → IdleTurn (mover s at old job) answer new → After
   idle_row (turn.Ended end) idle row = ended_row end idle row.0 (ap (λ (n : Now). n.journal) row.1) (ap (λ (n : Now). n.jobs) row.1)
   idle_row turn.Went idle row = begun_row idle row.0 (ap (λ (n : Now). n.journal) row.1) (ap (λ (n : Now). n.jobs) row.1)
   idle_row (turn.Busy object number) idle row =
@@ -96,7 +95,7 @@ module _ (s : Setting) (at : ℕ) (old new : Now) (job : SeenJob) (b : Before s 
       (λ f told. waiting_told s (begun_count old) (length old.journal) f job told) b.told)
   idle_row turn.NoMemory idle row = absurd row
 
-  starved_row : (answer : Turn) → job.doing ≡ Starved → StarvedTurn at old job answer new → After
+  starved_row : (answer : Turn) → job.doing ≡ Starved → StarvedTurn (mover s at old job) answer new → After
   starved_row (turn.Ended job_end.NoMemory) starved row =
       let next : SeenJob = record job { doing = Ended job_end.NoMemory } in
       told_as s old.journal new.journal (slice_set old.jobs at next) new.jobs (ap (λ (n : Now). n.journal) row) (ap (λ (n : Now). n.jobs) row)
@@ -120,7 +119,7 @@ module _ (s : Setting) (at : ℕ) (old new : Now) (job : SeenJob) (b : Before s 
       (λ f told. active_told s (begun_count old) (length old.journal) f job place tx next active (moves f) told) b.told)
 
   called_row : (tx : SeenTx) (call : Call) → job.doing ≡ Active tx → tx.phase ≡ Running → asked_at s job.place ≡ ask.Call call
-      → Calls s at old job tx call new → After
+      → Calls (mover s at old job) tx call new → After
   called_row tx call active runs asked row =
       active_row row.place tx (noting tx call row.reply (claims_at old tx call) row.parts) active refl
       (λ f under. called_underway (world_of old.contents) s f job.place row.place tx call row.reply (claims_at old tx call) row.parts row.made runs asked
@@ -128,7 +127,7 @@ module _ (s : Setting) (at : ℕ) (old new : Now) (job : SeenJob) (b : Before s 
       (ap (λ (n : Now). n.journal) row.behind) (ap (λ (n : Now). n.jobs) row.behind)
 
   conflict_row : (tx : SeenTx) (call : Call) → job.doing ≡ Active tx → tx.phase ≡ Running → asked_at s job.place ≡ ask.Call call
-      → Conflicts s at old job tx call new → After
+      → Conflicts (mover s at old job) tx call new → After
   conflict_row tx call active runs asked row =
       let c = cause.Conflict row.object row.holder (length old.journal) in
       active_row row.place tx (record tx { phase = Undoing c }) active refl
@@ -136,7 +135,8 @@ module _ (s : Setting) (at : ℕ) (old new : Now) (job : SeenJob) (b : Before s 
       (ap (λ (n : Now). n.journal) row.behind) (ap (λ (n : Now). n.jobs) row.behind)
 
   -- it is told to wait
-  waits_row : (tx : SeenTx) (object : Object) (holder : ℕ) → job.doing ≡ Active tx → tx.phase ≡ Running → Waits s at old job tx object holder new → After
+  waits_row : (tx : SeenTx) (object : Object) (holder : ℕ) → job.doing ≡ Active tx → tx.phase ≡ Running → Waits (mover s at old job) tx object holder new
+      → After
   waits_row tx object holder active runs row =
       let next : SeenJob = with_tx job row.place tx in
       told_as s old.journal new.journal (slice_set old.jobs at (waiting next)) new.jobs (ap (λ (n : Now). n.journal) row.behind)
@@ -146,26 +146,26 @@ module _ (s : Setting) (at : ℕ) (old new : Now) (job : SeenJob) (b : Before s 
       (active_told s (begun_count old) (length old.journal) f job row.place tx tx active (same_underway s f job.place row.place tx runs row.same) told)) b.told)
 
   -- it is revoked
-  revoked_row : (tx : SeenTx) (m : Mark) → job.doing ≡ Active tx → tx.phase ≡ Running → Revokes s at old job tx m new → After
+  revoked_row : (tx : SeenTx) (m : Mark) → job.doing ≡ Active tx → tx.phase ≡ Running → Revokes (mover s at old job) tx m new → After
   revoked_row tx m active runs row =
       active_row job.place tx (record tx { phase = Undoing (revoked m) }) active refl
       (λ f under. back_underway s f job.place job.place tx (revoked m) tx.undo tx.held refl runs
       (record { begin = record { block = refl; next = refl; begun = refl }; walk = refl; at = omega arith }) (λ next. tt) under)
       (ap (λ (n : Now). n.journal) row) (ap (λ (n : Now). n.jobs) row)
 
-  commits_row : (tx : SeenTx) → job.doing ≡ Active tx → tx.phase ≡ Running → asked_at s job.place ≡ ask.Commit → Commits s at old job tx new → After
+  commits_row : (tx : SeenTx) → job.doing ≡ Active tx → tx.phase ≡ Running → asked_at s job.place ≡ ask.Commit → Commits (mover s at old job) tx new → After
   commits_row tx active runs asked row =
       active_row row.place tx (record tx { phase = Committing }) active refl
       (λ f under. commits_underway s f job.place row.place tx runs row.same row.settled asked under)
       (ap (λ (n : Now). n.journal) row.behind) (ap (λ (n : Now). n.jobs) row.behind)
 
-  turned_row : (tx : SeenTx) → job.doing ≡ Active tx → tx.phase ≡ Running → asked_at s job.place ≡ ask.Abort → TurnsBack s at old job tx new → After
+  turned_row : (tx : SeenTx) → job.doing ≡ Active tx → tx.phase ≡ Running → asked_at s job.place ≡ ask.Abort → TurnsBack (mover s at old job) tx new → After
   turned_row tx active runs asked row =
       active_row row.place tx (record tx { phase = Undoing cause.Asked }) active refl
       (λ f under. back_underway s f job.place row.place tx cause.Asked tx.undo tx.held refl runs row.same (λ next. next ∙ asked) under)
       (ap (λ (n : Now). n.journal) row.behind) (ap (λ (n : Now). n.jobs) row.behind)
 
-  wants_row : (tx : SeenTx) → job.doing ≡ Active tx → tx.phase ≡ Running → Wants s at old job tx new → After
+  wants_row : (tx : SeenTx) → job.doing ≡ Active tx → tx.phase ≡ Running → Wants (mover s at old job) tx new → After
   wants_row tx active runs row =
       let next = wanting tx row.left row.held in
       active_row row.place tx next active refl
@@ -173,32 +173,33 @@ module _ (s : Setting) (at : ℕ) (old new : Now) (job : SeenJob) (b : Before s 
       (ap (λ (n : Now). n.journal) row.behind) (ap (λ (n : Now). n.jobs) row.behind)
 
   late_row : (tx : SeenTx) (call : LateCall) (calls : List LateCall) → job.doing ≡ Active tx → tx.phase ≡ Committing → late_left tx ≡ call ∷ calls
-      → NextLate s at old job tx call new → After
+      → NextLate (mover s at old job) tx call new → After
   late_row tx call calls active commits some next =
       let row = next_ends s at old job tx new call next in
       active_row job.place tx (record tx { ends = tx.ends ++ row.end ∷ [] }) active refl
       (λ f under. ended_underway s f job.place tx row.end commits (left_some tx.late tx.ends call calls some) under) row.journal row.jobs
 
-  tried_row : (tx : SeenTx) (c : Cause) → job.doing ≡ Active tx → tx.phase ≡ Undoing c → Compensates s at old job tx new → After
+  tried_row : (tx : SeenTx) (c : Cause) → job.doing ≡ Active tx → tx.phase ≡ Undoing c → Compensates (mover s at old job) tx new → After
   tried_row tx c active undoes row =
       active_row job.place tx (record tx { undo = record { pending = row.older; ended = (row.tried, row.end) ∷ tx.undo.ended } }) active refl
       (λ f under. tried_underway s f job.place tx c row.older row.tried row.end undoes row.newest row.legal under) (ap (λ (n : Now). n.journal) row.behind)
       (ap (λ (n : Now). n.jobs) row.behind)
 
-  asked_row : (tx : SeenTx) (a : Ask) → job.doing ≡ Active tx → tx.phase ≡ Running → asked_at s job.place ≡ a → AskedTurn s at old job tx a new → After
+  asked_row : (tx : SeenTx) (a : Ask) → job.doing ≡ Active tx → tx.phase ≡ Running → asked_at s job.place ≡ a → AskedTurn (mover s at old job) tx a new → After
   asked_row tx (ask.Call call) active runs asked (inl row) = called_row tx call active runs asked row
   asked_row tx (ask.Call call) active runs asked (inr row) = conflict_row tx call active runs asked row
   asked_row tx ask.Commit active runs asked row = commits_row tx active runs asked row
   asked_row tx ask.Abort active runs asked row = turned_row tx active runs asked row
   asked_row tx ask.End active runs asked row = absurd row
 
-  running_row : (tx : SeenTx) (answer : Turn) → job.doing ≡ Active tx → tx.phase ≡ Running → RunningTurn s at old job tx answer new → After
+  running_row : (tx : SeenTx) (answer : Turn) → job.doing ≡ Active tx → tx.phase ≡ Running → RunningTurn (mover s at old job) tx answer new → After
   running_row tx turn.Went active is row = asked_row tx (asked_at s job.place) active is refl row
   running_row tx turn.NoMemory active is row = wants_row tx active is row
   running_row tx (turn.Busy object holder) active is row = waits_row tx object holder active is row
   running_row tx (turn.Ended end) active is row = absurd row
 
-  marked_row : (tx : SeenTx) (m : Option Mark) (answer : Turn) → job.doing ≡ Active tx → tx.phase ≡ Running → MarkedTurn s at old job tx m answer new → After
+  marked_row : (tx : SeenTx) (m : Option Mark) (answer : Turn) → job.doing ≡ Active tx → tx.phase ≡ Running → MarkedTurn (mover s at old job) tx m answer new
+      → After
   marked_row tx None answer active is row = running_row tx answer active is row
   marked_row tx (Some m) turn.Went active is row = revoked_row tx m active is row
   marked_row tx (Some m) turn.NoMemory active is row = absurd row
@@ -249,7 +250,7 @@ module _ (s : Setting) (at : ℕ) (old new : Now) (job : SeenJob) (b : Before s 
       gone b.told)
 
   left_row : (tx : SeenTx) (calls : List LateCall) → job.doing ≡ Active tx → tx.phase ≡ Committing → late_left tx ≡ calls
-      → LateTurn s at old job tx calls new → After
+      → LateTurn (mover s at old job) tx calls new → After
   left_row tx [] active commits none row = commit_row tx active commits none (ap (λ (n : Now). n.journal) row.0) (ap (λ (n : Now). n.jobs) row.0)
   left_row tx (call ∷ calls) active commits some row = late_row tx call calls active commits some row
 
@@ -272,12 +273,13 @@ module _ (s : Setting) (at : ℕ) (old new : Now) (job : SeenJob) (b : Before s 
       (aborted_told s (begun_count old) (length old.journal) p.entered at f job tx c active (entered-all s.script old.journal) told) b.told))
 
   back_row : (tx : SeenTx) (c : Cause) (pending : List Undo) → job.doing ≡ Active tx → tx.phase ≡ Undoing c → tx.undo.pending ≡ pending
-      → BackTurn s at old job tx c pending new → After
+      → BackTurn (mover s at old job) tx c pending new → After
   back_row tx c [] active undoes none row = abort_row tx c active undoes none (ap (λ (n : Now). n.journal) row.behind) (ap (λ (n : Now). n.jobs) row.behind)
   back_row tx c (u ∷ pending) active undoes some row = tried_row tx c active undoes row
 
   -- ---- all rows
-  phase_row : (tx : SeenTx) (phase : Phase) (answer : Turn) → job.doing ≡ Active tx → tx.phase ≡ phase → ActiveTurn s at old job tx phase answer new → After
+  phase_row : (tx : SeenTx) (phase : Phase) (answer : Turn) → job.doing ≡ Active tx → tx.phase ≡ phase → ActiveTurn (mover s at old job) tx phase answer new
+      → After
   phase_row tx Running answer active is row = marked_row tx (old.marks tx.number) answer active is row
   phase_row tx Committing turn.Went active is row = left_row tx (late_left tx) active is refl row
   phase_row tx Committing turn.NoMemory active is row = absurd row
@@ -288,7 +290,7 @@ module _ (s : Setting) (at : ℕ) (old new : Now) (job : SeenJob) (b : Before s 
   phase_row tx (Undoing c) (turn.Busy object holder) active is row = absurd row
   phase_row tx (Undoing c) (turn.Ended end) active is row = absurd row
 
-  doing_row : (d : Doing) (answer : Turn) → job.doing ≡ d → TurnOf s at old job d answer new → After
+  doing_row : (d : Doing) (answer : Turn) → job.doing ≡ d → TurnOf (mover s at old job) d answer new → After
   doing_row Idle answer is row = idle_row answer is row
   doing_row (Active tx) answer is row = phase_row tx tx.phase answer is refl row
   doing_row Starved answer is row = starved_row answer is row
@@ -308,7 +310,7 @@ pub a_turn_keeps_the_stories_but : (s : Setting) (at : ℕ) (old new : Now) (ans
     → AreSpoken (progress_of s.script old.journal).words old.words old.jobs
     → (IsTrue s.tells → (tx : SeenTx) → IsActiveAt old.jobs at tx → IsPlayedSoFar s (length old.words) (progress_of s.script old.journal) at tx)
     → AreTold s (length old.words) old.marks old.journal old.jobs
-    → AreGrounded s.tells (parts_of s new.journal) (active_parts s (length new.words) new.marks 1 (progress_of s.script new.journal).jobs new.jobs)
+    → AreGrounded (scene_at (reading s (length new.words) new.marks) new.journal new.jobs)
     → AreTold s (length new.words) new.marks new.journal new.jobs
 a_turn_keeps_the_stories_but s at old new answer turned spoken played told grounded =
     told_whole s (length new.words) new.marks new.journal new.jobs

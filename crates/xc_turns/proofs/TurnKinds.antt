@@ -28,7 +28,7 @@ use Rattle.xc_story.specs.Seen.{revoked, unmarked, waiting}
 use Rattle.xc_story.specs.Told.{cause_of_phase}
 use Rattle.xc_story.specs.Truth.{cause_in}
 use Rattle.xc_story.specs.Rows.{IsTurn, TurnOf, IdleTurn, StarvedTurn, ActiveTurn, MarkedTurn, RunningTurn, AskedTurn, CommittingTurn, UndoingTurn, BackTurn}
-use Rattle.xc_story.specs.Rows.{Calls, Conflicts, Waits, Revokes, Commits, TurnsBack, Wants, HoldsWanting, LateTurn, Compensates, started_jobs}
+use Rattle.xc_story.specs.Rows.{Calls, Conflicts, Waits, Revokes, Commits, TurnsBack, Wants, HoldsWanting, LateTurn, Compensates, started_jobs, mover, Mover}
 use Rattle.xc_story.specs.Rows.{HasNoRival, IsFirstMet, asked_at, claims_at, beginning_job, behind_commit, behind_abort, entry_of, noting, wanting, with_tx}
 use Rattle.xc_story.specs.LateCalls.{started_late}
 use Rattle.xc_turns.proofs.Grown.{AreIdle, started_idle}
@@ -96,22 +96,22 @@ pub record IsSameCause (old : Now) (was tx : SeenTx) : Type 0 where
   pub replies : tx.replies ≡ was.replies
 
 -- the call that it is asked meets a holder
-pub record Meets (s : Setting) (at : ℕ) (old : Now) (job : SeenJob) (was tx : SeenTx) : Type 0 where
+pub record Meets (m : Mover) (was tx : SeenTx) : Type 0 where
   pub call : Call
-  pub asked : asked_at s job.place ≡ ask.Call call
+  pub asked : asked_at m.setting m.job.place ≡ ask.Call call
   pub running : was.phase ≡ Running
   pub object : Object
   pub holder : ℕ
-  pub met : IsFirstMet old.jobs at (claims_at old was call) object holder
-  pub phase : tx.phase ≡ Undoing (cause.Conflict object holder (length old.journal))
+  pub met : IsFirstMet m.old.jobs m.at (claims_at m.old was call) object holder
+  pub phase : tx.phase ≡ Undoing (cause.Conflict object holder (length m.old.journal))
   pub me : tx.me ≡ was.me
   pub replies : tx.replies ≡ was.replies
 
 -- it has the old cause, none that names a holder, or a new one that does
-pub data CauseOn (s : Setting) (at : ℕ) (old : Now) (job : SeenJob) (was tx : SeenTx) : Type 0 where
-  same : IsSameCause old was tx → CauseOn s at old job was tx
-  free : IsNoConflict (cause_on old tx) → CauseOn s at old job was tx
-  meets : Meets s at old job was tx → CauseOn s at old job was tx
+pub data CauseOn (m : Mover) (was tx : SeenTx) : Type 0 where
+  same : IsSameCause m.old was tx → CauseOn m was tx
+  free : IsNoConflict (cause_on m.old tx) → CauseOn m was tx
+  meets : Meets m was tx → CauseOn m was tx
 
 -- an active transaction goes on
 pub record Moves (s : Setting) (at : ℕ) (old : Now) (job : SeenJob) (new : Now) : Type 0 where
@@ -127,7 +127,7 @@ pub record Moves (s : Setting) (at : ℕ) (old : Now) (job : SeenJob) (new : Now
   pub began : tx.began ≡ was.began
   pub held : HoldsOn old.jobs at was.held tx.held
   pub wants : AsksOn s old job was tx
-  pub why : CauseOn s at old job was tx
+  pub why : CauseOn (mover s at old job) was tx
   pub marks : new.marks ≡ old.marks
 
 -- an active transaction stays as it is, and another one is marked
@@ -141,7 +141,7 @@ pub record Stays (s : Setting) (at : ℕ) (old : Now) (job : SeenJob) (new : Now
   pub running : tx.phase ≡ Running
   pub object : Object
   pub holder : ℕ
-  pub waits : Waits s at old job tx object holder new
+  pub waits : Waits (mover s at old job) tx object holder new
 
 -- an active transaction ends, and perhaps more jobs come
 pub record Enters (at : ℕ) (old : Now) (job : SeenJob) (new : Now) : Type 0 where
@@ -188,7 +188,7 @@ undoing_is (Some m) c = refl
 
 -- ---- the rows
 module _ (s : Setting) (at : ℕ) (old : Now) (job : SeenJob) (new : Now) where
-  idle_kind : job.doing ≡ Idle → (answer : Turn) → IdleTurn s at old job answer new → Kind s at old job new
+  idle_kind : job.doing ≡ Idle → (answer : Turn) → IdleTurn (mover s at old job) answer new → Kind s at old job new
   idle_kind e (turn.Ended end) row =
       rests (record {
         behind = record job { doing = Ended end };
@@ -222,7 +222,7 @@ module _ (s : Setting) (at : ℕ) (old : Now) (job : SeenJob) (new : Now) where
       })
   idle_kind e _ row = absurd row
 
-  starved_kind : job.doing ≡ Starved → (answer : Turn) → StarvedTurn at old job answer new → Kind s at old job new
+  starved_kind : job.doing ≡ Starved → (answer : Turn) → StarvedTurn (mover s at old job) answer new → Kind s at old job new
   starved_kind e (turn.Ended job_end.NoMemory) row =
       rests (record {
         behind = record job { doing = Ended job_end.NoMemory };
@@ -235,7 +235,7 @@ module _ (s : Setting) (at : ℕ) (old : Now) (job : SeenJob) (new : Now) where
   starved_kind e _ row = absurd row
 
   module _ (tx : SeenTx) (active : active_of job ≡ Some tx) where
-    calls_kind : (call : Call) → asked_at s job.place ≡ ask.Call call → Calls s at old job tx call new → tx.phase ≡ Running
+    calls_kind : (call : Call) → asked_at s job.place ≡ ask.Call call → Calls (mover s at old job) tx call new → tx.phase ≡ Running
         → old.marks tx.number ≡ None → Kind s at old job new
     calls_kind call asked row e free_of =
         moves (record {
@@ -255,7 +255,8 @@ module _ (s : Setting) (at : ℕ) (old : Now) (job : SeenJob) (new : Now) where
           marks = ap (λ (n : Now). n.marks) row.behind;
         })
 
-    conflict_kind : (call : Call) → asked_at s job.place ≡ ask.Call call → Conflicts s at old job tx call new → tx.phase ≡ Running → Kind s at old job new
+    conflict_kind : (call : Call) → asked_at s job.place ≡ ask.Call call → Conflicts (mover s at old job) tx call new → tx.phase ≡ Running
+        → Kind s at old job new
     conflict_kind call asked row e =
         let undoing : SeenTx = record tx { phase = Undoing (cause.Conflict row.object row.holder (length old.journal)) } in
         moves (record {
@@ -285,7 +286,7 @@ module _ (s : Setting) (at : ℕ) (old : Now) (job : SeenJob) (new : Now) where
           });
         })
 
-    commits_kind : Commits s at old job tx new → Kind s at old job new
+    commits_kind : Commits (mover s at old job) tx new → Kind s at old job new
     commits_kind row =
         moves (record {
           behind = with_tx job row.place (record tx { phase = Committing });
@@ -305,7 +306,7 @@ module _ (s : Setting) (at : ℕ) (old : Now) (job : SeenJob) (new : Now) where
         })
 
     -- it is told to wait
-    waits_kind : (object : Object) (holder : ℕ) → Waits s at old job tx object holder new → tx.phase ≡ Running → Kind s at old job new
+    waits_kind : (object : Object) (holder : ℕ) → Waits (mover s at old job) tx object holder new → tx.phase ≡ Running → Kind s at old job new
     waits_kind object holder row e =
         stays (record {
           behind = waiting (with_tx job row.place tx);
@@ -321,7 +322,7 @@ module _ (s : Setting) (at : ℕ) (old : Now) (job : SeenJob) (new : Now) where
         })
 
     -- it is revoked, for the cause that it had
-    revokes_kind : (m : Mark) → Revokes s at old job tx m new → tx.phase ≡ Running → old.marks tx.number ≡ Some m → Kind s at old job new
+    revokes_kind : (m : Mark) → Revokes (mover s at old job) tx m new → tx.phase ≡ Running → old.marks tx.number ≡ Some m → Kind s at old job new
     revokes_kind m row e has =
         let undoing : SeenTx = record tx { phase = Undoing (revoked m) } in
         moves (record {
@@ -346,7 +347,7 @@ module _ (s : Setting) (at : ℕ) (old : Now) (job : SeenJob) (new : Now) where
           marks = ap (λ (n : Now). n.marks) row;
         })
 
-    turns_back_kind : TurnsBack s at old job tx new → Kind s at old job new
+    turns_back_kind : TurnsBack (mover s at old job) tx new → Kind s at old job new
     turns_back_kind row =
         moves (record {
           behind = with_tx job row.place (record tx { phase = Undoing cause.Asked });
@@ -365,14 +366,14 @@ module _ (s : Setting) (at : ℕ) (old : Now) (job : SeenJob) (new : Now) where
           marks = ap (λ (n : Now). n.marks) row.behind;
         })
 
-    wanting_held : (a : Ask) (left : List Undo) (held : List Claim) → HoldsWanting old at tx a left held → HoldsOn old.jobs at tx.held held
+    wanting_held : (a : Ask) (left : List Undo) (held : List Claim) → HoldsWanting (mover s at old job) tx a left held → HoldsOn old.jobs at tx.held held
     wanting_held (ask.Call call) left held (inl kept) = inl kept.1
     wanting_held (ask.Call call) left held (inr more) = inr (claims_at old tx call, more.0, more.1)
     wanting_held ask.Commit left held kept = inl kept.1
     wanting_held ask.Abort left held kept = inl kept.1
     wanting_held ask.End left held kept = inl kept.1
 
-    wants_kind : Wants s at old job tx new → Kind s at old job new
+    wants_kind : Wants (mover s at old job) tx new → Kind s at old job new
     wants_kind row =
         moves (record {
           behind = with_tx job row.place (wanting tx row.left row.held);
@@ -391,7 +392,7 @@ module _ (s : Setting) (at : ℕ) (old : Now) (job : SeenJob) (new : Now) where
           marks = ap (λ (n : Now). n.marks) row.behind;
         })
 
-    asked_kind : (a : Ask) → asked_at s job.place ≡ a → AskedTurn s at old job tx a new → tx.phase ≡ Running
+    asked_kind : (a : Ask) → asked_at s job.place ≡ a → AskedTurn (mover s at old job) tx a new → tx.phase ≡ Running
         → old.marks tx.number ≡ None → Kind s at old job new
     asked_kind (ask.Call call) asked (inl row) e free_of = calls_kind call asked row e free_of
     asked_kind (ask.Call call) asked (inr row) e free_of = conflict_kind call asked row e
@@ -399,20 +400,20 @@ module _ (s : Setting) (at : ℕ) (old : Now) (job : SeenJob) (new : Now) where
     asked_kind ask.Abort asked row e free_of = turns_back_kind row
     asked_kind ask.End asked row e free_of = absurd row
 
-    running_kind : (answer : Turn) → RunningTurn s at old job tx answer new → tx.phase ≡ Running → old.marks tx.number ≡ None
+    running_kind : (answer : Turn) → RunningTurn (mover s at old job) tx answer new → tx.phase ≡ Running → old.marks tx.number ≡ None
         → Kind s at old job new
     running_kind turn.Went row e free_of = asked_kind (asked_at s job.place) refl row e free_of
     running_kind (turn.Busy object holder) row e free_of = waits_kind object holder row e
     running_kind turn.NoMemory row e free_of = wants_kind row
     running_kind _ row e free_of = absurd row
 
-    marked_kind : (m : Option Mark) → old.marks tx.number ≡ m → (answer : Turn) → MarkedTurn s at old job tx m answer new → tx.phase ≡ Running
+    marked_kind : (m : Option Mark) → old.marks tx.number ≡ m → (answer : Turn) → MarkedTurn (mover s at old job) tx m answer new → tx.phase ≡ Running
         → Kind s at old job new
     marked_kind None has answer row e = running_kind answer row e has
     marked_kind (Some m) has turn.Went row e = revokes_kind m row e has
     marked_kind (Some m) has _ row e = absurd row
 
-    compensates_kind : Compensates s at old job tx new → Kind s at old job new
+    compensates_kind : Compensates (mover s at old job) tx new → Kind s at old job new
     compensates_kind row =
         let undone : SeenTx = record tx { undo = record { pending = row.older; ended = (row.tried, row.end) ∷ tx.undo.ended } } in
         moves (record {
@@ -472,33 +473,33 @@ module _ (s : Setting) (at : ℕ) (old : Now) (job : SeenJob) (new : Now) where
           marks = row.marks;
         })
 
-    left_kind : (calls : List LateCall) → LateTurn s at old job tx calls new → tx.phase ≡ Committing → Kind s at old job new
+    left_kind : (calls : List LateCall) → LateTurn (mover s at old job) tx calls new → tx.phase ≡ Committing → Kind s at old job new
     left_kind [] row e = enters_kind (behind_commit job tx) (Committed tx.ends) old.contents _ (started_jobs s.script job tx) row.0 refl
         (started_idle s.script (behind_commit job tx) (started_late tx.late tx.ends)) refl
         (sym (ap (cause_of_phase (old.marks tx.number)) e ∙ committing_is (old.marks tx.number)))
     left_kind (call ∷ calls) row e = late_kind (next_ends s at old job tx new call row)
 
-    committing_kind : (answer : Turn) → CommittingTurn s at old job tx answer new → tx.phase ≡ Committing → Kind s at old job new
+    committing_kind : (answer : Turn) → CommittingTurn (mover s at old job) tx answer new → tx.phase ≡ Committing → Kind s at old job new
     committing_kind turn.Went row e = left_kind (late_left tx) row e
     committing_kind _ row e = absurd row
 
-    back_kind : (c : Cause) (pending : List Undo) → BackTurn s at old job tx c pending new → tx.phase ≡ Undoing c → Kind s at old job new
+    back_kind : (c : Cause) (pending : List Undo) → BackTurn (mover s at old job) tx c pending new → tx.phase ≡ Undoing c → Kind s at old job new
     back_kind c [] row e =
         enters_kind (behind_abort job tx c) (Aborted (record { cause = c; records = tx.undo.ended })) new.contents _ [] row.behind
         (sym (append-nil (slice_set old.jobs at (behind_abort job tx c)))) tt (behind_abort_none job tx c)
         (sym (ap (cause_of_phase (old.marks tx.number)) e ∙ undoing_is (old.marks tx.number) c))
     back_kind c (u ∷ pending) row e = compensates_kind row
 
-    undoing_kind : (c : Cause) (answer : Turn) → UndoingTurn s at old job tx c answer new → tx.phase ≡ Undoing c → Kind s at old job new
+    undoing_kind : (c : Cause) (answer : Turn) → UndoingTurn (mover s at old job) tx c answer new → tx.phase ≡ Undoing c → Kind s at old job new
     undoing_kind c turn.Went row e = back_kind c tx.undo.pending row e
     undoing_kind c _ row e = absurd row
 
-    active_kind : (phase : Phase) → tx.phase ≡ phase → (answer : Turn) → ActiveTurn s at old job tx phase answer new → Kind s at old job new
+    active_kind : (phase : Phase) → tx.phase ≡ phase → (answer : Turn) → ActiveTurn (mover s at old job) tx phase answer new → Kind s at old job new
     active_kind Running e answer row = marked_kind (old.marks tx.number) refl answer row e
     active_kind Committing e answer row = committing_kind answer row e
     active_kind (Undoing c) e answer row = undoing_kind c answer row e
 
-  doing_kind : (d : Doing) → job.doing ≡ d → (answer : Turn) → TurnOf s at old job d answer new → Kind s at old job new
+  doing_kind : (d : Doing) → job.doing ≡ d → (answer : Turn) → TurnOf (mover s at old job) d answer new → Kind s at old job new
   doing_kind Idle e answer row = idle_kind e answer row
   doing_kind (Active tx) e answer row = active_kind tx (ap active_in e) tx.phase refl answer row
   doing_kind Starved e answer row = starved_kind e answer row

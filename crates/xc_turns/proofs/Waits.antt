@@ -29,7 +29,7 @@ use Rattle.xc_story.specs.Rows.{beginning_job, behind_abort, behind_commit, entr
 use Rattle.xc_story.specs.Waiting.{CountsOn, IsMarkedBy, MayWait, WaitsFor, has_active}
 use Rattle.xc_turns.proofs.Jobs.{behind_abort_none}
 use Rattle.std.proofs.Common.{◌++◌, ◌<◌, append-nil, arith, length-set}
-use Rattle.xc_story.specs.Rows.{started_jobs}
+use Rattle.xc_story.specs.Rows.{started_jobs, mover}
 use Rattle.xc_turns.proofs.LateEnds.{next_ends}
 use Rattle.xc_turns.proofs.Lists.{get_front, get_inside, get_set_same, get_set_other}
 
@@ -39,24 +39,24 @@ module _ (s : Setting) (at : ℕ) (old new : Now) (job : SeenJob) (stands : slic
   data BusyRow (object : Object) (number : ℕ) : Type 0 where
     idles : job.doing ≡ Idle → IsWaiting s old job object number → new.jobs ≡ slice_set old.jobs at (waiting job) → new.marks ≡ old.marks
         → BusyRow object number
-    runs : (tx : SeenTx) → job.doing ≡ Active tx → tx.phase ≡ Running → Waits s at old job tx object number new → BusyRow object number
+    runs : (tx : SeenTx) → job.doing ≡ Active tx → tx.phase ≡ Running → Waits (mover s at old job) tx object number new → BusyRow object number
 
-  busy_row : (object : Object) (number : ℕ) (d : Doing) → job.doing ≡ d → TurnOf s at old job d (turn.Busy object number) new → BusyRow object number
+  busy_row : (object : Object) (number : ℕ) (d : Doing) → job.doing ≡ d → TurnOf (mover s at old job) d (turn.Busy object number) new → BusyRow object number
   busy_row object number Idle is row = idles is row.0 (ap (λ (n : Now). n.jobs) row.1) (ap (λ (n : Now). n.marks) row.1)
   busy_row object number (Active tx) is row = by_phase tx.phase refl row
     where
-      by_mark : tx.phase ≡ Running → (m : Option Mark) → MarkedTurn s at old job tx m (turn.Busy object number) new → BusyRow object number
+      by_mark : tx.phase ≡ Running → (m : Option Mark) → MarkedTurn (mover s at old job) tx m (turn.Busy object number) new → BusyRow object number
       by_mark e None row = runs tx is e row
       by_mark e (Some m) row = absurd row
 
-      by_phase : (p : Phase) → tx.phase ≡ p → ActiveTurn s at old job tx p (turn.Busy object number) new → BusyRow object number
+      by_phase : (p : Phase) → tx.phase ≡ p → ActiveTurn (mover s at old job) tx p (turn.Busy object number) new → BusyRow object number
       by_phase Running e row = by_mark e (old.marks tx.number) row
       by_phase Committing e row = absurd row
       by_phase (Undoing c) e row = absurd row
   busy_row object number Starved is row = absurd row
   busy_row object number (Ended end) is row = absurd row
 
-  waits_for : (object : Object) (number : ℕ) (tx : SeenTx) → job.doing ≡ Active tx → tx.phase ≡ Running → Waits s at old job tx object number new
+  waits_for : (object : Object) (number : ℕ) (tx : SeenTx) → job.doing ≡ Active tx → tx.phase ≡ Running → Waits (mover s at old job) tx object number new
       → WaitsFor at old tx object number
   waits_for object number tx is e w =
       let r = w.met.rival in
@@ -106,7 +106,7 @@ module _ (s : Setting) (at : ℕ) (old new : Now) (job : SeenJob) (stands : slic
       by_test false e = inl e
 
   one_mark : (object : Object) (holder number : ℕ) (m : Mark) (tx : SeenTx) → job.doing ≡ Active tx → tx.phase ≡ Running
-      → Waits s at old job tx object holder new → new.marks number ≡ Some m → Made (turn.Busy object holder) number m
+      → Waits (mover s at old job) tx object holder new → new.marks number ≡ Some m → Made (turn.Busy object holder) number m
   one_mark object holder number m tx is e w has =
       by_test (nat_eq number rival.number) refl (sym (ap (λ (n : Now). n.marks number) w.behind) ∙ has)
     where
@@ -145,43 +145,43 @@ module _ (s : Setting) (at : ℕ) (old new : Now) (job : SeenJob) (stands : slic
     same_now : new.marks ≡ old.marks → Made answer number m
     same_now same = same_marks answer number m same has
 
-    asked_made : (tx : SeenTx) (a : Ask) → AskedTurn s at old job tx a new → Made answer number m
+    asked_made : (tx : SeenTx) (a : Ask) → AskedTurn (mover s at old job) tx a new → Made answer number m
     asked_made tx (ask.Call call) (inl row) = same_now (ap (λ (n : Now). n.marks) row.behind)
     asked_made tx (ask.Call call) (inr row) = same_now (ap (λ (n : Now). n.marks) row.behind)
     asked_made tx ask.Commit row = same_now (ap (λ (n : Now). n.marks) row.behind)
     asked_made tx ask.Abort row = same_now (ap (λ (n : Now). n.marks) row.behind)
     asked_made tx ask.End row = absurd row
 
-    late_made : (tx : SeenTx) (calls : List LateCall) → LateTurn s at old job tx calls new → Made answer number m
+    late_made : (tx : SeenTx) (calls : List LateCall) → LateTurn (mover s at old job) tx calls new → Made answer number m
     late_made tx [] row = fewer_marks answer number tx.number m (ap (λ (n : Now). n.marks) row.0) has
     late_made tx (call ∷ calls) row = same_now (next_ends s at old job tx new call row).marks
 
-    back_made : (tx : SeenTx) (c : Cause) (pending : List Undo) → BackTurn s at old job tx c pending new → Made answer number m
+    back_made : (tx : SeenTx) (c : Cause) (pending : List Undo) → BackTurn (mover s at old job) tx c pending new → Made answer number m
     back_made tx c [] row = fewer_marks answer number tx.number m (ap (λ (n : Now). n.marks) row.behind) has
     back_made tx c (u ∷ pending) row = same_now (ap (λ (n : Now). n.marks) row.behind)
 
   running_made : (number : ℕ) (m : Mark) → new.marks number ≡ Some m → (tx : SeenTx) → job.doing ≡ Active tx → tx.phase ≡ Running → (answer : Turn)
-      → RunningTurn s at old job tx answer new → Made answer number m
+      → RunningTurn (mover s at old job) tx answer new → Made answer number m
   running_made number m has tx is e turn.Went row = asked_made turn.Went number m has tx (asked_at s job.place) row
   running_made number m has tx is e (turn.Busy object holder) row = one_mark object holder number m tx is e row has
   running_made number m has tx is e turn.NoMemory row = same_marks turn.NoMemory number m (ap (λ (n : Now). n.marks) row.behind) has
   running_made number m has tx is e (turn.Ended end) row = absurd row
 
   marked_made : (number : ℕ) (m : Mark) → new.marks number ≡ Some m → (tx : SeenTx) → job.doing ≡ Active tx → tx.phase ≡ Running → (kept : Option Mark)
-      (answer : Turn) → MarkedTurn s at old job tx kept answer new → Made answer number m
+      (answer : Turn) → MarkedTurn (mover s at old job) tx kept answer new → Made answer number m
   marked_made number m has tx is e None answer row = running_made number m has tx is e answer row
   marked_made number m has tx is e (Some k) turn.Went row = same_marks turn.Went number m (ap (λ (n : Now). n.marks) row) has
   marked_made number m has tx is e (Some k) _ row = absurd row
 
   active_made : (number : ℕ) (m : Mark) → new.marks number ≡ Some m → (tx : SeenTx) → job.doing ≡ Active tx → (p : Phase) → tx.phase ≡ p → (answer : Turn)
-      → ActiveTurn s at old job tx p answer new → Made answer number m
+      → ActiveTurn (mover s at old job) tx p answer new → Made answer number m
   active_made number m has tx is Running e answer row = marked_made number m has tx is e (old.marks tx.number) answer row
   active_made number m has tx is Committing e turn.Went row = late_made turn.Went number m has tx (late_left tx) row
   active_made number m has tx is Committing e _ row = absurd row
   active_made number m has tx is (Undoing c) e turn.Went row = back_made turn.Went number m has tx c tx.undo.pending row
   active_made number m has tx is (Undoing c) e _ row = absurd row
 
-  doing_made : (number : ℕ) (m : Mark) → new.marks number ≡ Some m → (d : Doing) → job.doing ≡ d → (answer : Turn) → TurnOf s at old job d answer new
+  doing_made : (number : ℕ) (m : Mark) → new.marks number ≡ Some m → (d : Doing) → job.doing ≡ d → (answer : Turn) → TurnOf (mover s at old job) d answer new
       → Made answer number m
   doing_made number m has Idle is (turn.Ended end) row = same_marks (turn.Ended end) number m (ap (λ (n : Now). n.marks) row.1) has
   doing_made number m has Idle is turn.Went row = fewer_marks turn.Went number (begun_count old + 1) m (ap (λ (n : Now). n.marks) row.1) has
@@ -234,7 +234,7 @@ module _ (s : Setting) (at : ℕ) (old new : Now) (job : SeenJob) where
     enters_so behind e contents jobs more row put busy none =
         turns_so answer behind more (ap (λ (n : Now). n.jobs) row ∙ put) busy (ap is_some none ∙ sym (ap not has))
 
-    asked_so : (a : Ask) → AskedTurn s at old job tx a new → Changed answer
+    asked_so : (a : Ask) → AskedTurn (mover s at old job) tx a new → Changed answer
     asked_so (ask.Call call) (inl row) = goes row.place _ (ap (λ (n : Now). n.jobs) row.behind)
     asked_so (ask.Call call) (inr row) = goes row.place _ (ap (λ (n : Now). n.jobs) row.behind)
     asked_so ask.Commit row = goes row.place (record tx { phase = Committing }) (ap (λ (n : Now). n.jobs) row.behind)
@@ -247,37 +247,37 @@ module _ (s : Setting) (at : ℕ) (old new : Now) (job : SeenJob) where
     back_busy (cause.Conflict object holder when) = refl
     back_busy (cause.Revoked object by when) = refl
 
-    late_so : (calls : List LateCall) → LateTurn s at old job tx calls new → Changed answer
+    late_so : (calls : List LateCall) → LateTurn (mover s at old job) tx calls new → Changed answer
     late_so [] row = enters_so (behind_commit job tx) (entry_of tx at (Committed tx.ends)) old.contents _ (started_jobs s.script job tx) row.0 refl refl refl
     late_so (call ∷ calls) row = goes job.place _ (next_ends s at old job tx new call row).jobs
 
-    back_so : (c : Cause) (pending : List Undo) → BackTurn s at old job tx c pending new → Changed answer
+    back_so : (c : Cause) (pending : List Undo) → BackTurn (mover s at old job) tx c pending new → Changed answer
     back_so c [] row =
         enters_so (behind_abort job tx c) (entry_of tx at (Aborted (record { cause = c; records = tx.undo.ended }))) new.contents _ [] row.behind
         (sym (append-nil (slice_set old.jobs at (behind_abort job tx c)))) (back_busy c)
         (behind_abort_none job tx c)
     back_so c (u ∷ pending) row = goes job.place _ (ap (λ (n : Now). n.jobs) row.behind)
 
-  running_so : (tx : SeenTx) → job.doing ≡ Active tx → (answer : Turn) → RunningTurn s at old job tx answer new → Changed answer
+  running_so : (tx : SeenTx) → job.doing ≡ Active tx → (answer : Turn) → RunningTurn (mover s at old job) tx answer new → Changed answer
   running_so tx is turn.Went row = asked_so turn.Went tx is (asked_at s job.place) row
   running_so tx is turn.NoMemory row = goes turn.NoMemory tx is row.place _ (ap (λ (n : Now). n.jobs) row.behind)
   running_so tx is (turn.Busy object number) w = told_so object number (waiting (with_tx job w.place tx)) (ap (λ (n : Now). n.jobs) w.behind)
   running_so tx is (turn.Ended end) row = absurd row
 
-  marked_so : (tx : SeenTx) → job.doing ≡ Active tx → (m : Option Mark) (answer : Turn) → MarkedTurn s at old job tx m answer new → Changed answer
+  marked_so : (tx : SeenTx) → job.doing ≡ Active tx → (m : Option Mark) (answer : Turn) → MarkedTurn (mover s at old job) tx m answer new → Changed answer
   marked_so tx is None answer row = running_so tx is answer row
   marked_so tx is (Some m) turn.Went row =
       goes turn.Went tx is job.place (record tx { phase = Undoing (revoked m) }) (ap (λ (n : Now). n.jobs) row)
   marked_so tx is (Some m) _ row = absurd row
 
-  active_so : (tx : SeenTx) → job.doing ≡ Active tx → (p : Phase) (answer : Turn) → ActiveTurn s at old job tx p answer new → Changed answer
+  active_so : (tx : SeenTx) → job.doing ≡ Active tx → (p : Phase) (answer : Turn) → ActiveTurn (mover s at old job) tx p answer new → Changed answer
   active_so tx is Running answer row = marked_so tx is (old.marks tx.number) answer row
   active_so tx is Committing turn.Went row = late_so turn.Went tx is (late_left tx) row
   active_so tx is Committing _ row = absurd row
   active_so tx is (Undoing c) turn.Went row = back_so turn.Went tx is c tx.undo.pending row
   active_so tx is (Undoing c) _ row = absurd row
 
-  doing_so : (d : Doing) → job.doing ≡ d → (answer : Turn) → TurnOf s at old job d answer new → Changed answer
+  doing_so : (d : Doing) → job.doing ≡ d → (answer : Turn) → TurnOf (mover s at old job) d answer new → Changed answer
   doing_so Idle is (turn.Ended end) row =
       stays_so (turn.Ended end) (record job { doing = Ended end }) (ap (λ (n : Now). n.jobs) row.1) refl (sym (ap (λ d. is_some (active_in d)) is))
   doing_so Idle is turn.Went row =
