@@ -155,7 +155,7 @@ all_fed end fed = (or_false (list_any is_starved end.jobs) (some_late_starved en
 
 -- a run whose whole text is due, without a job that starved or gave up, is done
 pub done_with : {H : Type 0} (model : HostModel H) (words : List (List ℕ)) (old new : Told) (host : H) (s : Status) (o : Option (End H)) (due : List ℕ)
-    → IsDue s o due → IfSome o (IsRun model words old new host) → IsDoneWith s o
+    → IsDue s o due → IfSome o (IsRun model words (record { old = old; new = new }) host) → IsDoneWith s o
 done_with model words old new host status.Done None due h run = h
 done_with model words old new host status.Done (Some end) due h (chosen, chose, bytes, came, (read, run)) =
     let whole = run.whole in
@@ -181,18 +181,19 @@ done_with model words old new host status.NoMemory o due h run = tt
 same_choice : (a b : Chosen) (o : Option Chosen) → o ≡ Some a → o ≡ Some b → a ≡ b
 same_choice a b o one two = let both : Some a ≡ Some b = sym one ∙ two in cc both
 
--- where the whole text is due it is that of the script alone
+-- where the whole text is due its lines but those on kept data are the script's alone
 plain_due : {H : Type 0} (model : HostModel H) (words : List (List ℕ)) (old new : Told) (host : H) (end : End H) (due : List ℕ) (before after : Told)
-    → due ≡ end_text end → starves end ≡ false → IsRun model words old new host end → AppendsWhole before after due → IsTrue model.tells
+    → due ≡ end_text end → starves end ≡ false → IsRun model words (record { old = old; new = new }) host end → AppendsWhole before after due
+    → IsTrue model.tells
     → IsSaidPlainly words before after end
 plain_due model words old new host end due before after text fed (by, chose, bytes, came, (read, run)) wrote tells = λ chosen again alone faults.
     let one : by ≡ chosen = same_choice by chosen (settings_of words) chose again in
-    let plain = run.plain (subst RunsAlone (sym one) alone) tells faults fed in
-    subst (AppendsWhole before after) (text ∙ plain) wrote
+    (subst (AppendsWhole before after) text wrote, run.plain (subst RunsAlone (sym one) alone) tells faults fed)
 
 -- what a run has written is the text of its script alone, but where memory was wanting
 pub plainly : {H : Type 0} (model : HostModel H) (words : List (List ℕ)) (old new : Told) (host : H) (s : Status) (o : Option (End H)) (due : List ℕ)
-    (before after : Told) → IsDue s o due → IfSome o (IsRun model words old new host) → AppendsWhole before after due → IsTrue model.tells
+    (before after : Told) → IsDue s o due → IfSome o (IsRun model words (record { old = old; new = new }) host) → AppendsWhole before after due
+    → IsTrue model.tells
     → s ≢ status.NoMemory → IfSome o (IsSaidPlainly words before after)
 plainly model words old new host s None due before after h run wrote tells not = tt
 plainly model words old new host status.Done (Some end) due before after h run wrote tells not =

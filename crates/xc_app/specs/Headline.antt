@@ -7,6 +7,7 @@ use Rattle.xc_data.specs.declared.entry.JobEnd.TheVariants as job_end
 use Rattle.xc_data.specs.declared.entry.JobLine.{JobLine}
 use Rattle.xc_data.specs.Counts.{RisesBy}
 use Rattle.xc_data.specs.Faults.{entry_faults}
+use Rattle.xc_data.specs.Step.{Step}
 use Rattle.xc_host.specs.Contents.{needs_scripted}
 use Rattle.xc_text.specs.declared.script.Script.{Script}
 use Rattle.xc_edge.specs.Streams.{Came, AppendsPart, AppendsWhole}
@@ -67,6 +68,10 @@ starves end = wanted_memory end.jobs end.journal.items
 abbrev pub end_text : {H : Type 0} → End H → List ℕ
 end_text end = rendered end.journal.items end.jobs end.words
 
+-- its lines but those on kept data: all of them, since nothing keeps data so far
+abbrev pub lines_but_kept : {H : Type 0} → End H → List ℕ
+lines_but_kept end = end_text end
+
 module _ {H : Type 0} (model : HostModel H) where
   -- what a run leaves beside its journal
   abbrev pub final_of : End H → Final
@@ -88,18 +93,19 @@ module _ {H : Type 0} (model : HostModel H) where
     pub counted : RisesBy (sum_by entry_faults end.journal.items) (model.fault_count host) (model.fault_count end.host)
     -- the host was opened with the script's own fault lines and grain
     pub plan : model.plan end.host ≡ plan_of end.opening.script.outline.prologue
-    -- so, where the host tells, no fault is recorded and nothing wanted memory, the text is that of the script alone
+    -- so, where the host tells, no fault is recorded and nothing wanted memory, all lines but those on kept data are the script's alone
     pub plain : RunsAlone chosen → IsTrue model.tells → sum_by entry_faults end.journal.items ≡ 0 → starves end ≡ false
-        → end_text end ≡ plain_text end.opening.script
+        → lines_but_kept end ≡ plain_text end.opening.script
 
   -- the bytes are a script, and this is the end of its run
   abbrev pub IsRunOf : List ℕ → Chosen → H → End H → Type 0
   IsRunOf bytes chosen host end = (parse_of bytes ≡ Ok end.opening.script) × IsRunOver chosen host end
 
-  -- the words chose something, bytes were read, and this is the end of their run
-  abbrev pub IsRun : List (List ℕ) → Told → Told → H → End H → Type 0
-  IsRun words old new host end =
-      (chosen : Chosen) × (settings_of words ≡ Some chosen) × (bytes : List ℕ) × IsRead old new bytes × IsRunOf bytes chosen host end
+  -- the words chose something, bytes were read from the source, and this is the end of their run
+  abbrev pub IsRun : List (List ℕ) → Step Told → H → End H → Type 0
+  IsRun words source host end =
+      (chosen : Chosen) × (settings_of words ≡ Some chosen) × (bytes : List ℕ) × IsRead source.old source.new bytes
+      × IsRunOf bytes chosen host end
 
 -- the end of a run is there, or the host, and not both
 abbrev pub IsOneOf : {A B : Type 0} → Option A → Option B → Type 0
@@ -193,8 +199,9 @@ IsWritten meant ends due old new =
 abbrev pub IsSaid : {H : Type 0} → Status → Finish H → Told → Told → Type 0
 IsSaid meant finish old new = (due : List ℕ) × IsDue meant finish.end due × IsWritten meant finish.status due old new
 
--- with one worker and no schedule, where no fault is recorded, the text of the script alone was written
+-- the run's text was written; and, with one worker and no schedule, where no fault is recorded, its lines but those on kept data
+-- are the text of the script alone
 abbrev pub IsSaidPlainly : {H : Type 0} → List (List ℕ) → Told → Told → End H → Type 0
 IsSaidPlainly words old new end =
     (chosen : Chosen) → settings_of words ≡ Some chosen → RunsAlone chosen → sum_by entry_faults end.journal.items ≡ 0
-    → AppendsWhole old new (plain_text end.opening.script)
+    → AppendsWhole old new (end_text end) × (lines_but_kept end ≡ plain_text end.opening.script)

@@ -49,7 +49,7 @@ impl Status {
 }
 
 /// What a run leaves: its end once the script was started, and else the host as it was.
-#[derive(Debug, Drop)]
+#[derive(Drop)]
 pub struct Finish<H> {
     pub status: Status,
     pub end: Option<End<H>>,

@@ -290,7 +290,7 @@ fn decide<S: Source, H: Host + Send, P: Pace + Sync, R: AllocGlobal + Threads + 
     ensures caused { IsCaused (map string_bytes words.now) H.model.takes_scripts (S.told source.old) (S.told source.new) result.status }
     ensures unread { settings_of (map string_bytes words.now) ≡ None → source.new ≡ source.old }
     ensures run { IfSome result.end (
-        IsRun H.model (map string_bytes words.now) (S.told source.old) (S.told source.new) host) }
+        IsRun H.model (map string_bytes words.now) (record { old = S.told source.old; new = S.told source.new }) host) }
     ensures host { IfSome result.host (λ back. back ≡ host) }
     ensures one { IsOneOf result.end result.host }
 {
@@ -331,10 +331,10 @@ pub fn xcalls_run<
     // machine, with the recorded faults, gives the replies, the final words, the final host and the
     // jobs' ends; aborted ones change only what their reports say remains, and each conflict names a holder.
     ensures run { IfSome result.end (
-        IsRun H.model (map string_bytes words.now) (S.told source.old) (S.told source.new) host) }
+        IsRun H.model (map string_bytes words.now) (record { old = S.told source.old; new = S.told source.new }) host) }
 
-    // The text is a function of the script: jobs one after another, over a host that tells and met no fault, write the text
-    // of the script alone, but where memory was wanting or the sink failed.
+    // The text, but for its lines on kept data, is a function of the script: jobs one after another, over a host that tells and
+    // met no fault, write those of the script alone, but where memory was wanting or the sink failed.
     ensures plain { IsTrue H.model.tells → result.status ≢ Status.NoMemory → result.status ≢ Status.WriteFault
         → IfSome result.end (IsSaidPlainly (map string_bytes words.now) (K.told sink.old) (K.told sink.new)) }
 

@@ -22,7 +22,7 @@ use Rattle.xc_story.proofs.AskedCalls.{asked_built}
 use Rattle.xc_story.specs.Truth.{AsksEach}
 use Rattle.xc_text.specs.Stated.{Statement}
 use Rattle.xc_world.specs.Act.{act}
-use Rattle.xc_world.specs.Checks.{bytes_of}
+use Rattle.xc_data.specs.Calls.{bytes_of}
 use Rattle.xc_world.specs.Fits.{answer_of}
 use Rattle.xc_world.specs.Run.{Ran, begins, step, goes_on, body, asked_of}
 use Rattle.xc_world.specs.World.{World}

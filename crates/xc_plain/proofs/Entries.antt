@@ -115,20 +115,21 @@ same_outcome tries p e next (Aborted report) some asked played faults starved se
     here ∙ sym (ap (outcome_of (run_of p.state e [])) aborts)
 
 -- ---- the whole entry
--- the entry of calls with their replies
-abbrev entry_of : Script → ℕ → Progress → ℕ → Following → List Call → List Reply → Entry
-entry_of script place p job f calls replies =
-    let whole = run p.state.world (private_of p.state job) (place + 1) (asked_of calls replies) [] in
-    record {
-      tx = place + 1;
-      job = job;
-      rank = place + 1;
-      began = place;
-      calls = calls;
-      replies = replies;
-      held = held_of whole.body.touched;
-      outcome = outcome_of whole (asks (all_answered (walk_from script f.job) replies));
-    }
+module _ (script : Script) (place : ℕ) (p : Progress) (job : ℕ) (f : Following) where
+  -- the entry of calls with their replies
+  abbrev entry_of : List Call → List Reply → Entry
+  entry_of calls replies =
+      let whole = run p.state.world (private_of p.state job) (place + 1) (asked_of calls replies) [] in
+      record {
+        tx = place + 1;
+        job = job;
+        rank = place + 1;
+        began = place;
+        calls = calls;
+        replies = replies;
+        held = held_of whole.body.touched;
+        outcome = outcome_of whole (asks (all_answered (walk_from script f.job) replies));
+      }
 
 sum_parts : (a b : ℕ) → a + b ≡ 0 → (a ≡ 0) × (b ≡ 0)
 sum_parts a b h = (omega arith, omega arith)

@@ -18,7 +18,7 @@ use Rattle.xc_story.specs.Progress.{following_abort, after_following, after_outc
 use Rattle.xc_story.specs.Setting.{Setting}
 use Rattle.xc_story.specs.Truth.{AreTrue, AreInOrder, JobsRise, is_settled, all_settled}
 use Rattle.xc_text.specs.declared.script.Script.{Script}
-use Rattle.xc_plain.specs.Plain.{entry_at, journal_at, journal_with, next_place, plain_from}
+use Rattle.xc_plain.specs.Plain.{entry_at, entry_in, journal_from, journal_with, next_place, plain_from}
 use Rattle.xc_plain.proofs.Calls.{no_sum}
 use Rattle.xc_plain.proofs.Entries.{asked_is, same_entry}
 
@@ -104,7 +104,7 @@ same_journal s p place (suc n) (e ∷ entries) told tells tries order faults sta
     let later = same_journal s (after_entry s.script p e) (place + 1) n entries told.1 tells tries order.3 none.1 wanted.1 ended.1
     (untried_after s.script p f e one.started ended.0 all) (omega arith) next.1 in
     ap (λ l. e ∷ l) later ∙ ap (λ x. x ∷ more (after_entry s.script p x)) same'
-    ∙ sym (ap (journal_at s.script place p more (e.job - 1)) one.started) ∙ sym (ap (journal_with s.script place p more) next.0)
+    ∙ sym (ap (λ o. journal_from s.script p more (entry_in s.script place p (e.job - 1) o)) one.started) ∙ sym (ap (journal_with s.script place p more) next.0)
 
 -- ---- which job is next
 first_from : (P : Following → Bool) (xs : List Following) (k i : ℕ) (f : Following) → slice_get xs k ≡ Some f → P f ≡ true

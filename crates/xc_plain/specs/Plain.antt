@@ -69,16 +69,20 @@ entry_at script place p job f =
 abbrev pub next_place : Script → List Following → Option ℕ
 next_place script jobs = position (λ (f : Following). is_some (next_body script f.job)) jobs
 
-module _ (script : Script) (place : ℕ) (p : Progress) (more : Progress → List Entry) where
-  -- one more entry by this job, whose place is told, and then what comes behind it
-  abbrev pub journal_at : ℕ → Option Following → List Entry
-  journal_at at None = []
-  journal_at at (Some f) = let e = entry_at script place p (at + 1) f in e ∷ more (after_entry script p e)
+-- the same of this job, whose place is told, where it is started
+abbrev pub entry_in : Script → ℕ → Progress → ℕ → Option Following → Option Entry
+entry_in script place p at None = None
+entry_in script place p at (Some f) = Some (entry_at script place p (at + 1) f)
 
-  -- one more entry by the job at this place, and then what comes behind it
-  abbrev pub journal_with : Option ℕ → List Entry
-  journal_with None = []
-  journal_with (Some at) = journal_at at (slice_get p.jobs at)
+-- one more entry, where there is one, and then what comes behind it
+abbrev pub journal_from : Script → Progress → (Progress → List Entry) → Option Entry → List Entry
+journal_from script p more None = []
+journal_from script p more (Some e) = e ∷ more (after_entry script p e)
+
+-- one more entry by the job at this place, where one is next, and then what comes behind it
+abbrev pub journal_with : Script → ℕ → Progress → (Progress → List Entry) → Option ℕ → List Entry
+journal_with script place p more None = []
+journal_with script place p more (Some at) = journal_from script p more (entry_in script place p at (slice_get p.jobs at))
 
 -- the entries from a place of the journal on, at most so many
 abbrev pub plain_from : ℕ → Script → ℕ → Progress → List Entry

@@ -8,6 +8,3 @@ mod workers;
 pub use pace::{HoldPace, NoPace, Pace};
 pub use worker::{enter, pick, turn, work, work_job};
 pub use workers::{run_workers, work_together};
-
-#[cfg(test)]
-mod tests;

@@ -16,7 +16,7 @@ use Rattle.xc_data.specs.declared.private.Private.{Private}
 use Rattle.xc_script.specs.Position.{Position}
 use Rattle.xc_story.specs.Setting.{Setting}
 use Rattle.xc_story.specs.Seen.{SeenTx, SeenJob, Active, Ended, Now, begun_count, failures, rank_of, waiting, with_job}
-use Rattle.xc_story.specs.Rows.{IdleTurn, IsEnding, IsFree, IsWaiting, NamesLast, body_at, beginning_job, new_tx}
+use Rattle.xc_story.specs.Rows.{IdleTurn, IsEnding, IsFree, IsWaiting, NamesLast, body_at, beginning_job, new_tx, mover}
 use Rattle.xc_station.specs.declared.begin.Halt.{Halt}
 use Rattle.xc_station.specs.declared.begin.Halt.TheVariants.{End, Wait}
 use Rattle.xc_station.specs.Beginning.{IsDone, IsHalted, IsSeatBehind, IsStopped}
@@ -35,22 +35,22 @@ where_err (Err e) is p = p
 -- the job ends, and the marks stay
 pub ends : (s : Setting) (at : ℕ) (now : Now) (job new : SeenJob) (answer : Turn) (end : JobEnd) (marks : ℕ → Option Mark) → now.marks ≡ marks
     → IsEnding s now job end → new ≡ record job { doing = Ended end } → answer ≡ turn.Ended end
-    → IdleTurn s at now job answer (record (with_job now at new) { marks = marks })
+    → IdleTurn (mover s at now job) answer (record (with_job now at new) { marks = marks })
 ends s at now job new answer end marks same ending is given =
-    subst (λ t. IdleTurn s at now job t (record (with_job now at new) { marks = marks })) (sym given)
+    subst (λ t. IdleTurn (mover s at now job) t (record (with_job now at new) { marks = marks })) (sym given)
     (ending, λ i. record (with_job now at (is i)) { marks = sym same i })
 
 -- or waits
 pub waits_on : (s : Setting) (at : ℕ) (now : Now) (job new : SeenJob) (answer : Turn) (object : Object) (number : ℕ) (marks : ℕ → Option Mark)
     → now.marks ≡ marks → IsWaiting s now job object number → new ≡ waiting job → answer ≡ turn.Busy object number
-    → IdleTurn s at now job answer (record (with_job now at new) { marks = marks })
+    → IdleTurn (mover s at now job) answer (record (with_job now at new) { marks = marks })
 waits_on s at now job new answer object number marks same waits is given =
-    subst (λ t. IdleTurn s at now job t (record (with_job now at new) { marks = marks })) (sym given)
+    subst (λ t. IdleTurn (mover s at now job) t (record (with_job now at new) { marks = marks })) (sym given)
     (waits, λ i. record (with_job now at (is i)) { marks = sym same i })
 
 -- by what keeps it from its next transaction
 pub stopped : (s : Setting) (at : ℕ) (now : Now) (job new : SeenJob) (halt : Halt) (answer : Turn) (marks : ℕ → Option Mark) → now.marks ≡ marks
-    → IsHalted s now job halt → IsStopped job new halt answer → IdleTurn s at now job answer (record (with_job now at new) { marks = marks })
+    → IsHalted s now job halt → IsStopped job new halt answer → IdleTurn (mover s at now job) answer (record (with_job now at new) { marks = marks })
 stopped s at now job new (End end) answer marks same halted is = ends s at now job new answer end marks same halted is.0 is.1
 stopped s at now job new (Wait object holder) answer marks same halted is = waits_on s at now job new answer object holder marks same halted is.0 is.1
 

@@ -34,13 +34,13 @@ use Rattle.xc_world.specs.Checks.{IsChecked, refusal_of}
 use Rattle.xc_world.specs.Act.Step.{Stepped, step_to}
 use Rattle.xc_world.specs.Effects.{takes_data}
 use Rattle.xc_world.specs.Fits.{fits, answer_of}
-use Rattle.xc_world.specs.Late.{is_late, kept_call}
+use Rattle.xc_world.specs.Late.{kept_call}
+use Rattle.xc_data.specs.Calls.{is_late, is_kept}
 use Rattle.xc_world.specs.Trail.{recorded}
 use Rattle.xc_story.specs.Rows.{Parts, DoesIn, DoesPartIn, IsReplyInTime, StopsAt, parts_of, seen, stored_by}
-use Rattle.xc_story.specs.LateCalls.{waits}
 use Rattle.xc_story.specs.Seen.{SeenTx, queue_of, with_queue}
 use Rattle.xc_story.specs.WordCalls.{IsWordStep, is_word_call, word_reply, words_after}
-use Rattle.xc_station.specs.Acting.{Acting, HasActed, HasDone, LeavesOff, with_parts}
+use Rattle.xc_station.specs.Acting.{Acting, HasActed, HasDone, LeavesOff, told_between, with_parts}
 use Rattle.xc_station.proofs.WordActs.{append_nil, still_words, no_stores, no_value, word-act, word-after, word-checked, word-fine, word-quiet}
 use Rattle.xc_station.proofs.WordActs.{word-trail, word-uses}
 
@@ -59,7 +59,7 @@ pub none_behind : (late : List LateCall) (c : Call) (me : Private) (r : Reply) �
 none_behind late c me r now = sym (append_nil late) ∙ ap (λ calls. late ++ calls) (sym (none_kept c me r now))
 
 -- it is done in its time
-in_time_now : (c : Call) (me : Private) (number : ℕ) (r : Reply) → waits c ≡ false → is_late r ≡ false → IsReplyInTime me number c r
+in_time_now : (c : Call) (me : Private) (number : ℕ) (r : Reply) → is_kept c ≡ false → is_late r ≡ false → IsReplyInTime me number c r
 in_time_now c me number r at_once now = record { kept = λ waiting. absurd (cc (at_once, waiting)); now = λ _. now }
 
 -- the transaction with these parts alone
@@ -103,7 +103,7 @@ module _ {H : Type 0} (model : HostModel H) (c : Call) (old new : Acting H) (oth
   part_left : (left : List Undo) → ((left ≡ []) × (model.contents new.host ≡ model.contents old.host))
       ⊎ DidPart c (record { contents = model.contents old.host; number = old.tx.number; me = old.tx.me }) (model.contents new.host) left
       → ((left ≡ []) × (model.contents new.host ≡ model.contents old.host))
-      ⊎ ((a : Answer) × DoesPartIn old.words (model.contents old.host) (model.contents new.host) (parts_of old.tx) (record { call = c; answer = a }) left)
+      ⊎ ((a : Answer) × DoesPartIn old.words (told_between model old new) (parts_of old.tx) (record { call = c; answer = a }) left)
   part_left left (inl same) = inl same
   part_left left (inr part) =
       let over = λ (w : World). record w { words = overlaid w.words old.tx.writes } in
@@ -123,7 +123,7 @@ module _ {H : Type 0} (model : HostModel H) (c : Call) (old new : Acting H) (oth
       }
 
   file_answered : (r : Result Reply NoMemory) → IsFileCall model c (calling old) (calling new) r → new.tx ≡ framed old.tx (parts_of new.tx)
-      → new.tx.writes ≡ old.tx.writes → new.tx.me.stored ≤ 16384 → waits c ≡ false → IfOk r (λ reply. is_late reply ≡ false)
+      → new.tx.writes ≡ old.tx.writes → new.tx.me.stored ≤ 16384 → is_kept c ≡ false → IfOk r (λ reply. is_late reply ≡ false)
       → HasActed model c old new r
   file_answered (Ok reply) k frame writes stored at_once now =
       file_done reply k (frame ∙ framed_now old.tx (parts_of new.tx) c reply now) writes stored
@@ -132,7 +132,8 @@ module _ {H : Type 0} (model : HostModel H) (c : Call) (old new : Acting H) (oth
 
 -- so it has acted; the transaction and the words are as before but for its private state and its records
 pub file_acted : {H : Type 0} (model : HostModel H) (c d : Call) (old new : Acting H) (r : Result Reply NoMemory) → c ≡ d → is_word_call d ≡ false
-    → takes_data d ≡ false → waits d ≡ false → IsFileCall model d (calling old) (calling new) r → new.tx ≡ record old.tx { me = new.tx.me; undo = new.tx.undo }
+    → takes_data d ≡ false → is_kept d ≡ false → IsFileCall model d (calling old) (calling new) r
+    → new.tx ≡ record old.tx { me = new.tx.me; undo = new.tx.undo }
     → new.tx.me.stored ≤ 16384 → IfOk r (λ reply. is_late reply ≡ false) → HasActed model c old new r
 file_acted model c d old new r is other untaken at_once k frame stored now =
     let writes = ap (λ (t : SeenTx). t.writes) frame in
@@ -142,7 +143,7 @@ file_acted model c d old new r is other untaken at_once k frame stored now =
 
 -- so has one at these handles, which are those of the transaction
 pub file_acted_at : {H : Type 0} (model : HostModel H) (c d : Call) (old new : Acting H) (me : Private) (r : Result Reply NoMemory) → me ≡ old.tx.me
-    → c ≡ d → is_word_call d ≡ false → takes_data d ≡ false → waits d ≡ false → IsFileCall model d (record (calling old) { me = me }) (calling new) r
+    → c ≡ d → is_word_call d ≡ false → takes_data d ≡ false → is_kept d ≡ false → IsFileCall model d (record (calling old) { me = me }) (calling new) r
     → new.tx ≡ record old.tx { me = new.tx.me; undo = new.tx.undo } → new.tx.me.stored ≤ 16384 → IfOk r (λ reply. is_late reply ≡ false)
     → HasActed model c old new r
 file_acted_at model c d old new me r same is other untaken at_once k =
@@ -151,7 +152,7 @@ file_acted_at model c d old new me r same is other untaken at_once k =
 
 -- a call that reaches no host has acted
 pub alone_acted : {H : Type 0} (model : HostModel H) (c d : Call) (old : Acting H) (next : Private) (reply : Reply) → c ≡ d → is_word_call d ≡ false
-    → takes_data d ≡ false → waits d ≡ false → StepsAlone d old.tx.me next reply → next.stored ≤ 16384 → is_late reply ≡ false
+    → takes_data d ≡ false → is_kept d ≡ false → StepsAlone d old.tx.me next reply → next.stored ≤ 16384 → is_late reply ≡ false
     → HasDone model c old (record old { tx = record old.tx { me = next } }) reply
 alone_acted model c d old next reply is other untaken at_once alone stored now =
     file_acted model c d old (record old { tx = record old.tx { me = next } }) (Ok reply) is other untaken at_once
@@ -159,7 +160,7 @@ alone_acted model c d old next reply is other untaken at_once alone stored now =
 
 -- so has one at these handles
 pub alone_acted_at : {H : Type 0} (model : HostModel H) (c d : Call) (old : Acting H) (next me : Private) (reply : Reply) → me ≡ old.tx.me → c ≡ d
-    → is_word_call d ≡ false → takes_data d ≡ false → waits d ≡ false → StepsAlone d me next reply → next.stored ≤ 16384 → is_late reply ≡ false
+    → is_word_call d ≡ false → takes_data d ≡ false → is_kept d ≡ false → StepsAlone d me next reply → next.stored ≤ 16384 → is_late reply ≡ false
     → HasDone model c old (record old { tx = record old.tx { me = next } }) reply
 alone_acted_at model c d old next me reply same is other untaken at_once alone =
     alone_acted model c d old next reply is other untaken at_once (subst (λ (m : Private). StepsAlone d m next reply) same alone)
@@ -171,7 +172,7 @@ queueing a queue = record a { tx = with_queue a.tx queue }
 
 -- it has acted: the host is as it was
 pub kept_acted : {H : Type 0} (model : HostModel H) (c d : Call) (old : Acting H) (queue : Queue) (r : Result Reply NoMemory) → c ≡ d
-    → is_word_call d ≡ false → takes_data d ≡ false → waits d ≡ true → IfOk r (λ reply. IsKept d old.tx.me (queue_of old.tx) queue reply)
+    → is_word_call d ≡ false → takes_data d ≡ false → is_kept d ≡ true → IfOk r (λ reply. IsKept d old.tx.me (queue_of old.tx) queue reply)
     → OnErr r (queue ≡ queue_of old.tx) → old.tx.me.stored ≤ 16384 → HasActed model c old (queueing old queue) r
 kept_acted model c d old queue (Ok reply) is other untaken waiting kept err stored =
     subst (λ (e : Call). HasDone model e old (queueing old queue) reply) (sym is)
@@ -192,7 +193,7 @@ kept_acted model c d old queue (Err e) is other untaken waiting kept err stored 
 
 -- so has one at these handles
 pub kept_acted_at : {H : Type 0} (model : HostModel H) (c d : Call) (old : Acting H) (queue : Queue) (me : Private) (r : Result Reply NoMemory)
-    → me ≡ old.tx.me → c ≡ d → is_word_call d ≡ false → takes_data d ≡ false → waits d ≡ true → IfOk r (λ reply. IsKept d me (queue_of old.tx) queue reply)
+    → me ≡ old.tx.me → c ≡ d → is_word_call d ≡ false → takes_data d ≡ false → is_kept d ≡ true → IfOk r (λ reply. IsKept d me (queue_of old.tx) queue reply)
     → OnErr r (queue ≡ queue_of old.tx) → old.tx.me.stored ≤ 16384 → HasActed model c old (queueing old queue) r
 kept_acted_at model c d old queue me r same is other untaken waiting kept =
     kept_acted model c d old queue r is other untaken waiting
@@ -200,7 +201,7 @@ kept_acted_at model c d old queue me r same is other untaken waiting kept =
 
 -- ---- a call on words
 -- it isn't kept for the commit
-word_at_once : (c : Call) → is_word_call c ≡ true → waits c ≡ false
+word_at_once : (c : Call) → is_word_call c ≡ true → is_kept c ≡ false
 word_at_once (call.Load at) is = refl
 word_at_once (call.Store at value) is = refl
 word_at_once _ is = cc
@@ -213,7 +214,7 @@ module _ {H : Type 0} (model : HostModel H) (c : Call) (old : Acting H) (writes 
   -- the plain machine does it
   does_words : (reply : Reply) → reply ≡ word_reply (overlaid old.words old.tx.writes) c
       → overlaid old.words writes ≡ words_after (overlaid old.words old.tx.writes) c
-      → DoesIn old.words (model.contents old.host) (model.contents old.host) (parts_of old.tx) (parts_of (storing old writes).tx) c reply
+      → DoesIn old.words (told_between model old old) (record { old = parts_of old.tx; new = parts_of (storing old writes).tx }) c reply
   does_words reply gives after w at =
       let was = model.contents old.host in
       let stores = old.tx.writes in

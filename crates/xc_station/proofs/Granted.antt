@@ -1,59 +1,55 @@
 -- What a claim did, of the transaction as its turn began.
 use Rattle.std.proofs.Common.{◌≡◌, ℕ, Bool, List, ap, subst, ◌∙◌}
-use Rattle.std.specs.Prelude.{All}
 use Rattle.xc_data.specs.Claims.{holding}
 use Rattle.xc_data.specs.declared.claim.Claim.{Claim}
 use Rattle.xc_data.specs.declared.entry.Cause.TheVariants as cause
 use Rattle.xc_data.specs.declared.object.Object.{Object}
+use Rattle.xc_data.specs.Step.{Step}
 use Rattle.xc_sentinel.specs.declared.sentinels.Sentinels.{Sentinels}
 use Rattle.xc_sentinel.specs.Asking.{AreGranted, IsBusy, IsConflict}
 use Rattle.xc_story.specs.declared.phase.Phase.TheVariants.{Undoing}
 use Rattle.xc_story.specs.Seen.{SeenTx}
-use Rattle.xc_wordlocks.specs.Table.{KeepsOthers, claimed, mode_of}
-use Rattle.xc_wordlocks.specs.Met.{IsNotMet}
 use Rattle.xc_station.specs.declared.tx.Tx.{Tx}
 use Rattle.xc_station.specs.Acting.{HasNoteRoom}
 use Rattle.xc_station.specs.Jobs.{seen_tx}
 use Rattle.xc_station.specs.Moments.{IsGranted, IsRefused, IsToldToWait}
 
-module _ (before behind : Sentinels) (old mid new : Tx) (claims given : List Claim) (same : seen_tx mid ≡ seen_tx old)
+module _ (sentinels : Step Sentinels) (old mid new : Tx) (claims given : List Claim) (same : seen_tx mid ≡ seen_tx old)
     (are : given ≡ claims) where
   pub number : mid.number ≡ old.number
   number = ap (λ (t : SeenTx). t.number) same
 
   -- the room that was made before the claims changes nothing that is seen
-  pub granted : AreGranted before behind given mid.number → seen_tx new ≡ record (seen_tx mid) { held = holding mid.held.items given } → HasNoteRoom new
-      → IsGranted before behind old new claims
+  pub granted : AreGranted sentinels mid.number given → seen_tx new ≡ record (seen_tx mid) { held = holding mid.held.items given } → HasNoteRoom new
+      → IsGranted sentinels (record { old = old; new = new }) claims
   granted g held room =
       record {
-        free = subst (λ n. All (IsNotMet before.claims n) claims) number (subst (λ cs. All (IsNotMet before.claims mid.number) cs) are g.free);
-        row = λ o. subst (λ n. mode_of behind.claims n o ≡ claimed (mode_of before.claims n o) claims o) number
-            (subst (λ cs. mode_of behind.claims mid.number o ≡ claimed (mode_of before.claims mid.number o) cs o) are (g.held o));
-        others = subst (λ n. KeepsOthers n before.claims behind.claims) number g.others;
-        seats = g.seats;
+        granted = subst (λ n. AreGranted sentinels n claims) number (subst (AreGranted sentinels mid.number) are g);
         held = held ∙ ap (λ (cs : List Claim). record (seen_tx mid) { held = holding mid.held.items cs }) are
             ∙ ap (λ (t : SeenTx). record t { held = holding t.held claims }) same;
         room = room;
       }
 
   -- one was met
-  pub told_to_wait : (patient : Bool) (at : ℕ) (object : Object) (holder : ℕ) → IsBusy before behind given mid.number patient at object holder
-      → seen_tx new ≡ seen_tx mid → IsToldToWait before behind old new (record { claims = claims; patient = patient; at = at }) object holder
+  pub told_to_wait : (patient : Bool) (at : ℕ) (object : Object) (holder : ℕ)
+      → IsBusy sentinels mid.number (record { claims = given; patient = patient; at = at }) object holder → seen_tx new ≡ seen_tx mid
+      → IsToldToWait sentinels (record { old = old; new = new }) (record { claims = claims; patient = patient; at = at }) object holder
   told_to_wait patient at object holder busy still =
       record {
-        busy = subst (λ n. IsBusy before behind claims n patient at object holder) number
-            (subst (λ cs. IsBusy before behind cs mid.number patient at object holder) are busy);
+        busy = subst (λ n. IsBusy sentinels n (record { claims = claims; patient = patient; at = at }) object holder) number
+            (subst (λ cs. IsBusy sentinels mid.number (record { claims = cs; patient = patient; at = at }) object holder) are busy);
         still = still ∙ same;
       }
 
-  pub refused : (patient : Bool) (at : ℕ) (object : Object) (holder : ℕ) → IsConflict before behind given mid.number patient object holder
+  pub refused : (patient : Bool) (at : ℕ) (object : Object) (holder : ℕ)
+      → IsConflict sentinels mid.number (record { claims = given; patient = patient; at = at }) object holder
       → seen_tx new ≡ record (seen_tx mid) { phase = Undoing (cause.Conflict object holder at) }
-      → IsRefused before behind old new (record { claims = claims; patient = patient; at = at })
+      → IsRefused sentinels (record { old = old; new = new }) (record { claims = claims; patient = patient; at = at })
   refused patient at object holder conflict undoes =
       record {
         object = object;
         holder = holder;
-        conflict = subst (λ n. IsConflict before behind claims n patient object holder) number
-            (subst (λ cs. IsConflict before behind cs mid.number patient object holder) are conflict);
+        conflict = subst (λ n. IsConflict sentinels n (record { claims = claims; patient = patient; at = at }) object holder) number
+            (subst (λ cs. IsConflict sentinels mid.number (record { claims = cs; patient = patient; at = at }) object holder) are conflict);
         undoes = undoes ∙ ap (λ (t : SeenTx). record t { phase = Undoing (cause.Conflict object holder at) }) same;
       }

@@ -17,11 +17,11 @@ use Rattle.xc_script.specs.declared.ask.Ask.{Ask}
 use Rattle.xc_script.specs.declared.ask.Ask.TheVariants as ask
 use Rattle.xc_story.specs.declared.phase.Phase.{Phase}
 use Rattle.xc_story.specs.declared.phase.Phase.TheVariants.{Running, Committing, Undoing}
-use Rattle.xc_story.specs.LateCalls.{thread_in}
+use Rattle.xc_data.specs.Calls.{thread_in}
 use Rattle.xc_story.specs.Setting.{Setting}
 use Rattle.xc_story.specs.Seen.{SeenTx, SeenJob, Doing, Idle, Active, Starved, Ended, Now, active_in, late_left, waiting}
 use Rattle.xc_story.specs.Rows.{IsActiveAt, IsTurn, TurnOf, IdleTurn, ActiveTurn, MarkedTurn, RunningTurn, AskedTurn, CommittingTurn, LateTurn, NextLate}
-use Rattle.xc_story.specs.Rows.{UndoingTurn, BackTurn, StarvedTurn, asked_at, behind_abort, behind_commit, beginning_job, entry_of}
+use Rattle.xc_story.specs.Rows.{UndoingTurn, BackTurn, StarvedTurn, asked_at, behind_abort, behind_commit, beginning_job, entry_of, mover}
 use Rattle.xc_station.specs.Stations.{ChangesOne}
 use Rattle.xc_station.proofs.Unstarted.{StartNone, next_none, none_joins}
 
@@ -36,38 +36,38 @@ module _ (s : Setting) (at : ℕ) (old : Now) (job : SeenJob) (new : Now) where
   enters : (behind : SeenJob) (entry : Entry) → new.jobs ≡ slice_set old.jobs at behind → new.journal ≡ old.journal ++ entry ∷ [] → ChangesOne at old new
   enters behind entry jobs journal = record { behind = behind; jobs = jobs; front = (entry ∷ [], journal) }
 
-  idle_leaves : (answer : Turn) → IdleTurn s at old job answer new → ChangesOne at old new
+  idle_leaves : (answer : Turn) → IdleTurn (mover s at old job) answer new → ChangesOne at old new
   idle_leaves (turn.Ended end) row = alone (record job { doing = Ended end }) _ row.1 refl refl
   idle_leaves (turn.Busy object number) row = alone (waiting job) _ row.1 refl refl
   idle_leaves turn.Went row = alone (beginning_job old job) _ row.1 refl refl
   idle_leaves turn.NoMemory row = absurd row
 
-  starved_leaves : (answer : Turn) → StarvedTurn at old job answer new → ChangesOne at old new
+  starved_leaves : (answer : Turn) → StarvedTurn (mover s at old job) answer new → ChangesOne at old new
   starved_leaves (turn.Ended job_end.NoMemory) row = alone (record job { doing = Ended job_end.NoMemory }) _ row refl refl
   starved_leaves _ row = absurd row
 
   module _ (tx : SeenTx) (none : StartNone tx.late) where
-    asked_leaves : (asked : Ask) → AskedTurn s at old job tx asked new → ChangesOne at old new
+    asked_leaves : (asked : Ask) → AskedTurn (mover s at old job) tx asked new → ChangesOne at old new
     asked_leaves (ask.Call call) (inl row) = alone _ _ row.behind refl refl
     asked_leaves (ask.Call call) (inr row) = alone _ _ row.behind refl refl
     asked_leaves ask.Commit row = alone _ _ row.behind refl refl
     asked_leaves ask.Abort row = alone _ _ row.behind refl refl
     asked_leaves ask.End row = absurd row
 
-    running_leaves : (answer : Turn) → RunningTurn s at old job tx answer new → ChangesOne at old new
+    running_leaves : (answer : Turn) → RunningTurn (mover s at old job) tx answer new → ChangesOne at old new
     running_leaves turn.Went row = asked_leaves (asked_at s job.place) row
     running_leaves (turn.Busy object holder) row = alone _ _ row.behind refl refl
     running_leaves turn.NoMemory row = alone _ _ row.behind refl refl
     running_leaves (turn.Ended end) row = absurd row
 
-    marked_leaves : (mark : Option Mark) (answer : Turn) → MarkedTurn s at old job tx mark answer new → ChangesOne at old new
+    marked_leaves : (mark : Option Mark) (answer : Turn) → MarkedTurn (mover s at old job) tx mark answer new → ChangesOne at old new
     marked_leaves None answer row = running_leaves answer row
     marked_leaves (Some m) turn.Went row = alone _ _ row refl refl
     marked_leaves (Some m) (turn.Busy object holder) row = absurd row
     marked_leaves (Some m) turn.NoMemory row = absurd row
     marked_leaves (Some m) (turn.Ended end) row = absurd row
 
-    next_leaves : (call : LateCall) → thread_in call ≡ None → NextLate s at old job tx call new → ChangesOne at old new
+    next_leaves : (call : LateCall) → thread_in call ≡ None → NextLate (mover s at old job) tx call new → ChangesOne at old new
     next_leaves (late_call.Thread block) starts row = cc starts
     next_leaves (late_call.Unlink name) starts row = alone _ _ row.behind refl refl
     next_leaves (late_call.Sync num) starts row = alone _ _ row.behind refl refl
@@ -75,7 +75,7 @@ module _ (s : Setting) (at : ℕ) (old : Now) (job : SeenJob) (new : Now) where
     next_leaves (late_call.Shutdown object) starts row = alone _ _ row.behind refl refl
     next_leaves (late_call.Send pair side bytes) starts row = alone _ _ row.behind refl refl
 
-    late_leaves : (late : List LateCall) → late_left tx ≡ late → LateTurn s at old job tx late new → ChangesOne at old new
+    late_leaves : (late : List LateCall) → late_left tx ≡ late → LateTurn (mover s at old job) tx late new → ChangesOne at old new
     late_leaves [] left row =
         enters (behind_commit job tx) (entry_of tx at (Committed tx.ends))
         (ap (λ (n : Now). n.jobs) row.0 ∙ ap (λ more. slice_set old.jobs at (behind_commit job tx) ++ more) (none_joins s job tx none)
@@ -83,26 +83,26 @@ module _ (s : Setting) (at : ℕ) (old : Now) (job : SeenJob) (new : Now) where
         (ap (λ (n : Now). n.journal) row.0)
     late_leaves (call ∷ late) left row = next_leaves call (next_none tx none call late left) row
 
-    committing_leaves : (answer : Turn) → CommittingTurn s at old job tx answer new → ChangesOne at old new
+    committing_leaves : (answer : Turn) → CommittingTurn (mover s at old job) tx answer new → ChangesOne at old new
     committing_leaves turn.Went row = late_leaves (late_left tx) refl row
     committing_leaves _ row = absurd row
 
-    back_leaves : (c : Cause) (pending : List Undo) → BackTurn s at old job tx c pending new → ChangesOne at old new
+    back_leaves : (c : Cause) (pending : List Undo) → BackTurn (mover s at old job) tx c pending new → ChangesOne at old new
     back_leaves c [] row =
         enters (behind_abort job tx c) (entry_of tx at (Aborted (record { cause = c; records = tx.undo.ended })))
         (ap (λ (n : Now). n.jobs) row.behind) (ap (λ (n : Now). n.journal) row.behind)
     back_leaves c (u ∷ pending) row = alone _ _ row.behind refl refl
 
-    undoing_leaves : (c : Cause) (answer : Turn) → UndoingTurn s at old job tx c answer new → ChangesOne at old new
+    undoing_leaves : (c : Cause) (answer : Turn) → UndoingTurn (mover s at old job) tx c answer new → ChangesOne at old new
     undoing_leaves c turn.Went row = back_leaves c tx.undo.pending row
     undoing_leaves c _ row = absurd row
 
-    active_leaves : (phase : Phase) (answer : Turn) → ActiveTurn s at old job tx phase answer new → ChangesOne at old new
+    active_leaves : (phase : Phase) (answer : Turn) → ActiveTurn (mover s at old job) tx phase answer new → ChangesOne at old new
     active_leaves Running answer row = marked_leaves (old.marks tx.number) answer row
     active_leaves Committing answer row = committing_leaves answer row
     active_leaves (Undoing c) answer row = undoing_leaves c answer row
 
-  doing_leaves : (d : Doing) → ((tx : SeenTx) → active_in d ≡ Some tx → StartNone tx.late) → (answer : Turn) → TurnOf s at old job d answer new
+  doing_leaves : (d : Doing) → ((tx : SeenTx) → active_in d ≡ Some tx → StartNone tx.late) → (answer : Turn) → TurnOf (mover s at old job) d answer new
       → ChangesOne at old new
   doing_leaves Idle none answer row = idle_leaves answer row
   doing_leaves (Active tx) none answer row = active_leaves tx (none tx refl) tx.phase answer row

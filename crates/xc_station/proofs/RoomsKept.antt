@@ -19,7 +19,7 @@ use Rattle.xc_sentinel.specs.Seating.{KeepsSeats, SetsSeat, seat_in}
 use Rattle.xc_wordlocks.specs.Table.{Table, mode_in, mode_of}
 use Rattle.xc_story.specs.Setting.{Setting}
 use Rattle.xc_story.specs.Seen.{SeenTx, SeenJob, Active, Ended, Now, active_in, active_of, begun_count, rank_of, waiting, with_job}
-use Rattle.xc_story.specs.Rows.{AskedTurn, IdleTurn, IsActiveAt, MarkedTurn, RunningTurn, asked_at, beginning_job, behind_abort, new_tx}
+use Rattle.xc_story.specs.Rows.{AskedTurn, IdleTurn, IsActiveAt, MarkedTurn, RunningTurn, asked_at, beginning_job, behind_abort, new_tx, mover}
 use Rattle.xc_story.specs.Told.{AreTold}
 use Rattle.xc_turns.proofs.GivenNumbers.{given_once, given_by_now}
 use Rattle.xc_station.specs.declared.calls.Shared.{Shared}
@@ -43,7 +43,7 @@ pub record GoesOn (old new : Now) (at : ℕ) (job : SeenJob) (tx : SeenTx) : Typ
   pub rank : tx'.rank ≡ tx.rank
   pub jobs : new.jobs ≡ slice_set old.jobs at behind
 
-asked_on : (s : Setting) (at : ℕ) (old : Now) (job : SeenJob) (tx : SeenTx) (a : Ask) (new : Now) → AskedTurn s at old job tx a new
+asked_on : (s : Setting) (at : ℕ) (old : Now) (job : SeenJob) (tx : SeenTx) (a : Ask) (new : Now) → AskedTurn (mover s at old job) tx a new
     → GoesOn old new at job tx
 asked_on s at old job tx (ask.Call call) new (inl row) =
     record { behind = _; tx' = _; doing = refl; number = refl; rank = refl; jobs = ap (λ (n : Now). n.jobs) row.behind }
@@ -56,7 +56,7 @@ asked_on s at old job tx ask.Abort new row =
 asked_on s at old job tx ask.End new row = absurd row
 
 -- a running transaction's turn keeps its number and its rank
-pub goes_on : (s : Setting) (at : ℕ) (old : Now) (job : SeenJob) (tx : SeenTx) (answer : Turn) (new : Now) → RunningTurn s at old job tx answer new
+pub goes_on : (s : Setting) (at : ℕ) (old : Now) (job : SeenJob) (tx : SeenTx) (answer : Turn) (new : Now) → RunningTurn (mover s at old job) tx answer new
     → GoesOn old new at job tx
 goes_on s at old job tx turn.Went new row = asked_on s at old job tx (asked_at s job.place) new row
 goes_on s at old job tx turn.NoMemory new row =
@@ -66,7 +66,7 @@ goes_on s at old job tx (turn.Busy object holder) new row =
 goes_on s at old job tx (turn.Ended end) new row = absurd row
 
 marked_on : (s : Setting) (at : ℕ) (old : Now) (job : SeenJob) (tx : SeenTx) (mark : Option Mark) (answer : Turn) (new : Now)
-    → MarkedTurn s at old job tx mark answer new → GoesOn old new at job tx
+    → MarkedTurn (mover s at old job) tx mark answer new → GoesOn old new at job tx
 marked_on s at old job tx None answer new row = goes_on s at old job tx answer new row
 marked_on s at old job tx (Some m) turn.Went new row =
     record { behind = _; tx' = _; doing = refl; number = refl; rank = refl; jobs = ap (λ (n : Now). n.jobs) row }
@@ -139,7 +139,8 @@ module _ {H : Type 0} (model : HostModel H) (shared : Shared H) (journal : List 
 
   -- a running one goes on
   pub rooms_running : (s : Setting) (shared' : Shared H) (answer : Turn)
-      → IsRunningRow s (moment model shared journal jobs) (moved model shared' (seen_job job) (moment model shared journal jobs) at) at (seen_job was) answer
+      → IsRunningRow (mover s at (moment model shared journal jobs) (seen_job was))
+      (moved model shared' (seen_job job) (moment model shared journal jobs) at) answer
       shared'.sentinels
       → HasRooms shared'.sentinels active spare (moment model shared' journal (slice_set jobs at job)) lines
   rooms_running s shared' answer row =
@@ -212,7 +213,7 @@ module _ {H : Type 0} (model : HostModel H) (shared : Shared H) (journal : List 
       cc both
 
   module _ (s : Setting) (sentinels' : Sentinels) (journal' : List Entry) (spare' : ℕ) (answer : Turn) (none : active_of (seen_job was) ≡ None)
-      (row : IdleTurn s at (moment model shared journal jobs) (seen_job was) answer
+      (row : IdleTurn (mover s at (moment model shared journal jobs) (seen_job was)) answer
       (record (with_job (moment model shared journal jobs) at (seen_job job)) { marks = marks_of sentinels'.seats }))
       (same : sentinels'.claims ≡ shared.sentinels.claims)
       (sits : IsSeatBehind (length journal + active + 1) (rank_of was.attempts (length journal + active + 1)) shared.sentinels.seats sentinels'.seats answer)
@@ -224,7 +225,7 @@ module _ {H : Type 0} (model : HostModel H) (shared : Shared H) (journal : List 
       rooms_idle_went told went room =
           let old = moment model shared journal jobs in
           let new = record (with_job old at (seen_job job)) { marks = marks_of sentinels'.seats } in
-          let begun = subst (λ a. IdleTurn s at old (seen_job was) a new) went row in
+          let begun = subst (λ a. IdleTurn (mover s at old (seen_job was)) a new) went row in
           let number = length journal + active + 1 in
           let sat = subst (IsSeatBehind number (rank_of was.attempts number) shared.sentinels.seats sentinels'.seats) went sits in
           rooms_begun s sentinels' journal' spare' told same sat none
@@ -236,7 +237,7 @@ module _ {H : Type 0} (model : HostModel H) (shared : Shared H) (journal : List 
       rooms_idle_halted halted more = by_answer answer refl row sits
         where
           by_answer : (a : Turn) → answer ≡ a
-              → IdleTurn s at (moment model shared journal jobs) (seen_job was) a
+              → IdleTurn (mover s at (moment model shared journal jobs) (seen_job was)) a
               (record (with_job (moment model shared journal jobs) at (seen_job job)) { marks = marks_of sentinels'.seats })
               → IsSeatBehind (length journal + active + 1) (rank_of was.attempts (length journal + active + 1)) shared.sentinels.seats sentinels'.seats a
               → HasRooms sentinels' active spare' (moment model (record shared { sentinels = sentinels' }) journal' (slice_set jobs at job)) lines

@@ -31,7 +31,7 @@ use Rattle.xc_story.specs.declared.phase.Phase.TheVariants.{Undoing}
 use Rattle.xc_story.specs.Setting.{Setting}
 use Rattle.xc_story.specs.Seen.{SeenTx, SeenJob, Active, Now, active_in, with_job}
 use Rattle.xc_story.specs.WordCalls.{IsWordStep}
-use Rattle.xc_story.specs.Rows.{Calls, DoesIn, DoesPartIn, HasCalled, HasNoRival, HoldsWanting, IsActiveAt, IsLeft, IsSameBegin}
+use Rattle.xc_story.specs.Rows.{Calls, DoesIn, DoesPartIn, HasCalled, HasNoRival, HoldsWanting, IsActiveAt, IsLeft, IsSameBegin, mover}
 use Rattle.xc_story.specs.Rows.{IsSamePosition, IsReplyInTime, Parts, RunningTurn, StopsAt, noting, parts_of, stored_by, wanting, with_tx}
 use Rattle.xc_story.proofs.AskedCalls.{asked_built}
 use Rattle.xc_station.specs.declared.calls.Shared.{Shared}
@@ -55,7 +55,8 @@ pub record IsBehind (s : Setting) (old new : Position) (reply : Reply) : Type 0 
 module _ {H : Type 0} (model : HostModel H) (s : Setting) (shared : Shared H) (now : Now) (at : ℕ) (job : SeenJob) (place : Position) (old : Tx)
     (here : IsAt model shared now at job) (has : HasTx s job place (seen_tx old)) (behind : Shared H) (mid : Tx) (call : Call)
     (words : behind.words ≡ shared.words) (asked : asks (walk_of s.script place) ≡ ask.Call call)
-    (g : IsGranted shared.sentinels behind.sentinels old mid (claims_of call old.me.value (length shared.words))) where
+    (g : IsGranted (record { old = shared.sentinels; new = behind.sentinels }) (record { old = old; new = mid })
+    (claims_of call old.me.value (length shared.words))) where
   active : IsActiveAt now.jobs at (seen_tx old)
   active = (job, here.stands, ap active_in has.doing)
 
@@ -65,13 +66,13 @@ module _ {H : Type 0} (model : HostModel H) (s : Setting) (shared : Shared H) (n
   granted_free : All (HasNoRival now.jobs at) (claims_of call old.me.value (length now.words))
   granted_free =
       subst (All (HasNoRival now.jobs at)) claims_now (none_met now.jobs at (seen_tx old) shared.sentinels.claims here.table here.single here.apart active
-      (claims_of call old.me.value (length shared.words)) g.free)
+      (claims_of call old.me.value (length shared.words)) g.granted.free)
 
   words_now : behind.words ≡ now.words
   words_now = words ∙ sym here.words
 
   marks_now : marks_of behind.sentinels.seats ≡ now.marks
-  marks_now = marks_kept shared.sentinels.seats behind.sentinels.seats g.seats ∙ sym here.marks
+  marks_now = marks_kept shared.sentinels.seats behind.sentinels.seats g.granted.seats ∙ sym here.marks
 
   -- the host may have changed, and the job
   touched : (job' : SeenJob) → moved model behind job' now at
@@ -99,8 +100,8 @@ module _ {H : Type 0} (model : HostModel H) (s : Setting) (shared : Shared H) (n
 
   row_granted : (job' : SeenJob) (tx : SeenTx) (answer : Turn) → job'.doing ≡ Active tx → tx.number ≡ old.number
       → tx.held ≡ holding old.held.items (claims_of call old.me.value (length shared.words))
-      → RunningTurn s at now job (seen_tx old) answer (moved model behind job' now at)
-      → IsRow s now (moved model behind job' now at) at job answer behind.sentinels.claims
+      → RunningTurn (mover s at now job) (seen_tx old) answer (moved model behind job' now at)
+      → IsRow (mover s at now job) (moved model behind job' now at) answer behind.sentinels.claims
   row_granted job' tx answer doing number held row =
       let claims = claims_of call old.me.value (length shared.words) in
       record {
@@ -109,8 +110,8 @@ module _ {H : Type 0} (model : HostModel H) (s : Setting) (shared : Shared H) (n
         row = row;
         table = λ o. tracked_on (λ n. mode_of shared.sentinels.claims n o) (λ (t : SeenTx). mode_in t.held o) now.jobs (here.table o)
             (λ n. mode_of behind.sentinels.claims n o) at job job' here.stands here.single (seen_tx old) (ap active_in has.doing)
-            (λ n ne. g.others n o ne) tx (ap active_in doing) number
-            (g.row o ∙ ap (λ m. claimed m claims o) ((here.table o).held at (seen_tx old) active)
+            (λ n ne. g.granted.others n o ne) tx (ap active_in doing) number
+            (g.granted.held o ∙ ap (λ m. claimed m claims o) ((here.table o).held at (seen_tx old) active)
             ∙ claimed-holding old.held.items claims o ∙ ap (λ (h : List Claim). mode_in h o) (sym held));
       }
 
@@ -127,18 +128,18 @@ module _ {H : Type 0} (model : HostModel H) (s : Setting) (shared : Shared H) (n
     left_now tells =
         let to = model.contents behind.host in
         let Left : List ℕ → Contents → Parts → Type 0 = λ ws was parts. ((l.left ≡ []) × (to ≡ was))
-        ⊎ ((answer : Answer) × DoesPartIn ws was to parts (record { call = call; answer = answer }) l.left) in
+        ⊎ ((answer : Answer) × DoesPartIn ws (record { old = was; new = to }) parts (record { call = call; answer = answer }) l.left) in
         subst (λ p. Left now.words now.contents p) (ap parts_of g.held)
         (subst (λ c. Left now.words c (parts_of (seen_tx mid))) (ap model.contents host ∙ sym here.contents)
         (subst (λ ws. Left ws (model.contents from) (parts_of (seen_tx mid))) words_now (l.contents (telling tells))))
 
     pub starved : (answer : Turn) → answer ≡ turn.NoMemory
-        → IsRow s now (moved model behind (counted answer (with_tx job place' (seen_tx new))) now at) at job answer behind.sentinels.claims
+        → IsRow (mover s at now job) (moved model behind (counted answer (with_tx job place' (seen_tx new))) now at) answer behind.sentinels.claims
     starved answer gives =
         let next = asked_before s job place (seen_tx old) (ask.Call call) has asked in
         let held = holding old.held.items (claims_of call old.me.value (length now.words)) in
         let moment = moved model behind (with_tx job place' (seen_tx new)) now at in
-        subst (λ a. IsRow s now (moved model behind (counted a (with_tx job place' (seen_tx new))) now at) at job a behind.sentinels.claims) (sym gives)
+        subst (λ a. IsRow (mover s at now job) (moved model behind (counted a (with_tx job place' (seen_tx new))) now at) a behind.sentinels.claims) (sym gives)
         (row_granted (with_tx job place' (seen_tx new)) (seen_tx new) turn.NoMemory refl (ap (λ (t : SeenTx). t.number) left_as)
         (ap (λ (t : SeenTx). t.held) left_as ∙ ap (holding old.held.items) (sym claims_now))
         (record {
@@ -147,7 +148,7 @@ module _ {H : Type 0} (model : HostModel H) (s : Setting) (shared : Shared H) (n
           left = l.left;
           one = l.one;
           held = held;
-          holds = subst (λ a. HoldsWanting now at (seen_tx old) a l.left held) (sym next) (inr (granted_free, refl));
+          holds = subst (λ a. HoldsWanting (mover s at now job) (seen_tx old) a l.left held) (sym next) (inr (granted_free, refl));
           behind = touched (with_tx job place' (seen_tx new))
               ∙ (λ i. record (with_job now at (with_tx job place' (left_as i))) {
                 contents = model.contents behind.host;
@@ -181,15 +182,17 @@ module _ {H : Type 0} (model : HostModel H) (s : Setting) (shared : Shared H) (n
     spoken_now = subst (λ ws. IsWordStep (overlaid now.words ws) (overlaid now.words done.writes) call reply) writes_old
         (subst (λ ws. IsWordStep (overlaid ws mid.writes) (overlaid ws done.writes) call reply) words_now d.spoken)
 
-    does_now : IsTrue s.tells → DoesIn now.words now.contents (model.contents behind.host) (parts_of (seen_tx old)) (parts_of (seen_tx done)) call reply
+    does_now : IsTrue s.tells → DoesIn now.words (record { old = now.contents; new = model.contents behind.host })
+        (record { old = parts_of (seen_tx old); new = parts_of (seen_tx done) }) call reply
     does_now tells =
         let to = model.contents behind.host in
-        let parts = parts_of (seen_tx done) in
-        subst (λ (p : Parts). DoesIn now.words now.contents to p parts call reply) (ap parts_of g.held)
-        (subst (λ (c : Contents). DoesIn now.words c to (parts_of (seen_tx mid)) parts call reply) (ap model.contents host ∙ sym here.contents)
-        (subst (λ ws. DoesIn ws (model.contents from) to (parts_of (seen_tx mid)) parts call reply) words_now (d.does (telling tells))))
+        let Does : List ℕ → Contents → Parts → Type 0 =
+        λ ws was parts. DoesIn ws (record { old = was; new = to }) (record { old = parts; new = parts_of (seen_tx done) }) call reply in
+        subst (λ p. Does now.words now.contents p) (ap parts_of g.held)
+        (subst (λ c. Does now.words c (parts_of (seen_tx mid))) (ap model.contents host ∙ sym here.contents)
+        (subst (λ ws. Does ws (model.contents from) (parts_of (seen_tx mid))) words_now (d.does (telling tells))))
 
-    calls_now : Calls s at now job (seen_tx old) call (moved model behind (with_tx job place' (seen_tx new)) now at)
+    calls_now : Calls (mover s at now job) (seen_tx old) call (moved model behind (with_tx job place' (seen_tx new)) now at)
     calls_now =
         record {
           free = granted_free;
@@ -227,7 +230,7 @@ module _ {H : Type 0} (model : HostModel H) (s : Setting) (shared : Shared H) (n
         }
 
     -- so its turn is that of a call
-    pub called : IsRow s now (moved model behind (with_tx job place' (seen_tx new)) now at) at job turn.Went behind.sentinels.claims
+    pub called : IsRow (mover s at now job) (moved model behind (with_tx job place' (seen_tx new)) now at) turn.Went behind.sentinels.claims
     called = row_granted (with_tx job place' (seen_tx new)) (seen_tx new) turn.Went refl (ap (λ (t : SeenTx). t.number) noted_as)
         (ap (λ (t : SeenTx). t.held) noted_as ∙ ap (holding old.held.items) (sym claims_now))
         (asked_row s at now (moved model behind (with_tx job place' (seen_tx new)) now at) job place (seen_tx old) (ask.Call call) has asked (inl calls_now))

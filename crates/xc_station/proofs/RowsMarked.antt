@@ -12,7 +12,7 @@ use Rattle.xc_wordlocks.specs.Table.{Table, mode_in, mode_of}
 use Rattle.xc_story.specs.declared.phase.Phase.TheVariants.{Undoing}
 use Rattle.xc_story.specs.Setting.{Setting}
 use Rattle.xc_story.specs.Seen.{SeenTx, SeenJob, Active, Now, active_in, revoked}
-use Rattle.xc_story.specs.Rows.{IsActiveAt, MarkedTurn, RunningTurn, with_tx}
+use Rattle.xc_story.specs.Rows.{IsActiveAt, MarkedTurn, RunningTurn, with_tx, mover}
 use Rattle.xc_station.specs.declared.calls.Shared.{Shared}
 use Rattle.xc_station.specs.Moments.{AreSeats, KeepsSeated, IsAt, IsRow, IsRunningRow, IsTable, marks_of, moved, runs, seated_as}
 use Rattle.xc_station.proofs.Closed.{same_active}
@@ -48,7 +48,7 @@ module _ {H : Type 0} (model : HostModel H) (s : Setting) (shared : Shared H) (n
         → shared'.sentinels.claims ≡ shared.sentinels.claims → marks_of shared'.sentinels.seats ≡ marks_of shared.sentinels.seats
         → (tx' : SeenTx) → tx' ≡ record tx { phase = Undoing (revoked m) } → job' ≡ with_tx job job.place tx'
         → seated_as (seat_in shared'.sentinels.seats tx.number) ≡ Some (tx.rank, runs tx'.phase)
-        → IsRunningRow s now (moved model shared' job' now at) at job turn.Went shared'.sentinels
+        → IsRunningRow (mover s at now job) (moved model shared' job' now at) turn.Went shared'.sentinels
     revoked_row m is host words claims marks tx' undoes behind mine =
         let number : tx'.number ≡ tx.number = ap (λ (t : SeenTx). t.number) undoes in
         let doing' : job'.doing ≡ Active tx' = ap (λ (j : SeenJob). j.doing) behind in
@@ -57,7 +57,8 @@ module _ {H : Type 0} (model : HostModel H) (s : Setting) (shared : Shared H) (n
         record {
           tx = tx;
           doing = doing;
-          row = subst (λ (mark : Option Mark). MarkedTurn s at now job tx mark turn.Went (moved model shared' job' now at)) (sym (marked_as (Some m) is))
+          row = subst (λ (mark : Option Mark). MarkedTurn (mover s at now job) tx mark turn.Went (moved model shared' job' now at))
+              (sym (marked_as (Some m) is))
               (λ i. record now {
                 words = (words ∙ sym here.words) i;
                 contents = (ap model.contents host ∙ sym here.contents) i;
@@ -76,7 +77,7 @@ module _ {H : Type 0} (model : HostModel H) (s : Setting) (shared : Shared H) (n
 
   -- it does what is asked; then it is known whether it still runs
   pub gone_row : (shared' mid : Shared H) (job' : SeenJob) (answer : Turn) → None ≡ marks_of shared.sentinels.seats tx.number
-      → IsRow s now (moved model mid job' now at) at job answer mid.sentinels.claims
+      → IsRow (mover s at now job) (moved model mid job' now at) answer mid.sentinels.claims
       → shared'.host ≡ mid.host → shared'.words ≡ mid.words → shared'.sentinels.claims ≡ mid.sentinels.claims
       → marks_of shared'.sentinels.seats ≡ marks_of mid.sentinels.seats
       → KeepsSeated shared.sentinels.seats mid.sentinels.seats → runs tx.phase ≡ true
@@ -84,7 +85,7 @@ module _ {H : Type 0} (model : HostModel H) (s : Setting) (shared : Shared H) (n
       → ((n : ℕ) → n ≢ tx'.number → seated_as (seat_in shared'.sentinels.seats n) ≡ seated_as (seat_in mid.sentinels.seats n))
       → ((rank : ℕ) → seated_as (seat_in mid.sentinels.seats tx'.number) ≡ Some (rank, true)
       → seated_as (seat_in shared'.sentinels.seats tx'.number) ≡ Some (rank, runs tx'.phase))
-      → IsRunningRow s now (moved model shared' job' now at) at job answer shared'.sentinels
+      → IsRunningRow (mover s at now job) (moved model shared' job' now at) answer shared'.sentinels
   gone_row shared' mid job' answer is r host words claims marks kept running tx' doing' others own =
       let same : moved model mid job' now at ≡ moved model shared' job' now at = λ i. record now {
         words = sym words i;
@@ -94,8 +95,8 @@ module _ {H : Type 0} (model : HostModel H) (s : Setting) (shared : Shared H) (n
         jobs = slice_set now.jobs at job';
         marks = sym marks i;
       } in
-      let row : RunningTurn s at now job tx answer (moved model mid job' now at) =
-      subst (λ (t : SeenTx). RunningTurn s at now job t answer (moved model mid job' now at)) (same_active r.tx tx (sym r.doing ∙ doing)) r.row in
+      let row : RunningTurn (mover s at now job) tx answer (moved model mid job' now at) =
+      subst (λ (t : SeenTx). RunningTurn (mover s at now job) t answer (moved model mid job' now at)) (same_active r.tx tx (sym r.doing ∙ doing)) r.row in
       let on = goes_on s at now job tx answer (moved model mid job' now at) row in
       let here' = get_set now.jobs at job job' here.stands in
       let also = get_set now.jobs at job on.behind here.stands in
@@ -110,8 +111,8 @@ module _ {H : Type 0} (model : HostModel H) (s : Setting) (shared : Shared H) (n
       record {
         tx = tx;
         doing = doing;
-        row = subst (λ (mark : Option Mark). MarkedTurn s at now job tx mark answer (moved model shared' job' now at)) (sym (marked_as None is))
-            (subst (RunningTurn s at now job tx answer) same row);
+        row = subst (λ (mark : Option Mark). MarkedTurn (mover s at now job) tx mark answer (moved model shared' job' now at)) (sym (marked_as None is))
+            (subst (RunningTurn (mover s at now job) tx answer) same row);
         table = subst (λ (t : Table). IsTable t (slice_set now.jobs at job')) (sym claims) r.table;
         seats = seats_on shared'.sentinels.seats job' tx' doing' number
             (λ n ne. others n (λ e. ne (e ∙ number)) ∙ kept n) (mine ∙ ap (λ r. Some (r, runs tx'.phase)) (sym rank));

@@ -32,7 +32,7 @@ use Rattle.xc_story.specs.declared.phase.Phase.TheVariants.{Committing, Undoing}
 use Rattle.xc_story.specs.Setting.{Setting}
 use Rattle.xc_story.specs.Seen.{SeenTx, SeenJob, Now, Active, active_in, waiting, with_job}
 use Rattle.xc_story.specs.Rows.{AskedTurn, HoldsWanting, IsActiveAt, IsFirstMet, IsSamePosition}
-use Rattle.xc_story.specs.Rows.{RunningTurn, StopsAt, marked, wanting, with_tx}
+use Rattle.xc_story.specs.Rows.{Mover, RunningTurn, StopsAt, marked, mover, wanting, with_tx}
 use Rattle.xc_station.specs.declared.calls.Shared.{Shared}
 use Rattle.xc_station.specs.declared.tx.Tx.{Tx}
 use Rattle.xc_station.specs.Jobs.{seen_tx}
@@ -51,11 +51,11 @@ moved_same model behind now at job words contents faults calls marks same i =
     record (with_job now at job) { words = words i; contents = contents i; faults = faults i; calls = calls i; marks = same i }
 
 -- what is held stays
-as_before : (now : Now) (at : ℕ) (tx : SeenTx) (a : Ask) → HoldsWanting now at tx a [] tx.held
-as_before now at tx (ask.Call call) = inl (refl, refl)
-as_before now at tx ask.Commit = (refl, refl)
-as_before now at tx ask.Abort = (refl, refl)
-as_before now at tx ask.End = (refl, refl)
+as_before : (m : Mover) (tx : SeenTx) (a : Ask) → HoldsWanting m tx a [] tx.held
+as_before m tx (ask.Call call) = inl (refl, refl)
+as_before m tx ask.Commit = (refl, refl)
+as_before m tx ask.Abort = (refl, refl)
+as_before m tx ask.End = (refl, refl)
 
 -- the host wasn't called
 no_calls : (a : Ask) → StopsAt a []
@@ -72,9 +72,9 @@ asked_before s job place tx a has asked = ap asks (sym has.same.walk) ∙ asked
 
 -- so the turn is that of what is asked
 pub asked_row : (s : Setting) (at : ℕ) (now new : Now) (job : SeenJob) (place : Position) (tx : SeenTx) (a : Ask) → HasTx s job place tx
-    → asks (walk_of s.script place) ≡ a → AskedTurn s at now job tx a new → RunningTurn s at now job tx turn.Went new
+    → asks (walk_of s.script place) ≡ a → AskedTurn (mover s at now job) tx a new → RunningTurn (mover s at now job) tx turn.Went new
 asked_row s at now new job place tx a has asked row =
-    subst (λ b. AskedTurn s at now job tx b new) (sym (asked_before s job place tx a has asked)) row
+    subst (λ b. AskedTurn (mover s at now job) tx b new) (sym (asked_before s job place tx a has asked)) row
 
 -- where whoever has patience isn't younger, patience is spent or the holder isn't younger
 stopped : (n m busy patience : ℕ) (b : Bool) → nat_lt busy patience ≡ b → (nat_lt busy patience ≡ true → n < m → ⊥) → (m ≤ n) ⊎ (patience ≤ busy)
@@ -89,8 +89,8 @@ module _ {H : Type 0} (model : HostModel H) (s : Setting) (shared : Shared H) (n
 
   -- a turn in which nothing is held more
   row_same : (behind : Shared H) (job' : SeenJob) (tx : SeenTx) (answer : Turn) → behind.sentinels.claims ≡ shared.sentinels.claims → job'.doing ≡ Active tx
-      → tx.number ≡ old.number → tx.held ≡ old.held.items → RunningTurn s at now job (seen_tx old) answer (moved model behind job' now at)
-      → IsRow s now (moved model behind job' now at) at job answer behind.sentinels.claims
+      → tx.number ≡ old.number → tx.held ≡ old.held.items → RunningTurn (mover s at now job) (seen_tx old) answer (moved model behind job' now at)
+      → IsRow (mover s at now job) (moved model behind job' now at) answer behind.sentinels.claims
   row_same behind job' tx answer claims doing number held row =
       record {
         tx = seen_tx old;
@@ -155,9 +155,9 @@ module _ {H : Type 0} (model : HostModel H) (s : Setting) (shared : Shared H) (n
   -- another holds something against it
   pub refused : (behind : Shared H) (new : Tx) (call : Call) (patient : Bool) (entered : ℕ) → behind.host ≡ shared.host → behind.words ≡ shared.words
       → asks (walk_of s.script place) ≡ ask.Call call → AreTerms s.rules now job patient entered
-      → IsRefused shared.sentinels behind.sentinels old new
+      → IsRefused (record { old = shared.sentinels; new = behind.sentinels }) (record { old = old; new = new })
       (record { claims = claims_of call old.me.value (length shared.words); patient = patient; at = entered })
-      → IsRow s now (moved model behind (with_tx job place (seen_tx new)) now at) at job turn.Went behind.sentinels.claims
+      → IsRow (mover s at now job) (moved model behind (with_tx job place (seen_tx new)) now at) turn.Went behind.sentinels.claims
   refused behind new call patient entered host words asked terms r =
       let undoing = λ (n : ℕ). record (seen_tx old) { phase = Undoing (cause.Conflict r.object r.holder n) } in
       let is : seen_tx new ≡ undoing (length now.journal) = r.undoes ∙ ap undoing (sym terms.entered) in
@@ -180,9 +180,9 @@ module _ {H : Type 0} (model : HostModel H) (s : Setting) (shared : Shared H) (n
   -- a younger one does, and is waited for
   pub told_to_wait : (behind : Shared H) (new : Tx) (call : Call) (patient : Bool) (entered : ℕ) (object : Object) (holder : ℕ) → behind.host ≡ shared.host
       → behind.words ≡ shared.words → asks (walk_of s.script place) ≡ ask.Call call → AreTerms s.rules now job patient entered
-      → IsToldToWait shared.sentinels behind.sentinels old new
+      → IsToldToWait (record { old = shared.sentinels; new = behind.sentinels }) (record { old = old; new = new })
       (record { claims = claims_of call old.me.value (length shared.words); patient = patient; at = entered }) object holder
-      → IsRow s now (moved model behind (waiting (with_tx job place (seen_tx new))) now at) at job (turn.Busy object holder) behind.sentinels.claims
+      → IsRow (mover s at now job) (moved model behind (waiting (with_tx job place (seen_tx new))) now at) (turn.Busy object holder) behind.sentinels.claims
   told_to_wait behind new call patient entered object holder host words asked terms w =
       let met = rival_now call object holder w.busy.met in
       let rival = met.rival in
@@ -215,10 +215,10 @@ module _ {H : Type 0} (model : HostModel H) (s : Setting) (shared : Shared H) (n
   -- memory is wanting before the claims
   pub wants : (behind : Shared H) (new : Tx) (answer : Turn) → behind.host ≡ shared.host → behind.words ≡ shared.words → behind.sentinels ≡ shared.sentinels
       → seen_tx new ≡ record (seen_tx old) { phase = Undoing cause.NoMemory } → answer ≡ turn.NoMemory
-      → IsRow s now (moved model behind (counted answer (with_tx job place (seen_tx new))) now at) at job answer behind.sentinels.claims
+      → IsRow (mover s at now job) (moved model behind (counted answer (with_tx job place (seen_tx new))) now at) answer behind.sentinels.claims
   wants behind new answer host words same is gives =
       let kept : KeepsSeats shared.sentinels.seats behind.sentinels.seats = λ n. ap (λ (t : Sentinels). seat_in t.seats n) same in
-      subst (λ a. IsRow s now (moved model behind (counted a (with_tx job place (seen_tx new))) now at) at job a behind.sentinels.claims) (sym gives)
+      subst (λ a. IsRow (mover s at now job) (moved model behind (counted a (with_tx job place (seen_tx new))) now at) a behind.sentinels.claims) (sym gives)
       (row_same behind (with_tx job place (seen_tx new)) (seen_tx new) turn.NoMemory (ap (λ (t : Sentinels). t.claims) same) refl
       (ap (λ (t : SeenTx). t.number) is) (ap (λ (t : SeenTx). t.held) is)
       (record {
@@ -227,7 +227,7 @@ module _ {H : Type 0} (model : HostModel H) (s : Setting) (shared : Shared H) (n
         left = [];
         one = omega arith;
         held = old.held.items;
-        holds = as_before now at (seen_tx old) (asks (walk_of s.script job.place));
+        holds = as_before (mover s at now job) (seen_tx old) (asks (walk_of s.script job.place));
         behind = unmarked_moment behind (with_tx job place (seen_tx new)) host words kept
             ∙ ap (λ (t : SeenTx). with_job now at (with_tx job place t)) (is ∙ without_record)
             ∙ (λ i. record (with_job now at (with_tx job place (wanting (seen_tx old) [] old.held.items))) {
@@ -247,7 +247,7 @@ module _ {H : Type 0} (model : HostModel H) (s : Setting) (shared : Shared H) (n
   pub commits : (behind : Shared H) (new : Tx) → behind.host ≡ shared.host → behind.words ≡ overlaid shared.words old.writes
       → behind.sentinels ≡ shared.sentinels
       → seen_tx new ≡ record (seen_tx old) { phase = Committing } → asks (walk_of s.script place) ≡ ask.Commit → IsSettled s.script place
-      → IsRow s now (moved model behind (with_tx job place (seen_tx new)) now at) at job turn.Went behind.sentinels.claims
+      → IsRow (mover s at now job) (moved model behind (with_tx job place (seen_tx new)) now at) turn.Went behind.sentinels.claims
   commits behind new host words same is asked settled =
       row_same behind (with_tx job place (seen_tx new)) (seen_tx new) turn.Went (ap (λ (t : Sentinels). t.claims) same) refl
       (ap (λ (t : SeenTx). t.number) is) (ap (λ (t : SeenTx). t.held) is)
@@ -268,7 +268,7 @@ module _ {H : Type 0} (model : HostModel H) (s : Setting) (shared : Shared H) (n
   -- the script asks its abort
   pub turns_back : (behind : Shared H) (new : Tx) → behind.host ≡ shared.host → behind.words ≡ shared.words → behind.sentinels ≡ shared.sentinels
       → seen_tx new ≡ record (seen_tx old) { phase = Undoing cause.Asked } → asks (walk_of s.script place) ≡ ask.Abort
-      → IsRow s now (moved model behind (with_tx job place (seen_tx new)) now at) at job turn.Went behind.sentinels.claims
+      → IsRow (mover s at now job) (moved model behind (with_tx job place (seen_tx new)) now at) turn.Went behind.sentinels.claims
   turns_back behind new host words same is asked =
       row_same behind (with_tx job place (seen_tx new)) (seen_tx new) turn.Went (ap (λ (t : Sentinels). t.claims) same) refl
       (ap (λ (t : SeenTx). t.number) is) (ap (λ (t : SeenTx). t.held) is)
@@ -282,9 +282,9 @@ module _ {H : Type 0} (model : HostModel H) (s : Setting) (shared : Shared H) (n
   -- the claims failed
   pub unclaimed : (behind : Shared H) (new : Tx) (call : Call) (patient : Bool) (entered : ℕ) (answer : Turn) → behind.host ≡ shared.host
       → behind.words ≡ shared.words → asks (walk_of s.script place) ≡ ask.Call call → AreTerms s.rules now job patient entered
-      → HasClaimed shared.sentinels behind.sentinels old new
+      → HasClaimed (record { old = shared.sentinels; new = behind.sentinels }) (record { old = old; new = new })
       (record { claims = claims_of call old.me.value (length shared.words); patient = patient; at = entered }) (Err answer)
-      → IsRow s now (moved model behind (counted answer (with_tx job place (seen_tx new))) now at) at job answer behind.sentinels.claims
+      → IsRow (mover s at now job) (moved model behind (counted answer (with_tx job place (seen_tx new))) now at) answer behind.sentinels.claims
   unclaimed behind new call patient entered turn.Went host words asked terms r = refused behind new call patient entered host words asked terms r
   unclaimed behind new call patient entered (turn.Busy object holder) host words asked terms w =
       told_to_wait behind new call patient entered object holder host words asked terms w

@@ -200,7 +200,8 @@ nobody_left jobs ended number = dite (ℕ_discrete number 0) (λ none. ap (live_
 
 -- ---- a list of turns
 taken_at : {H : Type 0} (model : HostModel H) (jobs : List ℕ) (k : ℕ) (now next end : Seen H) → k < length jobs
-    → IsStepOf model (slice_index jobs k) now next (live_at now.jobs (slice_index jobs k)) → TakeTurns model (drop (suc k) jobs) next end
+    → IsStepOf model (slice_index jobs k) (record { old = now; new = next }) (live_at now.jobs (slice_index jobs k))
+    → TakeTurns model (drop (suc k) jobs) next end
     → TakeTurns model (drop k jobs) now end
 taken_at model [] k now next end low step rest = absurd (omega arith)
 taken_at model (job ∷ jobs) zero now next end low step rest = (next, step, rest)
@@ -208,15 +209,16 @@ taken_at model (job ∷ jobs) (suc k) now next end low step rest = taken_at mode
 
 -- one turn more of those that are left is taken
 pub taken_next : {H : Type 0} (model : HostModel H) (jobs : List ℕ) (k after : ℕ) (now next end : Seen H) → after ≡ suc k → k < length jobs
-    → IsStepOf model (slice_index jobs k) now next (live_at now.jobs (slice_index jobs k)) → TakeTurns model (drop after jobs) next end
+    → IsStepOf model (slice_index jobs k) (record { old = now; new = next }) (live_at now.jobs (slice_index jobs k))
+    → TakeTurns model (drop after jobs) next end
     → TakeTurns model (drop k jobs) now end
 taken_next model jobs k after now next end one low step rest =
     taken_at model jobs k now next end low step (subst (λ n. TakeTurns model (drop n jobs) next end) one rest)
 
 -- a turn that was tried is a step of its job
 pub tried_steps : {H : Type 0} (model : HostModel H) (job : ℕ) (old new : Seen H) (live : Bool) (answer : Option Turn)
-    → IsTried model job old new live answer → IsStepOf model job old new live
-tried_steps model job old new true (Some answer) tried = (answer, tried.0, tried.1)
+    → IsTried model job (record { old = old; new = new }) live answer → IsStepOf model job (record { old = old; new = new }) live
+tried_steps model job old new true (Some answer) tried = (answer, tried)
 tried_steps model job old new true None row = absurd row
 tried_steps model job old new false (Some answer) row = absurd row
 tried_steps model job old new false None same = subst (λ s. s ≡ record old { events = s.events; last = s.last }) (sym same) refl
@@ -238,8 +240,9 @@ counts_further old mid new k was is = omega arith
 -- ---- rounds
 -- one turn more behind a list of them
 pub taken_more : {H : Type 0} (model : HostModel H) (jobs : List ℕ) (job : ℕ) (old mid new : Seen H) → TakeTurns model jobs old mid
-    → IsStepOf model job mid new (live_at mid.jobs job) → TakeTurns model (jobs ++ job ∷ []) old new
-taken_more {H = H} model [] job old mid new same step = (new, subst (λ (s : Seen H). IsStepOf model job s new (live_at s.jobs job)) same step, refl)
+    → IsStepOf model job (record { old = mid; new = new }) (live_at mid.jobs job) → TakeTurns model (jobs ++ job ∷ []) old new
+taken_more {H = H} model [] job old mid new same step =
+    (new, subst (λ (s : Seen H). IsStepOf model job (record { old = s; new = new }) (live_at s.jobs job)) same step, refl)
 taken_more model (j ∷ jobs) job old mid new (next, first, rest) step = (next, first, taken_more model jobs job next mid new rest step)
 
 none_there : (b : Bool) → (if b then false else lives None) ≡ false
@@ -268,11 +271,11 @@ passed_over model at (suc more) old mid turns ended =
     subst (λ n. TakeTurns model (numbers n) old mid) next
     (taken_more model (numbers (at + more)) (suc (at + more)) old mid mid
     (passed_over model at more old mid turns (λ number above most. ended number above (omega (arith, most))))
-    (subst (IsStepOf model (suc (at + more)) mid mid) (sym last) refl))
+    (subst (IsStepOf model (suc (at + more)) (record { old = mid; new = mid })) (sym last) refl))
 
 -- and the next live one takes its turn
 pub next_turned : {H : Type 0} (model : HostModel H) (at job : ℕ) (old mid new : Seen H) → IsNextOf mid.jobs at job
-    → TakeTurns model (numbers at) old mid → IsStepOf model job mid new (live_at mid.jobs job) → TakeTurns model (numbers job) old new
+    → TakeTurns model (numbers at) old mid → IsStepOf model job (record { old = mid; new = new }) (live_at mid.jobs job) → TakeTurns model (numbers job) old new
 next_turned model at job old mid new next turns step =
     let above = next.above in
     let between : ℕ = job - 1 - at in

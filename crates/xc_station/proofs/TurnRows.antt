@@ -22,13 +22,13 @@ use Rattle.xc_sentinel.specs.Seating.{SetsSeat}
 use Rattle.xc_story.specs.declared.phase.Phase.{Phase}
 use Rattle.xc_story.specs.declared.phase.Phase.TheVariants as phase
 use Rattle.xc_story.specs.declared.rules.Rules.{Rules}
-use Rattle.xc_story.specs.LateCalls.{thread_in}
+use Rattle.xc_data.specs.Calls.{thread_in}
 use Rattle.xc_story.specs.Setting.{Setting, setting}
 use Rattle.xc_story.specs.Seen.{SeenTx, SeenJob, Doing, Idle, Active, Starved, Ended, Now, late_left, queue_of, with_queue, with_job, with_kept}
 use Rattle.xc_story.specs.Seen.{entering, joined, unmarked, waiting}
 use Rattle.xc_text.specs.declared.script.Script.{Script}
 use Rattle.xc_story.specs.Rows.{IsTurn, TurnOf, ActiveTurn, BackTurn, Compensates, EndsLate, EntersAborted, EntersCommitted, IdleTurn, LateTurn, NextLate}
-use Rattle.xc_story.specs.Rows.{StarvedTurn, behind_abort, behind_commit, beginning_job, entry_of, with_tx}
+use Rattle.xc_story.specs.Rows.{StarvedTurn, behind_abort, behind_commit, beginning_job, entry_of, with_tx, mover}
 use Rattle.xc_station.specs.declared.calls.Shared.{Shared}
 use Rattle.xc_station.specs.declared.job.Activity.{Activity}
 use Rattle.xc_station.specs.declared.job.Activity.TheVariants as activity
@@ -46,15 +46,15 @@ use Rattle.xc_station.proofs.Unstarted.{StartNone, next_none, none_joins}
 
 -- ---- a row of what the job in this place does
 pub row_turned : (s : Setting) (at : ℕ) (old new : Now) (job : SeenJob) (d : Doing) (answer : Turn) → slice_get old.jobs at ≡ Some job → job.doing ≡ d
-    → TurnOf s at old job d answer new → IsTurn s at old answer new
+    → TurnOf (mover s at old job) d answer new → IsTurn s at old answer new
 row_turned s at old new job d answer there does row =
-    record { job = job; stands = there; row = subst (λ e. TurnOf s at old job e answer new) (sym does) row }
+    record { job = job; stands = there; row = subst (λ e. TurnOf (mover s at old job) e answer new) (sym does) row }
 
 -- and of its active transaction's phase
 pub phase_turned : (s : Setting) (at : ℕ) (old new : Now) (job : SeenJob) (tx : SeenTx) (p : Phase) (answer : Turn) → slice_get old.jobs at ≡ Some job
-    → job.doing ≡ Active tx → tx.phase ≡ p → ActiveTurn s at old job tx p answer new → IsTurn s at old answer new
+    → job.doing ≡ Active tx → tx.phase ≡ p → ActiveTurn (mover s at old job) tx p answer new → IsTurn s at old answer new
 phase_turned s at old new job tx p answer there does in' row =
-    row_turned s at old new job (Active tx) answer there does (subst (λ q. ActiveTurn s at old job tx q answer new) (sym in') row)
+    row_turned s at old new job (Active tx) answer there does (subst (λ q. ActiveTurn (mover s at old job) tx q answer new) (sym in') row)
 
 -- the job in this place is of the same block: the same blocks were started
 pub started_same : (jobs : List Job) (at : ℕ) (was job : Job) → slice_get jobs at ≡ Some was → (seen_job job).block ≡ (seen_job was).block
@@ -74,7 +74,7 @@ none_taken t (activity.Ended end) tx is = cc is
 
 -- a late call that starts no job ends as one at the host
 ended_late : (s : Setting) (at : ℕ) (old : Now) (job : SeenJob) (tx : SeenTx) (call : LateCall) (new : Now) → thread_in call ≡ None
-    → EndsLate s at old job tx call new → NextLate s at old job tx call new
+    → EndsLate (mover s at old job) tx call new → NextLate (mover s at old job) tx call new
 ended_late s at old job tx (late_call.Thread block) new starts row = cc starts
 ended_late s at old job tx (late_call.Unlink name) new starts row = row
 ended_late s at old job tx (late_call.Sync num) new starts row = row
@@ -103,7 +103,7 @@ module _ {H : Type 0} (model : HostModel H) (shared : Shared H) (journal : List 
   seen_there s is = get_map seen_job jobs at was is.stands
 
   idle_block : (s : Setting) (marks : ℕ → Option Mark) (job : Job) (answer : Turn) → slice_get jobs at ≡ Some was
-      → IdleTurn s at (moment model shared journal jobs) (seen_job was) answer
+      → IdleTurn (mover s at (moment model shared journal jobs) (seen_job was)) answer
       (record (with_job (moment model shared journal jobs) at (seen_job job)) { marks = marks }) → (seen_job job).block ≡ (seen_job was).block
   idle_block s marks job answer stands row = by_answer answer row
     where
@@ -123,7 +123,7 @@ module _ {H : Type 0} (model : HostModel H) (shared : Shared H) (journal : List 
           let one : seen_job job ≡ job' = cc both in
           ap (λ (j : SeenJob). j.block) one ∙ same
 
-      by_answer : (a : Turn) → IdleTurn s at old (seen_job was) a (record (with_job old at (seen_job job)) { marks = marks })
+      by_answer : (a : Turn) → IdleTurn (mover s at old (seen_job was)) a (record (with_job old at (seen_job job)) { marks = marks })
           → (seen_job job).block ≡ (seen_job was).block
       by_answer (turn.Ended end) row = by_job (record (seen_job was) { doing = Ended end }) _ row.1 refl
       by_answer (turn.Busy object number) row = by_job (waiting (seen_job was)) _ row.1 refl
@@ -133,7 +133,7 @@ module _ {H : Type 0} (model : HostModel H) (shared : Shared H) (journal : List 
   -- an idle job's
   pub idle_turned : (s : Setting) (sentinels' : Sentinels) (journal' : List Entry) (job : Job) (answer : Turn) → IsThere jobs at stage.Idle was
       → journal' ≡ journal
-      → IdleTurn s at (moment model shared journal jobs) (seen_job was) answer
+      → IdleTurn (mover s at (moment model shared journal jobs) (seen_job was)) answer
       (record (with_job (moment model shared journal jobs) at (seen_job job)) { marks = marks_of sentinels'.seats })
       → IsTurn s at (moment model shared journal jobs) answer (moment model (record shared { sentinels = sentinels' }) journal' (slice_set jobs at job))
   idle_turned s sentinels' journal' job answer is same row =
@@ -153,15 +153,16 @@ module _ {H : Type 0} (model : HostModel H) (shared : Shared H) (journal : List 
   starved_turned s job answer is ends =
       let old = moment model shared journal jobs in
       let new = moment model shared journal (slice_set jobs at job) in
-      let row : StarvedTurn at old (seen_job was) (turn.Ended job_end.NoMemory) new =
+      let row : StarvedTurn (mover s at old (seen_job was)) (turn.Ended job_end.NoMemory) new =
       moment_set shared journal job is.stands (ap (λ (j : SeenJob). j.block) ends.0) ∙ ap (with_job old at) ends.0 in
       row_turned s at old new (seen_job was) Starved answer (seen_there stage.Starved is) (starved_stage (doing_of was) is.stage)
-      (subst (λ a. StarvedTurn at old (seen_job was) a new) (sym ends.1) row)
+      (subst (λ a. StarvedTurn (mover s at old (seen_job was)) a new) (sym ends.1) row)
 
   -- a running job's
   pub running_turned : (s : Setting) (shared' : Shared H) (job : Job) (answer : Turn) → IsThere jobs at stage.Running was
       → (seen_job job).block ≡ (seen_job was).block
-      → IsRunningRow s (moment model shared journal jobs) (moved model shared' (seen_job job) (moment model shared journal jobs) at) at (seen_job was) answer
+      → IsRunningRow (mover s at (moment model shared journal jobs) (seen_job was))
+      (moved model shared' (seen_job job) (moment model shared journal jobs) at) answer
       shared'.sentinels
       → IsTurn s at (moment model shared journal jobs) answer (moment model shared' journal (slice_set jobs at job))
   running_turned s shared' job answer is block row =
@@ -190,7 +191,7 @@ module _ {H : Type 0} (model : HostModel H) (shared : Shared H) (journal : List 
       let ends = gave.2 in
       let job' : seen_job job ≡ with_tx (seen_job was) was.place (record mine.tx { ends = mine.tx.ends ++ ends.end ∷ [] }) =
       gave.1 ∙ ap (λ (queue : Queue). with_tx (seen_job was) was.place (with_queue mine.tx queue)) ends.noted in
-      let row : EndsLate s at old (seen_job was) mine.tx mine.next new = record {
+      let row : EndsLate (mover s at old (seen_job was)) mine.tx mine.next new = record {
         end = ends.end;
         behind = moment_set shared' journal job is.stands (ap (λ (j : SeenJob). j.block) gave.1)
             ∙ (λ i. record (moment model shared' journal jobs) {
@@ -203,7 +204,7 @@ module _ {H : Type 0} (model : HostModel H) (shared : Shared H) (journal : List 
         does = λ tells. ends.does (telling tells);
       } in
       phase_turned s at old new (seen_job was) mine.tx phase.Committing turn.Went (seen_there stage.Committing is) mine.doing mine.phase
-      (subst (λ left. LateTurn s at old (seen_job was) mine.tx left new) (sym mine.left)
+      (subst (λ left. LateTurn (mover s at old (seen_job was)) mine.tx left new) (sym mine.left)
       (ended_late s at old (seen_job was) mine.tx mine.next new (next_none mine.tx (none mine.tx mine.doing) mine.next mine.later mine.left) row))
 
   -- a committing job's, where each has one
@@ -223,7 +224,7 @@ module _ {H : Type 0} (model : HostModel H) (shared : Shared H) (journal : List 
       let entry' = entry_of mine.tx at (Committed mine.tx.ends) in
       let marks' : marks_of shared'.sentinels.seats ≡ unmarked (marks_of shared.sentinels.seats) mine.tx.number =
       marks_unmarked shared.sentinels.seats shared'.sentinels.seats mine.tx.number None (gone mine.tx mine.doing) refl in
-      let row : EntersCommitted s at old (seen_job was) mine.tx new = (
+      let row : EntersCommitted (mover s at old (seen_job was)) mine.tx new = (
         moment_set shared' journal' job is.stands (ap (λ (j : SeenJob). j.block) gave.0)
             ∙ (λ i. record {
               words = same.1 i;
@@ -242,7 +243,7 @@ module _ {H : Type 0} (model : HostModel H) (shared : Shared H) (journal : List 
             (arith, a, b, c, few)),
       ) in
       phase_turned s at old new (seen_job was) mine.tx phase.Committing turn.Went (seen_there stage.Committed is) mine.doing mine.phase
-      (subst (λ left. LateTurn s at old (seen_job was) mine.tx left new) (sym mine.left) row)
+      (subst (λ left. LateTurn (mover s at old (seen_job was)) mine.tx left new) (sym mine.left) row)
 
   -- an undoing job's, where a record has no end
   pub undoing_turned : (script : Script) (rules : Rules) (shared' : Shared H) (job : Job) → IsThere jobs at stage.Undoing was
@@ -257,7 +258,7 @@ module _ {H : Type 0} (model : HostModel H) (shared : Shared H) (journal : List 
       let back = undoing_stage (doing_of was) is.stage in
       let gave = gives back.tx back.doing in
       let tried = gave.2 in
-      let row : Compensates s at old (seen_job was) back.tx new = record {
+      let row : Compensates (mover s at old (seen_job was)) back.tx new = record {
         older = tried.older;
         tried = tried.tried;
         end = tried.end;
@@ -274,7 +275,7 @@ module _ {H : Type 0} (model : HostModel H) (shared : Shared H) (journal : List 
             });
       } in
       phase_turned s at old new (seen_job was) back.tx (phase.Undoing back.cause) turn.Went (seen_there stage.Undoing is) back.doing back.phase
-      (subst (λ pending. BackTurn s at old (seen_job was) back.tx back.cause pending new) (sym back.pending) row)
+      (subst (λ pending. BackTurn (mover s at old (seen_job was)) back.tx back.cause pending new) (sym back.pending) row)
 
   -- an undoing job's, where each has one: nothing was taken that is given back
   pub undone_turned : (s : Setting) (shared' : Shared H) (journal' : List Entry) (entry : Entry) (job : Job) (number : ℕ) → IsThere jobs at stage.Undone was
@@ -290,7 +291,7 @@ module _ {H : Type 0} (model : HostModel H) (shared : Shared H) (journal : List 
       let gave = gives back.tx back.cause at back.doing back.phase counts in
       let marks' : marks_of shared'.sentinels.seats ≡ unmarked (marks_of shared.sentinels.seats) back.tx.number =
       marks_unmarked shared.sentinels.seats shared'.sentinels.seats back.tx.number None (gone back.tx back.doing) refl in
-      let row : EntersAborted s at old (seen_job was) back.tx back.cause new = record {
+      let row : EntersAborted (mover s at old (seen_job was)) back.tx back.cause new = record {
         behind = moment_set shared' journal' job is.stands (ap (λ (j : SeenJob). j.block) gave.0 ∙ abort_block (seen_job was) back.tx back.cause)
             ∙ (λ i. record {
               words = same.1 i;
@@ -306,4 +307,4 @@ module _ {H : Type 0} (model : HostModel H) (shared : Shared H) (journal : List 
             ∙ ap (with_kept (model.contents shared.host)) (sym (none_taken was.tx was.activity back.tx back.doing));
       } in
       phase_turned s at old new (seen_job was) back.tx (phase.Undoing back.cause) turn.Went (seen_there stage.Undone is) back.doing back.phase
-      (subst (λ pending. BackTurn s at old (seen_job was) back.tx back.cause pending new) (sym back.pending) row)
+      (subst (λ pending. BackTurn (mover s at old (seen_job was)) back.tx back.cause pending new) (sym back.pending) row)

@@ -11,9 +11,9 @@ use Rattle.xc_data.specs.declared.private.Private.{Private}
 use Rattle.xc_script.specs.Ask.{Walk, answered}
 use Rattle.xc_script.specs.Slots.{kept_of}
 use Rattle.xc_world.specs.Effects.{takes_data}
-use Rattle.xc_world.specs.Late.{is_late}
+use Rattle.xc_data.specs.Calls.{is_late, thread_asked, thread_in}
 use Rattle.xc_world.specs.Run.{taken_by}
-use Rattle.xc_story.specs.LateCalls.{started_late, started_with, thread_asked, thread_in}
+use Rattle.xc_story.specs.LateCalls.{started_late, started_with}
 use Rattle.xc_story.specs.Seen.{SeenTx, SeenJob, late_left}
 use Rattle.xc_story.specs.Rows.{behind_commit, is_built, started_job, started_jobs}
 use Rattle.xc_story.specs.Setting.{Setting}

@@ -3,6 +3,7 @@ use Rattle.std.specs.Prelude.{◌≡◌, ◌⊎◌, ℕ, ◌≤◌, List, [], �
 use Rattle.xc_data.specs.Counts.{CountsFault}
 use Rattle.xc_data.specs.Faults.{is_fault_reply}
 use Rattle.xc_data.specs.Private.{place_of}
+use Rattle.xc_data.specs.Step.{Step}
 use Rattle.xc_data.specs.declared.call.Answer.{Answer}
 use Rattle.xc_data.specs.declared.call.Call.{Call}
 use Rattle.xc_data.specs.declared.call.Reply.{Reply}
@@ -72,6 +73,10 @@ with_parts tx call reply parts =
 abbrev pub leaving : SeenTx → List Undo → SeenTx
 leaving tx left = record tx { undo = record tx.undo { pending = tx.undo.pending ++ left } }
 
+-- what the host told, and tells
+abbrev pub told_between : {H : Type 0} → HostModel H → Acting H → Acting H → Step Contents
+told_between model old new = record { old = model.contents old.host; new = model.contents new.host }
+
 module _ {H : Type 0} (model : HostModel H) (call : Call) (old new : Acting H) where
   -- the call was done with this reply, as a row of calls says it: whether a check refused it, its private state, its stores, its
   -- records, its part on words, its calls of the host, its fault, whether it is kept for the commit, and over a host that tells
@@ -91,7 +96,7 @@ module _ {H : Type 0} (model : HostModel H) (call : Call) (old new : Acting H) w
     pub cause : CountsFault (is_fault_reply reply) (model.fault_count old.host) (model.fault_count new.host)
     pub spoken : IsWordStep (overlaid old.words old.tx.writes) (overlaid old.words new.tx.writes) call reply
     pub does : IsTrue model.tells
-        → DoesIn old.words (model.contents old.host) (model.contents new.host) (parts_of old.tx) (parts_of new.tx) call reply
+        → DoesIn old.words (told_between model old new) (record { old = parts_of old.tx; new = parts_of new.tx }) call reply
 
   -- memory was wanting: the transaction is as before but for what the call left, at most one record, and the host was called for
   -- no more than the call. Over a host that tells nothing was left and nothing is changed, or with some answer the call did its
@@ -104,8 +109,8 @@ module _ {H : Type 0} (model : HostModel H) (call : Call) (old new : Acting H) w
     pub faults : model.fault_count new.host ≡ model.fault_count old.host
     pub contents : IsTrue model.tells
         → ((left ≡ []) × (model.contents new.host ≡ model.contents old.host))
-        ⊎ ((answer : Answer) × DoesPartIn old.words (model.contents old.host) (model.contents new.host) (parts_of old.tx)
-        (record { call = call; answer = answer }) left)
+        ⊎ ((answer : Answer)
+        × DoesPartIn old.words (told_between model old new) (parts_of old.tx) (record { call = call; answer = answer }) left)
 
   -- by what the call answers
   abbrev pub HasActed : Result Reply NoMemory → Type 0

@@ -41,4 +41,5 @@ IsStopped was is (Wait object holder) answer = (is ≡ waiting was) × (answer �
 -- the seats behind it: a transaction of this number and rank has begun, or they are as before
 abbrev pub IsSeatBehind : ℕ → ℕ → Seats → Seats → Turn → Type 0
 IsSeatBehind number rank old new turn.Went = SetsSeat old new number (Some (record { rank = rank; running = true; mark = None }))
+-- with any other answer no transaction began
 IsSeatBehind number rank old new _ = KeepsSeats old new

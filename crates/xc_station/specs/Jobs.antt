@@ -68,6 +68,7 @@ blocks_of jobs = map (λ job. job.block) jobs
 -- the outcome of a transaction that ends in this phase, with the ends of its records and of its late calls
 abbrev pub outcome_in : Phase → List Ending → List LateEnd → Outcome
 outcome_in (phase.Undoing c) records ends = Aborted (record { cause = c; records = records })
+-- only an undoing one aborts
 outcome_in _ records ends = Committed ends
 
 -- ---- the rows of the table of turns

@@ -1,5 +1,5 @@
 -- A moment of a station, as one job sees it: what all jobs share, and the job itself in its place.
-use Rattle.std.specs.Prelude.{◌≡◌, ℕ, Bool, true, false, List, length, nat_lt, slice_get, slice_set, All, IsSome, IsTrue, Option}
+use Rattle.std.specs.Prelude.{◌≡◌, ℕ, Bool, true, false, List, length, nat_lt, slice_get, slice_set, IsSome, IsTrue, Option}
 use Rattle.std.specs.Prelude.{Result, Ok, Err}
 use Rattle.std.specs.declared.option.Option.TheVariants.{None, Some}
 use Rattle.xc_data.specs.Claims.{holding}
@@ -9,23 +9,23 @@ use Rattle.xc_data.specs.declared.entry.Cause.TheVariants as cause
 use Rattle.xc_data.specs.declared.entry.Mark.{Mark}
 use Rattle.xc_data.specs.declared.entry.Turn.{Turn}
 use Rattle.xc_data.specs.declared.entry.Turn.TheVariants as turn
+use Rattle.xc_data.specs.Step.{Step}
 use Rattle.xc_host.specs.Model.{HostModel}
 use Rattle.xc_script.specs.Ask.{next_body}
 use Rattle.xc_script.specs.Position.{Position, job_of}
 use Rattle.xc_text.specs.declared.script.Script.{Script}
-use Rattle.xc_wordlocks.specs.Table.{Table, Holds, KeepsOthers, claimed, mode_in, mode_of}
-use Rattle.xc_wordlocks.specs.Met.{IsNotMet}
+use Rattle.xc_wordlocks.specs.Table.{Table, Holds, KeepsOthers, mode_in, mode_of}
 use Rattle.xc_sentinel.specs.declared.seat.Seat.{Seat}
 use Rattle.xc_sentinel.specs.Seated.{Seats}
 use Rattle.xc_sentinel.specs.declared.sentinels.Sentinels.{Sentinels}
-use Rattle.xc_sentinel.specs.Seating.{KeepsSeats, SetsSeat, seat_in}
-use Rattle.xc_sentinel.specs.Asking.{IsBusy, IsConflict, mark_of}
+use Rattle.xc_sentinel.specs.Seating.{SetsSeat, seat_in}
+use Rattle.xc_sentinel.specs.Asking.{AreGranted, Claiming, IsBusy, IsConflict, mark_of}
 use Rattle.xc_story.specs.declared.phase.Phase.{Phase}
 use Rattle.xc_story.specs.declared.phase.Phase.TheVariants.{Running, Committing, Undoing}
 use Rattle.xc_story.specs.declared.rules.Rules.{Rules}
 use Rattle.xc_story.specs.Setting.{Setting}
 use Rattle.xc_story.specs.Seen.{SeenTx, SeenJob, Active, Now, actives, waiting}
-use Rattle.xc_story.specs.Rows.{IsActiveAt, IsSamePosition, MarkedTurn, RunningTurn}
+use Rattle.xc_story.specs.Rows.{IsActiveAt, IsSamePosition, MarkedTurn, Mover, RunningTurn}
 use Rattle.xc_story.specs.Holding.{AreApart}
 use Rattle.xc_station.specs.declared.calls.Shared.{Shared}
 use Rattle.xc_station.specs.declared.tx.Tx.{Tx}
@@ -117,38 +117,29 @@ pub record HasTx (s : Setting) (job : SeenJob) (place : Position) (tx : SeenTx) 
   pub same : IsSamePosition s job.place place
 
 -- ---- claims of a transaction
--- what a transaction claims, whether it may wait for a younger holder, and how long the journal is
-pub record Claiming : Type 0 where
-  pub claims : List Claim
-  pub patient : Bool
-  pub at : ℕ
-
-module _ (old new : Sentinels) (was is : Tx) where
+module _ (sentinels : Step Sentinels) (tx : Step Tx) where
   -- all is claimed
   pub record IsGranted (claims : List Claim) : Type 0 where
-    pub free : All (IsNotMet old.claims was.number) claims
-    pub row : (o : Object) → mode_of new.claims was.number o ≡ claimed (mode_of old.claims was.number o) claims o
-    pub others : KeepsOthers was.number old.claims new.claims
-    pub seats : KeepsSeats old.seats new.seats
-    pub held : seen_tx is ≡ record (seen_tx was) { held = holding was.held.items claims }
-    pub room : HasNoteRoom is
+    pub granted : AreGranted sentinels tx.old.number claims
+    pub held : seen_tx tx.new ≡ record (seen_tx tx.old) { held = holding tx.old.held.items claims }
+    pub room : HasNoteRoom tx.new
 
   -- a claim met a younger holder, which is marked, and there is patience: the transaction waits
   pub record IsToldToWait (c : Claiming) (object : Object) (holder : ℕ) : Type 0 where
-    pub busy : IsBusy old new c.claims was.number c.patient c.at object holder
-    pub still : seen_tx is ≡ seen_tx was
+    pub busy : IsBusy sentinels tx.old.number c object holder
+    pub still : seen_tx tx.new ≡ seen_tx tx.old
 
   -- one met a holder that isn't younger, or there is no patience: the transaction undoes
   pub record IsRefused (c : Claiming) : Type 0 where
     pub object : Object
     pub holder : ℕ
-    pub conflict : IsConflict old new c.claims was.number c.patient object holder
-    pub undoes : seen_tx is ≡ record (seen_tx was) { phase = Undoing (cause.Conflict object holder c.at) }
+    pub conflict : IsConflict sentinels tx.old.number c object holder
+    pub undoes : seen_tx tx.new ≡ record (seen_tx tx.old) { phase = Undoing (cause.Conflict object holder c.at) }
 
   -- memory was wanting: the transaction undoes
   pub record IsWanting : Type 0 where
-    pub same : new ≡ old
-    pub undoes : seen_tx is ≡ record (seen_tx was) { phase = Undoing cause.NoMemory }
+    pub same : sentinels.new ≡ sentinels.old
+    pub undoes : seen_tx tx.new ≡ record (seen_tx tx.old) { phase = Undoing cause.NoMemory }
 
   -- by the answer
   abbrev pub HasClaimed : Claiming → Result (Unit {0}) Turn → Type 0
@@ -172,19 +163,19 @@ counted answer job = job
 abbrev pub KeepsSeated : Seats → Seats → Type 0
 KeepsSeated old new = (n : ℕ) → seated_as (seat_in new n) ≡ seated_as (seat_in old n)
 
-module _ (s : Setting) (now new : Now) (at : ℕ) (job : SeenJob) where
+module _ (m : Mover) (new : Now) where
   -- its turn is a row of the table of turns, and the table of claims is what active transactions hold then
   pub record IsRow (answer : Turn) (claims : Table) : Type 0 where
     pub tx : SeenTx
-    pub doing : job.doing ≡ Active tx
-    pub row : RunningTurn s at now job tx answer new
+    pub doing : m.job.doing ≡ Active tx
+    pub row : RunningTurn m tx answer new
     pub table : IsTable claims new.jobs
 
   -- so it is where the transaction may be marked; and the seats are those of the active transactions then
   pub record IsRunningRow (answer : Turn) (sentinels : Sentinels) : Type 0 where
     pub tx : SeenTx
-    pub doing : job.doing ≡ Active tx
-    pub row : MarkedTurn s at now job tx (now.marks tx.number) answer new
+    pub doing : m.job.doing ≡ Active tx
+    pub row : MarkedTurn m tx (m.old.marks tx.number) answer new
     pub table : IsTable sentinels.claims new.jobs
     pub seats : AreSeats sentinels.seats new.jobs
 

@@ -3,6 +3,7 @@ use Rattle.std.specs.Prelude.{◌≡◌, ◌≢◌, ℕ, zero, suc, ◌==◌, �
 use Rattle.std.specs.Prelude.{length, slice_get, slice_set}
 use Rattle.std.specs.Prelude.{if◌then◌else◌, IsTrue, Option}
 use Rattle.std.specs.declared.option.Option.TheVariants.{None, Some}
+use Rattle.xc_data.specs.Step.{Step}
 use Rattle.xc_data.specs.declared.entry.Entry.{Entry}
 use Rattle.xc_data.specs.declared.entry.Event.{Event}
 use Rattle.xc_data.specs.declared.entry.Event.TheVariants.{Turned}
@@ -137,19 +138,22 @@ pub record WorksOn {H : Type 0} (model : HostModel H) (job : ℕ) (old new : See
   pub alone : AreAlone (now_of model old) (job - 1) → AreAlone (now_of model new) (job - 1)
 
 -- ---- a list of turns
-module _ {H : Type 0} (model : HostModel H) (job : ℕ) (old new : Seen H) where
-  -- a job that goes on takes its turn, a row of the table, and the opening and what is taken stays; one that doesn't is passed
-  -- over, and all but the events stays
-  abbrev pub IsStepOf : Bool → Type 0
-  IsStepOf true =
-      (answer : Turn) × IsTurn (setting_of model old) (job - 1) (now_of model old) answer (now_of model new) × KeepsOpening old new
-  IsStepOf false = new ≡ record old { events = new.events; last = new.last }
+-- the job takes its turn, a row of the table, and the opening and what is taken stays
+abbrev pub HasTurned : {H : Type 0} → HostModel H → ℕ → Step (Seen H) → Turn → Type 0
+HasTurned model job station answer =
+    IsTurn (setting_of model station.old) (job - 1) (now_of model station.old) answer (now_of model station.new)
+    × KeepsOpening station.old station.new
+
+-- a job that goes on does; one that doesn't is passed over, and all but the events stays
+abbrev pub IsStepOf : {H : Type 0} → HostModel H → ℕ → Step (Seen H) → Bool → Type 0
+IsStepOf model job station true = (answer : Turn) × HasTurned model job station answer
+IsStepOf model job station false = station.new ≡ record station.old { events = station.new.events; last = station.new.last }
 
 -- the jobs of these numbers do so one after another
 abbrev pub TakeTurns : {H : Type 0} → HostModel H → List ℕ → Seen H → Seen H → Type 0
 TakeTurns model [] old new = new ≡ old
 TakeTurns {H = H} model (job ∷ jobs) old new =
-    (next : Seen H) × IsStepOf model job old next (live_at old.jobs job) × TakeTurns model jobs next new
+    (next : Seen H) × IsStepOf model job (record { old = old; new = next }) (live_at old.jobs job) × TakeTurns model jobs next new
 
 -- ---- events
 -- one event more
@@ -164,12 +168,12 @@ pub record IsEvent {H : Type 0} (old new : Seen H) (event : Event) : Type 0 wher
   pub count : new.events ≡ (old.events + 1) % 18446744073709551616
   pub last : new.last ≡ Some event
 
--- a job that goes on takes its turn, and the opening and what is taken stays; for one that doesn't nothing is done
-abbrev pub IsTried : {H : Type 0} → HostModel H → ℕ → Seen H → Seen H → Bool → Option Turn → Type 0
-IsTried model job old new true (Some answer) =
-    IsTurn (setting_of model old) (job - 1) (now_of model old) answer (now_of model new) × KeepsOpening old new
-IsTried model job old new false None = new ≡ noted old (Turned job None)
-IsTried model job old new _ _ = ⊥
+-- a job that goes on takes its turn; for one that doesn't nothing is done
+abbrev pub IsTried : {H : Type 0} → HostModel H → ℕ → Step (Seen H) → Bool → Option Turn → Type 0
+IsTried model job station true (Some answer) = HasTurned model job station answer
+IsTried model job station false None = station.new ≡ noted station.old (Turned job None)
+IsTried model job station true None = ⊥
+IsTried model job station false (Some answer) = ⊥
 
 -- what passes know of a station
 abbrev pub meaning_of : {H : Type 0} → Meaning (Seen H)

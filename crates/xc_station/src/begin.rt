@@ -3,7 +3,7 @@ ghost use Rattle.std.specs.Prelude.{OnOk, OnErr};
 ghost use Rattle.xc_data.specs.declared.entry.Turn.TheVariants as PlainTurn;
 ghost use Rattle.xc_sentinel.specs.Seating.{KeepsSeats, SetsSeat, seat_in};
 ghost use Rattle.xc_story.specs.Seen.{Now, Idle, begun_count, failures, rank_of, with_job};
-ghost use Rattle.xc_story.specs.Rows.{IdleTurn, IsReady, IsSpent, NamesLast};
+ghost use Rattle.xc_story.specs.Rows.{IdleTurn, IsReady, IsSpent, NamesLast, mover};
 ghost use Rattle.xc_story.specs.Setting.{Setting, setting};
 ghost use Rattle.xc_station.specs.Beginning.{IsDone, IsHalted, IsNamedLast, IsSeatBehind, IsStopped, WaitsOnly};
 ghost use Rattle.xc_station.specs.Jobs.{seen_job};
@@ -181,7 +181,7 @@ pub fn begin(
     ensures row { (tells : Bool) (now : Now) (at : ℕ) → HasBegun now (length journal.old.items) active
         → AreSeats sentinels.old.seats now.jobs
         → now.marks ≡ marks_of sentinels.old.seats
-        → IdleTurn (setting script.now rules.now tells) at now (seen_job job.old) result
+        → IdleTurn (mover (setting script.now rules.now tells) at now (seen_job job.old)) result
         (record (with_job now at (seen_job job.new)) { marks = marks_of sentinels.new.seats }) }
 {
     let entered = journal.len();

@@ -6,7 +6,7 @@ ghost use Rattle.xc_script.specs.Position.{walk_of, IsSettled};
 ghost use Rattle.xc_txmem.specs.Overlay.{overlaid, AreWithin};
 ghost use Rattle.xc_data.specs.declared.private.Private.{Private as PlainPrivate};
 ghost use Rattle.xc_world.specs.After.{IsMeAfter};
-ghost use Rattle.xc_world.specs.Late.{is_late};
+ghost use Rattle.xc_data.specs.Calls.{is_late};
 ghost use Rattle.xc_story.specs.WordCalls.{is_word_call, word_reply, words_after};
 ghost use Rattle.xc_story.specs.Rows.{IsSameBegin, is_built, stored_by};
 ghost use Rattle.xc_station.specs.Acting.{AreReadyFor, HasActed, MayGo, acting};
@@ -100,6 +100,7 @@ fn act<H: Host>(
         Call::XRename { from, to } => x_rename(host, undo, from.value(), to.value()),
         Call::XUnlink { name, .. } => x_unlink(late, name.value()),
         Call::XSync { h, .. } => x_sync(late, me, *h),
+        // The contract leaves no other call.
         _ => unreachable!(),
     }
 }
@@ -147,6 +148,7 @@ fn handle_in(reply: &Reply) -> Option<u16>
 {
     match reply {
         Reply::Made(h) => Some(*h),
+        // No other reply of a call that is built gives one.
         _ => None,
     }
 }

@@ -87,6 +87,7 @@ fn cause_of(tx: &Tx) -> Cause
 {
     match tx.phase {
         Phase::Undoing(cause) => cause,
+        // The contract leaves no other phase.
         _ => unreachable!(),
     }
 }

@@ -9,7 +9,7 @@ ghost use Rattle.xc_story.specs.declared.rules.Rules.{Rules as PlainRules};
 ghost use Rattle.xc_story.specs.Seen.{SeenJob, Now, Active, revoked};
 ghost use Rattle.xc_data.specs.declared.object.Object.{Object};
 ghost use Rattle.xc_story.specs.Setting.{setting};
-ghost use Rattle.xc_story.specs.Rows.{with_tx};
+ghost use Rattle.xc_story.specs.Rows.{with_tx, mover};
 ghost use Rattle.xc_station.specs.Acting.{AreReadyFor, MayGo};
 ghost use Rattle.xc_station.specs.Jobs.{begun_of, seen_job, seen_tx};
 ghost use Rattle.xc_station.specs.Moments.{AreTerms, CanRun, HasClaimed, HasTx, IsAt, IsRow, IsRunningRow, KeepsSeated, counted};
@@ -68,7 +68,8 @@ fn claim<H: Host>(
 ) -> Result<(), Turn>
     requires count { length shared.old.words ≤ 4096 }
     ensures same { (shared.new.host ≡ shared.old.host) × (shared.new.words ≡ shared.old.words) }
-    ensures claimed { HasClaimed shared.old.sentinels shared.new.sentinels tx.old tx.new
+    ensures claimed { HasClaimed (record { old = shared.old.sentinels; new = shared.new.sentinels })
+        (record { old = tx.old; new = tx.new })
         (record { claims = claims_of call.now tx.old.me.value (length shared.old.words); patient = terms.patient; at = terms.at }) result }
     ensures begun { begun_of tx.new ≡ begun_of tx.old }
 {
@@ -120,7 +121,7 @@ fn try_call<H: Host>(
     ensures begun { begun_of tx.new ≡ begun_of tx.old }
     ensures row { (rules : PlainRules) (now : Now) (at : ℕ) (job : SeenJob) → let s = setting script.now rules H.model.tells in
         IsAt H.model shared.old now at job → HasTx s job place.old (seen_tx tx.old) → AreTerms rules now job terms.patient terms.at
-        → IsRow s now (moved H.model shared.new (counted result (with_tx job place.new (seen_tx tx.new))) now at) at job result
+        → IsRow (mover s at now job) (moved H.model shared.new (counted result (with_tx job place.new (seen_tx tx.new))) now at) result
         shared.new.sentinels.claims }
 {
     if let Err(turn) = claim(alloc, shared, terms, tx, &call) {
@@ -158,7 +159,7 @@ fn go<H: Host>(
     ensures row { (rules : PlainRules) (now : Now) (at : ℕ) (job : SeenJob) → let s = setting script.now rules H.model.tells in
         IsAt H.model shared.old now at job → job.doing ≡ Active (seen_tx tx.old) → job.place ≡ place.old
         → AreTerms rules now job terms.patient terms.at
-        → IsRow s now (moved H.model shared.new (counted result (with_tx job place.new (seen_tx tx.new))) now at) at job result
+        → IsRow (mover s at now job) (moved H.model shared.new (counted result (with_tx job place.new (seen_tx tx.new))) now at) result
         shared.new.sentinels.claims }
 {
     match place.ask(script) {
@@ -235,7 +236,8 @@ pub fn run<H: Host>(
     ensures block { job.new.block ≡ job.old.block }
     ensures row { (now : Now) (at : ℕ) → let s = setting script.now rules.now H.model.tells in
         IsAt H.model shared.old now at (seen_job job.old) → length now.journal ≡ entered
-        → IsRunningRow s now (moved H.model shared.new (seen_job job.new) now at) at (seen_job job.old) result shared.new.sentinels }
+        → IsRunningRow (mover s at now (seen_job job.old)) (moved H.model shared.new (seen_job job.new) now at) result
+        shared.new.sentinels }
 {
     if let Some(mark) = shared.sentinels.doomed(job.tx.number) {
         let answer = revoke(&mut job.tx, &mark);

@@ -13,7 +13,7 @@ use xc_host::Host;
 fn step<H: Host>(station: &mut Station<H>, job: u32) -> bool
     ensures goes { GoesOn station.old station.new }
     ensures works { WorksOn H.model job station.old station.new }
-    ensures step { IsStepOf H.model job station.old station.new (live_at station.old.jobs job) }
+    ensures step { IsStepOf H.model job (record { old = station.old; new = station.new }) (live_at station.old.jobs job) }
     ensures falls { result ≡ true → turns_of H.model station.new < turns_of H.model station.old }
     ensures still { result ≡ false → (station.new ≡ station.old) × (live_at station.old.jobs job ≡ false) }
 {

@@ -4,7 +4,7 @@ use xc_journal::Journal;
 use xc_text::Script;
 
 /// What a station was started with.
-#[derive(Debug, Drop)]
+#[derive(Drop)]
 pub struct Opening {
     pub script: Script,
     /// The host's count of faults then.
@@ -12,14 +12,14 @@ pub struct Opening {
 }
 
 /// A host that a station was not started over, as it was, and why.
-#[derive(Debug, Drop)]
+#[derive(Drop)]
 pub struct NotStarted<H> {
     pub host: H,
     pub why: OpenErr,
 }
 
 /// What a whole run leaves.
-#[derive(Debug, Drop)]
+#[derive(Drop)]
 pub struct End<H> {
     pub host: H,
     pub opening: Opening,

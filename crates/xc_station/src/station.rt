@@ -1,5 +1,5 @@
 ghost use Rattle.std.specs.Prelude.{◌≡◌, ◌<◌, ◌≤◌, ◌-◌, ◌+◌, ℕ, length, [], ◌&&◌, not, true, false};
-ghost use Rattle.std.specs.Prelude.{All, IfOk, IfErr, map, sum_by, IsTrue, IsNone, MatchOption, Some};
+ghost use Rattle.std.specs.Prelude.{All, IfOk, IfErr, map, sum_by, IsTrue, IsNone, MatchOption, Some, slice_get};
 ghost use Rattle.xc_data.specs.Counts.{RisesBy};
 ghost use Rattle.xc_data.specs.Faults.{entry_faults};
 ghost use Rattle.xc_data.specs.Limits.{KeepsLimits};
@@ -358,7 +358,7 @@ impl<H: Host> Station<H> {
 
     /// What `turn` does and answers where the job is live; None exactly where it isn't, and then nothing but the events changes.
     pub fn try_turn(&mut self, job: u32) -> Option<Turn>
-        ensures tried { IsTried H.model job self.old self.new (live_at self.old.jobs job) result }
+        ensures tried { IsTried H.model job (record { old = self.old; new = self.new }) (live_at self.old.jobs job) result }
         ensures event { IsEvent self.old self.new (Turned job result) }
     {
         if self.live(job) {
@@ -416,14 +416,15 @@ impl<H: Host> Chronicle for Station<H> {
     }
 }
 
-// A job of a job block, at the begin of it.
-fn opened_job(alloc: Global, script: &Script, block: Ident) -> Result<Job, NoMemory>
-    requires { IsScript script.now }
+// The job of the job block at this place, at the begin of it.
+fn opened_job(alloc: Global, script: &Script, at: usize, block: Ident) -> Result<Job, NoMemory>
+    requires script { IsScript script.now }
+    requires block { slice_get script.now.outline.jobs at ≡ Some block }
     ensures { IfOk result (λ job. seen_job job ≡ opened_job script.now block) }
 {
     Ok(Job {
         block,
-        place: JobState::new(alloc, script, block)?,
+        place: JobState::new(alloc, script, at)?,
         attempts: None,
         busy: 0,
         activity: Activity::Idle,
@@ -437,8 +438,8 @@ fn opened_jobs(alloc: Global, script: &Script) -> Result<Vec<Job>, NoMemory>
     ensures { IfOk result (λ jobs. seen_jobs jobs.items ≡ map (opened_job script.now) script.now.outline.jobs) }
 {
     let mut jobs = Vec::with_capacity(alloc, script.outline().jobs.len())?;
-    for block in script.outline().jobs.as_slice() {
-        jobs.push(opened_job(alloc, script, *block)?)?;
+    for (at, block) in script.outline().jobs.as_slice().iter().enumerate() {
+        jobs.push(opened_job(alloc, script, at, *block)?)?;
     }
     Ok(jobs)
 }

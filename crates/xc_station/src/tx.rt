@@ -56,6 +56,7 @@ fn outcome_of(phase: &Phase, undo: Stack, late: Late) -> Outcome
             cause: *cause,
             records: undo.records(),
         }),
+        // Only an undoing one aborts.
         _ => Outcome::Committed {
             late: late.into_ends(),
         },

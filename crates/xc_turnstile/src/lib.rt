@@ -11,8 +11,3 @@ pub use chronicle::Chronicle;
 pub use pair::enter_two;
 pub use turnstile::{Entered, Hold, Pass, Turnstile};
 pub use view::{Origin, View};
-
-#[cfg(test)]
-mod notes;
-#[cfg(test)]
-mod tests;

@@ -2,7 +2,7 @@ use Rattle.std.proofs.Common.{◌≡◌, ℕ, true, Some, refl, subst, sym, ap, 
 use Rattle.xc_sentinel.specs.Seating.{seat_in}
 use Rattle.xc_story.specs.Setting.{setting}
 use Rattle.xc_story.specs.Seen.{SeenTx, SeenJob}
-use Rattle.xc_story.specs.Rows.{with_tx}
+use Rattle.xc_story.specs.Rows.{with_tx, mover}
 use Rattle.xc_data.specs.declared.entry.Turn.{Turn}
 use Rattle.xc_station.specs.declared.calls.Shared.{Shared}
 use Rattle.xc_station.specs.Jobs.{seen_job, seen_tx}
@@ -27,7 +27,8 @@ returns-in-Some-clause-row g c now at here journal =
     subst (λ (n : ℕ). seated_as (seat_in shared.sentinels.seats n) ≡ Some (job.tx.rank, true)
     → seated_as (seat_in c.settle.new.sentinels.seats n) ≡ Some (job.tx.rank, runs new.phase)) number (c.settle.ensures.own job.tx.rank)
     (its_rank model s shared now at (seen_job job) (seen_tx job.tx) here doing running) in
-    subst (λ (a : Turn). IsRunningRow s now (moved model shared' (seen_job (record job { tx = new })) now at) at (seen_job job) a c.settle.new.sentinels)
+    subst (λ (a : Turn).
+    IsRunningRow (mover s at now (seen_job job)) (moved model shared' (seen_job (record job { tx = new })) now at) a c.settle.new.sentinels)
     (sym c.revoke-answer.ensures.answer)
     (revoked_row model s shared now at (seen_job job) (seen_tx job.tx) here doing shared' (seen_job (record job { tx = new }))
     (λ n ne. c.settle.ensures.others n (λ e. ne (e ∙ number)))
@@ -49,7 +50,7 @@ returns-clause-row g c now at here journal =
     let gone = counted answer (with_tx (seen_job job) c.go-answer.new.place (seen_tx new)) in
     let behind : gone ≡ seen_job c.count_wait.new.job =
     ap (counted answer) (moves_on job was.tx c.go-answer.new.place new was.doing c.go-answer.ensures.begun) ∙ sym c.count_wait.ensures.counted in
-    subst (λ (j : SeenJob). IsRunningRow s now (moved model shared' j now at) at (seen_job job) answer c.settle-2.new.sentinels) behind
+    subst (λ (j : SeenJob). IsRunningRow (mover s at now (seen_job job)) (moved model shared' j now at) answer c.settle-2.new.sentinels) behind
     (gone_row model s c.args.shared.now now at (seen_job job) (seen_tx job.tx) here doing shared' mid gone answer
     (sym c.in_default.is ∙ c.doomed.ensures)
     (c.go-answer.ensures.row c.args.rules.now now at (seen_job job) here doing refl (record { patience = refl; entered = journal }))

@@ -19,7 +19,7 @@ loop-job-preserved g c =
     let row = subst (λ s. IsTurn (setting_of model s) (job - 1) (now_of model s) c.turn.result (now_of model new)) same c.turn.ensures.row in
     let fell = subst (λ s. turns_of model new < turns_of model s) same c.turn.ensures.falls in
     let goes = turn_goes model job old new c.turn.result kept row changes in
-    let step = subst (IsStepOf model job old new) (sym next.live) (c.turn.result, row, kept) in
+    let step = subst (IsStepOf model job (record { old = old; new = new })) (sym next.live) (c.turn.result, (row, kept)) in
     let low = live_within old.jobs job next.live in
     let above = next.above in
     let count = goes.count in

@@ -13,5 +13,5 @@ returns-clause-works g c =
 
 pub returns-clause-step : goal.returns-clause-step
 returns-clause-step g c =
-    subst (IsStepOf g.H.Host.model c.args.job c.args.station.now c.turn.new.self) (sym (sym c.live.ensures ∙ c.if-not-live.false))
-    (c.turn.result, c.turn.ensures.row, c.turn.ensures.same)
+    subst (IsStepOf g.H.Host.model c.args.job (record { old = c.args.station.now; new = c.turn.new.self })) (sym (sym c.live.ensures ∙ c.if-not-live.false))
+    (c.turn.result, (c.turn.ensures.row, c.turn.ensures.same))
