@@ -1,0 +1,37 @@
+mod claims;
+mod compensate;
+mod data;
+mod deferred;
+mod edge;
+mod file;
+mod journal;
+mod machine;
+mod memhost;
+mod sentinels;
+mod testhost;
+mod words;
+
+use std::alloc::Global;
+use xc_data::{Kind, Name, NoMemory, Num};
+use xc_testhost::{Asked, TestHost};
+
+// The file `a` of a host for tests.
+const FILE: Num = Num { tx: 0, k: 0 };
+
+fn name(bytes: &[u8]) -> Result<Name, NoMemory> {
+    Name::new(bytes).ok_or(NoMemory)
+}
+
+// A host with a file of these bytes, at most 65,536.
+fn host_of(alloc: Global, bytes: &[u8]) -> Result<TestHost, NoMemory> {
+    TestHost::new(alloc, bytes, bytes.len().min(65536) as u32)
+}
+
+// The calls that there were are of these kinds, one by one.
+fn are_of(log: &[Asked], kinds: &[Kind]) -> bool {
+    log.len() == kinds.len()
+        && log
+            .iter()
+            .zip(kinds)
+            .all(|(asked, kind)| asked.kind == *kind)
+}

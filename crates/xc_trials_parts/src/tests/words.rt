@@ -1,0 +1,18 @@
+use std::test::Fail;
+use xc_txmem::{Words, WriteSet};
+
+#[test]
+fn stores_wait_until_they_are_applied(rt: HostRuntime) -> Result<(), Fail> {
+    let mut words = Words::new(rt.alloc(), &[3, 4, 5])?;
+    assert_eq!(rt; words.count(), 3);
+    let mut writes = WriteSet::new(rt.alloc());
+    writes.store(1, 40)?;
+    writes.store(1, 41)?;
+    assert_eq!(rt; words.get(1), 4);
+    assert_eq!(rt; writes.load(&words, 1), 41);
+    assert_eq!(rt; writes.load(&words, 2), 5);
+    writes.apply(&mut words);
+    assert_eq!(rt; words.get(0), 3);
+    assert_eq!(rt; words.get(1), 41);
+    Ok(())
+}

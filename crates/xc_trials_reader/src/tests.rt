@@ -1,3 +1,0 @@
-mod script;
-mod settings;
-mod text;

@@ -1,0 +1,6 @@
+mod app;
+mod notes;
+mod pace;
+mod print;
+mod turnstile;
+mod workers;

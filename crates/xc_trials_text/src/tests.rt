@@ -1,2 +1,0 @@
-mod app;
-mod print;
