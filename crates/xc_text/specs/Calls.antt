@@ -1,5 +1,6 @@
 -- Lines that are calls: the word that one begins with, and the shape of what stands behind it.
-use Rattle.std.specs.Prelude.{ℕ, List, [], ◌∷◌, codes, Option, Some, None, Result, Err}
+use Rattle.std.specs.Prelude.{ℕ, List, map, Option, Some, None, Result, Err}
+use Rattle.xc_text.specs.declared.calls.TheConstants.{CALL_KINDS}
 use Rattle.xc_text.specs.declared.calls.CallKind.{CallKind}
 use Rattle.xc_text.specs.declared.calls.CallKind.TheVariants.{Word, Name, Handle}
 use Rattle.xc_text.specs.declared.calls.WordCall.{WordCall}
@@ -21,23 +22,9 @@ use Rattle.xc_tokens.specs.ByWord.{Entry}
 use Rattle.xc_tokens.specs.Tokens.{Lexeme}
 use Rattle.xc_tokens.specs.Words.{ident, name}
 
--- the words of all calls
+-- the words of all calls: the reader's own table
 abbrev pub call_kinds : List (Entry CallKind)
-call_kinds =
-    (codes "load", Word word.Load)
-    ∷ (codes "store", Word word.Store)
-    ∷ (codes "x_open", Name named.Open)
-    ∷ (codes "x_create", Name named.Create)
-    ∷ (codes "x_rename", Name named.Rename)
-    ∷ (codes "x_unlink", Name named.Unlink)
-    ∷ (codes "x_read", Handle handled.Read)
-    ∷ (codes "x_write_ovr", Handle handled.Overwrite)
-    ∷ (codes "x_write_seq", Handle handled.Append)
-    ∷ (codes "x_seek", Handle handled.Seek)
-    ∷ (codes "x_len", Handle handled.Length)
-    ∷ (codes "x_close", Handle handled.Close)
-    ∷ (codes "x_sync", Handle handled.Sync)
-    ∷ []
+call_kinds = map (λ entry. (entry.0.now, entry.1)) CALL_KINDS
 
 -- a name or a handle, and nothing or a variable or a slot
 abbrev pub NameAnd : Type 0

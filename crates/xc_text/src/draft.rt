@@ -22,7 +22,7 @@ use std::alloc::Global;
 use std::marker::Model;
 use std::mem;
 use xc_data::{FaultList, Ident, Items, NoMemory, Outline, Prologue, WordList};
-use xc_tokens::{IdentWord, Stop, Token, Why, are_line_bytes, read_tokens, spells};
+use xc_tokens::{IdentWord, Stop, TextLine, Token, Why, read_tokens, spells};
 
 mod opening;
 
@@ -284,19 +284,19 @@ impl Draft {
         }
     }
 
-    /// Reads one more line, without its LF. The tokens are those of the line before, and then its own.
+    /// Reads one more line. The tokens are those of the line before, and then its own.
     pub fn read<'a>(
         &mut self,
         alloc: Global,
         tokens: &mut Vec<Token<'a>>,
-        bytes: &'a [u8],
+        line: &TextLine<'a>,
     ) -> Result<(), Stop>
-        ensures { Gives (λ _. self.new) result (after_bytes self.old bytes.now) }
+        ensures { Gives (λ _. self.new) result (after_bytes self.old line.now) }
     {
-        if !are_line_bytes(bytes) {
+        if !line.is_clean() {
             return Err(Stop::Refused(Why::BadByte));
         }
-        read_tokens(alloc, tokens, bytes)?;
+        read_tokens(alloc, tokens, line.bytes())?;
         self.read_line(alloc, tokens.as_slice())
     }
 }

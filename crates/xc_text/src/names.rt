@@ -1,4 +1,4 @@
-ghost use Rattle.std.specs.Prelude.{◌≡◌, IfOk, OnOk};
+ghost use Rattle.std.specs.Prelude.{◌≡◌, ◌++◌, ◌∷◌, [], length, IfOk, OnOk};
 ghost use Rattle.xc_text.specs.Places.{place_of, taken, variable, slot};
 ghost use Rattle.xc_text.specs.Said.{no_names};
 ghost use Rattle.xc_text.specs.Steps.{are_few};
@@ -50,18 +50,26 @@ fn place_of(names: &[Ident], name: &IdentWord) -> Option<usize>
     names.iter().position(|other| name.spells(other))
 }
 
+// A name that is new takes the next place. It is the rare case.
+#[cold]
+fn add(names: &mut IdentList, name: &IdentWord) -> Result<usize, NoMemory>
+    ensures names { OnOk result (names.new ≡ names.old ++ name.now ∷ []) }
+    ensures at { IfOk result (λ at. at ≡ length names.old) }
+{
+    let at = names.len();
+    names.push(name.ident())?;
+    Ok(at)
+}
+
 // The place of a name, which takes the next one where it has none.
+#[inline(always)]
 fn take(names: &mut IdentList, name: &IdentWord) -> Result<usize, NoMemory>
     ensures names { OnOk result (names.new ≡ (taken names.old name.now).0) }
     ensures at { IfOk result (λ at. at ≡ (taken names.old name.now).1) }
 {
     match place_of(names.as_slice(), name) {
         Some(at) => Ok(at),
-        None => {
-            let at = names.len();
-            names.push(name.ident())?;
-            Ok(at)
-        }
+        None => add(names, name),
     }
 }
 

@@ -36,7 +36,7 @@ fn read_lines(alloc: Global, bytes: &[u8]) -> Result<Script, ParseErr>
     while !rest.is_empty() {
         let (line, behind) = first_line(rest);
         lines += 1;
-        match draft.read(alloc, &mut tokens, line) {
+        match draft.read(alloc, &mut tokens, &line) {
             Ok(()) => {}
             Err(Stop::Refused(why)) => return Err(ParseErr::Refused { line: lines, why }),
             Err(Stop::NoMemory) => return Err(ParseErr::NoMemory),

@@ -8,7 +8,7 @@ ghost use Rattle.xc_text.specs.Places.{placed_term_into, placed_written, placed_
 use crate::names::Names;
 use crate::script::{CallForm, Data, Expression, Item, Place, Statement, Term, Test};
 use std::alloc::Global;
-use xc_data::{Items, NoMemory};
+use xc_data::{Boxed, Items, Name, NoMemory};
 use xc_tokens::IdentWord;
 
 fn place_term(names: &mut Names, term: &Term<IdentWord>) -> Result<Term<Place>, NoMemory>
@@ -118,6 +118,18 @@ fn place_written(
     Ok((handle, items))
 }
 
+fn place_load(
+    names: &mut Names,
+    at: &Term<IdentWord>,
+    into: &Option<IdentWord>,
+) -> Result<CallForm<Place>, NoMemory>
+    ensures names { OnOk result (names.new ≡ (placed_form names.old (call.Load at.now into.now)).0) }
+    ensures placed { IfOk result (λ placed. placed ≡ (placed_form names.old (call.Load at.now into.now)).1) }
+{
+    let (at, into) = place_term_into(names, at, into)?;
+    Ok(CallForm::Load { at, into })
+}
+
 fn place_store(
     names: &mut Names,
     at: &Term<IdentWord>,
@@ -129,6 +141,61 @@ fn place_store(
     let at = place_term(names, at)?;
     let value = place_expression(names, value)?;
     Ok(CallForm::Store { at, value })
+}
+
+fn place_open(
+    alloc: Global,
+    names: &mut Names,
+    name: &Boxed<Name>,
+    into: &Option<IdentWord>,
+) -> Result<CallForm<Place>, NoMemory>
+    ensures names { OnOk result (names.new ≡ (placed_form names.old (call.Open name.now into.now)).0) }
+    ensures placed { IfOk result (λ placed. placed ≡ (placed_form names.old (call.Open name.now into.now)).1) }
+{
+    let into = place_target(names, into)?;
+    let name = name.copied(alloc)?;
+    Ok(CallForm::Open { name, into })
+}
+
+fn place_create(
+    alloc: Global,
+    names: &mut Names,
+    name: &Boxed<Name>,
+    into: &Option<IdentWord>,
+) -> Result<CallForm<Place>, NoMemory>
+    ensures names { OnOk result (names.new ≡ (placed_form names.old (call.Create name.now into.now)).0) }
+    ensures placed { IfOk result (λ placed. placed ≡ (placed_form names.old (call.Create name.now into.now)).1) }
+{
+    let into = place_target(names, into)?;
+    let name = name.copied(alloc)?;
+    Ok(CallForm::Create { name, into })
+}
+
+// It names no variable.
+fn place_rename(
+    alloc: Global,
+    from: &Boxed<Name>,
+    to: &Boxed<Name>,
+) -> Result<CallForm<Place>, NoMemory>
+    ensures { IfOk result (λ placed. placed ≡ call.Rename from.now to.now) }
+{
+    let from = from.copied(alloc)?;
+    let to = to.copied(alloc)?;
+    Ok(CallForm::Rename { from, to })
+}
+
+fn place_unlink(
+    alloc: Global,
+    names: &mut Names,
+    name: &Boxed<Name>,
+    slot: &Option<IdentWord>,
+) -> Result<CallForm<Place>, NoMemory>
+    ensures names { OnOk result (names.new ≡ (placed_form names.old (call.Unlink name.now slot.now)).0) }
+    ensures placed { IfOk result (λ placed. placed ≡ (placed_form names.old (call.Unlink name.now slot.now)).1) }
+{
+    let slot = place_ending(names, slot)?;
+    let name = name.copied(alloc)?;
+    Ok(CallForm::Unlink { name, slot })
 }
 
 fn place_read(
@@ -143,6 +210,32 @@ fn place_read(
     let handle = names.variable(handle)?;
     let (n, into) = place_term_into(names, n, into)?;
     Ok(CallForm::Read { handle, n, into })
+}
+
+fn place_overwrite(
+    alloc: Global,
+    names: &mut Names,
+    handle: &IdentWord,
+    items: &Data<IdentWord>,
+) -> Result<CallForm<Place>, NoMemory>
+    ensures names { OnOk result (names.new ≡ (placed_form names.old (call.Overwrite handle.now items.now)).0) }
+    ensures placed { IfOk result (λ placed. placed ≡ (placed_form names.old (call.Overwrite handle.now items.now)).1) }
+{
+    let (handle, data) = place_written(alloc, names, handle, items)?;
+    Ok(CallForm::Overwrite { handle, data })
+}
+
+fn place_append(
+    alloc: Global,
+    names: &mut Names,
+    handle: &IdentWord,
+    items: &Data<IdentWord>,
+) -> Result<CallForm<Place>, NoMemory>
+    ensures names { OnOk result (names.new ≡ (placed_form names.old (call.Append handle.now items.now)).0) }
+    ensures placed { IfOk result (λ placed. placed ≡ (placed_form names.old (call.Append handle.now items.now)).1) }
+{
+    let (handle, data) = place_written(alloc, names, handle, items)?;
+    Ok(CallForm::Append { handle, data })
 }
 
 fn place_seek(
@@ -171,6 +264,14 @@ fn place_length(
     Ok(CallForm::Length { handle, into })
 }
 
+fn place_close(names: &mut Names, handle: &IdentWord) -> Result<CallForm<Place>, NoMemory>
+    ensures names { OnOk result (names.new ≡ (placed_form names.old (call.Close handle.now)).0) }
+    ensures placed { IfOk result (λ placed. placed ≡ (placed_form names.old (call.Close handle.now)).1) }
+{
+    let handle = names.variable(handle)?;
+    Ok(CallForm::Close { handle })
+}
+
 fn place_sync(
     names: &mut Names,
     handle: &IdentWord,
@@ -193,46 +294,18 @@ fn place_form(
     ensures placed { IfOk result (λ placed. placed ≡ (placed_form names.old form.now).1) }
 {
     match form {
-        CallForm::Load { at, into } => {
-            let (at, into) = place_term_into(names, at, into)?;
-            Ok(CallForm::Load { at, into })
-        }
+        CallForm::Load { at, into } => place_load(names, at, into),
         CallForm::Store { at, value } => place_store(names, at, value),
-        CallForm::Open { name, into } => {
-            let into = place_target(names, into)?;
-            let name = name.copied(alloc)?;
-            Ok(CallForm::Open { name, into })
-        }
-        CallForm::Create { name, into } => {
-            let into = place_target(names, into)?;
-            let name = name.copied(alloc)?;
-            Ok(CallForm::Create { name, into })
-        }
-        CallForm::Rename { from, to } => {
-            let from = from.copied(alloc)?;
-            let to = to.copied(alloc)?;
-            Ok(CallForm::Rename { from, to })
-        }
-        CallForm::Unlink { name, slot } => {
-            let slot = place_ending(names, slot)?;
-            let name = name.copied(alloc)?;
-            Ok(CallForm::Unlink { name, slot })
-        }
+        CallForm::Open { name, into } => place_open(alloc, names, name, into),
+        CallForm::Create { name, into } => place_create(alloc, names, name, into),
+        CallForm::Rename { from, to } => place_rename(alloc, from, to),
+        CallForm::Unlink { name, slot } => place_unlink(alloc, names, name, slot),
         CallForm::Read { handle, n, into } => place_read(names, handle, n, into),
-        CallForm::Overwrite { handle, data } => {
-            let (handle, data) = place_written(alloc, names, handle, data)?;
-            Ok(CallForm::Overwrite { handle, data })
-        }
-        CallForm::Append { handle, data } => {
-            let (handle, data) = place_written(alloc, names, handle, data)?;
-            Ok(CallForm::Append { handle, data })
-        }
+        CallForm::Overwrite { handle, data } => place_overwrite(alloc, names, handle, data),
+        CallForm::Append { handle, data } => place_append(alloc, names, handle, data),
         CallForm::Seek { handle, to } => place_seek(names, handle, to),
         CallForm::Length { handle, into } => place_length(names, handle, into),
-        CallForm::Close { handle } => {
-            let handle = names.variable(handle)?;
-            Ok(CallForm::Close { handle })
-        }
+        CallForm::Close { handle } => place_close(names, handle),
         CallForm::Sync { handle, slot } => place_sync(names, handle, slot),
     }
 }

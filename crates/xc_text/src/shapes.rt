@@ -92,6 +92,7 @@ pub fn handle_alone<'a>(tokens: &[Token<'a>]) -> Result<IdentWord<'a>, Why>
 }
 
 /// `T`, `T -> V`
+#[inline(always)]
 pub fn term_into<'a>(
     tokens: &[Token<'a>],
 ) -> Result<(Term<IdentWord<'a>>, Option<IdentWord<'a>>), Why>

@@ -8,6 +8,7 @@ use xc_tokens::{
 };
 
 /// What a word in the place of a term means.
+#[inline(always)]
 pub fn term_word<'a>(word: &'a [u8]) -> Result<Term<IdentWord<'a>>, Why>
     ensures { result ≡ term_in word.now }
 {
@@ -19,6 +20,7 @@ pub fn term_word<'a>(word: &'a [u8]) -> Result<Term<IdentWord<'a>>, Why>
 }
 
 /// What stands in the place of a term.
+#[inline(always)]
 pub fn term<'a>(token: &Token<'a>) -> Result<Term<IdentWord<'a>>, Why>
     ensures { result ≡ term_of_token (lexeme token.now) }
 {
@@ -57,6 +59,7 @@ pub fn test(token: &Token) -> Result<Test, Why>
     }
 }
 
+#[inline(always)]
 fn two_terms<'a>(
     a: &Token<'a>,
     sign: &Token,
@@ -76,6 +79,7 @@ fn two_terms<'a>(
 }
 
 /// A term, or two with their sign.
+#[inline(always)]
 pub fn expression<'a>(tokens: &[Token<'a>]) -> Result<Expression<IdentWord<'a>>, Why>
     ensures { result ≡ expression_of (map lexeme tokens.now) }
 {

@@ -1,5 +1,7 @@
+pub mod Lanes
 pub mod LineCuts
 pub mod LiteralLemmas
+pub mod NumberLemmas
 pub mod Quotes
 pub mod TokenLists
 pub mod PlainBytes

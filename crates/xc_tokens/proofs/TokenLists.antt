@@ -1,14 +1,12 @@
 -- The first tokens of a line, one after another.
-use Rattle.std.proofs.Common.{◌≡◌, ℕ, ◌-◌, ◌<◌, ◌≤◌, zero, suc, List, [], ◌∷◌, ◌++◌, length, map, Some, None, Result, Ok, Err, refl, ap, sym, ◌∙◌, append_assoc}
+use Rattle.std.proofs.Common.{◌≡◌, ℕ, ◌-◌, ◌<◌, ◌≤◌, zero, suc, List, [], ◌∷◌, ◌++◌, length, Option, Some, None}
+use Rattle.std.proofs.Common.{Result, Ok, Err, refl, ap, sym, ◌∙◌, append_assoc}
 use Rattle.std.proofs.Common.{append-nil, arith, length-append}
-use Rattle.std.proofs.lemmas.List.{map-append}
-use Rattle.xc_tokens.specs.declared.token.Token.{Token}
 use Rattle.xc_tokens.specs.declared.why.Stop.{Stop}
 use Rattle.xc_tokens.specs.declared.why.Stop.TheVariants as stop
 use Rattle.xc_tokens.specs.declared.why.Why.{Why}
 use Rattle.xc_tokens.specs.Answers.{Stops, and_then, seen}
-use Rattle.xc_tokens.specs.Tokens.{Lexeme, past_blanks, token_at, and_others, first_tokens}
-use Rattle.xc_tokens.specs.Views.{lexeme}
+use Rattle.xc_tokens.specs.Tokens.{Lexeme, past_blanks, token_at, with_next, and_others, first_tokens}
 
 -- none is left
 no_more : (n : ℕ) (bs : List ℕ) → token_at (past_blanks bs) ≡ Ok None → first_tokens n bs ≡ Ok []
@@ -30,27 +28,77 @@ one_behind : (ts : List Lexeme) (t : Lexeme) (others : Result (List Lexeme) Why)
 one_behind ts t (Ok us) = ap Ok (append_assoc ts (t ∷ []) us)
 one_behind ts t (Err e) = refl
 
--- one token more of a line of so many bytes
-pub one_more : (n : ℕ) (tokens : List Token) (bs : List ℕ) (t : Token) (rest : List ℕ) (all : Result (List Lexeme) Why) →
-    length tokens < n → token_at (past_blanks bs) ≡ Ok (Some (lexeme t, rest)) →
-    seen (λ (us : List Lexeme). map lexeme tokens ++ us) (first_tokens (n - length tokens) bs) ≡ all →
-    seen (λ (us : List Lexeme). map lexeme (tokens ++ t ∷ []) ++ us) (first_tokens (n - length (tokens ++ t ∷ [])) rest) ≡ all
-one_more n tokens bs t rest all room is e =
-    let m : ℕ = n - length (tokens ++ t ∷ []) in
-    let fewer : suc m ≡ n - length tokens = rw length-append (omega arith) in
-    ap (λ ts. seen (λ (us : List Lexeme). ts ++ us) (first_tokens m rest)) (map-append lexeme tokens (t ∷ []))
-    ∙ one_behind (map lexeme tokens) (lexeme t) (first_tokens m rest)
-    ∙ ap (seen (λ (us : List Lexeme). map lexeme tokens ++ us)) (sym (one_token m bs (lexeme t) rest is))
-    ∙ ap (λ k. seen (λ (us : List Lexeme). map lexeme tokens ++ us) (first_tokens k bs)) fewer
+one_more : (n : ℕ) (ts : List Lexeme) (bs : List ℕ) (t : Lexeme) (rest : List ℕ) (all : Result (List Lexeme) Why) → length ts < n →
+    token_at (past_blanks bs) ≡ Ok (Some (t, rest)) → seen (λ (us : List Lexeme). ts ++ us) (first_tokens (n - length ts) bs) ≡ all →
+    seen (λ (us : List Lexeme). (ts ++ t ∷ []) ++ us) (first_tokens (n - length (ts ++ t ∷ [])) rest) ≡ all
+one_more n ts bs t rest all room is e =
+    let m : ℕ = n - length (ts ++ t ∷ []) in
+    let fewer : suc m ≡ n - length ts = rw length-append (omega arith) in
+    one_behind ts t (first_tokens m rest)
+    ∙ ap (seen (λ (us : List Lexeme). ts ++ us)) (sym (one_token m bs t rest is))
+    ∙ ap (λ k. seen (λ (us : List Lexeme). ts ++ us) (first_tokens k bs)) fewer
     ∙ e
 
+-- tokens, and what stands behind them where one more was read
+abbrev pub Next : Type 0
+Next = List Lexeme × Option (List ℕ)
+
+same_next : (p q : Next) → ◌≡◌ {A = Result Next Why} (Ok p) (Ok q) → (p.0 ≡ q.0) × (p.1 ≡ q.1)
+same_next p q e = let pair : p ≡ q = cc in (ap (λ (n : Next). n.0) pair, ap (λ (n : Next). n.1) pair)
+
+-- one token more of a line of so many bytes
+pub next_more : (n : ℕ) (ts us : List Lexeme) (bs rest : List ℕ) (all : Result (List Lexeme) Why) → length ts < n →
+    Ok (us, Some rest) ≡ seen (with_next ts) (token_at (past_blanks bs)) →
+    seen (λ (vs : List Lexeme). ts ++ vs) (first_tokens (n - length ts) bs) ≡ all →
+    seen (λ (vs : List Lexeme). us ++ vs) (first_tokens (n - length us) rest) ≡ all
+next_more n ts us bs rest all room made e = by_next (token_at (past_blanks bs)) refl made
+  where
+    by_next : (next : Result (Option (Lexeme × List ℕ)) Why) → token_at (past_blanks bs) ≡ next → Ok (us, Some rest) ≡ seen (with_next ts) next →
+        seen (λ (vs : List Lexeme). us ++ vs) (first_tokens (n - length us) rest) ≡ all
+    by_next (Ok (Some (t, behind))) is made' =
+        let same = same_next (us, Some rest) (ts ++ t ∷ [], Some behind) made' in
+        let left : rest ≡ behind = cc in
+        rw (same.0, left) (one_more n ts bs t behind all room is e)
+    by_next (Ok None) is made' =
+        let none = (same_next (us, Some rest) (ts, None) made').1 in
+        cc
+    by_next (Err why) is made' = cc
+
+-- it is one more
+pub next_length : (ts us : List Lexeme) (rest : List ℕ) (next : Result (Option (Lexeme × List ℕ)) Why) →
+    Ok (us, Some rest) ≡ seen (with_next ts) next → length us ≡ suc (length ts)
+next_length ts us rest (Ok (Some (t, behind))) made =
+    let more = (same_next (us, Some rest) (ts ++ t ∷ [], Some behind) made).0 in
+    rw (more, length-append) (omega arith)
+next_length ts us rest (Ok None) made =
+    let none = (same_next (us, Some rest) (ts, None) made).1 in
+    cc
+next_length ts us rest (Err why) made = cc
+
 -- what stops at the next token stops at all of them
-pub stopped : (stops : Stop) (f : List Lexeme → List Lexeme) (n : ℕ) (bs : List ℕ) (all : Result (List Lexeme) Why) →
-    length bs ≤ n → seen f (first_tokens n bs) ≡ all → Stops stops (token_at (past_blanks bs)) → Stops stops all
-stopped stop.NoMemory f n bs all few e bad = tt
-stopped (stop.Refused why) f n bs all few e bad = sym e ∙ ap (seen f) (one_bad n bs why few bad)
+pub stopped : (stops : Stop) (ts : List Lexeme) (n : ℕ) (bs : List ℕ) (all : Result (List Lexeme) Why) →
+    length bs ≤ n → seen (λ (us : List Lexeme). ts ++ us) (first_tokens n bs) ≡ all →
+    Stops stops (seen (with_next ts) (token_at (past_blanks bs))) → Stops stops all
+stopped stop.NoMemory ts n bs all few e bad = tt
+stopped (stop.Refused why) ts n bs all few e bad = by_next (token_at (past_blanks bs)) refl bad
+  where
+    by_next : (next : Result (Option (Lexeme × List ℕ)) Why) → token_at (past_blanks bs) ≡ next → seen (with_next ts) next ≡ Err why → all ≡ Err why
+    by_next (Ok (Some p)) is bad' = cc
+    by_next (Ok None) is bad' = cc
+    by_next (Err other) is bad' =
+        let same : other ≡ why = cc in
+        sym e ∙ ap (seen (λ (us : List Lexeme). ts ++ us)) (one_bad n bs why few (is ∙ ap Err same))
 
 -- no token is left behind these
-pub ended : (ts : List Lexeme) (n : ℕ) (bs : List ℕ) (all : Result (List Lexeme) Why) →
-    seen (λ (us : List Lexeme). ts ++ us) (first_tokens n bs) ≡ all → token_at (past_blanks bs) ≡ Ok None → all ≡ Ok ts
-ended ts n bs all e none = sym e ∙ ap (seen (λ (us : List Lexeme). ts ++ us)) (no_more n bs none) ∙ ap Ok (append-nil ts)
+pub ended : (ts us : List Lexeme) (n : ℕ) (bs : List ℕ) (all : Result (List Lexeme) Why) →
+    seen (λ (vs : List Lexeme). ts ++ vs) (first_tokens n bs) ≡ all → Ok (us, None) ≡ seen (with_next ts) (token_at (past_blanks bs)) → all ≡ Ok us
+ended ts us n bs all e made = by_next (token_at (past_blanks bs)) refl made
+  where
+    by_next : (next : Result (Option (Lexeme × List ℕ)) Why) → token_at (past_blanks bs) ≡ next → Ok (us, None) ≡ seen (with_next ts) next → all ≡ Ok us
+    by_next (Ok (Some p)) is made' =
+        let some = (same_next (us, None) (ts ++ p.0 ∷ [], Some p.1) made').1 in
+        cc
+    by_next (Ok None) is made' =
+        let same = (same_next (us, None) (ts, None) made').0 in
+        sym e ∙ ap (seen (λ (vs : List Lexeme). ts ++ vs)) (no_more n bs is) ∙ ap Ok (append-nil ts ∙ sym same)
+    by_next (Err why) is made' = cc

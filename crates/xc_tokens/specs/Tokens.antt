@@ -1,6 +1,6 @@
 -- A line cut into tokens.
-use Rattle.std.specs.Prelude.{ℕ, zero, suc, ◌==◌, ◌||◌, Bool, not, List, [], ◌∷◌, length, take, drop, nat_le, ok_or, option_map, Option}
-use Rattle.std.specs.Prelude.{Some, None, Result, Ok, Err, if◌then◌else◌}
+use Rattle.std.specs.Prelude.{ℕ, zero, suc, ◌==◌, ◌||◌, Bool, not, List, [], ◌∷◌, ◌++◌, length, take, drop, nat_le, ok_or, option_map}
+use Rattle.std.specs.Prelude.{Option, Some, None, Result, Ok, Err, if◌then◌else◌}
 use Rattle.std.specs.List.{list_any, prefix_len}
 use Rattle.xc_tokens.specs.declared.why.Why.{Why}
 use Rattle.xc_tokens.specs.declared.why.Why.TheVariants.{BadLiteral}
@@ -68,6 +68,11 @@ token_at (b ∷ bs) =
     if b == 35 then Ok None
     else if b == 34 then seen Some (literal_from bs)
     else seen Some (ok_or (word_from b bs) BadLiteral)
+
+-- the tokens so far with the next one, and what stands behind that; these alone where none is left
+abbrev pub with_next : List Lexeme → Option (Lexeme × List ℕ) → List Lexeme × Option (List ℕ)
+with_next tokens (Some (next, behind)) = (tokens ++ next ∷ [], Some behind)
+with_next tokens None = (tokens, None)
 
 -- a token, and the others in what stands behind it
 abbrev pub and_others : (List ℕ → Result (List Lexeme) Why) → Option (Lexeme × List ℕ) → Result (List Lexeme) Why

@@ -13,7 +13,7 @@ mod token;
 mod why;
 mod words;
 
-pub use lines::{are_line_bytes, first_line};
+pub use lines::{TextLine, first_line};
 pub use literals::{are_literals, contents, is_within, repeated};
 pub use numbers::is_digit_byte;
 pub use reason::{beside, both};

@@ -1,4 +1,4 @@
-ghost use Rattle.std.specs.Prelude.{◌≡◌};
+ghost use Rattle.std.specs.Prelude.{◌≡◌, ◌+◌, ◌-◌, ◌*◌, ◌^◌, ◌<◌, IsTrue, SomeIff};
 ghost use Rattle.xc_tokens.specs.Numbers.{is_digit, number_of};
 
 use crate::limits::MOST_DIGITS;
@@ -10,6 +10,14 @@ pub fn is_digit_byte(b: u8) -> bool
     b.is_ascii_digit()
 }
 
+// The number of some digits and one more behind them.
+fn with_digit(value: u64, b: u8) -> Option<u64>
+    requires { IsTrue (is_digit b) }
+    ensures { SomeIff result (value * 10 + (b - 48) < 2 ^ 64) (value * 10 + (b - 48)) }
+{
+    value.checked_mul(10)?.checked_add((b - b'0') as u64)
+}
+
 /// The number that bytes spell.
 pub fn spelled_number(bytes: &[u8]) -> Option<u64>
     ensures { result ≡ number_of bytes.now }
@@ -17,15 +25,12 @@ pub fn spelled_number(bytes: &[u8]) -> Option<u64>
     if bytes.is_empty() || bytes.len() > MOST_DIGITS {
         return None;
     }
-    let mut value: u128 = 0;
+    let mut value: u64 = 0;
     for b in bytes {
         if !is_digit_byte(*b) {
             return None;
         }
-        value = value * 10 + (*b - b'0') as u128;
+        value = with_digit(value, *b)?;
     }
-    if value > u64::MAX as u128 {
-        return None;
-    }
-    Some(value as u64)
+    Some(value)
 }

@@ -1,10 +1,11 @@
-ghost use Rattle.std.specs.Prelude.{◌≡◌, false, ◌≤◌, ◌<◌, ◌+◌, ◌==◌, ◌∷◌, take, drop, length, map, option_map, ok_or, IfSome, IfOk};
+ghost use Rattle.std.specs.Prelude.{◌≡◌, false, not, ◌≤◌, ◌<◌, ◌+◌, ◌==◌, ◌||◌, ◌∷◌, take, drop, length, map, option_map, ok_or};
+ghost use Rattle.std.specs.Prelude.{IfSome, IfOk};
 ghost use Rattle.xc_tokens.specs.declared.why.Why.TheVariants.{BadLiteral};
-ghost use Rattle.xc_tokens.specs.Answers.{Gives};
+ghost use Rattle.xc_tokens.specs.Answers.{Gives, seen};
 ghost use Rattle.xc_tokens.specs.Quoted.{is_hex, is_escape, escaped, digit_value, hex_byte, literal_of, escape_of, hex_of};
 ghost use Rattle.xc_tokens.specs.Tokens.{Word, is_blank, past_blanks as behind_blanks, run_len as length_of_run};
 ghost use Rattle.xc_tokens.specs.Tokens.{unquoted_run_len, repeat_of, repeat_from};
-ghost use Rattle.xc_tokens.specs.Tokens.{literal_from, word_from, token_at, tokens_of};
+ghost use Rattle.xc_tokens.specs.Tokens.{literal_from, word_from, token_at, with_next, tokens_of};
 ghost use Rattle.xc_tokens.specs.Views.{behind_piece, lexeme};
 
 use crate::limits::{MOST_LITERAL_BYTES, MOST_REPEAT};
@@ -20,10 +21,34 @@ pub enum Token<'a> {
     Literal { bytes: Vec<u8>, repeat: u32 },
 }
 
+// Most bytes of a line are no blank, and the first test tells of them.
 fn is_blank_byte(b: u8) -> bool
     ensures { result ≡ is_blank b }
 {
+    if b > b' ' {
+        return false;
+    }
     b == b' ' || b == b'\t'
+}
+
+// A byte that a word goes on with: no blank and no quote. Of most bytes the first test tells.
+fn is_plain_byte(b: u8) -> bool
+    ensures { result ≡ not (is_blank b || (b == 34)) }
+{
+    if b > b'"' {
+        return true;
+    }
+    !is_blank_byte(b) && b != b'"'
+}
+
+// A byte that a word begins with, where no blank stands: no `#` and no quote.
+fn opens_word(b: u8) -> bool
+    ensures { result ≡ not ((b == 35) || (b == 34)) }
+{
+    if b > b'#' {
+        return true;
+    }
+    b != b'#' && b != b'"'
 }
 
 fn is_hex_byte(b: u8) -> bool
@@ -98,11 +123,8 @@ fn unquoted_run(bytes: &[u8]) -> Option<usize>
 {
     let mut n = 0;
     while n < bytes.len() {
-        if is_blank_byte(bytes[n]) {
-            return Some(n);
-        }
-        if bytes[n] == b'"' {
-            return None;
+        if !is_plain_byte(bytes[n]) {
+            return if bytes[n] == b'"' { None } else { Some(n) };
         }
         n += 1;
     }
@@ -229,25 +251,47 @@ fn word_len(bytes: &[u8]) -> Option<usize>
     Some(n + 1)
 }
 
-// The first token, and what stands behind it; none where no token is left.
-fn next_token<'a>(alloc: Global, bytes: &'a [u8]) -> Result<Option<(Token<'a>, &'a [u8])>, Stop>
-    ensures value { Gives (λ next. option_map (λ p. (lexeme p.0, p.1.now)) next) result (token_at (behind_blanks bytes.now)) }
-    ensures fewer { IfOk result (λ next. IfSome next (λ p. length p.1.now < length bytes.now)) }
+// Reads the literal whose opening quote stands before the bytes, behind the tokens so far, and gives what stands
+// behind it.
+fn push_literal<'a>(
+    alloc: Global,
+    tokens: &mut Vec<Token<'a>>,
+    bytes: &'a [u8],
+) -> Result<Option<&'a [u8]>, Stop>
+    ensures value { Gives (λ behind. (map lexeme tokens.new.items, option_map (λ b. b.now) behind)) result
+        (seen (with_next (map lexeme tokens.old.items)) (seen Some (literal_from bytes.now))) }
+    ensures fewer { IfOk result (λ next. IfSome next (λ behind. length behind.now ≤ length bytes.now)) }
+{
+    let (token, behind) = literal(alloc, bytes)?;
+    tokens.push(token)?;
+    Ok(Some(behind))
+}
+
+// Reads the first token behind the tokens so far, and gives what stands behind it; none where no token is left.
+fn push_token<'a>(
+    alloc: Global,
+    tokens: &mut Vec<Token<'a>>,
+    bytes: &'a [u8],
+) -> Result<Option<&'a [u8]>, Stop>
+    ensures value { Gives (λ behind. (map lexeme tokens.new.items, option_map (λ b. b.now) behind)) result
+        (seen (with_next (map lexeme tokens.old.items)) (token_at (behind_blanks bytes.now))) }
+    ensures fewer { IfOk result (λ next. IfSome next (λ behind. length behind.now < length bytes.now)) }
 {
     let start = past_blanks(bytes);
     let [first, behind @ ..] = start else {
         return Ok(None);
     };
-    if *first == b'#' {
-        return Ok(None);
+    if !opens_word(*first) {
+        if *first == b'#' {
+            return Ok(None);
+        }
+        return push_literal(alloc, tokens, behind);
     }
-    if *first == b'"' {
-        return Ok(Some(literal(alloc, behind)?));
-    }
-    match word_len(start) {
-        Some(n) => Ok(Some((Token::Word(&start[..n]), &start[n..]))),
-        None => Err(Stop::Refused(Why::BadLiteral)),
-    }
+    let Some(n) = word_len(start) else {
+        return Err(Stop::Refused(Why::BadLiteral));
+    };
+    tokens.push(Token::Word(&start[..n]))?;
+    Ok(Some(&start[n..]))
 }
 
 /// Reads the tokens of a line, in place of those that were there.
@@ -260,8 +304,7 @@ pub fn read_tokens<'a>(
 {
     tokens.clear();
     let mut rest = line;
-    while let Some((token, behind)) = next_token(alloc, rest)? {
-        tokens.push(token)?;
+    while let Some(behind) = push_token(alloc, tokens, rest)? {
         rest = behind;
     }
     Ok(())

@@ -8,6 +8,6 @@ abbrev pub invariant-loop-b : goal.invariant-loop-b
 invariant-loop-b l =
     record {
       rest : value_from l.value (drop l.b-index l.bytes) ≡ value_from 0 l.bytes;
-      small : l.value < 10 ^ l.b-index;
+      small : l.value < 2 ^ 64;
       digits : list_all is_digit (drop l.b-index l.bytes) ≡ list_all is_digit l.bytes;
     }
