@@ -25,7 +25,8 @@ fn call_back<H: Host>(host: &mut H, undo: &Undo) -> Result<(), Fault>
         Undo::Tail { file, from, .. } => host.cut(*file, *from),
         Undo::Made { name, num } => host.uncreate(name, *num),
         Undo::Moved { from, to } => host.name_back(from, to),
-        Undo::Bytes { .. } | Undo::NewPipe(_) | Undo::NewPair(_) => unreachable!(),
+        Undo::NewPipe(num) => host.drop_pipe(*num),
+        Undo::Bytes { .. } | Undo::NewPair(_) => unreachable!(),
     }
 }
 

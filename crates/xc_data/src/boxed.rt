@@ -25,6 +25,13 @@ impl<T: Drop> Boxed<T> {
             value: Box::new(alloc, value)?,
         })
     }
+
+    /// Another value in the same place. It takes no memory.
+    pub fn set(&mut self, value: T)
+        ensures { self.new ≡ value }
+    {
+        *self.value = value;
+    }
 }
 
 impl<T> Boxed<T> {

@@ -42,6 +42,13 @@ impl Chunk {
         })
     }
 
+    /// Other bytes in the place of its own. It copies none, and takes no memory.
+    pub fn set(&mut self, bytes: Bytes)
+        ensures { self.new ≡ bytes }
+    {
+        self.bytes.set(bytes);
+    }
+
     /// A front of the bytes from a place on. It copies none.
     pub fn part(&self, from: usize, to: usize) -> Result<Chunk, NoMemory>
         requires order { from ≤ to }

@@ -151,6 +151,7 @@ fn done_of(bytes: &Chunk, reply: &Reply) -> u32
     match reply {
         Reply::Done => bytes.len() as u32,
         Reply::Fault(done) => *done,
+        // A write with any other reply, also with one yet to come, was refused before the host did a byte.
         _ => 0,
     }
 }

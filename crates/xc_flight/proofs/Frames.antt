@@ -32,7 +32,8 @@ use Rattle.xc_world.proofs.Trails.{body_speaks}
 use Rattle.xc_flight.specs.Active.{Tx, Phase, Running, Committing, Undoing, Has, Own, Covers, num}
 use Rattle.xc_flight.specs.Flight.{noted, ran, asked, late_done, effects, left, returned, IsPhase, Inside, Flight}
 use Rattle.xc_flight.proofs.Basics.{has_decide, owns_has, sees_has, owns_own}
-use Rattle.xc_flight.proofs.Worlds.{words_agree, overlaid_other, overlaid_alike, given_alike}
+use Rattle.xc_flight.proofs.Worlds.{words_agree, overlaid_other, overlaid_alike}
+use Rattle.xc_world.proofs.GivenBack.{given_alike}
 
 -- ---- what a body left, by what its transaction has and owns
 pub ran_whole : (w : World) (t : Tx) → body w t.began t.number (asked t) ≡ ran w t

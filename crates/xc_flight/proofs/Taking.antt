@@ -23,7 +23,7 @@ use Rattle.xc_data.specs.declared.private.Private.{Private}
 use Rattle.xc_data.specs.Private.{place_of}
 use Rattle.xc_data.specs.Standing.{objects_of}
 use Rattle.xc_world.specs.World.{World, Pipe, Pair, pipe_of, pair_of, empty_pipe, empty_pair, waiting, with_waiting}
-use Rattle.xc_world.specs.Run.{Ran, begins, step, goes_on, bytes_taken, message_taken, taken_by, gives, given_back}
+use Rattle.xc_world.specs.Run.{Ran, begins, step, goes_on, bytes_taken, message_taken, taken_by, item_object, gives, given_back}
 use Rattle.xc_world.specs.Trail.{recorded, with_effect, move_name, overwrite_record, append_record, create_record, rename_record, pipe_record, pair_record}
 use Rattle.xc_world.specs.Ends.{with_remains}
 use Rattle.xc_world.specs.Effects.{whole}
@@ -36,7 +36,6 @@ use Rattle.xc_world.proofs.EffectsParts.{remains-words}
 use Rattle.xc_flight.specs.Active.{Tx, Own, num}
 use Rattle.xc_flight.specs.Flight.{ran, asked, Inside}
 use Rattle.xc_flight.proofs.Basics.{own_decide}
-use Rattle.xc_flight.proofs.Worlds.{item_object}
 use Rattle.xc_flight.proofs.Frames.{ran_whole, ran_keeps, trail_own, whole_of}
 
 -- ---- bytes that were taken are some

@@ -14,7 +14,7 @@ use Rattle.xc_data.specs.declared.undo.Undo.TheVariants as undo
 use Rattle.xc_data.specs.declared.undo.UndoEnd.{UndoEnd}
 use Rattle.xc_data.specs.Standing.{objects_of}
 use Rattle.xc_world.specs.World.{World}
-use Rattle.xc_world.specs.Run.{given_back}
+use Rattle.xc_world.specs.Run.{given_back, item_object}
 use Rattle.xc_world.specs.Ends.{Ending, remains, with_remains}
 use Rattle.xc_world.specs.Effects.{whole, undone_to}
 use Rattle.xc_world.specs.Sound.{IsSound}
@@ -28,7 +28,7 @@ use Rattle.xc_flight.specs.Flight.{ran, effects, left, returned, IsPhase, Inside
 use Rattle.xc_flight.specs.Standing.{Standing, IsActive, InFlight, turned, entered}
 use Rattle.xc_flight.specs.Turns.{in_phase, MayDo, wanting, after_call, with_undone}
 use Rattle.xc_flight.proofs.Basics.{owns_has}
-use Rattle.xc_flight.proofs.Worlds.{item_object, given_alike, given_away, given_words, given_blocks}
+use Rattle.xc_world.proofs.GivenBack.{given_alike, given_away, given_words, given_blocks}
 use Rattle.xc_flight.proofs.Frames.{trail_own, left_keeps, all_front}
 use Rattle.xc_flight.proofs.Rows.{goes_on, ends}
 use Rattle.xc_flight.proofs.Calling.{is_running, running_left, after_keeps, fits_then, step_trail, step_taken, step_covers, step_stands}

@@ -1,3 +1,5 @@
 pub mod Places
 pub mod Writes
 pub mod Called
+pub mod PipeSteps
+pub mod DataKept

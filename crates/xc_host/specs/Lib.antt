@@ -1,4 +1,7 @@
 pub mod Contents
+pub mod Pipes
+pub mod Kept
+pub mod Fronted
 pub mod Cause
 pub mod Counting
 pub mod Fronts

@@ -1,5 +1,5 @@
 -- Which calls of its host each thing makes, in their order.
-use Rattle.std.specs.Prelude.{◌≡◌, ◌⊎◌, ℕ, zero, suc, ◌+◌, ◌≤◌, List, [], ◌∷◌, ◌++◌, length, replicate, Option}
+use Rattle.std.specs.Prelude.{◌≡◌, ◌⊎◌, ℕ, zero, suc, ◌+◌, ◌<◌, ◌≤◌, List, [], ◌∷◌, ◌++◌, length, replicate, Option}
 use Rattle.std.specs.declared.option.Option.TheVariants.{None, Some}
 use Rattle.xc_data.specs.Faults.{end_faults}
 use Rattle.xc_data.specs.declared.call.Call.{Call}
@@ -34,6 +34,14 @@ abbrev pub ReadsFor : ℕ → Reply → ℕ → Type 0
 ReadsFor n (reply.Got bytes) count = MayMove n count × (count ≤ length bytes + 1)
 ReadsFor n reply.End count = count ≡ 1
 ReadsFor n r count = MayMove n count
+
+-- takes until so many bytes are there or one gives none, behind kept bytes: where these are enough there is no take, and a pipe
+-- that has none of either is asked once
+abbrev pub TakesFor : ℕ → Reply → ℕ → Type 0
+TakesFor n (reply.Got bytes) count = (count ≤ n) × (count ≤ length bytes + 1) × (length bytes < n → 1 ≤ count)
+TakesFor n reply.Empty count = count ≡ 1
+TakesFor n reply.End count = count ≡ 1
+TakesFor n r count = MayMove n count
 
 -- so many old bytes are read, and then so many calls write
 abbrev pub overwrites : ℕ → ℕ → List Kind
@@ -80,6 +88,8 @@ CallsFor (call.XWriteSeq h (b ∷ bs)) r made =
     (count : ℕ) × AppendsFor (length (b ∷ bs)) r count × (made ≡ kind.Len ∷ replicate count kind.Append)
 CallsFor (call.XLen h) r made = made ≡ kind.Len ∷ []
 CallsFor (call.XRename from to) r made = RenamesFor r made
+CallsFor call.XPipe r made = made ≡ kind.NewPipe ∷ []
+CallsFor (call.XReadPipe h n) r made = (count : ℕ) × TakesFor n r count × (made ≡ replicate count kind.Take)
 CallsFor c r made = made ≡ []
 
 -- what a call makes; one that a check refused makes none
@@ -96,6 +106,8 @@ StopsFor (call.XRead h n) made = (count : ℕ) × MayMove n count × (made ≡ r
 StopsFor (call.XWriteOvr h bytes) made = (reads : ℕ) × (reads ≤ length bytes) × (made ≡ overwrites reads 0)
 StopsFor (call.XWriteSeq h bytes) made = (count : ℕ) × (count ≤ length bytes) × (made ≡ kind.Len ∷ replicate count kind.Append)
 StopsFor (call.XRename from to) made = (made ≡ kind.Lookup ∷ []) ⊎ (made ≡ kind.Lookup ∷ kind.Lookup ∷ [])
+StopsFor call.XPipe made = (made ≡ []) ⊎ (made ≡ kind.NewPipe ∷ [])
+StopsFor (call.XReadPipe h n) made = (count : ℕ) × (count ≤ n) × (made ≡ replicate count kind.Take)
 StopsFor c made = made ≡ []
 
 -- ---- a late call
@@ -105,10 +117,23 @@ UnlinksFor late_end.Done made = made ≡ kind.Lookup ∷ kind.Unlink ∷ []
 UnlinksFor (late_end.Fault n) made = (made ≡ kind.Lookup ∷ []) ⊎ (made ≡ kind.Lookup ∷ kind.Unlink ∷ [])
 UnlinksFor end made = made ≡ kind.Lookup ∷ []
 
+-- how often a write of n bytes to a pipe puts, behind the look at how it stands: until all that fits is put, or a put fails
+abbrev pub PutsFor : ℕ → LateEnd → ℕ → Type 0
+PutsFor n late_end.Done count = MayMove n count
+PutsFor n (late_end.Full done) count = MayMove done count
+PutsFor n (late_end.Fault zero) count = count ≤ 1
+PutsFor n (late_end.Fault (suc done)) count = (2 ≤ count) × (count ≤ done + 2)
+PutsFor n (late_end.NoMemory zero) count = count ≡ 1
+PutsFor n (late_end.NoMemory (suc done)) count = (2 ≤ count) × (count ≤ done + 2)
+PutsFor n end count = count ≡ 0
+
 -- what a late call makes; one that isn't named makes none
 abbrev pub LatesFor : LateCall → LateEnd → List Kind → Type 0
 LatesFor (late.Unlink name) end made = UnlinksFor end made
 LatesFor (late.Sync num) end made = made ≡ kind.Sync ∷ []
+LatesFor (late.WritePipe num bytes) end made =
+    (count : ℕ) × PutsFor (length bytes) end count × (made ≡ kind.PipeState ∷ replicate count kind.Put)
+LatesFor (late.Shutdown object) end made = made ≡ kind.Shut ∷ []
 LatesFor c end made = made ≡ []
 
 -- ---- a compensation

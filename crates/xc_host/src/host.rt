@@ -5,12 +5,15 @@ ghost use Rattle.xc_data.specs.Limits.{IsPrologue};
 ghost use Rattle.xc_data.specs.declared.script.Kind.TheVariants as Kind;
 ghost use Rattle.xc_host.specs.Cause.{without_memory};
 ghost use Rattle.xc_host.specs.Contents.{file_in, has_file, wrote, appended, shortened, created, uncreated, renamed, opened};
-ghost use Rattle.xc_host.specs.Contents.{unnamed, needs_scripted};
+ghost use Rattle.xc_host.specs.Contents.{world_of, unnamed, needs_scripted};
 ghost use Rattle.xc_host.specs.Fronts.{IsFront};
 ghost use Rattle.xc_host.specs.Model.{Answers, HostModel, plan_of};
+ghost use Rattle.xc_host.specs.Pipes.{pipe_in, has_pipe, with_new_pipe, put_into, shut_in, without_pipe};
+ghost use Rattle.xc_host.specs.Pipes.{state_of, IsTakenOf, IsSomeOf, after_take, is_shuttable};
+ghost use Rattle.xc_world.specs.Sound.{is_there};
 
-use crate::{Fault, HostErr, OpenErr};
-use xc_data::{Chunk, Name, Num, Prologue};
+use crate::{Fault, HostErr, HostState, OpenErr, Took};
+use xc_data::{Chunk, Name, Num, Object, Prologue};
 
 /// What the calls of transactions go to. Only its own calls change it.
 ///
@@ -97,6 +100,44 @@ pub trait Host: Drop {
         requires there { IsTrue model.tells → has_file (model.contents self.old) file ≡ true }
         ensures answered { Answers model Kind.Sync (record { old = self.old; new = self.new }) (without_memory result) (λ _ c. c) };
 
+    /// An empty pipe of a new number.
+    fn new_pipe(&mut self, num: Num) -> Result<(), HostErr>
+        requires new { IsTrue model.tells → has_pipe (model.contents self.old) num ≡ false }
+        ensures answered { Answers model Kind.NewPipe (record { old = self.old; new = self.new }) result
+            (λ _ c. with_new_pipe c num) };
+
+    /// How many bytes a pipe holds, and whether it is shut.
+    fn pipe_state(&mut self, pipe: Num) -> Result<HostState, Fault>
+        requires there { IsTrue model.tells → has_pipe (model.contents self.old) pipe ≡ true }
+        ensures value { IsTrue model.tells → IfOk result (λ state. state ≡ state_of (pipe_in (model.contents self.old) pipe)) }
+        ensures answered { Answers model Kind.PipeState (record { old = self.old; new = self.new }) (without_memory result)
+            (λ state c. c) };
+
+    /// A front of at most n of a pipe's bytes, which leaves it. There is one exactly where a byte is held.
+    fn take(&mut self, pipe: Num, n: u32) -> Result<Took, HostErr>
+        requires there { IsTrue model.tells → has_pipe (model.contents self.old) pipe ≡ true }
+        requires some { 0 < n }
+        ensures bound { IfOk result (IsSomeOf n) }
+        ensures value { IsTrue model.tells → IfOk result (IsTakenOf (pipe_in (model.contents self.old) pipe)) }
+        ensures answered { Answers model Kind.Take (record { old = self.old; new = self.new }) result (after_take pipe) };
+
+    /// Puts a front of the bytes behind a pipe's, and answers its length. A pipe holds at most 4,096 bytes.
+    fn put(&mut self, pipe: Num, bytes: &[u8]) -> Result<u32, HostErr>
+        requires there { IsTrue model.tells → has_pipe (model.contents self.old) pipe ≡ true }
+        requires unshut { IsTrue model.tells → (pipe_in (model.contents self.old) pipe).shut ≡ false }
+        requires fits { IsTrue model.tells → length (pipe_in (model.contents self.old) pipe).held + length bytes.now ≤ 4096 }
+        requires some { 0 < length bytes.now }
+        ensures bound { IfOk result (λ n. (0 < n) × (n ≤ length bytes.now)) }
+        ensures answered { Answers model Kind.Put (record { old = self.old; new = self.new }) result
+            (λ n c. put_into c pipe (take n bytes.now)) };
+
+    /// Nothing is put into a pipe, or sent to a pair, any more. It takes no memory.
+    fn shut(&mut self, object: &Object) -> Result<(), Fault>
+        requires shuttable { is_shuttable object.now ≡ true }
+        requires there { IsTrue model.tells → is_there (world_of (model.contents self.old)) object.now ≡ true }
+        ensures answered { Answers model Kind.Shut (record { old = self.old; new = self.new }) (without_memory result)
+            (λ _ c. shut_in c object.now) };
+
     /// Undoes an overwrite: as `write_at`. It takes no memory.
     fn restore(&mut self, file: Num, at: u32, bytes: &[u8]) -> Result<u32, Fault>
         requires there { IsTrue model.tells → has_file (model.contents self.old) file ≡ true }
@@ -126,4 +167,10 @@ pub trait Host: Drop {
         requires absent { IsTrue model.tells → map.get (model.contents self.old).names from.now ≡ None }
         ensures answered { Answers model Kind.NameBack (record { old = self.old; new = self.new }) (without_memory result)
             (λ _ c. renamed c to.now from.now) };
+
+    /// Undoes a new pipe: the pipe goes. It takes no memory.
+    fn drop_pipe(&mut self, num: Num) -> Result<(), Fault>
+        requires there { IsTrue model.tells → has_pipe (model.contents self.old) num ≡ true }
+        ensures answered { Answers model Kind.DropPipe (record { old = self.old; new = self.new }) (without_memory result)
+            (λ _ c. without_pipe c num) };
 }

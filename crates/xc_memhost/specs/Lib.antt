@@ -1,5 +1,6 @@
 pub mod State
 pub mod Faults
 pub mod Spans
+pub mod Pipes
 pub mod Machine
 pub mod Told

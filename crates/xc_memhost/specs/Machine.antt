@@ -6,12 +6,15 @@ use Rattle.xc_data.specs.declared.object.Num.{Num}
 use Rattle.xc_data.specs.declared.script.Kind.{Kind}
 use Rattle.xc_data.specs.declared.script.Kind.TheVariants as kind
 use Rattle.xc_host.specs.Contents.{Contents, file_in, has_file, wrote, appended, shortened, created, uncreated, renamed, unnamed}
+use Rattle.xc_host.specs.Pipes.{pipe_in, has_pipe, with_new_pipe, put_into, shut_in, without_pipe, state_of, after_take}
+use Rattle.xc_host.specs.declared.pipes.Took.{Took}
 use Rattle.xc_memhost.specs.declared.calls.HostCall.{HostCall}
 use Rattle.xc_memhost.specs.declared.calls.HostCall.TheVariants as call
 use Rattle.xc_memhost.specs.declared.calls.HostAnswer.{HostAnswer}
-use Rattle.xc_memhost.specs.declared.calls.HostAnswer.TheVariants.{Found, Number, Got, Done, Fault}
+use Rattle.xc_memhost.specs.declared.calls.HostAnswer.TheVariants.{Found, Number, Got, Stands, Taken, Done, Fault}
 use Rattle.xc_memhost.specs.State.{HostState}
 use Rattle.xc_memhost.specs.Faults.{is_listed, begun, grained}
+use Rattle.xc_memhost.specs.Pipes.{took_of, MayTake, MayPut, MayShut}
 
 -- the kind of a call
 abbrev pub kind_of : HostCall → Kind
@@ -24,10 +27,16 @@ kind_of (call.Append file bytes) = kind.Append
 kind_of (call.Rename from to) = kind.Rename
 kind_of (call.Unlink name) = kind.Unlink
 kind_of (call.Sync file) = kind.Sync
+kind_of (call.NewPipe num) = kind.NewPipe
+kind_of (call.PipeState pipe) = kind.PipeState
+kind_of (call.Take pipe n) = kind.Take
+kind_of (call.Put pipe bytes) = kind.Put
+kind_of (call.Shut object) = kind.Shut
 kind_of (call.Restore file at bytes) = kind.Restore
 kind_of (call.Cut file len) = kind.Cut
 kind_of (call.Uncreate name num) = kind.Uncreate
 kind_of (call.NameBack from to) = kind.NameBack
+kind_of (call.DropPipe num) = kind.DropPipe
 
 -- ---- a call that doesn't fail
 -- of n bytes from `at`, those that are there and that one call reads
@@ -46,6 +55,14 @@ written s file at bytes = wrote s.contents file at (take (written_of s bytes) by
 abbrev pub lengthened : HostState → Num → List ℕ → Contents
 lengthened s file bytes = appended s.contents file (take (written_of s bytes) bytes)
 
+-- what it takes of a pipe
+abbrev pub taken : HostState → Num → ℕ → Took
+taken s pipe n = took_of s.grain (pipe_in s.contents pipe) n
+
+-- the contents with as many of the bytes as one call puts behind a pipe's
+abbrev pub filled : HostState → Num → List ℕ → Contents
+filled s pipe bytes = put_into s.contents pipe (take (written_of s bytes) bytes)
+
 -- its answer
 abbrev pub done : HostState → HostCall → HostAnswer
 done s (call.Lookup name) = Found (map.get s.contents.names name)
@@ -57,10 +74,16 @@ done s (call.Append file bytes) = Number (written_of s bytes)
 done s (call.Rename from to) = Done
 done s (call.Unlink name) = Done
 done s (call.Sync file) = Done
+done s (call.NewPipe num) = Done
+done s (call.PipeState pipe) = Stands (state_of (pipe_in s.contents pipe))
+done s (call.Take pipe n) = Taken (taken s pipe n)
+done s (call.Put pipe bytes) = Number (written_of s bytes)
+done s (call.Shut object) = Done
 done s (call.Restore file at bytes) = Number (written_of s bytes)
 done s (call.Cut file len) = Done
 done s (call.Uncreate name num) = Done
 done s (call.NameBack from to) = Done
+done s (call.DropPipe num) = Done
 
 -- the contents after it
 abbrev pub changed : HostState → HostCall → Contents
@@ -73,10 +96,16 @@ changed s (call.Restore file at bytes) = written s file at bytes
 changed s (call.Cut file len) = shortened s.contents file len
 changed s (call.Uncreate name num) = uncreated s.contents name num
 changed s (call.NameBack from to) = renamed s.contents to from
+changed s (call.NewPipe num) = with_new_pipe s.contents num
+changed s (call.Take pipe n) = after_take pipe (taken s pipe n) s.contents
+changed s (call.Put pipe bytes) = filled s pipe bytes
+changed s (call.Shut object) = shut_in s.contents object
+changed s (call.DropPipe num) = without_pipe s.contents num
 changed s (call.Lookup name) = s.contents
 changed s (call.Len file) = s.contents
 changed s (call.ReadAt file at n) = s.contents
 changed s (call.Sync file) = s.contents
+changed s (call.PipeState pipe) = s.contents
 
 -- ---- any call: a listed one fails and changes nothing but the counts
 -- its answer
@@ -151,10 +180,16 @@ IsAllowed c (call.Append file bytes) = MayAppend c file bytes
 IsAllowed c (call.Rename from to) = MayRename c from to
 IsAllowed c (call.Unlink name) = is_some (map.get c.names name) ≡ true
 IsAllowed c (call.Sync file) = has_file c file ≡ true
+IsAllowed c (call.NewPipe num) = has_pipe c num ≡ false
+IsAllowed c (call.PipeState pipe) = has_pipe c pipe ≡ true
+IsAllowed c (call.Take pipe n) = MayTake c pipe n
+IsAllowed c (call.Put pipe bytes) = MayPut c pipe bytes
+IsAllowed c (call.Shut object) = MayShut c object
 IsAllowed c (call.Restore file at bytes) = MayWrite c file at bytes
 IsAllowed c (call.Cut file len) = MayCut c file len
 IsAllowed c (call.Uncreate name num) = MayUncreate c name num
 IsAllowed c (call.NameBack from to) = MayRename c to from
+IsAllowed c (call.DropPipe num) = has_pipe c num ≡ true
 
 -- each call may ask what it asks, in the state that those before it leave
 abbrev pub AreAllowed : HostState → List HostCall → Type 0

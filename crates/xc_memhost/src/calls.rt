@@ -5,8 +5,8 @@ ghost use Rattle.xc_memhost.specs.Machine.{kind_of, answer, after, answers, afte
 
 use crate::MemHost;
 use std::alloc::Global;
-use xc_data::{Chunk, Items, Name, NoMemory, Num};
-use xc_host::{Fault, Host, HostErr};
+use xc_data::{Chunk, Items, Name, NoMemory, Num, Object};
+use xc_host::{Fault, Host, HostErr, HostState, Took};
 
 /// A call of a host.
 #[derive(Drop)]
@@ -20,18 +20,27 @@ pub enum HostCall {
     Rename { from: Name, to: Name },
     Unlink(Name),
     Sync(Num),
+    NewPipe(Num),
+    PipeState(Num),
+    Take { pipe: Num, n: u32 },
+    Put { pipe: Num, bytes: Chunk },
+    /// Of a pipe or a pair.
+    Shut(Object),
     Restore { file: Num, at: u32, bytes: Chunk },
     Cut { file: Num, len: u32 },
     Uncreate { name: Name, num: Num },
     NameBack { from: Name, to: Name },
+    DropPipe(Num),
 }
 
-/// What a call answers. A write, a restoration and an append answer how many bytes they did.
+/// What a call answers. A write, a restoration, an append and a put answer how many bytes they did.
 #[derive(Drop, PartialEq)]
 pub enum HostAnswer {
     Found(Option<Num>),
     Number(u32),
     Got(Chunk),
+    Stands(HostState),
+    Taken(Took),
     Done,
     Fault,
 }
@@ -78,6 +87,26 @@ fn got(told: Result<Chunk, HostErr>) -> Result<HostAnswer, NoMemory>
     }
 }
 
+fn stands(told: Result<HostState, HostErr>) -> Result<HostAnswer, NoMemory>
+    ensures { Tells told result HostAnswer.Stands }
+{
+    match told {
+        Ok(state) => Ok(HostAnswer::Stands(state)),
+        Err(HostErr::Fault) => Ok(HostAnswer::Fault),
+        Err(HostErr::NoMemory) => Err(NoMemory),
+    }
+}
+
+fn taken(told: Result<Took, HostErr>) -> Result<HostAnswer, NoMemory>
+    ensures { Tells told result HostAnswer.Taken }
+{
+    match told {
+        Ok(took) => Ok(HostAnswer::Taken(took)),
+        Err(HostErr::Fault) => Ok(HostAnswer::Fault),
+        Err(HostErr::NoMemory) => Err(NoMemory),
+    }
+}
+
 fn done(told: Result<(), HostErr>) -> Result<HostAnswer, NoMemory>
     ensures { Tells told result (λ _. HostAnswer.Done) }
 {
@@ -106,12 +135,18 @@ fn ask(host: &mut MemHost, call: &HostCall) -> Result<HostAnswer, NoMemory>
         HostCall::Rename { from, to } => done(without_memory(host.rename(from, to))),
         HostCall::Unlink(name) => done(without_memory(host.unlink(name))),
         HostCall::Sync(file) => done(without_memory(host.sync(*file))),
+        HostCall::NewPipe(num) => done(host.new_pipe(*num)),
+        HostCall::PipeState(pipe) => stands(without_memory(host.pipe_state(*pipe))),
+        HostCall::Take { pipe, n } => taken(host.take(*pipe, *n)),
+        HostCall::Put { pipe, bytes } => number(host.put(*pipe, bytes.as_slice())),
+        HostCall::Shut(object) => done(without_memory(host.shut(object))),
         HostCall::Restore { file, at, bytes } => {
             number(without_memory(host.restore(*file, *at, bytes.as_slice())))
         }
         HostCall::Cut { file, len } => done(without_memory(host.cut(*file, *len))),
         HostCall::Uncreate { name, num } => done(without_memory(host.uncreate(name, *num))),
         HostCall::NameBack { from, to } => done(without_memory(host.name_back(from, to))),
+        HostCall::DropPipe(num) => done(without_memory(host.drop_pipe(*num))),
     }
 }
 

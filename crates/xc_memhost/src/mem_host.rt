@@ -6,7 +6,8 @@ ghost use Rattle.xc_host.specs.Contents.{file_in, has_file};
 ghost use Rattle.xc_host.specs.Counting.{calls_of};
 ghost use Rattle.xc_memhost.specs.State.{empty_state};
 ghost use Rattle.xc_memhost.specs.Faults.{is_listed, begun};
-ghost use Rattle.xc_memhost.specs.Machine.{written_of, written, lengthened};
+ghost use Rattle.xc_host.specs.Pipes.{pipe_in, has_pipe, state_of, after_take, IsTakenOf, IsSomeOf};
+ghost use Rattle.xc_memhost.specs.Machine.{written_of, written, lengthened, taken, filled};
 
 mod host;
 
@@ -15,7 +16,7 @@ use crate::objects::Objects;
 use std::alloc::Global;
 use std::marker::Model;
 use xc_data::{Kind, Name, NoMemory, Num};
-use xc_host::KindCounts;
+use xc_host::{HostState, KindCounts, Took};
 
 /// A host in memory. It tells its contents, and exactly the calls that its prologue lists fail.
 #[derive(Drop)]
@@ -72,6 +73,14 @@ impl MemHost {
         self.objects.find(name)
     }
 
+    /// How a pipe stands, where there is one. Looking at it is no call of the host.
+    pub fn pipe_of(&self, pipe: Num) -> Option<HostState>
+        ensures there { is_some result ≡ has_pipe self.now.contents pipe }
+        ensures value { IfSome result (λ state. state ≡ state_of (pipe_in self.now.contents pipe)) }
+    {
+        self.objects.pipe_of(pipe)
+    }
+
     // Counts a call, and says whether it fails.
     fn fails(&mut self, kind: Kind) -> bool
         ensures value { result ≡ is_listed kind self.old }
@@ -118,5 +127,37 @@ impl MemHost {
         let count = grained(self.grain, bytes.len().min(len as usize) as u32);
         self.objects.overwrite(file, at, &bytes[..count as usize]);
         count
+    }
+    // Takes as many of n bytes as are there and the grain allows.
+    fn take_front(&mut self, pipe: Num, n: u32) -> Result<Took, NoMemory>
+        requires there { has_pipe self.old.contents pipe ≡ true }
+        requires some { 0 < n }
+        ensures bound { IfOk result (IsSomeOf n) }
+        ensures value { IfOk result (IsTakenOf (pipe_in self.old.contents pipe)) }
+        ensures front { IfOk result (λ took. took ≡ taken self.old pipe n) }
+        ensures state { IfOk result (λ took. self.new ≡ record self.old { contents = after_take pipe took self.old.contents }) }
+        ensures failed { OnErr result (self.new ≡ self.old) }
+    {
+        let state = self.objects.pipe_state(pipe);
+        if state.held == 0 {
+            return Ok(if state.shut { Took::End } else { Took::Empty });
+        }
+        let count = grained(self.grain, n);
+        Ok(Took::Bytes(self.objects.take(pipe, count)?))
+    }
+
+    // Puts as many of the bytes as the grain allows, and answers their number.
+    fn fill(&mut self, pipe: Num, bytes: &[u8]) -> Result<u32, NoMemory>
+        requires there { has_pipe self.old.contents pipe ≡ true }
+        requires fits { length (pipe_in self.old.contents pipe).held + length bytes.now ≤ 4096 }
+        requires some { 0 < length bytes.now }
+        ensures bound { IfOk result (λ n. (0 < n) × (n ≤ length bytes.now)) }
+        ensures size { IfOk result (λ n. n ≡ written_of self.old bytes.now) }
+        ensures state { OnOk result (self.new ≡ record self.old { contents = filled self.old pipe bytes.now }) }
+        ensures failed { OnErr result (self.new ≡ self.old) }
+    {
+        let count = grained(self.grain, bytes.len() as u32);
+        self.objects.put(pipe, &bytes[..count as usize])?;
+        Ok(count)
     }
 }

@@ -5,13 +5,17 @@ ghost use Rattle.xc_data.specs.Limits.{IsOpenedFit};
 ghost use Rattle.xc_world.specs.Opening.{with_opened};
 ghost use Rattle.xc_host.specs.Contents.{nothing, opened, file_in, has_file, wrote, world_of, contents_of};
 ghost use Rattle.xc_host.specs.Contents.{appended, shortened, created, uncreated, renamed, unnamed};
+ghost use Rattle.xc_host.specs.Pipes.{pipe_in, has_pipe, with_new_pipe, taken_from, put_into, shut_in, without_pipe, state_of};
+ghost use Rattle.xc_data.specs.declared.object.Object.TheVariants as object;
+ghost use Rattle.xc_world.specs.Sound.{is_there};
 
 use crate::file_body::FileBody;
 use crate::pair_body::PairBody;
 use crate::pipe_body::PipeBody;
 use std::alloc::Global;
 use std::marker::Model;
-use xc_data::{Name, NoMemory, Num, Opened};
+use xc_data::{Chunk, Name, NoMemory, Num, Object, Opened};
+use xc_host::HostState;
 use xc_maps::{NameMap, NumMap};
 
 /// The names, files, pipes and pairs.
@@ -199,5 +203,104 @@ impl Objects {
     {
         self.names.remove(name);
         self.files.remove(num);
+    }
+
+    pub(crate) fn new_pipe(&mut self, num: Num) -> Result<(), NoMemory>
+        ensures ok { OnOk result (self.new ≡ with_new_pipe self.old num) }
+        ensures err { OnErr result (self.new ≡ self.old) }
+    {
+        self.pipes.insert(num, PipeBody::empty(self.alloc))
+    }
+
+    // How a pipe stands, where it is there.
+    pub(crate) fn pipe_of(&self, pipe: Num) -> Option<HostState>
+        ensures there { is_some result ≡ has_pipe self.now pipe }
+        ensures value { IfSome result (λ state. state ≡ state_of (pipe_in self.now pipe)) }
+    {
+        match self.pipes.get(pipe) {
+            Some(body) => Some(body.state()),
+            None => None,
+        }
+    }
+
+    pub(crate) fn pipe_state(&self, pipe: Num) -> HostState
+        ensures { result ≡ state_of (pipe_in self.now pipe) }
+    {
+        match self.pipes.get(pipe) {
+            Some(body) => body.state(),
+            None => HostState {
+                held: 0,
+                shut: false,
+            },
+        }
+    }
+
+    // The first n bytes leave a pipe, or all where those are fewer.
+    pub(crate) fn take(&mut self, pipe: Num, n: u32) -> Result<Chunk, NoMemory>
+        requires there { has_pipe self.old pipe ≡ true }
+        ensures front { IfOk result (λ front. front ≡ take n (pipe_in self.old pipe).held) }
+        ensures rest { IfOk result (λ front. self.new ≡ taken_from self.old pipe (length front)) }
+        ensures err { OnErr result (self.new ≡ self.old) }
+    {
+        let Some(mut body) = self.pipes.replace(pipe, PipeBody::empty(self.alloc)) else {
+            return Err(NoMemory);
+        };
+        let front = body.take(n);
+        self.pipes.replace(pipe, body);
+        front
+    }
+
+    pub(crate) fn put(&mut self, pipe: Num, bytes: &[u8]) -> Result<(), NoMemory>
+        requires there { has_pipe self.old pipe ≡ true }
+        requires fits { length (pipe_in self.old pipe).held + length bytes.now ≤ 4096 }
+        ensures ok { OnOk result (self.new ≡ put_into self.old pipe bytes.now) }
+        ensures err { OnErr result (self.new ≡ self.old) }
+    {
+        let Some(mut body) = self.pipes.replace(pipe, PipeBody::empty(self.alloc)) else {
+            return Err(NoMemory);
+        };
+        let done = body.put(bytes);
+        self.pipes.replace(pipe, body);
+        done
+    }
+
+    fn shut_pipe(&mut self, num: Num)
+        requires { has_pipe self.old num ≡ true }
+        ensures { self.new ≡ shut_in self.old (object.Pipe num) }
+    {
+        let Some(mut body) = self.pipes.replace(num, PipeBody::empty(self.alloc)) else {
+            return;
+        };
+        body.shut();
+        self.pipes.replace(num, body);
+    }
+
+    fn shut_pair(&mut self, num: Num)
+        requires { is_some (map.get self.old.pairs num) ≡ true }
+        ensures { self.new ≡ shut_in self.old (object.Pair num) }
+    {
+        let Some(mut body) = self.pairs.replace(num, PairBody::empty(self.alloc)) else {
+            return;
+        };
+        body.shut();
+        self.pairs.replace(num, body);
+    }
+
+    // In place, without memory.
+    pub(crate) fn shut(&mut self, object: &Object)
+        requires { is_there (world_of self.old) object.now ≡ true }
+        ensures { self.new ≡ shut_in self.old object.now }
+    {
+        match object {
+            Object::Pipe(num) => self.shut_pipe(*num),
+            Object::Pair(num) => self.shut_pair(*num),
+            Object::Word(_) | Object::Name(_) | Object::File(_) | Object::Jobs => {}
+        }
+    }
+
+    pub(crate) fn drop_pipe(&mut self, num: Num)
+        ensures { self.new ≡ without_pipe self.old num }
+    {
+        self.pipes.remove(num);
     }
 }

@@ -1,4 +1,4 @@
-ghost use Rattle.std.specs.Prelude.{◌≡◌};
+ghost use Rattle.std.specs.Prelude.{◌≡◌, true};
 ghost use Rattle.xc_world.specs.World.{empty_pair};
 
 use std::alloc::Global;
@@ -32,5 +32,11 @@ impl PairBody {
             second: Items::new(alloc),
             shut: false,
         }
+    }
+
+    pub(crate) fn shut(&mut self)
+        ensures { self.new ≡ record self.old { shut = true } }
+    {
+        self.shut = true;
     }
 }

@@ -27,10 +27,10 @@ use Rattle.xc_flight.specs.Flight.{effects}
 use Rattle.xc_flight.specs.Standing.{IsActive, active_at}
 use Rattle.xc_flight.proofs.Basics.{owns_has}
 use Rattle.xc_flight.proofs.Moving.{has_it, own_it}
-use Rattle.xc_flight.proofs.Worlds.{item_object}
+use Rattle.xc_world.specs.Run.{item_object}
 use Rattle.xc_flight.proofs.Taking.{Coined, filled, filled_alike, new_empty, remains_empty, taken_own, trail_coined}
 use Rattle.xc_flight.proofs.Undoing.{not_taken, of_record, record_own, there as record_there}
-use Rattle.xc_played.specs.Flying.{IsEmptyNew, taken_from, flown, flown_phase, standing, state_of, world_now, AreFlying}
+use Rattle.xc_played.specs.Flying.{IsEmptyNew, flown, flown_phase, standing, state_of, world_now, AreFlying}
 use Rattle.xc_played.proofs.FlownJobs.{flies_there, flight_there, sound_there}
 
 nil_of : {A : Type 0} (xs : List A) → length xs ≡ 0 → xs ≡ []
@@ -82,10 +82,6 @@ module _ (s : Setting) (now : Now) (all : AreFlying s now) (at : ℕ) (job : See
   made_empty = by_kind u refl
 
   -- ---- nobody has taken from there
-  taken_object : (k : KeptItem) → item_object k ≡ taken_from k
-  taken_object (item.Bytes num bytes) = refl
-  taken_object (item.Message num side bytes) = refl
-
   abbrev undoer : Tx
   undoer = flown job.me (all.unnoted at) tx
 
@@ -111,10 +107,10 @@ module _ (s : Setting) (now : Now) (all : AreFlying s now) (at : ℕ) (job : See
         (taken_own (state_of s now).world taker i (sound_there s now all j its_job other there_too active_too)))
         took
 
-    pub not_taken_from : Contains (objects_of u) (taken_from k) → ⊥
+    pub not_taken_from : Contains (objects_of u) (item_object k) → ⊥
     not_taken_from among =
         let o = item_object k in
-        let here : Contains (objects_of u) o = subst (Contains (objects_of u)) (sym (taken_object k)) among in
+        let here : Contains (objects_of u) o = among in
         dite (ℕ_discrete j at)
         (λ (e : j ≡ at).
         let none = not_taken (standing s now all.unnoted) at undoer older u (Blocked 0) all.flies (flies_there s now all at job tx at_place active)

@@ -8,6 +8,7 @@ use Rattle.xc_data.specs.declared.entry.KeptItem.TheVariants.{Bytes as Bytes', M
 use Rattle.xc_data.specs.declared.private.Private.{Private}
 use Rattle.xc_data.specs.Claims.{objects}
 use Rattle.xc_host.specs.Contents.{Contents}
+use Rattle.xc_host.specs.Kept.{with_kept}
 use Rattle.xc_world.specs.World.{World, beginning}
 use Rattle.xc_world.specs.Effects.{AreMadeIn, whole}
 use Rattle.xc_world.specs.Ends.{Ending, remains, with_remains}
@@ -18,7 +19,7 @@ use Rattle.xc_world.proofs.Bodies.{body_alike_begun}
 use Rattle.xc_story.specs.declared.phase.Phase.TheVariants.{Undoing}
 use Rattle.xc_story.specs.Setting.{Setting}
 use Rattle.xc_story.specs.Progress.{Progress}
-use Rattle.xc_story.specs.Seen.{SeenTx, SeenJob, Active, active_of, with_kept}
+use Rattle.xc_story.specs.Seen.{SeenTx, SeenJob, Active, active_of}
 use Rattle.xc_flight.specs.Active.{Tx, Own}
 use Rattle.xc_flight.specs.Active as flight
 use Rattle.xc_flight.specs.Standing.{Standing, Flies, InFlight, IsActive, AreSound, IsIdleSound, entered}

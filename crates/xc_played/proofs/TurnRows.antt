@@ -10,6 +10,7 @@ use Rattle.xc_data.specs.declared.entry.Entry.{Entry}
 use Rattle.xc_data.specs.declared.entry.Outcome.TheVariants.{Committed, Aborted}
 use Rattle.xc_compensate.specs.Records.{Records}
 use Rattle.xc_host.specs.Contents.{Contents}
+use Rattle.xc_host.specs.Kept.{with_kept}
 use Rattle.xc_script.specs.Ask.{asks, walk_from}
 use Rattle.xc_script.specs.Position.{Position}
 use Rattle.xc_txmem.specs.Overlay.{overlaid}
@@ -19,7 +20,7 @@ use Rattle.xc_story.specs.Setting.{Setting}
 use Rattle.xc_story.specs.Progress.{Progress, progress_of, after_entry}
 use Rattle.xc_story.specs.Told.{asked_of_tx, AreTold, IsCommitting, IsDoing, IsInPhase, IsRunning, IsUnderway}
 use Rattle.xc_story.specs.Seen.{SeenTx, SeenJob, Doing, Active, Now, active_in, active_of, actives, begun_count, entering, late_left, rank_of}
-use Rattle.xc_story.specs.Seen.{revoked, with_job, with_kept}
+use Rattle.xc_story.specs.Seen.{revoked, with_job}
 use Rattle.xc_story.specs.Rows.{asked_at, behind_abort, behind_commit, beginning_at, beginning_job, claims_at, entry_of, noting, seen, wanting, with_tx}
 use Rattle.xc_story.specs.Rows.{Calls, Conflicts, Revokes, Commits, Compensates, EndsLate, EntersAborted, TurnsBack, Wants}
 use Rattle.xc_played.specs.Flying.{AreFlying, flown}

@@ -8,10 +8,6 @@ use Rattle.xc_data.specs.declared.private.Private.{Private}
 use Rattle.xc_host.specs.Contents.{with_contents}
 use Rattle.xc_script.specs.declared.ask.Ask.{Ask}
 use Rattle.xc_script.specs.declared.ask.Ask.TheVariants as ask
-use Rattle.xc_data.specs.declared.entry.KeptItem.{KeptItem}
-use Rattle.xc_data.specs.declared.entry.KeptItem.TheVariants.{Bytes, Message}
-use Rattle.xc_data.specs.declared.object.Object.{Object}
-use Rattle.xc_data.specs.declared.object.Object.TheVariants as object
 use Rattle.xc_data.specs.declared.undo.Undo.{Undo}
 use Rattle.xc_data.specs.declared.undo.Undo.TheVariants.{NewPipe, NewPair}
 use Rattle.xc_world.specs.World.{World, State, pipe_of, pair_of}
@@ -91,11 +87,6 @@ standing s now unnoted =
 -- ---- its body so far, in the world that the journal left
 abbrev pub ran_at : World → Private → SeenTx → Ran
 ran_at w began tx = body w began tx.number (asked_of tx.calls tx.replies)
-
--- ---- the pipe or the pair from which an item was taken
-abbrev pub taken_from : KeptItem → Object
-taken_from (Bytes pipe bytes) = object.Pipe pipe
-taken_from (Message pair side bytes) = object.Pair pair
 
 -- ---- what a record made is empty
 abbrev pub IsEmptyNew : World → Undo → Type 0

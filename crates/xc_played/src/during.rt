@@ -10,6 +10,7 @@ ghost use Rattle.xc_data.specs.declared.object.Object.TheVariants as object;
 ghost use Rattle.xc_story.specs.LateCalls.{started_late};
 ghost use Rattle.xc_data.specs.declared.call.Call.{Call};
 ghost use Rattle.xc_data.specs.declared.undo.Undo.{Undo};
+ghost use Rattle.xc_world.specs.Run.{item_object};
 ghost use Rattle.xc_world.specs.Sound.{IsFree, IsKnown};
 ghost use Rattle.xc_world.specs.Touch.{object_at};
 ghost use Rattle.xc_file.specs.Calls.{IsOpenIn};
@@ -24,7 +25,7 @@ ghost use Rattle.xc_story.specs.Ending.{IsFinalState};
 ghost use Rattle.xc_story.specs.Played.{IsPlayedSoFar};
 ghost use Rattle.xc_data.specs.Standing.{objects_of};
 ghost use Rattle.xc_data.specs.declared.entry.KeptItem.{KeptItem};
-ghost use Rattle.xc_played.specs.Flying.{AreFlying, IsEmptyNew, state_of, taken_from};
+ghost use Rattle.xc_played.specs.Flying.{AreFlying, IsEmptyNew, state_of};
 ghost use Rattle.xc_deferred.specs.Does.{IsThereFor};
 
 /// What an active transaction noted is what the plain machine's body gives in the world that the journal left.
@@ -77,7 +78,7 @@ pub fn nobody_took_from_what_is_undone()
     ensures { (s : Setting) (now : Now) (at j : ℕ) (tx other : SeenTx) (c : Cause) (older : List Undo) (u : Undo) (k : KeptItem)
         → AreFlying s now
         → IsActiveAt now.jobs at tx → tx.phase ≡ Undoing c → tx.undo.pending ≡ older ++ u ∷ [] → IsActiveAt now.jobs j other
-        → Contains other.taken k → Contains (objects_of u) (taken_from k) → ⊥ }
+        → Contains other.taken k → Contains (objects_of u) (item_object k) → ⊥ }
 {}
 
 /// What the newest record without an end of an undoing transaction tells of is at the host as the record left it, if

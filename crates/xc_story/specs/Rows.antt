@@ -38,6 +38,7 @@ use Rattle.xc_compensate.specs.Records.{Records, way_of}
 use Rattle.xc_deferred.specs.Does.{DoesLate}
 use Rattle.xc_host.specs.Cause.{IsCalled}
 use Rattle.xc_host.specs.Contents.{Contents, contents_of, with_contents, world_of}
+use Rattle.xc_host.specs.Kept.{with_kept}
 use Rattle.xc_host.specs.Uses.{CallsFor, CallsOf, StopsFor, LatesFor, BacksFor}
 use Rattle.xc_text.specs.declared.script.Script.{Script}
 use Rattle.xc_text.specs.Stated.{Statement}
@@ -69,7 +70,7 @@ use Rattle.xc_story.specs.WordCalls.{IsWordStep}
 use Rattle.xc_story.specs.LateCalls.{started_late}
 use Rattle.xc_story.specs.Progress.{started_from}
 use Rattle.xc_story.specs.Seen.{SeenTx, SeenJob, Doing, Idle, Active, Starved, Ended, Now}
-use Rattle.xc_story.specs.Seen.{active_of, begun_count, failures, late_left, rank_of, with_job, with_kept, entering, joined}
+use Rattle.xc_story.specs.Seen.{active_of, begun_count, failures, late_left, rank_of, with_job, entering, joined}
 use Rattle.xc_story.specs.Seen.{revoked, unmarked, waiting, Touches}
 
 -- ---- where a job stands

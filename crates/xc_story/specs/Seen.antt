@@ -16,9 +16,8 @@ use Rattle.xc_data.specs.declared.private.Private.{Private}
 use Rattle.xc_data.specs.declared.script.Kind.{Kind}
 use Rattle.xc_compensate.specs.Records.{Records}
 use Rattle.xc_deferred.specs.Queue.{Queue, left}
-use Rattle.xc_host.specs.Contents.{Contents, contents_of, world_of}
+use Rattle.xc_host.specs.Contents.{Contents}
 use Rattle.xc_script.specs.Position.{Position}
-use Rattle.xc_world.specs.Run.{given_back}
 use Rattle.xc_story.specs.declared.phase.Attempts.{Attempts}
 use Rattle.xc_data.specs.declared.entry.Mark.{Mark}
 use Rattle.xc_story.specs.declared.phase.Phase.{Phase}
@@ -127,10 +126,6 @@ with_job now at job = record now { jobs = slice_set now.jobs at job }
 -- says
 abbrev pub Touches : Now → ℕ → SeenJob → Now → Type 0
 Touches old at job new = new ≡ record (with_job old at job) { contents = new.contents; faults = new.faults; calls = new.calls }
-
--- these contents with kept data in front, each item before those behind it
-abbrev pub with_kept : Contents → List KeptItem → Contents
-with_kept contents items = contents_of (given_back (world_of contents) items)
 
 -- the cause of a marked one's abort
 abbrev pub revoked : Mark → Cause

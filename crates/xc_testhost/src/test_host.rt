@@ -5,6 +5,7 @@ ghost use Rattle.xc_host.specs.Counting.{calls_of};
 
 mod host;
 
+use crate::pipes::Pipes;
 use crate::tails::{Tails, put};
 use std::alloc::Global;
 use xc_data::{Kind, Name, NoMemory, Num};
@@ -43,7 +44,7 @@ pub struct TestHost {
     pub bytes: Vec<u8>,
     /// What it says of the length of each file that it opens with, without what is appended.
     pub len: u32,
-    /// The most bytes that one call reads or writes.
+    /// The most bytes that one call reads, writes, takes or puts.
     pub grain: u32,
     /// The calls that fail, counted from 1.
     pub fails: [usize; 3],
@@ -54,6 +55,7 @@ pub struct TestHost {
     /// The names of files, in no order.
     pub names: Vec<(Name, Num)>,
     tails: Tails,
+    pipes: Pipes,
     calls: KindCounts,
     faults: u64,
 }
@@ -91,6 +93,7 @@ impl TestHost {
             log: Vec::new(alloc),
             names: opening_names(alloc)?,
             tails: Tails::new(alloc),
+            pipes: Pipes::new(alloc),
             calls: KindCounts::none(),
             faults: 0,
         })
@@ -133,7 +136,7 @@ impl TestHost {
     }
 
     /// Writes over a file's bytes. It is no call of the host.
-    pub fn put(&mut self, file: Num, at: u32, bytes: &[u8])
+    pub fn overwrite(&mut self, file: Num, at: u32, bytes: &[u8])
         ensures { self.new ≡ record self.old { bytes = self.new.bytes } }
     {
         let place = self.place(file, at);
@@ -165,7 +168,7 @@ impl TestHost {
         let mut n = self.grained(bytes);
         if at < opened {
             n = n.min((opened - at) as usize);
-            self.put(file, at, &bytes[..n]);
+            self.overwrite(file, at, &bytes[..n]);
         } else {
             self.tails.put(file, (at - opened) as usize, &bytes[..n]);
         }

@@ -29,6 +29,8 @@ pub mod Local
 pub mod LocalLate
 pub mod Joined
 pub mod Taken
+pub mod GivenBack
+pub mod GivenBeside
 pub mod Objects
 pub mod Reading
 pub mod Calls

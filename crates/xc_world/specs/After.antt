@@ -45,6 +45,8 @@ ArePlaces tx (call.XOpen name) me (reply.Made h) is =
     (lowest_vacant me.places ≡ Some h) × (num : Num) × (is ≡ with_at me.places h (place.File num 0))
 ArePlaces tx (call.XCreate name) me (reply.Made h) is =
     (lowest_vacant me.places ≡ Some h) × (is ≡ with_at me.places h (place.File (next_num me tx) 0))
+ArePlaces tx call.XPipe me (reply.Made h) is =
+    (lowest_vacant me.places ≡ Some h) × (is ≡ with_at me.places h (place.Pipe (next_num me tx)))
 ArePlaces tx (call.XRead h n) me (reply.Got bytes) is = is ≡ moved_by me.places h (length bytes)
 ArePlaces tx (call.XWriteOvr h bytes) me r is = is ≡ moved_by me.places h (done_of (length bytes) r)
 ArePlaces tx (call.XWriteSeq h bytes) me r is = IsAppendedAt me.places h (done_of (length bytes) r) is
@@ -53,10 +55,11 @@ ArePlaces tx (call.XClose h) me reply.Done is = is ≡ with_at me.places h place
 ArePlaces tx c me r is = is ≡ me.places
 
 -- ---- what was made and stored
--- how many objects are made behind it: a file that was created is one more
+-- how many objects are made behind it: a file or a pipe that was made is one more
 abbrev pub made_after : Call → Reply → ℕ → ℕ
 made_after (call.XCreate name) (reply.Made h) made = made + 1
--- of the calls on words, names and files no other makes one
+made_after call.XPipe (reply.Made h) made = made + 1
+-- of the calls on words, names, files and pipes no other makes one
 made_after c r made = made
 
 -- the bytes that a reply brings

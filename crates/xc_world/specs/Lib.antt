@@ -16,3 +16,4 @@ pub mod Undoing
 pub mod Modes
 pub mod Joined
 pub mod Own
+pub mod Beside

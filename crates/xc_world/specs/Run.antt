@@ -11,6 +11,8 @@ use Rattle.xc_data.specs.declared.call.LateEnd.{LateEnd}
 use Rattle.xc_data.specs.declared.call.LateAnswer.{LateAnswer}
 use Rattle.xc_data.specs.declared.call.LateAnswer.TheVariants as late_answer
 use Rattle.xc_data.specs.declared.undo.Undo.{Undo}
+use Rattle.xc_data.specs.declared.object.Object.{Object}
+use Rattle.xc_data.specs.declared.object.Object.TheVariants as object
 use Rattle.xc_data.specs.declared.private.Place.{Place}
 use Rattle.xc_data.specs.declared.private.Place.TheVariants.{Pipe, Pair}
 use Rattle.xc_data.specs.declared.private.Private.{Private}
@@ -65,6 +67,12 @@ taken_by (call.XSendmsg h bytes slot) me r = []
 taken_by (call.XThreadCreate body slot) me r = []
 
 -- ---- the same given back, in front of what is there now
+-- the object that it was taken from
+abbrev pub item_object : KeptItem → Object
+item_object (Bytes num bytes) = object.Pipe num
+item_object (Message num side bytes) = object.Pair num
+
+-- an item stands in front of what is there
 abbrev pub gives : World → KeptItem → World
 gives w (Bytes num bytes) = with_pipe w num (record (pipe_of w num) { held = bytes ++ (pipe_of w num).held })
 gives w (Message num side bytes) = with_pair w num (with_waiting (pair_of w num) side (bytes ∷ waiting (pair_of w num) side))

@@ -6,6 +6,7 @@ ghost use Rattle.xc_world.specs.Run.{run};
 ghost use Rattle.xc_world.specs.Ends.{remains, AreLegal};
 ghost use Rattle.xc_world.specs.Opening.{opening_state};
 
+pub mod beside;
 pub mod checks;
 pub mod effects;
 mod handles;

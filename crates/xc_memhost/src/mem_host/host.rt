@@ -8,13 +8,17 @@ ghost use Rattle.xc_host.specs.Fronts.{IsFront};
 ghost use Rattle.xc_host.specs.Model.{Answers};
 ghost use Rattle.xc_memhost.specs.State.{opened_state, mem_host_model};
 ghost use Rattle.xc_memhost.specs.Faults.{is_listed, begun};
-ghost use Rattle.xc_memhost.specs.Machine.{front_of, written_of, written, lengthened};
+ghost use Rattle.xc_host.specs.Contents.{world_of};
+ghost use Rattle.xc_host.specs.Pipes.{pipe_in, has_pipe, with_new_pipe, put_into, shut_in, without_pipe};
+ghost use Rattle.xc_host.specs.Pipes.{state_of, IsTakenOf, IsSomeOf, after_take, is_shuttable};
+ghost use Rattle.xc_memhost.specs.Machine.{front_of, written_of, written, lengthened, taken, filled};
+ghost use Rattle.xc_world.specs.Sound.{is_there};
 
 use super::MemHost;
 use crate::faults::{Faults, grained};
 use crate::objects::Objects;
-use xc_data::{Chunk, Kind, Name, Num, Prologue};
-use xc_host::{Fault, Host, HostErr, KindCounts, OpenErr};
+use xc_data::{Chunk, Kind, Name, Num, Object, Prologue};
+use xc_host::{Fault, Host, HostErr, HostState, KindCounts, OpenErr, Took};
 
 impl Host for MemHost {
     ghost model = { mem_host_model };
@@ -202,6 +206,102 @@ impl Host for MemHost {
         Ok(())
     }
 
+    fn new_pipe(&mut self, num: Num) -> Result<(), HostErr>
+        requires new { has_pipe self.old.contents num ≡ false }
+        ensures answered { Answers mem_host_model Kind.NewPipe (record { old = self.old; new = self.new }) result
+            (λ _ c. with_new_pipe c num) }
+
+        // Exactly the listed calls fail. Without memory a call was counted, and nothing else.
+        ensures fault { is_fault result ≡ is_listed Kind.NewPipe self.old }
+        ensures state { OnOk result
+            (self.new ≡ record (begun Kind.NewPipe self.old) { contents = with_new_pipe self.old.contents num }) }
+        ensures failed { OnErr result (self.new ≡ begun Kind.NewPipe self.old) }
+    {
+        if self.fails(Kind::NewPipe) {
+            return Err(HostErr::Fault);
+        }
+        Ok(self.objects.new_pipe(num)?)
+    }
+
+    fn pipe_state(&mut self, pipe: Num) -> Result<HostState, Fault>
+        requires there { has_pipe self.old.contents pipe ≡ true }
+        ensures value { IfOk result (λ state. state ≡ state_of (pipe_in self.old.contents pipe)) }
+        ensures answered { Answers mem_host_model Kind.PipeState (record { old = self.old; new = self.new }) (without_memory result)
+            (λ state c. c) }
+
+        // Exactly the listed calls fail.
+        ensures fault { is_err result ≡ is_listed Kind.PipeState self.old }
+        ensures state { self.new ≡ begun Kind.PipeState self.old }
+    {
+        if self.fails(Kind::PipeState) {
+            return Err(Fault);
+        }
+        Ok(self.objects.pipe_state(pipe))
+    }
+
+    fn take(&mut self, pipe: Num, n: u32) -> Result<Took, HostErr>
+        requires there { has_pipe self.old.contents pipe ≡ true }
+        requires some { 0 < n }
+        ensures bound { IfOk result (IsSomeOf n) }
+        ensures value { IfOk result (IsTakenOf (pipe_in self.old.contents pipe)) }
+        ensures answered { Answers mem_host_model Kind.Take (record { old = self.old; new = self.new }) result (after_take pipe) }
+
+        // Exactly the listed calls fail, and a take gives exactly so many bytes. Without memory a call
+        // was counted, and nothing else.
+        ensures fault { is_fault result ≡ is_listed Kind.Take self.old }
+        ensures front { IfOk result (λ took. took ≡ taken self.old pipe n) }
+        ensures state { OnOk result
+            (self.new ≡ record (begun Kind.Take self.old) { contents = after_take pipe (taken self.old pipe n) self.old.contents }) }
+        ensures failed { OnErr result (self.new ≡ begun Kind.Take self.old) }
+    {
+        if self.fails(Kind::Take) {
+            return Err(HostErr::Fault);
+        }
+        Ok(self.take_front(pipe, n)?)
+    }
+
+    fn put(&mut self, pipe: Num, bytes: &[u8]) -> Result<u32, HostErr>
+        requires there { has_pipe self.old.contents pipe ≡ true }
+        requires unshut { (pipe_in self.old.contents pipe).shut ≡ false }
+        requires fits { length (pipe_in self.old.contents pipe).held + length bytes.now ≤ 4096 }
+        requires some { 0 < length bytes.now }
+        ensures bound { IfOk result (λ n. (0 < n) × (n ≤ length bytes.now)) }
+        ensures answered { Answers mem_host_model Kind.Put (record { old = self.old; new = self.new }) result
+            (λ n c. put_into c pipe (take n bytes.now)) }
+
+        // Exactly the listed calls fail, and one puts exactly so many bytes. Without memory a call was
+        // counted, and nothing else.
+        ensures fault { is_fault result ≡ is_listed Kind.Put self.old }
+        ensures size { IfOk result (λ n. n ≡ written_of self.old bytes.now) }
+        ensures state { OnOk result
+            (self.new ≡ record (begun Kind.Put self.old) { contents = filled self.old pipe bytes.now }) }
+        ensures failed { OnErr result (self.new ≡ begun Kind.Put self.old) }
+    {
+        if self.fails(Kind::Put) {
+            return Err(HostErr::Fault);
+        }
+        Ok(self.fill(pipe, bytes)?)
+    }
+
+    fn shut(&mut self, object: &Object) -> Result<(), Fault>
+        requires shuttable { is_shuttable object.now ≡ true }
+        requires there { is_there (world_of self.old.contents) object.now ≡ true }
+        ensures answered { Answers mem_host_model Kind.Shut (record { old = self.old; new = self.new }) (without_memory result)
+            (λ _ c. shut_in c object.now) }
+
+        // Exactly the listed calls fail.
+        ensures fault { is_err result ≡ is_listed Kind.Shut self.old }
+        ensures state { OnOk result
+            (self.new ≡ record (begun Kind.Shut self.old) { contents = shut_in self.old.contents object.now }) }
+        ensures failed { OnErr result (self.new ≡ begun Kind.Shut self.old) }
+    {
+        if self.fails(Kind::Shut) {
+            return Err(Fault);
+        }
+        self.objects.shut(object);
+        Ok(())
+    }
+
     fn restore(&mut self, file: Num, at: u32, bytes: &[u8]) -> Result<u32, Fault>
         requires there { has_file self.old.contents file ≡ true }
         requires inside { at + length bytes.now ≤ length (file_in self.old.contents file) }
@@ -277,6 +377,24 @@ impl Host for MemHost {
             return Err(Fault);
         }
         self.objects.rename(*to, *from);
+        Ok(())
+    }
+
+    fn drop_pipe(&mut self, num: Num) -> Result<(), Fault>
+        requires there { has_pipe self.old.contents num ≡ true }
+        ensures answered { Answers mem_host_model Kind.DropPipe (record { old = self.old; new = self.new }) (without_memory result)
+            (λ _ c. without_pipe c num) }
+
+        // Exactly the listed calls fail.
+        ensures fault { is_err result ≡ is_listed Kind.DropPipe self.old }
+        ensures state { OnOk result
+            (self.new ≡ record (begun Kind.DropPipe self.old) { contents = without_pipe self.old.contents num }) }
+        ensures failed { OnErr result (self.new ≡ begun Kind.DropPipe self.old) }
+    {
+        if self.fails(Kind::DropPipe) {
+            return Err(Fault);
+        }
+        self.objects.drop_pipe(num);
         Ok(())
     }
 }

@@ -3,8 +3,8 @@ ghost use Rattle.xc_host.specs.Contents.{nothing};
 ghost use Rattle.xc_host.specs.Counting.{calls_of};
 
 use super::{Asked, TestHost};
-use xc_data::{Chunk, Kind, Name, Num, Prologue};
-use xc_host::{Fault, Host, HostErr, KindCounts, OpenErr};
+use xc_data::{Chunk, Kind, Name, Num, Object, Prologue};
+use xc_host::{Fault, Host, HostErr, HostState, KindCounts, OpenErr, Took};
 
 impl Host for TestHost {
     ghost model = { record {
@@ -100,6 +100,47 @@ impl Host for TestHost {
         Ok(())
     }
 
+    fn new_pipe(&mut self, num: Num) -> Result<(), HostErr> {
+        if self.fails(Asked::plain(Kind::NewPipe)) {
+            return Err(HostErr::Fault);
+        }
+        Ok(self.pipes.make(num)?)
+    }
+
+    fn pipe_state(&mut self, pipe: Num) -> Result<HostState, Fault> {
+        if self.fails(Asked::plain(Kind::PipeState)) {
+            return Err(Fault);
+        }
+        Ok(self.pipes.state(pipe))
+    }
+
+    fn take(&mut self, pipe: Num, n: u32) -> Result<Took, HostErr> {
+        if self.fails(Asked::new(Kind::Take, 0, n as usize)) {
+            return Err(HostErr::Fault);
+        }
+        Ok(self.pipes.take(pipe, n.min(self.grain).max(1))?)
+    }
+
+    fn put(&mut self, pipe: Num, bytes: &[u8]) -> Result<u32, HostErr> {
+        if self.fails(Asked::new(Kind::Put, 0, bytes.len())) {
+            return Err(HostErr::Fault);
+        }
+        let n = self.grained(bytes);
+        self.pipes.put(pipe, &bytes[..n])?;
+        Ok(n as u32)
+    }
+
+    // It has no pairs.
+    fn shut(&mut self, object: &Object) -> Result<(), Fault> {
+        if self.fails(Asked::plain(Kind::Shut)) {
+            return Err(Fault);
+        }
+        if let Object::Pipe(num) = object {
+            self.pipes.shut(*num);
+        }
+        Ok(())
+    }
+
     fn restore(&mut self, file: Num, at: u32, bytes: &[u8]) -> Result<u32, Fault> {
         if self.fails(Asked::new(Kind::Restore, at, bytes.len())) {
             return Err(Fault);
@@ -130,6 +171,14 @@ impl Host for TestHost {
             return Err(Fault);
         }
         self.change_name(to, from);
+        Ok(())
+    }
+
+    fn drop_pipe(&mut self, num: Num) -> Result<(), Fault> {
+        if self.fails(Asked::plain(Kind::DropPipe)) {
+            return Err(Fault);
+        }
+        self.pipes.remove(num);
         Ok(())
     }
 }
