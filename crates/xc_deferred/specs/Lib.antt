@@ -1,3 +1,4 @@
 pub mod Queue
 pub mod Does
+pub mod Puts
 pub mod Ended

@@ -4,6 +4,7 @@ use Rattle.std.specs.List.{All}
 use Rattle.xc_data.specs.declared.call.LateCall.{LateCall}
 use Rattle.xc_data.specs.declared.call.LateCall.TheVariants.{Unlink, Sync, WritePipe, Shutdown, Send, Thread}
 use Rattle.xc_data.specs.declared.call.LateEnd.{LateEnd}
+use Rattle.xc_host.specs.Pipes.{is_shuttable}
 
 -- a transaction's calls that are kept for the commit, each on the object that was fixed at the call, and the ends of the
 -- first of them
@@ -15,12 +16,12 @@ pub record Queue : Type 0 where
 abbrev pub left : Queue → List LateCall
 left q = drop (length q.ends) q.calls
 
--- late calls of the kinds that are built: unlink and sync
+-- late calls of the kinds that are built: all but those that send a message or start a job; what is shut is a pipe or a pair
 abbrev pub is_late_built : LateCall → Bool
 is_late_built (Unlink name) = true
 is_late_built (Sync num) = true
-is_late_built (WritePipe num bytes) = false
-is_late_built (Shutdown object) = false
+is_late_built (WritePipe num bytes) = true
+is_late_built (Shutdown object) = is_shuttable object
 is_late_built (Send num side bytes) = false
 is_late_built (Thread body) = false
 

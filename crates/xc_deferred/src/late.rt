@@ -2,10 +2,13 @@ ghost use Rattle.std.specs.Prelude.{◌≡◌, ◌<◌, ◌++◌, ◌∷◌, [],
 ghost use Rattle.xc_data.specs.declared.call.LateCall.{LateCall as PlainCall};
 ghost use Rattle.xc_deferred.specs.Does.{EndsNext, IsThereFor};
 ghost use Rattle.xc_deferred.specs.Queue.{is_late_built, left};
+ghost use Rattle.xc_host.specs.Fronted.{before, fronted};
+ghost use Rattle.xc_host.specs.Kept.{KeepsData};
 
 use crate::doing::do_late;
 use std::alloc::Global;
 use std::marker::Model;
+use xc_buffers::Kept;
 use xc_data::{LateCall, LateEnd, LateList, NoMemory};
 use xc_host::Host;
 use xc_journal::Roomy;
@@ -65,15 +68,18 @@ impl Late {
         self.ends.len() < self.calls.len()
     }
 
-    /// Does the first call that has no end yet, and notes how it ended. It takes no memory of its own.
-    pub fn do_one<H: Host>(&mut self, host: &mut H)
+    /// Does the first call that has no end yet, at a host with kept items in front of it, and notes how it ended. It
+    /// takes no memory of its own.
+    pub fn do_one<H: Host>(&mut self, host: &mut H, kept: &Kept)
         requires left { 0 < length (left self.old) }
         requires there { IsTrue H.model.tells → (call : PlainCall) (calls : List PlainCall) → left self.old ≡ call ∷ calls
             → IsThereFor (H.model.contents host.old) call }
-        ensures { (call : PlainCall) (calls : List PlainCall) → left self.old ≡ call ∷ calls
-            → EndsNext H.model call (record { host = host.old; late = self.old }) (record { host = host.new; late = self.new }) }
+        ensures ends { (call : PlainCall) (calls : List PlainCall) → left self.old ≡ call ∷ calls
+            → EndsNext (fronted H.model) call (record { host = before host.old kept.now.items; late = self.old })
+            (record { host = before host.new kept.now.items; late = self.new }) }
+        ensures keeps { IsTrue H.model.tells → KeepsData (H.model.contents host.old) (H.model.contents host.new) }
     {
-        let end = do_late(host, self.calls.get(self.ends.len()));
+        let end = do_late(host, kept, self.calls.get(self.ends.len()));
         self.ends.enter(end);
     }
 

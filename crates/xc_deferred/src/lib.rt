@@ -3,5 +3,6 @@
 
 mod doing;
 mod late;
+mod putting;
 
 pub use late::Late;

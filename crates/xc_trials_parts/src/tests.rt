@@ -1,3 +1,4 @@
+mod buffers;
 mod claims;
 mod compensate;
 mod data;
@@ -7,6 +8,8 @@ mod file;
 mod journal;
 mod machine;
 mod memhost;
+mod pipe_calls;
+mod pipes;
 mod sentinels;
 mod testhost;
 mod words;

@@ -2,7 +2,7 @@ ghost use Rattle.std.specs.Prelude.{IfOk};
 ghost use Rattle.xc_compensate.specs.Records.{IsRecord};
 
 use super::{FILE, host_of, name};
-use Kind::{Append, Create, Cut, NameBack, Rename, Restore, Uncreate};
+use Kind::{Append, Create, Cut, DropPipe, NameBack, NewPipe, Rename, Restore, Uncreate};
 use std::alloc::Global;
 use std::test::Fail;
 use xc_compensate::{Stack, UndoTurn};
@@ -134,5 +134,36 @@ fn a_chain_is_undone_call_by_call(rt: HostRuntime) -> Result<(), Fail> {
     let stack = chain(rt.alloc())?;
     let host = host_of(rt.alloc(), b"")?;
     assert!(rt; is_undone_call_by_call(host, &made, &moved, stack));
+    Ok(())
+}
+
+// ---- a pipe
+
+// A pipe that was made.
+const PIPE: Num = Num { tx: 1, k: 1 };
+
+fn with_pipe(alloc: Global) -> Result<Stack, NoMemory> {
+    let mut stack = Stack::new(alloc);
+    stack.push(Undo::NewPipe(PIPE))?;
+    Ok(stack)
+}
+
+// A try that failed is told.
+fn drops_the_pipe(mut host: TestHost, mut stack: Stack) -> bool {
+    host.fails = [2, 0, 0];
+    let calls = [
+        Asked::plain(NewPipe),
+        Asked::plain(DropPipe),
+        Asked::plain(DropPipe),
+    ];
+    host.new_pipe(PIPE).is_ok()
+        && stack.undo_next(&mut host, 3) == UndoTurn::Undone { faults: 1 }
+        && host.log.as_slice() == calls.as_slice()
+}
+
+#[test]
+fn a_new_pipe_is_dropped(rt: HostRuntime) -> Result<(), Fail> {
+    let stack = with_pipe(rt.alloc())?;
+    assert!(rt; drops_the_pipe(host_of(rt.alloc(), b"")?, stack));
     Ok(())
 }

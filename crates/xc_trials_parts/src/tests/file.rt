@@ -5,6 +5,7 @@ use super::{FILE, are_of, host_of, name};
 use Kind::{Append, Create, Len, Lookup, ReadAt, Rename, Sync, Unlink, WriteAt};
 use std::alloc::Global;
 use std::test::Fail;
+use xc_buffers::Kept;
 use xc_compensate::Stack;
 use xc_data::{Chunk, Kind, LateEnd, Name, NoMemory, Place, Private, Reply};
 use xc_deferred::Late;
@@ -187,7 +188,8 @@ fn an_unlink_is_late(rt: HostRuntime) -> Result<(), Fail> {
     let mut late = Late::new(rt.alloc());
     assert!(rt; unlinks(&mut late, &name)?);
     let ends = [LateEnd::Done, LateEnd::NoName];
-    assert!(rt; ends_so(host, late, &ends, &[Lookup, Unlink, Lookup]));
+    let kept = Kept::new(rt.alloc());
+    assert!(rt; ends_so(host, late, &kept, &ends, &[Lookup, Unlink, Lookup]));
     Ok(())
 }
 
@@ -204,6 +206,7 @@ fn a_sync_is_late(rt: HostRuntime) -> Result<(), Fail> {
     let host = host_of(rt.alloc(), b"hello")?;
     let mut late = Late::new(rt.alloc());
     assert!(rt; syncs(&mut late)?);
-    assert!(rt; ends_so(host, late, &[LateEnd::Done], &[Sync]));
+    let kept = Kept::new(rt.alloc());
+    assert!(rt; ends_so(host, late, &kept, &[LateEnd::Done], &[Sync]));
     Ok(())
 }

@@ -3,8 +3,8 @@ use Rattle.xc_data.specs.declared.script.Kind.TheVariants.{Lookup, Unlink}
 use Rattle.xc_host.proofs.Called.{used_then}
 use Rattle.xc_deferred.proofs.doing.unlink.Goals as goal
 
-pub returns-in-Err : goal.returns-in-Err
-returns-in-Err g c = record {
+pub returns-in-Err-clause-ends : goal.returns-in-Err-clause-ends
+returns-in-Err-clause-ends g c = record {
   cause = search rules;
   uses = record {
     made = Lookup ∷ Unlink ∷ [];

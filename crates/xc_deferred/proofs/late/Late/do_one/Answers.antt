@@ -1,3 +1,4 @@
+use Rattle.xc_host.specs.Fronted.{before, fronted}
 use Rattle.xc_deferred.proofs.Next.{left_at, ends_next}
 use Rattle.xc_deferred.proofs.late.Late.do_one.Goals as goal
 
@@ -6,7 +7,9 @@ do_late-end-requires-clause-there g c =
     λ t. c.requires.there t c.get.result.now _
     (left_at c.args.self.now c.self.inside.calls.items c.self.inside.ends.items c.len.result c.get.result.now c.self.view_is c.len.ensures c.get.ensures)
 
-pub returns : goal.returns
-returns g c =
-    ends_next g.H.Host.model c.args.host.now c.do_late-end.new.host c.args.self.now c.self.inside.calls.items c.self.inside.ends.items c.enter.new.self.items
-    c.len.result c.get.result.now c.do_late-end.result c.self.view_is c.len.ensures c.get.ensures c.enter.ensures.items c.do_late-end.ensures
+pub returns-clause-ends : goal.returns-clause-ends
+returns-clause-ends g c =
+    let items = c.args.kept.now.items in
+    ends_next (fronted g.H.Host.model) (before c.args.host.now items) (before c.do_late-end.new.host items) c.args.self.now c.self.inside.calls.items
+    c.self.inside.ends.items c.enter.new.self.items c.len.result c.get.result.now c.do_late-end.result c.self.view_is c.len.ensures c.get.ensures
+    c.enter.ensures.items c.do_late-end.ensures.ends

@@ -1,0 +1,9 @@
+pub mod Orders
+pub mod Splits
+pub mod Turns
+pub mod Ordered
+pub mod Fronts
+pub mod Held
+pub mod Puts
+pub mod Gathered
+pub mod Takes

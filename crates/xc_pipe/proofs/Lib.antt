@@ -1,0 +1,5 @@
+pub mod Made
+pub mod Takings
+pub mod ReadSteps
+pub mod ReadCalls
+pub mod TakeRuns

@@ -1,0 +1,129 @@
+-- A pipe that is made, as the plain machine makes it, whatever is kept of others.
+use Rattle.std.proofs.Common.{◌≡◌, ℕ, ◌<◌, ◌≤◌, length, arith, true, false, Some, Ok, Err, List, [], refl, ap, sym, ◌∙◌}
+use Rattle.std.proofs.Common.{subst, if◌then◌else◌}
+use Rattle.std.proofs.Math.Bool.{or-false}
+use Rattle.std.proofs.lemmas.Bool.{lt-leb}
+use Rattle.std.specs.Prelude.{Result, IfOk, OnErr, not, ◌&&◌}
+use Rattle.xc_data.specs.declared.object.Num.{Num}
+use Rattle.xc_data.specs.declared.memory.NoMemory.{NoMemory}
+use Rattle.xc_data.specs.declared.call.Call.TheVariants.{XPipe}
+use Rattle.xc_data.specs.declared.call.Answer.{Answer}
+use Rattle.xc_data.specs.declared.call.Answer.TheVariants as answer
+use Rattle.xc_data.specs.declared.call.Reply.{Reply}
+use Rattle.xc_data.specs.declared.call.Reply.TheVariants as reply
+use Rattle.xc_data.specs.declared.entry.KeptItem.{KeptItem}
+use Rattle.xc_data.specs.declared.private.Private.{Private}
+use Rattle.xc_data.specs.Private.{lowest_vacant}
+use Rattle.xc_world.specs.World.{World, with_pipe, empty_pipe}
+use Rattle.xc_world.specs.Act.{act, done}
+use Rattle.xc_world.specs.Act.Step.{step_to, counted}
+use Rattle.xc_world.specs.Act.Names.{next_num}
+use Rattle.xc_world.specs.Act.Pipes.{new_pipe}
+use Rattle.xc_world.specs.Checks.{has_made_all, is_check_reply}
+use Rattle.xc_world.specs.Trail.{pipe_record}
+use Rattle.xc_buffers.specs.Items.{kept_bytes}
+use Rattle.xc_buffers.proofs.Held.{pipe_put}
+use Rattle.xc_deferred.proofs.Lifted.{world_with}
+use Rattle.xc_host.specs.Contents.{Contents, with_contents}
+use Rattle.xc_compensate.specs.Records.{Records}
+use Rattle.xc_host.specs.Fronted.{before, fronted}
+use Rattle.xc_host.specs.Kept.{with_kept}
+use Rattle.xc_host.specs.Model.{HostModel}
+use Rattle.xc_host.specs.Pipes.{with_new_pipe}
+use Rattle.xc_file.specs.Calls.{Acts, IsMePassed}
+use Rattle.xc_file.specs.Passing.{IsAsBefore}
+use Rattle.xc_file.proofs.FileCalls.{moment}
+use Rattle.xc_file.proofs.NameCalls.{much, much_none}
+use Rattle.xc_pipe.specs.Making.{IsMadeAt, Makes, with_made, made_record}
+
+-- a call that the checks let pass
+passes : (w : World) (me : Private) (number : ℕ) (answer : Answer) → much (has_made_all me) (lowest_vacant me.places) ≡ false
+    → act w me number XPipe answer ≡ counted XPipe (done w me number XPipe answer)
+passes w me number answer free = ap (λ b. if b then step_to w me reply.TooMuch else counted XPipe (done w me number XPipe answer)) free
+
+-- a new pipe, in a world with kept items of others
+new_there : (w : World) (c d : Contents) (num : Num) (items : List KeptItem) → kept_bytes num items ≡ [] → d ≡ with_new_pipe c num
+    → with_pipe (with_contents w (with_kept c items)) num empty_pipe ≡ with_contents w (with_kept d items)
+new_there w c d num items none did =
+    ap (λ x. with_pipe x num empty_pipe) (world_with w c items) ∙ sym (pipe_put (with_contents w c) items num empty_pipe none)
+    ∙ sym (world_with w (with_new_pipe c num) items) ∙ ap (λ x. with_contents w (with_kept x items)) (sym did)
+
+pipe_acts : (c d : Contents) (items : List KeptItem) (number : ℕ) (me : Private) (h : ℕ) (r : Reply) → me.made < 16 → lowest_vacant me.places ≡ Some h
+    → kept_bytes (next_num me number) items ≡ [] → Makes (record { old = c; new = d }) (next_num me number) h r
+    → Acts XPipe (moment (with_kept c items) number me) (moment (with_kept d items) number (with_made me h (next_num me number) r)) r
+pipe_acts c d items number me h (reply.Made k) few vacant none (at, did) =
+    let num = next_num me number in
+    let next = with_made me h num (reply.Made h) in
+    let free = much_none (has_made_all me) (lowest_vacant me.places) h (lt-leb 16 me.made few) vacant in
+    subst (λ j. Acts XPipe (moment (with_kept c items) number me) (moment (with_kept d items) number next) (reply.Made j)) (sym at)
+    (record {
+      step = λ w.
+          let x = with_contents w (with_kept c items) in
+          passes x me number answer.Fine free ∙ ap (λ v. counted XPipe (new_pipe x me number v)) vacant
+          ∙ ap (λ y. step_to y next (reply.Made h)) (new_there w c d num items none did);
+      fits = λ w. refl;
+    })
+pipe_acts c d items number me h (reply.Fault n) few vacant none (zero, same) =
+    let free = much_none (has_made_all me) (lowest_vacant me.places) h (lt-leb 16 me.made few) vacant in
+    subst (λ m. Acts XPipe (moment (with_kept c items) number me) (moment (with_kept d items) number me) (reply.Fault m)) (sym zero)
+    (record {
+      step = λ w.
+          passes (with_contents w (with_kept c items)) me number (answer.Fault 0) free
+          ∙ ap (λ x. step_to (with_contents w (with_kept x items)) me (reply.Fault 0)) (sym same);
+      fits = λ w. ap (λ b. not b && true) (or-false (much (has_made_all me) (lowest_vacant me.places)) ∙ free);
+    })
+pipe_acts c d items number me h _ few vacant none never = absurd never
+
+-- making a pipe is the plain machine's step
+pub made_acts : (c d : Contents) (items : List KeptItem) (number : ℕ) (me next : Private) (h : ℕ) (result : Result Reply NoMemory) → me.made < 16
+    → lowest_vacant me.places ≡ Some h → kept_bytes (next_num me number) items ≡ []
+    → IfOk result (λ r. next ≡ with_made me h (next_num me number) r)
+    → IfOk result (Makes (record { old = c; new = d }) (next_num me number) h)
+    → IfOk result (Acts XPipe (moment (with_kept c items) number me) (moment (with_kept d items) number next))
+made_acts c d items number me next h (Ok r) few vacant none same told =
+    subst (λ m. Acts XPipe (moment (with_kept c items) number me) (moment (with_kept d items) number m) r) (sym same)
+    (pipe_acts c d items number me h r few vacant none told)
+made_acts c d items number me next h (Err e) few vacant none same told = tt
+
+passed_reply : (h : ℕ) (r : Reply) → IsMadeAt h r → is_check_reply XPipe r ≡ false
+passed_reply h (reply.Made k) at = refl
+passed_reply h (reply.Fault n) at = refl
+passed_reply h _ never = absurd never
+
+-- its reply is none of a check's
+pub made_reply : (h : ℕ) (result : Result Reply NoMemory) → IfOk result (IsMadeAt h) → IfOk result (λ r. is_check_reply XPipe r ≡ false)
+made_reply h (Ok r) at = passed_reply h r at
+made_reply h (Err e) at = tt
+
+me_of : (number : ℕ) (me : Private) (h : ℕ) (r : Reply) → lowest_vacant me.places ≡ Some h → IsMadeAt h r
+    → IsMePassed number XPipe me (with_made me h (next_num me number) r) r
+me_of number me h (reply.Made k) vacant at =
+    subst (λ j. IsMePassed number XPipe me (with_made me h (next_num me number) (reply.Made h)) (reply.Made j)) (sym at)
+    (record { places = (vacant, refl); made = refl; stored = omega arith })
+me_of number me h (reply.Fault n) vacant at = record { places = refl; made = refl; stored = omega arith }
+me_of number me h _ vacant never = absurd never
+
+-- the private state has the new pipe at its handle
+pub made_me : (number : ℕ) (me next : Private) (h : ℕ) (result : Result Reply NoMemory) → lowest_vacant me.places ≡ Some h
+    → IfOk result (IsMadeAt h) → IfOk result (λ r. next ≡ with_made me h (next_num me number) r)
+    → IfOk result (IsMePassed number XPipe me next)
+made_me number me next h (Ok r) vacant at same = subst (λ m. IsMePassed number XPipe me m r) (sym same) (me_of number me h r vacant at)
+made_me number me next h (Err e) vacant at same = tt
+
+-- it leaves one record at most
+pub made_one : (me : Private) (number : ℕ) (r : Reply) → length (made_record (next_num me number) r) ≤ 1
+made_one me number (reply.Made h) = omega arith
+made_one me number _ = omega arith
+
+-- which is the plain machine's
+pub made_recorded : (me : Private) (number : ℕ) (r : Reply) → made_record (next_num me number) r ≡ pipe_record me number r
+made_recorded me number (reply.Made h) = refl
+made_recorded me number _ = refl
+
+-- all is as before with kept items in front where it is without
+pub before_fronted : {H : Type 0} (model : HostModel H) (items : List KeptItem) (a b : H) (u v : Records) (result : Result Reply NoMemory)
+    → OnErr result (IsAsBefore model (record { old = record { host = a; undo = u }; new = record { host = b; undo = v } }))
+    → OnErr result (IsAsBefore (fronted model) (record { old = record { host = before a items; undo = u }; new = record { host = before b items; undo = v } }))
+before_fronted model items a b u v (Ok r) is = tt
+before_fronted model items a b u v (Err e) is =
+    record { undo = is.undo; contents = λ t. ap (λ c. with_kept c items) (is.contents t) }

@@ -1,0 +1,4 @@
+pub mod Checks
+pub mod Making
+pub mod Reading
+pub mod Deferring

@@ -1,0 +1,121 @@
+-- What is taken from a pipe of a host with kept items in front of what it holds.
+use Rattle.std.specs.Prelude.{◌≡◌, ℕ, ◌+◌, ◌<◌, ◌≤◌, ◌++◌, true, false, List, [], ◌∷◌, length, replicate, Result, Ok, Err, ◌==◌}
+use Rattle.std.specs.Prelude.{if◌then◌else◌}
+use Rattle.xc_data.specs.Step.{Step}
+use Rattle.xc_data.specs.declared.call.Call.{Call}
+use Rattle.xc_data.specs.declared.call.Reply.{Reply}
+use Rattle.xc_data.specs.declared.call.Reply.TheVariants.{Got, Empty, End, Fault}
+use Rattle.xc_data.specs.declared.entry.KeptItem.{KeptItem}
+use Rattle.xc_data.specs.declared.memory.NoMemory.{NoMemory}
+use Rattle.xc_data.specs.declared.object.Num.{Num}
+use Rattle.xc_data.specs.declared.private.Place.{Place}
+use Rattle.xc_data.specs.declared.private.Place.TheVariants.{Pipe}
+use Rattle.xc_data.specs.declared.private.Private.{Private}
+use Rattle.xc_data.specs.declared.script.Kind.{Kind}
+use Rattle.xc_data.specs.declared.script.Kind.TheVariants as kind
+use Rattle.xc_world.specs.World.{World}
+use Rattle.xc_world.specs.Run.{bytes_taken, given_back, taken_by}
+use Rattle.xc_buffers.specs.Items.{kept_bytes}
+use Rattle.xc_host.specs.Contents.{Contents, with_contents}
+use Rattle.xc_host.specs.Pipes.{pipe_in, has_pipe}
+use Rattle.xc_host.specs.Uses.{MayMove, TakesFor}
+use Rattle.xc_host.specs.declared.errors.HostErr.{HostErr}
+use Rattle.xc_host.specs.declared.errors.HostErr.TheVariants as host_err
+use Rattle.xc_host.specs.declared.pipes.Took.{Took}
+use Rattle.xc_host.specs.declared.pipes.Took.TheVariants as took
+
+-- what a host holds, and what is kept in front of it
+pub record Sides : Type 0 where
+  pub contents : Contents
+  pub items : List KeptItem
+
+-- a world with both
+abbrev pub world_at : World → Sides → World
+world_at w s = given_back (with_contents w s.contents) s.items
+
+-- bytes of a pipe that are given back
+abbrev pub back : Num → List ℕ → List KeptItem
+back pipe bytes = bytes_taken (Pipe pipe) bytes
+
+-- these bytes were taken from the front of a pipe before, and those are taken behind: either given back, the world is the same
+abbrev pub Leads : Num → List ℕ → List ℕ → Step Sides → Type 0
+Leads pipe front bytes s = (w : World) → given_back (world_at w s.old) (back pipe front) ≡ given_back (world_at w s.new) (back pipe bytes)
+
+-- the pipe is there still
+abbrev pub IsThere : Num → Sides → Type 0
+IsThere pipe s = has_pipe s.contents pipe ≡ true
+
+-- no byte is left in a pipe
+pub record IsDrained (pipe : Num) (s : Sides) : Type 0 where
+  pub held : (pipe_in s.contents pipe).held ≡ []
+  pub kept : kept_bytes pipe s.items ≡ []
+
+-- what was found of at most n bytes of a pipe, of which these were taken before: the first n, or all where those are fewer; or
+-- none is there, and the pipe is shut where this is its end
+abbrev pub Finds : Num → ℕ → List ℕ → Step Sides → Took → Type 0
+Finds pipe n front s (took.Bytes bytes) = Leads pipe front bytes s × IsThere pipe s.new × (length bytes < n → IsDrained pipe s.new)
+Finds pipe n front s took.Empty = Leads pipe front [] s × IsDrained pipe s.new × ((pipe_in s.new.contents pipe).shut ≡ false)
+Finds pipe n front s took.End = Leads pipe front [] s × IsDrained pipe s.new × ((pipe_in s.new.contents pipe).shut ≡ true)
+
+-- bytes that are some, or none where there are none
+abbrev pub found_of : List ℕ → Took → Took
+found_of bytes none = if length bytes == 0 then none else took.Bytes bytes
+
+-- the takes that ended so, behind kept bytes of this many
+abbrev pub TakesUntil : ℕ → ℕ → Result Took HostErr → List Kind → Type 0
+TakesUntil n front (Ok (took.Bytes bytes)) made =
+    (count : ℕ) × (count + front ≤ length bytes + 1) × (count + front ≤ n) × (length bytes < n → 1 ≤ count)
+    × (made ≡ replicate count kind.Take)
+TakesUntil n front (Ok found) made = made ≡ kind.Take ∷ []
+TakesUntil n front (Err e) made = (count : ℕ) × (1 ≤ count) × (count + front ≤ n) × (made ≡ replicate count kind.Take)
+
+-- the takes that ended so, behind kept bytes or none
+abbrev pub TakenBy : ℕ → Result Took HostErr → List Kind → Type 0
+TakenBy n (Ok (took.Bytes bytes)) made = (count : ℕ) × TakesFor n (Got bytes) count × (made ≡ replicate count kind.Take)
+TakenBy n (Ok found) made = made ≡ kind.Take ∷ []
+TakenBy n (Err host_err.Fault) made = (count : ℕ) × MayMove n count × (made ≡ replicate count kind.Take)
+TakenBy n (Err host_err.NoMemory) made = (count : ℕ) × (count ≤ n) × (made ≡ replicate count kind.Take)
+
+-- the takes of a read of n bytes with this reply; where memory was wanting, the first of them
+abbrev pub ReadsBy : ℕ → Result Reply NoMemory → List Kind → Type 0
+ReadsBy n (Ok reply) made = (count : ℕ) × TakesFor n reply count × (made ≡ replicate count kind.Take)
+ReadsBy n (Err e) made = (count : ℕ) × (count ≤ n) × (made ≡ replicate count kind.Take)
+
+-- what a read of n bytes with this reply did: the bytes left the pipe; or none is there; or with a fault all is as before
+abbrev pub Reads : Num → ℕ → Step Sides → Reply → Type 0
+Reads pipe n s (Got bytes) = Finds pipe n [] s (took.Bytes bytes)
+Reads pipe n s Empty = Finds pipe n [] s took.Empty
+Reads pipe n s End = Finds pipe n [] s took.End
+Reads pipe n s (Fault k) = Leads pipe [] [] s
+-- it has no other reply
+Reads pipe n s _ = ⊥
+
+-- bytes that are some, and at most n; or none, and a fault before any
+abbrev pub IsReadReply : ℕ → Reply → Type 0
+IsReadReply n (Got bytes) = (1 ≤ length bytes) × (length bytes ≤ n)
+IsReadReply n Empty = Unit {0}
+IsReadReply n End = Unit {0}
+IsReadReply n (Fault k) = k ≡ 0
+-- it has no other reply
+IsReadReply n _ = ⊥
+
+-- what a reply took from a pipe
+abbrev pub taken_of : Num → Reply → List KeptItem
+taken_of pipe (Got bytes) = back pipe bytes
+-- no other reply took anything
+taken_of pipe _ = []
+
+-- a read notes what its reply took, and nothing where memory was wanting
+abbrev pub NotesOf : Num → List KeptItem → List KeptItem → Result Reply NoMemory → Type 0
+NotesOf pipe old new (Ok reply) = new ≡ old ++ taken_of pipe reply
+NotesOf pipe old new (Err e) = new ≡ old
+
+-- a call notes what the plain machine's takes with its reply, and nothing where memory was wanting
+abbrev pub Notes : Call → Private → Step (List KeptItem) → Result Reply NoMemory → Type 0
+Notes call me notes (Ok reply) = notes.new ≡ notes.old ++ taken_by call me reply
+Notes call me notes (Err e) = notes.new ≡ notes.old
+
+-- a pipe that is open at a place is there
+abbrev pub IsPipeIn : Contents → Place → Type 0
+IsPipeIn c (Pipe num) = has_pipe c num ≡ true
+IsPipeIn c _ = Unit {0}
