@@ -1,5 +1,5 @@
 -- What a run promises, in the words of the plain machine alone.
-use Rattle.std.specs.Prelude.{◌≡◌, ℕ, ◌⊎◌, ◌&&◌, Bool, true, false, not, nat_lt, List, take, sum_by, IsSome, IsTrue, Option, Ok, Err}
+use Rattle.std.specs.Prelude.{◌≡◌, ℕ, ◌⊎◌, ◌&&◌, Bool, true, false, not, nat_lt, List, [], take, sum_by, IsSome, IsTrue, Option, Ok, Err}
 use Rattle.std.specs.declared.option.Option.TheVariants.{None, Some}
 use Rattle.std.specs.List.{list_any}
 use Rattle.xc_data.specs.declared.entry.JobEnd.{JobEnd}
@@ -8,7 +8,8 @@ use Rattle.xc_data.specs.declared.entry.JobLine.{JobLine}
 use Rattle.xc_data.specs.Counts.{RisesBy}
 use Rattle.xc_data.specs.Faults.{entry_faults}
 use Rattle.xc_data.specs.Step.{Step}
-use Rattle.xc_host.specs.Contents.{needs_scripted}
+use Rattle.xc_host.specs.Contents.{Contents, needs_scripted}
+use Rattle.xc_host.specs.Kept.{with_kept}
 use Rattle.xc_text.specs.declared.script.Script.{Script}
 use Rattle.xc_edge.specs.Streams.{Came, AppendsPart, AppendsWhole}
 use Rattle.xc_edge.specs.Told.{Told, HasFailed}
@@ -66,22 +67,26 @@ starves end = wanted_memory end.jobs end.journal.items
 
 -- the text of a run's end
 abbrev pub end_text : {H : Type 0} → End H → List ℕ
-end_text end = rendered end.journal.items end.jobs end.words
+end_text end = rendered end.journal.items end.jobs end.words end.kept
 
--- its lines but those on kept data: all of them, since nothing keeps data so far
+-- its lines but those on kept data: the text as it were if nothing was kept
 abbrev pub lines_but_kept : {H : Type 0} → End H → List ℕ
-lines_but_kept end = end_text end
+lines_but_kept end = rendered end.journal.items end.jobs end.words []
 
 module _ {H : Type 0} (model : HostModel H) where
+  -- what the host holds, with the kept data in front of what its pipes and pairs hold
+  abbrev pub logical_contents : End H → Contents
+  logical_contents end = with_kept (model.contents end.host) end.kept
+
   -- what a run leaves beside its journal
   abbrev pub final_of : End H → Final
-  final_of end = record { words = end.words; contents = model.contents end.host; lines = end.jobs }
+  final_of end = record { words = end.words; contents = logical_contents end; lines = end.jobs }
 
   -- the end of a run that chose this, over the host that was handed in
   pub record IsRunOver (chosen : Chosen) (host : H) (end : End H) : Type 0 where
     pub scripted : is_refused_by model.takes_scripts end.opening.script ≡ false
     pub faults : end.opening.faults ≡ model.fault_count host
-    -- the journal is true of the script, and leads to the words, to the host's contents and to the jobs' ends
+    -- the journal is true of the script, and leads to the words, to the host's contents with the kept data in front, and to the jobs' ends
     pub whole : IsTrueEnd (setting end.opening.script chosen.rules model.tells) end.journal.items (final_of end)
     -- with one worker and no schedule its transactions ran one after another
     pub serial : RunsAlone chosen → IsSerial end.journal.items

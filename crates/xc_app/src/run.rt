@@ -117,6 +117,7 @@ fn of_end<H: Drop>(alloc: Global, end: End<H>) -> Outcome<H>
         end.journal.as_slice(),
         end.jobs.as_slice(),
         end.words.as_slice(),
+        end.kept.as_slice(),
     ) {
         Ok(text) => Outcome {
             status,
@@ -328,8 +329,9 @@ pub fn xcalls_run<
     ensures unread { settings_of (map string_bytes words.now) ≡ None → source.new ≡ source.old }
 
     // The headline: running the journal's committed transactions one after another on the plain
-    // machine, with the recorded faults, gives the replies, the final words, the final host and the
-    // jobs' ends; aborted ones change only what their reports say remains, and each conflict names a holder.
+    // machine, with the recorded faults, gives the replies, the final words, the final host, with what is kept for
+    // later readers in front of its pipes and pairs, and the jobs' ends; aborted ones change only what their reports say
+    // remains, and each conflict names a holder.
     ensures run { IfSome result.end (
         IsRun H.model (map string_bytes words.now) (record { old = S.told source.old; new = S.told source.new }) host) }
 

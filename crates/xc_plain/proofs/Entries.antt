@@ -26,7 +26,6 @@ use Rattle.xc_story.specs.Ending.{has_memory_end, is_memory_end}
 use Rattle.xc_story.specs.Progress.{Following, Progress, private_of, body_of, run_of}
 use Rattle.xc_story.specs.Setting.{Setting}
 use Rattle.xc_story.specs.Truth.{IsEntry, IsAskedFor, IsHeld, IsHeldAt, IsPlayedOutcome, IsCauseOf, AreRecords, is_asked, is_settled, next_of}
-use Rattle.xc_text.specs.declared.script.Script.{Script}
 use Rattle.xc_world.specs.Ends.{Ending, AreLegal, blocker}
 use Rattle.xc_world.specs.Fits.{late_answer_of}
 use Rattle.xc_world.specs.Run.{body, run, lates, asked_of, late_asked_of}
@@ -115,22 +114,6 @@ same_outcome tries p e next (Aborted report) some asked played faults starved se
     here ∙ sym (ap (outcome_of (run_of p.state e [])) aborts)
 
 -- ---- the whole entry
-module _ (script : Script) (place : ℕ) (p : Progress) (job : ℕ) (f : Following) where
-  -- the entry of calls with their replies
-  abbrev entry_of : List Call → List Reply → Entry
-  entry_of calls replies =
-      let whole = run p.state.world (private_of p.state job) (place + 1) (asked_of calls replies) [] in
-      record {
-        tx = place + 1;
-        job = job;
-        rank = place + 1;
-        began = place;
-        calls = calls;
-        replies = replies;
-        held = held_of whole.body.touched;
-        outcome = outcome_of whole (asks (all_answered (walk_from script f.job) replies));
-      }
-
 sum_parts : (a b : ℕ) → a + b ≡ 0 → (a ≡ 0) × (b ≡ 0)
 sum_parts a b h = (omega arith, omega arith)
 
@@ -148,10 +131,22 @@ same_entry s p f e place told tells tries tx began first faults starved settled 
     let outcome = same_outcome s.rules.undo_tries p e next e.outcome tries story.asked played.outcome parts.1 starved settled in
     let held = held_same p e next e.outcome settled played.held in
     let rank : e.rank ≡ place + 1 = story.rank ∙ ap (λ o. unwrap_or o e.tx) first ∙ tx in
+    let entry : List Call → List Reply → Entry = λ calls replies.
+    let whole = run p.state.world me (place + 1) (asked_of calls replies) [] in
+    record {
+      tx = place + 1;
+      job = e.job;
+      rank = place + 1;
+      began = place;
+      calls = calls;
+      replies = replies;
+      held = held_of whole.body.touched;
+      outcome = outcome_of whole (asks (all_answered walk replies));
+    } in
     let at = λ (n : ℕ). run p.state.world me n (asked_of e.calls e.replies) [] in
     let held' : e.held ≡ held_of (at (place + 1)).body.touched = held ∙ ap (λ n. held_of (at n).body.touched) tx in
     let outcome' : e.outcome ≡ outcome_of (at (place + 1)) next = outcome ∙ ap (λ n. outcome_of (at n) next) tx in
-    let as_made : e ≡ entry_of s.script place p e.job f e.calls e.replies =
+    let as_made : e ≡ entry e.calls e.replies =
     λ i. record {
       tx = tx i;
       job = e.job;
@@ -168,4 +163,4 @@ same_entry s p f e place told tells tries tx began first faults starved settled 
     (end_asked s.rules.undo_tries e next e.outcome story.asked settled) in
     let calls = ap (map (λ (c : Replied). c.0)) done ∙ calls_of_pairs walk e.calls e.replies story.calls in
     let replies = ap (map (λ (c : Replied). c.1)) done ∙ replies_of_pairs walk e.calls e.replies story.calls in
-    as_made ∙ sym (ap₂ (entry_of s.script place p e.job f) calls replies)
+    as_made ∙ sym (ap₂ entry calls replies)

@@ -112,7 +112,7 @@ its_journal : plain_journal unlinks ≡ its_entry ∷ []
 its_journal = its_first 9998
 
 abbrev text_with : List Entry → List ℕ
-text_with journal = let behind = progress_of unlinks journal in rendered journal (plain_lines unlinks behind.jobs) behind.state.world.words
+text_with journal = let behind = progress_of unlinks journal in rendered journal (plain_lines unlinks behind.jobs) behind.state.world.words []
 
 abbrev its_text : List ℕ
 its_text =

@@ -176,11 +176,11 @@ same_entries s entries final tells tries whole serial stop faults fed =
 -- the text of a run whose jobs ran one after another, where no call met a fault and nothing wanted memory, is the plain one
 pub plain_end : (s : Setting) (entries : List Entry) (final : Final) → IsTrue s.tells → 1 ≤ s.rules.attempts → 1 ≤ s.rules.undo_tries
     → IsTrueEnd s entries final → IsSerial entries → StopWhereFull final.lines entries → sum_by entry_faults entries ≡ 0
-    → wanted_memory final.lines entries ≡ false → rendered entries final.lines final.words ≡ plain_text s.script
+    → wanted_memory final.lines entries ≡ false → rendered entries final.lines final.words [] ≡ plain_text s.script
 plain_end s entries final tells some tries whole serial stop faults memory =
     let fed = is_fed s entries final some whole serial memory in
     let same = same_entries s entries final tells tries whole serial stop faults fed in
     let lines = lines_are s (length entries) (progress_of s.script entries).jobs final.lines fed.ends in
     let text = λ (journal : List Entry).
-    rendered journal (plain_lines s.script (progress_of s.script journal).jobs) (progress_of s.script journal).state.world.words in
-    ap₂ (rendered entries) lines (whole.state tells).words ∙ ap text same
+    rendered journal (plain_lines s.script (progress_of s.script journal).jobs) (progress_of s.script journal).state.world.words [] in
+    ap₂ (λ (ls : List JobLine) (words : List ℕ). rendered entries ls words []) lines (whole.state tells).words ∙ ap text same

@@ -102,9 +102,9 @@ plain_job_end script f = if is_some (next_body script f.job) then job_end.Journa
 abbrev pub plain_lines : Script → List Following → List JobLine
 plain_lines script jobs = map (λ (f : Following). record { block = f.block; end = plain_job_end script f }) jobs
 
--- the text of that journal, of its jobs and of the words that it leads to
+-- the text of that journal, of its jobs and of the words that it leads to, without lines on kept data
 abbrev pub plain_text : Script → List ℕ
 plain_text script =
     let journal = plain_journal script in
     let behind = progress_of script journal in
-    rendered journal (plain_lines script behind.jobs) behind.state.world.words
+    rendered journal (plain_lines script behind.jobs) behind.state.world.words []

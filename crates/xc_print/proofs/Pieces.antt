@@ -4,3 +4,7 @@ use Rattle.std.proofs.Common.{◌≡◌, ◌++◌, ℕ, List, append_assoc}
 -- four pieces printed one after the other are their text
 pub four_pieces : (out a b c d : List ℕ) → out ++ a ++ b ++ c ++ d ≡ out ++ (a ++ b ++ c ++ d)
 four_pieces out a b c d = simp append_assoc
+
+-- five pieces printed one after the other are their text
+pub five_pieces : (out a b c d e : List ℕ) → out ++ a ++ b ++ c ++ d ++ e ≡ out ++ (a ++ b ++ c ++ d ++ e)
+five_pieces out a b c d e = simp append_assoc

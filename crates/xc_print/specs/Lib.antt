@@ -1,6 +1,7 @@
 pub mod Bytes
 pub mod Calls
 pub mod Entries
+pub mod Kept
 pub mod Objects
 pub mod Records
 pub mod Replies

@@ -5,7 +5,9 @@ use Rattle.xc_data.specs.declared.entry.Entry.{Entry}
 use Rattle.xc_data.specs.declared.entry.JobEnd.{JobEnd}
 use Rattle.xc_data.specs.declared.entry.JobEnd.TheVariants.{Done, GaveUp, JournalFull, NoMemory}
 use Rattle.xc_data.specs.declared.entry.JobLine.{JobLine}
+use Rattle.xc_data.specs.declared.entry.KeptItem.{KeptItem}
 use Rattle.xc_print.specs.Entries.{journal_text}
+use Rattle.xc_print.specs.Kept.{kept_lines}
 use Rattle.xc_print.specs.Totals.{totals_of, totals_line}
 
 -- how a job ended
@@ -33,7 +35,7 @@ abbrev pub word_lines : ℕ → List ℕ → List ℕ
 word_lines at [] = []
 word_lines at (value ∷ values) = word_line at value ++ word_lines (at + 1) values
 
--- the entries, the jobs, the words and, last, the totals; what aborted transactions took and nobody has
--- read since has no lines here: they would stand between the words and the totals
-abbrev pub rendered : List Entry → List JobLine → List ℕ → List ℕ
-rendered journal jobs words = journal_text journal ++ job_lines 1 jobs ++ word_lines 0 words ++ totals_line (totals_of journal)
+-- the entries, the jobs, the words, the kept data and, last, the totals
+abbrev pub rendered : List Entry → List JobLine → List ℕ → List KeptItem → List ℕ
+rendered journal jobs words kept = journal_text journal ++ job_lines 1 jobs ++ word_lines 0 words ++ kept_lines kept
+    ++ totals_line (totals_of journal)

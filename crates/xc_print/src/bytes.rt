@@ -24,7 +24,8 @@ fn push_byte(out: &mut Page, b: u8) -> Result<(), NoMemory>
     }
 }
 
-fn push_escaped(out: &mut Page, bytes: &[u8]) -> Result<(), NoMemory>
+/// Bytes between quotes.
+pub fn push_escaped(out: &mut Page, bytes: &[u8]) -> Result<(), NoMemory>
     ensures { OnOk result (out.new ≡ out.old ++ escaped bytes.now) }
 {
     for b in bytes {

@@ -1,13 +1,14 @@
 //! The printed text of a run, exactly.
 //!
 //! Each printer appends one part of the text to a page, and its contract names that part: a reply, a
-//! call, a line. `render` gives the whole text, as `text` of `specs/Text` says it, or nothing where
+//! call, a line. `render` gives the whole text, as `rendered` of `specs/Text` says it, or nothing where
 //! there is no memory for it.
 #![tactic(auto)]
 
 mod bytes;
 mod calls;
 mod entries;
+mod kept;
 mod objects;
 mod page;
 mod records;

@@ -4,9 +4,10 @@ ghost use Rattle.xc_print.specs.Totals.{totals_line, totals_of};
 
 use crate::Totals;
 use crate::entries::push_journal;
+use crate::kept::push_kept;
 use crate::page::Page;
 use std::alloc::Global;
-use xc_data::{Entry, JobEnd, JobLine, NoMemory, Text};
+use xc_data::{Entry, JobEnd, JobLine, KeptItem, NoMemory, Text};
 
 fn push_job_end(out: &mut Page, end: &JobEnd) -> Result<(), NoMemory>
     ensures { OnOk result (out.new ≡ out.old ++ job_end_text end.now) }
@@ -71,33 +72,37 @@ fn push_totals(out: &mut Page, totals: Totals) -> Result<(), NoMemory>
     )
 }
 
-#[tactic(auto, using(crate::proofs::Pieces::four_pieces))]
+#[tactic(auto, using(crate::proofs::Pieces::five_pieces))]
 fn push_text(
     out: &mut Page,
     journal: &[Entry],
     jobs: &[JobLine],
     words: &[u64],
+    kept: &[KeptItem],
 ) -> Result<(), NoMemory>
     requires { length journal.now ≤ 10000 }
-    ensures { OnOk result (out.new ≡ out.old ++ rendered journal.now jobs.now words.now) }
+    ensures { OnOk result (out.new ≡ out.old ++ rendered journal.now jobs.now words.now kept.now) }
 {
     push_journal(out, journal)?;
     push_jobs(out, jobs)?;
     push_words(out, words)?;
+    push_kept(out, kept)?;
     push_totals(out, Totals::of(journal))
 }
 
-/// The text of a run: its journal, its jobs in the order of their numbers and its words.
+/// The text of a run: its journal, its jobs in the order of their numbers, its words, and the kept data in the order in which
+/// it is printed.
 pub fn render(
     alloc: Global,
     journal: &[Entry],
     jobs: &[JobLine],
     words: &[u64],
+    kept: &[KeptItem],
 ) -> Result<Text, NoMemory>
     requires few { length journal.now ≤ 10000 }
-    ensures { IfOk result (λ text. text ≡ rendered journal.now jobs.now words.now) }
+    ensures { IfOk result (λ text. text ≡ rendered journal.now jobs.now words.now kept.now) }
 {
     let mut out = Page::new(alloc);
-    push_text(&mut out, journal, jobs, words)?;
+    push_text(&mut out, journal, jobs, words, kept)?;
     Ok(out.into_text())
 }

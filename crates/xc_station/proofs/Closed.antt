@@ -50,7 +50,8 @@ its_tx t activity.Idle tx is = cc
 its_tx t activity.Starved tx is = cc
 its_tx t (activity.Ended end) tx is = cc
 
-active_again : (t u : Tx) (a : Activity) (tx : SeenTx) → seen_doing t a ≡ Active tx → seen_doing u a ≡ Active (seen_tx u)
+-- it is the active one again, whatever changed in it
+pub active_again : (t u : Tx) (a : Activity) (tx : SeenTx) → seen_doing t a ≡ Active tx → seen_doing u a ≡ Active (seen_tx u)
 active_again t u activity.Active tx is = refl
 active_again t u activity.Idle tx is = cc
 active_again t u activity.Starved tx is = cc

@@ -1,10 +1,12 @@
 -- Each call of a transaction is the plain machine's, or leaves its part where memory is wanting.
 use Rattle.std.proofs.Common.{◌≡◌, ◌⊎◌, inl, inr, ℕ, ◌≤◌, true, false, List, [], ◌++◌, length, refl, ap, sym, ◌∙◌, subst, IsTrue, arith}
 use Rattle.std.proofs.lemmas.List.{append_cancel_left}
-use Rattle.std.specs.Prelude.{Option, Result, Ok, Err, IfOk, IsErr, IsOk, OnErr, OnOk, is_err}
+use Rattle.std.proofs.lemmas.List.Elements.{All-nil}
+use Rattle.std.specs.Prelude.{All, Option, Result, Ok, Err, IfOk, IsErr, IsOk, OnErr, OnOk, is_err}
 use Rattle.std.specs.declared.option.Option.TheVariants.{None, Some}
 use Rattle.xc_data.specs.Counts.{CountsFault}
 use Rattle.xc_data.specs.Faults.{is_fault_reply}
+use Rattle.xc_data.specs.Step.{Step}
 use Rattle.xc_data.specs.declared.call.Answer.{Answer}
 use Rattle.xc_data.specs.declared.call.Answer.TheVariants as answer
 use Rattle.xc_data.specs.declared.call.Call.{Call}
@@ -12,14 +14,17 @@ use Rattle.xc_data.specs.declared.call.Call.TheVariants as call
 use Rattle.xc_data.specs.declared.call.LateCall.{LateCall}
 use Rattle.xc_data.specs.declared.call.Reply.{Reply}
 use Rattle.xc_data.specs.declared.call.Reply.TheVariants as reply
+use Rattle.xc_data.specs.declared.entry.KeptItem.{KeptItem}
 use Rattle.xc_data.specs.declared.memory.NoMemory.{NoMemory}
 use Rattle.xc_data.specs.declared.private.Private.{Private}
 use Rattle.xc_data.specs.declared.undo.Undo.{Undo}
 use Rattle.xc_compensate.specs.Records.{Records}
 use Rattle.xc_deferred.specs.Queue.{Queue}
-use Rattle.xc_file.specs.Calls.{CallState, DidPart, IsFileCall, StepsAlone}
+use Rattle.xc_file.specs.Calls.{Acts, AreRecorded, CallState, DidPart, IsFileCall, Moment, StepsAlone}
 use Rattle.xc_file.specs.Kept.{IsKept}
 use Rattle.xc_file.proofs.FileCalls.{alone_call}
+use Rattle.xc_host.specs.Contents.{with_contents}
+use Rattle.xc_host.specs.Kept.{KeepsData, with_kept}
 use Rattle.xc_host.specs.Model.{HostModel}
 use Rattle.xc_host.specs.Uses.{CallsOf}
 use Rattle.xc_host.proofs.Called.{unused}
@@ -30,17 +35,23 @@ use Rattle.xc_txmem.specs.Overlay.{overlaid}
 use Rattle.xc_world.specs.World.{World}
 use Rattle.xc_world.specs.Act.{act}
 use Rattle.xc_world.specs.After.{IsMeAfter}
+use Rattle.xc_world.specs.Beside.{is_on_data}
 use Rattle.xc_world.specs.Checks.{IsChecked, refusal_of}
 use Rattle.xc_world.specs.Act.Step.{Stepped, step_to}
 use Rattle.xc_world.specs.Effects.{takes_data}
 use Rattle.xc_world.specs.Fits.{fits, answer_of}
 use Rattle.xc_world.specs.Late.{kept_call}
+use Rattle.xc_world.specs.Run.{taken_by}
 use Rattle.xc_data.specs.Calls.{is_late, is_kept}
 use Rattle.xc_world.specs.Trail.{recorded}
 use Rattle.xc_story.specs.Rows.{Parts, DoesIn, DoesPartIn, IsReplyInTime, StopsAt, parts_of, seen, stored_by}
 use Rattle.xc_story.specs.Seen.{SeenTx, queue_of, with_queue}
 use Rattle.xc_story.specs.WordCalls.{IsWordStep, is_word_call, word_reply, words_after}
-use Rattle.xc_station.specs.Acting.{Acting, HasActed, HasDone, LeavesOff, told_between, with_parts}
+use Rattle.xc_station.specs.Acting.{Acting, HasActed, HasDone, LeavesOff, told_between, told_of, with_parts}
+use Rattle.xc_station.specs.Lent.{IsBacked}
+use Rattle.xc_station.proofs.Backed.{keeps_called, keeps_part}
+use Rattle.xc_station.proofs.Lent.{acts_kept, part_kept, recorded_there}
+use Rattle.xc_station.proofs.Notes.{keeps_itself}
 use Rattle.xc_station.proofs.WordActs.{append_nil, still_words, no_stores, no_value, word-act, word-after, word-checked, word-fine, word-quiet}
 use Rattle.xc_station.proofs.WordActs.{word-trail, word-uses}
 
@@ -66,15 +77,44 @@ in_time_now c me number r at_once now = record { kept = λ waiting. absurd (cc (
 abbrev framed : SeenTx → Parts → SeenTx
 framed tx parts = record tx { me = parts.me; writes = parts.stores; undo = parts.undo }
 
-framed_now : (tx : SeenTx) (parts : Parts) (c : Call) (r : Reply) → is_late r ≡ false → framed tx parts ≡ with_parts tx c r parts
-framed_now tx parts c r now = ap (λ calls. record (framed tx parts) { late = calls }) (none_behind tx.late c tx.me r now)
+-- a call that is on no pipe and no pair takes no data
+pub off_untaken : (c : Call) → is_on_data c ≡ false → takes_data c ≡ false
+off_untaken (call.XReadPipe h n) off = cc off
+off_untaken (call.XRecvmsg h) off = cc off
+off_untaken _ off = refl
 
--- ---- a call on files
-module _ {H : Type 0} (model : HostModel H) (c : Call) (old new : Acting H) (other : is_word_call c ≡ false) (untaken : takes_data c ≡ false) where
+-- a call that takes no data adds no note
+none_taken : (c : Call) (me : Private) (r : Reply) → takes_data c ≡ false → taken_by c me r ≡ []
+none_taken (call.XReadPipe h n) me r untaken = cc untaken
+none_taken (call.XRecvmsg h) me r untaken = cc untaken
+none_taken _ me r untaken = refl
+
+none_noted : (taken : List KeptItem) (c : Call) (me : Private) (r : Reply) → takes_data c ≡ false → taken ≡ taken ++ taken_by c me r
+none_noted taken c me r untaken = sym (append_nil taken) ∙ ap (λ items. taken ++ items) (sym (none_taken c me r untaken))
+
+framed_now : (tx : SeenTx) (parts : Parts) (c : Call) (r : Reply) → takes_data c ≡ false → is_late r ≡ false → framed tx parts ≡ with_parts tx c r parts
+framed_now tx parts c r untaken now =
+    λ i. record (framed tx parts) { taken = none_noted tx.taken c tx.me r untaken i; late = none_behind tx.late c tx.me r now i }
+
+-- what the plain machine knows of it, with what is kept in front
+abbrev pub told_moment : {H : Type 0} → HostModel H → Acting H → Moment
+told_moment model a = record { contents = told_of model a; number = a.tx.number; me = a.tx.me }
+
+-- what the host did is the plain machine's, with what is kept in front; what was taken is the host's, and it keeps its pipes and pairs
+pub record IsToldCall {H : Type 0} (model : HostModel H) (c : Call) (step : Step (Acting H)) (made : List Undo) (reply : Reply) : Type 0 where
+  pub acts : Acts c (told_moment model step.old) (told_moment model step.new) reply
+  pub records : AreRecorded c (told_moment model step.old) made reply
+  pub backed : All (IsBacked (model.contents step.old.host)) (taken_by c step.old.tx.me reply)
+  pub keeps : KeepsData (model.contents step.old.host) (model.contents step.new.host)
+
+-- ---- a call on files, or one that reaches no host
+module _ {H : Type 0} (model : HostModel H) (c : Call) (old new : Acting H) (other : is_word_call c ≡ false) where
   -- it is done
-  file_done : (reply : Reply) → IsFileCall model c (calling old) (calling new) (Ok reply) → new.tx ≡ with_parts old.tx c reply (parts_of new.tx)
+  file_done : (reply : Reply) (k : IsFileCall model c (calling old) (calling new) (Ok reply)) → (IsTrue model.tells
+      → IsToldCall model c (record { old = old; new = new }) k.made reply)
+      → new.tx ≡ with_parts old.tx c reply (parts_of new.tx)
       → new.tx.writes ≡ old.tx.writes → new.tx.me.stored ≤ 16384 → IsReplyInTime old.tx.me old.tx.number c reply → HasDone model c old new reply
-  file_done reply k frame writes stored in_time =
+  file_done reply k told frame writes stored in_time =
       let over = λ (w : World). record w { words = overlaid w.words old.tx.writes } in
       record {
         tx = frame;
@@ -91,23 +131,61 @@ module _ {H : Type 0} (model : HostModel H) (c : Call) (old new : Acting H) (oth
         cause = k.cause;
         spoken = subst (λ ws. IsWordStep (overlaid old.words old.tx.writes) (overlaid old.words ws) c reply) (sym writes)
             (still_words (overlaid old.words old.tx.writes) c reply other);
+        backed = λ tells. (told tells).backed;
+        keeps = λ tells. (told tells).keeps;
         does = λ tells w at. record {
-          step = (k.acts tells).step (over w)
-              ∙ ap (λ ws. step_to (seen w (model.contents new.host) ws) new.tx.me reply) (sym writes);
-          fits = (k.acts tells).fits (over w);
-          records = ap (λ (u : Records). u.pending) k.undo ∙ ap (λ us. old.tx.undo.pending ++ us) (k.records tells (over w));
+          step = (told tells).acts.step (over w) ∙ ap (λ ws. step_to (seen w (told_of model new) ws) new.tx.me reply) (sym writes);
+          fits = (told tells).acts.fits (over w);
+          records = ap (λ (u : Records). u.pending) k.undo ∙ ap (λ us. old.tx.undo.pending ++ us) ((told tells).records (over w));
         };
       }
 
+module _ {H : Type 0} (model : HostModel H) (c : Call) (old new : Acting H) (other : is_word_call c ≡ false) (off : is_on_data c ≡ false)
+    (kept : new.kept ≡ old.kept) where
+  abbrev before : Moment
+  before = record { contents = model.contents old.host; number = old.tx.number; me = old.tx.me }
+
+  told_new : told_of model new ≡ with_kept (model.contents new.host) old.kept
+  told_new = ap (with_kept (model.contents new.host)) kept
+
+  -- it goes on beside what is kept
+  file_told : (reply : Reply) (k : IsFileCall model c (calling old) (calling new) (Ok reply)) → IsTrue model.tells
+      → IsToldCall model c (record { old = old; new = new }) k.made reply
+  file_told reply k tells =
+      let after : Moment = record { contents = model.contents new.host; number = new.tx.number; me = new.tx.me } in
+      record {
+        acts = subst (λ told. Acts c (told_moment model old) (record { contents = told; number = new.tx.number; me = new.tx.me }) reply) (sym told_new)
+            (acts_kept c before old.kept off after reply (k.acts tells));
+        records = recorded_there c before old.kept off after k.made reply (k.acts tells) (k.records tells);
+        backed = subst (All (IsBacked (model.contents old.host))) (sym (none_taken c old.tx.me reply (off_untaken c off)))
+            (All-nil (IsBacked (model.contents old.host)));
+        keeps = keeps_called c before off after reply (k.acts tells);
+      }
+
   -- what it did at the host is a part of it
-  part_left : (left : List Undo) → ((left ≡ []) × (model.contents new.host ≡ model.contents old.host))
-      ⊎ DidPart c (record { contents = model.contents old.host; number = old.tx.number; me = old.tx.me }) (model.contents new.host) left
-      → ((left ≡ []) × (model.contents new.host ≡ model.contents old.host))
+  part_left : (left : List Undo) → ((left ≡ []) × (model.contents new.host ≡ model.contents old.host)) ⊎ DidPart c before (model.contents new.host) left
+      → ((left ≡ []) × (told_of model new ≡ told_of model old))
       ⊎ ((a : Answer) × DoesPartIn old.words (told_between model old new) (parts_of old.tx) (record { call = c; answer = a }) left)
-  part_left left (inl same) = inl same
-  part_left left (inr part) =
+  part_left left (inl same) = inl (same.0, told_new ∙ ap (λ told. with_kept told old.kept) same.1)
+  part_left left (inr did) =
       let over = λ (w : World). record w { words = overlaid w.words old.tx.writes } in
-      inr (part.answer, λ w at. record { untaken = untaken; fits = part.fits (over w); world = sym (part.world (over w)); records = part.records (over w) })
+      let part : DidPart c (told_moment model old) (told_of model new) left =
+      subst (λ told. DidPart c (told_moment model old) told left) (sym told_new)
+      (part_kept c before old.kept off (model.contents new.host) left did) in
+      inr (
+        part.answer,
+        λ w at. record {
+          untaken = off_untaken c off;
+          fits = part.fits (over w);
+          world = sym (part.world (over w));
+          records = part.records (over w);
+        },
+      )
+
+  data_left : (left : List Undo) → ((left ≡ []) × (model.contents new.host ≡ model.contents old.host)) ⊎ DidPart c before (model.contents new.host) left
+      → KeepsData (model.contents old.host) (model.contents new.host)
+  data_left left (inl same) = subst (KeepsData (model.contents old.host)) (sym same.1) (keeps_itself (model.contents old.host))
+  data_left left (inr did) = keeps_part c before off (model.contents new.host) left did
 
   -- memory is wanting
   file_left : (e : NoMemory) → IsFileCall model c (calling old) (calling new) (Err e) → new.tx ≡ framed old.tx (parts_of new.tx)
@@ -119,6 +197,7 @@ module _ {H : Type 0} (model : HostModel H) (c : Call) (old new : Acting H) (oth
         tx = frame ∙ (λ i. record old.tx { me = k.memory.me i; writes = writes i; undo = k.undo i });
         uses = record { made = k.uses.made; named = inr (inl k.uses.named); used = k.uses.used };
         faults = k.cause;
+        keeps = λ tells. data_left k.made (k.memory.effect tells);
         contents = λ tells. part_left k.made (k.memory.effect tells);
       }
 
@@ -126,49 +205,66 @@ module _ {H : Type 0} (model : HostModel H) (c : Call) (old new : Acting H) (oth
       → new.tx.writes ≡ old.tx.writes → new.tx.me.stored ≤ 16384 → is_kept c ≡ false → IfOk r (λ reply. is_late reply ≡ false)
       → HasActed model c old new r
   file_answered (Ok reply) k frame writes stored at_once now =
-      file_done reply k (frame ∙ framed_now old.tx (parts_of new.tx) c reply now) writes stored
+      file_done model c old new other reply k (file_told reply k) (frame ∙ framed_now old.tx (parts_of new.tx) c reply (off_untaken c off) now) writes stored
       (in_time_now c old.tx.me old.tx.number reply at_once now)
   file_answered (Err e) k frame writes stored at_once now = file_left e k frame writes
 
 -- so it has acted; the transaction and the words are as before but for its private state and its records
 pub file_acted : {H : Type 0} (model : HostModel H) (c d : Call) (old new : Acting H) (r : Result Reply NoMemory) → c ≡ d → is_word_call d ≡ false
-    → takes_data d ≡ false → is_kept d ≡ false → IsFileCall model d (calling old) (calling new) r
+    → is_on_data d ≡ false → new.kept ≡ old.kept → is_kept d ≡ false → IsFileCall model d (calling old) (calling new) r
     → new.tx ≡ record old.tx { me = new.tx.me; undo = new.tx.undo }
     → new.tx.me.stored ≤ 16384 → IfOk r (λ reply. is_late reply ≡ false) → HasActed model c old new r
-file_acted model c d old new r is other untaken at_once k frame stored now =
+file_acted model c d old new r is other off kept at_once k frame stored now =
     let writes = ap (λ (t : SeenTx). t.writes) frame in
     let whole : new.tx ≡ framed old.tx (parts_of new.tx) =
     frame ∙ ap (λ ws. record old.tx { me = new.tx.me; writes = ws; undo = new.tx.undo }) (sym writes) in
-    subst (λ (e : Call). HasActed model e old new r) (sym is) (file_answered model d old new other untaken r k whole writes stored at_once now)
+    subst (λ (e : Call). HasActed model e old new r) (sym is) (file_answered model d old new other off kept r k whole writes stored at_once now)
 
 -- so has one at these handles, which are those of the transaction
 pub file_acted_at : {H : Type 0} (model : HostModel H) (c d : Call) (old new : Acting H) (me : Private) (r : Result Reply NoMemory) → me ≡ old.tx.me
-    → c ≡ d → is_word_call d ≡ false → takes_data d ≡ false → is_kept d ≡ false → IsFileCall model d (record (calling old) { me = me }) (calling new) r
+    → c ≡ d → is_word_call d ≡ false → is_on_data d ≡ false → new.kept ≡ old.kept → is_kept d ≡ false
+    → IsFileCall model d (record (calling old) { me = me }) (calling new) r
     → new.tx ≡ record old.tx { me = new.tx.me; undo = new.tx.undo } → new.tx.me.stored ≤ 16384 → IfOk r (λ reply. is_late reply ≡ false)
     → HasActed model c old new r
-file_acted_at model c d old new me r same is other untaken at_once k =
-    file_acted model c d old new r is other untaken at_once
+file_acted_at model c d old new me r same is other off kept at_once k =
+    file_acted model c d old new r is other off kept at_once
     (subst (λ (m : Private). IsFileCall model d (record (calling old) { me = m }) (calling new) r) same k)
 
 -- a call that reaches no host has acted
 pub alone_acted : {H : Type 0} (model : HostModel H) (c d : Call) (old : Acting H) (next : Private) (reply : Reply) → c ≡ d → is_word_call d ≡ false
-    → takes_data d ≡ false → is_kept d ≡ false → StepsAlone d old.tx.me next reply → next.stored ≤ 16384 → is_late reply ≡ false
+    → is_on_data d ≡ false → is_kept d ≡ false → StepsAlone d old.tx.me next reply → next.stored ≤ 16384 → is_late reply ≡ false
     → HasDone model c old (record old { tx = record old.tx { me = next } }) reply
-alone_acted model c d old next reply is other untaken at_once alone stored now =
-    file_acted model c d old (record old { tx = record old.tx { me = next } }) (Ok reply) is other untaken at_once
+alone_acted model c d old next reply is other off at_once alone stored now =
+    file_acted model c d old (record old { tx = record old.tx { me = next } }) (Ok reply) is other off refl at_once
     (alone_call model d (calling old) next reply alone) refl stored now
 
 -- so has one at these handles
 pub alone_acted_at : {H : Type 0} (model : HostModel H) (c d : Call) (old : Acting H) (next me : Private) (reply : Reply) → me ≡ old.tx.me → c ≡ d
-    → is_word_call d ≡ false → takes_data d ≡ false → is_kept d ≡ false → StepsAlone d me next reply → next.stored ≤ 16384 → is_late reply ≡ false
+    → is_word_call d ≡ false → is_on_data d ≡ false → is_kept d ≡ false → StepsAlone d me next reply → next.stored ≤ 16384 → is_late reply ≡ false
     → HasDone model c old (record old { tx = record old.tx { me = next } }) reply
-alone_acted_at model c d old next me reply same is other untaken at_once alone =
-    alone_acted model c d old next reply is other untaken at_once (subst (λ (m : Private). StepsAlone d m next reply) same alone)
+alone_acted_at model c d old next me reply same is other off at_once alone =
+    alone_acted model c d old next reply is other off at_once (subst (λ (m : Private). StepsAlone d m next reply) same alone)
 
 -- ---- a call that is kept for the commit
 -- a transaction at a host with other late calls
 abbrev pub queueing : {H : Type 0} → Acting H → Queue → Acting H
 queueing a queue = record a { tx = with_queue a.tx queue }
+
+-- the host does nothing, with what is kept in front too
+kept_told : {H : Type 0} (model : HostModel H) (d : Call) (old : Acting H) (queue : Queue) (reply : Reply) → takes_data d ≡ false
+    → (alone : StepsAlone d old.tx.me old.tx.me reply) → IsTrue model.tells
+    → IsToldCall model d (record { old = old; new = queueing old queue }) (alone_call model d (calling old) old.tx.me reply alone).made reply
+kept_told model d old queue reply untaken alone tells =
+    let k = alone_call (record model { tells = true; contents = λ host. told_of model old }) d (calling old) old.tx.me reply alone in
+    record {
+      acts = k.acts refl;
+      records = λ w.
+          (alone_call model d (calling old) old.tx.me reply alone).records tells w
+          ∙ alone.unrecorded (with_contents w (model.contents old.host)) old.tx.number
+          ∙ sym (alone.unrecorded (with_contents w (told_of model old)) old.tx.number);
+      backed = subst (All (IsBacked (model.contents old.host))) (sym (none_taken d old.tx.me reply untaken)) (All-nil (IsBacked (model.contents old.host)));
+      keeps = keeps_itself (model.contents old.host);
+    }
 
 -- it has acted: the host is as it was
 pub kept_acted : {H : Type 0} (model : HostModel H) (c d : Call) (old : Acting H) (queue : Queue) (r : Result Reply NoMemory) → c ≡ d
@@ -176,8 +272,10 @@ pub kept_acted : {H : Type 0} (model : HostModel H) (c d : Call) (old : Acting H
     → OnErr r (queue ≡ queue_of old.tx) → old.tx.me.stored ≤ 16384 → HasActed model c old (queueing old queue) r
 kept_acted model c d old queue (Ok reply) is other untaken waiting kept err stored =
     subst (λ (e : Call). HasDone model e old (queueing old queue) reply) (sym is)
-    (file_done model d old (queueing old queue) other untaken reply (alone_call model d (calling old) old.tx.me reply kept.alone)
-    (ap (λ (q : Queue). (queueing old q).tx) kept.left) refl stored (record {
+    (file_done model d old (queueing old queue) other reply (alone_call model d (calling old) old.tx.me reply kept.alone)
+    (kept_told model d old queue reply untaken kept.alone)
+    (λ i. record old.tx { taken = none_noted old.tx.taken d old.tx.me reply untaken i; late = (kept.left i).calls; ends = (kept.left i).ends })
+    refl stored (record {
       kept = λ _ w. ap (λ (s : Stepped). s.reply) (sym (kept.alone.step w old.tx.number));
       now = λ at_once. absurd (cc (at_once, waiting));
     }))
@@ -188,6 +286,7 @@ kept_acted model c d old queue (Err e) is other untaken waiting kept err stored 
       tx = λ i. record (queueing old (err i)).tx { undo = record old.tx.undo { pending = sym (append_nil old.tx.undo.pending) i } };
       uses = record { made = []; named = inl refl; used = unused model old.host };
       faults = refl;
+      keeps = λ tells. keeps_itself (model.contents old.host);
       contents = λ tells. inl (refl, refl);
     }
 
@@ -206,6 +305,12 @@ word_at_once (call.Load at) is = refl
 word_at_once (call.Store at value) is = refl
 word_at_once _ is = cc
 
+-- it takes no data
+word_untaken : (c : Call) → is_word_call c ≡ true → takes_data c ≡ false
+word_untaken (call.Load at) is = refl
+word_untaken (call.Store at value) is = refl
+word_untaken _ is = cc
+
 -- a transaction that stored
 abbrev pub storing : {H : Type 0} → Acting H → List (ℕ × ℕ) → Acting H
 storing a writes = record a { tx = record a.tx { writes = writes } }
@@ -216,7 +321,7 @@ module _ {H : Type 0} (model : HostModel H) (c : Call) (old : Acting H) (writes 
       → overlaid old.words writes ≡ words_after (overlaid old.words old.tx.writes) c
       → DoesIn old.words (told_between model old old) (record { old = parts_of old.tx; new = parts_of (storing old writes).tx }) c reply
   does_words reply gives after w at =
-      let was = model.contents old.host in
+      let was = told_of model old in
       let stores = old.tx.writes in
       let me = old.tx.me in
       let number = old.tx.number in
@@ -238,7 +343,7 @@ module _ {H : Type 0} (model : HostModel H) (c : Call) (old : Acting H) (writes 
       let at_once = word_at_once c is in
       let quiet = ap is_fault_reply gives ∙ word-quiet (overlaid old.words old.tx.writes) c is in
       record {
-        tx = framed_now old.tx (parts_of (storing old writes).tx) c reply now;
+        tx = framed_now old.tx (parts_of (storing old writes).tx) c reply (word_untaken c is) now;
         checked = subst (IsChecked (refusal_of c old.tx.me) c) (sym gives) (word-checked (overlaid old.words old.tx.writes) old.tx.me c is);
         after = subst (λ r. IsMeAfter old.tx.number c r old.tx.me old.tx.me) (sym gives)
             (word-after (overlaid old.words old.tx.writes) old.tx.me old.tx.number c is);
@@ -252,6 +357,9 @@ module _ {H : Type 0} (model : HostModel H) (c : Call) (old : Acting H) (writes 
         uses = record { made = []; named = word-uses old.tx.me c reply is; used = unused model old.host };
         cause = subst (λ b. CountsFault b (model.fault_count old.host) (model.fault_count old.host)) (sym quiet) refl;
         spoken = record { words = after; gives = λ _. gives };
+        backed = λ tells. subst (All (IsBacked (model.contents old.host))) (sym (none_taken c old.tx.me reply (word_untaken c is)))
+            (All-nil (IsBacked (model.contents old.host)));
+        keeps = λ tells. keeps_itself (model.contents old.host);
         does = λ tells. does_words reply gives after;
       }
 
@@ -280,6 +388,7 @@ store_acted model c at value old writes (Err e) is gives stores after err now st
       tx = λ i. record old.tx { writes = err i; undo = record old.tx.undo { pending = sym (append_nil old.tx.undo.pending) i } };
       uses = record { made = []; named = inl refl; used = unused model old.host };
       faults = refl;
+      keeps = λ tells. keeps_itself (model.contents old.host);
       contents = λ tells. inl (refl, refl);
     }
 
@@ -313,7 +422,7 @@ unanswered model c old new behind reply d untaken is brings =
     ∙ append_nil old.tx.writes in
     let quiet = unfaulty reply brings in
     let left : new.tx ≡ record old.tx { me = new.tx.me; undo = record old.tx.undo { pending = old.tx.undo.pending ++ d.made } } =
-    d.tx ∙ sym (framed_now old.tx (parts_of new.tx) c reply (unkept reply brings))
+    d.tx ∙ sym (framed_now old.tx (parts_of new.tx) c reply untaken (unkept reply brings))
     ∙ (λ i. record old.tx { me = new.tx.me; writes = writes i; undo = d.undo i }) in
     let now : LeavesOff model c old (record new { tx = record new.tx { me = old.tx.me } }) = record {
       left = d.made;
@@ -325,6 +434,7 @@ unanswered model c old new behind reply d untaken is brings =
         used = d.uses.used;
       };
       faults = subst (λ b. CountsFault b (model.fault_count old.host) (model.fault_count new.host)) quiet d.cause;
+      keeps = d.keeps;
       contents = λ tells. inr (
         answer_of reply,
         λ w at.
@@ -332,11 +442,11 @@ unanswered model c old new behind reply d untaken is brings =
             record {
               untaken = untaken;
               fits = does.fits;
-              world = ap (λ (ws : List (ℕ × ℕ)). seen w (model.contents new.host) ws) (sym writes) ∙ ap (λ (s : Stepped). s.world) (sym does.step);
+              world = ap (λ (ws : List (ℕ × ℕ)). seen w (told_of model new) ws) (sym writes) ∙ ap (λ (s : Stepped). s.world) (sym does.step);
               records = append_cancel_left old.tx.undo.pending d.made
-                  (recorded (seen w (model.contents old.host) old.tx.writes) old.tx.me old.tx.number c reply)
+                  (recorded (seen w (told_of model old) old.tx.writes) old.tx.me old.tx.number c reply)
                   (sym (ap (λ (u : Records). u.pending) d.undo) ∙ does.records)
-                  ∙ ap (λ (s : Stepped). recorded (seen w (model.contents old.host) old.tx.writes) old.tx.me old.tx.number c s.reply) (sym does.step);
+                  ∙ ap (λ (s : Stepped). recorded (seen w (told_of model old) old.tx.writes) old.tx.me old.tx.number c s.reply) (sym does.step);
             },
       );
     } in

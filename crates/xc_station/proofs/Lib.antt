@@ -26,3 +26,9 @@ pub mod TurnRows
 pub mod Unstarted
 pub mod WordActs
 pub mod WaitsKept
+pub mod Backed
+pub mod Elsewhere
+pub mod Giving
+pub mod Lending
+pub mod Lent
+pub mod Notes

@@ -61,6 +61,8 @@ places_back tx (call.XOpen name) me (reply.Made h) is (lowest, num, set) = given
 places_back tx (call.XOpen name) me r is same = same
 places_back tx (call.XCreate name) me (reply.Made h) is (lowest, set) = given me.places is h _ lowest set
 places_back tx (call.XCreate name) me r is same = same
+places_back tx call.XPipe me (reply.Made h) is (lowest, set) = given me.places is h _ lowest set
+places_back tx call.XPipe me r is same = same
 places_back tx (call.XRead h n) me (reply.Got bytes) is set = moved me.places is h (length bytes) (length bytes == 0) set
 places_back tx (call.XRead h n) me r is same = back_same me.places is h same
 places_back tx (call.XWriteOvr h bytes) me r is set = moved me.places is h (done_of (length bytes) r) (done_of (length bytes) r == 0) set

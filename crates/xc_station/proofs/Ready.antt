@@ -1,7 +1,8 @@
 -- What a turn's function may rely on, between two turns.
-use Rattle.std.proofs.Common.{◌≡◌, ◌≢◌, ℕ, zero, suc, ◌+◌, ◌<◌, ◌≤◌, ◌^◌, List, [], ◌∷◌, length, refl, ap, sym, ◌∙◌, subst, arith, Bool, true, false}
-use Rattle.std.proofs.lemmas.List.Elements.{All-head, All-tail}
-use Rattle.std.specs.Prelude.{All, IsSome, IsTrue, Option, slice_get, slice_set, if◌then◌else◌, nat_le}
+use Rattle.std.proofs.Common.{◌≡◌, ◌≢◌, ℕ, zero, suc, ◌+◌, ◌<◌, ◌≤◌, ◌^◌, List, [], ◌∷◌, ◌++◌, length, refl, ap, sym, ◌∙◌, subst, arith, Bool, true, false}
+use Rattle.std.proofs.lemmas.List.Elements.{All-head, All-tail, All-weaker, All-contains_itself}
+use Rattle.std.specs.FinMap as map
+use Rattle.std.specs.Prelude.{All, Contains, is_some, IsSome, IsTrue, Option, slice_get, slice_set, if◌then◌else◌, nat_le}
 use Rattle.std.specs.List.{fold}
 use Rattle.std.specs.declared.option.Option.TheVariants.{None, Some}
 use Rattle.xc_data.specs.declared.call.Call.{Call}
@@ -32,6 +33,14 @@ use Rattle.xc_turns.proofs.GivenNumbers.{given_by_now, given_once}
 use Rattle.xc_sentinel.specs.declared.seat.Seat.{Seat}
 use Rattle.xc_sentinel.specs.Seating.{seat_in}
 use Rattle.xc_station.proofs.Tracked.{nobody}
+use Rattle.xc_data.specs.Private.{place_of}
+use Rattle.xc_data.specs.Standing.{objects_of}
+use Rattle.xc_data.specs.declared.undo.Undo.{Undo}
+use Rattle.xc_maps.specs.Keys.{num_cmp}
+use Rattle.xc_world.specs.Act.Names.{next_num}
+use Rattle.xc_world.specs.Beside.{AreElsewhere}
+use Rattle.xc_world.specs.Run.{item_object}
+use Rattle.xc_played.proofs.NewEmpty.{made_empty, not_taken_from}
 use Rattle.xc_played.proofs.NewNumbers.{absent_now}
 use Rattle.xc_played.proofs.NextLate.{late_there}
 use Rattle.xc_played.proofs.NextRecord.{covered_now}
@@ -41,6 +50,10 @@ use Rattle.xc_station.specs.declared.job.Job.{Job}
 use Rattle.xc_station.specs.declared.job.Stage.{Stage}
 use Rattle.xc_station.specs.declared.job.Stage.TheVariants as stage
 use Rattle.xc_station.specs.Jobs.{doing_of, seen_job, seen_jobs}
+use Rattle.xc_station.specs.Lent.{AreBacked}
+use Rattle.xc_station.proofs.Backed.{covered_below, late_below, open_below}
+use Rattle.xc_station.proofs.Elsewhere.{nothing_kept_of}
+use Rattle.xc_station.proofs.Lent.{kept_files}
 use Rattle.xc_station.specs.Moments.{AreSingle, CanRun, IsAt, marks_of, runs, seated_as}
 use Rattle.xc_station.specs.Stations.{HasRooms, IsSteady, moment}
 use Rattle.xc_station.proofs.Placed.{get_map, length_set}
@@ -161,7 +174,7 @@ unseated (Some seat) is = cc is
 module _ {H : Type 0} (model : HostModel H) (shared : Shared H) (journal : List Entry) (jobs : List Job) (at : ℕ) (was : Job)
     (script : Script) (rules : Rules) (faults active spare : ℕ) (lines : Roomy JobLine)
     (steady : IsSteady (setting script rules model.tells) faults (moment model shared journal jobs))
-    (rooms : HasRooms shared.sentinels active spare (moment model shared journal jobs) lines) where
+    (rooms : HasRooms shared active spare (moment model shared journal jobs) lines) where
   single : AreSingle (seen_jobs jobs)
   single =
       given_once (setting script rules model.tells) (length shared.words) (marks_of shared.sentinels.seats) journal (seen_jobs jobs) steady.kept.told
@@ -192,8 +205,11 @@ module _ {H : Type 0} (model : HostModel H) (shared : Shared H) (journal : List 
         ready = λ tells.
             let flying = steady.flying tells in
             record {
-              files = λ h. open_files s now flying at (seen_job was) runs.tx there (ap active_in runs.doing) runs.phase h;
-              new = absent_now s now flying at (seen_job was) runs.tx there (ap active_in runs.doing) runs.phase runs.tx.me.made (omega arith);
+              files = λ h. open_below (model.contents shared.host) shared.buffers.kept (place_of runs.tx.me.places h)
+                  (open_files s now flying at (seen_job was) runs.tx there (ap active_in runs.doing) runs.phase h);
+              new = ap (λ (files : map.FinMap num_cmp (List ℕ)). is_some (map.get files (next_num runs.tx.me runs.tx.number)))
+                  (sym (kept_files (model.contents shared.host) shared.buffers.kept))
+                  ∙ absent_now s now flying at (seen_job was) runs.tx there (ap active_in runs.doing) runs.phase runs.tx.me.made (omega arith);
             };
       }
 
@@ -213,10 +229,32 @@ module _ {H : Type 0} (model : HostModel H) (shared : Shared H) (journal : List 
         single = single;
       }
 
+  -- the newest record without an end: nothing is kept of what it speaks of, and nobody has taken from there
+  module _ (backed : IsTrue model.tells → AreBacked (model.contents shared.host) shared.buffers.kept (seen_jobs jobs))
+      (is : IsThere jobs at stage.Undoing was) (older : List Undo) (u : Undo)
+      (pending : (undoing_stage (doing_of was) is.stage).tx.undo.pending ≡ older ++ u ∷ []) where
+    pub undo_elsewhere : IsTrue model.tells → AreElsewhere (objects_of u) shared.buffers.kept
+    undo_elsewhere tells =
+        let s = setting script rules model.tells in
+        let back = undoing_stage (doing_of was) is.stage in
+        nothing_kept_of (model.contents shared.host) shared.buffers.kept ((backed tells).kept) u
+        (made_empty s (moment model shared journal jobs) (steady.flying tells) at (seen_job was) back.tx back.cause older u
+        (get_map seen_job jobs at was is.stands) (ap active_in back.doing) back.phase pending)
+
+    pub took_elsewhere : IsTrue model.tells → (j : ℕ) (other : SeenTx) → IsActiveAt (seen_jobs jobs) j other → AreElsewhere (objects_of u) other.taken
+    took_elsewhere tells j other active =
+        let s = setting script rules model.tells in
+        let back = undoing_stage (doing_of was) is.stage in
+        All-weaker (Contains other.taken) (λ item. Contains (objects_of u) (item_object item) → ⊥)
+        (λ item took. not_taken_from s (moment model shared journal jobs) (steady.flying tells) at (seen_job was) back.tx back.cause older u
+        (get_map seen_job jobs at was is.stands) (ap active_in back.doing) back.phase pending j active.0 other item active.1 active.2 took)
+        other.taken (All-contains_itself other.taken)
+
   -- a record without an end may be tried
-  pub may_undo : IsThere jobs at stage.Undoing was → (tx : SeenTx) × ((seen_job was).doing ≡ Active tx) × (tx.undo.pending ≢ [])
+  pub may_undo : (IsTrue model.tells → AreBacked (model.contents shared.host) shared.buffers.kept (seen_jobs jobs)) → IsThere jobs at stage.Undoing was
+      → (tx : SeenTx) × ((seen_job was).doing ≡ Active tx) × (tx.undo.pending ≢ [])
       × (IsTrue model.tells → NextIsCovered (model.contents shared.host) tx.undo)
-  may_undo is =
+  may_undo backed is =
       let s = setting script rules model.tells in
       let now = moment model shared journal jobs in
       let there = get_map seen_job jobs at was is.stands in
@@ -225,14 +263,16 @@ module _ {H : Type 0} (model : HostModel H) (shared : Shared H) (journal : List 
         back.doing,
         λ none. let lacks : back.newest ∷ back.older ≡ [] = sym back.pending ∙ none in cc lacks,
         λ tells older u pending way.
-            covered_now s now (steady.flying tells) at (seen_job was) back.tx back.cause older u there (ap active_in back.doing) back.phase pending
-            way,
+            covered_below (model.contents shared.host) shared.buffers.kept u (undo_elsewhere backed is older u pending tells)
+            (covered_now s now (steady.flying tells) at (seen_job was) back.tx back.cause older u there (ap active_in back.doing) back.phase pending
+            way),
       )
 
   -- the next late call of a committing one finds its object
-  pub may_end_late : IsThere jobs at stage.Committing was → (tx : SeenTx) × ((seen_job was).doing ≡ Active tx) × (0 < length (late_left tx))
+  pub may_end_late : (IsTrue model.tells → AreBacked (model.contents shared.host) shared.buffers.kept (seen_jobs jobs))
+      → IsThere jobs at stage.Committing was → (tx : SeenTx) × ((seen_job was).doing ≡ Active tx) × (0 < length (late_left tx))
       × (IsTrue model.tells → (call : LateCall) (calls : List LateCall) → late_left tx ≡ call ∷ calls → IsThereFor (model.contents shared.host) call)
-  may_end_late is =
+  may_end_late backed is =
       let s = setting script rules model.tells in
       let now = moment model shared journal jobs in
       let there = get_map seen_job jobs at was is.stands in
@@ -241,7 +281,8 @@ module _ {H : Type 0} (model : HostModel H) (shared : Shared H) (journal : List 
         mine.doing,
         omega (arith, ap length mine.left),
         λ tells call calls left.
-            late_there s now (steady.flying tells) at (seen_job was) mine.tx call calls there (ap active_in mine.doing) mine.phase left,
+            late_below (model.contents shared.host) shared.buffers.kept ((backed tells).kept) call
+            (late_there s now (steady.flying tells) at (seen_job was) mine.tx call calls there (ap active_in mine.doing) mine.phase left),
       )
 
   -- the transaction of a job starts no job
@@ -273,5 +314,5 @@ module _ {H : Type 0} (model : HostModel H) (shared : Shared H) (journal : List 
 
   -- each active one has its room
   pub has_room : (s : Stage) (tx : SeenTx) → IsThere jobs at s was → doing_of was ≡ Active tx → (1 ≤ active) × (1 ≤ spare)
-  has_room s tx is does = one_active shared.sentinels active spare (moment model shared journal jobs) lines at (seen_job was) tx
+  has_room s tx is does = one_active shared active spare (moment model shared journal jobs) lines at (seen_job was) tx
       (get_map seen_job jobs at was is.stands) (ap active_in does) rooms

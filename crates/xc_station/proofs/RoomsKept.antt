@@ -1,5 +1,5 @@
 -- What a station keeps beside its moment, behind each row.
-use Rattle.std.proofs.Common.{◌≡◌, ◌≢◌, inl, inr, ℕ, ◌+◌, ◌-◌, ◌<◌, ◌≤◌, Bool, true, List, length, refl, ap, sym, ◌∙◌, subst, arith}
+use Rattle.std.proofs.Common.{◌≡◌, ◌≢◌, inl, inr, ℕ, ◌+◌, ◌-◌, ◌<◌, ◌≤◌, Bool, true, List, length, refl, ap, sym, ◌∙◌, subst, arith, []}
 use Rattle.std.specs.Prelude.{Option, slice_get, slice_set}
 use Rattle.std.specs.declared.option.Option.TheVariants.{None, Some}
 use Rattle.xc_data.specs.declared.claim.Claim.{Claim}
@@ -26,8 +26,10 @@ use Rattle.xc_station.specs.declared.calls.Shared.{Shared}
 use Rattle.xc_station.specs.declared.job.Job.{Job}
 use Rattle.xc_station.specs.Beginning.{IsSeatBehind}
 use Rattle.xc_station.specs.Jobs.{doing_of, seen_job, seen_jobs}
+use Rattle.xc_station.specs.Lent.{Lent, notes_in, notes_of}
 use Rattle.xc_station.specs.Moments.{Frees, IsRunningRow, marks_of, moved, runs, seated_as}
 use Rattle.xc_station.specs.Stations.{HasRooms, moment}
+use Rattle.xc_station.proofs.Notes.{no_notes}
 use Rattle.xc_station.proofs.Placed.{ones, get_map, get_set, map_set}
 use Rattle.xc_station.proofs.Rooms.{rooms_set}
 use Rattle.xc_station.proofs.Seated.{seat_there, seat_elsewhere}
@@ -84,22 +86,24 @@ back_none job tx _ = refl
 -- ---- at the moments of a station
 module _ {H : Type 0} (model : HostModel H) (shared : Shared H) (journal : List Entry) (jobs : List Job) (at : ℕ) (was job : Job)
     (active spare : ℕ) (lines : Roomy JobLine) (stands : slice_get jobs at ≡ Some was)
-    (rooms : HasRooms shared.sentinels active spare (moment model shared journal jobs) lines) where
+    (rooms : HasRooms shared active spare (moment model shared journal jobs) lines) where
   there : slice_get (seen_jobs jobs) at ≡ Some (seen_job was)
   there = get_map seen_job jobs at was stands
 
   -- neither has an active transaction
   pub rooms_still : (sentinels' : Sentinels) (journal' : List Entry) (spare' : ℕ) → sentinels'.claims ≡ shared.sentinels.claims
       → KeepsSeats shared.sentinels.seats sentinels'.seats → active_of (seen_job was) ≡ None → active_of (seen_job job) ≡ None → spare ≤ spare'
-      → HasRooms sentinels' active spare' (moment model (record shared { sentinels = sentinels' }) journal' (slice_set jobs at job)) lines
+      → HasRooms (record shared { sentinels = sentinels' }) active spare' (moment model (record shared { sentinels = sentinels' }) journal'
+      (slice_set jobs at job)) lines
   rooms_still sentinels' journal' spare' same kept none none' more =
-      rooms_set shared.sentinels sentinels' active active spare spare' (moment model shared journal jobs)
+      rooms_set shared (record shared { sentinels = sentinels' }) active active spare spare' (moment model shared journal jobs)
       (moment model (record shared { sentinels = sentinels' }) journal' (slice_set jobs at job)) lines at
       (seen_job was) (seen_job job) there (map_set seen_job jobs at job)
       (λ o. tracked_still (λ n. mode_of shared.sentinels.claims n o) (λ (t : SeenTx). mode_in t.held o) (seen_jobs jobs) (rooms.claims o)
       (λ n. mode_of sentinels'.claims n o) at (seen_job was) (seen_job job) there (λ n. ap (λ (t : Table). mode_of t n o) same) none none')
       (tracked_still (λ n. seated_as (seat_in shared.sentinels.seats n)) (λ (t : SeenTx). Some (t.rank, runs t.phase)) (seen_jobs jobs) rooms.seats
       (λ n. seated_as (seat_in sentinels'.seats n)) at (seen_job was) (seen_job job) there (λ n. ap seated_as (kept n)) none none')
+      (ap (λ n. shared.buffers.noted + n) (no_notes (seen_job was) none ∙ sym (no_notes (seen_job job) none')))
       (let a : ones (active_of (seen_job was)) ≡ 0 = ap ones none in let b : ones (active_of (seen_job job)) ≡ 0 = ap ones none' in omega (arith, a, b))
       (let room = rooms.room in omega (arith, room, more)) rooms
 
@@ -110,7 +114,8 @@ module _ {H : Type 0} (model : HostModel H) (shared : Shared H) (journal : List 
       → SetsSeat shared.sentinels.seats sentinels'.seats (length journal + active + 1)
       (Some (record { rank = rank_of was.attempts (length journal + active + 1); running = true; mark = None }))
       → active_of (seen_job was) ≡ None → seen_job job ≡ beginning_job (moment model shared journal jobs) (seen_job was) → active + 1 ≤ spare'
-      → HasRooms sentinels' (active + 1) spare' (moment model (record shared { sentinels = sentinels' }) journal' (slice_set jobs at job)) lines
+      → HasRooms (record shared { sentinels = sentinels' }) (active + 1) spare' (moment model (record shared { sentinels = sentinels' }) journal'
+      (slice_set jobs at job)) lines
   rooms_begun s sentinels' journal' spare' told same sets none begins room =
       let old = moment model shared journal jobs in
       let number = begun_count old + 1 in
@@ -122,7 +127,7 @@ module _ {H : Type 0} (model : HostModel H) (shared : Shared H) (journal : List 
       let sat : SetsSeat shared.sentinels.seats sentinels'.seats number (Some (record { rank = rank_of was.attempts number; running = true; mark = None })) =
       subst (λ n. SetsSeat shared.sentinels.seats sentinels'.seats n (Some (record { rank = rank_of was.attempts n; running = true; mark = None })))
       counted sets in
-      rooms_set shared.sentinels sentinels' active (active + 1) spare spare' old
+      rooms_set shared (record shared { sentinels = sentinels' }) active (active + 1) spare spare' old
       (moment model (record shared { sentinels = sentinels' }) journal' (slice_set jobs at job)) lines at
       (seen_job was) (seen_job job) there (map_set seen_job jobs at job)
       (λ o. tracked_begun (λ n. mode_of shared.sentinels.claims n o) (λ (t : SeenTx). mode_in t.held o) (seen_jobs jobs) (rooms.claims o)
@@ -134,6 +139,7 @@ module _ {H : Type 0} (model : HostModel H) (shared : Shared H) (journal : List 
       (λ n. seated_as (seat_in sentinels'.seats n)) at (seen_job was) (seen_job job) there tx none is
       (ap seated_as (seat_there shared.sentinels.seats sentinels'.seats number _ sat))
       (λ n ne. ap seated_as (seat_elsewhere shared.sentinels.seats sentinels'.seats number _ sat n ne)) above)
+      (ap (λ n. shared.buffers.noted + n) (no_notes (seen_job was) none ∙ sym (ap notes_in is)))
       (let a : ones (active_of (seen_job was)) ≡ 0 = ap ones none in let b : ones (active_of (seen_job job)) ≡ 1 = ap ones is in omega (arith, a, b))
       room rooms
 
@@ -142,16 +148,17 @@ module _ {H : Type 0} (model : HostModel H) (shared : Shared H) (journal : List 
       → IsRunningRow (mover s at (moment model shared journal jobs) (seen_job was))
       (moved model shared' (seen_job job) (moment model shared journal jobs) at) answer
       shared'.sentinels
-      → HasRooms shared'.sentinels active spare (moment model shared' journal (slice_set jobs at job)) lines
-  rooms_running s shared' answer row =
+      → shared'.buffers.noted + notes_of (seen_job was) ≡ shared.buffers.noted + notes_of (seen_job job)
+      → HasRooms shared' active spare (moment model shared' journal (slice_set jobs at job)) lines
+  rooms_running s shared' answer row notes =
       let old = moment model shared journal jobs in
       let on = marked_on s at old (seen_job was) row.tx (old.marks row.tx.number) answer (moved model shared' (seen_job job) old at) row.row in
       let here = get_set (seen_jobs jobs) at (seen_job was) (seen_job job) there in
       let also = get_set (seen_jobs jobs) at (seen_job was) on.behind there in
       let both = ap (λ js. slice_get js at) on.jobs in
       let one : seen_job job ≡ on.behind = cc (here, also, both) in
-      rooms_set shared.sentinels shared'.sentinels active active spare spare old (moment model shared' journal (slice_set jobs at job)) lines at
-      (seen_job was) (seen_job job) there (map_set seen_job jobs at job) row.table row.seats
+      rooms_set shared shared' active active spare spare old (moment model shared' journal (slice_set jobs at job)) lines at
+      (seen_job was) (seen_job job) there (map_set seen_job jobs at job) row.table row.seats notes
       (let a : ones (active_of (seen_job was)) ≡ 1 = ap (λ d. ones (active_in d)) row.doing in
       let b : ones (active_of (seen_job job)) ≡ 1 = ap (λ j. ones (active_of j)) one ∙ ap (λ d. ones (active_in d)) on.doing in omega (arith, a, b))
       rooms.room rooms
@@ -161,11 +168,12 @@ module _ {H : Type 0} (model : HostModel H) (shared : Shared H) (journal : List 
       → AreTold s (length shared.words) (marks_of shared.sentinels.seats) journal (seen_jobs jobs)
       → shared'.sentinels ≡ shared.sentinels → doing_of was ≡ Active tx → doing_of job ≡ Active tx'
       → tx'.number ≡ tx.number → tx'.held ≡ tx.held → ◌≡◌ {A = ℕ × Bool} (tx'.rank, runs tx'.phase) (tx.rank, runs tx.phase)
-      → HasRooms shared'.sentinels active spare (moment model shared' journal (slice_set jobs at job)) lines
-  rooms_going s shared' tx tx' told same does does' number held seated =
+      → shared'.buffers ≡ shared.buffers → tx'.taken ≡ tx.taken
+      → HasRooms shared' active spare (moment model shared' journal (slice_set jobs at job)) lines
+  rooms_going s shared' tx tx' told same does does' number held seated lent taken =
       let single = given_once s (length shared.words) (marks_of shared.sentinels.seats) journal (seen_jobs jobs) told in
       let mine : IsActiveAt (seen_jobs jobs) at tx = (seen_job was, there, ap active_in does) in
-      rooms_set shared.sentinels shared'.sentinels active active spare spare (moment model shared journal jobs)
+      rooms_set shared shared' active active spare spare (moment model shared journal jobs)
       (moment model shared' journal (slice_set jobs at job)) lines at
       (seen_job was) (seen_job job) there (map_set seen_job jobs at job)
       (λ o. tracked_on (λ n. mode_of shared.sentinels.claims n o) (λ (t : SeenTx). mode_in t.held o) (seen_jobs jobs) (rooms.claims o)
@@ -176,6 +184,8 @@ module _ {H : Type 0} (model : HostModel H) (shared : Shared H) (journal : List 
       (λ n. seated_as (seat_in shared'.sentinels.seats n)) at (seen_job was) (seen_job job) there single tx (ap active_in does)
       (λ n ne. ap (λ (t : Sentinels). seated_as (seat_in t.seats n)) same) tx' (ap active_in does') number
       (ap (λ (t : Sentinels). seated_as (seat_in t.seats tx.number)) same ∙ rooms.seats.held at tx mine ∙ ap Some (sym seated)))
+      (ap (λ (b : Lent). b.noted + notes_of (seen_job was)) lent
+      ∙ ap (λ n. shared.buffers.noted + n) (ap (λ d. notes_in (active_in d)) does ∙ ap length (sym taken) ∙ sym (ap (λ d. notes_in (active_in d)) does')))
       (let a : ones (active_of (seen_job was)) ≡ 1 = ap (λ d. ones (active_in d)) does in
       let b : ones (active_of (seen_job job)) ≡ 1 = ap (λ d. ones (active_in d)) does' in omega (arith, a, b))
       rooms.room rooms
@@ -184,11 +194,12 @@ module _ {H : Type 0} (model : HostModel H) (shared : Shared H) (journal : List 
   pub rooms_entered : (s : Setting) (shared' : Shared H) (journal' : List Entry) (spare' : ℕ) (tx : SeenTx)
       → AreTold s (length shared.words) (marks_of shared.sentinels.seats) journal (seen_jobs jobs)
       → doing_of was ≡ Active tx → active_of (seen_job job) ≡ None → Frees shared.sentinels shared'.sentinels tx.number → 1 ≤ active → spare' + 1 ≡ spare
-      → HasRooms shared'.sentinels (active - 1) spare' (moment model shared' journal' (slice_set jobs at job)) lines
-  rooms_entered s shared' journal' spare' tx told does none freed some less =
+      → shared'.buffers.noted + notes_of (seen_job was) ≡ shared.buffers.noted
+      → HasRooms shared' (active - 1) spare' (moment model shared' journal' (slice_set jobs at job)) lines
+  rooms_entered s shared' journal' spare' tx told does none freed some less notes =
       let room = rooms.room in
       let single = given_once s (length shared.words) (marks_of shared.sentinels.seats) journal (seen_jobs jobs) told in
-      rooms_set shared.sentinels shared'.sentinels active (active - 1) spare spare' (moment model shared journal jobs)
+      rooms_set shared shared' active (active - 1) spare spare' (moment model shared journal jobs)
       (moment model shared' journal' (slice_set jobs at job)) lines at
       (seen_job was) (seen_job job) there (map_set seen_job jobs at job)
       (λ o. tracked_ended (λ n. mode_of shared.sentinels.claims n o) (λ (t : SeenTx). mode_in t.held o) (seen_jobs jobs) (rooms.claims o)
@@ -198,6 +209,7 @@ module _ {H : Type 0} (model : HostModel H) (shared : Shared H) (journal : List 
       (λ n. seated_as (seat_in shared'.sentinels.seats n)) at (seen_job was) (seen_job job) there single tx (ap active_in does)
       (λ n ne. ap seated_as (seat_elsewhere shared.sentinels.seats shared'.sentinels.seats tx.number None freed.seats n ne)) none
       (ap seated_as (seat_there shared.sentinels.seats shared'.sentinels.seats tx.number None freed.seats)))
+      (let lacks = no_notes (seen_job job) none in omega (arith, notes, lacks))
       (let a : ones (active_of (seen_job was)) ≡ 1 = ap (λ d. ones (active_in d)) does in
       let b : ones (active_of (seen_job job)) ≡ 0 = ap ones none in omega (arith, a, b, some))
       (omega (arith, room, some, less)) rooms
@@ -221,7 +233,8 @@ module _ {H : Type 0} (model : HostModel H) (shared : Shared H) (journal : List 
       -- an idle one's next has begun, by its row
       pub rooms_idle_went : AreTold s (length shared.words) (marks_of shared.sentinels.seats) journal (seen_jobs jobs)
           → answer ≡ turn.Went → active + 1 ≤ spare'
-          → HasRooms sentinels' (active + 1) spare' (moment model (record shared { sentinels = sentinels' }) journal' (slice_set jobs at job)) lines
+          → HasRooms (record shared { sentinels = sentinels' }) (active + 1) spare' (moment model (record shared { sentinels = sentinels' }) journal'
+          (slice_set jobs at job)) lines
       rooms_idle_went told went room =
           let old = moment model shared journal jobs in
           let new = record (with_job old at (seen_job job)) { marks = marks_of sentinels'.seats } in
@@ -231,16 +244,41 @@ module _ {H : Type 0} (model : HostModel H) (shared : Shared H) (journal : List 
           rooms_begun s sentinels' journal' spare' told same sat none
           (idle_set (marks_of sentinels'.seats) _ (beginning_job old (seen_job was)) begun.1) room
 
+      -- it has taken nothing yet
+      pub idle_untaken : (tx : SeenTx) → active_of (seen_job job) ≡ Some tx → tx.taken ≡ []
+      idle_untaken tx is = by_answer answer row
+        where
+          none_there : (job' : SeenJob) → seen_job job ≡ job' → active_of job' ≡ None → tx.taken ≡ []
+          none_there job' same lacks = let no : None ≡ Some tx = sym lacks ∙ (ap active_of (sym same) ∙ is) in cc no
+
+          by_answer : (a : Turn) → IdleTurn (mover s at (moment model shared journal jobs) (seen_job was)) a
+              (record (with_job (moment model shared journal jobs) at (seen_job job)) { marks = marks_of sentinels'.seats }) → tx.taken ≡ []
+          by_answer (turn.Ended end) row =
+              none_there (record (seen_job was) { doing = Ended end })
+              (idle_set (marks_of sentinels'.seats) _ (record (seen_job was) { doing = Ended end }) row.1) refl
+          by_answer (turn.Busy object number) row =
+              none_there (waiting (seen_job was)) (idle_set (marks_of sentinels'.seats) _ (waiting (seen_job was)) row.1) none
+          by_answer turn.Went row =
+              let old = moment model shared journal jobs in
+              let same = idle_set (marks_of sentinels'.seats) _ (beginning_job old (seen_job was)) row.1 in
+              let fresh : SeenTx = new_tx (begun_count old + 1) (rank_of was.attempts (begun_count old + 1)) (length journal) (seen_job was).me in
+              let one : Some fresh ≡ Some tx = ap active_of (sym same) ∙ is in
+              let it : fresh ≡ tx = cc one in
+              ap (λ (t : SeenTx). t.taken) (sym it)
+          by_answer turn.NoMemory row = absurd row
+
       -- or it has ended, or waits
       pub rooms_idle_halted : answer ≢ turn.Went → spare ≤ spare'
-          → HasRooms sentinels' active spare' (moment model (record shared { sentinels = sentinels' }) journal' (slice_set jobs at job)) lines
+          → HasRooms (record shared { sentinels = sentinels' }) active spare' (moment model (record shared { sentinels = sentinels' }) journal'
+          (slice_set jobs at job)) lines
       rooms_idle_halted halted more = by_answer answer refl row sits
         where
           by_answer : (a : Turn) → answer ≡ a
               → IdleTurn (mover s at (moment model shared journal jobs) (seen_job was)) a
               (record (with_job (moment model shared journal jobs) at (seen_job job)) { marks = marks_of sentinels'.seats })
               → IsSeatBehind (length journal + active + 1) (rank_of was.attempts (length journal + active + 1)) shared.sentinels.seats sentinels'.seats a
-              → HasRooms sentinels' active spare' (moment model (record shared { sentinels = sentinels' }) journal' (slice_set jobs at job)) lines
+              → HasRooms (record shared { sentinels = sentinels' }) active spare' (moment model (record shared { sentinels = sentinels' }) journal'
+              (slice_set jobs at job)) lines
           by_answer (turn.Ended end) is row kept =
               let none' : active_of (seen_job job) ≡ None =
               ap active_of (idle_set (marks_of sentinels'.seats) _ (record (seen_job was) { doing = Ended end }) row.1) in

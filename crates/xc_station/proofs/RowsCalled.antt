@@ -33,17 +33,15 @@ use Rattle.xc_story.specs.Seen.{SeenTx, SeenJob, Active, Now, active_in, with_jo
 use Rattle.xc_story.specs.WordCalls.{IsWordStep}
 use Rattle.xc_story.specs.Rows.{Calls, DoesIn, DoesPartIn, HasCalled, HasNoRival, HoldsWanting, IsActiveAt, IsLeft, IsSameBegin, mover}
 use Rattle.xc_story.specs.Rows.{IsSamePosition, IsReplyInTime, Parts, RunningTurn, StopsAt, noting, parts_of, stored_by, wanting, with_tx}
-use Rattle.xc_story.proofs.AskedCalls.{asked_built}
 use Rattle.xc_station.specs.declared.calls.Shared.{Shared}
 use Rattle.xc_station.specs.declared.tx.Tx.{Tx}
 use Rattle.xc_station.specs.Acting.{HasDone, LeavesOff, acting, leaving, with_parts}
 use Rattle.xc_station.specs.Jobs.{seen_tx}
-use Rattle.xc_station.specs.Moments.{HasTx, IsAt, IsGranted, IsRow, counted, marks_of, moved}
+use Rattle.xc_station.specs.Moments.{HasTx, IsAt, IsGranted, IsRow, Front, counted, front_of, marks_of, moved, told_by, told_front}
 use Rattle.xc_station.proofs.RowsRun.{asked_before, asked_row}
 use Rattle.xc_station.proofs.Rivals.{none_met}
 use Rattle.xc_station.proofs.Seated.{marks_kept}
 use Rattle.xc_station.proofs.Tracked.{tracked_on}
-use Rattle.xc_station.proofs.Unstarted.{nothing_taken}
 
 -- the job stands behind the reply
 pub record IsBehind (s : Setting) (old new : Position) (reply : Reply) : Type 0 where
@@ -74,28 +72,33 @@ module _ {H : Type 0} (model : HostModel H) (s : Setting) (shared : Shared H) (n
   marks_now : marks_of behind.sentinels.seats ≡ now.marks
   marks_now = marks_kept shared.sentinels.seats behind.sentinels.seats g.granted.seats ∙ sym here.marks
 
+  -- the host told so, before the call
+  told_now : (from : Front H) → from ≡ front_of shared → told_front model from ≡ now.contents
+  told_now from host = ap (told_front model) host ∙ sym here.contents
+
   -- the host may have changed, and the job
   touched : (job' : SeenJob) → moved model behind job' now at
       ≡ record (with_job now at job') {
-        contents = model.contents behind.host;
+        contents = told_by model behind;
         faults = model.fault_count behind.host;
         calls = model.calls behind.host;
       }
   touched job' i = record (with_job now at job') {
     words = words_now i;
-    contents = model.contents behind.host;
+    contents = told_by model behind;
     faults = model.fault_count behind.host;
     calls = model.calls behind.host;
     marks = marks_now i;
   }
 
   -- the host was called so
-  called_so : (IsMade : List Kind → Type 0) (from : H) (job' : SeenJob) → from ≡ shared.host
-      → Uses model (record { old = from; new = behind.host }) IsMade → HasCalled IsMade now (moved model behind job' now at)
+  called_so : (IsMade : List Kind → Type 0) (from : Front H) (job' : SeenJob) → from ≡ front_of shared
+      → Uses model (record { old = from.host; new = behind.host }) IsMade → HasCalled IsMade now (moved model behind job' now at)
   called_so IsMade from job' host uses = (
     uses.made,
     uses.named,
-    subst (λ (calls : Kind → ℕ). IsCalled uses.made calls (model.calls behind.host)) (ap model.calls host ∙ sym here.calls) uses.used.called,
+    subst (λ (calls : Kind → ℕ). IsCalled uses.made calls (model.calls behind.host)) (ap (λ (f : Front H). model.calls f.host) host
+        ∙ sym here.calls) uses.used.called,
   )
 
   row_granted : (job' : SeenJob) (tx : SeenTx) (answer : Turn) → job'.doing ≡ Active tx → tx.number ≡ old.number
@@ -116,8 +119,9 @@ module _ {H : Type 0} (model : HostModel H) (s : Setting) (shared : Shared H) (n
       }
 
   -- memory is wanting behind them: what the call left stays, and what it claimed is held
-  module _ (telling : IsTrue s.tells → IsTrue model.tells) (place' : Position) (from : H) (done new : Tx) (same : place' ≡ place) (host : from ≡ shared.host)
-      (l : LeavesOff model call (acting from behind.words mid) (acting behind.host behind.words done))
+  module _ (telling : IsTrue s.tells → IsTrue model.tells) (place' : Position) (from : Front H) (done new : Tx) (same : place' ≡ place)
+      (host : from ≡ front_of shared)
+      (l : LeavesOff model call (acting from.host from.lent.kept behind.words mid) (acting behind.host behind.buffers.kept behind.words done))
       (is : seen_tx new ≡ record (seen_tx done) { phase = Undoing cause.NoMemory }) where
     left_as : seen_tx new ≡ wanting (seen_tx old) l.left (holding old.held.items (claims_of call old.me.value (length now.words)))
     left_as = is ∙ ap (λ (t : SeenTx). record t { phase = Undoing cause.NoMemory }) l.tx
@@ -126,12 +130,12 @@ module _ {H : Type 0} (model : HostModel H) (s : Setting) (shared : Shared H) (n
 
     left_now : IsTrue s.tells → IsLeft now (moved model behind (with_tx job place' (seen_tx new)) now at) (parts_of (seen_tx old)) (ask.Call call) l.left
     left_now tells =
-        let to = model.contents behind.host in
+        let to = told_by model behind in
         let Left : List ℕ → Contents → Parts → Type 0 = λ ws was parts. ((l.left ≡ []) × (to ≡ was))
         ⊎ ((answer : Answer) × DoesPartIn ws (record { old = was; new = to }) parts (record { call = call; answer = answer }) l.left) in
         subst (λ p. Left now.words now.contents p) (ap parts_of g.held)
-        (subst (λ c. Left now.words c (parts_of (seen_tx mid))) (ap model.contents host ∙ sym here.contents)
-        (subst (λ ws. Left ws (model.contents from) (parts_of (seen_tx mid))) words_now (l.contents (telling tells))))
+        (subst (λ c. Left now.words c (parts_of (seen_tx mid))) (told_now from host)
+        (subst (λ ws. Left ws (told_front model from) (parts_of (seen_tx mid))) words_now (l.contents (telling tells))))
 
     pub starved : (answer : Turn) → answer ≡ turn.NoMemory
         → IsRow (mover s at now job) (moved model behind (counted answer (with_tx job place' (seen_tx new))) now at) answer behind.sentinels.claims
@@ -151,8 +155,8 @@ module _ {H : Type 0} (model : HostModel H) (s : Setting) (shared : Shared H) (n
           holds = subst (λ a. HoldsWanting (mover s at now job) (seen_tx old) a l.left held) (sym next) (inr (granted_free, refl));
           behind = touched (with_tx job place' (seen_tx new))
               ∙ (λ i. record (with_job now at (with_tx job place' (left_as i))) {
-                contents = model.contents behind.host;
-                faults = (l.faults ∙ ap model.fault_count host ∙ sym here.faults) i;
+                contents = told_by model behind;
+                faults = (l.faults ∙ ap (λ (f : Front H). model.fault_count f.host) host ∙ sym here.faults) i;
                 calls = model.calls behind.host;
               });
           uses = subst (λ a. HasCalled (StopsAt a) now moment) (sym next)
@@ -161,9 +165,9 @@ module _ {H : Type 0} (model : HostModel H) (s : Setting) (shared : Shared H) (n
         }))
 
   -- the call is done and noted
-  module _ (telling : IsTrue s.tells → IsTrue model.tells) (place' : Position) (from : H) (done new : Tx) (reply : Reply)
-      (stands : IsBehind s place place' reply) (host : from ≡ shared.host)
-      (d : HasDone model call (acting from behind.words mid) (acting behind.host behind.words done) reply)
+  module _ (telling : IsTrue s.tells → IsTrue model.tells) (place' : Position) (from : Front H) (done new : Tx) (reply : Reply)
+      (stands : IsBehind s place place' reply) (host : from ≡ front_of shared)
+      (d : HasDone model call (acting from.host from.lent.kept behind.words mid) (acting behind.host behind.buffers.kept behind.words done) reply)
       (noted : seen_tx new ≡ record (seen_tx done) { calls = done.calls.items ++ call ∷ []; replies = done.replies.items ++ reply ∷ [] }) where
     done_as : seen_tx done ≡ with_parts (record (seen_tx old) { held = holding old.held.items (claims_of call old.me.value (length now.words)) })
         call reply (parts_of (seen_tx done))
@@ -172,8 +176,6 @@ module _ {H : Type 0} (model : HostModel H) (s : Setting) (shared : Shared H) (n
 
     noted_as : seen_tx new ≡ noting (seen_tx old) call reply (claims_of call old.me.value (length now.words)) (parts_of (seen_tx done))
     noted_as = noted ∙ ap (λ (t : SeenTx). record t { calls = t.calls ++ call ∷ []; replies = t.replies ++ reply ∷ [] }) done_as
-        ∙ ap (λ taken. record (noting (seen_tx old) call reply (claims_of call old.me.value (length now.words)) (parts_of (seen_tx done))) { taken = taken })
-        (sym (nothing_taken call old.me.value reply (asked_built (walk_of s.script place) call asked)))
 
     writes_old : mid.writes ≡ old.writes
     writes_old = ap (λ (t : SeenTx). t.writes) g.held
@@ -182,15 +184,15 @@ module _ {H : Type 0} (model : HostModel H) (s : Setting) (shared : Shared H) (n
     spoken_now = subst (λ ws. IsWordStep (overlaid now.words ws) (overlaid now.words done.writes) call reply) writes_old
         (subst (λ ws. IsWordStep (overlaid ws mid.writes) (overlaid ws done.writes) call reply) words_now d.spoken)
 
-    does_now : IsTrue s.tells → DoesIn now.words (record { old = now.contents; new = model.contents behind.host })
+    does_now : IsTrue s.tells → DoesIn now.words (record { old = now.contents; new = told_by model behind })
         (record { old = parts_of (seen_tx old); new = parts_of (seen_tx done) }) call reply
     does_now tells =
-        let to = model.contents behind.host in
+        let to = told_by model behind in
         let Does : List ℕ → Contents → Parts → Type 0 =
         λ ws was parts. DoesIn ws (record { old = was; new = to }) (record { old = parts; new = parts_of (seen_tx done) }) call reply in
         subst (λ p. Does now.words now.contents p) (ap parts_of g.held)
-        (subst (λ c. Does now.words c (parts_of (seen_tx mid))) (ap model.contents host ∙ sym here.contents)
-        (subst (λ ws. Does ws (model.contents from) (parts_of (seen_tx mid))) words_now (d.does (telling tells))))
+        (subst (λ c. Does now.words c (parts_of (seen_tx mid))) (told_now from host)
+        (subst (λ ws. Does ws (told_front model from) (parts_of (seen_tx mid))) words_now (d.does (telling tells))))
 
     calls_now : Calls (mover s at now job) (seen_tx old) call (moved model behind (with_tx job place' (seen_tx new)) now at)
     calls_now =
@@ -201,7 +203,7 @@ module _ {H : Type 0} (model : HostModel H) (s : Setting) (shared : Shared H) (n
           parts = parts_of (seen_tx done);
           behind = touched (with_tx job place' (seen_tx new))
               ∙ ap (λ (t : SeenTx). record (with_job now at (with_tx job place' t)) {
-                contents = model.contents behind.host;
+                contents = told_by model behind;
                 faults = model.fault_count behind.host;
                 calls = model.calls behind.host;
               }) noted_as;
@@ -216,7 +218,7 @@ module _ {H : Type 0} (model : HostModel H) (s : Setting) (shared : Shared H) (n
           checked = subst (λ (t : SeenTx). IsChecked (refusal_of call t.me) call reply) g.held d.checked;
           after = subst (λ (t : SeenTx). IsMeAfter t.number call reply t.me done.me.value) g.held d.after;
           uses = called_so (CallsOf (refusal_of call old.me.value) call reply) from (with_tx job place' (seen_tx new)) host
-              (subst (λ (t : SeenTx). Uses model (record { old = from; new = behind.host }) (CallsOf (refusal_of call t.me) call reply)) g.held d.uses);
+              (subst (λ (t : SeenTx). Uses model (record { old = from.host; new = behind.host }) (CallsOf (refusal_of call t.me) call reply)) g.held d.uses);
           made = d.made;
           one = d.one;
           count = subst (λ (t : SeenTx). (w : World) → length d.made ≡ length (recorded w t.me t.number call reply)) g.held d.count;
@@ -225,7 +227,8 @@ module _ {H : Type 0} (model : HostModel H) (s : Setting) (shared : Shared H) (n
           stores = d.stores ∙ ap (λ ws. ws ++ stored_by (length behind.words) call) writes_old
               ∙ ap (λ n. old.writes ++ stored_by n call) (ap length words_now);
           spoken = spoken_now;
-          cause = subst (λ n. CountsFault (is_fault_reply reply) n (model.fault_count behind.host)) (ap model.fault_count host ∙ sym here.faults) d.cause;
+          cause = subst (λ n. CountsFault (is_fault_reply reply) n (model.fault_count behind.host)) (ap (λ (f : Front H). model.fault_count f.host) host
+              ∙ sym here.faults) d.cause;
           does = does_now;
         }
 

@@ -14,6 +14,7 @@ use Rattle.xc_story.specs.Setting.{Setting}
 use Rattle.xc_story.specs.Seen.{SeenTx, SeenJob, Active, Now, active_in, revoked}
 use Rattle.xc_story.specs.Rows.{IsActiveAt, MarkedTurn, RunningTurn, with_tx, mover}
 use Rattle.xc_station.specs.declared.calls.Shared.{Shared}
+use Rattle.xc_station.specs.Moments.{Front, front_of, told_front}
 use Rattle.xc_station.specs.Moments.{AreSeats, KeepsSeated, IsAt, IsRow, IsRunningRow, IsTable, marks_of, moved, runs, seated_as}
 use Rattle.xc_station.proofs.Closed.{same_active}
 use Rattle.xc_station.proofs.Placed.{get_set}
@@ -44,7 +45,7 @@ module _ {H : Type 0} (model : HostModel H) (s : Setting) (shared : Shared H) (n
   module _ (shared' : Shared H) (job' : SeenJob)
       (others : (n : ℕ) → n ≢ tx.number → seated_as (seat_in shared'.sentinels.seats n) ≡ seated_as (seat_in shared.sentinels.seats n)) where
     -- it is revoked
-    pub revoked_row : (m : Mark) → Some m ≡ marks_of shared.sentinels.seats tx.number → shared'.host ≡ shared.host → shared'.words ≡ shared.words
+    pub revoked_row : (m : Mark) → Some m ≡ marks_of shared.sentinels.seats tx.number → front_of shared' ≡ front_of shared → shared'.words ≡ shared.words
         → shared'.sentinels.claims ≡ shared.sentinels.claims → marks_of shared'.sentinels.seats ≡ marks_of shared.sentinels.seats
         → (tx' : SeenTx) → tx' ≡ record tx { phase = Undoing (revoked m) } → job' ≡ with_tx job job.place tx'
         → seated_as (seat_in shared'.sentinels.seats tx.number) ≡ Some (tx.rank, runs tx'.phase)
@@ -61,9 +62,9 @@ module _ {H : Type 0} (model : HostModel H) (s : Setting) (shared : Shared H) (n
               (sym (marked_as (Some m) is))
               (λ i. record now {
                 words = (words ∙ sym here.words) i;
-                contents = (ap model.contents host ∙ sym here.contents) i;
-                faults = (ap model.fault_count host ∙ sym here.faults) i;
-                calls = (ap model.calls host ∙ sym here.calls) i;
+                contents = (ap (told_front model) host ∙ sym here.contents) i;
+                faults = (ap (λ (f : Front H). model.fault_count f.host) host ∙ sym here.faults) i;
+                calls = (ap (λ (f : Front H). model.calls f.host) host ∙ sym here.calls) i;
                 jobs = slice_set now.jobs at (job_is i);
                 marks = (marks ∙ sym here.marks) i;
               });
@@ -78,7 +79,7 @@ module _ {H : Type 0} (model : HostModel H) (s : Setting) (shared : Shared H) (n
   -- it does what is asked; then it is known whether it still runs
   pub gone_row : (shared' mid : Shared H) (job' : SeenJob) (answer : Turn) → None ≡ marks_of shared.sentinels.seats tx.number
       → IsRow (mover s at now job) (moved model mid job' now at) answer mid.sentinels.claims
-      → shared'.host ≡ mid.host → shared'.words ≡ mid.words → shared'.sentinels.claims ≡ mid.sentinels.claims
+      → front_of shared' ≡ front_of mid → shared'.words ≡ mid.words → shared'.sentinels.claims ≡ mid.sentinels.claims
       → marks_of shared'.sentinels.seats ≡ marks_of mid.sentinels.seats
       → KeepsSeated shared.sentinels.seats mid.sentinels.seats → runs tx.phase ≡ true
       → (tx' : SeenTx) → job'.doing ≡ Active tx'
@@ -89,9 +90,9 @@ module _ {H : Type 0} (model : HostModel H) (s : Setting) (shared : Shared H) (n
   gone_row shared' mid job' answer is r host words claims marks kept running tx' doing' others own =
       let same : moved model mid job' now at ≡ moved model shared' job' now at = λ i. record now {
         words = sym words i;
-        contents = model.contents (sym host i);
-        faults = model.fault_count (sym host i);
-        calls = model.calls (sym host i);
+        contents = told_front model (sym host i);
+        faults = model.fault_count ((sym host i).host);
+        calls = model.calls ((sym host i).host);
         jobs = slice_set now.jobs at job';
         marks = sym marks i;
       } in

@@ -36,6 +36,7 @@ use Rattle.xc_story.specs.Rows.{Mover, RunningTurn, StopsAt, marked, mover, want
 use Rattle.xc_station.specs.declared.calls.Shared.{Shared}
 use Rattle.xc_station.specs.declared.tx.Tx.{Tx}
 use Rattle.xc_station.specs.Jobs.{seen_tx}
+use Rattle.xc_station.specs.Moments.{Front, front_of, told_by, told_front}
 use Rattle.xc_station.specs.Moments.{AreTerms, HasClaimed, HasTx, IsAt, IsRefused, IsRow, IsToldToWait, counted, marks_of, moved, runs, seated_as}
 use Rattle.xc_station.proofs.Rivals.{first_rival}
 use Rattle.xc_station.proofs.Seated.{marks_kept, marks_marked}
@@ -44,7 +45,7 @@ use Rattle.xc_station.proofs.WordActs.{append_nil}
 
 -- with words and host as before, and these marks, a moment differs in one job alone
 moved_same : {H : Type 0} (model : HostModel H) (behind : Shared H) (now : Now) (at : ℕ) (job : SeenJob) → behind.words ≡ now.words
-    → model.contents behind.host ≡ now.contents → model.fault_count behind.host ≡ now.faults → model.calls behind.host ≡ now.calls
+    → told_by model behind ≡ now.contents → model.fault_count behind.host ≡ now.faults → model.calls behind.host ≡ now.calls
     → (marks : ℕ → Option Mark)
     → marks_of behind.sentinels.seats ≡ marks → moved model behind job now at ≡ record (with_job now at job) { marks = marks }
 moved_same model behind now at job words contents faults calls marks same i =
@@ -108,13 +109,13 @@ module _ {H : Type 0} (model : HostModel H) (s : Setting) (shared : Shared H) (n
   met_now call object holder met =
       subst (λ n. IsFirstMet now.jobs at (claims_of call old.me.value n) object holder) (sym (ap length here.words)) met
 
-  same_moment : (behind : Shared H) (job' : SeenJob) → behind.host ≡ shared.host → behind.words ≡ shared.words → (marks : ℕ → Option Mark)
+  same_moment : (behind : Shared H) (job' : SeenJob) → front_of behind ≡ front_of shared → behind.words ≡ shared.words → (marks : ℕ → Option Mark)
       → marks_of behind.sentinels.seats ≡ marks → moved model behind job' now at ≡ record (with_job now at job') { marks = marks }
-  same_moment behind job' host words marks same = moved_same model behind now at job' (words ∙ sym here.words) (ap model.contents host ∙ sym here.contents)
-      (ap model.fault_count host ∙ sym here.faults) (ap model.calls host ∙ sym here.calls) marks same
+  same_moment behind job' host words marks same = moved_same model behind now at job' (words ∙ sym here.words) (ap (told_front model) host ∙ sym here.contents)
+      (ap (λ (f : Front H). model.fault_count f.host) host ∙ sym here.faults) (ap (λ (f : Front H). model.calls f.host) host ∙ sym here.calls) marks same
 
   -- the seats stay, so nobody is marked
-  unmarked_moment : (behind : Shared H) (job' : SeenJob) → behind.host ≡ shared.host → behind.words ≡ shared.words
+  unmarked_moment : (behind : Shared H) (job' : SeenJob) → front_of behind ≡ front_of shared → behind.words ≡ shared.words
       → KeepsSeats shared.sentinels.seats behind.sentinels.seats → moved model behind job' now at ≡ with_job now at job'
   unmarked_moment behind job' host words kept = same_moment behind job' host words now.marks
       (marks_kept shared.sentinels.seats behind.sentinels.seats kept ∙ sym here.marks)
@@ -153,7 +154,7 @@ module _ {H : Type 0} (model : HostModel H) (s : Setting) (shared : Shared H) (n
       (claims_of call old.me.value (length shared.words)) object holder first)
 
   -- another holds something against it
-  pub refused : (behind : Shared H) (new : Tx) (call : Call) (patient : Bool) (entered : ℕ) → behind.host ≡ shared.host → behind.words ≡ shared.words
+  pub refused : (behind : Shared H) (new : Tx) (call : Call) (patient : Bool) (entered : ℕ) → front_of behind ≡ front_of shared → behind.words ≡ shared.words
       → asks (walk_of s.script place) ≡ ask.Call call → AreTerms s.rules now job patient entered
       → IsRefused (record { old = shared.sentinels; new = behind.sentinels }) (record { old = old; new = new })
       (record { claims = claims_of call old.me.value (length shared.words); patient = patient; at = entered })
@@ -178,7 +179,8 @@ module _ {H : Type 0} (model : HostModel H) (s : Setting) (shared : Shared H) (n
       })))
 
   -- a younger one does, and is waited for
-  pub told_to_wait : (behind : Shared H) (new : Tx) (call : Call) (patient : Bool) (entered : ℕ) (object : Object) (holder : ℕ) → behind.host ≡ shared.host
+  pub told_to_wait : (behind : Shared H) (new : Tx) (call : Call) (patient : Bool) (entered : ℕ) (object : Object) (holder : ℕ)
+      → front_of behind ≡ front_of shared
       → behind.words ≡ shared.words → asks (walk_of s.script place) ≡ ask.Call call → AreTerms s.rules now job patient entered
       → IsToldToWait (record { old = shared.sentinels; new = behind.sentinels }) (record { old = old; new = new })
       (record { claims = claims_of call old.me.value (length shared.words); patient = patient; at = entered }) object holder
@@ -213,7 +215,8 @@ module _ {H : Type 0} (model : HostModel H) (s : Setting) (shared : Shared H) (n
       (sym (append_nil old.undo.pending))
 
   -- memory is wanting before the claims
-  pub wants : (behind : Shared H) (new : Tx) (answer : Turn) → behind.host ≡ shared.host → behind.words ≡ shared.words → behind.sentinels ≡ shared.sentinels
+  pub wants : (behind : Shared H) (new : Tx) (answer : Turn) → front_of behind ≡ front_of shared → behind.words ≡ shared.words
+      → behind.sentinels ≡ shared.sentinels
       → seen_tx new ≡ record (seen_tx old) { phase = Undoing cause.NoMemory } → answer ≡ turn.NoMemory
       → IsRow (mover s at now job) (moved model behind (counted answer (with_tx job place (seen_tx new))) now at) answer behind.sentinels.claims
   wants behind new answer host words same is gives =
@@ -231,20 +234,20 @@ module _ {H : Type 0} (model : HostModel H) (s : Setting) (shared : Shared H) (n
         behind = unmarked_moment behind (with_tx job place (seen_tx new)) host words kept
             ∙ ap (λ (t : SeenTx). with_job now at (with_tx job place t)) (is ∙ without_record)
             ∙ (λ i. record (with_job now at (with_tx job place (wanting (seen_tx old) [] old.held.items))) {
-              contents = (here.contents ∙ sym (ap model.contents host)) i;
-              calls = (here.calls ∙ sym (ap model.calls host)) i;
+              contents = (here.contents ∙ sym (ap (told_front model) host)) i;
+              calls = (here.calls ∙ sym (ap (λ (f : Front H). model.calls f.host) host)) i;
             });
         uses = (
           [],
           no_calls (asks (walk_of s.script job.place)),
-          λ kind. ap (λ (calls : Kind → ℕ). calls kind) (ap model.calls host ∙ sym here.calls),
+          λ kind. ap (λ (calls : Kind → ℕ). calls kind) (ap (λ (f : Front H). model.calls f.host) host ∙ sym here.calls),
         );
-        contents = λ _. inl (refl, ap model.contents host ∙ sym here.contents);
+        contents = λ _. inl (refl, ap (told_front model) host ∙ sym here.contents);
       }))
 
   -- ---- the commit, and the abort that is asked
   -- its stores are written
-  pub commits : (behind : Shared H) (new : Tx) → behind.host ≡ shared.host → behind.words ≡ overlaid shared.words old.writes
+  pub commits : (behind : Shared H) (new : Tx) → front_of behind ≡ front_of shared → behind.words ≡ overlaid shared.words old.writes
       → behind.sentinels ≡ shared.sentinels
       → seen_tx new ≡ record (seen_tx old) { phase = Committing } → asks (walk_of s.script place) ≡ ask.Commit → IsSettled s.script place
       → IsRow (mover s at now job) (moved model behind (with_tx job place (seen_tx new)) now at) turn.Went behind.sentinels.claims
@@ -257,16 +260,16 @@ module _ {H : Type 0} (model : HostModel H) (s : Setting) (shared : Shared H) (n
         settled = settled;
         behind = λ i. record now {
           words = (words ∙ ap (λ (ws : List ℕ). overlaid ws old.writes) (sym here.words)) i;
-          contents = (ap model.contents host ∙ sym here.contents) i;
-          faults = (ap model.fault_count host ∙ sym here.faults) i;
-          calls = (ap model.calls host ∙ sym here.calls) i;
+          contents = (ap (told_front model) host ∙ sym here.contents) i;
+          faults = (ap (λ (f : Front H). model.fault_count f.host) host ∙ sym here.faults) i;
+          calls = (ap (λ (f : Front H). model.calls f.host) host ∙ sym here.calls) i;
           jobs = slice_set now.jobs at (with_tx job place (is i));
           marks = (ap (λ (t : Sentinels). marks_of t.seats) same ∙ sym here.marks) i;
         };
       }))
 
   -- the script asks its abort
-  pub turns_back : (behind : Shared H) (new : Tx) → behind.host ≡ shared.host → behind.words ≡ shared.words → behind.sentinels ≡ shared.sentinels
+  pub turns_back : (behind : Shared H) (new : Tx) → front_of behind ≡ front_of shared → behind.words ≡ shared.words → behind.sentinels ≡ shared.sentinels
       → seen_tx new ≡ record (seen_tx old) { phase = Undoing cause.Asked } → asks (walk_of s.script place) ≡ ask.Abort
       → IsRow (mover s at now job) (moved model behind (with_tx job place (seen_tx new)) now at) turn.Went behind.sentinels.claims
   turns_back behind new host words same is asked =
@@ -280,7 +283,7 @@ module _ {H : Type 0} (model : HostModel H) (s : Setting) (shared : Shared H) (n
       }))
 
   -- the claims failed
-  pub unclaimed : (behind : Shared H) (new : Tx) (call : Call) (patient : Bool) (entered : ℕ) (answer : Turn) → behind.host ≡ shared.host
+  pub unclaimed : (behind : Shared H) (new : Tx) (call : Call) (patient : Bool) (entered : ℕ) (answer : Turn) → front_of behind ≡ front_of shared
       → behind.words ≡ shared.words → asks (walk_of s.script place) ≡ ask.Call call → AreTerms s.rules now job patient entered
       → HasClaimed (record { old = shared.sentinels; new = behind.sentinels }) (record { old = old; new = new })
       (record { claims = claims_of call old.me.value (length shared.words); patient = patient; at = entered }) (Err answer)

@@ -1,5 +1,6 @@
 -- A station before its first turn.
-use Rattle.std.proofs.lemmas.List.Elements.{All-head, All-tail}
+use Rattle.std.proofs.lemmas.List.Elements.{All-head, All-nil, All-tail}
+use Rattle.std.proofs.lemmas.List.Sums.{sum_by-cons}
 use Rattle.xc_data.specs.declared.private.Place.{Place as Handle}
 use Rattle.xc_data.specs.declared.private.Place.TheVariants.{Vacant}
 use Rattle.xc_data.specs.declared.script.Opened.{Opened}
@@ -13,11 +14,11 @@ use Rattle.std.specs.declared.option.Option.TheVariants.{None, Some}
 use Rattle.xc_data.specs.Limits.{KeepsLimits}
 use Rattle.xc_data.specs.declared.object.Object.{Object}
 use Rattle.xc_data.specs.declared.entry.JobLine.{JobLine}
-use Rattle.xc_host.specs.Contents.{opened}
+use Rattle.xc_data.specs.declared.entry.KeptItem.{KeptItem}
+use Rattle.xc_host.specs.Contents.{Contents, opened}
 use Rattle.xc_journal.specs.Room.{Roomy}
 use Rattle.xc_text.specs.declared.script.Script.{Script}
 use Rattle.xc_text.specs.Scripts.{IsScript, IsFileLine}
-use Rattle.xc_sentinel.specs.declared.sentinels.Sentinels.{Sentinels}
 use Rattle.xc_sentinel.specs.Seating.{seat_in}
 use Rattle.xc_wordlocks.specs.Table.{mode_of}
 use Rattle.xc_story.specs.Setting.{Setting}
@@ -26,7 +27,9 @@ use Rattle.xc_story.specs.Opened.{IsOpening, opened_job}
 use Rattle.xc_story.specs.Kept.{IsSet, IsKept}
 use Rattle.xc_turns.proofs.StoryStart.{start_kept}
 use Rattle.xc_played.proofs.TurnStart.{start_flies}
+use Rattle.xc_station.specs.declared.calls.Shared.{Shared}
 use Rattle.xc_station.specs.Jobs.{blocks_of}
+use Rattle.xc_station.specs.Lent.{AreBacked, IsBacked, notes_in_all, notes_of}
 use Rattle.xc_station.specs.Moments.{seated_as}
 use Rattle.xc_station.specs.Stations.{IsSteady, HasRooms}
 
@@ -75,11 +78,19 @@ started s faults now set limits opening counted told =
       flying = λ tells. start_flies s now set limits opening (told tells);
     }
 
+-- nothing is taken at its begin
+none_noted : (script : Script) (blocks : List (List ℕ)) → notes_in_all (map (opened_job script) blocks) ≡ 0
+none_noted script [] = refl
+none_noted script (b ∷ blocks) =
+    let more = none_noted script blocks in
+    let first = sum_by-cons notes_of (opened_job script b) (map (opened_job script) blocks) in
+    omega (arith, first, more)
+
 -- and its rooms
-pub roomy : (script : Script) (sentinels : Sentinels) (spare : ℕ) (now : Now) (lines : Roomy JobLine) → IsScript script → IsOpening script now
-    → ((n : ℕ) (o : Object) → mode_of sentinels.claims n o ≡ None) → ((n : ℕ) → seat_in sentinels.seats n ≡ None) → length now.jobs ≤ lines.spare
-    → lines.items ≡ [] → HasRooms sentinels 0 spare now lines
-roomy script sentinels spare now lines read opening empty nobody room none =
+pub roomy : {H : Type 0} (script : Script) (shared : Shared H) (spare : ℕ) (now : Now) (lines : Roomy JobLine) → IsScript script → IsOpening script now
+    → ((n : ℕ) (o : Object) → mode_of shared.sentinels.claims n o ≡ None) → ((n : ℕ) → seat_in shared.sentinels.seats n ≡ None)
+    → length now.jobs ≤ lines.spare → lines.items ≡ [] → shared.buffers.noted ≡ 0 → HasRooms shared 0 spare now lines
+roomy script shared spare now lines read opening empty nobody room none unlent =
     let blocks = script.outline.jobs in
     record {
       claims = λ o. record {
@@ -90,6 +101,7 @@ roomy script sentinels spare now lines read opening empty nobody room none =
         held = λ j tx active. absurd (none_there script blocks j tx active.0 (ap (λ jobs. slice_get jobs j) (sym opening.jobs) ∙ active.1) active.2);
         known = λ n x holds. absurd (let no : None ≡ Some x = sym (ap seated_as (nobody n)) ∙ holds in let bad : ⊥ = cc in bad);
       };
+      noted = ap notes_in_all opening.jobs ∙ none_noted script blocks ∙ sym unlent;
       few = subst (λ (n : ℕ). n ≤ 1000)
           (sym (ap length opening.jobs ∙ length-map blocks (opened_job script) ∙ ap length read.jobs ∙ length-map script.blocks (λ b. b.name)))
           read.few_blocks;
@@ -97,4 +109,13 @@ roomy script sentinels spare now lines read opening empty nobody room none =
       room = omega arith;
       lines_room = room;
       none = none;
+    }
+
+-- and nothing is kept, or taken
+pub backed_at_start : (script : Script) (c : Contents) (kept : List KeptItem) (jobs : List SeenJob) → jobs ≡ map (opened_job script) script.outline.jobs
+    → kept ≡ [] → AreBacked c kept jobs
+backed_at_start script c kept jobs opened none =
+    record {
+      kept = subst (All (IsBacked c)) (sym none) (All-nil (IsBacked c));
+      taken = λ j tx active. absurd (none_there script script.outline.jobs j tx active.0 (ap (λ js. slice_get js j) (sym opened) ∙ active.1) active.2);
     }

@@ -13,9 +13,14 @@ use Rattle.xc_data.specs.declared.entry.Mark.{Mark}
 use Rattle.xc_data.specs.declared.entry.Outcome.TheVariants.{Committed, Aborted}
 use Rattle.xc_data.specs.declared.entry.Turn.{Turn}
 use Rattle.xc_data.specs.declared.entry.Turn.TheVariants as turn
+use Rattle.xc_data.specs.Standing.{objects_of}
+use Rattle.xc_data.specs.declared.undo.Undo.{Undo}
+use Rattle.xc_world.specs.Beside.{AreElsewhere}
 use Rattle.xc_compensate.specs.Records.{IsTried, Records}
-use Rattle.xc_deferred.specs.Does.{EndsNext}
+use Rattle.xc_deferred.specs.Does.{DoesLate, EndsNext}
 use Rattle.xc_deferred.specs.Queue.{Queue}
+use Rattle.xc_host.specs.Fronted.{before, fronted}
+use Rattle.xc_host.specs.Kept.{with_kept}
 use Rattle.xc_host.specs.Model.{HostModel}
 use Rattle.xc_sentinel.specs.declared.sentinels.Sentinels.{Sentinels}
 use Rattle.xc_sentinel.specs.Seating.{SetsSeat}
@@ -24,21 +29,20 @@ use Rattle.xc_story.specs.declared.phase.Phase.TheVariants as phase
 use Rattle.xc_story.specs.declared.rules.Rules.{Rules}
 use Rattle.xc_data.specs.Calls.{thread_in}
 use Rattle.xc_story.specs.Setting.{Setting, setting}
-use Rattle.xc_story.specs.Seen.{SeenTx, SeenJob, Doing, Idle, Active, Starved, Ended, Now, late_left, queue_of, with_queue, with_job, with_kept}
+use Rattle.xc_story.specs.Seen.{SeenTx, SeenJob, Doing, Idle, Active, Starved, Ended, Now, late_left, queue_of, with_queue, with_job}
 use Rattle.xc_story.specs.Seen.{entering, joined, unmarked, waiting}
 use Rattle.xc_text.specs.declared.script.Script.{Script}
 use Rattle.xc_story.specs.Rows.{IsTurn, TurnOf, ActiveTurn, BackTurn, Compensates, EndsLate, EntersAborted, EntersCommitted, IdleTurn, LateTurn, NextLate}
 use Rattle.xc_story.specs.Rows.{StarvedTurn, behind_abort, behind_commit, beginning_job, entry_of, with_tx, mover}
 use Rattle.xc_station.specs.declared.calls.Shared.{Shared}
-use Rattle.xc_station.specs.declared.job.Activity.{Activity}
-use Rattle.xc_station.specs.declared.job.Activity.TheVariants as activity
 use Rattle.xc_station.specs.declared.job.Job.{Job}
 use Rattle.xc_station.specs.declared.job.Stage.{Stage}
 use Rattle.xc_station.specs.declared.job.Stage.TheVariants as stage
-use Rattle.xc_station.specs.declared.tx.Tx.{Tx}
-use Rattle.xc_station.specs.Jobs.{blocks_of, doing_of, seen_doing, seen_job, seen_jobs, seen_tx}
-use Rattle.xc_station.specs.Moments.{IsRunningRow, marks_of, moved}
+use Rattle.xc_station.specs.Jobs.{blocks_of, doing_of, seen_job, seen_jobs}
+use Rattle.xc_station.specs.Lent.{Gives, Lent}
+use Rattle.xc_station.specs.Moments.{IsRunningRow, marks_of, moved, told_by}
 use Rattle.xc_station.specs.Stations.{moment}
+use Rattle.xc_station.proofs.Lent.{kept_again, undone_kept}
 use Rattle.xc_station.proofs.Placed.{get_map, get_set, length_set, map_set}
 use Rattle.xc_station.proofs.Seated.{marks_unmarked}
 use Rattle.xc_station.proofs.Stages.{IsThere, idle_stage, starved_stage, running_stage, committing_stage, committed_stage, undoing_stage, undone_stage}
@@ -64,13 +68,6 @@ started_same (j ∷ jobs) zero was job stands same =
     let is : j ≡ was = cc stands in
     ap (λ b. b ∷ blocks_of (seen_jobs jobs)) (same ∙ ap (λ (x : Job). (seen_job x).block) (sym is))
 started_same (j ∷ jobs) (suc at) was job stands same = ap (λ bs. (seen_job j).block ∷ bs) (started_same jobs at was job stands same)
-
--- nothing is taken yet from pipes or pairs
-none_taken : (t : Tx) (a : Activity) (tx : SeenTx) → seen_doing t a ≡ Active tx → tx.taken ≡ []
-none_taken t activity.Idle tx is = cc is
-none_taken t activity.Active tx is = let same : seen_tx t ≡ tx = cc is in ap (λ (u : SeenTx). u.taken) (sym same)
-none_taken t activity.Starved tx is = cc is
-none_taken t (activity.Ended end) tx is = cc is
 
 -- a late call that starts no job ends as one at the host
 ended_late : (s : Setting) (at : ℕ) (old : Now) (job : SeenJob) (tx : SeenTx) (call : LateCall) (new : Now) → thread_in call ≡ None
@@ -180,8 +177,9 @@ module _ {H : Type 0} (model : HostModel H) (shared : Shared H) (journal : List 
       → ((tx : SeenTx) → (seen_job was).doing ≡ Active tx → StartNone tx.late)
       → ((tx : SeenTx) (call : LateCall) (calls : List LateCall) → (seen_job was).doing ≡ Active tx → late_left tx ≡ call ∷ calls
       → (queue : Queue) × (seen_job job ≡ with_tx (seen_job was) was.place (with_queue tx queue))
-      × EndsNext model call (record { host = shared.host; late = queue_of tx }) (record { host = shared'.host; late = queue }))
-      → (shared'.words ≡ shared.words) × (shared'.sentinels ≡ shared.sentinels)
+      × EndsNext (fronted model) call (record { host = before shared.host shared.buffers.kept; late = queue_of tx })
+      (record { host = before shared'.host shared.buffers.kept; late = queue }))
+      → (shared'.words ≡ shared.words) × (shared'.sentinels ≡ shared.sentinels) × (shared'.buffers ≡ shared.buffers)
       → IsTurn s at (moment model shared journal jobs) turn.Went (moment model shared' journal (slice_set jobs at job))
   committing_turned s shared' job telling is none gives same =
       let old = moment model shared journal jobs in
@@ -201,7 +199,9 @@ module _ {H : Type 0} (model : HostModel H) (shared : Shared H) (journal : List 
             });
         uses = (ends.uses.made, ends.uses.named, ends.uses.used.called);
         cause = ends.cause;
-        does = λ tells. ends.does (telling tells);
+        does = λ tells.
+            subst (λ (lent : Lent). DoesLate (told_by model shared) (with_kept (model.contents shared'.host) lent.kept) mine.next ends.end) (sym same.2)
+            (ends.does (telling tells));
       } in
       phase_turned s at old new (seen_job was) mine.tx phase.Committing turn.Went (seen_there stage.Committing is) mine.doing mine.phase
       (subst (λ left. LateTurn (mover s at old (seen_job was)) mine.tx left new) (sym mine.left)
@@ -214,9 +214,10 @@ module _ {H : Type 0} (model : HostModel H) (shared : Shared H) (journal : List 
       → ((tx : SeenTx) (at : ℕ) → (seen_job was).doing ≡ Active tx → number ≡ at + 1
       → (seen_job job ≡ behind_commit (seen_job was) tx) × (entry ≡ entry_of tx at (Committed tx.ends)))
       → ((tx : SeenTx) → (seen_job was).doing ≡ Active tx → SetsSeat shared.sentinels.seats shared'.sentinels.seats tx.number None)
-      → number ≡ at + 1 → (shared'.host ≡ shared.host) × (shared'.words ≡ shared.words) → journal' ≡ journal ++ entry ∷ [] → length (seen_jobs jobs) ≤ 1000
+      → number ≡ at + 1 → (shared'.host ≡ shared.host) × (shared'.words ≡ shared.words) → shared'.buffers.kept ≡ shared.buffers.kept
+      → journal' ≡ journal ++ entry ∷ [] → length (seen_jobs jobs) ≤ 1000
       → IsTurn s at (moment model shared journal jobs) turn.Went (moment model shared' journal' (slice_set jobs at job))
-  committed_turned s shared' journal' entry job number is none gives gone counts same entered few =
+  committed_turned s shared' journal' entry job number is none gives gone counts same kept entered few =
       let old = moment model shared journal jobs in
       let new = moment model shared' journal' (slice_set jobs at job) in
       let mine = committed_stage (doing_of was) is.stage in
@@ -228,7 +229,7 @@ module _ {H : Type 0} (model : HostModel H) (shared : Shared H) (journal : List 
         moment_set shared' journal' job is.stands (ap (λ (j : SeenJob). j.block) gave.0)
             ∙ (λ i. record {
               words = same.1 i;
-              contents = model.contents (same.0 i);
+              contents = with_kept (model.contents (same.0 i)) (kept i);
               faults = model.fault_count (same.0 i);
               calls = model.calls (same.0 i);
               journal = (entered ∙ ap (λ e. journal ++ e ∷ []) gave.1) i;
@@ -246,12 +247,14 @@ module _ {H : Type 0} (model : HostModel H) (shared : Shared H) (journal : List 
       (subst (λ left. LateTurn (mover s at old (seen_job was)) mine.tx left new) (sym mine.left) row)
 
   -- an undoing job's, where a record has no end
-  pub undoing_turned : (script : Script) (rules : Rules) (shared' : Shared H) (job : Job) → IsThere jobs at stage.Undoing was
+  pub undoing_turned : (script : Script) (rules : Rules) (shared' : Shared H) (job : Job) (is : IsThere jobs at stage.Undoing was)
       → ((tx : SeenTx) → (seen_job was).doing ≡ Active tx → (undo : Records) × (seen_job job ≡ with_tx (seen_job was) was.place (record tx { undo = undo }))
       × IsTried model rules.undo_tries (record { host = shared.host; undo = tx.undo }) (record { host = shared'.host; undo = undo }))
-      → (shared'.words ≡ shared.words) × (shared'.sentinels ≡ shared.sentinels)
+      → ((older : List Undo) (u : Undo) → (undoing_stage (doing_of was) is.stage).tx.undo.pending ≡ older ++ u ∷ [] → IsTrue model.tells
+      → AreElsewhere (objects_of u) shared.buffers.kept)
+      → (shared'.words ≡ shared.words) × (shared'.sentinels ≡ shared.sentinels) × (shared'.buffers ≡ shared.buffers)
       → IsTurn (setting script rules model.tells) at (moment model shared journal jobs) turn.Went (moment model shared' journal (slice_set jobs at job))
-  undoing_turned script rules shared' job is gives same =
+  undoing_turned script rules shared' job is gives away same =
       let s = setting script rules model.tells in
       let old = moment model shared journal jobs in
       let new = moment model shared' journal (slice_set jobs at job) in
@@ -266,7 +269,9 @@ module _ {H : Type 0} (model : HostModel H) (shared : Shared H) (journal : List 
         legal = tried.legal;
         faults = tried.faults;
         uses = (tried.uses.made, tried.uses.named, tried.uses.used.called);
-        effect = tried.effect;
+        effect = λ tells.
+            (λ i. with_kept (tried.effect tells i) ((same.2 i).kept))
+            ∙ undone_kept (model.contents shared.host) shared.buffers.kept tried.tried tried.end (away tried.older tried.tried tried.was tells);
         behind = moment_set shared' journal job is.stands (ap (λ (j : SeenJob). j.block) gave.1)
             ∙ (λ i. record (moment model shared' journal jobs) {
               words = same.0 i;
@@ -277,14 +282,15 @@ module _ {H : Type 0} (model : HostModel H) (shared : Shared H) (journal : List 
       phase_turned s at old new (seen_job was) back.tx (phase.Undoing back.cause) turn.Went (seen_there stage.Undoing is) back.doing back.phase
       (subst (λ pending. BackTurn (mover s at old (seen_job was)) back.tx back.cause pending new) (sym back.pending) row)
 
-  -- an undoing job's, where each has one: nothing was taken that is given back
+  -- an undoing job's, where each has one: what it took is given back
   pub undone_turned : (s : Setting) (shared' : Shared H) (journal' : List Entry) (entry : Entry) (job : Job) (number : ℕ) → IsThere jobs at stage.Undone was
       → ((tx : SeenTx) (c : Cause) (at : ℕ) → (seen_job was).doing ≡ Active tx → tx.phase ≡ phase.Undoing c → number ≡ at + 1
       → (seen_job job ≡ behind_abort (seen_job was) tx c) × (entry ≡ entry_of tx at (Aborted (record { cause = c; records = tx.undo.ended }))))
       → ((tx : SeenTx) → (seen_job was).doing ≡ Active tx → SetsSeat shared.sentinels.seats shared'.sentinels.seats tx.number None)
-      → number ≡ at + 1 → (shared'.host ≡ shared.host) × (shared'.words ≡ shared.words) → journal' ≡ journal ++ entry ∷ []
+      → number ≡ at + 1 → (shared'.host ≡ shared.host) × (shared'.words ≡ shared.words) → Gives shared.buffers shared'.buffers (seen_job was)
+      → journal' ≡ journal ++ entry ∷ []
       → IsTurn s at (moment model shared journal jobs) turn.Went (moment model shared' journal' (slice_set jobs at job))
-  undone_turned s shared' journal' entry job number is gives gone counts same entered =
+  undone_turned s shared' journal' entry job number is gives gone counts same given entered =
       let old = moment model shared journal jobs in
       let new = moment model shared' journal' (slice_set jobs at job) in
       let back = undone_stage (doing_of was) is.stage in
@@ -295,7 +301,7 @@ module _ {H : Type 0} (model : HostModel H) (shared : Shared H) (journal : List 
         behind = moment_set shared' journal' job is.stands (ap (λ (j : SeenJob). j.block) gave.0 ∙ abort_block (seen_job was) back.tx back.cause)
             ∙ (λ i. record {
               words = same.1 i;
-              contents = model.contents shared'.host;
+              contents = told_by model shared';
               faults = model.fault_count (same.0 i);
               calls = model.calls (same.0 i);
               journal = (entered ∙ ap (λ e. journal ++ e ∷ []) gave.1) i;
@@ -303,8 +309,8 @@ module _ {H : Type 0} (model : HostModel H) (shared : Shared H) (journal : List 
               started = blocks_of (seen_jobs jobs);
               marks = marks' i;
             });
-        returned = λ tells. ap model.contents same.0
-            ∙ ap (with_kept (model.contents shared.host)) (sym (none_taken was.tx was.activity back.tx back.doing));
+        returned = λ tells. ap (λ h. with_kept (model.contents h) shared'.buffers.kept) same.0
+            ∙ kept_again (model.contents shared.host) shared.buffers.kept shared'.buffers.kept back.tx.taken (λ w. given.given w back.tx back.doing);
       } in
       phase_turned s at old new (seen_job was) back.tx (phase.Undoing back.cause) turn.Went (seen_there stage.Undone is) back.doing back.phase
       (subst (λ pending. BackTurn (mover s at old (seen_job was)) back.tx back.cause pending new) (sym back.pending) row)

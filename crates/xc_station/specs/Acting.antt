@@ -1,5 +1,5 @@
 -- What a call of a running transaction needs, and what it does.
-use Rattle.std.specs.Prelude.{◌≡◌, ◌⊎◌, ℕ, ◌≤◌, List, [], ◌++◌, length, IsTrue, Result, Ok, Err}
+use Rattle.std.specs.Prelude.{◌≡◌, ◌⊎◌, ℕ, ◌≤◌, List, [], ◌++◌, length, All, IsTrue, Result, Ok, Err}
 use Rattle.xc_data.specs.Counts.{CountsFault}
 use Rattle.xc_data.specs.Faults.{is_fault_reply}
 use Rattle.xc_data.specs.Private.{place_of}
@@ -8,10 +8,12 @@ use Rattle.xc_data.specs.declared.call.Answer.{Answer}
 use Rattle.xc_data.specs.declared.call.Call.{Call}
 use Rattle.xc_data.specs.declared.call.Reply.{Reply}
 use Rattle.xc_data.specs.declared.claim.Claim.{Claim}
+use Rattle.xc_data.specs.declared.entry.KeptItem.{KeptItem}
 use Rattle.xc_data.specs.declared.memory.NoMemory.{NoMemory}
 use Rattle.xc_data.specs.declared.undo.Undo.{Undo}
 use Rattle.xc_file.specs.Calls.{IsNewIn, IsOpenIn}
 use Rattle.xc_host.specs.Contents.{Contents}
+use Rattle.xc_host.specs.Kept.{KeepsData, with_kept}
 use Rattle.xc_host.specs.Model.{HostModel}
 use Rattle.xc_host.specs.Uses.{CallsOf, Uses}
 use Rattle.xc_script.specs.declared.ask.Ask.TheVariants as ask
@@ -20,6 +22,7 @@ use Rattle.xc_wordlocks.specs.Held.{HasRoomFor}
 use Rattle.xc_world.specs.After.{IsMeAfter}
 use Rattle.xc_world.specs.Checks.{IsChecked, refusal_of}
 use Rattle.xc_world.specs.Late.{kept_call}
+use Rattle.xc_world.specs.Run.{taken_by}
 use Rattle.xc_world.specs.Trail.{recorded}
 use Rattle.xc_world.specs.World.{World}
 use Rattle.xc_story.specs.declared.phase.Phase.TheVariants.{Running}
@@ -28,6 +31,7 @@ use Rattle.xc_story.specs.Seen.{SeenTx}
 use Rattle.xc_story.specs.WordCalls.{IsWordStep}
 use Rattle.xc_station.specs.declared.tx.Tx.{Tx}
 use Rattle.xc_station.specs.Jobs.{seen_tx}
+use Rattle.xc_station.specs.Lent.{IsBacked}
 
 -- ---- room
 -- for one call and its reply
@@ -54,28 +58,40 @@ pub record AreReadyFor (tx : SeenTx) (contents : Contents) : Type 0 where
   pub new : IsNewIn contents tx.me tx.number
 
 -- ---- a call
--- what it works on: a host, the words, and a transaction at them
+-- what it works on: a host, what is kept in front of it, the words, and a transaction at them
 pub record Acting (H : Type 0) : Type 0 where
   pub host : H
+  pub kept : List KeptItem
   pub words : List ℕ
   pub tx : SeenTx
 
 -- the same of the code's transaction
-abbrev pub acting : {H : Type 0} → H → List ℕ → Tx → Acting H
-acting host words tx = record { host = host; words = words; tx = seen_tx tx }
+abbrev pub acting : {H : Type 0} → H → List KeptItem → List ℕ → Tx → Acting H
+acting host kept words tx = record { host = host; kept = kept; words = words; tx = seen_tx tx }
 
--- the transaction with these parts, behind a call that got this reply: its late call is kept where that is late
+-- the transaction with these parts, behind a call that got this reply: its late call is kept where that is late, and what it took
+-- is noted
 abbrev pub with_parts : SeenTx → Call → Reply → Parts → SeenTx
 with_parts tx call reply parts =
-    record tx { me = parts.me; writes = parts.stores; undo = parts.undo; late = tx.late ++ kept_call call tx.me reply }
+    record tx {
+      me = parts.me;
+      writes = parts.stores;
+      undo = parts.undo;
+      taken = tx.taken ++ taken_by call tx.me reply;
+      late = tx.late ++ kept_call call tx.me reply;
+    }
 
 -- a transaction with these records behind its own
 abbrev pub leaving : SeenTx → List Undo → SeenTx
 leaving tx left = record tx { undo = record tx.undo { pending = tx.undo.pending ++ left } }
 
--- what the host told, and tells
+-- what the host tells, with what is kept in front of it
+abbrev pub told_of : {H : Type 0} → HostModel H → Acting H → Contents
+told_of model a = with_kept (model.contents a.host) a.kept
+
+-- the same before and behind
 abbrev pub told_between : {H : Type 0} → HostModel H → Acting H → Acting H → Step Contents
-told_between model old new = record { old = model.contents old.host; new = model.contents new.host }
+told_between model old new = record { old = told_of model old; new = told_of model new }
 
 module _ {H : Type 0} (model : HostModel H) (call : Call) (old new : Acting H) where
   -- the call was done with this reply, as a row of calls says it: whether a check refused it, its private state, its stores, its
@@ -95,6 +111,9 @@ module _ {H : Type 0} (model : HostModel H) (call : Call) (old new : Acting H) w
     pub uses : Uses model (record { old = old.host; new = new.host }) (CallsOf (refusal_of call old.tx.me) call reply)
     pub cause : CountsFault (is_fault_reply reply) (model.fault_count old.host) (model.fault_count new.host)
     pub spoken : IsWordStep (overlaid old.words old.tx.writes) (overlaid old.words new.tx.writes) call reply
+    -- what it took is of a pipe or a pair of the host's, and none of them is gone
+    pub backed : IsTrue model.tells → All (IsBacked (model.contents old.host)) (taken_by call old.tx.me reply)
+    pub keeps : IsTrue model.tells → KeepsData (model.contents old.host) (model.contents new.host)
     pub does : IsTrue model.tells
         → DoesIn old.words (told_between model old new) (record { old = parts_of old.tx; new = parts_of new.tx }) call reply
 
@@ -107,8 +126,9 @@ module _ {H : Type 0} (model : HostModel H) (call : Call) (old new : Acting H) w
     pub tx : new.tx ≡ leaving old.tx left
     pub uses : Uses model (record { old = old.host; new = new.host }) (StopsAt (ask.Call call))
     pub faults : model.fault_count new.host ≡ model.fault_count old.host
+    pub keeps : IsTrue model.tells → KeepsData (model.contents old.host) (model.contents new.host)
     pub contents : IsTrue model.tells
-        → ((left ≡ []) × (model.contents new.host ≡ model.contents old.host))
+        → ((left ≡ []) × (told_of model new ≡ told_of model old))
         ⊎ ((answer : Answer)
         × DoesPartIn old.words (told_between model old new) (parts_of old.tx) (record { call = call; answer = answer }) left)
 

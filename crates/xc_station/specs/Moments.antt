@@ -1,5 +1,5 @@
 -- A moment of a station, as one job sees it: what all jobs share, and the job itself in its place.
-use Rattle.std.specs.Prelude.{◌≡◌, ℕ, Bool, true, false, List, length, nat_lt, slice_get, slice_set, IsSome, IsTrue, Option}
+use Rattle.std.specs.Prelude.{◌≡◌, ℕ, ◌+◌, Bool, true, false, List, length, All, nat_lt, slice_get, slice_set, IsSome, IsTrue, Option}
 use Rattle.std.specs.Prelude.{Result, Ok, Err}
 use Rattle.std.specs.declared.option.Option.TheVariants.{None, Some}
 use Rattle.xc_data.specs.Claims.{holding}
@@ -10,6 +10,8 @@ use Rattle.xc_data.specs.declared.entry.Mark.{Mark}
 use Rattle.xc_data.specs.declared.entry.Turn.{Turn}
 use Rattle.xc_data.specs.declared.entry.Turn.TheVariants as turn
 use Rattle.xc_data.specs.Step.{Step}
+use Rattle.xc_host.specs.Contents.{Contents}
+use Rattle.xc_host.specs.Kept.{KeepsData, with_kept}
 use Rattle.xc_host.specs.Model.{HostModel}
 use Rattle.xc_script.specs.Ask.{next_body}
 use Rattle.xc_script.specs.Position.{Position, job_of}
@@ -31,6 +33,7 @@ use Rattle.xc_station.specs.declared.calls.Shared.{Shared}
 use Rattle.xc_station.specs.declared.tx.Tx.{Tx}
 use Rattle.xc_station.specs.Acting.{AreReadyFor, HasNoteRoom, MayGo}
 use Rattle.xc_station.specs.Jobs.{seen_tx}
+use Rattle.xc_station.specs.Lent.{IsBacked, Lent}
 
 -- what is found at a number is what the active transaction of this number has, and nothing where none has it
 pub record AreTracked {X : Type 0} (found : ℕ → Option X) (has : SeenTx → Option X) (jobs : List SeenJob) : Type 0 where
@@ -79,11 +82,38 @@ module _ (old new : Sentinels) where
 abbrev pub AreSingle : List SeenJob → Type 0
 AreSingle jobs = (i j : ℕ) (t u : SeenTx) → IsActiveAt jobs i t → IsActiveAt jobs j u → t.number ≡ u.number → i ≡ j
 
+-- a host, and what was taken from it
+pub record Front (H : Type 0) : Type 0 where
+  pub host : H
+  pub lent : Lent
+
+-- those that all jobs share
+abbrev pub front_of : {H : Type 0} → Shared H → Front H
+front_of shared = record { host = shared.host; lent = shared.buffers }
+
+-- what the host tells, with what is kept in front of it
+abbrev pub told_front : {H : Type 0} → HostModel H → Front H → Contents
+told_front model front = with_kept (model.contents front.host) front.lent.kept
+
+-- the same of what all jobs share
+abbrev pub told_by : {H : Type 0} → HostModel H → Shared H → Contents
+told_by model shared = told_front model (front_of shared)
+
+-- a turn of a running transaction: how much is noted goes on with what it took, which is of pipes and pairs of the host's, and so
+-- is what is kept; none of these is gone
+pub record Lends {H : Type 0} (model : HostModel H) (shared : Step (Front H)) (tx : Step SeenTx) : Type 0 where
+  pub noted : shared.new.lent.noted + length tx.old.taken ≡ shared.old.lent.noted + length tx.new.taken
+  pub kept : IsTrue model.tells → All (IsBacked (model.contents shared.old.host)) shared.old.lent.kept
+      → All (IsBacked (model.contents shared.old.host)) shared.new.lent.kept
+  pub taken : IsTrue model.tells → All (IsBacked (model.contents shared.old.host)) shared.old.lent.kept
+      → All (IsBacked (model.contents shared.old.host)) tx.old.taken → All (IsBacked (model.contents shared.old.host)) tx.new.taken
+  pub keeps : IsTrue model.tells → KeepsData (model.contents shared.old.host) (model.contents shared.new.host)
+
 module _ {H : Type 0} (model : HostModel H) (shared : Shared H) where
   -- at this moment the jobs share this, and this job stands in the place `at`
   pub record IsAt (now : Now) (at : ℕ) (job : SeenJob) : Type 0 where
     pub words : now.words ≡ shared.words
-    pub contents : now.contents ≡ model.contents shared.host
+    pub contents : now.contents ≡ told_by model shared
     pub faults : now.faults ≡ model.fault_count shared.host
     pub calls : now.calls ≡ model.calls shared.host
     pub stands : slice_get now.jobs at ≡ Some job
@@ -98,7 +128,7 @@ module _ {H : Type 0} (model : HostModel H) (shared : Shared H) where
   moved job now at =
       record now {
         words = shared.words;
-        contents = model.contents shared.host;
+        contents = told_by model shared;
         faults = model.fault_count shared.host;
         calls = model.calls shared.host;
         jobs = slice_set now.jobs at job;

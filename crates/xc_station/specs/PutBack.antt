@@ -18,6 +18,7 @@ handle_in r = None
 abbrev pub changed_at : Call → Reply → Option ℕ
 changed_at (call.XOpen name) r = handle_in r
 changed_at (call.XCreate name) r = handle_in r
+changed_at call.XPipe r = handle_in r
 changed_at (call.XRead h n) r = Some h
 changed_at (call.XWriteOvr h bytes) r = Some h
 changed_at (call.XWriteSeq h bytes) r = Some h

@@ -9,11 +9,12 @@ use Rattle.xc_data.specs.declared.entry.Event.{Event}
 use Rattle.xc_data.specs.declared.entry.Event.TheVariants.{Turned}
 use Rattle.xc_data.specs.declared.entry.Turn.{Turn}
 use Rattle.xc_turnstile.specs.Meanings.{Meaning}
+use Rattle.xc_data.specs.declared.entry.KeptItem.{KeptItem}
+use Rattle.xc_host.specs.Kept.{with_kept}
 use Rattle.xc_host.specs.Model.{HostModel}
 use Rattle.xc_journal.specs.Room.{Roomy}
 use Rattle.xc_data.specs.declared.entry.JobLine.{JobLine}
 use Rattle.xc_sentinel.specs.Seated.{Seats}
-use Rattle.xc_sentinel.specs.declared.sentinels.Sentinels.{Sentinels}
 use Rattle.xc_story.specs.declared.rules.Rules.{Rules}
 use Rattle.xc_story.specs.Setting.{Setting, setting}
 use Rattle.xc_story.specs.Seen.{SeenJob, Now, actives}
@@ -26,13 +27,16 @@ use Rattle.xc_station.specs.declared.calls.Shared.{Shared}
 use Rattle.xc_station.specs.declared.job.Job.{Job}
 use Rattle.xc_station.specs.declared.start.Opening.{Opening}
 use Rattle.xc_station.specs.Jobs.{blocks_of, is_live, seen_job, seen_jobs}
-use Rattle.xc_station.specs.Moments.{AreSeats, IsTable, marks_of}
+use Rattle.xc_station.specs.Lent.{notes_in_all}
+use Rattle.xc_station.specs.Moments.{AreSeats, IsTable, marks_of, told_by}
 
 -- what contracts see of a station
 pub record Seen (H : Type 0) : Type 0 where
   pub opening : Opening
   pub rules : Rules
   pub host : H
+  -- what stands in front of what its pipes and pairs hold
+  pub kept : List KeptItem
   pub words : List ℕ
   pub journal : List Entry
   pub jobs : List Job
@@ -48,7 +52,7 @@ abbrev pub now_of : {H : Type 0} → HostModel H → Seen H → Now
 now_of model station =
     record {
       words = station.words;
-      contents = model.contents station.host;
+      contents = with_kept (model.contents station.host) station.kept;
       faults = model.fault_count station.host;
       calls = model.calls station.host;
       journal = station.journal;
@@ -69,11 +73,12 @@ pub record IsSteady (s : Setting) (faults : ℕ) (now : Now) : Type 0 where
   pub kept : IsKept s faults now
   pub flying : IsTrue s.tells → AreFlying s now
 
--- what it keeps beside: the table of claims and the seats, the number of active transactions with room for their entries,
--- and room for a line of each job
-pub record HasRooms (sentinels : Sentinels) (active spare : ℕ) (now : Now) (lines : Roomy JobLine) : Type 0 where
-  pub claims : IsTable sentinels.claims now.jobs
-  pub seats : AreSeats sentinels.seats now.jobs
+-- what it keeps beside: the table of claims and the seats, how much active transactions have taken, their number with room for
+-- their entries, and room for a line of each job
+pub record HasRooms {H : Type 0} (shared : Shared H) (active spare : ℕ) (now : Now) (lines : Roomy JobLine) : Type 0 where
+  pub claims : IsTable shared.sentinels.claims now.jobs
+  pub seats : AreSeats shared.sentinels.seats now.jobs
+  pub noted : notes_in_all now.jobs ≡ shared.buffers.noted
   pub few : length now.jobs ≤ 1000
   pub count : length (actives now.jobs) ≡ active
   pub room : active ≤ spare
@@ -210,7 +215,7 @@ abbrev pub moment : {H : Type 0} → HostModel H → Shared H → List Entry →
 moment model shared journal jobs =
     record {
       words = shared.words;
-      contents = model.contents shared.host;
+      contents = told_by model shared;
       faults = model.fault_count shared.host;
       calls = model.calls shared.host;
       journal = journal;

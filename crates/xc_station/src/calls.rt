@@ -1,5 +1,6 @@
-ghost use Rattle.std.specs.Prelude.{◌≡◌, ◌<◌, ◌++◌, ℕ, slice_set, true, false, length, IfOk, OnOk, OnErr, IsTrue};
+ghost use Rattle.std.specs.Prelude.{◌≡◌, ◌<◌, ◌++◌, ℕ, List, slice_set, true, false, length, IfOk, OnOk, OnErr, IsTrue};
 ghost use Rattle.xc_data.specs.declared.call.Call.TheVariants as PlainCall;
+ghost use Rattle.xc_data.specs.declared.entry.KeptItem.{KeptItem};
 ghost use Rattle.xc_script.specs.declared.ask.Ask.TheVariants.{Call as AskedCall};
 ghost use Rattle.xc_script.specs.Ask.{asks, answered};
 ghost use Rattle.xc_script.specs.Position.{walk_of, IsSettled};
@@ -13,6 +14,7 @@ ghost use Rattle.xc_station.specs.Acting.{AreReadyFor, HasActed, MayGo, acting};
 ghost use Rattle.xc_station.specs.Jobs.{begun_of, seen_tx};
 ghost use Rattle.xc_station.specs.PutBack.{changed_at, handle_in, place_before};
 
+use crate::buffers::Buffers;
 use crate::tx::Tx;
 use std::alloc::Global;
 use xc_data::{Call, NoMemory, Place, Private, Reply};
@@ -30,6 +32,8 @@ use xc_txmem::{Words, WriteSet};
 #[derive(Drop)]
 pub struct Shared<H: Host> {
     pub host: H,
+    /// What stands in front of what the host's pipes and pairs hold.
+    pub buffers: Buffers,
     pub words: Words,
     pub sentinels: Sentinels,
 }
@@ -76,7 +80,8 @@ fn act<H: Host>(
     ensures begun { (tx.new.changed ≡ tx.old.changed) × (tx.new.begun ≡ tx.old.begun) }
     ensures notes { (tx.new.calls ≡ tx.old.calls) × (tx.new.replies ≡ tx.old.replies) }
     ensures words { is_word_call call.now ≡ true → tx.new.me ≡ tx.old.me }
-    ensures acted { HasActed H.model call.now (acting host.old words.now tx.old) (acting host.new words.now tx.new) result }
+    ensures acted { (kept : List KeptItem)
+        → HasActed H.model call.now (acting host.old kept words.now tx.old) (acting host.new kept words.now tx.new) result }
 {
     let Tx {
         number,
@@ -160,6 +165,7 @@ fn changed_at(call: &Call, reply: &Reply) -> Option<u16>
     match call {
         Call::XOpen { .. } => handle_in(reply),
         Call::XCreate { .. } => handle_in(reply),
+        Call::XPipe => handle_in(reply),
         Call::XRead { h, .. } => Some(*h),
         Call::XWriteOvr { h, .. } => Some(*h),
         Call::XWriteSeq { h, .. } => Some(*h),
@@ -210,7 +216,8 @@ fn do_host_call<H: Host>(
     ensures nearer { OnOk result (place.old.at < place.new.at) }
     ensures begin { IsSameBegin place.old place.new }
     ensures err_place { OnErr result (place.new ≡ place.old) }
-    ensures acted { HasActed H.model call.now (acting host.old words.now tx.old) (acting host.new words.now tx.new) result }
+    ensures acted { (kept : List KeptItem)
+        → HasActed H.model call.now (acting host.old kept words.now tx.old) (acting host.new kept words.now tx.new) result }
 {
     tx.keep();
     let before = state_before(&tx.me, call);
@@ -243,7 +250,8 @@ pub fn do_call<H: Host>(
     ensures nearer { OnOk result (place.old.at < place.new.at) }
     ensures begin { IsSameBegin place.old place.new }
     ensures err_place { OnErr result (place.new ≡ place.old) }
-    ensures acted { HasActed H.model call.now (acting host.old words.now tx.old) (acting host.new words.now tx.new) result }
+    ensures acted { (kept : List KeptItem)
+        → HasActed H.model call.now (acting host.old kept words.now tx.old) (acting host.new kept words.now tx.new) result }
 {
     if !is_on_words(call) {
         return do_host_call(alloc, host, words, script, place, tx, call);

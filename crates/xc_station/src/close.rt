@@ -3,6 +3,8 @@ ghost use Rattle.xc_data.specs.declared.call.LateCall.{LateCall as PlainCall};
 ghost use Rattle.xc_data.specs.declared.entry.Cause.{Cause as PlainCause};
 ghost use Rattle.xc_data.specs.declared.entry.Outcome.TheVariants.{Committed, Aborted};
 ghost use Rattle.xc_deferred.specs.Does.{EndsNext, IsThereFor};
+ghost use Rattle.xc_host.specs.Fronted.{before, fronted};
+ghost use Rattle.xc_host.specs.Kept.{KeepsData};
 ghost use Rattle.xc_deferred.specs.Queue.{Queue};
 ghost use Rattle.xc_script.specs.Position.{at_begin};
 ghost use Rattle.xc_compensate.specs.Records.{IsTried, NextIsCovered, Records};
@@ -10,15 +12,17 @@ ghost use Rattle.xc_story.specs.declared.phase.Phase.TheVariants as PlainPhase;
 ghost use Rattle.xc_story.specs.Seen.{SeenTx, Active, Idle, failures, late_left, queue_of, with_queue};
 ghost use Rattle.xc_story.specs.Rows.{behind_abort, behind_commit, entry_of, with_tx};
 ghost use Rattle.xc_station.specs.Jobs.{seen_job};
+ghost use Rattle.xc_station.specs.Lent.{Gives, LetsGo, notes_of};
 ghost use Rattle.xc_station.specs.Moments.{GivesUpClaims, HoldsItsClaims};
 
+use crate::buffers::Buffers;
+use crate::calls::Shared;
 use crate::job::{Activity, Job};
 use crate::tx::Tx;
 use std::alloc::Global;
 use xc_data::{Cause, Entry};
 use xc_host::Host;
 use xc_script::JobState;
-use xc_sentinel::Sentinels;
 use xc_story::{Attempts, Phase};
 
 // Goes on to the next transaction, of which there was no attempt yet.
@@ -32,29 +36,36 @@ fn go_on(place: &mut JobState, attempts: &mut Option<Attempts>)
 }
 
 /// A committing job behind a turn in which its next late call was done.
-pub fn end_late<H: Host>(host: &mut H, job: &mut Job)
+pub fn end_late<H: Host>(host: &mut H, buffers: &Buffers, job: &mut Job)
     requires committing { (tx : SeenTx) × ((seen_job job.old).doing ≡ Active tx) × (0 < length (late_left tx))
         × (IsTrue H.model.tells → (call : PlainCall) (calls : List PlainCall) → late_left tx ≡ call ∷ calls
         → IsThereFor (H.model.contents host.old) call) }
-    ensures { (tx : SeenTx) (call : PlainCall) (calls : List PlainCall) → (seen_job job.old).doing ≡ Active tx → late_left tx ≡ call ∷ calls
+    ensures ends { (tx : SeenTx) (call : PlainCall) (calls : List PlainCall) → (seen_job job.old).doing ≡ Active tx
+        → late_left tx ≡ call ∷ calls
         → (queue : Queue) × (seen_job job.new ≡ with_tx (seen_job job.old) job.old.place (with_queue tx queue))
-        × EndsNext H.model call (record { host = host.old; late = queue_of tx }) (record { host = host.new; late = queue }) }
+        × EndsNext (fronted H.model) call (record { host = before host.old buffers.now.kept; late = queue_of tx })
+        (record { host = before host.new buffers.now.kept; late = queue }) }
+    ensures keeps { IsTrue H.model.tells → KeepsData (H.model.contents host.old) (H.model.contents host.new) }
 {
-    job.tx.late.do_one(host);
+    job.tx.late.do_one(host, buffers.kept());
 }
 
 /// A committed job behind its last turn, and its entry: its slots have taken the ends of its late calls, and its claims are
 /// given up. The job's number counts from 1.
-pub fn commit(alloc: Global, number: u32, job: &mut Job, sentinels: &mut Sentinels) -> Entry
+pub fn commit<H: Host>(alloc: Global, number: u32, job: &mut Job, shared: &mut Shared<H>) -> Entry
     requires committing { (tx : SeenTx) × ((seen_job job.old).doing ≡ Active tx) × (tx.phase ≡ PlainPhase.Committing) }
     requires next { job.old.place.next < 2 ^ 32 }
-    requires table { HoldsItsClaims sentinels.old.claims (seen_job job.old) }
+    requires table { HoldsItsClaims shared.old.sentinels.claims (seen_job job.old) }
+    requires noted { notes_of (seen_job job.old) ≤ shared.old.buffers.noted }
+    ensures same { (shared.new.host ≡ shared.old.host) × (shared.new.words ≡ shared.old.words) }
+    ensures gone { LetsGo shared.old.buffers shared.new.buffers (seen_job job.old) }
     ensures entry { (tx : SeenTx) (at : ℕ) → (seen_job job.old).doing ≡ Active tx → number ≡ at + 1
         → (seen_job job.new ≡ behind_commit (seen_job job.old) tx) × (result ≡ entry_of tx at (Committed tx.ends)) }
-    ensures freed { GivesUpClaims sentinels.old sentinels.new (seen_job job.old) }
+    ensures freed { GivesUpClaims shared.old.sentinels shared.new.sentinels (seen_job job.old) }
 {
     job.activity = Activity::Idle;
     job.busy = 0;
+    shared.buffers.let_go(alloc, &mut job.tx.taken);
     let Tx {
         calls,
         replies,
@@ -65,7 +76,7 @@ pub fn commit(alloc: Global, number: u32, job: &mut Job, sentinels: &mut Sentine
         .set_ends(calls.as_slice(), replies.as_slice(), late.ends());
     go_on(&mut job.place, &mut job.attempts);
     job.tx.renew();
-    job.tx.close(alloc, number, sentinels)
+    job.tx.close(alloc, number, &mut shared.sentinels)
 }
 
 /// An undoing job behind a turn in which its newest record without an end was tried.
@@ -128,21 +139,26 @@ fn go_back(job: &mut Job, rank: u32, cause: Cause)
     }
 }
 
-/// An undoing job behind its last turn, and its entry: its claims are given up. The job's number counts from 1.
-pub fn abort(alloc: Global, number: u32, job: &mut Job, sentinels: &mut Sentinels) -> Entry
+/// An undoing job behind its last turn, and its entry: what it took is in front again, and its claims are given up. The job's
+/// number counts from 1.
+pub fn abort<H: Host>(alloc: Global, number: u32, job: &mut Job, shared: &mut Shared<H>) -> Entry
     requires undone { (tx : SeenTx) × (c : PlainCause) × ((seen_job job.old).doing ≡ Active tx) × (tx.phase ≡ PlainPhase.Undoing c)
         × (tx.undo.pending ≡ []) }
     requires next { job.old.place.next < 2 ^ 32 }
     requires attempts { failures job.old.attempts + 1 < 2 ^ 32 }
-    requires table { HoldsItsClaims sentinels.old.claims (seen_job job.old) }
+    requires table { HoldsItsClaims shared.old.sentinels.claims (seen_job job.old) }
+    requires noted { notes_of (seen_job job.old) ≤ shared.old.buffers.noted }
+    ensures same { (shared.new.host ≡ shared.old.host) × (shared.new.words ≡ shared.old.words) }
+    ensures given { Gives shared.old.buffers shared.new.buffers (seen_job job.old) }
     ensures entry { (tx : SeenTx) (c : PlainCause) (at : ℕ) → (seen_job job.old).doing ≡ Active tx → tx.phase ≡ PlainPhase.Undoing c
         → number ≡ at + 1 → (seen_job job.new ≡ behind_abort (seen_job job.old) tx c)
         × (result ≡ entry_of tx at (Aborted (record { cause = c; records = tx.undo.ended }))) }
-    ensures freed { GivesUpClaims sentinels.old sentinels.new (seen_job job.old) }
+    ensures freed { GivesUpClaims shared.old.sentinels shared.new.sentinels (seen_job job.old) }
 {
     let cause = cause_of(&job.tx);
     let rank = job.tx.rank;
-    let entry = job.tx.close(alloc, number, sentinels);
+    shared.buffers.give_back(&mut job.tx.taken);
+    let entry = job.tx.close(alloc, number, &mut shared.sentinels);
     job.activity = Activity::Idle;
     job.busy = 0;
     go_back(job, rank, cause);

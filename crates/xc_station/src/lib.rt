@@ -2,6 +2,7 @@
 #![tactic(auto)]
 
 mod begin;
+mod buffers;
 mod calls;
 mod close;
 mod job;

@@ -6,14 +6,14 @@ ghost use Rattle.xc_script.specs.Position.{walk_of, job_of, IsSettled};
 ghost use Rattle.xc_world.specs.Modes.{claims_of};
 ghost use Rattle.xc_story.specs.declared.phase.Phase.TheVariants as PlainPhase;
 ghost use Rattle.xc_story.specs.declared.rules.Rules.{Rules as PlainRules};
-ghost use Rattle.xc_story.specs.Seen.{SeenJob, Now, Active, revoked};
+ghost use Rattle.xc_story.specs.Seen.{SeenTx, SeenJob, Now, Active, revoked};
 ghost use Rattle.xc_data.specs.declared.object.Object.{Object};
 ghost use Rattle.xc_story.specs.Setting.{setting};
 ghost use Rattle.xc_story.specs.Rows.{with_tx, mover};
 ghost use Rattle.xc_station.specs.Acting.{AreReadyFor, MayGo};
 ghost use Rattle.xc_station.specs.Jobs.{begun_of, seen_job, seen_tx};
-ghost use Rattle.xc_station.specs.Moments.{AreTerms, CanRun, HasClaimed, HasTx, IsAt, IsRow, IsRunningRow, KeepsSeated, counted};
-ghost use Rattle.xc_station.specs.Moments.{marks_of, moved, runs, seated_as};
+ghost use Rattle.xc_station.specs.Moments.{AreTerms, CanRun, HasClaimed, HasTx, IsAt, IsRow, IsRunningRow, KeepsSeated, Lends, counted};
+ghost use Rattle.xc_station.specs.Moments.{front_of, marks_of, moved, runs, seated_as};
 ghost use Rattle.xc_sentinel.specs.Seating.{seat_in};
 
 use crate::calls::{Shared, do_call};
@@ -67,7 +67,7 @@ fn claim<H: Host>(
     call: &Call,
 ) -> Result<(), Turn>
     requires count { length shared.old.words ≤ 4096 }
-    ensures same { (shared.new.host ≡ shared.old.host) × (shared.new.words ≡ shared.old.words) }
+    ensures same { (front_of shared.new ≡ front_of shared.old) × (shared.new.words ≡ shared.old.words) }
     ensures claimed { HasClaimed (record { old = shared.old.sentinels; new = shared.new.sentinels })
         (record { old = tx.old; new = tx.new })
         (record { claims = claims_of call.now tx.old.me.value (length shared.old.words); patient = terms.patient; at = terms.at }) result }
@@ -118,6 +118,8 @@ fn try_call<H: Host>(
     ensures plan { H.model.plan shared.new.host ≡ H.model.plan shared.old.host }
     ensures seats { KeepsSeated shared.old.sentinels.seats shared.new.sentinels.seats }
     ensures waits { (object : Object) (holder : ℕ) → result ≡ Turn.Busy object holder → terms.patient ≡ true }
+    ensures lends { Lends H.model (record { old = front_of shared.old; new = front_of shared.new })
+        (record { old = seen_tx tx.old; new = seen_tx tx.new }) }
     ensures begun { begun_of tx.new ≡ begun_of tx.old }
     ensures row { (rules : PlainRules) (now : Now) (at : ℕ) (job : SeenJob) → let s = setting script.now rules H.model.tells in
         IsAt H.model shared.old now at job → HasTx s job place.old (seen_tx tx.old) → AreTerms rules now job terms.patient terms.at
@@ -155,6 +157,8 @@ fn go<H: Host>(
     ensures plan { H.model.plan shared.new.host ≡ H.model.plan shared.old.host }
     ensures seats { KeepsSeated shared.old.sentinels.seats shared.new.sentinels.seats }
     ensures waits { (object : Object) (holder : ℕ) → result ≡ Turn.Busy object holder → terms.patient ≡ true }
+    ensures lends { Lends H.model (record { old = front_of shared.old; new = front_of shared.new })
+        (record { old = seen_tx tx.old; new = seen_tx tx.new }) }
     ensures begun { begun_of tx.new ≡ begun_of tx.old }
     ensures row { (rules : PlainRules) (now : Now) (at : ℕ) (job : SeenJob) → let s = setting script.now rules H.model.tells in
         IsAt H.model shared.old now at job → job.doing ≡ Active (seen_tx tx.old) → job.place ≡ place.old
@@ -234,6 +238,8 @@ pub fn run<H: Host>(
     ensures count { length shared.new.words ≡ length shared.old.words }
     ensures plan { H.model.plan shared.new.host ≡ H.model.plan shared.old.host }
     ensures block { job.new.block ≡ job.old.block }
+    ensures lends { (tx : SeenTx) → (seen_job job.old).doing ≡ Active tx → (behind : SeenTx) × ((seen_job job.new).doing ≡ Active behind)
+        × Lends H.model (record { old = front_of shared.old; new = front_of shared.new }) (record { old = tx; new = behind }) }
     ensures row { (now : Now) (at : ℕ) → let s = setting script.now rules.now H.model.tells in
         IsAt H.model shared.old now at (seen_job job.old) → length now.journal ≡ entered
         → IsRunningRow (mover s at now (seen_job job.old)) (moved H.model shared.new (seen_job job.new) now at) result

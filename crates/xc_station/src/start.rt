@@ -1,4 +1,4 @@
-use xc_data::{JobList, WordList};
+use xc_data::{JobList, KeptList, WordList};
 use xc_host::OpenErr;
 use xc_journal::Journal;
 use xc_text::Script;
@@ -23,6 +23,8 @@ pub struct NotStarted<H> {
 pub struct End<H> {
     pub host: H,
     pub opening: Opening,
+    /// What aborted transactions gave back and nobody took again, in front of what the host's pipes and pairs hold.
+    pub kept: KeptList,
     pub words: WordList,
     pub journal: Journal,
     pub jobs: JobList,

@@ -4,6 +4,7 @@ ghost use Rattle.xc_data.specs.Counts.{RisesBy};
 ghost use Rattle.xc_data.specs.Faults.{entry_faults};
 ghost use Rattle.xc_data.specs.Limits.{KeepsLimits};
 ghost use Rattle.xc_host.specs.Contents.{needs_scripted, opened};
+ghost use Rattle.xc_host.specs.Kept.{with_kept};
 ghost use Rattle.xc_host.specs.Model.{plan_of};
 ghost use Rattle.xc_text.specs.Scripts.{IsScript};
 ghost use Rattle.xc_story.specs.Ending.{IsTrueEnd};
@@ -21,6 +22,7 @@ ghost use Rattle.xc_station.specs.Stations.{AreAhead, ChangesOne, IsEvent, IsNex
 ghost use Rattle.xc_station.specs.Stations.{live_at, noted, now_of, setting_of};
 
 use crate::begin::begin;
+use crate::buffers::Buffers;
 use crate::calls::Shared;
 use crate::close::{abort, commit, end_late, undo};
 use crate::job::{Activity, Job, Stage};
@@ -62,12 +64,14 @@ pub struct Station<H: Host> {
 }
 
 impl<H: Host> Model for Station<H> {
-    ghost use Rattle.std.specs.Prelude.{◌≡◌, ◌≤◌, length};
+    ghost use Rattle.std.specs.Prelude.{◌≡◌, ◌≤◌, length, IsTrue};
     ghost use Rattle.std.specs.Coded.{codes};
     ghost use Rattle.xc_host.specs.Model.{plan_of};
     ghost use Rattle.xc_script.specs.Position.{coded_position};
     ghost use Rattle.xc_sentinel.specs.Seated.{coded_seats};
     ghost use Rattle.xc_story.specs.Setting.{setting};
+    ghost use Rattle.xc_station.specs.Jobs.{seen_jobs};
+    ghost use Rattle.xc_station.specs.Lent.{AreBacked};
     ghost use Rattle.xc_station.specs.Stations.{Seen, AreAhead, IsSteady, HasRooms, moment};
 
     ghost Value = { Seen H };
@@ -78,6 +82,7 @@ impl<H: Host> Model for Station<H> {
       opening = s.opening;
       rules = s.rules;
       host = s.shared.host;
+      kept = s.shared.buffers.kept;
       words = s.shared.words;
       journal = s.journal.items;
       jobs = s.jobs.items;
@@ -89,10 +94,11 @@ impl<H: Host> Model for Station<H> {
 
     ghost invariant = { λ s. IsSteady (setting s.opening.script s.rules H.model.tells) s.opening.faults
         (moment H.model s.shared s.journal.items s.jobs.items)
-        × HasRooms s.shared.sentinels s.active s.journal.spare (moment H.model s.shared s.journal.items s.jobs.items) s.lines
+        × HasRooms s.shared s.active s.journal.spare (moment H.model s.shared s.journal.items s.jobs.items) s.lines
         × AreAhead s.jobs.items s.ahead.items
         × (s.taken ≤ length s.jobs.items)
-        × (H.model.plan s.shared.host ≡ plan_of s.opening.script.outline.prologue) };
+        × (H.model.plan s.shared.host ≡ plan_of s.opening.script.outline.prologue)
+        × (IsTrue H.model.tells → AreBacked (H.model.contents s.shared.host) s.shared.buffers.kept (seen_jobs s.jobs.items)) };
 }
 
 impl<H: Host> Station<H> {
@@ -205,7 +211,11 @@ impl<H: Host> Station<H> {
         ensures quiet { KeepsEvents self.old self.new }
         ensures row { IsTurn (setting_of H.model self.old) at (now_of H.model self.old) result (now_of H.model self.new) }
     {
-        end_late(&mut self.shared.host, &mut self.jobs[at]);
+        end_late(
+            &mut self.shared.host,
+            &self.shared.buffers,
+            &mut self.jobs[at],
+        );
         Turn::Went
     }
 
@@ -220,7 +230,7 @@ impl<H: Host> Station<H> {
             self.alloc,
             at as u32 + 1,
             &mut self.jobs[at],
-            &mut self.shared.sentinels,
+            &mut self.shared,
         );
         self.journal.enter(entry);
         self.active -= 1;
@@ -243,7 +253,7 @@ impl<H: Host> Station<H> {
     }
 
     // The entry of a transaction whose records have their ends, into the room that was made at its begin. Its
-    // stores were never written, and its claims end.
+    // stores were never written; what it took is in front again, and its claims end.
     fn undone(&mut self, at: usize) -> Turn
         requires { IsStage self.old.jobs at PlainStage.Undone }
         ensures same { KeepsOpening self.old self.new }
@@ -254,7 +264,7 @@ impl<H: Host> Station<H> {
             self.alloc,
             at as u32 + 1,
             &mut self.jobs[at],
-            &mut self.shared.sentinels,
+            &mut self.shared,
         );
         self.journal.enter(entry);
         self.active -= 1;
@@ -337,7 +347,7 @@ impl<H: Host> Station<H> {
     /// | committing, a late call has no end | the first such call is done | Went |
     /// | committing, all have one | the Committed entry, with its slots set; its claims end | Went |
     /// | undoing, a record has no end | the newest such record is tried | Went |
-    /// | undoing, all have one | the Aborted entry; its claims end | Went |
+    /// | undoing, all have one | what it took is in front again, the Aborted entry; its claims end | Went |
     /// | starved by want of memory | it ends | Ended(NoMemory) |
     pub fn turn(&mut self, job: u32) -> Turn
         requires { live_at self.old.jobs job ≡ true }
@@ -470,6 +480,7 @@ fn ahead_of(alloc: Global, jobs: &Vec<Job>) -> Result<Vec<u32>, NoMemory>
 #[derive(Drop)]
 struct Rooms {
     words: Words,
+    buffers: Buffers,
     jobs: Vec<Job>,
     lines: Roomy<JobLine>,
     ahead: Vec<u32>,
@@ -479,16 +490,19 @@ struct Rooms {
 fn make_rooms(alloc: Global, script: &Script) -> Result<Rooms, NoMemory>
     requires { IsScript script.now }
     ensures words { IfOk result (λ made. made.words ≡ script.now.outline.words) }
+    ensures buffers { IfOk result (λ made. made.buffers ≡ record { kept = []; noted = 0 }) }
     ensures jobs { IfOk result (λ made. seen_jobs made.jobs.items ≡ map (opened_job script.now) script.now.outline.jobs) }
     ensures lines { IfOk result (λ made. (length made.jobs.items ≤ made.lines.spare) × (made.lines.items ≡ [])) }
     ensures ahead { IfOk result (λ made. AreAhead made.jobs.items made.ahead.items) }
 {
     let words = Words::new(alloc, script.outline().words.as_slice())?;
+    let buffers = Buffers::new(alloc)?;
     let jobs = opened_jobs(alloc, script)?;
     let lines = room_for(alloc, &jobs)?;
     let ahead = ahead_of(alloc, &jobs)?;
     Ok(Rooms {
         words,
+        buffers,
         jobs,
         lines,
         ahead,
@@ -536,6 +550,7 @@ impl<H: Host> Station<H> {
             rules,
             shared: Shared {
                 host,
+                buffers: rooms.buffers,
                 words: rooms.words,
                 sentinels,
             },
@@ -554,10 +569,10 @@ impl<H: Host> Station<H> {
     pub fn finish(self) -> End<H>
         requires { NobodyLives self.jobs }
         ensures opening { result.opening ≡ self.opening }
-        ensures handed { (result.host ≡ self.host) × (result.words ≡ self.words) × (result.journal.items ≡ self.journal)
-            × AreLinesOf (seen_jobs self.jobs) result.jobs }
+        ensures handed { (result.host ≡ self.host) × (result.kept ≡ self.kept) × (result.words ≡ self.words)
+            × (result.journal.items ≡ self.journal) × AreLinesOf (seen_jobs self.jobs) result.jobs }
         ensures whole { IsTrueEnd (setting self.opening.script self.rules H.model.tells) result.journal.items
-            (record { words = result.words; contents = H.model.contents result.host; lines = result.jobs }) }
+            (record { words = result.words; contents = with_kept (H.model.contents result.host) result.kept; lines = result.jobs }) }
 
         // The host's count rose by the faults that are recorded, and stayed where none is.
         ensures faults { RisesBy (sum_by entry_faults result.journal.items) self.opening.faults (H.model.fault_count result.host) }
@@ -573,10 +588,16 @@ impl<H: Host> Station<H> {
             lines,
             ..
         } = self;
-        let Shared { host, words, .. } = shared;
+        let Shared {
+            host,
+            buffers,
+            words,
+            ..
+        } = shared;
         End {
             host,
             opening,
+            kept: buffers.into_items(),
             words: words.list(),
             journal,
             jobs: lines_of(jobs.as_slice(), lines),

@@ -11,6 +11,7 @@ ghost use Rattle.xc_station.specs.Moments.{Frees};
 
 use std::alloc::Global;
 use std::mem;
+use xc_buffers::Taken;
 use xc_compensate::Stack;
 use xc_data::{Call, Claim, Entry, NoMemory, Outcome, Private, Reply, Report};
 use xc_deferred::Late;
@@ -42,6 +43,8 @@ pub struct Tx {
     pub undo: Stack,
     /// What it keeps for its commit, and how that ended.
     pub late: Late,
+    /// What its calls took from pipes and pairs.
+    pub taken: Taken,
     /// The handles of the begin, where one may have.
     pub begun: Box<Private>,
 }
@@ -79,6 +82,7 @@ impl Tx {
             writes: WriteSet::new(alloc),
             undo: Stack::new(alloc),
             late: Late::new(alloc),
+            taken: Taken::new(alloc),
             calls: Roomy::new(alloc),
             replies: Roomy::new(alloc),
             held: Holding::new(alloc),
@@ -102,6 +106,7 @@ impl Tx {
         self.writes = WriteSet::new(alloc);
         self.undo = Stack::new(alloc);
         self.late = Late::new(alloc);
+        self.taken = Taken::new(alloc);
         self.calls = Roomy::new(alloc);
         self.replies = Roomy::new(alloc);
         self.held = Holding::new(alloc);

@@ -1,5 +1,6 @@
-mod causes;
 mod effects;
+mod jobs;
+mod kept;
 mod late;
 mod replies;
 
@@ -48,6 +49,6 @@ fn tell(entry: &mut Entry, call: Call, reply: Reply) -> Result<(), NoMemory> {
 
 // The entry alone is printed so.
 fn is_text(alloc: Global, entry: Entry, text: &str) -> Result<bool, NoMemory> {
-    let printed = render(alloc, &[entry], &[], &[])?;
+    let printed = render(alloc, &[entry], &[], &[], &[])?;
     Ok(printed.as_slice() == text.as_bytes())
 }

@@ -16,10 +16,10 @@ returns-in-Ok-clause-run g c =
     let left = c.finish.result in
     let ran = λ (one : RunsAlone c.args.chosen.now). c.take_turns-station.ensures.alone one (alone_opened _ _ c.in-Ok.ensures.opening) in
     let alone : RunsAlone c.args.chosen.now → IsSerial left.journal.items =
-    λ one. subst IsSerial (sym c.finish.ensures.handed.2) (ran one).1.serial in
+    λ one. subst IsSerial (sym c.finish.ensures.handed.3) (ran one).1.serial in
     let stops : RunsAlone c.args.chosen.now → StopWhereFull left.jobs left.journal.items =
-    λ one. subst (StopWhereFull left.jobs) (sym c.finish.ensures.handed.2)
-    (alone_stops _ (ran one).0 left.jobs (ran one).1 c.finish.ensures.handed.3) in
+    λ one. subst (StopWhereFull left.jobs) (sym c.finish.ensures.handed.3)
+    (alone_stops _ (ran one).0 left.jobs (ran one).1 c.finish.ensures.handed.4) in
     let whole : IsTrueEnd (setting left.opening.script c.args.chosen.now.rules model.tells) left.journal.items (final_of model left) = search rules in
     let run : IsRunOver model c.args.chosen.now c.args.host left = record {
       scripted = search rules;

@@ -1,24 +1,27 @@
-use Rattle.std.proofs.Common.{◌≡◌, sym, ap, ◌∙◌, subst}
-use Rattle.xc_story.specs.Seen.{SeenTx, Idle}
+use Rattle.std.proofs.Common.{◌≡◌, sym, ap, ◌∙◌, subst, ◌⊎◌, length, arith}
+use Rattle.xc_story.specs.Seen.{SeenTx, Idle, active_in}
 use Rattle.xc_wordlocks.specs.Table.{Holds}
 use Rattle.xc_station.specs.Jobs.{seen_job, seen_tx}
 use Rattle.xc_station.specs.Moments.{Frees}
 use Rattle.xc_station.proofs.Closed.{its_active, same_cause, abort_behind, abort_entry}
 use Rattle.xc_station.proofs.close.abort.Goals as goal
+use Rattle.std.specs.Prelude.{Contains}
+use Rattle.xc_world.specs.Run.{given_back}
+use Rattle.xc_station.specs.Lent.{notes_in}
 
 pub close-entry-requires-clause-table : goal.close-entry-requires-clause-table
-close-entry-requires-clause-table c =
+close-entry-requires-clause-table g c =
     let required = c.requires.undone in
     let same : seen_tx c.args.job.now.tx ≡ required.0 = its_active c.args.job.now required.0 required.2 in
-    subst (λ (t : SeenTx). Holds c.args.sentinels.now.claims t.number t.held) (sym same) (c.requires.table required.0 required.2)
+    subst (λ (t : SeenTx). Holds c.args.shared.now.sentinels.claims t.number t.held) (sym same) (c.requires.table required.0 required.2)
 
 pub returns-clause-freed : goal.returns-clause-freed
-returns-clause-freed c tx is =
+returns-clause-freed g c tx is =
     let same : seen_tx c.args.job.now.tx ≡ tx = its_active c.args.job.now tx is in
-    subst (Frees c.args.sentinels.now c.close-entry.new.sentinels) (ap (λ (t : SeenTx). t.number) same) c.close-entry.ensures.freed
+    subst (Frees c.args.shared.now.sentinels c.close-entry.new.sentinels) (ap (λ (t : SeenTx). t.number) same) c.close-entry.ensures.freed
 
 pub returns-clause-entry : goal.returns-clause-entry
-returns-clause-entry c tx cause at is phase number =
+returns-clause-entry g c tx cause at is phase number =
     let job = c.args.job.now in
     let same : seen_tx job.tx ≡ tx = its_active job tx is in
     let caused = same_cause _ _ (sym c.cause_of-cause.ensures ∙ ap (λ (t : SeenTx). t.phase) same ∙ phase) in (
@@ -26,3 +29,20 @@ returns-clause-entry c tx cause at is phase number =
           (c.go_back.ensures tx (sym (ap (λ (t : SeenTx). t.rank) same))),
       c.close-entry.ensures.entry at number ∙ abort_entry _ _ at _ same phase,
     )
+
+pub returns-clause-given : goal.returns-clause-given
+returns-clause-given g c =
+    let job = c.args.job.now in
+    let old = c.args.shared.now.buffers in
+    let required = c.requires.undone in
+    record {
+      given = λ w tx is.
+          c.give_back.ensures.given w ∙ ap (λ (t : SeenTx). given_back (given_back w old.kept) t.taken) (its_active job tx is);
+      among = λ item tx is at.
+          subst (λ (t : SeenTx). Contains t.taken item ⊎ Contains old.kept item) (its_active job tx is) (c.give_back.ensures.among item at);
+      noted =
+          let noted = c.give_back.ensures.noted in
+          let mine = ap (λ d. notes_in (active_in d)) required.2 in
+          let taken = ap (λ (t : SeenTx). length t.taken) (its_active job required.0 required.2) in
+          omega (arith, noted, mine, taken);
+    }

@@ -12,20 +12,20 @@ use Rattle.xc_station.proofs.Closed.{its_active, same_active, commit_entry, comm
 use Rattle.xc_station.proofs.close.commit.Goals as goal
 
 pub close-requires-clause-table : goal.close-requires-clause-table
-close-requires-clause-table c =
+close-requires-clause-table g c =
     let required = c.requires.committing in
     let same : seen_tx c.args.job.now.tx ≡ required.0 = its_active c.args.job.now required.0 required.1 in
-    subst (λ (t : Tx). Holds c.args.sentinels.now.claims t.number t.held.items) (sym c.renew.ensures)
-    (subst (λ (t : SeenTx). Holds c.args.sentinels.now.claims t.number t.held) (sym same) (c.requires.table required.0 required.1))
+    subst (λ (t : Tx). Holds c.args.shared.now.sentinels.claims t.number t.held.items) (sym c.renew.ensures)
+    (subst (λ (t : SeenTx). Holds c.args.shared.now.sentinels.claims t.number t.held) (sym same) (c.requires.table required.0 required.1))
 
 pub returns-clause-freed : goal.returns-clause-freed
-returns-clause-freed c tx is =
+returns-clause-freed g c tx is =
     let same : seen_tx c.args.job.now.tx ≡ tx = its_active c.args.job.now tx is in
-    subst (Frees c.args.sentinels.now c.close.new.sentinels)
+    subst (Frees c.args.shared.now.sentinels c.close.new.sentinels)
     (ap (λ (t : Tx). t.number) c.renew.ensures ∙ ap (λ (t : SeenTx). t.number) same) c.close.ensures.freed
 
 pub returns-clause-entry : goal.returns-clause-entry
-returns-clause-entry c tx at is number =
+returns-clause-entry g c tx at is number =
     let required = c.requires.committing in
     let was : Position = c.args.job.now.place in
     let same : seen_tx c.args.job.now.tx ≡ tx = its_active c.args.job.now tx is in

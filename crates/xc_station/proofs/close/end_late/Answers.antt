@@ -1,6 +1,8 @@
 use Rattle.std.proofs.Common.{◌≡◌, ◌<◌, ◌∷◌, List, IsTrue, length, ap, sym, ◌∙◌, subst}
 use Rattle.xc_data.specs.declared.call.LateCall.{LateCall}
+use Rattle.xc_data.specs.declared.entry.KeptItem.{KeptItem}
 use Rattle.xc_deferred.specs.Does.{EndsNext, IsThereFor}
+use Rattle.xc_host.specs.Fronted.{before, fronted}
 use Rattle.xc_story.specs.Seen.{SeenTx, late_left, queue_of}
 use Rattle.xc_station.proofs.Closed.{its_active, late_behind}
 use Rattle.xc_station.proofs.close.end_late.Goals as goal
@@ -16,12 +18,15 @@ do_one-requires-clause-there g c =
     subst (λ (t : SeenTx). IsTrue g.H.Host.model.tells → (call : LateCall) (calls : List LateCall) → late_left t ≡ call ∷ calls
     → IsThereFor (g.H.Host.model.contents c.args.host.now) call) (sym (its_active c.args.job.now required.0 required.1)) required.3
 
-pub returns : goal.returns
-returns g c tx call calls is left =
+pub returns-clause-ends : goal.returns-clause-ends
+returns-clause-ends g c tx call calls is left =
     let job = c.args.job.now in
     let same = its_active job tx is in (
       c.do_one.new.self,
       late_behind job tx c.do_one.new.self is,
-      subst (λ (t : SeenTx). EndsNext g.H.Host.model call (record { host = c.args.host.now; late = queue_of t })
-          (record { host = c.do_one.new.host; late = c.do_one.new.self })) same (c.do_one.ensures call calls (ap late_left same ∙ left)),
+      subst (λ (kept : List KeptItem). EndsNext (fronted g.H.Host.model) call (record { host = before c.args.host.now kept; late = queue_of tx })
+          (record { host = before c.do_one.new.host kept; late = c.do_one.new.self })) c.kept.ensures
+          (subst (λ (t : SeenTx). EndsNext (fronted g.H.Host.model) call (record { host = before c.args.host.now c.kept.result.now.items; late = queue_of t })
+          (record { host = before c.do_one.new.host c.kept.result.now.items; late = c.do_one.new.self })) same
+          (c.do_one.ensures.ends call calls (ap late_left same ∙ left))),
     )

@@ -1,10 +1,12 @@
-use Rattle.std.proofs.Common.{◌∙◌, refl}
+use Rattle.std.proofs.Common.{◌∙◌, refl, ap}
 use Rattle.xc_data.specs.declared.entry.Cause.TheVariants as cause
 use Rattle.xc_story.specs.declared.phase.Phase.TheVariants.{Committing, Undoing}
 use Rattle.xc_story.specs.Rows.{IsSamePosition}
 use Rattle.xc_story.specs.Setting.{setting}
 use Rattle.xc_station.proofs.RowsRun.{asked_walk, commits, has_tx, turns_back, wants}
 use Rattle.xc_station.proofs.running.go.Goals as goal
+use Rattle.xc_story.specs.Seen.{SeenTx}
+use Rattle.xc_station.proofs.Lending.{lends_still}
 
 pub returns-in-Ok-Commit-clause-count : goal.returns-in-Ok-Commit-clause-count
 returns-in-Ok-Commit-clause-count g c = c.apply.ensures.count
@@ -15,7 +17,8 @@ returns-in-Ok-Commit-clause-row g c rules now at job here doing place terms =
     let same : IsSamePosition (setting c.args.script.now rules g.H.Host.model.tells) c.args.place.now c.ask.new.self =
     record { begin = record { block = e.same.0; next = e.same.1; begun = e.begun }; walk = e.walk; at = e.at } in
     commits g.H.Host.model _ _ _ _ _ c.ask.new.self c.args.tx.now here (has_tx _ _ _ _ _ doing place same)
-    (record { host = c.args.shared.now.host; words = c.apply.new.words; sentinels = c.args.shared.now.sentinels }) (record c.args.tx.now { phase = Committing })
+    (record { host = c.args.shared.now.host; buffers = c.args.shared.now.buffers; words = c.apply.new.words; sentinels = c.args.shared.now.sentinels })
+    (record c.args.tx.now { phase = Committing })
     refl c.apply.ensures.words refl refl
     (asked_walk c.args.script.now c.args.place.now c.ask.new.self _ c.requires.left e.walk e.value ∙ c.in-Ok-Commit.field-0-is) e.settled
 
@@ -35,3 +38,12 @@ returns-in-Err-clause-row g c rules now at job here doing place terms =
     record { begin = record { block = e.same.0; next = e.same.1; begun = e.begun }; walk = e.walk; at = e.at } in
     wants g.H.Host.model _ _ _ _ _ c.ask.new.self c.args.tx.now here (has_tx _ _ _ _ _ doing place same) c.args.shared.now c.want.new.tx c.want.result
     refl refl refl c.want.ensures.tx c.want.ensures.answer
+
+pub returns-in-Ok-Commit-clause-lends : goal.returns-in-Ok-Commit-clause-lends
+returns-in-Ok-Commit-clause-lends g c = lends_still g.H.Host.model _ _ refl refl
+
+pub returns-in-Ok-Abort-clause-lends : goal.returns-in-Ok-Abort-clause-lends
+returns-in-Ok-Abort-clause-lends g c = lends_still g.H.Host.model _ _ refl refl
+
+pub returns-in-Err-clause-lends : goal.returns-in-Err-clause-lends
+returns-in-Err-clause-lends g c = lends_still g.H.Host.model _ _ refl (ap (λ (t : SeenTx). t.taken) c.want.ensures.tx)

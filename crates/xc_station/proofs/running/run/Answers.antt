@@ -7,9 +7,10 @@ use Rattle.xc_data.specs.declared.entry.Turn.{Turn}
 use Rattle.xc_station.specs.declared.calls.Shared.{Shared}
 use Rattle.xc_station.specs.Jobs.{seen_job, seen_tx}
 use Rattle.xc_station.specs.Moments.{IsRunningRow, counted, moved, runs, seated_as}
-use Rattle.xc_station.proofs.Closed.{counted_doing, moves_on, is_active, its_active}
+use Rattle.xc_station.proofs.Closed.{counted_doing, moves_on, is_active, its_active, active_again}
 use Rattle.xc_station.proofs.RowsMarked.{gone_row, its_rank, revoked_row}
 use Rattle.xc_station.proofs.running.run.Goals as goal
+use Rattle.xc_station.proofs.Lending.{lends_from, lends_still}
 
 pub returns-in-Some-clause-row : goal.returns-in-Some-clause-row
 returns-in-Some-clause-row g c now at here journal =
@@ -18,7 +19,7 @@ returns-in-Some-clause-row g c now at here journal =
     let job = c.args.job.now in
     let was = c.requires.running in
     let shared = c.args.shared.now in
-    let shared' : Shared g.row.H.Denot = record { host = shared.host; words = shared.words; sentinels = c.settle.new.sentinels } in
+    let shared' : Shared g.row.H.Denot = record { host = shared.host; buffers = shared.buffers; words = shared.words; sentinels = c.settle.new.sentinels } in
     let new = c.revoke-answer.new.tx in
     let doing = is_active job was.tx was.doing in
     let running : runs job.tx.phase ≡ true = ap (λ (t : SeenTx). runs t.phase) (its_active job was.tx was.doing) ∙ ap runs was.may.running in
@@ -42,7 +43,7 @@ returns-clause-row g c now at here journal =
     let job = c.args.job.now in
     let was = c.requires.running in
     let mid = c.go-answer.new.shared in
-    let shared' : Shared g.row.H.Denot = record { host = mid.host; words = mid.words; sentinels = c.settle-2.new.sentinels } in
+    let shared' : Shared g.row.H.Denot = record { host = mid.host; buffers = mid.buffers; words = mid.words; sentinels = c.settle-2.new.sentinels } in
     let new = c.go-answer.new.tx in
     let doing = is_active job was.tx was.doing in
     let running : runs job.tx.phase ≡ true = ap (λ (t : SeenTx). runs t.phase) (its_active job was.tx was.doing) ∙ ap runs was.may.running in
@@ -57,3 +58,25 @@ returns-clause-row g c now at here journal =
     refl refl c.settle-2.ensures.claims c.settle-2.ensures.marks c.go-answer.ensures.seats running (seen_tx new)
     (counted_doing answer (with_tx (seen_job job) c.go-answer.new.place (seen_tx new)))
     c.settle-2.ensures.others c.settle-2.ensures.own)
+
+pub returns-in-Some-clause-lends : goal.returns-in-Some-clause-lends
+returns-in-Some-clause-lends g c tx is =
+    let new = c.revoke-answer.new.tx in (
+      seen_tx new,
+      active_again c.args.job.now.tx new c.args.job.now.activity tx is,
+      lends_still g.H.Host.model _ _ refl
+          (ap (λ (t : SeenTx). t.taken) c.revoke-answer.ensures.tx ∙ ap (λ (t : SeenTx). t.taken) (its_active c.args.job.now tx is)),
+    )
+
+pub returns-clause-lends : goal.returns-clause-lends
+returns-clause-lends g c tx is =
+    let job = c.args.job.now in
+    let new = c.go-answer.new.tx in
+    let gone = with_tx (seen_job job) c.go-answer.new.place (seen_tx new) in (
+      seen_tx new,
+      ap (λ (j : SeenJob). j.doing) (c.count_wait.ensures.counted ∙ ap (counted c.go-answer.result)
+          (sym (moves_on job tx c.go-answer.new.place new is c.go-answer.ensures.begun)))
+          ∙ counted_doing c.go-answer.result gone,
+      lends_from g.H.Host.model _ (record { old = seen_tx job.tx; new = seen_tx new }) tx (seen_tx new)
+          (sym (ap (λ (t : SeenTx). t.taken) (its_active job tx is))) refl c.go-answer.ensures.lends,
+    )

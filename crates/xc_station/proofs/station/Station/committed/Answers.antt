@@ -1,12 +1,11 @@
-use Rattle.std.proofs.Common.{refl, sym, subst, ap, ◌+◌}
-use Rattle.std.specs.Prelude.{slice_set}
+use Rattle.std.proofs.Common.{refl, sym, subst, ap, ◌+◌, ◌∙◌, arith}
+use Rattle.std.specs.Prelude.{slice_set, All}
 use Rattle.xc_story.specs.Seen.{active_in, active_of}
 use Rattle.xc_story.specs.Setting.{setting}
 use Rattle.xc_story.specs.Rows.{IsTurn}
-use Rattle.xc_station.specs.declared.calls.Shared.{Shared}
 use Rattle.xc_data.specs.declared.entry.Turn.TheVariants as turn
 use Rattle.xc_station.specs.declared.job.Stage.TheVariants as PlainStage
-use Rattle.xc_station.specs.Jobs.{IsStage, doing_of, goes_on, seen_job}
+use Rattle.xc_station.specs.Jobs.{IsStage, doing_of, goes_on, seen_job, seen_jobs}
 use Rattle.xc_station.specs.Stations.{moment, now_of, setting_of}
 use Rattle.xc_station.proofs.Ahead.{ahead_kept, taken_kept}
 use Rattle.xc_station.proofs.Placed.{get_map}
@@ -16,6 +15,8 @@ use Rattle.xc_station.proofs.Stages.{lent, committed_stage}
 use Rattle.xc_station.proofs.Steady.{steady_kept}
 use Rattle.xc_station.proofs.TurnRows.{committed_turned}
 use Rattle.xc_station.proofs.station.Station.committed.Goals as goal
+use Rattle.xc_station.proofs.Notes.{backed_without, notes_within}
+use Rattle.xc_station.specs.Lent.{AreBacked, IsBacked}
 
 pub commit-entry-requires-clause-committing : goal.commit-entry-requires-clause-committing
 commit-entry-requires-clause-committing g c =
@@ -86,14 +87,15 @@ invariant_of-self g c =
     let s = setting station.opening.script station.rules model.tells in
     let is = lent station.jobs.items at PlainStage.Committed was (subst (λ v. IsStage v.jobs at PlainStage.Committed) (sym c.self.view_is) c.requires)
     c.index_mut.ensures.value in
-    let shared' : Shared g.row.H.Denot = record { host = station.shared.host; words = station.shared.words; sentinels = c.commit-entry.new.sentinels } in
+    let shared' = c.commit-entry.new.shared in
     let job = c.commit-entry.new.job in
     let turned = committed_turned model station.shared station.journal.items station.jobs.items at was s shared' c.enter.new.self.items
     c.commit-entry.result job (at + 1)
     is (none_here model station.shared station.journal.items station.jobs.items at was station.opening.script station.rules
     station.opening.faults station.active
     station.journal.spare station.lines c.self.invariant.0 c.self.invariant.1 PlainStage.Committed is)
-    c.commit-entry.ensures.entry (λ tx does. (c.commit-entry.ensures.freed tx does).seats) refl (refl, refl) c.enter.ensures.items c.self.invariant.1.few in
+    c.commit-entry.ensures.entry (λ tx does. (c.commit-entry.ensures.freed tx does).seats) refl c.commit-entry.ensures.same
+    c.commit-entry.ensures.gone.kept c.enter.ensures.items c.self.invariant.1.few in
     let mine = committed_stage (doing_of was) is.stage in
     let gave = c.commit-entry.ensures.entry mine.tx at mine.doing refl in
     let freed = c.commit-entry.ensures.freed mine.tx mine.doing in
@@ -104,10 +106,15 @@ invariant_of-self g c =
       rooms_entered model station.shared station.journal.items station.jobs.items at was job station.active station.journal.spare station.lines is.stands
           c.self.invariant.1 s shared' c.enter.new.self.items c.enter.new.self.spare mine.tx c.self.invariant.0.kept.told mine.doing
           (ap active_of gave.0)
-          freed some.0 c.enter.ensures.spare,
+          freed some.0 c.enter.ensures.spare c.commit-entry.ensures.gone.noted,
       ahead_kept station.jobs.items at was job station.ahead.items is.stands (ap goes_on is.stage) c.self.invariant.2,
       taken_kept station.jobs.items at job station.taken c.self.invariant.3,
-      c.self.invariant.4,
+      ap model.plan c.commit-entry.ensures.same.0 ∙ c.self.invariant.4,
+      λ tells.
+          subst (λ h. AreBacked (model.contents h) shared'.buffers.kept (seen_jobs (slice_set station.jobs.items at job))) (sym c.commit-entry.ensures.same.0)
+          (backed_without _ _ _ station.jobs.items at was job is.stands
+          (subst (All (IsBacked (model.contents station.shared.host))) (sym c.commit-entry.ensures.gone.kept) ((c.self.invariant.5 tells).kept))
+          (ap active_of gave.0) (c.self.invariant.5 tells)),
     )
 
 pub returns-clause-row : goal.returns-clause-row
@@ -119,13 +126,25 @@ returns-clause-row g c =
     let s = setting station.opening.script station.rules model.tells in
     let is = lent station.jobs.items at PlainStage.Committed was (subst (λ v. IsStage v.jobs at PlainStage.Committed) (sym c.self.view_is) c.requires)
     c.index_mut.ensures.value in
-    let shared' : Shared g.row.H.Denot = record { host = station.shared.host; words = station.shared.words; sentinels = c.commit-entry.new.sentinels } in
+    let shared' = c.commit-entry.new.shared in
     let job = c.commit-entry.new.job in
     let turned = committed_turned model station.shared station.journal.items station.jobs.items at was s shared' c.enter.new.self.items
     c.commit-entry.result job (at + 1)
     is (none_here model station.shared station.journal.items station.jobs.items at was station.opening.script station.rules
     station.opening.faults station.active
     station.journal.spare station.lines c.self.invariant.0 c.self.invariant.1 PlainStage.Committed is)
-    c.commit-entry.ensures.entry (λ tx does. (c.commit-entry.ensures.freed tx does).seats) refl (refl, refl) c.enter.ensures.items c.self.invariant.1.few in
+    c.commit-entry.ensures.entry (λ tx does. (c.commit-entry.ensures.freed tx does).seats) refl c.commit-entry.ensures.same
+    c.commit-entry.ensures.gone.kept c.enter.ensures.items c.self.invariant.1.few in
     subst (λ v. IsTurn (setting_of model v) at (now_of model v) turn.Went (moment model shared' c.enter.new.self.items (slice_set station.jobs.items at job)))
     c.self.view_is turned
+
+pub commit-entry-requires-clause-noted : goal.commit-entry-requires-clause-noted
+commit-entry-requires-clause-noted g c =
+    let was = c.index_mut.result.now in
+    let station = c.self.inside in
+    let at = c.args.at in
+    let is = lent station.jobs.items at PlainStage.Committed was (subst (λ v. IsStage v.jobs at PlainStage.Committed) (sym c.self.view_is) c.requires)
+    c.index_mut.ensures.value in
+    let within = notes_within (seen_jobs station.jobs.items) at (seen_job was) (get_map seen_job station.jobs.items at was is.stands) in
+    let noted = c.self.invariant.1.noted in
+    omega (arith, within, noted)

@@ -10,6 +10,9 @@ use Rattle.xc_station.specs.Jobs.{is_live, seen_job, seen_jobs}
 use Rattle.xc_station.specs.Stations.{NobodyLives, moment}
 use Rattle.xc_station.proofs.Ended.{counted_end, each_ended, true_end}
 use Rattle.xc_station.proofs.station.Station.finish.Goals as goal
+use Rattle.xc_station.specs.Moments.{told_by}
+use Rattle.xc_data.specs.declared.entry.KeptItem.{KeptItem}
+use Rattle.xc_host.specs.Kept.{with_kept}
 
 pub lines_of-requires-clause-ended : goal.lines_of-requires-clause-ended
 lines_of-requires-clause-ended g c k d low =
@@ -28,9 +31,13 @@ returns-clause-whole g c =
     subst (λ (all : List Job). AreLinesOf (seen_jobs all) c.lines_of.result) c.as_slice.ensures.value c.lines_of.ensures in
     let whole = true_end (setting station.opening.script station.rules model.tells) station.opening.faults now c.lines_of.result c.self.invariant.0 over in
     let listed = subst (λ words. IsTrueEnd (setting station.opening.script station.rules model.tells) station.journal.items
-    (record { words = words; contents = model.contents station.shared.host; lines = c.lines_of.result })) (sym c.list.ensures) whole in
+    (record { words = words; contents = told_by model station.shared; lines = c.lines_of.result })) (sym c.list.ensures) whole in
+    let kept = subst (λ (items : List KeptItem). IsTrueEnd (setting station.opening.script station.rules model.tells) station.journal.items
+    (record { words = c.list.result; contents = with_kept (model.contents station.shared.host) items; lines = c.lines_of.result }))
+    (sym c.into_items.ensures) listed in
     subst (λ v. IsTrueEnd (setting v.opening.script v.rules model.tells) station.journal.items
-    (record { words = c.list.result; contents = model.contents station.shared.host; lines = c.lines_of.result })) c.self.view_is listed
+    (record { words = c.list.result; contents = with_kept (model.contents station.shared.host) c.into_items.result; lines = c.lines_of.result }))
+    c.self.view_is kept
 
 pub returns-clause-faults : goal.returns-clause-faults
 returns-clause-faults g c =

@@ -1,5 +1,5 @@
 use Rattle.std.proofs.Common.{◌≡◌, ◌≢◌, refl, sym, subst, ap, ◌∙◌, true, false}
-use Rattle.std.specs.Prelude.{slice_set}
+use Rattle.std.specs.Prelude.{slice_set, All}
 use Rattle.xc_story.specs.Seen.{active_in}
 use Rattle.xc_story.specs.Setting.{setting}
 use Rattle.xc_story.specs.Rows.{IsTurn}
@@ -9,12 +9,15 @@ use Rattle.xc_station.specs.Jobs.{IsStage, doing_of, goes_on}
 use Rattle.xc_station.specs.Stations.{moment, now_of, setting_of}
 use Rattle.xc_station.proofs.Ahead.{ahead_kept, taken_kept}
 use Rattle.xc_station.proofs.Ready.{next_unseated}
-use Rattle.xc_station.proofs.RoomsKept.{rooms_idle_went, rooms_idle_halted}
+use Rattle.xc_station.proofs.RoomsKept.{rooms_idle_went, rooms_idle_halted, idle_untaken}
 use Rattle.xc_station.proofs.Stages.{lent, idle_stage}
 use Rattle.xc_station.proofs.Steady.{steady_kept}
 use Rattle.xc_station.proofs.TurnRows.{idle_turned}
 use Rattle.xc_station.proofs.station.Station.idle.Goals.{in-Went, in_default}
 use Rattle.xc_station.proofs.station.Station.idle.Goals as goal
+use Rattle.xc_station.proofs.Notes.{backed_jobs, keeps_itself}
+use Rattle.xc_station.specs.Lent.{IsBacked}
+use Rattle.std.proofs.lemmas.List.Elements.{All-nil}
 
 pub begin-turn-requires-clause-idle : goal.begin-turn-requires-clause-idle
 begin-turn-requires-clause-idle g c =
@@ -51,6 +54,14 @@ invariant_of-self g c =
       ahead_kept station.jobs.items at was job station.ahead.items is.stands (ap goes_on is.stage) c.self.invariant.2,
       taken_kept station.jobs.items at job station.taken c.self.invariant.3,
       c.self.invariant.4,
+      λ tells.
+          backed_jobs _ _ _ _ station.jobs.items at was job is.stands (keeps_itself (model.contents station.shared.host)) ((c.self.invariant.5 tells).kept)
+          (λ tx active. subst (All (IsBacked (model.contents station.shared.host)))
+          (sym (idle_untaken model station.shared station.journal.items station.jobs.items at was job station.active station.journal.spare station.lines
+          is.stands c.self.invariant.1 s c.begin-turn.new.sentinels journal.items journal.spare c.begin-turn.result
+          (ap active_in (idle_stage (doing_of was) is.stage)) row c.begin-turn.ensures.claims c.begin-turn.ensures.seats tx active))
+          (All-nil (IsBacked (model.contents station.shared.host))))
+          (c.self.invariant.5 tells),
     )
 
 pub invariant_of-self-else-matches : goal.invariant_of-self-else-matches
@@ -81,6 +92,14 @@ invariant_of-self-else-matches g c =
       ahead_kept station.jobs.items at was job station.ahead.items is.stands (ap goes_on is.stage) c.self.invariant.2,
       taken_kept station.jobs.items at job station.taken c.self.invariant.3,
       c.self.invariant.4,
+      λ tells.
+          backed_jobs _ _ _ _ station.jobs.items at was job is.stands (keeps_itself (model.contents station.shared.host)) ((c.self.invariant.5 tells).kept)
+          (λ tx active. subst (All (IsBacked (model.contents station.shared.host)))
+          (sym (idle_untaken model station.shared station.journal.items station.jobs.items at was job station.active station.journal.spare station.lines
+          is.stands c.self.invariant.1 s c.begin-turn.new.sentinels journal.items journal.spare c.begin-turn.result
+          (ap active_in (idle_stage (doing_of was) is.stage)) row c.begin-turn.ensures.claims c.begin-turn.ensures.seats tx active))
+          (All-nil (IsBacked (model.contents station.shared.host))))
+          (c.self.invariant.5 tells),
     )
 
 pub returns-then-matches-clause-row : goal.returns-then-matches-clause-row

@@ -50,6 +50,7 @@ invariant_of-self g c =
           (subst (λ js. IsAhead js c.args.above c.loop-next.next) (sym jobs) c.loop-next.invariant),
       c.self.invariant.3,
       c.self.invariant.4,
+      c.self.invariant.5,
     )
 
 pub returns-else-next-count-clause-next : goal.returns-else-next-count-clause-next

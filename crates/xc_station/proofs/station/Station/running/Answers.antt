@@ -1,17 +1,22 @@
-use Rattle.std.proofs.Common.{sym, subst, ◌∙◌, ap}
-use Rattle.std.specs.Prelude.{slice_set}
+use Rattle.std.proofs.Common.{sym, subst, ◌∙◌, ap, ◌≡◌, arith}
+use Rattle.std.specs.Prelude.{slice_set, All}
 use Rattle.xc_story.specs.Setting.{setting}
 use Rattle.xc_story.specs.Rows.{IsTurn}
 use Rattle.xc_station.specs.declared.job.Stage.TheVariants as PlainStage
-use Rattle.xc_station.specs.Jobs.{IsStage, goes_on}
+use Rattle.xc_station.specs.Jobs.{doing_of, IsStage, goes_on, seen_job}
 use Rattle.xc_station.specs.Stations.{moment, now_of, setting_of}
 use Rattle.xc_station.proofs.Ahead.{ahead_kept, taken_kept}
 use Rattle.xc_station.proofs.Ready.{may_run, stands_now, few_words}
 use Rattle.xc_station.proofs.RoomsKept.{rooms_running}
-use Rattle.xc_station.proofs.Stages.{lent}
+use Rattle.xc_station.proofs.Stages.{lent, running_stage}
 use Rattle.xc_station.proofs.Steady.{steady_kept}
 use Rattle.xc_station.proofs.TurnRows.{running_turned}
 use Rattle.xc_station.proofs.station.Station.running.Goals as goal
+use Rattle.xc_station.specs.Lent.{IsBacked, notes_in}
+use Rattle.xc_story.specs.Seen.{SeenTx, active_in}
+use Rattle.xc_station.proofs.Notes.{backed_jobs, still_backed}
+use Rattle.xc_station.proofs.Placed.{get_map}
+use Rattle.std.specs.declared.option.Option.TheVariants.{Some}
 
 pub run-requires-clause-running : goal.run-requires-clause-running
 run-requires-clause-running g c =
@@ -51,13 +56,32 @@ invariant_of-self g c =
     (stands_now model station.shared station.journal.items station.jobs.items at was station.opening.script station.rules station.opening.faults
     station.active
     station.journal.spare station.lines c.self.invariant.0 c.self.invariant.1 PlainStage.Running is) (sym c.len-entered.ensures) in
-    let turned = running_turned model station.shared station.journal.items station.jobs.items at was s shared' job c.run.result is c.run.ensures.block row in (
+    let turned = running_turned model station.shared station.journal.items station.jobs.items at was s shared' job c.run.result is c.run.ensures.block row in
+    let mine = running_stage (doing_of was) is.stage in
+    let lends = c.run.ensures.lends mine.tx mine.doing in (
       steady_kept s station.opening.faults at _ _ c.run.result c.self.invariant.0 turned,
       rooms_running model station.shared station.journal.items station.jobs.items at was job station.active station.journal.spare station.lines is.stands
-          c.self.invariant.1 s shared' c.run.result row,
+          c.self.invariant.1 s shared' c.run.result row
+          (let noted = lends.2.noted in
+          let before = ap (λ d. notes_in (active_in d)) mine.doing in
+          let behind = ap (λ d. notes_in (active_in d)) lends.1 in
+          omega (arith, noted, before, behind)),
       ahead_kept station.jobs.items at was job station.ahead.items is.stands (ap goes_on is.stage) c.self.invariant.2,
       taken_kept station.jobs.items at job station.taken c.self.invariant.3,
       c.run.ensures.plan ∙ c.self.invariant.4,
+      λ tells.
+          let c' = model.contents station.shared.host in
+          let d = model.contents shared'.host in
+          let are = c.self.invariant.5 tells in
+          let keeps = lends.2.keeps tells in
+          let took = still_backed c' d (lends.0).taken keeps (lends.2.taken tells are.kept (are.taken at mine.tx
+          (seen_job was, get_map seen_job station.jobs.items at was is.stands, ap active_in mine.doing))) in
+          backed_jobs c' d _ _ station.jobs.items at was job is.stands keeps (still_backed c' d shared'.buffers.kept keeps (lends.2.kept tells are.kept))
+          (λ tx active.
+          let both : Some (lends.0) ≡ Some tx = ap active_in (sym lends.1) ∙ active in
+          let one : lends.0 ≡ tx = cc both in
+          subst (λ (t : SeenTx). All (IsBacked d) t.taken) one took)
+          are,
     )
 
 pub returns-clause-row : goal.returns-clause-row

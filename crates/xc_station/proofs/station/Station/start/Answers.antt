@@ -8,15 +8,23 @@ use Rattle.xc_story.specs.Opened.{IsOpening}
 use Rattle.xc_story.specs.Setting.{setting}
 use Rattle.xc_station.specs.Jobs.{seen_job}
 use Rattle.xc_station.specs.Stations.{moment}
-use Rattle.xc_station.proofs.Started.{opened_blocks, roomy, started}
+use Rattle.xc_station.proofs.Started.{opened_blocks, roomy, started, backed_at_start}
 use Rattle.xc_station.proofs.station.Station.start.Goals as goal
+use Rattle.xc_station.specs.Lent.{Lent}
+use Rattle.xc_host.specs.Kept.{with_kept}
 
 pub invariant_of-result : goal.invariant_of-result
 invariant_of-result g c =
     let model = g.H.Host.model in
     let s = setting c.args.script c.args.rules model.tells in
     let rooms = c.in-Ok.rooms in
-    let opening : IsOpening c.args.script (moment model (record { host = c.open_with.new.self; words = rooms.words; sentinels = c.new-sentinels.result })
+    let opening : IsOpening c.args.script (moment model (record {
+      host = c.open_with.new.self;
+      buffers = rooms.buffers;
+      words = rooms.words;
+      sentinels =
+          c.new-sentinels.result;
+    })
     c.new-journal.result.items rooms.jobs.items) = record {
       words = c.in-Ok.ensures.words;
       journal = c.new-journal.ensures;
@@ -27,12 +35,15 @@ invariant_of-result g c =
     } in (
       started s _ _ (record { read = c.requires.script; attempts = c.requires.rules.0; tries = c.requires.rules.1 }) c.requires.limits opening
           (c.open_with.ensures.count ∙ sym c.faults-faults.ensures)
-          (λ t. c.in_default-open_with.ensures.ok t ∙ ap (λ (p : Outline). opened p.prologue.objects) c.outline.ensures),
+          (λ t. ap (λ (lent : Lent). with_kept (model.contents c.open_with.new.self) lent.kept) c.in-Ok.ensures.buffers
+          ∙ c.in_default-open_with.ensures.ok t ∙ ap (λ (p : Outline). opened p.prologue.objects) c.outline.ensures),
       roomy c.args.script _ _ _ _ c.requires.script opening c.new-sentinels.ensures.nothing c.new-sentinels.ensures.nobody
-          (subst (λ n. n ≤ c.in-Ok.rooms.lines.spare) (sym (length-map c.in-Ok.rooms.jobs.items seen_job)) c.in-Ok.ensures.lines.0) c.in-Ok.ensures.lines.1,
+          (subst (λ n. n ≤ c.in-Ok.rooms.lines.spare) (sym (length-map c.in-Ok.rooms.jobs.items seen_job)) c.in-Ok.ensures.lines.0) c.in-Ok.ensures.lines.1
+          (ap (λ (lent : Lent). lent.noted) c.in-Ok.ensures.buffers),
       c.in-Ok.ensures.ahead,
       omega arith,
       c.in_default-open_with.ensures.plan ∙ ap (λ (p : Outline). plan_of p.prologue) c.outline.ensures,
+      λ tells. backed_at_start c.args.script _ _ _ c.in-Ok.ensures.jobs (ap (λ (lent : Lent). lent.kept) c.in-Ok.ensures.buffers),
     )
 
 pub returns-clause-opening : goal.returns-clause-opening

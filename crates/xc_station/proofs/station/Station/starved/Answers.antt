@@ -12,6 +12,7 @@ use Rattle.xc_station.proofs.Stages.{lent, starved_stage}
 use Rattle.xc_station.proofs.Steady.{steady_kept}
 use Rattle.xc_station.proofs.TurnRows.{starved_turned}
 use Rattle.xc_station.proofs.station.Station.starved.Goals as goal
+use Rattle.xc_station.proofs.Notes.{backed_without}
 
 pub invariant_of-self : goal.invariant_of-self
 invariant_of-self g c =
@@ -33,6 +34,9 @@ invariant_of-self g c =
       ahead_kept station.jobs.items at was job station.ahead.items is.stands (ap goes_on is.stage) c.self.invariant.2,
       taken_kept station.jobs.items at job station.taken c.self.invariant.3,
       c.self.invariant.4,
+      λ tells.
+          backed_without _ _ _ station.jobs.items at was job is.stands ((c.self.invariant.5 tells).kept) (ap active_of c.end.ensures.0)
+          (c.self.invariant.5 tells),
     )
 
 pub returns-clause-row : goal.returns-clause-row

@@ -1,19 +1,24 @@
-use Rattle.std.proofs.Common.{refl, sym, subst, ap, ◌∙◌}
+use Rattle.std.proofs.Common.{refl, sym, subst, ap, ◌∙◌, ◌≡◌}
 use Rattle.std.specs.Prelude.{slice_set}
 use Rattle.xc_story.specs.Setting.{setting}
 use Rattle.xc_story.specs.Rows.{IsTurn}
 use Rattle.xc_station.specs.declared.calls.Shared.{Shared}
 use Rattle.xc_data.specs.declared.entry.Turn.TheVariants as turn
 use Rattle.xc_station.specs.declared.job.Stage.TheVariants as PlainStage
-use Rattle.xc_station.specs.Jobs.{IsStage, doing_of, goes_on}
+use Rattle.xc_station.specs.Jobs.{IsStage, doing_of, goes_on, seen_job, seen_jobs}
 use Rattle.xc_station.specs.Stations.{moment, now_of, setting_of}
 use Rattle.xc_station.proofs.Ahead.{ahead_kept, taken_kept}
-use Rattle.xc_station.proofs.Ready.{may_undo}
+use Rattle.xc_station.proofs.Ready.{may_undo, took_elsewhere, undo_elsewhere}
 use Rattle.xc_station.proofs.RoomsKept.{rooms_going}
 use Rattle.xc_station.proofs.Stages.{lent, undoing_stage}
 use Rattle.xc_station.proofs.Steady.{steady_kept}
 use Rattle.xc_station.proofs.TurnRows.{undoing_turned}
 use Rattle.xc_station.proofs.station.Station.undoing.Goals as goal
+use Rattle.xc_station.proofs.Backed.{backed_undone}
+use Rattle.xc_station.specs.Lent.{AreBacked}
+use Rattle.xc_story.specs.Seen.{SeenTx, active_in}
+use Rattle.xc_station.proofs.Placed.{get_map}
+use Rattle.std.specs.declared.option.Option.TheVariants.{Some}
 
 pub undo-requires-clause-undoing : goal.undo-requires-clause-undoing
 undo-requires-clause-undoing g c =
@@ -25,7 +30,7 @@ undo-requires-clause-undoing g c =
     let is = lent station.jobs.items at PlainStage.Undoing was (subst (λ v. IsStage v.jobs at PlainStage.Undoing) (sym c.self.view_is) c.requires)
     c.index_mut.ensures.value in
     may_undo model station.shared station.journal.items station.jobs.items at was station.opening.script station.rules station.opening.faults station.active
-    station.journal.spare station.lines c.self.invariant.0 c.self.invariant.1 is
+    station.journal.spare station.lines c.self.invariant.0 c.self.invariant.1 c.self.invariant.5 is
 
 pub invariant_of-self : goal.invariant_of-self
 invariant_of-self g c =
@@ -36,19 +41,42 @@ invariant_of-self g c =
     let s = setting station.opening.script station.rules model.tells in
     let is = lent station.jobs.items at PlainStage.Undoing was (subst (λ v. IsStage v.jobs at PlainStage.Undoing) (sym c.self.view_is) c.requires)
     c.index_mut.ensures.value in
-    let shared' : Shared g.row.H.Denot = record { host = c.undo.new.host; words = station.shared.words; sentinels = station.shared.sentinels } in
+    let shared' : Shared g.row.H.Denot = record {
+      host = c.undo.new.host;
+      buffers = station.shared.buffers;
+      words = station.shared.words;
+      sentinels =
+          station.shared.sentinels;
+    } in
     let job = c.undo.new.job in
+    let away = undo_elsewhere model station.shared station.journal.items station.jobs.items at was station.opening.script station.rules station.opening.faults
+    station.active station.journal.spare station.lines c.self.invariant.0 c.self.invariant.1 c.self.invariant.5 is in
     let turned = undoing_turned model station.shared station.journal.items station.jobs.items at was station.opening.script station.rules shared' job is
-    c.undo.ensures (refl, refl) in
+    c.undo.ensures away (refl, refl, refl) in
     let back = undoing_stage (doing_of was) is.stage in
     let gave = c.undo.ensures back.tx back.doing in (
       steady_kept s station.opening.faults at _ _ turn.Went c.self.invariant.0 turned,
       rooms_going model station.shared station.journal.items station.jobs.items at was job station.active station.journal.spare station.lines is.stands
           c.self.invariant.1 s shared' back.tx (record back.tx { undo = gave.0 }) c.self.invariant.0.kept.told refl back.doing (ap (λ j. j.doing) gave.1)
-          refl refl refl,
+          refl refl refl refl refl,
       ahead_kept station.jobs.items at was job station.ahead.items is.stands (ap goes_on is.stage) c.self.invariant.2,
       taken_kept station.jobs.items at job station.taken c.self.invariant.3,
       gave.2.uses.used.plan ∙ c.self.invariant.4,
+      λ tells.
+          let tried = gave.2 in
+          let c' = model.contents station.shared.host in
+          let are = c.self.invariant.5 tells in
+          let took = took_elsewhere model station.shared station.journal.items station.jobs.items at was station.opening.script station.rules
+          station.opening.faults station.active station.journal.spare station.lines c.self.invariant.0 c.self.invariant.1 c.self.invariant.5 is tried.older
+          tried.tried tried.was tells in
+          subst (λ d. AreBacked d station.shared.buffers.kept (seen_jobs (slice_set station.jobs.items at job))) (sym (tried.effect tells))
+          (backed_undone c' station.shared.buffers.kept station.jobs.items at was job tried.tried tried.end is.stands
+          (away tried.older tried.tried tried.was tells) took
+          (λ tx active.
+          let both : Some (record back.tx { undo = gave.0 }) ≡ Some tx = ap active_in (sym (ap (λ j. j.doing) gave.1)) ∙ active in
+          let one : record back.tx { undo = gave.0 } ≡ tx = cc both in
+          (back.tx, (seen_job was, get_map seen_job station.jobs.items at was is.stands, ap active_in back.doing), ap (λ (t : SeenTx). t.taken) one))
+          are),
     )
 
 pub returns-clause-row : goal.returns-clause-row
@@ -60,9 +88,17 @@ returns-clause-row g c =
     let s = setting station.opening.script station.rules model.tells in
     let is = lent station.jobs.items at PlainStage.Undoing was (subst (λ v. IsStage v.jobs at PlainStage.Undoing) (sym c.self.view_is) c.requires)
     c.index_mut.ensures.value in
-    let shared' : Shared g.row.H.Denot = record { host = c.undo.new.host; words = station.shared.words; sentinels = station.shared.sentinels } in
+    let shared' : Shared g.row.H.Denot = record {
+      host = c.undo.new.host;
+      buffers = station.shared.buffers;
+      words = station.shared.words;
+      sentinels =
+          station.shared.sentinels;
+    } in
     let job = c.undo.new.job in
+    let away = undo_elsewhere model station.shared station.journal.items station.jobs.items at was station.opening.script station.rules station.opening.faults
+    station.active station.journal.spare station.lines c.self.invariant.0 c.self.invariant.1 c.self.invariant.5 is in
     let turned = undoing_turned model station.shared station.journal.items station.jobs.items at was station.opening.script station.rules shared' job is
-    c.undo.ensures (refl, refl) in
+    c.undo.ensures away (refl, refl, refl) in
     subst (λ v. IsTurn (setting_of model v) at (now_of model v) turn.Went (moment model shared' station.journal.items (slice_set station.jobs.items at job)))
     c.self.view_is turned

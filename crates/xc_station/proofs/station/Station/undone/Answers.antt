@@ -3,10 +3,9 @@ use Rattle.std.specs.Prelude.{slice_set}
 use Rattle.xc_story.specs.Seen.{active_in, active_of}
 use Rattle.xc_story.specs.Setting.{setting}
 use Rattle.xc_story.specs.Rows.{IsTurn}
-use Rattle.xc_station.specs.declared.calls.Shared.{Shared}
 use Rattle.xc_data.specs.declared.entry.Turn.TheVariants as turn
 use Rattle.xc_station.specs.declared.job.Stage.TheVariants as PlainStage
-use Rattle.xc_station.specs.Jobs.{IsStage, doing_of, goes_on, seen_job}
+use Rattle.xc_station.specs.Jobs.{IsStage, doing_of, goes_on, seen_job, seen_jobs}
 use Rattle.xc_station.specs.Stations.{moment, now_of, setting_of}
 use Rattle.xc_station.proofs.Ahead.{ahead_kept, taken_kept}
 use Rattle.xc_station.proofs.Placed.{get_map}
@@ -16,6 +15,9 @@ use Rattle.xc_station.proofs.Stages.{lent, undone_stage}
 use Rattle.xc_station.proofs.Steady.{steady_kept}
 use Rattle.xc_station.proofs.TurnRows.{undone_turned}
 use Rattle.xc_station.proofs.station.Station.undone.Goals as goal
+use Rattle.xc_station.proofs.Notes.{backed_without, notes_within}
+use Rattle.xc_station.proofs.Giving.{given_all}
+use Rattle.xc_station.specs.Lent.{AreBacked, IsBacked}
 
 pub abort-entry-requires-clause-undone : goal.abort-entry-requires-clause-undone
 abort-entry-requires-clause-undone g c =
@@ -101,11 +103,12 @@ invariant_of-self g c =
     let s = setting station.opening.script station.rules model.tells in
     let is = lent station.jobs.items at PlainStage.Undone was (subst (λ v. IsStage v.jobs at PlainStage.Undone) (sym c.self.view_is) c.requires)
     c.index_mut.ensures.value in
-    let shared' : Shared g.row.H.Denot = record { host = station.shared.host; words = station.shared.words; sentinels = c.abort-entry.new.sentinels } in
+    let shared' = c.abort-entry.new.shared in
     let job = c.abort-entry.new.job in
     let turned = undone_turned model station.shared station.journal.items station.jobs.items at was s shared' c.enter.new.self.items c.abort-entry.result job
     (at + 1)
-    is c.abort-entry.ensures.entry (λ tx does. (c.abort-entry.ensures.freed tx does).seats) refl (refl, refl) c.enter.ensures.items in
+    is c.abort-entry.ensures.entry (λ tx does. (c.abort-entry.ensures.freed tx does).seats) refl c.abort-entry.ensures.same
+    c.abort-entry.ensures.given c.enter.ensures.items in
     let mine = undone_stage (doing_of was) is.stage in
     let gave = c.abort-entry.ensures.entry mine.tx mine.cause at mine.doing mine.phase refl in
     let freed = c.abort-entry.ensures.freed mine.tx mine.doing in
@@ -116,10 +119,18 @@ invariant_of-self g c =
       rooms_entered model station.shared station.journal.items station.jobs.items at was job station.active station.journal.spare station.lines is.stands
           c.self.invariant.1 s shared' c.enter.new.self.items c.enter.new.self.spare mine.tx c.self.invariant.0.kept.told mine.doing
           (ap active_of gave.0 ∙ back_none (seen_job was) mine.tx mine.cause)
-          freed some.0 c.enter.ensures.spare,
+          freed some.0 c.enter.ensures.spare c.abort-entry.ensures.given.noted,
       ahead_kept station.jobs.items at was job station.ahead.items is.stands (ap goes_on is.stage) c.self.invariant.2,
       taken_kept station.jobs.items at job station.taken c.self.invariant.3,
-      c.self.invariant.4,
+      ap model.plan c.abort-entry.ensures.same.0 ∙ c.self.invariant.4,
+      λ tells.
+          let are = c.self.invariant.5 tells in
+          let backed = given_all (IsBacked (model.contents station.shared.host)) mine.tx.taken station.shared.buffers.kept shared'.buffers.kept
+          (λ item. c.abort-entry.ensures.given.among item mine.tx mine.doing)
+          (are.taken at mine.tx (seen_job was, get_map seen_job station.jobs.items at was is.stands, ap active_in mine.doing)) are.kept in
+          subst (λ h. AreBacked (model.contents h) shared'.buffers.kept (seen_jobs (slice_set station.jobs.items at job))) (sym c.abort-entry.ensures.same.0)
+          (backed_without _ _ _ station.jobs.items at was job is.stands backed
+          (ap active_of gave.0 ∙ back_none (seen_job was) mine.tx mine.cause) are),
     )
 
 pub returns-clause-row : goal.returns-clause-row
@@ -131,10 +142,22 @@ returns-clause-row g c =
     let s = setting station.opening.script station.rules model.tells in
     let is = lent station.jobs.items at PlainStage.Undone was (subst (λ v. IsStage v.jobs at PlainStage.Undone) (sym c.self.view_is) c.requires)
     c.index_mut.ensures.value in
-    let shared' : Shared g.row.H.Denot = record { host = station.shared.host; words = station.shared.words; sentinels = c.abort-entry.new.sentinels } in
+    let shared' = c.abort-entry.new.shared in
     let job = c.abort-entry.new.job in
     let turned = undone_turned model station.shared station.journal.items station.jobs.items at was s shared' c.enter.new.self.items c.abort-entry.result job
     (at + 1)
-    is c.abort-entry.ensures.entry (λ tx does. (c.abort-entry.ensures.freed tx does).seats) refl (refl, refl) c.enter.ensures.items in
+    is c.abort-entry.ensures.entry (λ tx does. (c.abort-entry.ensures.freed tx does).seats) refl c.abort-entry.ensures.same
+    c.abort-entry.ensures.given c.enter.ensures.items in
     subst (λ v. IsTurn (setting_of model v) at (now_of model v) turn.Went (moment model shared' c.enter.new.self.items (slice_set station.jobs.items at job)))
     c.self.view_is turned
+
+pub abort-entry-requires-clause-noted : goal.abort-entry-requires-clause-noted
+abort-entry-requires-clause-noted g c =
+    let was = c.index_mut.result.now in
+    let station = c.self.inside in
+    let at = c.args.at in
+    let is = lent station.jobs.items at PlainStage.Undone was (subst (λ v. IsStage v.jobs at PlainStage.Undone) (sym c.self.view_is) c.requires)
+    c.index_mut.ensures.value in
+    let within = notes_within (seen_jobs station.jobs.items) at (seen_job was) (get_map seen_job station.jobs.items at was is.stands) in
+    let noted = c.self.invariant.1.noted in
+    omega (arith, within, noted)

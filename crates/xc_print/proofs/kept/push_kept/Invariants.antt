@@ -1,0 +1,8 @@
+use Rattle.std.proofs.Common.{◌≡◌, ◌++◌, drop}
+use Rattle.xc_print.specs.Kept.{kept_lines}
+use Rattle.xc_print.proofs.Joins.{left_lines}
+use Rattle.xc_print.proofs.kept.push_kept.Given as goal
+
+-- what is printed and what is left are all
+abbrev pub invariant-loop-item : goal.invariant-loop-item
+invariant-loop-item l = l.out ++ left_lines l.opened (drop l.item-index l.items) ≡ l.fn.out ++ kept_lines l.items
