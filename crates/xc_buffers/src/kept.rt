@@ -73,6 +73,7 @@ impl Kept {
         ensures ok { IfOk result (λ found. FindsBytes pipe n found self.old.items self.new.items) }
         ensures err { OnErr result (self.new.items ≡ self.old.items) }
         ensures spare { self.old.spare ≤ self.new.spare }
+        ensures in_order { AreKept self.old.items → AreKept self.new.items }
     {
         if n == 0 {
             return Ok(None);
@@ -89,6 +90,7 @@ impl Kept {
         requires fit { is_fit item ≡ true }
         ensures given { PutsFront item self.old.items self.new.items }
         ensures spare { self.new.spare + 1 ≡ self.old.spare }
+        ensures in_order { AreKept self.old.items → AreKept self.new.items }
     {
         put_front(&mut self.items, item);
     }
@@ -101,6 +103,7 @@ impl Kept {
         ensures world { (w : World)
             → given_back w self.new.items ≡ given_back (given_back w self.old.items) (bytes_taken (Pipe pipe) bytes) }
         ensures spare { self.old.spare ≤ self.new.spare + 1 }
+        ensures in_order { AreKept self.old.items → AreKept self.new.items }
     {
         if bytes.is_empty() {
             return;

@@ -1,6 +1,7 @@
-ghost use Rattle.std.specs.Prelude.{◌≡◌, ◌≤◌, ◌+◌, ◌-◌, ◌^◌, ◌++◌, ◌∷◌, [], true, min, length, All, OnOk, OnErr};
-ghost use Rattle.xc_buffers.specs.Changes.{PutsAll};
-ghost use Rattle.xc_buffers.specs.Items.{is_fit};
+ghost use Rattle.std.specs.Prelude.{◌≡◌, ◌≤◌, ◌+◌, ◌-◌, ◌^◌, ◌++◌, ◌∷◌, [], true, min, length, List, All, OnOk, OnErr};
+ghost use Rattle.xc_data.specs.declared.entry.KeptItem.{KeptItem as PlainItem};
+ghost use Rattle.xc_buffers.specs.Changes.{PutsAll, PutsFront};
+ghost use Rattle.xc_buffers.specs.Items.{AreKept, is_fit};
 
 use crate::kept::Kept;
 use crate::rows::capped;
@@ -64,12 +65,26 @@ impl Taken {
         self.notes.push_reserved(item);
     }
 
+    /// Gives the newest note back, to the front. It takes no memory.
+    pub fn give_last(&mut self, kept: &mut Kept)
+        requires { 1 ≤ kept.old.spare }
+        ensures given { (notes : List PlainItem) (last : PlainItem) → self.old.items ≡ notes ++ last ∷ []
+            → (self.new.items ≡ notes) × PutsFront last kept.old.items kept.new.items }
+        ensures spare { kept.old.spare ≤ kept.new.spare + 1 }
+        ensures in_order { AreKept kept.old.items → AreKept kept.new.items }
+    {
+        if let Some(item) = self.notes.pop() {
+            kept.give(item);
+        }
+    }
+
     /// Gives all back, the newest first, so that the oldest stands in front as before it was taken. It takes no memory.
     pub fn give_all(&mut self, kept: &mut Kept)
         requires { length self.old.items ≤ kept.old.spare }
         ensures given { PutsAll self.old.items kept.old.items kept.new.items }
         ensures spare { kept.old.spare ≡ kept.new.spare + length self.old.items }
         ensures none { self.new.items ≡ [] }
+        ensures in_order { AreKept kept.old.items → AreKept kept.new.items }
     {
         while let Some(item) = self.notes.pop() {
             kept.give(item);

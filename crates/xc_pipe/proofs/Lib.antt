@@ -3,3 +3,4 @@ pub mod Takings
 pub mod ReadSteps
 pub mod ReadCalls
 pub mod TakeRuns
+pub mod KeptData

@@ -137,6 +137,13 @@ module _ {H : Type 0} (model : HostModel H) (old new : ReadState H) where
     cause = cause;
   }
 
+-- where memory was wanting what is there is as before
+pub err_logical : {H : Type 0} (model : HostModel H) (old new : ReadState H) (pipe : Num) (result : Result Reply NoMemory)
+    → OnErr result (Leads pipe [] [] (record { old = sides model old; new = sides model new }))
+    → OnErr result (with_kept (model.contents new.host) new.items ≡ with_kept (model.contents old.host) old.items)
+err_logical model old new pipe (Ok r) leads = tt
+err_logical model old new pipe (Err e) leads = sym (same_logical pipe (sides model old) (sides model new) leads)
+
 -- where memory was wanting all is as before
 pub err_before : {H : Type 0} (model : HostModel H) (old new : ReadState H) (pipe : Num) (undo : Records) (result : Result Reply NoMemory)
     → (IsTrue model.tells → OnErr result (Leads pipe [] [] (record { old = sides model old; new = sides model new })))

@@ -1,16 +1,17 @@
 -- Which takes a read made.
 use Rattle.std.proofs.Common.{◌≡◌, ℕ, zero, suc, ◌+◌, ◌<◌, ◌≤◌, Ok, Err, List, [], ◌∷◌, length, replicate, refl, ap, sym, subst, arith}
 use Rattle.std.proofs.Math.Dec.{eqb-suc-zero}
-use Rattle.std.specs.Prelude.{Bool, if◌then◌else◌}
+use Rattle.std.specs.Prelude.{Bool, Result, if◌then◌else◌}
 use Rattle.xc_data.specs.declared.script.Kind.{Kind}
 use Rattle.xc_data.specs.declared.script.Kind.TheVariants.{Take}
 use Rattle.xc_host.specs.Model.{HostModel, IsUsed}
 use Rattle.xc_host.specs.Uses.{Uses}
 use Rattle.xc_host.specs.declared.errors.HostErr.{HostErr}
+use Rattle.xc_host.specs.declared.errors.HostErr.TheVariants as host_err
 use Rattle.xc_host.specs.declared.pipes.Took.{Took}
 use Rattle.xc_host.specs.declared.pipes.Took.TheVariants as took
 use Rattle.xc_host.proofs.Called.{unused, used_again}
-use Rattle.xc_pipe.specs.Reading.{TakesUntil, found_of}
+use Rattle.xc_pipe.specs.Reading.{TakenBy, TakesUntil, found_of}
 
 -- takes that each took some, behind a front of this length
 abbrev pub TakesSome : ℕ → ℕ → List Kind → Type 0
@@ -67,3 +68,18 @@ module _ {H : Type 0} (model : HostModel H) where
         named = (so_far.named.0 + 1, omega (arith, so_far.named.1), omega (arith, so_far.named.1, less), λ l. omega arith, refl);
         used = once_more front (length (x ∷ bytes)) a b c so_far last;
       })
+
+  -- those of a read, whether kept bytes were before or not
+  pub takes_all : (n front : ℕ) (result : Result Took HostErr) (a b : H) → front ≤ n → Uses model (record { old = a; new = b }) (TakesUntil n front result)
+      → Uses model (record { old = a; new = b }) (TakenBy n result)
+  takes_all n front (Ok (took.Bytes bytes)) a b le u =
+      let (count, few, within, least, is) = u.named in
+      record { made = u.made; named = (count, (omega (arith, within), omega (arith, few), least), is); used = u.used }
+  takes_all n front (Ok took.Empty) a b le u = u
+  takes_all n front (Ok took.End) a b le u = u
+  takes_all n front (Err host_err.Fault) a b le u =
+      let (count, some, within, is) = u.named in
+      record { made = u.made; named = (count, record { most = omega (arith, within); least = λ l. some }, is); used = u.used }
+  takes_all n front (Err host_err.NoMemory) a b le u =
+      let (count, some, within, is) = u.named in
+      record { made = u.made; named = (count, omega (arith, within), is); used = u.used }

@@ -4,6 +4,8 @@ use Rattle.std.proofs.Common.{take, drop, refl, ap, sym, ◌∙◌, arith, appen
 use Rattle.std.proofs.Math.Dec.{eqb-suc-zero}
 use Rattle.std.proofs.lemmas.List.{take-append-drop}
 use Rattle.std.specs.FinMap as map
+use Rattle.std.specs.Prelude.{IfOk, OnErr, Result, Ok, Err}
+use Rattle.xc_data.specs.Step.{Step}
 use Rattle.xc_data.specs.declared.entry.KeptItem.{KeptItem}
 use Rattle.xc_data.specs.declared.entry.KeptItem.TheVariants.{Bytes}
 use Rattle.xc_data.specs.declared.object.Num.{Num}
@@ -17,7 +19,10 @@ use Rattle.xc_buffers.proofs.Held.{pipe_front, pipe_put}
 use Rattle.xc_buffers.proofs.Puts.{gives_joined}
 use Rattle.xc_host.specs.Contents.{Contents, with_contents}
 use Rattle.xc_host.specs.Pipes.{has_pipe, pipe_in, taken_from}
-use Rattle.xc_pipe.specs.Reading.{Leads, back}
+use Rattle.xc_host.specs.declared.errors.HostErr.{HostErr}
+use Rattle.xc_host.specs.declared.pipes.Took.{Took}
+use Rattle.xc_host.specs.declared.pipes.Took.TheVariants as took
+use Rattle.xc_pipe.specs.Reading.{Finds, Leads, Sides, back}
 
 -- some bytes are given back as one item
 back_cons : (pipe : Num) (b : ℕ) (bs : List ℕ) → back pipe (b ∷ bs) ≡ Bytes pipe (b ∷ bs) ∷ []
@@ -112,3 +117,31 @@ pub taken_there : (c d : Contents) (pipe : Num) (m : ℕ) → d ≡ taken_from c
 taken_there c d pipe m did =
     let p = pipe_in c pipe in
     ap (λ x. has_pipe x pipe) did ∙ ap is_some (get-insert_same num_total num_exact c.pipes pipe (record p { held = drop m p.held }))
+
+-- ---- kept bytes, and what the host has behind them
+module _ (c d : Contents) (was kept new : List KeptItem) (pipe : Num) (front : List ℕ)
+    (taken : (w : World) → given_back w was ≡ given_back (given_back w kept) (back pipe front)) where
+  abbrev from_kept : Step Sides
+  from_kept = record { old = record { contents = c; items = kept }; new = record { contents = d; items = new } }
+
+  abbrev from_all : Step Sides
+  from_all = record { old = record { contents = c; items = was }; new = record { contents = d; items = new } }
+
+  -- what the takes behind kept bytes lead to is what all lead to
+  pub all_leads : (bytes : List ℕ) → Leads pipe front bytes from_kept → Leads pipe [] bytes from_all
+  all_leads bytes leads w = taken (with_contents w c) ∙ leads w
+
+  finds_all : (n : ℕ) (found : Took) → Finds pipe n front from_kept found → Finds pipe n [] from_all found
+  finds_all n (took.Bytes bytes) (leads, there, drained) = (all_leads bytes leads, there, drained)
+  finds_all n took.Empty (leads, drained, shut) = (all_leads [] leads, drained, shut)
+  finds_all n took.End (leads, drained, shut) = (all_leads [] leads, drained, shut)
+
+  -- so is what they find
+  pub all_found : (n : ℕ) (result : Result Took HostErr) → IfOk result (Finds pipe n front from_kept) → IfOk result (Finds pipe n [] from_all)
+  all_found n (Ok found) finds = finds_all n found finds
+  all_found n (Err e) finds = tt
+
+  -- and what a failed one leaves
+  pub all_failed : (result : Result Took HostErr) → OnErr result (Leads pipe front [] from_kept) → OnErr result (Leads pipe [] [] from_all)
+  all_failed (Ok found) leads = tt
+  all_failed (Err e) leads = all_leads [] leads

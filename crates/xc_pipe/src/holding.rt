@@ -1,5 +1,5 @@
 ghost use Rattle.std.specs.Prelude.{◌≡◌, ◌≤◌, ◌<◌, ◌+◌, ◌++◌, [], length, IfOk, OnOk, OnErr};
-ghost use Rattle.xc_buffers.specs.Items.{kept_bytes};
+ghost use Rattle.xc_buffers.specs.Items.{AreKept, kept_bytes};
 ghost use Rattle.xc_world.specs.Run.{given_back};
 ghost use Rattle.xc_world.specs.World.{World};
 ghost use Rattle.xc_pipe.specs.Reading.{back};
@@ -33,6 +33,7 @@ pub(crate) fn join(
     ensures err { OnErr result ((w : World)
         → given_back w kept.new.items ≡ given_back (given_back w kept.old.items) (back pipe (front ++ more))) }
     ensures spare { kept.old.spare ≤ kept.new.spare + 2 }
+    ensures in_order { AreKept kept.old.items → AreKept kept.new.items }
 {
     if front.is_empty() {
         return Ok(more);
@@ -63,6 +64,7 @@ pub(crate) fn take_kept(
     ensures room { OnOk result (kept.old.spare ≤ kept.new.spare) }
     ensures err { OnErr result ((w : World) → given_back w kept.new.items ≡ given_back w kept.old.items) }
     ensures spare { kept.old.spare ≤ kept.new.spare + 2 }
+    ensures in_order { AreKept kept.old.items → AreKept kept.new.items }
 {
     let mut front = Chunk::new(alloc, &[])?;
     while (front.len() as u32) < n {

@@ -5,6 +5,7 @@ ghost use Rattle.xc_data.specs.declared.entry.KeptItem.{KeptItem};
 ghost use Rattle.xc_buffers.specs.Items.{kept_bytes};
 ghost use Rattle.xc_file.specs.Calls.{IsFileCall, PassedBy, replies_fault};
 ghost use Rattle.xc_host.specs.Fronted.{before, fronted};
+ghost use Rattle.xc_host.specs.Kept.{KeepsData};
 ghost use Rattle.xc_host.specs.Pipes.{has_pipe};
 ghost use Rattle.xc_host.specs.Uses.{Uses};
 ghost use Rattle.xc_world.specs.Act.Names.{next_num};
@@ -28,6 +29,7 @@ fn make_recorded<H: Host>(
       new = record { host = host.new; undo = undo.new };
     }) result }
     ensures uses { Uses H.model (record { old = host.old; new = host.new }) (PassedBy XPipe result) }
+    ensures keeps { IsTrue H.model.tells → KeepsData (H.model.contents host.old) (H.model.contents host.new) }
 {
     undo.push(Undo::NewPipe(num))?;
     let made = host.new_pipe(num);
@@ -60,6 +62,7 @@ fn make_at<H: Host>(
     ensures me { IfOk result (λ reply. me.new ≡ with_made me.old h (next_num me.old tx) reply) }
     ensures err { OnErr result (me.new ≡ me.old) }
     ensures uses { Uses H.model (record { old = host.old; new = host.new }) (PassedBy XPipe result) }
+    ensures keeps { IsTrue H.model.tells → KeepsData (H.model.contents host.old) (H.model.contents host.new) }
 {
     let num = Num { tx, k: me.made };
     let reply = make_recorded(host, undo, num, h)?;
@@ -80,12 +83,14 @@ pub fn x_pipe<H: Host>(
 ) -> Result<Reply, NoMemory>
     requires new { IsTrue H.model.tells → has_pipe (H.model.contents host.old) (next_num me.old tx) ≡ false }
     requires none { undo.old.ended ≡ [] }
-    ensures call { (items : List KeptItem) → kept_bytes (next_num me.old tx) items ≡ [] → IsFileCall (fronted H.model) XPipe
+    ensures call { (items : List KeptItem) → (IsTrue H.model.tells → kept_bytes (next_num me.old tx) items ≡ [])
+        → IsFileCall (fronted H.model) XPipe
         (record { host = before host.old items; number = tx; me = me.old; undo = undo.old })
         (record { host = before host.new items; number = tx; me = me.new; undo = undo.new }) result }
     ensures stored { me.new.stored ≡ me.old.stored }
     ensures made { me.old.made ≤ 16 → me.new.made ≤ 16 }
     ensures now { IfOk result (λ reply. is_late reply ≡ false) }
+    ensures keeps { IsTrue H.model.tells → KeepsData (H.model.contents host.old) (H.model.contents host.new) }
 {
     if me.made >= MOST_MADE {
         return Ok(Reply::TooMuch);

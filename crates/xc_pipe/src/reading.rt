@@ -10,9 +10,10 @@ ghost use Rattle.xc_file.specs.Calls.{IsFileCall, replies_fault};
 ghost use Rattle.xc_file.specs.Passing.{Passes};
 ghost use Rattle.xc_host.specs.Cause.{is_fault};
 ghost use Rattle.xc_host.specs.Fronted.{before, fronted};
+ghost use Rattle.xc_host.specs.Kept.{KeepsData, with_kept};
 ghost use Rattle.xc_host.specs.Pipes.{IsSomeOf, has_pipe};
 ghost use Rattle.xc_host.specs.Uses.{Uses};
-ghost use Rattle.xc_buffers.specs.Items.{kept_bytes};
+ghost use Rattle.xc_buffers.specs.Items.{AreKept, kept_bytes};
 ghost use Rattle.xc_world.specs.Act.Step.{storing_reply};
 ghost use Rattle.xc_world.specs.After.{bytes_in};
 ghost use Rattle.xc_pipe.specs.Checks.{refusal_at};
@@ -63,6 +64,8 @@ fn take_rest<H: Host>(
     ensures kept { OnOk result (kept.new ≡ kept.old) }
     ensures spare { kept.old.spare ≤ kept.new.spare + 2 }
     ensures uses { Uses H.model (record { old = host.old; new = host.new }) (TakesUntil n (length kept_front) result) }
+    ensures keeps { IsTrue H.model.tells → KeepsData (H.model.contents host.old) (H.model.contents host.new) }
+    ensures in_order { AreKept kept.old.items → AreKept kept.new.items }
     ensures cause { CountsFault (is_fault result) (H.model.fault_count host.old) (H.model.fault_count host.new) }
 {
     let mut front = kept_front;
@@ -106,6 +109,8 @@ fn take_all<H: Host>(
     ensures room { OnOk result (kept.old.spare ≤ kept.new.spare) }
     ensures spare { kept.old.spare ≤ kept.new.spare + 2 }
     ensures uses { Uses H.model (record { old = host.old; new = host.new }) (TakenBy n result) }
+    ensures keeps { IsTrue H.model.tells → KeepsData (H.model.contents host.old) (H.model.contents host.new) }
+    ensures in_order { AreKept kept.old.items → AreKept kept.new.items }
     ensures cause { CountsFault (is_fault result) (H.model.fault_count host.old) (H.model.fault_count host.new) }
 {
     let front = match take_kept(alloc, kept, pipe, n) {
@@ -140,6 +145,8 @@ fn read_next<H: Host>(
     ensures room { IfOk result (λ reply. is_fault_reply reply ≡ false → kept.old.spare ≤ kept.new.spare) }
     ensures spare { kept.old.spare ≤ kept.new.spare + 2 }
     ensures uses { Uses H.model (record { old = host.old; new = host.new }) (ReadsBy n result) }
+    ensures keeps { IsTrue H.model.tells → KeepsData (H.model.contents host.old) (H.model.contents host.new) }
+    ensures in_order { AreKept kept.old.items → AreKept kept.new.items }
     ensures cause { CountsFault (replies_fault result) (H.model.fault_count host.old) (H.model.fault_count host.new) }
 {
     taken.reserve()?;
@@ -203,6 +210,8 @@ fn read_open<H: Host>(
     ensures stored { me.new.stored ≤ 16384 }
     ensures made { me.new.made ≡ me.old.made }
     ensures now { IfOk result (λ reply. is_late reply ≡ false) }
+    ensures keeps { IsTrue H.model.tells → KeepsData (H.model.contents host.old) (H.model.contents host.new) }
+    ensures in_order { AreKept kept.old.items → AreKept kept.new.items }
 {
     if n == 0 {
         return Ok(Reply::Got(Chunk::new(alloc, &[])?));
@@ -225,16 +234,20 @@ pub fn x_read_pipe<H: Host>(
 ) -> Result<Reply, NoMemory>
     requires stored { me.old.stored ≤ 16384 }
     requires room { 2 ≤ kept.old.spare }
-    requires there { IsTrue H.model.tells → IsPipeIn (H.model.contents host.old) (place_of me.old.places h) }
+    requires there { IsTrue H.model.tells → refusal_at me.old h n ≡ None → IsPipeIn (H.model.contents host.old) (place_of me.old.places h) }
     ensures call { (number : ℕ) (undo : Records) → IsFileCall (fronted H.model) (XReadPipe h n)
         (record { host = before host.old kept.old.items; number = number; me = me.old; undo = undo })
         (record { host = before host.new kept.new.items; number = number; me = me.new; undo = undo }) result }
+    ensures err { IsTrue H.model.tells → OnErr result
+        (with_kept (H.model.contents host.new) kept.new.items ≡ with_kept (H.model.contents host.old) kept.old.items) }
     ensures notes { Notes (XReadPipe h n) me.old (record { old = taken.old.items; new = taken.new.items }) result }
     ensures room { IfOk result (λ reply. is_fault_reply reply ≡ false → kept.old.spare ≤ kept.new.spare) }
     ensures spare { kept.old.spare ≤ kept.new.spare + 2 }
     ensures stored { me.new.stored ≤ 16384 }
     ensures made { me.new.made ≡ me.old.made }
     ensures now { IfOk result (λ reply. is_late reply ≡ false) }
+    ensures keeps { IsTrue H.model.tells → KeepsData (H.model.contents host.old) (H.model.contents host.new) }
+    ensures in_order { AreKept kept.old.items → AreKept kept.new.items }
 {
     match open_pipe(me, h, n) {
         Ok(pipe) => read_open(alloc, host, kept, taken, me, pipe, n as u32),

@@ -299,20 +299,31 @@ receive_back w me h place.Vacant is known = takes_nothing w me (call.XRecvmsg h)
 receive_back w me h (place.File num at) is known = takes_nothing w me (call.XRecvmsg h) reply.BadHandle me refl
 receive_back w me h (place.Pipe num) is known = takes_nothing w me (call.XRecvmsg h) reply.BadHandle me refl
 
--- a call that takes, with any answer
-pipe_answered : (w : World) (me : Private) (tx h n : ℕ) (a : Answer) → IsSound w me tx
+-- a call that takes, with any answer, where the object of its handle is there
+abbrev pub KnowsHandle : World → Private → Call → Type 0
+KnowsHandle w me (call.XReadPipe h n) = IsKnown w (place_of me.places h)
+KnowsHandle w me (call.XRecvmsg h) = IsKnown w (place_of me.places h)
+KnowsHandle w me c = Unit {0}
+
+sound_knows : (w : World) (me : Private) (tx : ℕ) (c : Call) → IsSound w me tx → KnowsHandle w me c
+sound_knows w me tx (call.XReadPipe h n) sound = sound.handles h
+sound_knows w me tx (call.XRecvmsg h) sound = sound.handles h
+sound_knows w me tx _ sound = tt
+
+pipe_answered : (w : World) (me : Private) (tx h n : ℕ) (a : Answer) → IsKnown w (place_of me.places h)
     → TakesBack w me (call.XReadPipe h n) (done w me tx (call.XReadPipe h n) a)
-pipe_answered w me tx h n answer.Fine sound = read_pipe_back w me h n (place_of me.places h) refl (sound.handles h)
-pipe_answered w me tx h n (answer.Fault k) sound = takes_nothing w me (call.XReadPipe h n) (reply.Fault k) me refl
+pipe_answered w me tx h n answer.Fine known = read_pipe_back w me h n (place_of me.places h) refl known
+pipe_answered w me tx h n (answer.Fault k) known = takes_nothing w me (call.XReadPipe h n) (reply.Fault k) me refl
 
-pair_answered : (w : World) (me : Private) (tx h : ℕ) (a : Answer) → IsSound w me tx → TakesBack w me (call.XRecvmsg h) (done w me tx (call.XRecvmsg h) a)
-pair_answered w me tx h answer.Fine sound = receive_back w me h (place_of me.places h) refl (sound.handles h)
-pair_answered w me tx h (answer.Fault k) sound = takes_nothing w me (call.XRecvmsg h) (reply.Fault k) me refl
+pair_answered : (w : World) (me : Private) (tx h : ℕ) (a : Answer) → IsKnown w (place_of me.places h)
+    → TakesBack w me (call.XRecvmsg h) (done w me tx (call.XRecvmsg h) a)
+pair_answered w me tx h answer.Fine known = receive_back w me h (place_of me.places h) refl known
+pair_answered w me tx h (answer.Fault k) known = takes_nothing w me (call.XRecvmsg h) (reply.Fault k) me refl
 
-answered : (w : World) (me : Private) (tx : ℕ) (c : Call) (a : Answer) → takes_data c ≡ true → IsSound w me tx → TakesBack w me c (done w me tx c a)
-answered w me tx (call.XReadPipe h n) a takes sound = pipe_answered w me tx h n a sound
-answered w me tx (call.XRecvmsg h) a takes sound = pair_answered w me tx h a sound
-answered w me tx c a takes sound = cc
+answered : (w : World) (me : Private) (tx : ℕ) (c : Call) (a : Answer) → takes_data c ≡ true → KnowsHandle w me c → TakesBack w me c (done w me tx c a)
+answered w me tx (call.XReadPipe h n) a takes known = pipe_answered w me tx h n a known
+answered w me tx (call.XRecvmsg h) a takes known = pair_answered w me tx h a known
+answered w me tx c a takes known = cc
 
 no_data : (c : Call) (me : Private) (r : Reply) → takes_data c ≡ false → taken_by c me r ≡ []
 no_data (call.XReadPipe h n) me r quiet = cc
@@ -334,12 +345,13 @@ brings_none (call.XReadPipe h n) me = (refl, refl, refl, refl)
 brings_none (call.XRecvmsg h) me = (refl, refl, refl, refl)
 brings_none c me = (refl, refl, refl, refl)
 
-act_takes : (w : World) (me : Private) (tx : ℕ) (c : Call) (a : Answer) → takes_data c ≡ true → IsSound w me tx → TakesBack w me c (act w me tx c a)
-act_takes w me tx c a takes sound =
+-- so what it took, given back, leads to the world before it
+pub act_takes : (w : World) (me : Private) (tx : ℕ) (c : Call) (a : Answer) → takes_data c ≡ true → KnowsHandle w me c → TakesBack w me c (act w me tx c a)
+act_takes w me tx c a takes known =
     let none = brings_none c me in
     act-cases w me tx c a (TakesBack w me c) (takes_nothing w me c reply.BadHandle me none.0) (takes_nothing w me c reply.TooBig me none.1)
     (takes_nothing w me c reply.TooMuch me none.2) (takes_nothing w me c reply.BadWord me none.3)
-    (let d = answered w me tx c a takes sound in record { back = d.back; there = d.there; words = d.words })
+    (let d = answered w me tx c a takes known in record { back = d.back; there = d.there; words = d.words })
 
 -- ---- a body
 pub record Returns (w : World) (tx : ℕ) (r : Ran) : Type 0 where
@@ -358,7 +370,7 @@ taking_returns : (w : World) (tx : ℕ) (r : Ran) (c : Asked) → takes_data c.c
     → Returns w tx (step tx r c)
 taking_returns w tx r c takes fit so =
     let s = act r.world r.me tx c.call c.answer in
-    let took = act_takes r.world r.me tx c.call c.answer takes so.sound in
+    let took = act_takes r.world r.me tx c.call c.answer takes (sound_knows r.world r.me tx c.call so.sound) in
     let new = taken_by c.call r.me s.reply in
     let same_trail : r.trail ≡ r.trail ++ recorded r.world r.me tx c.call s.reply =
     sym (ap (λ us. r.trail ++ us) (no_record r.world r.me tx c.call s.reply takes) ∙ append-nil r.trail) in

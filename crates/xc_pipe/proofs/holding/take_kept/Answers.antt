@@ -35,5 +35,6 @@ loop-alloc-preserved c =
           taken_joined c.args.kept.now.items c.loop-alloc.kept.items c.take_front.new.self.items c.args.pipe front more finds.0 was.taken finds.2.back w
           ∙ ap (λ (k : KeptView). given_back (given_back w k.items) (back c.args.pipe (front ++ more))) (sym next.ensures.kept)
           ∙ ap (λ (bytes : List ℕ). given_back (given_back w c.join.new.kept.items) (back c.args.pipe bytes)) (sym next.ensures.all);
+      in_order = λ kept. c.join.ensures.in_order (c.take_front.ensures.in_order (was.in_order kept));
       room = omega (arith, was.room, c.take_front.ensures.spare, ap (λ (k : KeptView). k.spare) next.ensures.kept);
     }

@@ -47,7 +47,7 @@ returns-clause-call g c =
       uses = uses_fronted model items c.args.host.now c.make_at.new.host next.uses;
       after = made_me c.args.tx me c.make_at.new.me c.in-Some.h result vacant making.made next.me;
       acts = λ t. made_acts (model.contents c.args.host.now) (model.contents c.make_at.new.host) items c.args.tx me c.make_at.new.me c.in-Some.h result few
-          vacant none next.me (making.told t);
+          vacant (none t) next.me (making.told t);
       err = next.err;
       cause = making.cause;
     })

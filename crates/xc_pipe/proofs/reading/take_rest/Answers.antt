@@ -9,6 +9,8 @@ use Rattle.xc_host.specs.declared.pipes.Took.TheVariants.{Empty, End}
 use Rattle.xc_host.specs.declared.pipes.Took.TheVariants as took
 use Rattle.xc_world.specs.Run.{given_back}
 use Rattle.xc_pipe.specs.Reading.{Leads, TakesUntil, back}
+use Rattle.xc_host.proofs.DataKept.{keeps_itself, keeps_then}
+use Rattle.xc_pipe.proofs.KeptData.{keeps_same, keeps_take}
 use Rattle.xc_pipe.proofs.Takings.{fails_back, rest_joined, taken_there}
 use Rattle.xc_pipe.proofs.TakeRuns.{takes_end, takes_fail, takes_more}
 use Rattle.xc_pipe.proofs.reading.take_rest.Goals as goal
@@ -68,6 +70,7 @@ loop-alloc-preserved g c =
           }))
           (sym c.in-Ok.ensures.all)
           (rest_joined pipe c.args.kept_front front more old here next items items (was.leads t) (was.there t) none some.0 is (did t));
+      keeps = λ t. keeps_then old here next (was.keeps t) (keeps_take pipe (took.Bytes more) here next (did t));
       uses = takes_more model (length c.args.kept_front) (length front) (length c.in-Ok.all) c.args.host.now c.loop-alloc.host c.take.new.self
           (omega (arith, size, some.0)) was.uses c.in-Ok-Bytes.ensures.answered.used;
       faults = c.in-Ok-Bytes.ensures.answered.cause ∙ was.faults;
@@ -91,3 +94,35 @@ pub returns-in-Err-clause-uses : goal.returns-in-Err-clause-uses
 returns-in-Err-clause-uses g c =
     takes_fail g.H.Host.model c.args.n (length c.args.kept_front) (length c.loop-alloc.front) c.in-Err.error c.args.host.now c.loop-alloc.host c.take.new.self
     (omega (arith, c.loop-alloc-test.true, c.len.ensures.value)) c.loop-alloc.invariant.uses c.in-Err.ensures.answered.used
+
+pub returns-in-Err-join-clause-keeps : goal.returns-in-Err-join-clause-keeps
+returns-in-Err-join-clause-keeps g c =
+    let model = g.H.Host.model in
+    let here = model.contents c.loop-alloc.host in
+    let next = model.contents c.take.new.self in
+    λ t. keeps_then (model.contents c.args.host.now) here next (c.loop-alloc.invariant.keeps t)
+    (keeps_take c.args.pipe _ here next (c.in-Ok-Bytes.ensures.answered.done t))
+
+pub returns-in-Ok-Empty-clause-keeps : goal.returns-in-Ok-Empty-clause-keeps
+returns-in-Ok-Empty-clause-keeps g c =
+    let model = g.H.Host.model in
+    let here = model.contents c.loop-alloc.host in
+    let next = model.contents c.take.new.self in
+    λ t. keeps_then (model.contents c.args.host.now) here next (c.loop-alloc.invariant.keeps t)
+    (keeps_take c.args.pipe _ here next (c.in-Ok-Empty.ensures.answered.done t))
+
+pub returns-in-Ok-End-clause-keeps : goal.returns-in-Ok-End-clause-keeps
+returns-in-Ok-End-clause-keeps g c =
+    let model = g.H.Host.model in
+    let here = model.contents c.loop-alloc.host in
+    let next = model.contents c.take.new.self in
+    λ t. keeps_then (model.contents c.args.host.now) here next (c.loop-alloc.invariant.keeps t)
+    (keeps_take c.args.pipe _ here next (c.in-Ok-End.ensures.answered.done t))
+
+pub returns-in-Err-clause-keeps : goal.returns-in-Err-clause-keeps
+returns-in-Err-clause-keeps g c =
+    let model = g.H.Host.model in
+    let here = model.contents c.loop-alloc.host in
+    let next = model.contents c.take.new.self in
+    λ t. keeps_then (model.contents c.args.host.now) here next (c.loop-alloc.invariant.keeps t)
+    (keeps_same here next (c.in-Err.ensures.answered.refused t))

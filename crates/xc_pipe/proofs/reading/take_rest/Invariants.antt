@@ -1,5 +1,6 @@
 use Rattle.std.proofs.Common.{◌≡◌, ℕ, ◌+◌, ◌-◌, ◌≤◌, true, length, replicate, IsTrue}
 use Rattle.xc_data.specs.declared.script.Kind.TheVariants.{Take}
+use Rattle.xc_host.specs.Kept.{KeepsData}
 use Rattle.xc_host.specs.Pipes.{has_pipe}
 use Rattle.xc_host.specs.Uses.{Uses}
 use Rattle.xc_pipe.specs.Reading.{Leads}
@@ -18,6 +19,7 @@ invariant-loop-alloc g l =
         old = record { contents = model.contents l.fn.host; items = l.fn.kept.items };
         new = record { contents = model.contents l.host; items = l.fn.kept.items };
       });
+      keeps : IsTrue model.tells → KeepsData (model.contents l.fn.host) (model.contents l.host);
       uses : Uses model (record { old = l.fn.host; new = l.host }) (λ made. (count : ℕ) × (count + length l.fn.kept_front ≤ length l.front)
           × (made ≡ replicate count Take));
       faults : model.fault_count l.host ≡ model.fault_count l.fn.host;

@@ -20,6 +20,7 @@ loop-item-preserved c =
           (subst (λ (items : List KeptItem). Pending c.args.self.now.items c.args.kept.now.items items c.loop-item.kept.items) popped was.pending)
           c.give.ensures.given;
       fit = All-first P left (c.in-Some.item ∷ []) (subst (λ (items : List KeptItem). All P items) popped was.fit);
+      in_order = λ kept. c.give.ensures.in_order (was.in_order kept);
       room = omega (arith, size, was.room, c.give.ensures.spare);
       spare = omega (arith, size, was.spare, c.give.ensures.spare);
     }
