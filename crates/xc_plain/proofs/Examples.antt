@@ -49,6 +49,7 @@ two_jobs =
           ∷ [];
       variables = [];
       slots = [];
+      handles = [];
     }
 
 -- its text is the reference's
@@ -85,6 +86,7 @@ unlinks =
       blocks = record { name = codes "main"; transactions = (statement.Call (form.Unlink (codes "a") None) ∷ []) ∷ [] } ∷ [];
       variables = [];
       slots = [];
+      handles = [];
     }
 
 no_name : map.get (opening unlinks.outline).names (codes "a") ≡ None

@@ -1,3 +1,4 @@
 mod Digits
 pub mod Blocks
+pub mod Handles
 pub mod Settling

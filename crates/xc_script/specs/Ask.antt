@@ -55,7 +55,7 @@ abbrev pub held_bytes : Option Value → List ℕ
 held_bytes (Some (value.Bytes bytes)) = bytes
 held_bytes _ = []
 
--- as a handle: 65,535, which no open file has
+-- as a handle: 65,535, at which nothing is ever open
 abbrev pub held_handle : Option Value → ℕ
 held_handle (Some (value.Handle h)) = h
 held_handle _ = 65535
@@ -222,6 +222,11 @@ form_ask variables stored (form.Length h into) = ask.Call (call.XLen (handle_val
 form_ask variables stored (form.Close h) = ask.Call (call.XClose (handle_value variables h))
 form_ask variables stored (form.Unlink name slot) = ask.Call (call.XUnlink name (name_of_slot variables slot))
 form_ask variables stored (form.Sync h slot) = ask.Call (call.XSync (handle_value variables h) (name_of_slot variables slot))
+form_ask variables stored (form.Pipe into) = ask.Call call.XPipe
+form_ask variables stored (form.ReadPipe h n into) = ask.Call (call.XReadPipe (handle_value variables h) (term_value variables n))
+form_ask variables stored (form.WritePipe h items slot) =
+    unless_over stored (call.XWritePipe (handle_value variables h) (data_of variables items) (name_of_slot variables slot))
+form_ask variables stored (form.Shutdown h slot) = ask.Call (call.XShutdown (handle_value variables h) (name_of_slot variables slot))
 
 -- what a statement asks that isn't silent: a call, or the transaction's own abort. A `let` is always silent.
 abbrev pub ask_of : Variables → ℕ → Statement → Ask
@@ -283,6 +288,10 @@ form_target (form.Length h into) = into
 form_target (form.Close h) = None
 form_target (form.Unlink name slot) = None
 form_target (form.Sync h slot) = None
+form_target (form.Pipe into) = into
+form_target (form.ReadPipe h n into) = into
+form_target (form.WritePipe h items slot) = None
+form_target (form.Shutdown h slot) = None
 
 -- the variable that takes a statement's reply, where it names one
 abbrev pub target_of : Statement → Option ℕ
@@ -368,9 +377,18 @@ passed script job replies =
 abbrev pub no_variables : Script → Variables
 no_variables script = record { values = replicate (length script.variables) None; slots = unset script.slots }
 
--- a job that begins its block, with nothing set
+-- the values where these variables hold handles, from h on: of several in one variable the last one stays
+abbrev pub with_handles : List ℕ → ℕ → Values → Values
+with_handles [] h values = values
+with_handles (v ∷ vs) h values = with_handles vs (h + 1) (slice_set values v (Some (value.Handle h)))
+
+-- what a job knows at the opening: its variables hold the handles of the prologue, and nothing else is set
+abbrev pub opening_variables : Script → Variables
+opening_variables script = let none = no_variables script in record none { values = with_handles script.handles 0 none.values }
+
+-- a job that begins its block at the opening
 abbrev pub fresh_job : Script → ℕ → Job
-fresh_job script block = record { block = block; next = 0; variables = no_variables script }
+fresh_job script block = record { block = block; next = 0; variables = opening_variables script }
 
 -- the place of the block of this name in the script
 abbrev pub block_place : Script → List ℕ → ℕ

@@ -1,3 +1,4 @@
 pub mod Ask
+pub mod Handles
 pub mod Position
 pub mod Slots

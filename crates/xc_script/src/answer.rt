@@ -28,10 +28,12 @@ fn form_target(form: &CallForm<Place>) -> Option<Place>
         CallForm::Load { into, .. } | CallForm::Read { into, .. } => *into,
         CallForm::Open { into, .. } | CallForm::Create { into, .. } => *into,
         CallForm::Length { into, .. } => *into,
+        CallForm::Pipe { into } | CallForm::ReadPipe { into, .. } => *into,
         CallForm::Store { .. } | CallForm::Rename { .. } => None,
         CallForm::Overwrite { .. } | CallForm::Append { .. } => None,
         CallForm::Seek { .. } | CallForm::Close { .. } => None,
         CallForm::Unlink { .. } | CallForm::Sync { .. } => None,
+        CallForm::WritePipe { .. } | CallForm::Shutdown { .. } => None,
     }
 }
 

@@ -1,7 +1,8 @@
 ghost use Rattle.std.specs.Prelude.{◌≡◌, ◌≤◌, length, IfOk, Some, None, if◌then◌else◌};
 ghost use Rattle.xc_data.specs.declared.call.Call.TheVariants.{Store, XClose, XRead, XSeek, XSync, XUnlink, XWriteOvr, XWriteSeq};
+ghost use Rattle.xc_data.specs.declared.call.Call.TheVariants.{XReadPipe, XShutdown, XWritePipe};
 ghost use Rattle.xc_script.specs.Ask.{is_over, unless_over, data_of, handle_value, term_value, expression_value};
-ghost use Rattle.xc_script.specs.Ask.{form_ask, ask_of, carried_by};
+ghost use Rattle.xc_script.specs.Ask.{name_of_slot, form_ask, ask_of, carried_by};
 
 use crate::data::{data_in, data_len};
 use crate::terms::{expression_of, handle_in, value_of};
@@ -86,6 +87,28 @@ fn append(
     }
 }
 
+// Bytes for a pipe through a handle, or the transaction's own abort.
+fn write_pipe(
+    alloc: Global,
+    variables: &Variables,
+    stored: u128,
+    handle: Place,
+    items: &Data<Place>,
+    slot: Option<Ident>,
+) -> Result<Ask, NoMemory>
+    ensures { IfOk result (λ ask. ask
+        ≡ unless_over stored (XWritePipe (handle_value variables.now handle) (data_of variables.now items.now) slot)) }
+{
+    let h = handle_in(variables, handle);
+    match data_within(alloc, variables, stored, items)? {
+        Some(bytes) => {
+            let slot = Boxed::new_optional(alloc, slot)?;
+            Ok(Ask::Call(Call::XWritePipe { h, bytes, slot }))
+        }
+        None => Ok(Ask::Abort),
+    }
+}
+
 fn store(variables: &Variables, at: Term<Place>, value: Expression<Place>) -> Call
     ensures { result ≡ Store (term_value variables.now at) (expression_value variables.now value) }
 {
@@ -99,6 +122,15 @@ fn read(variables: &Variables, handle: Place, n: Term<Place>) -> Call
     ensures { result ≡ XRead (handle_value variables.now handle) (term_value variables.now n) }
 {
     Call::XRead {
+        h: handle_in(variables, handle),
+        n: value_of(variables, n),
+    }
+}
+
+fn read_pipe(variables: &Variables, handle: Place, n: Term<Place>) -> Call
+    ensures { result ≡ XReadPipe (handle_value variables.now handle) (term_value variables.now n) }
+{
+    Call::XReadPipe {
         h: handle_in(variables, handle),
         n: value_of(variables, n),
     }
@@ -120,21 +152,45 @@ fn close(variables: &Variables, handle: Place) -> Call
     Call::XClose { h }
 }
 
-fn unlink(alloc: Global, name: &Boxed<Name>, slot: Option<Ident>) -> Result<Call, NoMemory>
-    ensures { IfOk result (λ call. call ≡ XUnlink name.now slot) }
+fn unlink(
+    alloc: Global,
+    variables: &Variables,
+    name: &Boxed<Name>,
+    slot: Option<Place>,
+) -> Result<Call, NoMemory>
+    ensures { IfOk result (λ call. call ≡ XUnlink name.now (name_of_slot variables.now slot)) }
 {
     Ok(Call::XUnlink {
         name: name.copied(alloc)?,
-        slot: Boxed::new_optional(alloc, slot)?,
+        slot: Boxed::new_optional(alloc, variables.slot_name(slot))?,
     })
 }
 
-fn sync(alloc: Global, h: u16, slot: Option<Ident>) -> Result<Call, NoMemory>
-    ensures { IfOk result (λ call. call ≡ XSync h slot) }
+fn sync(
+    alloc: Global,
+    variables: &Variables,
+    handle: Place,
+    slot: Option<Place>,
+) -> Result<Call, NoMemory>
+    ensures { IfOk result (λ call. call ≡ XSync (handle_value variables.now handle) (name_of_slot variables.now slot)) }
 {
     Ok(Call::XSync {
-        h,
-        slot: Boxed::new_optional(alloc, slot)?,
+        h: handle_in(variables, handle),
+        slot: Boxed::new_optional(alloc, variables.slot_name(slot))?,
+    })
+}
+
+fn shutdown(
+    alloc: Global,
+    variables: &Variables,
+    handle: Place,
+    slot: Option<Place>,
+) -> Result<Call, NoMemory>
+    ensures { IfOk result (λ call. call ≡ XShutdown (handle_value variables.now handle) (name_of_slot variables.now slot)) }
+{
+    Ok(Call::XShutdown {
+        h: handle_in(variables, handle),
+        slot: Boxed::new_optional(alloc, variables.slot_name(slot))?,
     })
 }
 
@@ -170,14 +226,16 @@ fn form_ask(
             h: handle_in(variables, *handle),
         })),
         CallForm::Close { handle } => Ok(Ask::Call(close(variables, *handle))),
-        CallForm::Unlink { name, slot } => {
+        CallForm::Unlink { name, slot } => Ok(Ask::Call(unlink(alloc, variables, name, *slot)?)),
+        CallForm::Sync { handle, slot } => Ok(Ask::Call(sync(alloc, variables, *handle, *slot)?)),
+        CallForm::Pipe { .. } => Ok(Ask::Call(Call::XPipe)),
+        CallForm::ReadPipe { handle, n, .. } => Ok(Ask::Call(read_pipe(variables, *handle, *n))),
+        CallForm::WritePipe { handle, data, slot } => {
             let slot = variables.slot_name(*slot);
-            Ok(Ask::Call(unlink(alloc, name, slot)?))
+            write_pipe(alloc, variables, stored, *handle, data, slot)
         }
-        CallForm::Sync { handle, slot } => {
-            let h = handle_in(variables, *handle);
-            let slot = variables.slot_name(*slot);
-            Ok(Ask::Call(sync(alloc, h, slot)?))
+        CallForm::Shutdown { handle, slot } => {
+            Ok(Ask::Call(shutdown(alloc, variables, *handle, *slot)?))
         }
     }
 }
@@ -199,11 +257,11 @@ pub fn ask_of(
 }
 
 // How many bytes the data of a write has, where the transaction may store so many more.
-fn data_carried(variables: &Variables, stored: u128, data: &Data<Place>) -> usize
-    ensures value { let n = length (data_of variables.now data.now) in result ≡ (if is_over stored n then 0 else n) }
+fn data_carried(variables: &Variables, stored: u128, items: &Data<Place>) -> usize
+    ensures value { let n = length (data_of variables.now items.now) in result ≡ (if is_over stored n then 0 else n) }
     ensures bound { result ≤ 1024 }
 {
-    match room_for(variables, stored, data) {
+    match room_for(variables, stored, items) {
         Some(len) => len,
         None => 0,
     }
@@ -216,10 +274,12 @@ fn form_carried(variables: &Variables, stored: u128, form: &CallForm<Place>) -> 
     match form {
         CallForm::Overwrite { data, .. } => data_carried(variables, stored, data),
         CallForm::Append { data, .. } => data_carried(variables, stored, data),
+        CallForm::WritePipe { data, .. } => data_carried(variables, stored, data),
         CallForm::Load { .. } | CallForm::Store { .. } | CallForm::Open { .. } => 0,
         CallForm::Create { .. } | CallForm::Rename { .. } | CallForm::Read { .. } => 0,
         CallForm::Seek { .. } | CallForm::Length { .. } | CallForm::Close { .. } => 0,
         CallForm::Unlink { .. } | CallForm::Sync { .. } => 0,
+        CallForm::Pipe { .. } | CallForm::ReadPipe { .. } | CallForm::Shutdown { .. } => 0,
     }
 }
 

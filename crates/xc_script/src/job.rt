@@ -1,6 +1,7 @@
 ghost use Rattle.std.specs.Prelude.{◌≡◌, ◌≤◌, ◌<◌, is_some, ◌+◌, ◌^◌, nat_eq, position, slice_get, None, IfOk, IsOk, OnOk, OnErr};
 ghost use Rattle.std.specs.Option.{option_copied};
 ghost use Rattle.std.specs.Cmp.Lexicographic.{pointwise};
+ghost use Rattle.xc_text.specs.Scripts.{IsScript};
 ghost use Rattle.xc_script.specs.Ask.{asks_from, answered, next_body, transactions_at, fresh_job, value_in};
 ghost use Rattle.xc_script.specs.Slots.{kept_of, with_ends};
 ghost use Rattle.xc_script.specs.Position.{Position, job_of, walk_of, at_begin, nothing_kept, IsSettled, IsAskedCall, target_at};
@@ -68,11 +69,15 @@ fn body_at(script: &Script, block: usize, next: usize) -> Option<&[Statement<Pla
 }
 
 impl JobState {
-    /// A job at the begin of the block at this place in the script, with no variable and no slot set. Room for the ends of
-    /// late calls is made here, for all of the script's slots.
+    /// A job at the begin of the block at this place in the script. Its variables hold the handles of the prologue, and nothing
+    /// else is set. Room for the ends of late calls is made here, for all of the script's slots.
     pub fn new(alloc: Global, script: &Script, block: usize) -> Result<JobState, NoMemory>
+        requires { IsScript script.now }
         ensures { IfOk result (λ job. job ≡ at_begin (fresh_job script.now block)) }
     {
+        let slots = script.slots.as_slice();
+        let mut variables = Variables::unset(alloc, script.variables.len(), slots)?;
+        variables.hold(script.handles.as_slice());
         Ok(JobState {
             alloc,
             block,
@@ -80,7 +85,7 @@ impl JobState {
             at: 0,
             stored: 0,
             refused: false,
-            variables: Variables::unset(alloc, script.variables.len(), script.slots.as_slice())?,
+            variables,
             begun: None,
         })
     }

@@ -6,6 +6,7 @@ mod ask;
 mod data;
 mod ends;
 mod job;
+mod laws;
 mod silent;
 mod terms;
 mod value;
@@ -13,3 +14,6 @@ mod values;
 
 pub use ask::Ask;
 pub use job::JobState;
+pub use laws::{
+    a_variable_holds_its_last_handle, each_handle_is_in_a_variable, other_variables_hold_nothing,
+};

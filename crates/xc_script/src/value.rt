@@ -1,7 +1,7 @@
-ghost use Rattle.std.specs.Prelude.{◌≡◌, IfOk, None, replicate};
+ghost use Rattle.std.specs.Prelude.{◌≡◌, ◌≤◌, ◌^◌, IfOk, None, length, replicate};
 ghost use Rattle.std.specs.Option.{option_copied};
 ghost use Rattle.xc_failure.specs.Slots.{slot_number, unset};
-ghost use Rattle.xc_script.specs.Ask.{name_of_slot, set_to, value_at};
+ghost use Rattle.xc_script.specs.Ask.{name_of_slot, set_to, value_at, with_handles};
 ghost use Rattle.xc_script.specs.Position.{nothing_kept};
 ghost use Rattle.xc_script.specs.Slots.{with_end};
 
@@ -88,6 +88,14 @@ impl Variables {
         ensures { self.new ≡ set_to self.old at value }
     {
         self.values.set(at, value);
+    }
+
+    /// These variables hold the handles from 0 on. It takes no memory.
+    pub fn hold(&mut self, places: &[Place])
+        requires { length places.now ≤ 2 ^ 16 }
+        ensures { self.new ≡ record self.old { values = with_handles places.now 0 self.old.values } }
+    {
+        self.values.hold(places);
     }
 
     /// A slot takes an end, where one is named. It takes no memory.

@@ -1,6 +1,6 @@
-ghost use Rattle.std.specs.Prelude.{◌≡◌, IfOk, [], None, replicate, slice_set};
+ghost use Rattle.std.specs.Prelude.{◌≡◌, ◌≤◌, ◌^◌, IfOk, [], None, length, replicate, slice_set};
 ghost use Rattle.std.specs.Option.{option_copied};
-ghost use Rattle.xc_script.specs.Ask.{value_at};
+ghost use Rattle.xc_script.specs.Ask.{value_at, with_handles};
 
 use crate::value::Value;
 use std::alloc::Global;
@@ -61,6 +61,16 @@ impl Values {
         let at = at as usize;
         if at < self.held.len() {
             self.held[at] = value;
+        }
+    }
+
+    /// These variables hold the handles from 0 on. It takes no memory.
+    pub fn hold(&mut self, places: &[Place])
+        requires { length places.now ≤ 2 ^ 16 }
+        ensures { self.new ≡ with_handles places.now 0 self.old }
+    {
+        for (h, at) in places.iter().enumerate() {
+            self.set(*at, Some(Value::Handle(h as u16)));
         }
     }
 

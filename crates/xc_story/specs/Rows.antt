@@ -259,6 +259,10 @@ is_built (call.XCreate name) = true
 is_built (call.XRename from to) = true
 is_built (call.XUnlink name slot) = true
 is_built (call.XSync h slot) = true
+is_built call.XPipe = true
+is_built (call.XReadPipe h n) = true
+is_built (call.XWritePipe h bytes slot) = true
+is_built (call.XShutdown h slot) = true
 -- no other call is built so far, nor one yet to come
 is_built _ = false
 

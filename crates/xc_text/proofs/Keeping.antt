@@ -4,10 +4,10 @@ use Rattle.std.proofs.Common.{refl, ap, ◌∙◌, subst, arith, lit≤, nat_lt,
 use Rattle.std.specs.Prelude.{All, codes, count_by, is_some, nat_eq, if◌then◌else◌}
 use Rattle.std.specs.Cmp.Lexicographic.{pointwise}
 use Rattle.std.specs.List.{list_all, list_any, IsDistinct}
-use Rattle.std.proofs.lemmas.Bool.{cond_both, ltb-false, leb-false, leb-true, and_parts, or_parts}
+use Rattle.std.proofs.lemmas.Bool.{cond_both, ltb-true, ltb-false, leb-false, leb-true, and_parts, or_parts}
 use Rattle.std.proofs.lemmas.List.{length-append, length-replicate, length-set, length-map, map-append}
 use Rattle.std.proofs.lemmas.List.Elements.{All-nil, All-push}
-use Rattle.std.proofs.lemmas.List.Sums.{sum_by-le}
+use Rattle.std.proofs.lemmas.List.Sums.{sum_by-le, sum_by_push}
 use Rattle.xc_data.specs.declared.script.Kind.{Kind}
 use Rattle.xc_data.specs.declared.script.Opened.{Opened}
 use Rattle.xc_data.specs.declared.script.Opened.TheVariants.{File, Pipe, Pair}
@@ -23,21 +23,24 @@ use Rattle.xc_tokens.specs.declared.why.Why.{Why}
 use Rattle.xc_tokens.specs.declared.why.Why.TheVariants.{UnknownLine}
 use Rattle.xc_tokens.specs.Answers.{and_then, both, seen}
 use Rattle.xc_text.specs.Refusals.{Refusal}
-use Rattle.xc_text.specs.Grammar.{line_of, first_line, worded_line, words_line, word_line, file_line, fault_line, grain_line, job_line}
+use Rattle.xc_text.specs.Grammar.{line_of, first_line, worded_line, words_line, word_line, file_line, pipe_line, fault_line, grain_line, job_line}
 use Rattle.xc_text.specs.Kinds.{kind}
 use Rattle.xc_tokens.specs.Lines.{lines_of, is_line_byte}
 use Rattle.xc_tokens.specs.Literals.{is_within, contents, only_literals}
-use Rattle.xc_text.specs.Said.{Said, opening}
+use Rattle.xc_text.specs.Said.{Names, Said, opening}
 use Rattle.xc_text.specs.Sections.{block_in, transaction_in, is_outside}
-use Rattle.xc_text.specs.Scripts.{names_of, IsBlock, IsFileLine, IsOneCall, IsScript, at_line, prologue_of, script_of, closed, read_from, parse_of}
+use Rattle.xc_text.specs.Scripts.{names_of, IsBlock, IsFileOrPipe, IsOneCall, handle_count, IsScript, at_line, prologue_of, script_of}
+use Rattle.xc_text.specs.Scripts.{closed, read_from, parse_of}
 use Rattle.xc_text.specs.Steps.{are_few, is_call, is_file_of, has_few_calls, is_among, sized_by, valued_by, added, faulted, grained}
+use Rattle.xc_text.specs.Steps.{has_room_for_pipe, piped_at, piped}
 use Rattle.xc_text.specs.Steps.{filed, started, begun, stated_as, committed, ended_block, after, after_any}
 use Rattle.xc_text.specs.Steps.{after_tokens, after_bytes}
-use Rattle.xc_text.specs.Places.{Placed, placed}
+use Rattle.xc_text.specs.Places.{Placed, placed, variable}
 use Rattle.xc_text.specs.Shapes.{bare}
 use Rattle.xc_text.specs.Statements.{statement_line}
 use Rattle.xc_tokens.specs.Words.{spells, number, ident, name}
 use Rattle.xc_tokens.specs.Tokens.{Lexeme, Word, Literal, tokens_of}
+use Rattle.xc_text.proofs.Growing.{Grows, has_place, variable_grows, placed_grows}
 use Rattle.xc_text.proofs.Indexing.{distinct_more}
 
 -- how many transactions of the block under way have ended
@@ -54,7 +57,8 @@ IsBody body = count_by is_call body ≤ 256
 pub record IsOpening (p : OnePrologue) : Type 0 where
   pub few : length p.objects ≤ 4096
   pub fit : All IsOpenedFit p.objects
-  pub each : All IsFileLine p.objects
+  pub each : All IsFileOrPipe p.objects
+  pub pipes : count_by is_pipe_line p.objects ≤ 64
   pub faults : All IsOneCall p.faults
   pub grain : IsGrain p.grain
 
@@ -83,6 +87,8 @@ pub record IsSound (s : Said) : Type 0 where
   pub each_block : All IsBlock s.blocks
   pub few_variables : length s.names.variables ≤ 256
   pub few_slots : length s.names.slots ≤ 256
+  pub handles : length s.handles ≡ handle_count s.objects
+  pub each_handle : All (λ v. v < length s.names.variables) s.handles
 
 abbrev Keeps : Result Said Why → Type 0
 Keeps answer = IfOk answer IsSound
@@ -110,10 +116,20 @@ opening-keeps =
       distinct = none_alike;
       calls = All-nil IsBody;
       body = omega arith;
-      opening = record { few = omega arith; fit = All-nil IsOpenedFit; each = All-nil IsFileLine; faults = All-nil IsOneCall; grain = tt };
+      opening =
+          record {
+            few = omega arith;
+            fit = All-nil IsOpenedFit;
+            each = All-nil IsFileOrPipe;
+            pipes = omega arith;
+            faults = All-nil IsOneCall;
+            grain = tt;
+          };
       each_block = All-nil IsBlock;
       few_variables = omega arith;
       few_slots = omega arith;
+      handles = refl;
+      each_handle = All-nil _;
     }
 
 sized-keeps : (r : Said) (n : ℕ) → IsSound r → Keeps (sized_by r n)
@@ -134,6 +150,8 @@ sized-keeps r n k =
       each_block = k.each_block;
       few_variables = k.few_variables;
       few_slots = k.few_slots;
+      handles = k.handles;
+      each_handle = k.each_handle;
     }))
 
 valued-keeps : (r : Said) (at value : ℕ) → IsSound r → Keeps (valued_by r at value)
@@ -152,6 +170,8 @@ valued-keeps r at value k =
       each_block = k.each_block;
       few_variables = k.few_variables;
       few_slots = k.few_slots;
+      handles = k.handles;
+      each_handle = k.each_handle;
     })
 
 -- what follows of an answer of which P holds
@@ -163,6 +183,12 @@ then_keeps P Q (Err e) f h g = tt
 for_seen : {A B E : Type 0} (P : B → Type 0) (f : A → B) (a : Result A E) → IfOk a (λ x. P (f x)) → IfOk (seen f a) P
 for_seen P f (Ok x) h = h
 for_seen P f (Err e) h = tt
+
+pipes_of : (objects : List Opened) (o : Opened) → count_by is_pipe_line (objects ++ o ∷ []) ≡ count_by is_pipe_line objects + cond (is_pipe_line o) 1 0
+pipes_of objects o = sum_by_push (λ x. cond (is_pipe_line x) 1 0) objects o
+
+pairs_of : (objects : List Opened) (o : Opened) → count_by is_pair_line (objects ++ o ∷ []) ≡ count_by is_pair_line objects + cond (is_pair_line o) 1 0
+pairs_of objects o = sum_by_push (λ x. cond (is_pair_line x) 1 0) objects o
 
 added-keeps : (r : Said) (file : List ℕ) (bytes : Option (List ℕ)) → IfSome bytes (λ bs. length bs ≤ 65536) → IsSound r → Keeps (added r file bytes)
 added-keeps r file None few k = tt
@@ -180,18 +206,61 @@ added-keeps r file (Some bytes) few k =
       opening = record {
         few = rw length-append (omega (arith, leb-false _ _ room));
         fit = All-push IsOpenedFit r.objects (File file bytes) k.opening.fit few;
-        each = All-push IsFileLine r.objects (File file bytes) k.opening.each tt;
+        each = All-push IsFileOrPipe r.objects (File file bytes) k.opening.each tt;
+        pipes = omega (arith, k.opening.pipes, pipes_of r.objects (File file bytes));
         faults = k.opening.faults;
         grain = k.opening.grain;
       };
       each_block = k.each_block;
       few_variables = k.few_variables;
       few_slots = k.few_slots;
+      handles = omega (arith, k.handles, pipes_of r.objects (File file bytes), pairs_of r.objects (File file bytes));
+      each_handle = k.each_handle;
     })
 
 filed-keeps : (r : Said) (file : List ℕ) (bytes : Option (List ℕ)) → IfSome bytes (λ bs. length bs ≤ 65536) → IsSound r → Keeps (filed r file bytes)
 filed-keeps r file bytes few k =
     cond_both (list_any (is_file_of file) r.objects) _ _ Keeps (λ _. tt) (λ _. added-keeps r file bytes few k)
+
+-- places of variables stay such
+kept_within : (old new : Names) (places : List ℕ) → Grows old new → All (λ v. v < length old.variables) places → All (λ v. v < length new.variables) places
+kept_within old new places grows all = λ i d lt. omega (arith, all i d lt, grows)
+
+piped_at-keeps : (r : Said) (bytes : List ℕ) (p : Placed ℕ) → length bytes ≤ 4096 → p.1 < length p.0.variables → Grows r.names p.0 → IsSound r
+    → Keeps (piped_at r bytes p)
+piped_at-keeps r bytes p few within grows k =
+    cond_both (has_room_for_pipe r.objects && are_few p.0) _ _ Keeps (λ room.
+    let parts = and_parts (has_room_for_pipe r.objects) (are_few p.0) room in
+    let objects = and_parts (nat_lt (length r.objects) 4096) (nat_lt (count_by is_pipe_line r.objects) 64) parts.0 in
+    let names = and_parts (nat_le (length p.0.variables) 256) (nat_le (length p.0.slots) 256) parts.1 in
+    record {
+      some_words = k.some_words;
+      few_words = k.few_words;
+      count = k.count;
+      named = k.named;
+      few_blocks = k.few_blocks;
+      distinct = k.distinct;
+      calls = k.calls;
+      body = k.body;
+      opening = record {
+        few = rw length-append (omega (arith, ltb-true _ _ objects.0));
+        fit = All-push IsOpenedFit r.objects (Pipe bytes) k.opening.fit few;
+        each = All-push IsFileOrPipe r.objects (Pipe bytes) k.opening.each tt;
+        pipes = omega (arith, ltb-true _ _ objects.1, pipes_of r.objects (Pipe bytes));
+        faults = k.opening.faults;
+        grain = k.opening.grain;
+      };
+      each_block = k.each_block;
+      few_variables = leb-true _ _ names.0;
+      few_slots = leb-true _ _ names.1;
+      handles = rw length-append (omega (arith, k.handles, pipes_of r.objects (Pipe bytes), pairs_of r.objects (Pipe bytes)));
+      each_handle = All-push (λ v. v < length p.0.variables) r.handles p.1 (kept_within r.names p.0 r.handles grows k.each_handle) within;
+    }) (λ _. tt)
+
+piped-keeps : (r : Said) (handle : List ℕ) (bytes : Option (List ℕ)) → IfSome bytes (λ bs. length bs ≤ 4096) → IsSound r → Keeps (piped r handle bytes)
+piped-keeps r handle None few k = tt
+piped-keeps r handle (Some bytes) few k =
+    piped_at-keeps r bytes (variable r.names handle) few (has_place r.names handle) (variable_grows r.names handle) k
 
 faulted-keeps : (r : Said) (kind : Kind) (n : ℕ) → IsSound r → Keeps (faulted r kind n)
 faulted-keeps r kind n k =
@@ -209,12 +278,15 @@ faulted-keeps r kind n k =
         few = k.opening.few;
         fit = k.opening.fit;
         each = k.opening.each;
+        pipes = k.opening.pipes;
         faults = All-push IsOneCall r.faults _ k.opening.faults (ltb-false _ _ counted, refl);
         grain = k.opening.grain;
       };
       each_block = k.each_block;
       few_variables = k.few_variables;
       few_slots = k.few_slots;
+      handles = k.handles;
+      each_handle = k.each_handle;
     })
 
 grained-keeps : (r : Said) (n : ℕ) → IsSound r → Keeps (grained r n)
@@ -235,16 +307,19 @@ grained-keeps r n k =
         few = k.opening.few;
         fit = k.opening.fit;
         each = k.opening.each;
+        pipes = k.opening.pipes;
         faults = k.opening.faults;
         grain = (ltb-false _ _ parts.0, ltb-false _ _ parts.1);
       };
       each_block = k.each_block;
       few_variables = k.few_variables;
       few_slots = k.few_slots;
+      handles = k.handles;
+      each_handle = k.each_handle;
     }))
 
-stated-keeps : (s : Said) (p : Placed Statement) → IsSound s → Keeps (stated_as s p)
-stated-keeps s p k =
+stated-keeps : (s : Said) (p : Placed Statement) → Grows s.names p.0 → IsSound s → Keeps (stated_as s p)
+stated-keeps s p grows k =
     cond_both (has_few_calls s.body p.1 && are_few p.0) _ _ Keeps (λ few.
     record {
       some_words = k.some_words;
@@ -259,6 +334,8 @@ stated-keeps s p k =
       each_block = k.each_block;
       few_variables = leb-true _ _ (and_parts _ _ (and_parts _ _ few).1).0;
       few_slots = leb-true _ _ (and_parts _ _ (and_parts _ _ few).1).1;
+      handles = k.handles;
+      each_handle = kept_within s.names p.0 s.handles grows k.each_handle;
     }) (λ _. tt)
 
 begun-keeps : (r : Said) (p : Section) → r.section ≡ p → IsSound r → Keeps (begun r (block_in p))
@@ -280,6 +357,8 @@ begun-keeps r (Block name) e k =
       each_block = k.each_block;
       few_variables = k.few_variables;
       few_slots = k.few_slots;
+      handles = k.handles;
+      each_handle = k.each_handle;
     })
 
 committed-keeps : (r : Said) (p : Section) → r.section ≡ p → IsSound r → Keeps (committed r (transaction_in p))
@@ -300,6 +379,8 @@ committed-keeps r (Transaction name) e k =
       each_block = k.each_block;
       few_variables = k.few_variables;
       few_slots = k.few_slots;
+      handles = k.handles;
+      each_handle = k.each_handle;
     }
 
 ended-keeps : (r : Said) (p : Section) → r.section ≡ p → IsSound r → Keeps (ended_block r (block_in p))
@@ -320,12 +401,15 @@ ended-keeps r (Block name) e k =
       each_block = All-push IsBlock r.blocks _ k.each_block (record { transactions = count_at r (Block name) e k; calls = k.calls });
       few_variables = k.few_variables;
       few_slots = k.few_slots;
+      handles = k.handles;
+      each_handle = k.each_handle;
     }
 
--- a line that may stand in a section: a block begins outside of the others, and a file isn't too long
+-- a line that may stand in a section: a block begins outside of the others, and a file and a pipe aren't too long
 abbrev IsFitLine : Section → Line → Type 0
 IsFitLine p (line.Job block) = is_outside p ≡ true
 IsFitLine p (line.File file bytes) = IfSome bytes (λ bs. length bs ≤ 65536)
+IsFitLine p (line.Pipe handle bytes) = IfSome bytes (λ bs. length bs ≤ 4096)
 IsFitLine p _ = Unit {0}
 
 none_under_way : (p : Section) (n : ℕ) → is_outside p ≡ true → CountFits p n → n ≡ 0
@@ -358,17 +442,20 @@ started-keeps r name outside k =
       each_block = k.each_block;
       few_variables = k.few_variables;
       few_slots = k.few_slots;
+      handles = k.handles;
+      each_handle = k.each_handle;
     }))
 
 after-keeps : (r : Said) (says : Line) → IsFitLine r.section says → IsSound r → Keeps (after r says)
 after-keeps r (line.Words n) first k = sized-keeps r n k
 after-keeps r (line.Word at value) first k = valued-keeps r at value k
 after-keeps r (line.File file bytes) first k = filed-keeps r file bytes first k
+after-keeps r (line.Pipe handle bytes) first k = piped-keeps r handle bytes first k
 after-keeps r (line.Fault kind n) first k = faulted-keeps r kind n k
 after-keeps r (line.Grain n) first k = grained-keeps r n k
 after-keeps r (line.Job name) first k = started-keeps r name first k
 after-keeps r line.Begin first k = begun-keeps r r.section refl k
-after-keeps r (line.Statement s) first k = stated-keeps r (placed r.names s) k
+after-keeps r (line.Statement s) first k = stated-keeps r (placed r.names s) (placed_grows r.names s) k
 after-keeps r line.Commit first k = committed-keeps r r.section refl k
 after-keeps r line.End first k = ended-keeps r r.section refl k
 
@@ -390,14 +477,21 @@ word_fits (i ∷ []) = tt
 word_fits (i ∷ u ∷ []) = fits_seen Prologue (λ (p : ℕ × ℕ). line.Word p.0 p.1) (both (number i) (number u)) (λ _. tt)
 word_fits (i ∷ u ∷ v ∷ ts) = tt
 
-few_bytes : (literals : List Lexeme) → IfSome (contents literals) (λ bs. length bs ≤ 65536)
-few_bytes literals =
-    cond_both (is_within 65536 literals) _ _ (λ (a : Option (List ℕ)). IfSome a (λ bs. length bs ≤ 65536)) (λ few. leb-true _ _ few) (λ _. tt)
+few_bytes : (most : ℕ) (literals : List Lexeme) → IfSome (contents most literals) (λ bs. length bs ≤ most)
+few_bytes most literals =
+    cond_both (is_within most literals) _ _ (λ (a : Option (List ℕ)). IfSome a (λ bs. length bs ≤ most)) (λ few. leb-true _ _ few) (λ _. tt)
 
 file_fits : (rest : List Lexeme) → IfOk (file_line rest) (IsFitLine Prologue)
 file_fits [] = tt
 file_fits (n ∷ literals) =
-    fits_seen Prologue (λ (p : List ℕ × Unit {0}). line.File p.0 (contents literals)) (both (name n) (only_literals literals)) (λ _. few_bytes literals)
+    fits_seen Prologue (λ (p : List ℕ × Unit {0}). line.File p.0 (contents 65536 literals)) (both (name n) (only_literals literals))
+    (λ _. few_bytes 65536 literals)
+
+pipe_fits : (rest : List Lexeme) → IfOk (pipe_line rest) (IsFitLine Prologue)
+pipe_fits [] = tt
+pipe_fits (v ∷ literals) =
+    fits_seen Prologue (λ (p : List ℕ × Unit {0}). line.Pipe p.0 (contents 4096 literals)) (both (ident v) (only_literals literals))
+    (λ _. few_bytes 4096 literals)
 
 fault_fits : (rest : List Lexeme) → IfOk (fault_line rest) (IsFitLine Prologue)
 fault_fits [] = tt
@@ -415,23 +509,25 @@ job_fits p [] outside = tt
 job_fits p (n ∷ []) outside = fits_seen p line.Job (ident n) (λ _. outside)
 job_fits p (n ∷ m ∷ ts) outside = tt
 
-prologue_fits : (rest : List Lexeme) (words word file fault grain job : Bool) →
+prologue_fits : (rest : List Lexeme) (words word file pipe fault grain job : Bool) →
     IfOk (
     if words then words_line rest
     else if word then word_line rest
     else if file then file_line rest
+    else if pipe then pipe_line rest
     else if fault then fault_line rest
     else if grain then grain_line rest
     else if job then job_line rest
     else Err UnknownLine
     ) (IsFitLine Prologue)
-prologue_fits rest true word file fault grain job = words_fits rest
-prologue_fits rest false true file fault grain job = word_fits rest
-prologue_fits rest false false true fault grain job = file_fits rest
-prologue_fits rest false false false true grain job = fault_fits rest
-prologue_fits rest false false false false true job = grain_fits rest
-prologue_fits rest false false false false false true = job_fits Prologue rest refl
-prologue_fits rest false false false false false false = tt
+prologue_fits rest true word file pipe fault grain job = words_fits rest
+prologue_fits rest false true file pipe fault grain job = word_fits rest
+prologue_fits rest false false true pipe fault grain job = file_fits rest
+prologue_fits rest false false false true fault grain job = pipe_fits rest
+prologue_fits rest false false false false true grain job = fault_fits rest
+prologue_fits rest false false false false false true job = grain_fits rest
+prologue_fits rest false false false false false false true = job_fits Prologue rest refl
+prologue_fits rest false false false false false false false = tt
 
 between_fits : (rest : List Lexeme) (job : Bool) → IfOk (if job then job_line rest else Err UnknownLine) (IsFitLine Between)
 between_fits rest true = job_fits Between rest refl
@@ -450,8 +546,8 @@ transaction_fits p word rest false = fits_seen p line.Statement (statement_line 
 
 worded_fits : (p : Section) (word : List ℕ) (rest : List Lexeme) → IfOk (worded_line p word rest) (IsFitLine p)
 worded_fits Prologue word rest =
-    prologue_fits rest (spells word (codes "words")) (spells word (codes "word")) (spells word (codes "file")) (spells word (codes "fault"))
-    (spells word (codes "grain")) (spells word (codes "job"))
+    prologue_fits rest (spells word (codes "words")) (spells word (codes "word")) (spells word (codes "file")) (spells word (codes "pipe"))
+    (spells word (codes "fault")) (spells word (codes "grain")) (spells word (codes "job"))
 worded_fits Between word rest = between_fits rest (spells word (codes "job"))
 worded_fits (Block name) word rest = block_fits (Block name) rest (spells word (codes "tx")) (spells word (codes "end"))
 worded_fits (Transaction name) word rest = transaction_fits (Transaction name) word rest (spells word (codes "commit"))
@@ -486,22 +582,17 @@ after_bytes-keeps r bytes k =
     then_keeps Any IsSound (tokens_of bytes) (λ (tokens : List Lexeme). after_tokens r tokens)
     (for_any Any (tokens_of bytes) (λ _. tt)) (λ tokens _. after_tokens-keeps r tokens k)) (λ _. tt)
 
-no_pipe : (o : Opened) → IsFileLine o → cond (is_pipe_line o) 1 0 ≤ 0
-no_pipe (File file bytes) is = omega arith
-no_pipe (Pipe bytes) is = absurd is
-no_pipe Pair is = absurd is
-
-no_pair : (o : Opened) → IsFileLine o → cond (is_pair_line o) 1 0 ≤ 0
+no_pair : (o : Opened) → IsFileOrPipe o → cond (is_pair_line o) 1 0 ≤ 0
 no_pair (File file bytes) is = omega arith
-no_pair (Pipe bytes) is = absurd is
+no_pair (Pipe bytes) is = omega arith
 no_pair Pair is = absurd is
 
-of_files : (p : OnePrologue) → IsOpening p → IsPrologue p
-of_files p is =
+of_lines : (p : OnePrologue) → IsOpening p → IsPrologue p
+of_lines p is =
     record {
       objects = is.few;
       contents = is.fit;
-      pipes = omega (arith, sum_by-le (λ o. cond (is_pipe_line o) 1 0) 0 p.objects (λ k d lt. no_pipe _ (is.each k d lt)));
+      pipes = is.pipes;
       pairs = omega (arith, sum_by-le (λ o. cond (is_pair_line o) 1 0) 0 p.objects (λ k d lt. no_pair _ (is.each k d lt)));
       grain = is.grain;
     }
@@ -516,12 +607,14 @@ script_of-keeps r outside k =
       distinct = subst AreDistinct jobs k.distinct;
       jobs = jobs;
       bodies = refl;
-      prologue = of_files (prologue_of r) k.opening;
-      files = k.opening.each;
+      prologue = of_lines (prologue_of r) k.opening;
+      objects = k.opening.each;
       faults = k.opening.faults;
       each_block = k.each_block;
       few_variables = k.few_variables;
       few_slots = k.few_slots;
+      handles = k.handles;
+      each_handle = k.each_handle;
     }
 
 at_line-keeps : {A : Type 0} (P : A → Type 0) (n : ℕ) (a : Result A Why) → IfOk a P → IfOk (at_line n a) P

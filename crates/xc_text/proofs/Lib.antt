@@ -4,3 +4,5 @@ pub mod Keeping
 pub mod FilesByName
 pub mod Indexing
 pub mod FirstLines
+pub mod Growing
+pub mod Parted

@@ -2,17 +2,19 @@
 use Rattle.std.specs.Prelude.{ℕ, List, map, Option, Some, None, Result, Err}
 use Rattle.xc_text.specs.declared.calls.TheConstants.{CALL_KINDS}
 use Rattle.xc_text.specs.declared.calls.CallKind.{CallKind}
-use Rattle.xc_text.specs.declared.calls.CallKind.TheVariants.{Word, Name, Handle}
+use Rattle.xc_text.specs.declared.calls.CallKind.TheVariants.{Word, Name, Handle, Pipe}
 use Rattle.xc_text.specs.declared.calls.WordCall.{WordCall}
 use Rattle.xc_text.specs.declared.calls.WordCall.TheVariants as word
 use Rattle.xc_text.specs.declared.calls.NameCall.{NameCall}
 use Rattle.xc_text.specs.declared.calls.NameCall.TheVariants as named
 use Rattle.xc_text.specs.declared.calls.HandleCall.{HandleCall}
 use Rattle.xc_text.specs.declared.calls.HandleCall.TheVariants as handled
+use Rattle.xc_text.specs.declared.calls.PipeCall.{PipeCall}
+use Rattle.xc_text.specs.declared.calls.PipeCall.TheVariants as piped
 use Rattle.xc_text.specs.declared.script.CallForm.TheVariants as form
 use Rattle.xc_text.specs.declared.script.Statement.TheVariants as statement
 use Rattle.xc_text.specs.Pieces.{data_of}
-use Rattle.xc_text.specs.Shapes.{alone, led, target, slot_ending}
+use Rattle.xc_text.specs.Shapes.{alone, led, target, slot_ending, before_slot}
 use Rattle.xc_text.specs.Named.{Term, Expression, Item, CallForm, Statement}
 use Rattle.xc_text.specs.Terms.{term, expression_of}
 use Rattle.xc_tokens.specs.declared.why.Why.{Why}
@@ -34,6 +36,10 @@ NameAnd = List ℕ × Option (List ℕ)
 abbrev pub HandleTermInto : Type 0
 HandleTermInto = List ℕ × (Term × Option (List ℕ))
 
+-- a handle, data, and nothing or a slot
+abbrev pub HandleDataSlot : Type 0
+HandleDataSlot = List ℕ × (List Item × Option (List ℕ))
+
 -- the call on a word that the tokens behind its word make: `T`, `T -> V` or `T E`
 abbrev pub word_form : WordCall → List Lexeme → Result CallForm Why
 word_form word.Load rest = seen (λ (p : Term × Option (List ℕ)). form.Load p.0 p.1) (led term target rest)
@@ -46,7 +52,7 @@ name_form named.Create rest = seen (λ (p : NameAnd). form.Create p.0 p.1) (led 
 name_form named.Rename rest = seen (λ (p : List ℕ × List ℕ). form.Rename p.0 p.1) (led name (alone name) rest)
 name_form named.Unlink rest = seen (λ (p : NameAnd). form.Unlink p.0 p.1) (led name slot_ending rest)
 
--- the call through a handle: `H`, `H T` or `H D`, and behind some of them `-> V` or `slot S` where that is wanted
+-- the call through the handle of a file: `H`, `H T` or `H D`, and behind some of them `-> V` or `slot S` where that is wanted
 abbrev pub handle_form : HandleCall → List Lexeme → Result CallForm Why
 handle_form handled.Read rest = seen (λ (p : HandleTermInto). form.Read p.0 p.1.0 p.1.1) (led ident (led term target) rest)
 handle_form handled.Overwrite rest = seen (λ (p : List ℕ × List Item). form.Overwrite p.0 p.1) (led ident data_of rest)
@@ -56,11 +62,19 @@ handle_form handled.Length rest = seen (λ (p : NameAnd). form.Length p.0 p.1) (
 handle_form handled.Close rest = seen (λ (h : List ℕ). form.Close h) (alone ident rest)
 handle_form handled.Sync rest = seen (λ (p : NameAnd). form.Sync p.0 p.1) (led ident slot_ending rest)
 
+-- the call on a pipe: nothing, `H T` or `H D`, and behind them `-> V` or `slot S` where that is wanted
+abbrev pub pipe_form : PipeCall → List Lexeme → Result CallForm Why
+pipe_form piped.Make rest = seen form.Pipe (target rest)
+pipe_form piped.Read rest = seen (λ (p : HandleTermInto). form.ReadPipe p.0 p.1.0 p.1.1) (led ident (led term target) rest)
+pipe_form piped.Write rest = seen (λ (p : HandleDataSlot). form.WritePipe p.0 p.1.0 p.1.1) (led ident (before_slot data_of) rest)
+pipe_form piped.Shutdown rest = seen (λ (p : NameAnd). form.Shutdown p.0 p.1) (led ident slot_ending rest)
+
 -- the call of a kind that the tokens behind its word make
 abbrev pub form_of : CallKind → List Lexeme → Result CallForm Why
 form_of (Word call) rest = word_form call rest
 form_of (Name call) rest = name_form call rest
 form_of (Handle call) rest = handle_form call rest
+form_of (Pipe call) rest = pipe_form call rest
 
 -- a call, where its word is one
 abbrev pub call_line : Option CallKind → List Lexeme → Result Statement Why

@@ -28,7 +28,14 @@ word_line _ = Err BadForm
 -- `file NAME` and literals
 abbrev pub file_line : List Lexeme → Result Line Why
 file_line [] = Err BadForm
-file_line (n ∷ literals) = seen (λ (p : List ℕ × Unit {0}). line.File p.0 (contents literals)) (both (name n) (only_literals literals))
+file_line (n ∷ literals) =
+    seen (λ (p : List ℕ × Unit {0}). line.File p.0 (contents 65536 literals)) (both (name n) (only_literals literals))
+
+-- `pipe V` and literals
+abbrev pub pipe_line : List Lexeme → Result Line Why
+pipe_line [] = Err BadForm
+pipe_line (v ∷ literals) =
+    seen (λ (p : List ℕ × Unit {0}). line.Pipe p.0 (contents 4096 literals)) (both (ident v) (only_literals literals))
 
 -- `fault KIND N`
 abbrev pub fault_line : List Lexeme → Result Line Why
@@ -51,6 +58,7 @@ prologue_line word rest =
     if spells word (codes "words") then words_line rest
     else if spells word (codes "word") then word_line rest
     else if spells word (codes "file") then file_line rest
+    else if spells word (codes "pipe") then pipe_line rest
     else if spells word (codes "fault") then fault_line rest
     else if spells word (codes "grain") then grain_line rest
     else if spells word (codes "job") then job_line rest

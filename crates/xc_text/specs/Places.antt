@@ -101,6 +101,12 @@ placed_form names (form.Length handle into) = two form.Length (variable names ha
 placed_form names (form.Close handle) = one form.Close (variable names handle)
 placed_form names (form.Unlink file into) = one (form.Unlink file) (placed_ending names into)
 placed_form names (form.Sync handle into) = two form.Sync (variable names handle) (λ behind. placed_ending behind into)
+placed_form names (form.Pipe into) = one form.Pipe (placed_target names into)
+placed_form names (form.ReadPipe handle n into) =
+    two (λ h p. form.ReadPipe h p.0 p.1) (variable names handle) (λ behind. placed_term_into behind n into)
+placed_form names (form.WritePipe handle items into) =
+    two (λ p s. form.WritePipe p.0 p.1 s) (placed_written names handle items) (λ behind. placed_ending behind into)
+placed_form names (form.Shutdown handle into) = two form.Shutdown (variable names handle) (λ behind. placed_ending behind into)
 
 -- a test of two terms
 abbrev pub placed_test : Names → named.Term → Test → named.Term → Placed Statement

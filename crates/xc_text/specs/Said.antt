@@ -17,9 +17,9 @@ abbrev pub no_names : Names
 no_names = record { variables = []; slots = [] }
 
 -- the section that the next line stands in; the words, and whether a `words` and a `word` line came; the objects, the
--- faults and the grain of the prologue; the names of the variables and of the slots; the names of the blocks that have
--- begun; the blocks that have ended, of the one under way the transactions that have ended, and of the transaction under
--- way the statements
+-- faults and the grain of the prologue, and the variables that its handles are in; the names of the variables and of the
+-- slots; the names of the blocks that have begun; the blocks that have ended, of the one under way the transactions that
+-- have ended, and of the transaction under way the statements
 pub record Said : Type 0 where
   pub section : Section
   pub words : List ℕ
@@ -28,6 +28,7 @@ pub record Said : Type 0 where
   pub objects : List Opened
   pub faults : List FaultLine
   pub grain : Option ℕ
+  pub handles : List ℕ
   pub names : Names
   pub jobs : List (List ℕ)
   pub blocks : List Block
@@ -44,6 +45,7 @@ opening = record {
   objects = [];
   faults = [];
   grain = None;
+  handles = [];
   names = no_names;
   jobs = [];
   blocks = [];

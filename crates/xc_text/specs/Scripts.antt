@@ -1,5 +1,5 @@
 -- What a script says, and what a script that was read keeps to.
-use Rattle.std.specs.Prelude.{◌≡◌, ℕ, ◌+◌, ◌≤◌, List, [], ◌∷◌, length, map, All, count_by, nat_eq, nat_lt, Result, Ok, Err}
+use Rattle.std.specs.Prelude.{◌≡◌, ℕ, ◌+◌, ◌*◌, ◌<◌, ◌≤◌, List, [], ◌∷◌, length, map, All, count_by, nat_eq, nat_lt, Result, Ok, Err}
 use Rattle.std.specs.Prelude.{if◌then◌else◌}
 use Rattle.std.specs.Cmp.Lexicographic.{pointwise}
 use Rattle.std.specs.List.{IsDistinct}
@@ -7,7 +7,7 @@ use Rattle.xc_data.specs.declared.script.FaultLine.{FaultLine}
 use Rattle.xc_data.specs.declared.script.Opened.{Opened}
 use Rattle.xc_data.specs.declared.script.Opened.TheVariants.{File, Pipe, Pair}
 use Rattle.xc_data.specs.declared.script.Prologue.{Prologue}
-use Rattle.xc_data.specs.Limits.{IsPrologue}
+use Rattle.xc_data.specs.Limits.{IsPrologue, is_pipe_line, is_pair_line}
 use Rattle.xc_text.specs.declared.script.Block.{Block as OneBlock}
 use Rattle.xc_text.specs.declared.script.Script.{Script}
 use Rattle.xc_tokens.specs.declared.why.Why.{Why}
@@ -44,6 +44,7 @@ script_of s = record {
   blocks = s.blocks;
   variables = s.names.variables;
   slots = s.names.slots;
+  handles = s.handles;
 }
 
 -- a script ends behind its prologue or behind a block
@@ -64,11 +65,15 @@ pub record IsBlock (b : OneBlock) : Type 0 where
   pub transactions : length b.transactions ≤ 1000
   pub calls : All (λ body. count_by is_call body ≤ 256) b.transactions
 
--- an object of a `file` line
-abbrev pub IsFileLine : Opened → Type 0
-IsFileLine (File name bytes) = Unit {0}
-IsFileLine (Pipe bytes) = ⊥
-IsFileLine Pair = ⊥
+-- an object of a `file` or of a `pipe` line
+abbrev pub IsFileOrPipe : Opened → Type 0
+IsFileOrPipe (File name bytes) = Unit {0}
+IsFileOrPipe (Pipe bytes) = Unit {0}
+IsFileOrPipe Pair = ⊥
+
+-- how many handles objects have at the opening: a pipe has one, and a pair has two
+abbrev pub handle_count : List Opened → ℕ
+handle_count objects = count_by is_pipe_line objects + 2 * count_by is_pair_line objects
 
 -- a fault line of one call, counted from 1
 abbrev pub IsOneCall : FaultLine → Type 0
@@ -83,8 +88,10 @@ pub record IsScript (s : Script) : Type 0 where
   pub jobs : s.outline.jobs ≡ names_of s.blocks
   pub bodies : s.outline.bodies ≡ []
   pub prologue : IsPrologue s.outline.prologue
-  pub files : All IsFileLine s.outline.prologue.objects
+  pub objects : All IsFileOrPipe s.outline.prologue.objects
   pub faults : All IsOneCall s.outline.prologue.faults
   pub each_block : All IsBlock s.blocks
   pub few_variables : length s.variables ≤ 256
   pub few_slots : length s.slots ≤ 256
+  pub handles : length s.handles ≡ handle_count s.outline.prologue.objects
+  pub each_handle : All (λ v. v < length s.variables) s.handles

@@ -32,3 +32,14 @@ abbrev pub slot_ending : List Lexeme → Result (Option (List ℕ)) Why
 slot_ending [] = Ok None
 slot_ending (word ∷ s ∷ []) = if is_sign word (codes "slot") then seen Some (ident s) else Err BadForm
 slot_ending _ = Err BadForm
+
+-- the tokens in front of an ending, and the ending: the last two, where the first of them is the word `slot`
+abbrev pub parted : List Lexeme → List Lexeme × List Lexeme
+parted [] = ([], [])
+parted (t ∷ []) = (t ∷ [], [])
+parted (word ∷ s ∷ []) = if is_sign word (codes "slot") then ([], word ∷ s ∷ []) else (word ∷ s ∷ [], [])
+parted (t ∷ u ∷ v ∷ ts) = let p = parted (u ∷ v ∷ ts) in (t ∷ p.0, p.1)
+
+-- a shape, and behind it nothing or `slot S`
+abbrev pub before_slot : {A : Type 0} → (List Lexeme → Result A Why) → List Lexeme → Result (A × Option (List ℕ)) Why
+before_slot front tokens = let p = parted tokens in both (front p.0) (slot_ending p.1)

@@ -5,7 +5,8 @@ use Rattle.std.specs.List.{list_all, list_any}
 use Rattle.std.specs.Cmp.Lexicographic.{pointwise}
 use Rattle.xc_data.specs.declared.script.Kind.{Kind}
 use Rattle.xc_data.specs.declared.script.Opened.{Opened}
-use Rattle.xc_data.specs.declared.script.Opened.TheVariants.{File}
+use Rattle.xc_data.specs.declared.script.Opened.TheVariants.{File, Pipe}
+use Rattle.xc_data.specs.Limits.{is_pipe_line}
 use Rattle.xc_text.specs.declared.script.Statement.TheVariants as statement
 use Rattle.xc_text.specs.declared.line.Line.{Line}
 use Rattle.xc_text.specs.declared.line.Line.TheVariants as line
@@ -17,7 +18,7 @@ use Rattle.xc_text.specs.Grammar.{line_of}
 use Rattle.xc_tokens.specs.Lines.{is_line_byte}
 use Rattle.xc_text.specs.Said.{Names, Said}
 use Rattle.xc_text.specs.Named.{Statement as NamedStatement}
-use Rattle.xc_text.specs.Places.{Placed, placed}
+use Rattle.xc_text.specs.Places.{Placed, variable, placed}
 use Rattle.xc_text.specs.Stated.{Statement}
 use Rattle.xc_text.specs.Sections.{block_in, transaction_in}
 use Rattle.xc_tokens.specs.Tokens.{Lexeme, tokens_of}
@@ -52,7 +53,7 @@ abbrev pub is_file_of : List ℕ → Opened → Bool
 is_file_of name (File other bytes) = pointwise nat_eq name other
 is_file_of name _ = false
 
--- at most 4,096 files, each of at most 65,536 bytes
+-- at most 4,096 objects, among them files of at most 65,536 bytes
 abbrev pub added : Said → List ℕ → Option (List ℕ) → Result Said Why
 added s name (Some bytes) =
     if nat_le 4096 (length s.objects) then Err TooMany
@@ -62,6 +63,26 @@ added s name None = Err TooMany
 -- one file of a name
 abbrev pub filed : Said → List ℕ → Option (List ℕ) → Result Said Why
 filed s name bytes = if list_any (is_file_of name) s.objects then Err Twice else added s name bytes
+
+-- at most 256 variables, and at most 256 slots
+abbrev pub are_few : Names → Bool
+are_few names = nat_le (length names.variables) 256 && nat_le (length names.slots) 256
+
+-- with a pipe more there are at most 4,096 objects, and at most 64 pipes among them
+abbrev pub has_room_for_pipe : List Opened → Bool
+has_room_for_pipe objects = nat_lt (length objects) 4096 && nat_lt (count_by is_pipe_line objects) 64
+
+-- a pipe more, whose handle is in a variable, where the variables of the script stay few
+abbrev pub piped_at : Said → List ℕ → Placed ℕ → Result Said Why
+piped_at s bytes p =
+    if has_room_for_pipe s.objects && are_few p.0 then
+    Ok (record s { objects = s.objects ++ Pipe bytes ∷ []; names = p.0; handles = s.handles ++ p.1 ∷ [] })
+    else Err TooMany
+
+-- a pipe of at most 4,096 bytes, whose handle is in the variable of that name
+abbrev pub piped : Said → List ℕ → Option (List ℕ) → Result Said Why
+piped s name (Some bytes) = piped_at s bytes (variable s.names name)
+piped s name None = Err TooMany
 
 -- a call of a kind fails, by its number from 1
 abbrev pub faulted : Said → Kind → ℕ → Result Said Why
@@ -94,10 +115,6 @@ begun s None = Err UnknownLine
 abbrev pub has_few_calls : List Statement → Statement → Bool
 has_few_calls body statement = nat_le (count_by is_call (body ++ statement ∷ [])) 256
 
--- at most 256 variables, and at most 256 slots
-abbrev pub are_few : Names → Bool
-are_few names = nat_le (length names.variables) 256 && nat_le (length names.slots) 256
-
 -- a statement more, where the calls of its transaction and the names of the script stay few
 abbrev pub stated_as : Said → Placed Statement → Result Said Why
 stated_as s p =
@@ -124,6 +141,7 @@ abbrev pub after : Said → Line → Result Said Why
 after s (line.Words n) = sized_by s n
 after s (line.Word at value) = valued_by s at value
 after s (line.File name bytes) = filed s name bytes
+after s (line.Pipe name bytes) = piped s name bytes
 after s (line.Fault kind n) = faulted s kind n
 after s (line.Grain n) = grained s n
 after s (line.Job name) = started s name

@@ -1,7 +1,7 @@
 //! Lines that are calls.
 
 ghost use Rattle.std.specs.Prelude.{◌≡◌, map};
-ghost use Rattle.xc_text.specs.Calls.{call_kinds, word_form, name_form, handle_form, form_of, call_line as call_said};
+ghost use Rattle.xc_text.specs.Calls.{call_kinds, word_form, name_form, handle_form, pipe_form, form_of, call_line as call_said};
 ghost use Rattle.xc_text.specs.declared.calls.NameCall.TheVariants.{Rename};
 ghost use Rattle.xc_tokens.specs.Answers.{Gives};
 ghost use Rattle.xc_tokens.specs.ByWord.{by_word as found_by};
@@ -9,8 +9,8 @@ ghost use Rattle.xc_tokens.specs.Views.{lexeme};
 
 use crate::script::{CallForm, Statement};
 use crate::shapes::{
-    handle_alone, handle_and_data, handle_and_slot, handle_and_term, handle_into, handle_term_into,
-    name_and_slot, name_into, term_and_expression, term_into, two_names,
+    handle_alone, handle_and_data, handle_and_slot, handle_and_term, handle_data_slot, handle_into,
+    handle_term_into, name_and_slot, name_into, target, term_and_expression, term_into, two_names,
 };
 use std::alloc::Global;
 use xc_data::Boxed;
@@ -32,7 +32,7 @@ pub enum NameCall {
     Unlink,
 }
 
-/// The calls through a handle.
+/// The calls through the handle of a file.
 #[derive(Clone, Copy)]
 pub enum HandleCall {
     Read,
@@ -44,16 +44,27 @@ pub enum HandleCall {
     Sync,
 }
 
-/// The kinds of calls, which the first word of a line tells: what comes behind it first is a term, a name or a handle.
+/// The calls on pipes.
+#[derive(Clone, Copy)]
+pub enum PipeCall {
+    Make,
+    Read,
+    Write,
+    Shutdown,
+}
+
+/// The kinds of calls, which the first word of a line tells: on words, on names of files, through the handle of a file, and on
+/// pipes.
 #[derive(Clone, Copy)]
 pub enum CallKind {
     Word(WordCall),
     Name(NameCall),
     Handle(HandleCall),
+    Pipe(PipeCall),
 }
 
 /// The words that lines begin with which are calls.
-const CALL_KINDS: [(&[u8], CallKind); 13] = [
+const CALL_KINDS: [(&[u8], CallKind); 17] = [
     (b"load", CallKind::Word(WordCall::Load)),
     (b"store", CallKind::Word(WordCall::Store)),
     (b"x_open", CallKind::Name(NameCall::Open)),
@@ -67,6 +78,10 @@ const CALL_KINDS: [(&[u8], CallKind); 13] = [
     (b"x_len", CallKind::Handle(HandleCall::Length)),
     (b"x_close", CallKind::Handle(HandleCall::Close)),
     (b"x_sync", CallKind::Handle(HandleCall::Sync)),
+    (b"x_pipe", CallKind::Pipe(PipeCall::Make)),
+    (b"x_read_pipe", CallKind::Pipe(PipeCall::Read)),
+    (b"x_write_pipe", CallKind::Pipe(PipeCall::Write)),
+    (b"x_shutdown", CallKind::Pipe(PipeCall::Shutdown)),
 ];
 
 fn call_kind(word: &[u8]) -> Option<CallKind>
@@ -164,6 +179,32 @@ fn handle_call<'a>(
     }
 }
 
+fn pipe_call<'a>(
+    alloc: Global,
+    call: PipeCall,
+    rest: &[Token<'a>],
+) -> Result<CallForm<IdentWord<'a>>, Stop>
+    ensures { Gives (λ form. form) result (pipe_form call (map lexeme rest.now)) }
+{
+    match call {
+        PipeCall::Make => Ok(CallForm::Pipe {
+            into: target(rest)?,
+        }),
+        PipeCall::Read => {
+            let (handle, (n, into)) = handle_term_into(rest)?;
+            Ok(CallForm::ReadPipe { handle, n, into })
+        }
+        PipeCall::Write => {
+            let (handle, (data, slot)) = handle_data_slot(alloc, rest)?;
+            Ok(CallForm::WritePipe { handle, data, slot })
+        }
+        PipeCall::Shutdown => {
+            let (handle, slot) = handle_and_slot(rest)?;
+            Ok(CallForm::Shutdown { handle, slot })
+        }
+    }
+}
+
 // The call of a kind that the tokens behind its word make.
 fn call_form<'a>(
     alloc: Global,
@@ -176,6 +217,7 @@ fn call_form<'a>(
         CallKind::Word(call) => Ok(word_call(call, rest)?),
         CallKind::Name(call) => name_call(alloc, call, rest),
         CallKind::Handle(call) => handle_call(alloc, call, rest),
+        CallKind::Pipe(call) => pipe_call(alloc, call, rest),
     }
 }
 

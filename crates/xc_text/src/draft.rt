@@ -5,17 +5,17 @@ ghost use Rattle.xc_text.specs.Grammar.{prologue_line, between_line, block_line,
 ghost use Rattle.xc_text.specs.Said.{opening};
 ghost use Rattle.xc_text.specs.Scripts.{script_of};
 ghost use Rattle.xc_text.specs.Sections.{block_in, is_outside, transaction_in};
-ghost use Rattle.xc_text.specs.Steps.{started, begun, stated, committed, ended_block, after, after_tokens, after_bytes};
+ghost use Rattle.xc_text.specs.Steps.{started, begun, stated, stated_as, committed, ended_block, after, after_tokens, after_bytes};
 
 use crate::block_names::BlockNames;
 use crate::counted::Counted;
-use crate::files::Files;
 use crate::grammar::{between_line, prologue_line};
 use crate::limits::{FIRST_WORDS, MOST_BLOCKS, MOST_TRANSACTIONS};
 use crate::line::{Line, Section};
 use crate::names::Names;
-use crate::places::place_statement;
-use crate::script::{Block, Body, Script, Statement};
+use crate::objects::Objects;
+use crate::places::{place_call, place_let, place_test};
+use crate::script::{Block, Body, Place, Script, Statement};
 use crate::shapes::bare;
 use crate::statements::read_statement;
 use std::alloc::Global;
@@ -35,9 +35,11 @@ pub struct Draft {
     sized: bool,
     /// A `word` line came.
     valued: bool,
-    files: Files,
+    objects: Objects,
     faults: FaultList,
     grain: Option<u32>,
+    /// The variables that the handles of the objects are in.
+    handles: Items<Place>,
     names: Names,
     /// The names of all blocks, also of the one under way.
     jobs: BlockNames,
@@ -59,9 +61,10 @@ impl Model for Draft {
       words = a.words;
       sized = a.sized;
       valued = a.valued;
-      objects = a.files;
+      objects = a.objects;
       faults = a.faults;
       grain = a.grain;
+      handles = a.handles;
       names = a.names;
       jobs = a.jobs;
       blocks = a.blocks;
@@ -87,9 +90,10 @@ impl Draft {
             words: zeros(alloc, FIRST_WORDS)?,
             sized: false,
             valued: false,
-            files: Files::new(alloc),
+            objects: Objects::new(alloc),
             faults: Items::new(alloc),
             grain: None,
+            handles: Items::new(alloc),
             names: Names::new(alloc),
             jobs: BlockNames::new(alloc),
             blocks: Items::new(alloc),
@@ -110,7 +114,7 @@ impl Draft {
         ensures { result ≡ script_of self }
     {
         let prologue = Prologue {
-            objects: self.files.into_objects(),
+            objects: self.objects.into_objects(),
             faults: self.faults,
             grain: self.grain,
         };
@@ -124,6 +128,7 @@ impl Draft {
             blocks: self.blocks,
             variables: self.names.variables,
             slots: self.names.slots,
+            handles: self.handles,
         }
     }
 
@@ -154,15 +159,37 @@ impl Draft {
         Ok(())
     }
 
-    fn state(&mut self, alloc: Global, statement: &Statement<IdentWord>) -> Result<(), Stop>
-        ensures { Gives (λ _. self.new) result (stated self.old statement.now) }
+    // One more statement, whose names have their places. It is handed over in memory from each of its callers.
+    #[inline(never)]
+    fn keep(&mut self, placed: Statement<Place>) -> Result<(), Stop>
+        ensures { Gives (λ _. self.new) result (stated_as self.old (self.old.names, placed)) }
     {
-        let placed = place_statement(alloc, &mut self.names, statement)?;
         if !self.body.has_room(&placed) || !self.names.are_few() {
             return Err(Stop::Refused(Why::TooMany));
         }
         self.body.push(placed)?;
         Ok(())
+    }
+
+    fn state(&mut self, alloc: Global, statement: &Statement<IdentWord>) -> Result<(), Stop>
+        ensures { Gives (λ _. self.new) result (stated self.old statement.now) }
+    {
+        match statement {
+            Statement::Call(form) => {
+                let placed = place_call(alloc, &mut self.names, form)?;
+                self.keep(placed)
+            }
+            Statement::Let { into, value } => {
+                let placed = place_let(&mut self.names, into, value)?;
+                self.keep(placed)
+            }
+            Statement::Abort => self.keep(Statement::Abort),
+            Statement::AbortIf { left, test, right } => {
+                let placed = place_test(&mut self.names, left, *test, right)?;
+                self.keep(placed)
+            }
+            Statement::Require => self.keep(Statement::Require),
+        }
     }
 
     fn commit(&mut self, alloc: Global) -> Result<(), Stop>
@@ -196,6 +223,7 @@ impl Draft {
             Line::Words(n) => self.size(alloc, n),
             Line::Word { at, value } => self.value(at, value),
             Line::File { name, bytes } => self.file(name, bytes),
+            Line::Pipe { handle, bytes } => self.pipe(&handle, bytes),
             Line::Fault { kind, n } => self.fault(kind, n),
             Line::Grain(n) => self.set_grain(n),
             Line::Job(name) => self.start(name),

@@ -3,15 +3,19 @@
 ghost use Rattle.std.specs.Prelude.{◌≡◌, map};
 ghost use Rattle.xc_tokens.specs.Answers.{Gives};
 ghost use Rattle.xc_text.specs.Grammar.{words_line as words_said, word_line as word_said, file_line as file_said, job_line as job_said};
-ghost use Rattle.xc_text.specs.Grammar.{fault_line as fault_said, grain_line as grain_said};
+ghost use Rattle.xc_text.specs.Grammar.{pipe_line as pipe_said, fault_line as fault_said, grain_line as grain_said};
 ghost use Rattle.xc_text.specs.Grammar.{prologue_line as prologue_said, between_line as between_said};
 ghost use Rattle.xc_tokens.specs.Literals.{only_literals as literals_alone};
 ghost use Rattle.xc_tokens.specs.Views.{lexeme};
 
 use crate::kinds::kind;
+use crate::limits::MOST_PIPE_BYTES;
 use crate::line::Line;
 use std::alloc::Global;
-use xc_tokens::{Stop, Token, Why, are_literals, both, contents, ident, name, number, spells};
+use xc_data::MOST_FILE_BYTES;
+use xc_tokens::{
+    Stop, Token, Why, are_literals, both, contents, ident, ident_token, name, number, spells,
+};
 
 fn words_line<'a>(tokens: &[Token<'a>]) -> Result<Line<'a>, Why>
     ensures { result ≡ words_said (map lexeme tokens.now) }
@@ -50,8 +54,21 @@ fn file_line<'a>(alloc: Global, tokens: &[Token<'a>]) -> Result<Line<'a>, Stop>
         [] => Err(Stop::Refused(Why::BadForm)),
         [first, literals @ ..] => {
             let (name, ()) = both(name(first), check_literals(literals))?;
-            let bytes = contents(alloc, literals)?;
+            let bytes = contents(alloc, MOST_FILE_BYTES as u32, literals)?;
             Ok(Line::File { name, bytes })
+        }
+    }
+}
+
+fn pipe_line<'a>(alloc: Global, tokens: &[Token<'a>]) -> Result<Line<'a>, Stop>
+    ensures { Gives (λ line. line) result (pipe_said (map lexeme tokens.now)) }
+{
+    match tokens {
+        [] => Err(Stop::Refused(Why::BadForm)),
+        [first, literals @ ..] => {
+            let (handle, ()) = both(ident_token(first), check_literals(literals))?;
+            let bytes = contents(alloc, MOST_PIPE_BYTES, literals)?;
+            Ok(Line::Pipe { handle, bytes })
         }
     }
 }
@@ -98,6 +115,9 @@ pub fn prologue_line<'a>(alloc: Global, word: &[u8], rest: &[Token<'a>]) -> Resu
     }
     if spells(word, b"file") {
         return file_line(alloc, rest);
+    }
+    if spells(word, b"pipe") {
+        return pipe_line(alloc, rest);
     }
     if spells(word, b"fault") {
         return Ok(fault_line(rest)?);

@@ -6,8 +6,12 @@ pub const MOST_SCRIPT_BYTES: usize = 1_048_576;
 pub const MOST_WORDS: u64 = 4096;
 /// Words where no line gives their number.
 pub const FIRST_WORDS: u64 = 16;
-/// Files of a prologue.
-pub const MOST_FILES: usize = 4096;
+/// Objects of a prologue.
+pub const MOST_OBJECTS: usize = 4096;
+/// Pipes among them.
+pub const MOST_PIPES: u32 = 64;
+/// The bytes that a pipe opens with.
+pub const MOST_PIPE_BYTES: u32 = 4096;
 /// The grain of a host.
 pub const MOST_GRAIN: u64 = 65_536;
 /// Blocks of a script.

@@ -53,11 +53,25 @@ pub enum Line<'a> {
     /// The number of words.
     Words(u64),
     /// A word opens with a value.
-    Word { at: u64, value: u64 },
+    Word {
+        at: u64,
+        value: u64,
+    },
     /// A file opens with its bytes; none where they are too many.
-    File { name: Name, bytes: Option<Chunk> },
+    File {
+        name: Name,
+        bytes: Option<Chunk>,
+    },
+    /// A pipe opens with its bytes, none where they are too many, and each job has its handle in a variable.
+    Pipe {
+        handle: IdentWord<'a>,
+        bytes: Option<Chunk>,
+    },
     /// The nth call of a kind fails.
-    Fault { kind: Kind, n: u64 },
+    Fault {
+        kind: Kind,
+        n: u64,
+    },
     /// The most bytes of one read or write.
     Grain(u64),
     /// A `job` block begins.

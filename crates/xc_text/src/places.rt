@@ -1,7 +1,8 @@
-//! Statements with the places of their names.
+//! The parts of statements with the places of their names.
 
 ghost use Rattle.std.specs.Prelude.{◌≡◌, IfOk, OnOk};
 ghost use Rattle.xc_text.specs.declared.script.CallForm.TheVariants as call;
+ghost use Rattle.xc_text.specs.declared.script.Statement.TheVariants as statement;
 ghost use Rattle.xc_text.specs.Places.{placed_term, placed_expression, placed_target, placed_ending, placed_item, placed_data};
 ghost use Rattle.xc_text.specs.Places.{placed_term_into, placed_written, placed_form, placed_test, placed as placed_statement};
 
@@ -285,6 +286,61 @@ fn place_sync(
     Ok(CallForm::Sync { handle, slot })
 }
 
+#[inline(never)]
+fn place_pipe(names: &mut Names, into: &Option<IdentWord>) -> Result<CallForm<Place>, NoMemory>
+    ensures names { OnOk result (names.new ≡ (placed_form names.old (call.Pipe into.now)).0) }
+    ensures placed { IfOk result (λ placed. placed ≡ (placed_form names.old (call.Pipe into.now)).1) }
+{
+    let into = place_target(names, into)?;
+    Ok(CallForm::Pipe { into })
+}
+
+#[inline(never)]
+fn place_read_pipe(
+    names: &mut Names,
+    handle: &IdentWord,
+    n: &Term<IdentWord>,
+    into: &Option<IdentWord>,
+) -> Result<CallForm<Place>, NoMemory>
+    ensures names { OnOk result (names.new ≡ (placed_form names.old (call.ReadPipe handle.now n.now into.now)).0) }
+    ensures placed { IfOk result (λ placed. placed ≡ (placed_form names.old (call.ReadPipe handle.now n.now into.now)).1) }
+{
+    let handle = names.variable(handle)?;
+    let (n, into) = place_term_into(names, n, into)?;
+    Ok(CallForm::ReadPipe { handle, n, into })
+}
+
+#[inline(never)]
+fn place_write_pipe(
+    alloc: Global,
+    names: &mut Names,
+    handle: &IdentWord,
+    items: &Data<IdentWord>,
+    slot: &Option<IdentWord>,
+) -> Result<CallForm<Place>, NoMemory>
+    ensures names { OnOk result (names.new ≡ (placed_form names.old (call.WritePipe handle.now items.now slot.now)).0) }
+    ensures placed { IfOk result (λ placed. placed ≡ (placed_form names.old (call.WritePipe handle.now items.now slot.now)).1) }
+{
+    let (handle, data) = place_written(alloc, names, handle, items)?;
+    let slot = place_ending(names, slot)?;
+    Ok(CallForm::WritePipe { handle, data, slot })
+}
+
+#[inline(never)]
+fn place_shutdown(
+    names: &mut Names,
+    handle: &IdentWord,
+    slot: &Option<IdentWord>,
+) -> Result<CallForm<Place>, NoMemory>
+    ensures names { OnOk result (names.new ≡ (placed_form names.old (call.Shutdown handle.now slot.now)).0) }
+    ensures placed { IfOk result (λ placed. placed ≡ (placed_form names.old (call.Shutdown handle.now slot.now)).1) }
+{
+    let handle = names.variable(handle)?;
+    let slot = place_ending(names, slot)?;
+    Ok(CallForm::Shutdown { handle, slot })
+}
+
+// The form with the places of its variables and slots, read or written; those that are new take the next ones.
 fn place_form(
     alloc: Global,
     names: &mut Names,
@@ -307,10 +363,29 @@ fn place_form(
         CallForm::Length { handle, into } => place_length(names, handle, into),
         CallForm::Close { handle } => place_close(names, handle),
         CallForm::Sync { handle, slot } => place_sync(names, handle, slot),
+        CallForm::Pipe { into } => place_pipe(names, into),
+        CallForm::ReadPipe { handle, n, into } => place_read_pipe(names, handle, n, into),
+        CallForm::WritePipe { handle, data, slot } => {
+            place_write_pipe(alloc, names, handle, data, slot)
+        }
+        CallForm::Shutdown { handle, slot } => place_shutdown(names, handle, slot),
     }
 }
 
-fn place_test(
+/// A call with its places.
+pub fn place_call(
+    alloc: Global,
+    names: &mut Names,
+    form: &CallForm<IdentWord>,
+) -> Result<Statement<Place>, NoMemory>
+    ensures names { OnOk result (names.new ≡ (placed_statement names.old (statement.Call form.now)).0) }
+    ensures placed { IfOk result (λ placed. placed ≡ (placed_statement names.old (statement.Call form.now)).1) }
+{
+    Ok(Statement::Call(place_form(alloc, names, form)?))
+}
+
+/// A test with its places.
+pub fn place_test(
     names: &mut Names,
     left: &Term<IdentWord>,
     test: Test,
@@ -324,24 +399,16 @@ fn place_test(
     Ok(Statement::AbortIf { left, test, right })
 }
 
-/// The statement with the places of its variables and slots, read or written; those that are new take the next ones.
-pub fn place_statement(
-    alloc: Global,
+/// A `let` with its places.
+pub fn place_let(
     names: &mut Names,
-    statement: &Statement<IdentWord>,
+    into: &IdentWord,
+    value: &Expression<IdentWord>,
 ) -> Result<Statement<Place>, NoMemory>
-    ensures names { OnOk result (names.new ≡ (placed_statement names.old statement.now).0) }
-    ensures placed { IfOk result (λ placed. placed ≡ (placed_statement names.old statement.now).1) }
+    ensures names { OnOk result (names.new ≡ (placed_statement names.old (statement.Let into.now value.now)).0) }
+    ensures placed { IfOk result (λ placed. placed ≡ (placed_statement names.old (statement.Let into.now value.now)).1) }
 {
-    match statement {
-        Statement::Call(form) => Ok(Statement::Call(place_form(alloc, names, form)?)),
-        Statement::Let { into, value } => {
-            let into = names.variable(into)?;
-            let value = place_expression(names, value)?;
-            Ok(Statement::Let { into, value })
-        }
-        Statement::Abort => Ok(Statement::Abort),
-        Statement::AbortIf { left, test, right } => place_test(names, left, *test, right),
-        Statement::Require => Ok(Statement::Require),
-    }
+    let into = names.variable(into)?;
+    let value = place_expression(names, value)?;
+    Ok(Statement::Let { into, value })
 }

@@ -108,6 +108,27 @@ pub enum CallForm<N> {
         handle: N,
         slot: Option<N>,
     },
+    /// Makes an empty pipe.
+    Pipe {
+        into: Option<N>,
+    },
+    /// Takes up to n bytes from the front of the pipe whose handle is in a variable.
+    ReadPipe {
+        handle: N,
+        n: Term<N>,
+        into: Option<N>,
+    },
+    /// Puts bytes behind those of the pipe whose handle is in a variable, at the commit.
+    WritePipe {
+        handle: N,
+        data: Data<N>,
+        slot: Option<N>,
+    },
+    /// Shuts the pipe whose handle is in a variable, at the commit: it takes no bytes any more.
+    Shutdown {
+        handle: N,
+        slot: Option<N>,
+    },
 }
 
 /// A line of a transaction between its `tx` and its `commit`.
@@ -154,6 +175,8 @@ pub struct Script {
     pub variables: IdentList,
     /// The names of its slots, likewise.
     pub slots: IdentList,
+    /// The variables that each job has the prologue's handles in, by the numbers of the handles.
+    pub handles: Items<Place>,
 }
 
 impl Script {

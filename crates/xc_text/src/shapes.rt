@@ -3,6 +3,7 @@
 ghost use Rattle.std.specs.Prelude.{◌≡◌, ◌∷◌, [], map};
 ghost use Rattle.xc_text.specs.Pieces.{data_of};
 ghost use Rattle.xc_text.specs.Shapes.{bare as bare_said, alone, led, target as target_said, slot_ending as slot_ending_said};
+ghost use Rattle.xc_text.specs.Shapes.{before_slot, parted as parted_said};
 ghost use Rattle.xc_text.specs.Terms.{term as term_said, expression_of};
 ghost use Rattle.xc_tokens.specs.Answers.{Gives};
 ghost use Rattle.xc_tokens.specs.Views.{lexeme};
@@ -34,7 +35,8 @@ fn target_in<'a>(arrow: &Token, into: &Token<'a>) -> Result<Option<IdentWord<'a>
     Ok(Some(ident_token(into)?))
 }
 
-fn target<'a>(tokens: &[Token<'a>]) -> Result<Option<IdentWord<'a>>, Why>
+/// Nothing, or `-> V`
+pub fn target<'a>(tokens: &[Token<'a>]) -> Result<Option<IdentWord<'a>>, Why>
     ensures { result ≡ target_said (map lexeme tokens.now) }
 {
     match tokens {
@@ -60,6 +62,17 @@ fn slot_ending<'a>(tokens: &[Token<'a>]) -> Result<Option<IdentWord<'a>>, Why>
         [] => Ok(None),
         [word, slot] => slot_in(word, slot),
         _ => Err(Why::BadForm),
+    }
+}
+
+// The tokens in front of `slot S`, and those two where the tokens end so.
+fn parted<'t, 'a>(tokens: &'t [Token<'a>]) -> (&'t [Token<'a>], &'t [Token<'a>])
+    ensures front { map lexeme result.0.now ≡ (parted_said (map lexeme tokens.now)).0 }
+    ensures ending { map lexeme result.1.now ≡ (parted_said (map lexeme tokens.now)).1 }
+{
+    match tokens {
+        [.., word, _] if is_sign(word, b"slot") => tokens.split_at(tokens.len() - 2),
+        _ => tokens.split_at(tokens.len()),
     }
 }
 
@@ -217,6 +230,25 @@ pub fn handle_and_data<'a>(
             let handle = beside(ident_token(handle), check_data(items))?;
             let data = data(alloc, items)?;
             Ok((handle, data))
+        }
+    }
+}
+
+/// `H D`, `H D slot S`
+pub fn handle_data_slot<'a>(
+    alloc: Global,
+    tokens: &[Token<'a>],
+) -> Result<(IdentWord<'a>, (Data<IdentWord<'a>>, Option<IdentWord<'a>>)), Stop>
+    ensures { Gives (λ written. written) result (led ident_said (before_slot data_of) (map lexeme tokens.now)) }
+{
+    match tokens {
+        [] => Err(Stop::Refused(Why::BadForm)),
+        [handle, behind @ ..] => {
+            let (items, ending) = parted(behind);
+            let slot = both(check_data(items), slot_ending(ending));
+            let (handle, ((), slot)) = both(ident_token(handle), slot)?;
+            let data = data(alloc, items)?;
+            Ok((handle, (data, slot)))
         }
     }
 }

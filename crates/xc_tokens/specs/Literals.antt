@@ -27,6 +27,6 @@ is_within most tokens = nat_le (length (joined tokens)) most
 abbrev pub only_literals : List Lexeme → Result (Unit {0}) Why
 only_literals tokens = if list_all is_literal tokens then Ok tt else Err BadForm
 
--- a file's bytes, none where there are more than 65,536
-abbrev pub contents : List Lexeme → Option (List ℕ)
-contents tokens = if is_within 65536 tokens then Some (joined tokens) else None
+-- the bytes of all literals, none where there are more than so many
+abbrev pub contents : ℕ → List Lexeme → Option (List ℕ)
+contents most tokens = if is_within most tokens then Some (joined tokens) else None

@@ -6,7 +6,7 @@ ghost use Rattle.xc_tokens.specs.Views.{lexeme};
 
 use crate::token::Token;
 use std::alloc::Global;
-use xc_data::{Chunk, MOST_FILE_BYTES, NoMemory};
+use xc_data::{Chunk, NoMemory};
 
 fn is_literal(token: &Token) -> bool
     ensures { result ≡ is_literal_token (lexeme token.now) }
@@ -98,11 +98,11 @@ fn joined(alloc: Global, tokens: &[Token]) -> Result<Chunk, NoMemory>
     Chunk::from_vec(bytes)
 }
 
-/// A file's bytes, none where there are more than 65,536.
-pub fn contents(alloc: Global, tokens: &[Token]) -> Result<Option<Chunk>, NoMemory>
-    ensures { IfOk result (λ bytes. bytes ≡ contents_said (map lexeme tokens.now)) }
+/// The bytes of all literals, none where there are more than so many.
+pub fn contents(alloc: Global, most: u32, tokens: &[Token]) -> Result<Option<Chunk>, NoMemory>
+    ensures { IfOk result (λ bytes. bytes ≡ contents_said most (map lexeme tokens.now)) }
 {
-    if !is_within(MOST_FILE_BYTES as u32, tokens) {
+    if !is_within(most, tokens) {
         return Ok(None);
     }
     Ok(Some(joined(alloc, tokens)?))

@@ -3,13 +3,14 @@
 ghost use Rattle.std.specs.Prelude.{◌≡◌, false, Some};
 ghost use Rattle.std.specs.List.{list_any};
 ghost use Rattle.xc_tokens.specs.Answers.{Gives};
-ghost use Rattle.xc_text.specs.Steps.{is_file_of, sized_by, valued_by, filed, added, faulted, grained};
+ghost use Rattle.xc_text.specs.Places.{variable};
+ghost use Rattle.xc_text.specs.Steps.{is_file_of, sized_by, valued_by, filed, added, piped, piped_at, faulted, grained};
 
 use crate::draft::{Draft, zeros};
-use crate::limits::{MOST_FILES, MOST_GRAIN, MOST_WORDS};
+use crate::limits::{MOST_GRAIN, MOST_OBJECTS, MOST_WORDS};
 use std::alloc::Global;
 use xc_data::{Chunk, FaultLine, Kind, Name};
-use xc_tokens::{Stop, Why};
+use xc_tokens::{IdentWord, Stop, Why};
 
 impl Draft {
     pub(super) fn size(&mut self, alloc: Global, n: u64) -> Result<(), Stop>
@@ -41,21 +42,42 @@ impl Draft {
         requires new { list_any (is_file_of name) self.old.objects ≡ false }
         ensures { Gives (λ _. self.new) result (added self.old name (Some bytes)) }
     {
-        if self.files.len() >= MOST_FILES {
+        if self.objects.len() >= MOST_OBJECTS {
             return Err(Stop::Refused(Why::TooMany));
         }
-        self.files.push(name, bytes)?;
+        self.objects.push_file(name, bytes)?;
         Ok(())
     }
 
     pub(super) fn file(&mut self, name: Name, bytes: Option<Chunk>) -> Result<(), Stop>
         ensures { Gives (λ _. self.new) result (filed self.old name bytes) }
     {
-        if self.files.has(name) {
+        if self.objects.has(name) {
             return Err(Stop::Refused(Why::Twice));
         }
         match bytes {
             Some(bytes) => self.add_file(name, bytes),
+            None => Err(Stop::Refused(Why::TooMany)),
+        }
+    }
+
+    fn add_pipe(&mut self, handle: &IdentWord, bytes: Chunk) -> Result<(), Stop>
+        ensures { Gives (λ _. self.new) result (piped_at self.old bytes (variable self.old.names handle.now)) }
+    {
+        let at = self.names.variable(handle)?;
+        if !self.objects.has_room_for_pipe() || !self.names.are_few() {
+            return Err(Stop::Refused(Why::TooMany));
+        }
+        self.objects.push_pipe(bytes)?;
+        self.handles.push(at)?;
+        Ok(())
+    }
+
+    pub(super) fn pipe(&mut self, handle: &IdentWord, bytes: Option<Chunk>) -> Result<(), Stop>
+        ensures { Gives (λ _. self.new) result (piped self.old handle.now bytes) }
+    {
+        match bytes {
+            Some(bytes) => self.add_pipe(handle, bytes),
             None => Err(Stop::Refused(Why::TooMany)),
         }
     }

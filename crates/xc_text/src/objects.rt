@@ -1,39 +1,43 @@
-ghost use Rattle.std.specs.Prelude.{◌≡◌, ◌++◌, ◌∷◌, [], false, length, OnOk, OnErr};
+ghost use Rattle.std.specs.Prelude.{◌≡◌, ◌++◌, ◌∷◌, [], true, false, length, OnOk, OnErr};
 ghost use Rattle.std.specs.List.{list_any};
-ghost use Rattle.xc_data.specs.declared.script.Opened.TheVariants.{File};
-ghost use Rattle.xc_text.specs.Steps.{is_file_of};
+ghost use Rattle.xc_data.specs.declared.script.Opened.TheVariants.{File, Pipe};
+ghost use Rattle.xc_text.specs.Steps.{has_room_for_pipe, is_file_of};
 
+use crate::limits::{MOST_OBJECTS, MOST_PIPES};
 use std::alloc::Global;
 use std::marker::Model;
 use xc_data::{Chunk, Items, Name, NoMemory, Opened, OpenedList};
 use xc_maps::NameMap;
 
-/// The files of a prologue, in the order of their lines, and found by their names.
+/// The objects of a prologue in the order of their lines. Files are found by their names, and pipes are counted.
 #[derive(Drop)]
-pub struct Files {
+pub struct Objects {
     objects: OpenedList,
     names: NameMap<()>,
+    pipes: u32,
 }
 
-impl Model for Files {
-    ghost use Rattle.std.specs.Prelude.{List};
+impl Model for Objects {
+    ghost use Rattle.std.specs.Prelude.{◌≡◌, List, count_by};
     ghost use Rattle.xc_data.specs.declared.script.Opened.{Opened};
+    ghost use Rattle.xc_data.specs.Limits.{is_pipe_line};
     ghost use Rattle.xc_text.specs.Views.{NamesFiles};
 
     ghost Value = { List Opened };
 
     ghost view = { λ a. a.objects };
 
-    ghost invariant = { λ a. NamesFiles a.names a.objects };
+    ghost invariant = { λ a. NamesFiles a.names a.objects × (a.pipes ≡ count_by is_pipe_line a.objects) };
 }
 
-impl Files {
+impl Objects {
     pub fn new(alloc: Global) -> Self
         ensures { result ≡ [] }
     {
-        Files {
+        Objects {
             objects: Items::new(alloc),
             names: NameMap::new(alloc),
+            pipes: 0,
         }
     }
 
@@ -43,15 +47,22 @@ impl Files {
         self.objects.len()
     }
 
-    /// One of them has the name.
+    /// A file among them has the name.
     pub fn has(&self, name: Name) -> bool
         ensures { result ≡ list_any (is_file_of name) self.now }
     {
         self.names.get(name).is_some()
     }
 
+    /// A prologue may have a pipe more.
+    pub fn has_room_for_pipe(&self) -> bool
+        ensures { result ≡ has_room_for_pipe self.now }
+    {
+        self.objects.len() < MOST_OBJECTS && self.pipes < MOST_PIPES
+    }
+
     /// Adds a file of a name that none of them has.
-    pub fn push(&mut self, name: Name, bytes: Chunk) -> Result<(), NoMemory>
+    pub fn push_file(&mut self, name: Name, bytes: Chunk) -> Result<(), NoMemory>
         requires new { list_any (is_file_of name) self.old ≡ false }
         ensures ok { OnOk result (self.new ≡ self.old ++ File name bytes ∷ []) }
         ensures err { OnErr result (self.new ≡ self.old) }
@@ -64,6 +75,16 @@ impl Files {
                 Err(NoMemory)
             }
         }
+    }
+
+    pub fn push_pipe(&mut self, bytes: Chunk) -> Result<(), NoMemory>
+        requires room { has_room_for_pipe self.old ≡ true }
+        ensures ok { OnOk result (self.new ≡ self.old ++ Pipe bytes ∷ []) }
+        ensures err { OnErr result (self.new ≡ self.old) }
+    {
+        self.objects.push(Opened::Pipe { bytes })?;
+        self.pipes += 1;
+        Ok(())
     }
 
     /// It takes no memory.

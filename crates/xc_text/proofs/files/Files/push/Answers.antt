@@ -1,6 +1,0 @@
-use Rattle.xc_text.proofs.FilesByName.{one_name_more}
-use Rattle.xc_text.proofs.files.Files.push.Goals as goal
-
-pub invariant_of-self-in-Ok : goal.invariant_of-self-in-Ok
-invariant_of-self-in-Ok c =
-    rw (c.in_ok-insert.ensures.ok, c.in-Ok.ensures.ok) (one_name_more c.self.inside.names c.self.inside.objects c.args.name c.args.bytes c.self.invariant)
