@@ -192,7 +192,7 @@ kept_pair c (item ∷ items) num backed keeps =
     its_pair (Message n side bytes) is from = ap (λ k. is_some (map.get c.pairs k)) (tied num_total num_exact num n from) ∙ is.there
 
 -- an object that is there with backed data in front is there without
-there_below : (c : Contents) (items : List KeptItem) → All (IsBacked c) items → (o : Object) → is_there (given_back (world_of c) items) o ≡ true
+pub there_below : (c : Contents) (items : List KeptItem) → All (IsBacked c) items → (o : Object) → is_there (given_back (world_of c) items) o ≡ true
     → is_there (world_of c) o ≡ true
 there_below c items backed (object.File num) is = ap (λ (files : map.FinMap num_cmp (List ℕ)). is_some (map.get files num)) (sym (kept_files c items)) ∙ is
 there_below c items backed (object.Pipe num) is =

@@ -1,5 +1,5 @@
 -- Each call of a transaction is the plain machine's, or leaves its part where memory is wanting.
-use Rattle.std.proofs.Common.{◌≡◌, ◌⊎◌, inl, inr, ℕ, ◌≤◌, true, false, List, [], ◌++◌, length, refl, ap, sym, ◌∙◌, subst, IsTrue, arith}
+use Rattle.std.proofs.Common.{◌≡◌, ◌⊎◌, inl, inr, ℕ, ◌≤◌, true, false, List, [], ◌∷◌, ◌++◌, length, refl, ap, sym, ◌∙◌, subst, IsTrue, arith}
 use Rattle.std.proofs.lemmas.List.{append_cancel_left}
 use Rattle.std.proofs.lemmas.List.Elements.{All-nil}
 use Rattle.std.specs.Prelude.{All, Option, Result, Ok, Err, IfOk, IsErr, IsOk, OnErr, OnOk, is_err}
@@ -23,10 +23,14 @@ use Rattle.xc_deferred.specs.Queue.{Queue}
 use Rattle.xc_file.specs.Calls.{Acts, AreRecorded, CallState, DidPart, IsFileCall, Moment, StepsAlone}
 use Rattle.xc_file.specs.Kept.{IsKept}
 use Rattle.xc_file.proofs.FileCalls.{alone_call}
-use Rattle.xc_host.specs.Contents.{with_contents}
+use Rattle.xc_data.specs.Private.{place_of}
+use Rattle.xc_host.specs.Contents.{contents_of, with_contents, world_of}
+use Rattle.xc_host.specs.Fronted.{Fronted, before as in_front, fronted}
 use Rattle.xc_host.specs.Kept.{KeepsData, with_kept}
 use Rattle.xc_host.specs.Model.{HostModel}
-use Rattle.xc_host.specs.Uses.{CallsOf}
+use Rattle.xc_host.specs.Uses.{CallsOf, Uses}
+use Rattle.xc_pipe.specs.Deferring.{IsKeptWith}
+use Rattle.xc_pipe.specs.Reading.{IsPipeIn, Notes}
 use Rattle.xc_host.proofs.Called.{unused}
 use Rattle.xc_data.specs.declared.script.Kind.{Kind}
 use Rattle.xc_script.specs.declared.ask.Ask.TheVariants as ask
@@ -41,23 +45,32 @@ use Rattle.xc_world.specs.Act.Step.{Stepped, step_to}
 use Rattle.xc_world.specs.Effects.{takes_data}
 use Rattle.xc_world.specs.Fits.{fits, answer_of}
 use Rattle.xc_world.specs.Late.{kept_call}
-use Rattle.xc_world.specs.Run.{taken_by}
+use Rattle.xc_world.specs.Run.{given_back, taken_by}
 use Rattle.xc_data.specs.Calls.{is_late, is_kept}
 use Rattle.xc_world.specs.Trail.{recorded}
 use Rattle.xc_story.specs.Rows.{Parts, DoesIn, DoesPartIn, IsReplyInTime, StopsAt, parts_of, seen, stored_by}
 use Rattle.xc_story.specs.Seen.{SeenTx, queue_of, with_queue}
 use Rattle.xc_story.specs.WordCalls.{IsWordStep, is_word_call, word_reply, words_after}
-use Rattle.xc_station.specs.Acting.{Acting, HasActed, HasDone, LeavesOff, told_between, told_of, with_parts}
+use Rattle.xc_station.specs.Acting.{Acting, HasActed, HasDone, LeavesOff, StopsRead, leaving, told_between, told_of, with_parts}
 use Rattle.xc_station.specs.Lent.{IsBacked}
 use Rattle.xc_station.proofs.Backed.{keeps_called, keeps_part}
-use Rattle.xc_station.proofs.Lent.{acts_kept, part_kept, recorded_there}
+use Rattle.xc_station.proofs.Lent.{acts_kept, kept_again, kept_of, part_kept, recorded_there}
+use Rattle.xc_station.proofs.PipeReads.{IsReadStep, PipeRead, read_returns}
 use Rattle.xc_station.proofs.Notes.{keeps_itself}
 use Rattle.xc_station.proofs.WordActs.{append_nil, still_words, no_stores, no_value, word-act, word-after, word-checked, word-fine, word-quiet}
 use Rattle.xc_station.proofs.WordActs.{word-trail, word-uses}
 
--- a host with a transaction at it, as calls on files see them
+-- a host with a transaction at it, as calls see them
+abbrev pub calling_at : {K : Type 0} → K → SeenTx → CallState K
+calling_at host tx = record { host = host; number = tx.number; me = tx.me; undo = tx.undo }
+
+-- as calls on files do
 abbrev pub calling : {H : Type 0} → Acting H → CallState H
-calling a = record { host = a.host; number = a.tx.number; me = a.tx.me; undo = a.tx.undo }
+calling a = calling_at a.host a.tx
+
+-- and as calls on pipes do: with what is kept in front
+abbrev pub calling_front : {H : Type 0} → Acting H → CallState (Fronted H)
+calling_front a = calling_at (in_front a.host a.kept) a.tx
 
 -- ---- calls that are done now
 -- one that replies now isn't kept for the commit
@@ -84,7 +97,7 @@ off_untaken (call.XRecvmsg h) off = cc off
 off_untaken _ off = refl
 
 -- a call that takes no data adds no note
-none_taken : (c : Call) (me : Private) (r : Reply) → takes_data c ≡ false → taken_by c me r ≡ []
+pub none_taken : (c : Call) (me : Private) (r : Reply) → takes_data c ≡ false → taken_by c me r ≡ []
 none_taken (call.XReadPipe h n) me r untaken = cc untaken
 none_taken (call.XRecvmsg h) me r untaken = cc untaken
 none_taken _ me r untaken = refl
@@ -107,14 +120,21 @@ pub record IsToldCall {H : Type 0} (model : HostModel H) (c : Call) (step : Step
   pub backed : All (IsBacked (model.contents step.old.host)) (taken_by c step.old.tx.me reply)
   pub keeps : KeepsData (model.contents step.old.host) (model.contents step.new.host)
 
--- ---- a call on files, or one that reaches no host
-module _ {H : Type 0} (model : HostModel H) (c : Call) (old new : Acting H) (other : is_word_call c ≡ false) where
+-- calls of a host with something in front are its own
+uses_below : {H : Type 0} {IsMade : List Kind → Type 0} (model : HostModel H) (a b : Fronted H) → Uses (fronted model) (record { old = a; new = b }) IsMade
+    → Uses model (record { old = a.host; new = b.host }) IsMade
+uses_below model a b u = record { made = u.made; named = u.named; used = record { called = u.used.called; plan = u.used.plan } }
+
+-- ---- a call on files or on pipes, or one that reaches no host
+module _ {H K : Type 0} (model : HostModel H) (seen_as : HostModel K) (a b : K) (c : Call) (old new : Acting H) (other : is_word_call c ≡ false) where
   -- it is done
-  file_done : (reply : Reply) (k : IsFileCall model c (calling old) (calling new) (Ok reply)) → (IsTrue model.tells
-      → IsToldCall model c (record { old = old; new = new }) k.made reply)
+  call_done : (reply : Reply) (k : IsFileCall seen_as c (calling_at a old.tx) (calling_at b new.tx) (Ok reply))
+      → Uses model (record { old = old.host; new = new.host }) (CallsOf (refusal_of c old.tx.me) c reply)
+      → CountsFault (is_fault_reply reply) (model.fault_count old.host) (model.fault_count new.host)
+      → (IsTrue model.tells → IsToldCall model c (record { old = old; new = new }) k.made reply)
       → new.tx ≡ with_parts old.tx c reply (parts_of new.tx)
       → new.tx.writes ≡ old.tx.writes → new.tx.me.stored ≤ 16384 → IsReplyInTime old.tx.me old.tx.number c reply → HasDone model c old new reply
-  file_done reply k told frame writes stored in_time =
+  call_done reply k uses cause told frame writes stored in_time =
       let over = λ (w : World). record w { words = overlaid w.words old.tx.writes } in
       record {
         tx = frame;
@@ -127,8 +147,8 @@ module _ {H : Type 0} (model : HostModel H) (c : Call) (old new : Acting H) (oth
         count = k.count;
         undo = k.undo;
         in_time = in_time;
-        uses = k.uses;
-        cause = k.cause;
+        uses = uses;
+        cause = cause;
         spoken = subst (λ ws. IsWordStep (overlaid old.words old.tx.writes) (overlaid old.words ws) c reply) (sym writes)
             (still_words (overlaid old.words old.tx.writes) c reply other);
         backed = λ tells. (told tells).backed;
@@ -205,7 +225,8 @@ module _ {H : Type 0} (model : HostModel H) (c : Call) (old new : Acting H) (oth
       → new.tx.writes ≡ old.tx.writes → new.tx.me.stored ≤ 16384 → is_kept c ≡ false → IfOk r (λ reply. is_late reply ≡ false)
       → HasActed model c old new r
   file_answered (Ok reply) k frame writes stored at_once now =
-      file_done model c old new other reply k (file_told reply k) (frame ∙ framed_now old.tx (parts_of new.tx) c reply (off_untaken c off) now) writes stored
+      call_done model model old.host new.host c old new other reply k k.uses k.cause (file_told reply k)
+      (frame ∙ framed_now old.tx (parts_of new.tx) c reply (off_untaken c off) now) writes stored
       (in_time_now c old.tx.me old.tx.number reply at_once now)
   file_answered (Err e) k frame writes stored at_once now = file_left e k frame writes
 
@@ -245,21 +266,139 @@ pub alone_acted_at : {H : Type 0} (model : HostModel H) (c d : Call) (old : Acti
 alone_acted_at model c d old next me reply same is other off at_once alone =
     alone_acted model c d old next reply is other off at_once (subst (λ (m : Private). StepsAlone d m next reply) same alone)
 
+-- ---- a call on a pipe
+module _ {H : Type 0} (model : HostModel H) (c : Call) (old new : Acting H) (other : is_word_call c ≡ false) where
+  -- over the host with what is kept in front it is the plain machine's
+  pub pipe_done : (reply : Reply) → IsFileCall (fronted model) c (calling_front old) (calling_front new) (Ok reply)
+      → (IsTrue model.tells → All (IsBacked (model.contents old.host)) (taken_by c old.tx.me reply))
+      → (IsTrue model.tells → KeepsData (model.contents old.host) (model.contents new.host))
+      → new.tx ≡ with_parts old.tx c reply (parts_of new.tx) → new.tx.writes ≡ old.tx.writes → new.tx.me.stored ≤ 16384
+      → IsReplyInTime old.tx.me old.tx.number c reply → HasDone model c old new reply
+  pipe_done reply k backed keeps frame writes stored in_time =
+      call_done model (fronted model) (in_front old.host old.kept) (in_front new.host new.kept) c old new other reply k
+      (uses_below model (in_front old.host old.kept) (in_front new.host new.kept) k.uses) k.cause
+      (λ tells. record { acts = k.acts tells; records = k.records tells; backed = backed tells; keeps = keeps tells })
+      frame writes stored in_time
+
+  -- what it did where memory is wanting
+  pipe_part : takes_data c ≡ false → (left : List Undo)
+      → ((left ≡ []) × (told_of model new ≡ told_of model old)) ⊎ DidPart c (told_moment model old) (told_of model new) left
+      → ((left ≡ []) × (told_of model new ≡ told_of model old))
+      ⊎ ((a : Answer) × DoesPartIn old.words (told_between model old new) (parts_of old.tx) (record { call = c; answer = a }) left)
+  pipe_part untaken left (inl same) = inl same
+  pipe_part untaken left (inr did) =
+      let over = λ (w : World). record w { words = overlaid w.words old.tx.writes } in
+      inr (
+        did.answer,
+        λ w at. record { untaken = untaken; fits = did.fits (over w); world = sym (did.world (over w)); records = did.records (over w) },
+      )
+
+  pub pipe_left : (e : NoMemory) → takes_data c ≡ false → IsFileCall (fronted model) c (calling_front old) (calling_front new) (Err e)
+      → (IsTrue model.tells → KeepsData (model.contents old.host) (model.contents new.host))
+      → new.tx ≡ framed old.tx (parts_of new.tx) → new.tx.writes ≡ old.tx.writes → LeavesOff model c old new
+  pipe_left e untaken k keeps frame writes =
+      let uses = uses_below model (in_front old.host old.kept) (in_front new.host new.kept) k.uses in
+      record {
+        left = k.made;
+        one = k.one;
+        tx = frame ∙ (λ i. record old.tx { me = k.memory.me i; writes = writes i; undo = k.undo i });
+        uses = record { made = uses.made; named = inr (inl uses.named); used = uses.used };
+        faults = k.cause;
+        keeps = keeps;
+        contents = λ tells. pipe_part untaken k.made (k.memory.effect tells);
+      }
+
+-- a new pipe is made, or memory was wanting
+pub made_acted : {H : Type 0} (model : HostModel H) (c : Call) (old new : Acting H) (me : Private) (r : Result Reply NoMemory) → me ≡ old.tx.me
+    → c ≡ call.XPipe → IsFileCall (fronted model) call.XPipe (record (calling_front old) { me = me }) (calling_front new) r
+    → (IsTrue model.tells → KeepsData (model.contents old.host) (model.contents new.host))
+    → new.tx ≡ record old.tx { me = new.tx.me; undo = new.tx.undo } → new.tx.me.stored ≤ 16384 → IfOk r (λ reply. is_late reply ≡ false)
+    → HasActed model c old new r
+made_acted {H = H} model c old new me r same is k keeps frame stored now =
+    let d = call.XPipe in
+    let writes = ap (λ (t : SeenTx). t.writes) frame in
+    let whole : new.tx ≡ framed old.tx (parts_of new.tx) =
+    frame ∙ ap (λ ws. record old.tx { me = new.tx.me; writes = ws; undo = new.tx.undo }) (sym writes) in
+    let called = subst (λ (m : Private). IsFileCall (fronted model) d (record (calling_front old) { me = m }) (calling_front new) r) same k in
+    subst (λ (e : Call). HasActed model e old new r) (sym is) (by_result r whole writes called now)
+  where
+    by_result : (r : Result Reply NoMemory) → new.tx ≡ framed old.tx (parts_of new.tx) → new.tx.writes ≡ old.tx.writes
+        → IsFileCall (fronted model) call.XPipe (calling_front old) (calling_front new) r → IfOk r (λ reply. is_late reply ≡ false)
+        → HasActed model call.XPipe old new r
+    by_result (Ok reply) whole writes called now =
+        pipe_done model call.XPipe old new refl reply called (λ tells. All-nil (IsBacked (model.contents old.host))) keeps
+        (whole ∙ framed_now old.tx (parts_of new.tx) call.XPipe reply refl now) writes stored (in_time_now call.XPipe old.tx.me old.tx.number reply refl now)
+    by_result (Err e) whole writes called now = pipe_left model call.XPipe old new refl e refl called keeps whole writes
+
+-- a transaction that read, and noted what it took
+abbrev pub reading : SeenTx → Private → List KeptItem → SeenTx
+reading tx me taken = record tx { me = me; taken = taken }
+
+-- a pipe is read, or memory was wanting
+module _ {H : Type 0} (model : HostModel H) (h n : ℕ) (old : Acting H) (host : H) (kept taken : List KeptItem) (me : Private) where
+  abbrev pub read_to : Acting H
+  read_to = record old { host = host; kept = kept; tx = reading old.tx me taken }
+
+  pub read_acted : (r : Result Reply NoMemory)
+      → IfOk r (λ reply. IsFileCall (fronted model) (call.XReadPipe h n) (calling_front old) (calling_front read_to) (Ok reply))
+      → OnErr r (StopsRead model h n (record { old = old.host; new = host }) (record { old = old.tx.me; new = me }))
+      → Notes (call.XReadPipe h n) old.tx.me (record { old = old.tx.taken; new = taken }) r
+      → (IsTrue model.tells → OnErr r (told_of model read_to ≡ told_of model old))
+      → (IsTrue model.tells → IfOk r (λ reply. All (IsBacked (model.contents old.host)) (taken_by (call.XReadPipe h n) old.tx.me reply)))
+      → (IsTrue model.tells → KeepsData (model.contents old.host) (model.contents host)) → me.stored ≤ 16384 → IfOk r (λ reply. is_late reply ≡ false)
+      → HasActed model (call.XReadPipe h n) old read_to r
+  read_acted (Ok reply) k stops notes err backed keeps stored now =
+      let c = call.XReadPipe h n in
+      pipe_done model c old read_to refl reply k backed keeps
+      (λ i. record read_to.tx { taken = notes i; late = none_behind old.tx.late c old.tx.me reply now i }) refl stored
+      (in_time_now c old.tx.me old.tx.number reply refl now)
+  read_acted (Err e) k stops notes err backed keeps stored now =
+      record {
+        left = [];
+        one = omega arith;
+        tx = λ i. record old.tx { me = stops.me i; taken = notes i; undo = record old.tx.undo { pending = sym (append_nil old.tx.undo.pending) i } };
+        uses = record { made = stops.uses.made; named = inr (inl stops.uses.named); used = stops.uses.used };
+        faults = stops.faults;
+        keeps = keeps;
+        contents = λ tells. inl (refl, err tells);
+      }
+
+-- so is one at these handles
+pub read_acted_at : {H : Type 0} (model : HostModel H) (c : Call) (h n : ℕ) (old : Acting H) (host : H) (kept taken : List KeptItem) (was me : Private)
+    (r : Result Reply NoMemory) → was ≡ old.tx.me → c ≡ call.XReadPipe h n
+    → IfOk r (λ reply. IsFileCall (fronted model) (call.XReadPipe h n) (record (calling_front old) { me = was })
+    (calling_front (read_to model h n old host kept taken me)) (Ok reply))
+    → OnErr r (StopsRead model h n (record { old = old.host; new = host }) (record { old = was; new = me }))
+    → Notes (call.XReadPipe h n) was (record { old = old.tx.taken; new = taken }) r
+    → (IsTrue model.tells → OnErr r (with_kept (model.contents host) kept ≡ told_of model old))
+    → (IsTrue model.tells → IfOk r (λ reply. All (IsBacked (model.contents old.host)) (taken_by (call.XReadPipe h n) was reply)))
+    → (IsTrue model.tells → KeepsData (model.contents old.host) (model.contents host)) → me.stored ≤ 16384 → IfOk r (λ reply. is_late reply ≡ false)
+    → HasActed model c old (read_to model h n old host kept taken me) r
+read_acted_at model c h n old host kept taken was me r same is k stops notes err backed keeps stored now =
+    let d = call.XReadPipe h n in
+    let after = read_to model h n old host kept taken me in
+    subst (λ (e : Call). HasActed model e old after r) (sym is)
+    (read_acted model h n old host kept taken me r
+    (subst (λ (m : Private). IfOk r (λ reply. IsFileCall (fronted model) d (record (calling_front old) { me = m }) (calling_front after) (Ok reply))) same k)
+    (subst (λ (m : Private). OnErr r (StopsRead model h n (record { old = old.host; new = host }) (record { old = m; new = me }))) same stops)
+    (subst (λ (m : Private). Notes d m (record { old = old.tx.taken; new = taken }) r) same notes) err
+    (λ t. subst (λ (m : Private). IfOk r (λ reply. All (IsBacked (model.contents old.host)) (taken_by d m reply))) same (backed t)) keeps stored now)
+
 -- ---- a call that is kept for the commit
--- a transaction at a host with other late calls
-abbrev pub queueing : {H : Type 0} → Acting H → Queue → Acting H
-queueing a queue = record a { tx = with_queue a.tx queue }
+-- a transaction at a host with other late calls, and another private state
+abbrev pub queueing : {H : Type 0} → Acting H → Private → Queue → Acting H
+queueing a me queue = record a { tx = with_queue (record a.tx { me = me }) queue }
 
 -- the host does nothing, with what is kept in front too
-kept_told : {H : Type 0} (model : HostModel H) (d : Call) (old : Acting H) (queue : Queue) (reply : Reply) → takes_data d ≡ false
-    → (alone : StepsAlone d old.tx.me old.tx.me reply) → IsTrue model.tells
-    → IsToldCall model d (record { old = old; new = queueing old queue }) (alone_call model d (calling old) old.tx.me reply alone).made reply
-kept_told model d old queue reply untaken alone tells =
-    let k = alone_call (record model { tells = true; contents = λ host. told_of model old }) d (calling old) old.tx.me reply alone in
+kept_told : {H : Type 0} (model : HostModel H) (d : Call) (old : Acting H) (me : Private) (queue : Queue) (reply : Reply) → takes_data d ≡ false
+    → (alone : StepsAlone d old.tx.me me reply) → IsTrue model.tells
+    → IsToldCall model d (record { old = old; new = queueing old me queue }) (alone_call model d (calling old) me reply alone).made reply
+kept_told model d old me queue reply untaken alone tells =
+    let k = alone_call (record model { tells = true; contents = λ host. told_of model old }) d (calling old) me reply alone in
     record {
       acts = k.acts refl;
       records = λ w.
-          (alone_call model d (calling old) old.tx.me reply alone).records tells w
+          (alone_call model d (calling old) me reply alone).records tells w
           ∙ alone.unrecorded (with_contents w (model.contents old.host)) old.tx.number
           ∙ sym (alone.unrecorded (with_contents w (told_of model old)) old.tx.number);
       backed = subst (All (IsBacked (model.contents old.host))) (sym (none_taken d old.tx.me reply untaken)) (All-nil (IsBacked (model.contents old.host)));
@@ -267,23 +406,30 @@ kept_told model d old queue reply untaken alone tells =
     }
 
 -- it has acted: the host is as it was
-pub kept_acted : {H : Type 0} (model : HostModel H) (c d : Call) (old : Acting H) (queue : Queue) (r : Result Reply NoMemory) → c ≡ d
-    → is_word_call d ≡ false → takes_data d ≡ false → is_kept d ≡ true → IfOk r (λ reply. IsKept d old.tx.me (queue_of old.tx) queue reply)
-    → OnErr r (queue ≡ queue_of old.tx) → old.tx.me.stored ≤ 16384 → HasActed model c old (queueing old queue) r
-kept_acted model c d old queue (Ok reply) is other untaken waiting kept err stored =
-    subst (λ (e : Call). HasDone model e old (queueing old queue) reply) (sym is)
-    (file_done model d old (queueing old queue) other reply (alone_call model d (calling old) old.tx.me reply kept.alone)
-    (kept_told model d old queue reply untaken kept.alone)
-    (λ i. record old.tx { taken = none_noted old.tx.taken d old.tx.me reply untaken i; late = (kept.left i).calls; ends = (kept.left i).ends })
+pub stored_acted : {H : Type 0} (model : HostModel H) (c d : Call) (old : Acting H) (me : Private) (queue : Queue) (r : Result Reply NoMemory) → c ≡ d
+    → is_word_call d ≡ false → takes_data d ≡ false → is_kept d ≡ true
+    → IfOk r (λ reply. IsKeptWith d (record { old = old.tx.me; new = me }) (record { old = queue_of old.tx; new = queue }) reply)
+    → OnErr r ((queue ≡ queue_of old.tx) × (me ≡ old.tx.me)) → me.stored ≤ 16384 → HasActed model c old (queueing old me queue) r
+stored_acted model c d old me queue (Ok reply) is other untaken waiting kept err stored =
+    let k = alone_call model d (calling old) me reply kept.alone in
+    subst (λ (e : Call). HasDone model e old (queueing old me queue) reply) (sym is)
+    (call_done model model old.host old.host d old (queueing old me queue) other reply k k.uses k.cause
+    (kept_told model d old me queue reply untaken kept.alone)
+    (λ i. record old.tx {
+      me = me;
+      taken = none_noted old.tx.taken d old.tx.me reply untaken i;
+      late = (kept.left i).calls;
+      ends = (kept.left i).ends;
+    })
     refl stored (record {
       kept = λ _ w. ap (λ (s : Stepped). s.reply) (sym (kept.alone.step w old.tx.number));
       now = λ at_once. absurd (cc (at_once, waiting));
     }))
-kept_acted model c d old queue (Err e) is other untaken waiting kept err stored =
+stored_acted model c d old me queue (Err e) is other untaken waiting kept err stored =
     record {
       left = [];
       one = omega arith;
-      tx = λ i. record (queueing old (err i)).tx { undo = record old.tx.undo { pending = sym (append_nil old.tx.undo.pending) i } };
+      tx = λ i. record (queueing old (err.1 i) (err.0 i)).tx { undo = record old.tx.undo { pending = sym (append_nil old.tx.undo.pending) i } };
       uses = record { made = []; named = inl refl; used = unused model old.host };
       faults = refl;
       keeps = λ tells. keeps_itself (model.contents old.host);
@@ -291,9 +437,28 @@ kept_acted model c d old queue (Err e) is other untaken waiting kept err stored 
     }
 
 -- so has one at these handles
+pub stored_acted_at : {H : Type 0} (model : HostModel H) (c d : Call) (old : Acting H) (was me : Private) (queue : Queue) (r : Result Reply NoMemory)
+    → was ≡ old.tx.me → c ≡ d → is_word_call d ≡ false → takes_data d ≡ false → is_kept d ≡ true
+    → IfOk r (λ reply. IsKeptWith d (record { old = was; new = me }) (record { old = queue_of old.tx; new = queue }) reply)
+    → OnErr r ((queue ≡ queue_of old.tx) × (me ≡ was)) → me.stored ≤ 16384 → HasActed model c old (queueing old me queue) r
+stored_acted_at model c d old was me queue r same is other untaken waiting kept err =
+    stored_acted model c d old me queue r is other untaken waiting
+    (subst (λ (m : Private). IfOk r (λ reply. IsKeptWith d (record { old = m; new = me }) (record { old = queue_of old.tx; new = queue }) reply)) same kept)
+    (subst (λ (m : Private). OnErr r ((queue ≡ queue_of old.tx) × (me ≡ m))) same err)
+
+-- so has one that leaves the private state
+pub kept_acted : {H : Type 0} (model : HostModel H) (c d : Call) (old : Acting H) (queue : Queue) (r : Result Reply NoMemory) → c ≡ d
+    → is_word_call d ≡ false → takes_data d ≡ false → is_kept d ≡ true → IfOk r (λ reply. IsKept d old.tx.me (queue_of old.tx) queue reply)
+    → OnErr r (queue ≡ queue_of old.tx) → old.tx.me.stored ≤ 16384 → HasActed model c old (queueing old old.tx.me queue) r
+kept_acted model c d old queue (Ok reply) is other untaken waiting kept err =
+    stored_acted model c d old old.tx.me queue (Ok reply) is other untaken waiting (record { alone = kept.alone; left = kept.left }) tt
+kept_acted model c d old queue (Err e) is other untaken waiting kept err =
+    stored_acted model c d old old.tx.me queue (Err e) is other untaken waiting tt (err, refl)
+
+-- so has one at these handles
 pub kept_acted_at : {H : Type 0} (model : HostModel H) (c d : Call) (old : Acting H) (queue : Queue) (me : Private) (r : Result Reply NoMemory)
     → me ≡ old.tx.me → c ≡ d → is_word_call d ≡ false → takes_data d ≡ false → is_kept d ≡ true → IfOk r (λ reply. IsKept d me (queue_of old.tx) queue reply)
-    → OnErr r (queue ≡ queue_of old.tx) → old.tx.me.stored ≤ 16384 → HasActed model c old (queueing old queue) r
+    → OnErr r (queue ≡ queue_of old.tx) → old.tx.me.stored ≤ 16384 → HasActed model c old (queueing old old.tx.me queue) r
 kept_acted_at model c d old queue me r same is other untaken waiting kept =
     kept_acted model c d old queue r is other untaken waiting
     (subst (λ (m : Private). IfOk r (λ reply. IsKept d m (queue_of old.tx) queue reply)) same kept)
@@ -306,7 +471,7 @@ word_at_once (call.Store at value) is = refl
 word_at_once _ is = cc
 
 -- it takes no data
-word_untaken : (c : Call) → is_word_call c ≡ true → takes_data c ≡ false
+pub word_untaken : (c : Call) → is_word_call c ≡ true → takes_data c ≡ false
 word_untaken (call.Load at) is = refl
 word_untaken (call.Store at value) is = refl
 word_untaken _ is = cc
@@ -448,6 +613,73 @@ unanswered model c old new behind reply d untaken is brings =
                   (sym (ap (λ (u : Records). u.pending) d.undo) ∙ does.records)
                   ∙ ap (λ (s : Stepped). recorded (seen w (told_of model old) old.tx.writes) old.tx.me old.tx.number c s.reply) (sym does.step);
             },
+      );
+    } in
+    subst (λ a. LeavesOff model c old a) (sym is) now
+
+no_items : {A : Type 0} (xs : List A) → length xs ≡ 0 → xs ≡ []
+no_items [] none = refl
+no_items (x ∷ xs) none = cc none
+
+-- a read at a moment, in one of the worlds that show it
+abbrev pub pipe_read : {H : Type 0} → HostModel H → ℕ × ℕ → Acting H → Acting H → Reply → PipeRead
+pipe_read model asked old new reply =
+    let w = record (world_of (told_of model old)) { words = old.words } in
+    record {
+      world = record { old = seen w (told_of model old) old.tx.writes; new = seen w (told_of model new) new.tx.writes };
+      me = record { old = old.tx.me; new = new.tx.me };
+      number = old.tx.number;
+      h = asked.0;
+      n = asked.1;
+      reply = reply;
+    }
+
+-- it was done
+pub read_step : {H : Type 0} (model : HostModel H) (h n : ℕ) (old new : Acting H) (reply : Reply) → HasDone model (call.XReadPipe h n) old new reply
+    → (IsTrue model.tells → refusal_of (call.XReadPipe h n) old.tx.me ≡ None → IsPipeIn (model.contents old.host) (place_of old.tx.me.places h))
+    → IsTrue model.tells → IsReadStep (pipe_read model (h, n) old new reply) (model.contents old.host) old.kept
+read_step model h n old new reply d there tells =
+    let w = record (world_of (told_of model old)) { words = old.words } in
+    record { told = refl; step = (d.does tells w refl).step; there = there tells }
+
+-- what it took was given back: all is as before
+pub read_undone : {H : Type 0} (model : HostModel H) (h n : ℕ) (old new behind : Acting H) (kept : List KeptItem) (reply : Reply)
+    → HasDone model (call.XReadPipe h n) old new reply
+    → (IsTrue model.tells → refusal_of (call.XReadPipe h n) old.tx.me ≡ None → IsPipeIn (model.contents old.host) (place_of old.tx.me.places h))
+    → ((w : World) → given_back w kept ≡ given_back (given_back w new.kept) (taken_by (call.XReadPipe h n) old.tx.me reply))
+    → behind ≡ record new { kept = kept; tx = record new.tx { me = old.tx.me; taken = old.tx.taken } } → (value_in reply ≡ None → ⊥)
+    → LeavesOff model (call.XReadPipe h n) old behind
+read_undone model h n old new behind kept reply d there given is brings =
+    let c = call.XReadPipe h n in
+    let none : d.made ≡ [] = no_items d.made (d.count (world_of (told_of model old))) in
+    let undo : new.tx.undo ≡ record old.tx.undo { pending = old.tx.undo.pending ++ [] } =
+    d.undo ∙ ap (λ us. record old.tx.undo { pending = old.tx.undo.pending ++ us }) none in
+    let writes : new.tx.writes ≡ old.tx.writes = d.stores ∙ append_nil old.tx.writes in
+    let late : old.tx.late ++ kept_call c old.tx.me reply ≡ old.tx.late = sym (none_behind old.tx.late c old.tx.me reply (unkept reply brings)) in
+    let whole : record new.tx { me = old.tx.me; taken = old.tx.taken } ≡ leaving old.tx [] =
+    ap (λ (t : SeenTx). record t { me = old.tx.me; taken = old.tx.taken }) d.tx
+    ∙ (λ i. record old.tx {
+      writes = writes i;
+      undo = undo i;
+      late = late i;
+    }) in
+    let now : LeavesOff model c old (record new { kept = kept; tx = record new.tx { me = old.tx.me; taken = old.tx.taken } }) = record {
+      left = [];
+      one = omega arith;
+      tx = whole;
+      uses = record {
+        made = d.uses.made;
+        named = stops_behind (refusal_of c old.tx.me) c reply d.uses.made d.uses.named;
+        used = d.uses.used;
+      };
+      faults = subst (λ b. CountsFault b (model.fault_count old.host) (model.fault_count new.host)) (unfaulty reply brings) d.cause;
+      keeps = d.keeps;
+      contents = λ tells. inl (
+        refl,
+        kept_again (model.contents new.host) new.kept kept (taken_by c old.tx.me reply) given
+            ∙ (let w = record (world_of (told_of model old)) { words = old.words } in
+            sym (kept_of (seen w (told_of model new) new.tx.writes) (taken_by c old.tx.me reply))
+            ∙ ap contents_of (read_returns _ _ _ (read_step model h n old new reply d there tells))),
       );
     } in
     subst (λ a. LeavesOff model c old a) (sym is) now

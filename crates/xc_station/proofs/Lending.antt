@@ -1,5 +1,5 @@
 -- What a turn of a running transaction does to what was taken.
-use Rattle.std.proofs.Common.{◌≡◌, [], ◌++◌, length, ap, sym, ◌∙◌, subst, arith}
+use Rattle.std.proofs.Common.{◌≡◌, ◌+◌, [], ◌++◌, IsTrue, length, ap, sym, ◌∙◌, subst, arith}
 use Rattle.std.specs.Prelude.{All, Err}
 use Rattle.std.proofs.lemmas.List.{append-nil}
 use Rattle.std.proofs.lemmas.List.Elements.{All-append}
@@ -46,33 +46,30 @@ unclaimed_takes sentinels tx c (turn.Ended end) is = absurd is
 
 module _ {H : Type 0} (model : HostModel H) (call : Call) (old new : Acting H) (lent lent' : Lent) (kept : old.kept ≡ lent.kept) where
   -- a call that was done: what it took is noted
-  pub lends_done : (reply : Reply) → HasDone model call old new reply → taken_by call old.tx.me reply ≡ [] → lent' ≡ lent
+  pub lends_done : (reply : Reply) → HasDone model call old new reply → lent'.noted + length old.tx.taken ≡ lent.noted + length new.tx.taken
+      → (IsTrue model.tells → All (IsBacked (model.contents old.host)) lent.kept → All (IsBacked (model.contents old.host)) lent'.kept)
       → Lends model (record { old = record { host = old.host; lent = lent }; new = record { host = new.host; lent = lent' } })
       (record { old = old.tx; new = new.tx })
-  lends_done reply d none same =
+  lends_done reply d noted stays =
       let taken : new.tx.taken ≡ old.tx.taken ++ taken_by call old.tx.me reply = ap (λ (t : SeenTx). t.taken) d.tx in
-      let still : new.tx.taken ≡ old.tx.taken = taken ∙ ap (λ items. old.tx.taken ++ items) none ∙ append-nil old.tx.taken in
-      let noted = ap (λ (l : Lent). l.noted) same in
-      let many = ap length still in
       record {
-        noted = omega (arith, noted, many);
-        kept = λ tells backed. subst (λ (l : Lent). All (IsBacked (model.contents old.host)) l.kept) (sym same) backed;
+        noted = noted;
+        kept = stays;
         taken = λ tells kept backed. subst (All (IsBacked (model.contents old.host))) (sym taken)
             (All-append (IsBacked (model.contents old.host)) old.tx.taken (taken_by call old.tx.me reply) backed (d.backed tells));
         keeps = d.keeps;
       }
 
   -- one that wanted memory took nothing
-  pub lends_left : LeavesOff model call old new → lent' ≡ lent
+  pub lends_left : LeavesOff model call old new → lent'.noted + length old.tx.taken ≡ lent.noted + length new.tx.taken
+      → (IsTrue model.tells → All (IsBacked (model.contents old.host)) lent.kept → All (IsBacked (model.contents old.host)) lent'.kept)
       → Lends model (record { old = record { host = old.host; lent = lent }; new = record { host = new.host; lent = lent' } })
       (record { old = old.tx; new = new.tx })
-  lends_left l same =
+  lends_left l noted stays =
       let still = ap (λ (t : SeenTx). t.taken) l.tx in
-      let noted = ap (λ (m : Lent). m.noted) same in
-      let many = ap length still in
       record {
-        noted = omega (arith, noted, many);
-        kept = λ tells backed. subst (λ (m : Lent). All (IsBacked (model.contents old.host)) m.kept) (sym same) backed;
+        noted = noted;
+        kept = stays;
         taken = λ tells kept backed. subst (All (IsBacked (model.contents old.host))) (sym still) backed;
         keeps = l.keeps;
       }

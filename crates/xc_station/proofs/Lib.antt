@@ -32,3 +32,6 @@ pub mod Giving
 pub mod Lending
 pub mod Lent
 pub mod Notes
+pub mod PipeReads
+pub mod Reaching
+pub mod Unanswered

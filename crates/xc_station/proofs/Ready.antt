@@ -39,6 +39,7 @@ use Rattle.xc_data.specs.declared.undo.Undo.{Undo}
 use Rattle.xc_maps.specs.Keys.{num_cmp}
 use Rattle.xc_world.specs.Act.Names.{next_num}
 use Rattle.xc_world.specs.Beside.{AreElsewhere}
+use Rattle.xc_world.specs.Modes.{claims_of}
 use Rattle.xc_world.specs.Run.{item_object}
 use Rattle.xc_played.proofs.NewEmpty.{made_empty, not_taken_from}
 use Rattle.xc_played.proofs.NewNumbers.{absent_now}
@@ -50,13 +51,16 @@ use Rattle.xc_station.specs.declared.job.Job.{Job}
 use Rattle.xc_station.specs.declared.job.Stage.{Stage}
 use Rattle.xc_station.specs.declared.job.Stage.TheVariants as stage
 use Rattle.xc_station.specs.Jobs.{doing_of, seen_job, seen_jobs}
-use Rattle.xc_station.specs.Lent.{AreBacked}
+use Rattle.xc_station.specs.Lent.{AreBacked, notes_in, notes_of}
 use Rattle.xc_station.proofs.Backed.{covered_below, late_below, open_below}
 use Rattle.xc_station.proofs.Elsewhere.{nothing_kept_of}
 use Rattle.xc_station.proofs.Lent.{kept_files}
 use Rattle.xc_station.specs.Moments.{AreSingle, CanRun, IsAt, marks_of, runs, seated_as}
 use Rattle.xc_station.specs.Stations.{HasRooms, IsSteady, moment}
 use Rattle.xc_station.proofs.Placed.{get_map, length_set}
+use Rattle.xc_station.proofs.Notes.{notes_within}
+use Rattle.xc_station.proofs.Reaching.{lent_for}
+use Rattle.xc_station.proofs.Rivals.{none_met}
 use Rattle.xc_station.proofs.Rooms.{one_active}
 use Rattle.xc_station.proofs.Stages.{IsThere, committing_stage, running_stage, undoing_stage}
 use Rattle.xc_station.proofs.Unstarted.{StartNone, late_none}
@@ -180,8 +184,9 @@ module _ {H : Type 0} (model : HostModel H) (shared : Shared H) (journal : List 
       given_once (setting script rules model.tells) (length shared.words) (marks_of shared.sentinels.seats) journal (seen_jobs jobs) steady.kept.told
 
   -- a running job may go on
-  pub may_run : IsThere jobs at stage.Running was → CanRun script model shared (seen_job was)
-  may_run is =
+  pub may_run : (IsTrue model.tells → AreBacked (model.contents shared.host) shared.buffers.kept (seen_jobs jobs)) → IsThere jobs at stage.Running was
+      → CanRun script model shared (seen_job was)
+  may_run backed is =
       let s = setting script rules model.tells in
       let now = moment model shared journal jobs in
       let there = get_map seen_job jobs at was is.stands in
@@ -202,6 +207,17 @@ module _ {H : Type 0} (model : HostModel H) (shared : Shared H) (journal : List 
           stored = t.underway.stored;
           none = phase.none;
         };
+        pipes = λ tells.
+            λ call free.
+            lent_for s now at runs.tx (model.contents shared.host) shared.buffers.kept refl (steady.flying tells) active runs.phase
+            ((backed tells).kept) call
+            (none_met now.jobs at runs.tx shared.sentinels.claims rooms.claims single steady.kept.apart active
+            (claims_of call runs.tx.me (length shared.words)) free);
+        noted =
+            let within = notes_within now.jobs at (seen_job was) there in
+            let mine : notes_of (seen_job was) ≡ length runs.tx.taken = ap notes_in (ap active_in runs.doing) in
+            let all = rooms.noted in
+            omega (arith, within, mine, all);
         ready = λ tells.
             let flying = steady.flying tells in
             record {

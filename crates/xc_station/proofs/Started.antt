@@ -1,12 +1,6 @@
 -- A station before its first turn.
-use Rattle.std.proofs.lemmas.List.Elements.{All-head, All-nil, All-tail}
+use Rattle.std.proofs.lemmas.List.Elements.{All-nil}
 use Rattle.std.proofs.lemmas.List.Sums.{sum_by-cons}
-use Rattle.xc_data.specs.declared.private.Place.{Place as Handle}
-use Rattle.xc_data.specs.declared.private.Place.TheVariants.{Vacant}
-use Rattle.xc_data.specs.declared.script.Opened.{Opened}
-use Rattle.xc_data.specs.declared.script.Opened.TheVariants as line
-use Rattle.xc_world.specs.Opening.{handles_of, opening_handles}
-use Rattle.xc_world.specs.World.{no_handles}
 use Rattle.std.proofs.Common.{◌≡◌, ℕ, ◌+◌, ◌-◌, ◌≤◌, List, [], ◌∷◌, ◌++◌, length, map, replicate, All, refl, ap, sym, ◌∙◌, subst, arith, IsTrue}
 use Rattle.std.proofs.lemmas.List.{length-map}
 use Rattle.std.specs.Prelude.{slice_get, zero, suc}
@@ -18,7 +12,7 @@ use Rattle.xc_data.specs.declared.entry.KeptItem.{KeptItem}
 use Rattle.xc_host.specs.Contents.{Contents, opened}
 use Rattle.xc_journal.specs.Room.{Roomy}
 use Rattle.xc_text.specs.declared.script.Script.{Script}
-use Rattle.xc_text.specs.Scripts.{IsScript, IsFileLine}
+use Rattle.xc_text.specs.Scripts.{IsScript}
 use Rattle.xc_sentinel.specs.Seating.{seat_in}
 use Rattle.xc_wordlocks.specs.Table.{mode_of}
 use Rattle.xc_story.specs.Setting.{Setting}
@@ -46,18 +40,6 @@ none_there script (b ∷ blocks) zero tx job at is =
     let no : None ≡ Some tx = ap active_of there ∙ is in
     cc
 none_there script (b ∷ blocks) (suc j) tx job at is = none_there script blocks j tx job at is
-
--- a file has no handle at the opening
-no_handles_of : (k : ℕ) (objects : List Opened) → All IsFileLine objects → handles_of k objects ≡ []
-no_handles_of k [] all = refl
-no_handles_of k (line.File name bytes ∷ objects) all = no_handles_of (k + 1) objects (All-tail IsFileLine (line.File name bytes) objects all)
-no_handles_of k (line.Pipe bytes ∷ objects) all = absurd (All-head IsFileLine (line.Pipe bytes) objects all)
-no_handles_of k (line.Pair ∷ objects) all = absurd (All-head IsFileLine line.Pair objects all)
-
--- so jobs open with none
-pub no_opening_handles : (script : Script) → IsScript script → opening_handles script.outline ≡ no_handles
-no_opening_handles script is =
-    ap (λ (handles : List Handle). handles ++ replicate (256 - length handles) Vacant) (no_handles_of 0 script.outline.prologue.objects is.files)
 
 -- the blocks of its jobs
 pub opened_blocks : (script : Script) (blocks : List (List ℕ)) (jobs : List SeenJob) → jobs ≡ map (opened_job script) blocks → blocks_of jobs ≡ blocks

@@ -4,7 +4,8 @@ use Rattle.std.proofs.lemmas.List.{length-map}
 use Rattle.std.specs.Prelude.{map, nat_eq, if◌then◌else◌}
 use Rattle.std.specs.Cmp.Lexicographic.{pointwise}
 use Rattle.xc_data.specs.declared.call.Call.{Call}
-use Rattle.xc_data.specs.declared.call.Call.TheVariants.{Load, Store, XOpen, XCreate, XRead, XWriteOvr, XWriteSeq, XSeek, XLen, XRename, XClose, XUnlink, XSync}
+use Rattle.xc_data.specs.declared.call.Call.TheVariants.{Load, Store, XOpen, XCreate, XRead, XWriteOvr, XWriteSeq, XSeek, XLen, XRename, XClose}
+use Rattle.xc_data.specs.declared.call.Call.TheVariants.{XUnlink, XSync, XPipe, XReadPipe, XWritePipe, XShutdown}
 use Rattle.xc_data.specs.declared.object.Object.{Object}
 use Rattle.xc_data.specs.declared.object.Object.TheVariants as object
 use Rattle.xc_data.specs.declared.private.Place.{Place}
@@ -57,6 +58,13 @@ few_touched (XClose h) me words is = few_if (is_refused (XClose h) me words) (ob
 few_touched (XUnlink name slot) me words is = few_if (is_refused (XUnlink name slot) me words) (objects_of_call (XUnlink name slot) me) (omega arith)
 few_touched (XSync h slot) me words is =
     few_if (is_refused (XSync h slot) me words) (objects_of_call (XSync h slot) me) (few_at (place_of me.places h))
+few_touched XPipe me words is = few_if (is_refused XPipe me words) (objects_of_call XPipe me) (omega arith)
+few_touched (XReadPipe h n) me words is =
+    few_if (is_refused (XReadPipe h n) me words) (objects_of_call (XReadPipe h n) me) (few_at (place_of me.places h))
+few_touched (XWritePipe h bytes slot) me words is =
+    few_if (is_refused (XWritePipe h bytes slot) me words) (objects_of_call (XWritePipe h bytes slot) me) (few_at (place_of me.places h))
+few_touched (XShutdown h slot) me words is =
+    few_if (is_refused (XShutdown h slot) me words) (objects_of_call (XShutdown h slot) me) (few_at (place_of me.places h))
 few_touched _ me words is = cc
 
 -- and claims as many

@@ -7,24 +7,15 @@ use Rattle.xc_data.specs.declared.call.Call.TheVariants as call
 use Rattle.xc_data.specs.declared.call.LateCall.{LateCall}
 use Rattle.xc_data.specs.declared.call.LateEnd.{LateEnd}
 use Rattle.xc_data.specs.declared.call.Reply.{Reply}
-use Rattle.xc_data.specs.declared.private.Private.{Private}
 use Rattle.xc_script.specs.Ask.{Walk, answered}
 use Rattle.xc_script.specs.Slots.{kept_of}
-use Rattle.xc_world.specs.Effects.{takes_data}
 use Rattle.xc_data.specs.Calls.{is_late, thread_asked, thread_in}
-use Rattle.xc_world.specs.Run.{taken_by}
 use Rattle.xc_story.specs.LateCalls.{started_late, started_with}
 use Rattle.xc_story.specs.Seen.{SeenTx, SeenJob, late_left}
 use Rattle.xc_story.specs.Rows.{behind_commit, is_built, started_job, started_jobs}
 use Rattle.xc_story.specs.Setting.{Setting}
 use Rattle.xc_story.specs.Truth.{AsksEach}
 use Rattle.xc_story.proofs.AskedCalls.{asked_built}
-
--- no such call takes data
-pub built_untaken : (c : Call) → is_built c ≡ true → takes_data c ≡ false
-built_untaken (call.XReadPipe h n) is = cc
-built_untaken (call.XRecvmsg h) is = cc
-built_untaken _ is = refl
 
 -- ---- what is kept for the commit
 -- these late calls start no job
@@ -35,12 +26,6 @@ StartNone (c ∷ calls) = (thread_in c ≡ None) × StartNone calls
 no_thread : (c : Call) → is_built c ≡ true → thread_asked c ≡ None
 no_thread (call.XThreadCreate block slot) is = cc
 no_thread _ is = refl
-
--- nor does one take data
-pub nothing_taken : (c : Call) (me : Private) (reply : Reply) → is_built c ≡ true → taken_by c me reply ≡ []
-nothing_taken (call.XReadPipe h n) me reply is = cc
-nothing_taken (call.XRecvmsg h) me reply is = cc
-nothing_taken _ me reply is = refl
 
 -- one call more, of which it is known whether it was kept
 kept_front : (b : Bool) (a : Call) (kept : List Call) (late : List LateCall) → thread_asked a ≡ None

@@ -1,24 +1,31 @@
 -- What a call of a running transaction needs, and what it does.
-use Rattle.std.specs.Prelude.{◌≡◌, ◌⊎◌, ℕ, ◌≤◌, List, [], ◌++◌, length, All, IsTrue, Result, Ok, Err}
+use Rattle.std.specs.Prelude.{◌≡◌, ◌⊎◌, ℕ, ◌≤◌, false, List, [], ◌++◌, length, All, IsTrue, Result, Ok, Err}
+use Rattle.std.specs.declared.option.Option.TheVariants.{None}
+use Rattle.xc_buffers.specs.Items.{kept_bytes}
 use Rattle.xc_data.specs.Counts.{CountsFault}
 use Rattle.xc_data.specs.Faults.{is_fault_reply}
 use Rattle.xc_data.specs.Private.{place_of}
 use Rattle.xc_data.specs.Step.{Step}
 use Rattle.xc_data.specs.declared.call.Answer.{Answer}
 use Rattle.xc_data.specs.declared.call.Call.{Call}
+use Rattle.xc_data.specs.declared.call.Call.TheVariants as call
 use Rattle.xc_data.specs.declared.call.Reply.{Reply}
 use Rattle.xc_data.specs.declared.claim.Claim.{Claim}
 use Rattle.xc_data.specs.declared.entry.KeptItem.{KeptItem}
 use Rattle.xc_data.specs.declared.memory.NoMemory.{NoMemory}
+use Rattle.xc_data.specs.declared.private.Private.{Private}
 use Rattle.xc_data.specs.declared.undo.Undo.{Undo}
 use Rattle.xc_file.specs.Calls.{IsNewIn, IsOpenIn}
 use Rattle.xc_host.specs.Contents.{Contents}
 use Rattle.xc_host.specs.Kept.{KeepsData, with_kept}
 use Rattle.xc_host.specs.Model.{HostModel}
-use Rattle.xc_host.specs.Uses.{CallsOf, Uses}
+use Rattle.xc_host.specs.Pipes.{has_pipe}
+use Rattle.xc_host.specs.Uses.{CallsOf, StopsFor, Uses}
+use Rattle.xc_pipe.specs.Reading.{IsPipeIn}
 use Rattle.xc_script.specs.declared.ask.Ask.TheVariants as ask
 use Rattle.xc_txmem.specs.Overlay.{AreWithin, overlaid}
 use Rattle.xc_wordlocks.specs.Held.{HasRoomFor}
+use Rattle.xc_world.specs.Act.Names.{next_num}
 use Rattle.xc_world.specs.After.{IsMeAfter}
 use Rattle.xc_world.specs.Checks.{IsChecked, refusal_of}
 use Rattle.xc_world.specs.Late.{kept_call}
@@ -56,6 +63,21 @@ pub record MayGo (words : ℕ) (tx : SeenTx) : Type 0 where
 pub record AreReadyFor (tx : SeenTx) (contents : Contents) : Type 0 where
   pub files : (h : ℕ) → IsOpenIn contents (place_of tx.me.places h)
   pub new : IsNewIn contents tx.me tx.number
+
+-- ---- what a call needs of pipes
+-- of the host and of what is kept in front of it, at these handles of a transaction: the pipe that it reads, where no check refuses
+-- it, is there; of the number that it gives to a new pipe there is none, and nothing is kept
+abbrev pub IsLentFor : Private → ℕ → Call → Contents → List KeptItem → Type 0
+IsLentFor me number (call.XReadPipe h n) c kept = refusal_of (call.XReadPipe h n) me ≡ None → IsPipeIn c (place_of me.places h)
+IsLentFor me number call.XPipe c kept = let num = next_num me number in (has_pipe c num ≡ false) × (kept_bytes num kept ≡ [])
+-- it is asked of calls that reach a pipe of the host at once, and of no other
+IsLentFor me number _ c kept = Unit {0}
+
+-- a read for which memory was wanting: it called the host for no more than the call, met no fault, and left the private state
+pub record StopsRead {H : Type 0} (model : HostModel H) (h n : ℕ) (host : Step H) (state : Step Private) : Type 0 where
+  pub uses : Uses model host (StopsFor (call.XReadPipe h n))
+  pub faults : model.fault_count host.new ≡ model.fault_count host.old
+  pub me : state.new ≡ state.old
 
 -- ---- a call
 -- what it works on: a host, what is kept in front of it, the words, and a transaction at them

@@ -41,6 +41,10 @@ pub record IsBacked (c : Contents) (item : KeptItem) : Type 0 where
   pub fit : is_fit item ≡ true
   pub there : has_place c item ≡ true
 
+-- so is all that is kept then, where it was before
+abbrev pub StaysBacked : Contents → List KeptItem → List KeptItem → Type 0
+StaysBacked c old new = All (IsBacked c) old → All (IsBacked c) new
+
 -- so are those of all that is kept, and of all that active transactions have taken
 pub record AreBacked (c : Contents) (items : List KeptItem) (jobs : List SeenJob) : Type 0 where
   pub kept : All (IsBacked c) items

@@ -1,8 +1,9 @@
 -- A moment of a station, as one job sees it: what all jobs share, and the job itself in its place.
-use Rattle.std.specs.Prelude.{◌≡◌, ℕ, ◌+◌, Bool, true, false, List, length, All, nat_lt, slice_get, slice_set, IsSome, IsTrue, Option}
+use Rattle.std.specs.Prelude.{◌≡◌, ℕ, ◌+◌, ◌≤◌, Bool, true, false, List, length, All, nat_lt, slice_get, slice_set, IsSome, IsTrue, Option}
 use Rattle.std.specs.Prelude.{Result, Ok, Err}
 use Rattle.std.specs.declared.option.Option.TheVariants.{None, Some}
 use Rattle.xc_data.specs.Claims.{holding}
+use Rattle.xc_data.specs.declared.call.Call.{Call}
 use Rattle.xc_data.specs.declared.claim.Claim.{Claim}
 use Rattle.xc_data.specs.declared.object.Object.{Object}
 use Rattle.xc_data.specs.declared.entry.Cause.TheVariants as cause
@@ -16,7 +17,9 @@ use Rattle.xc_host.specs.Model.{HostModel}
 use Rattle.xc_script.specs.Ask.{next_body}
 use Rattle.xc_script.specs.Position.{Position, job_of}
 use Rattle.xc_text.specs.declared.script.Script.{Script}
+use Rattle.xc_wordlocks.specs.Met.{IsNotMet}
 use Rattle.xc_wordlocks.specs.Table.{Table, Holds, KeepsOthers, mode_in, mode_of}
+use Rattle.xc_world.specs.Modes.{claims_of}
 use Rattle.xc_sentinel.specs.declared.seat.Seat.{Seat}
 use Rattle.xc_sentinel.specs.Seated.{Seats}
 use Rattle.xc_sentinel.specs.declared.sentinels.Sentinels.{Sentinels}
@@ -31,9 +34,9 @@ use Rattle.xc_story.specs.Rows.{IsActiveAt, IsSamePosition, MarkedTurn, Mover, R
 use Rattle.xc_story.specs.Holding.{AreApart}
 use Rattle.xc_station.specs.declared.calls.Shared.{Shared}
 use Rattle.xc_station.specs.declared.tx.Tx.{Tx}
-use Rattle.xc_station.specs.Acting.{AreReadyFor, HasNoteRoom, MayGo}
+use Rattle.xc_station.specs.Acting.{AreReadyFor, HasNoteRoom, IsLentFor, MayGo}
 use Rattle.xc_station.specs.Jobs.{seen_tx}
-use Rattle.xc_station.specs.Lent.{IsBacked, Lent}
+use Rattle.xc_station.specs.Lent.{IsBacked, Lent, StaysBacked}
 
 -- what is found at a number is what the active transaction of this number has, and nothing where none has it
 pub record AreTracked {X : Type 0} (found : ℕ → Option X) (has : SeenTx → Option X) (jobs : List SeenJob) : Type 0 where
@@ -103,8 +106,7 @@ told_by model shared = told_front model (front_of shared)
 -- is what is kept; none of these is gone
 pub record Lends {H : Type 0} (model : HostModel H) (shared : Step (Front H)) (tx : Step SeenTx) : Type 0 where
   pub noted : shared.new.lent.noted + length tx.old.taken ≡ shared.old.lent.noted + length tx.new.taken
-  pub kept : IsTrue model.tells → All (IsBacked (model.contents shared.old.host)) shared.old.lent.kept
-      → All (IsBacked (model.contents shared.old.host)) shared.new.lent.kept
+  pub kept : IsTrue model.tells → StaysBacked (model.contents shared.old.host) shared.old.lent.kept shared.new.lent.kept
   pub taken : IsTrue model.tells → All (IsBacked (model.contents shared.old.host)) shared.old.lent.kept
       → All (IsBacked (model.contents shared.old.host)) tx.old.taken → All (IsBacked (model.contents shared.old.host)) tx.new.taken
   pub keeps : IsTrue model.tells → KeepsData (model.contents shared.old.host) (model.contents shared.new.host)
@@ -209,6 +211,12 @@ module _ (m : Mover) (new : Now) where
     pub table : IsTable sentinels.claims new.jobs
     pub seats : AreSeats sentinels.seats new.jobs
 
+-- each call has what it needs of pipes, where nobody holds against it what it claims
+abbrev pub HasPipes : {H : Type 0} → HostModel H → Shared H → SeenTx → Type 0
+HasPipes model shared tx =
+    (call : Call) → All (IsNotMet shared.sentinels.claims tx.number) (claims_of call tx.me (length shared.words))
+    → IsLentFor tx.me tx.number call (model.contents shared.host) shared.buffers.kept
+
 -- a job whose transaction runs may take its turn
 pub record CanRun {H : Type 0} (script : Script) (model : HostModel H) (shared : Shared H) (job : SeenJob) : Type 0 where
   pub tx : SeenTx
@@ -216,3 +224,5 @@ pub record CanRun {H : Type 0} (script : Script) (model : HostModel H) (shared :
   pub left : IsSome (next_body script (job_of job.place))
   pub may : MayGo (length shared.words) tx
   pub ready : IsTrue model.tells → AreReadyFor tx (model.contents shared.host)
+  pub pipes : IsTrue model.tells → HasPipes model shared tx
+  pub noted : length tx.taken ≤ shared.buffers.noted

@@ -1,12 +1,27 @@
-ghost use Rattle.std.specs.Prelude.{◌≡◌, ◌⊎◌, ◌≤◌, ◌+◌, [], length, Contains, IfOk};
+ghost use Rattle.std.specs.Prelude.{◌≡◌, ◌⊎◌, ◌≤◌, ◌+◌, ◌++◌, ◌∷◌, [], ℕ, true, false, List, All, length, Contains};
+ghost use Rattle.std.specs.Prelude.{IfOk, Ok, OnErr, IsTrue, None};
+ghost use Rattle.xc_buffers.specs.Items.{is_fit};
+ghost use Rattle.xc_compensate.specs.Records.{Records};
+ghost use Rattle.xc_data.specs.Calls.{is_late};
+ghost use Rattle.xc_data.specs.Private.{place_of};
+ghost use Rattle.xc_data.specs.declared.call.Call.TheVariants.{XReadPipe};
 ghost use Rattle.xc_data.specs.declared.entry.KeptItem.{KeptItem};
-ghost use Rattle.xc_world.specs.Run.{given_back};
+ghost use Rattle.xc_file.specs.Calls.{IsFileCall};
+ghost use Rattle.xc_host.specs.Fronted.{before, fronted};
+ghost use Rattle.xc_host.specs.Kept.{KeepsData, with_kept};
+ghost use Rattle.xc_pipe.specs.Reading.{IsPipeIn, Notes};
+ghost use Rattle.xc_world.specs.Checks.{refusal_of};
+ghost use Rattle.xc_world.specs.Run.{given_back, gives};
 ghost use Rattle.xc_world.specs.World.{World};
+ghost use Rattle.xc_station.specs.Acting.{StopsRead};
+ghost use Rattle.xc_station.specs.Lent.{StaysBacked};
 
 use std::alloc::Global;
 use std::marker::Model;
 use xc_buffers::{Kept, Taken};
-use xc_data::{KeptList, NoMemory};
+use xc_data::{KeptList, NoMemory, Private, Reply};
+use xc_host::Host;
+use xc_pipe::x_read_pipe;
 
 /// What aborted transactions gave back to pipes and pairs, with room for all that active ones have taken, and two more.
 #[derive(Drop)]
@@ -18,13 +33,14 @@ pub struct Buffers {
 
 impl Model for Buffers {
     ghost use Rattle.std.specs.Prelude.{◌≤◌, ◌+◌};
+    ghost use Rattle.xc_buffers.specs.Items.{AreKept};
     ghost use Rattle.xc_station.specs.Lent.{Lent};
 
     ghost Value = { Lent };
 
     ghost view = { λ b. record { kept = b.kept.items; noted = b.noted } };
 
-    ghost invariant = { λ b. b.noted + 2 ≤ b.kept.spare };
+    ghost invariant = { λ b. (b.noted + 2 ≤ b.kept.spare) × AreKept b.kept.items };
 }
 
 impl Buffers {
@@ -35,6 +51,59 @@ impl Buffers {
         let mut kept = Kept::new(alloc);
         kept.reserve(2)?;
         Ok(Buffers { kept, noted: 0 })
+    }
+
+    /// Reads from an open pipe, what is kept first, with room to give back what is read. Memory is wanting where more is noted than can
+    /// be counted, too.
+    pub fn read_pipe<H: Host>(
+        &mut self,
+        alloc: Global,
+        host: &mut H,
+        taken: &mut Taken,
+        me: &mut Private,
+        h: u16,
+        n: u64,
+    ) -> Result<Reply, NoMemory>
+        requires stored { me.old.stored ≤ 16384 }
+        requires noted { length taken.old.items ≤ self.old.noted }
+        requires there { IsTrue H.model.tells → refusal_of (XReadPipe h n) me.old ≡ None
+            → IsPipeIn (H.model.contents host.old) (place_of me.old.places h) }
+        ensures call { (number : ℕ) (undo : Records) → IfOk result (λ reply. IsFileCall (fronted H.model) (XReadPipe h n)
+            (record { host = before host.old self.old.kept; number = number; me = me.old; undo = undo })
+            (record { host = before host.new self.new.kept; number = number; me = me.new; undo = undo }) (Ok reply)) }
+        ensures stops { OnErr result
+            (StopsRead H.model h n (record { old = host.old; new = host.new }) (record { old = me.old; new = me.new })) }
+        ensures err { IsTrue H.model.tells → OnErr result
+            (with_kept (H.model.contents host.new) self.new.kept ≡ with_kept (H.model.contents host.old) self.old.kept) }
+        ensures notes { Notes (XReadPipe h n) me.old (record { old = taken.old.items; new = taken.new.items }) result }
+        ensures noted { self.new.noted + length taken.old.items ≡ self.old.noted + length taken.new.items }
+        ensures backs { IsTrue H.model.tells → StaysBacked (H.model.contents host.old) self.old.kept self.new.kept }
+        ensures fit_taken { IfOk result (λ reply. All (λ t. is_fit t ≡ true) taken.new.items) }
+        ensures stored { me.new.stored ≤ 16384 }
+        ensures now { IfOk result (λ reply. is_late reply ≡ false) }
+        ensures keeps { IsTrue H.model.tells → KeepsData (H.model.contents host.old) (H.model.contents host.new) }
+    {
+        if self.noted > u32::MAX - 4 {
+            return Err(NoMemory);
+        }
+        self.kept.reserve(self.noted + 4)?;
+        let before = taken.count();
+        let reply = x_read_pipe(alloc, host, &mut self.kept, taken, me, h, n)?;
+        self.noted += taken.count() - before;
+        Ok(reply)
+    }
+
+    /// What the last call of a transaction took is in front again. It takes no memory.
+    pub fn give_last(&mut self, taken: &mut Taken)
+        requires noted { 1 ≤ self.old.noted }
+        ensures given { (notes : List KeptItem) (last : KeptItem) → taken.old.items ≡ notes ++ last ∷ [] → (taken.new.items ≡ notes)
+            × ((w : World) → given_back w self.new.kept ≡ gives (given_back w self.old.kept) last) }
+        ensures among { (notes : List KeptItem) (last : KeptItem) → taken.old.items ≡ notes ++ last ∷ []
+            → (item : KeptItem) → Contains self.new.kept item → (item ≡ last) ⊎ Contains self.old.kept item }
+        ensures noted { self.new.noted + 1 ≡ self.old.noted }
+    {
+        taken.give_last(&mut self.kept);
+        self.noted -= 1;
     }
 
     /// What an aborted transaction took is in front again of what is there. It takes no memory.
@@ -58,6 +127,13 @@ impl Buffers {
     {
         self.noted -= taken.count();
         *taken = Taken::new(alloc);
+    }
+
+    /// How much active transactions have taken.
+    pub fn noted(&self) -> u32
+        ensures { result ≡ self.now.noted }
+    {
+        self.noted
     }
 
     /// What is kept.

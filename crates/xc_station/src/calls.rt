@@ -1,6 +1,5 @@
-ghost use Rattle.std.specs.Prelude.{◌≡◌, ◌<◌, ◌++◌, ℕ, List, slice_set, true, false, length, IfOk, OnOk, OnErr, IsTrue};
+ghost use Rattle.std.specs.Prelude.{◌≡◌, ◌<◌, ◌++◌, ℕ, ◌+◌, ◌≤◌, slice_set, true, false, length, IfOk, OnOk, OnErr, IsTrue};
 ghost use Rattle.xc_data.specs.declared.call.Call.TheVariants as PlainCall;
-ghost use Rattle.xc_data.specs.declared.entry.KeptItem.{KeptItem};
 ghost use Rattle.xc_script.specs.declared.ask.Ask.TheVariants.{Call as AskedCall};
 ghost use Rattle.xc_script.specs.Ask.{asks, answered};
 ghost use Rattle.xc_script.specs.Position.{walk_of, IsSettled};
@@ -10,8 +9,9 @@ ghost use Rattle.xc_world.specs.After.{IsMeAfter};
 ghost use Rattle.xc_data.specs.Calls.{is_late};
 ghost use Rattle.xc_story.specs.WordCalls.{is_word_call, word_reply, words_after};
 ghost use Rattle.xc_story.specs.Rows.{IsSameBegin, is_built, stored_by};
-ghost use Rattle.xc_station.specs.Acting.{AreReadyFor, HasActed, MayGo, acting};
+ghost use Rattle.xc_station.specs.Acting.{AreReadyFor, HasActed, IsLentFor, MayGo, acting};
 ghost use Rattle.xc_station.specs.Jobs.{begun_of, seen_tx};
+ghost use Rattle.xc_station.specs.Lent.{StaysBacked};
 ghost use Rattle.xc_station.specs.PutBack.{changed_at, handle_in, place_before};
 
 use crate::buffers::Buffers;
@@ -23,6 +23,7 @@ use xc_file::{
     x_write_seq,
 };
 use xc_host::Host;
+use xc_pipe::{x_pipe, x_shutdown, x_write_pipe};
 use xc_script::JobState;
 use xc_sentinel::Sentinels;
 use xc_text::Script;
@@ -70,6 +71,7 @@ fn store(words: &Words, writes: &mut WriteSet, at: u64, value: u64) -> Result<Re
 fn act<H: Host>(
     alloc: Global,
     host: &mut H,
+    buffers: &mut Buffers,
     words: &Words,
     tx: &mut Tx,
     call: &Call,
@@ -77,11 +79,15 @@ fn act<H: Host>(
     requires built { is_built call.now ≡ true }
     requires may { MayGo (length words.now) (seen_tx tx.old) }
     requires ready { IsTrue H.model.tells → AreReadyFor (seen_tx tx.old) (H.model.contents host.old) }
+    requires lent { IsTrue H.model.tells → IsLentFor tx.old.me.value tx.old.number call.now (H.model.contents host.old) buffers.old.kept }
+    requires noted { length tx.old.taken.items ≤ buffers.old.noted }
     ensures begun { (tx.new.changed ≡ tx.old.changed) × (tx.new.begun ≡ tx.old.begun) }
     ensures notes { (tx.new.calls ≡ tx.old.calls) × (tx.new.replies ≡ tx.old.replies) }
-    ensures words { is_word_call call.now ≡ true → tx.new.me ≡ tx.old.me }
-    ensures acted { (kept : List KeptItem)
-        → HasActed H.model call.now (acting host.old kept words.now tx.old) (acting host.new kept words.now tx.new) result }
+    ensures words { is_word_call call.now ≡ true → (tx.new.me ≡ tx.old.me) × (buffers.new ≡ buffers.old) }
+    ensures noted { buffers.new.noted + length tx.old.taken.items ≡ buffers.old.noted + length tx.new.taken.items }
+    ensures backs { IsTrue H.model.tells → StaysBacked (H.model.contents host.old) buffers.old.kept buffers.new.kept }
+    ensures acted { HasActed H.model call.now (acting host.old buffers.old.kept words.now tx.old)
+        (acting host.new buffers.new.kept words.now tx.new) result }
 {
     let Tx {
         number,
@@ -89,6 +95,7 @@ fn act<H: Host>(
         writes,
         undo,
         late,
+        taken,
         ..
     } = tx;
     match call {
@@ -105,6 +112,10 @@ fn act<H: Host>(
         Call::XRename { from, to } => x_rename(host, undo, from.value(), to.value()),
         Call::XUnlink { name, .. } => x_unlink(late, name.value()),
         Call::XSync { h, .. } => x_sync(late, me, *h),
+        Call::XPipe => x_pipe(host, me, undo, *number),
+        Call::XReadPipe { h, n } => buffers.read_pipe(alloc, host, taken, me, *h, *n),
+        Call::XWritePipe { h, bytes, .. } => x_write_pipe(late, me, *h, bytes),
+        Call::XShutdown { h, .. } => x_shutdown(late, me, *h),
         // The contract leaves no other call.
         _ => unreachable!(),
     }
@@ -200,6 +211,7 @@ fn put_back(me: &mut Private, call: &Call, reply: &Reply, before: &Before)
 fn do_host_call<H: Host>(
     alloc: Global,
     host: &mut H,
+    buffers: &mut Buffers,
     words: &Words,
     script: &Script,
     place: &mut JobState,
@@ -210,20 +222,28 @@ fn do_host_call<H: Host>(
     requires settled { IsSettled script.now place.old }
     requires may { MayGo (length words.now) (seen_tx tx.old) }
     requires ready { IsTrue H.model.tells → AreReadyFor (seen_tx tx.old) (H.model.contents host.old) }
+    requires lent { IsTrue H.model.tells → IsLentFor tx.old.me.value tx.old.number call.now (H.model.contents host.old) buffers.old.kept }
+    requires noted { length tx.old.taken.items ≤ buffers.old.noted }
     ensures begun { begun_of tx.new ≡ begun_of tx.old }
     ensures notes { (tx.new.calls ≡ tx.old.calls) × (tx.new.replies ≡ tx.old.replies) }
     ensures walk { IfOk result (λ reply. walk_of script.now place.new ≡ answered (walk_of script.now place.old) reply) }
     ensures nearer { OnOk result (place.old.at < place.new.at) }
     ensures begin { IsSameBegin place.old place.new }
     ensures err_place { OnErr result (place.new ≡ place.old) }
-    ensures acted { (kept : List KeptItem)
-        → HasActed H.model call.now (acting host.old kept words.now tx.old) (acting host.new kept words.now tx.new) result }
+    ensures noted { buffers.new.noted + length tx.old.taken.items ≡ buffers.old.noted + length tx.new.taken.items }
+    ensures backs { IsTrue H.model.tells → StaysBacked (H.model.contents host.old) buffers.old.kept buffers.new.kept }
+    ensures acted { HasActed H.model call.now (acting host.old buffers.old.kept words.now tx.old)
+        (acting host.new buffers.new.kept words.now tx.new) result }
 {
     tx.keep();
     let before = state_before(&tx.me, call);
-    let reply = act(alloc, host, words, tx, call)?;
+    let noted = buffers.noted();
+    let reply = act(alloc, host, buffers, words, tx, call)?;
     if place.answer(script, &reply).is_err() {
         put_back(&mut tx.me, call, &reply, &before);
+        if noted < buffers.noted() {
+            buffers.give_last(&mut tx.taken);
+        }
         return Err(NoMemory);
     }
     Ok(reply)
@@ -234,6 +254,7 @@ fn do_host_call<H: Host>(
 pub fn do_call<H: Host>(
     alloc: Global,
     host: &mut H,
+    buffers: &mut Buffers,
     words: &Words,
     script: &Script,
     place: &mut JobState,
@@ -244,19 +265,23 @@ pub fn do_call<H: Host>(
     requires settled { IsSettled script.now place.old }
     requires may { MayGo (length words.now) (seen_tx tx.old) }
     requires ready { IsTrue H.model.tells → AreReadyFor (seen_tx tx.old) (H.model.contents host.old) }
+    requires lent { IsTrue H.model.tells → IsLentFor tx.old.me.value tx.old.number call.now (H.model.contents host.old) buffers.old.kept }
+    requires noted { length tx.old.taken.items ≤ buffers.old.noted }
     ensures begun { begun_of tx.new ≡ begun_of tx.old }
     ensures notes { (tx.new.calls ≡ tx.old.calls) × (tx.new.replies ≡ tx.old.replies) }
     ensures walk { IfOk result (λ reply. walk_of script.now place.new ≡ answered (walk_of script.now place.old) reply) }
     ensures nearer { OnOk result (place.old.at < place.new.at) }
     ensures begin { IsSameBegin place.old place.new }
     ensures err_place { OnErr result (place.new ≡ place.old) }
-    ensures acted { (kept : List KeptItem)
-        → HasActed H.model call.now (acting host.old kept words.now tx.old) (acting host.new kept words.now tx.new) result }
+    ensures noted { buffers.new.noted + length tx.old.taken.items ≡ buffers.old.noted + length tx.new.taken.items }
+    ensures backs { IsTrue H.model.tells → StaysBacked (H.model.contents host.old) buffers.old.kept buffers.new.kept }
+    ensures acted { HasActed H.model call.now (acting host.old buffers.old.kept words.now tx.old)
+        (acting host.new buffers.new.kept words.now tx.new) result }
 {
     if !is_on_words(call) {
-        return do_host_call(alloc, host, words, script, place, tx, call);
+        return do_host_call(alloc, host, buffers, words, script, place, tx, call);
     }
-    let reply = act(alloc, host, words, tx, call)?;
+    let reply = act(alloc, host, buffers, words, tx, call)?;
     place.answer(script, &reply)?;
     Ok(reply)
 }

@@ -7,6 +7,8 @@ ghost use Rattle.xc_host.specs.Contents.{needs_scripted, opened};
 ghost use Rattle.xc_host.specs.Kept.{with_kept};
 ghost use Rattle.xc_host.specs.Model.{plan_of};
 ghost use Rattle.xc_text.specs.Scripts.{IsScript};
+ghost use Rattle.xc_world.specs.Opening.{opening_handles};
+ghost use Rattle.xc_world.specs.World.{beginning};
 ghost use Rattle.xc_story.specs.Ending.{IsTrueEnd};
 ghost use Rattle.xc_story.specs.Kept.{AreLinesOf, IsLineOf};
 ghost use Rattle.xc_story.specs.Measure.{turns_left};
@@ -31,7 +33,7 @@ use crate::start::{End, NotStarted, Opening};
 use crate::tx::Tx;
 use std::alloc::Global;
 use std::marker::Model;
-use xc_data::{Event, Ident, JobEnd, JobLine, JobList, NoMemory, Turn};
+use xc_data::{Event, Ident, JobEnd, JobLine, JobList, NoMemory, Private, Turn};
 use xc_host::{Host, OpenErr};
 use xc_journal::{Journal, Roomy};
 use xc_script::JobState;
@@ -40,6 +42,7 @@ use xc_story::Rules;
 use xc_text::Script;
 use xc_turnstile::Chronicle;
 use xc_txmem::Words;
+use xc_world::opening_private;
 
 /// The core, over a host. Jobs are numbered from 1, in the order of their starts.
 #[derive(Drop)]
@@ -426,10 +429,17 @@ impl<H: Host> Chronicle for Station<H> {
     }
 }
 
-// The job of the job block at this place, at the begin of it.
-fn opened_job(alloc: Global, script: &Script, at: usize, block: Ident) -> Result<Job, NoMemory>
+// The job of the job block at this place, at the begin of it, with the prologue's handles.
+fn opened_job(
+    alloc: Global,
+    script: &Script,
+    at: usize,
+    block: Ident,
+    me: &Private,
+) -> Result<Job, NoMemory>
     requires script { IsScript script.now }
     requires block { slice_get script.now.outline.jobs at ≡ Some block }
+    requires handles { me.now ≡ beginning (opening_handles script.now.outline) }
     ensures { IfOk result (λ job. seen_job job ≡ opened_job script.now block) }
 {
     Ok(Job {
@@ -438,18 +448,20 @@ fn opened_job(alloc: Global, script: &Script, at: usize, block: Ident) -> Result
         attempts: None,
         busy: 0,
         activity: Activity::Idle,
-        tx: Tx::new(alloc)?,
+        tx: Tx::new(alloc, me)?,
     })
 }
 
 // The jobs of the script's job blocks, each at the begin of its block.
 fn opened_jobs(alloc: Global, script: &Script) -> Result<Vec<Job>, NoMemory>
-    requires { IsScript script.now }
+    requires script { IsScript script.now }
+    requires limits { KeepsLimits script.now.outline }
     ensures { IfOk result (λ jobs. seen_jobs jobs.items ≡ map (opened_job script.now) script.now.outline.jobs) }
 {
+    let me = opening_private(alloc, script.outline())?;
     let mut jobs = Vec::with_capacity(alloc, script.outline().jobs.len())?;
     for (at, block) in script.outline().jobs.as_slice().iter().enumerate() {
-        jobs.push(opened_job(alloc, script, at, *block)?)?;
+        jobs.push(opened_job(alloc, script, at, *block, &me)?)?;
     }
     Ok(jobs)
 }
@@ -488,7 +500,8 @@ struct Rooms {
 
 // The memory of a start.
 fn make_rooms(alloc: Global, script: &Script) -> Result<Rooms, NoMemory>
-    requires { IsScript script.now }
+    requires script { IsScript script.now }
+    requires limits { KeepsLimits script.now.outline }
     ensures words { IfOk result (λ made. made.words ≡ script.now.outline.words) }
     ensures buffers { IfOk result (λ made. made.buffers ≡ record { kept = []; noted = 0 }) }
     ensures jobs { IfOk result (λ made. seen_jobs made.jobs.items ≡ map (opened_job script.now) script.now.outline.jobs) }

@@ -1,7 +1,7 @@
 ghost use Rattle.std.specs.Prelude.{◌≡◌, ◌≤◌, ◌+◌, ◌∷◌, ◌++◌, [], ℕ, length, true, false, IfOk, OnOk};
 ghost use Rattle.xc_data.specs.Claims.{holding};
 ghost use Rattle.xc_data.specs.declared.entry.Cause.{Cause as PlainCause};
-ghost use Rattle.xc_world.specs.World.{beginning, no_handles};
+ghost use Rattle.xc_world.specs.World.{beginning};
 ghost use Rattle.xc_story.specs.declared.phase.Phase.TheVariants as PlainPhase;
 ghost use Rattle.xc_story.specs.Rows.{entry_of, new_tx};
 ghost use Rattle.xc_station.specs.Jobs.{begun_of, outcome_in, seen_tx};
@@ -67,18 +67,18 @@ fn outcome_of(phase: &Phase, undo: Stack, late: Late) -> Outcome
 }
 
 impl Tx {
-    /// That of a job which has begun none yet, with no handles.
-    pub fn new(alloc: Global) -> Result<Tx, NoMemory>
-        ensures { IfOk result (λ tx. begun_of tx ≡ beginning no_handles) }
+    /// That of a job which has begun none yet, with these handles.
+    pub fn new(alloc: Global, me: &Private) -> Result<Tx, NoMemory>
+        ensures { IfOk result (λ tx. begun_of tx ≡ me.now) }
     {
         Ok(Tx {
             number: 0,
             rank: 0,
             began: 0,
             phase: Phase::Running,
-            me: Box::new(alloc, Private::new())?,
+            me: Box::new(alloc, *me)?,
             changed: false,
-            begun: Box::new(alloc, Private::new())?,
+            begun: Box::new(alloc, *me)?,
             writes: WriteSet::new(alloc),
             undo: Stack::new(alloc),
             late: Late::new(alloc),

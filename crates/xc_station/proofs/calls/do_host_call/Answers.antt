@@ -1,37 +1,79 @@
-use Rattle.std.proofs.Common.{ap, subst, sym, ◌∙◌}
-use Rattle.xc_world.specs.After.{IsMeAfter}
-use Rattle.xc_station.specs.declared.calls.Before.{Before}
-use Rattle.xc_station.specs.PutBack.{place_before}
+use Rattle.std.proofs.Common.{◌≡◌, ◌<◌, ap, subst, sym, ◌∙◌, length, arith, IsTrue}
+use Rattle.std.specs.Prelude.{Contains, Ok}
 use Rattle.xc_data.specs.declared.private.Private.{Private}
-use Rattle.xc_story.specs.Seen.{SeenTx}
-use Rattle.xc_station.specs.Acting.{LeavesOff, acting, HasActed}
 use Rattle.xc_script.specs.Position.{walk_of}
+use Rattle.xc_story.specs.Seen.{SeenTx}
 use Rattle.xc_story.proofs.AskedCalls.{asked_built}
-use Rattle.xc_station.proofs.Unstarted.{built_untaken}
-use Rattle.xc_station.proofs.Doings.{unanswered, wants_value}
+use Rattle.xc_world.specs.After.{IsMeAfter}
+use Rattle.xc_world.specs.Run.{given_back}
+use Rattle.xc_station.specs.Acting.{acting, HasActed, HasDone}
+use Rattle.xc_station.specs.Lent.{Lent, StaysBacked}
+use Rattle.xc_station.specs.PutBack.{place_before}
+use Rattle.xc_station.specs.declared.calls.Before.{Before}
+use Rattle.xc_station.specs.declared.tx.Tx.{Tx}
+use Rattle.xc_station.proofs.Doings.{wants_value}
+use Rattle.xc_station.proofs.Unanswered.{given_undone, last_backed, nothing_undone}
 use Rattle.xc_station.proofs.calls.do_host_call.Goals as goal
-use Rattle.std.specs.Prelude.{Ok}
+use Rattle.xc_station.proofs.calls.do_host_call.Goals.{then-noted, else-noted}
 
 pub returns-then-is_err-clause-acted : goal.returns-then-is_err-clause-acted
-returns-then-is_err-clause-acted g c kept =
+returns-then-is_err-clause-acted g c =
     let model = g.H.Host.model in
-    let old = λ (t : SeenTx). record (acting c.args.host.now kept c.args.words.now c.args.tx.now) { tx = t } in
-    let done = acting c.act.new.host kept c.args.words.now c.act.new.tx in
-    let behind = λ (me : Private). record done { tx = record done.tx { me = me } } in
-    let acted = c.in_ok-reply.ensures.acted kept in
+    let call = c.args.call.now in
+    let reply = c.in_ok-reply.reply in
+    let old = acting c.args.host.now c.args.buffers.now.kept c.args.words.now c.args.tx.now in
+    let done = acting c.act.new.host c.act.new.buffers.kept c.args.words.now c.act.new.tx in
+    let behind = acting c.act.new.host c.if-noted.buffers.kept c.args.words.now c.if-noted.tx in
+    let acted = c.in_ok-reply.ensures.acted in
+    let did : HasDone model call old done reply = subst (λ (t : SeenTx). HasDone model call (record old { tx = t }) done reply) c.keep.ensures.tx acted in
     let was = c.keep.new.self.me.value in
     let stood = c.state_before-before.ensures
-    ∙ ap (λ (me : Private). let b : Before = record { place = place_before c.args.call.now me.places; made = me.made; stored = me.stored } in b)
+    ∙ ap (λ (me : Private). let b : Before = record { place = place_before call me.places; made = me.made; stored = me.stored } in b)
     c.deref.ensures in
-    let after = subst (IsMeAfter c.keep.new.self.number c.args.call.now c.in_ok-reply.reply was) (sym c.deref_mut.ensures.value) acted.after in
-    subst (λ t. LeavesOff model c.args.call.now (old t) (behind c.put_back.new.me)) c.keep.ensures.tx
-    (unanswered model _ _ _ _ _ acted
-    (built_untaken c.args.call.now (asked_built (walk_of c.args.script.now c.args.place.now) c.args.call.now c.requires.asked))
-    (ap behind (c.put_back.ensures c.keep.new.self.number was after stood))
-    (wants_value c.answer.result _ (sym c.if-is_err.ensures.value) c.answer.ensures.lasting))
+    let after = subst (IsMeAfter c.keep.new.self.number call reply was) (sym c.deref_mut.ensures.value) acted.after in
+    let back : c.put_back.new.me ≡ c.args.tx.now.me.value =
+    c.put_back.ensures c.keep.new.self.number was after stood ∙ ap (λ (t : SeenTx). t.me) c.keep.ensures.tx in
+    let built = asked_built (walk_of c.args.script.now c.args.place.now) call c.requires.asked in
+    let brings = wants_value c.answer.result _ (sym c.if-is_err.ensures.value) c.answer.ensures.lasting in
+    let held = ap (λ (t : SeenTx). length t.taken) c.keep.ensures.tx in
+    let counts = c.in_ok-reply.ensures.noted in
+    elim c.if-noted.branch [
+      | then-noted w ↦ given_undone model call old done reply did built c.requires.lent behind
+          (let more = w.if-noted.true in omega (arith, held, counts, more, c.noted.ensures, c.noted-noted.ensures))
+          (λ notes last is. let gave = w.give_last.ensures.given notes last is in
+          (ap (λ (t : Tx). t.taken.items) w.tx-is ∙ gave.0, λ v. ap (λ (b : Lent). given_back v b.kept) w.buffers-is ∙ gave.1 v))
+          (ap (acting c.act.new.host behind.kept c.args.words.now) w.tx-is
+          ∙ (λ i. record done {
+            kept = behind.kept;
+            tx = record done.tx { me = back i; taken = sym (ap (λ (t : Tx). t.taken.items) w.tx-is) i };
+          })) brings
+      | else-noted w ↦ nothing_undone model call old done reply did built c.requires.lent behind
+          (let more = w.if-noted.false in omega (arith, held, counts, more, c.noted.ensures, c.noted-noted.ensures))
+          ((λ i. acting c.act.new.host (w.buffers-is i).kept c.args.words.now (w.tx-is i)) ∙ (λ i. record done { tx = record done.tx { me = back i } })) brings
+    ]
+
+pub returns-then-is_err-clause-backs : goal.returns-then-is_err-clause-backs
+returns-then-is_err-clause-backs g c = λ tells.
+    let model = g.H.Host.model in
+    let call = c.args.call.now in
+    let reply = c.in_ok-reply.reply in
+    let old = acting c.args.host.now c.args.buffers.now.kept c.args.words.now c.args.tx.now in
+    let done = acting c.act.new.host c.act.new.buffers.kept c.args.words.now c.act.new.tx in
+    let did : HasDone model call old done reply =
+    subst (λ (t : SeenTx). HasDone model call (record old { tx = t }) done reply) c.keep.ensures.tx c.in_ok-reply.ensures.acted in
+    let built = asked_built (walk_of c.args.script.now c.args.place.now) call c.requires.asked in
+    let held = ap (λ (t : SeenTx). length t.taken) c.keep.ensures.tx in
+    let counts = c.in_ok-reply.ensures.noted in
+    let stays : StaysBacked (model.contents c.args.host.now) c.args.buffers.now.kept c.act.new.buffers.kept = c.in_ok-reply.ensures.backs tells in
+    elim c.if-noted.branch [
+      | then-noted w ↦ last_backed model call old done reply did built c.if-noted.buffers.kept tells
+          (let more = w.if-noted.true in omega (arith, held, counts, more, c.noted.ensures, c.noted-noted.ensures))
+          (λ notes last is item at. w.give_last.ensures.among notes last is item (subst (λ (b : Lent). Contains b.kept item) w.buffers-is at)) stays
+      | else-noted w ↦ subst (λ (b : Lent). StaysBacked (model.contents c.args.host.now) c.args.buffers.now.kept b.kept) (sym w.buffers-is) stays
+    ]
 
 pub returns-clause-acted : goal.returns-clause-acted
-returns-clause-acted g c kept =
+returns-clause-acted g c =
     let model = g.H.Host.model in
-    subst (λ (t : SeenTx). HasActed model c.args.call.now (record (acting c.args.host.now kept c.args.words.now c.args.tx.now) { tx = t })
-    (acting c.act.new.host kept c.args.words.now c.act.new.tx) (Ok c.in_ok-reply.reply)) c.keep.ensures.tx (c.in_ok-reply.ensures.acted kept)
+    subst (λ (t : SeenTx). HasActed model c.args.call.now (record (acting c.args.host.now c.args.buffers.now.kept c.args.words.now c.args.tx.now) { tx = t })
+    (acting c.act.new.host c.act.new.buffers.kept c.args.words.now c.act.new.tx) (Ok c.in_ok-reply.reply)) c.keep.ensures.tx c.in_ok-reply.ensures.acted

@@ -1,12 +1,9 @@
-use Rattle.std.proofs.Common.{ap, refl, subst, sym, ◌∙◌, []}
-use Rattle.xc_script.specs.Position.{walk_of}
-use Rattle.xc_story.proofs.AskedCalls.{asked_built}
+use Rattle.std.proofs.Common.{ap, refl, subst, sym, ◌∙◌, arith, length}
 use Rattle.xc_story.specs.Seen.{SeenTx}
 use Rattle.xc_station.specs.Jobs.{seen_tx}
-use Rattle.xc_station.specs.Acting.{acting}
+use Rattle.xc_station.specs.Acting.{IsLentFor, acting}
 use Rattle.xc_station.specs.Moments.{Front, Lends, front_of}
 use Rattle.xc_station.proofs.Lending.{lends_done, lends_from, lends_left, lends_still, unclaimed_takes}
-use Rattle.xc_station.proofs.Unstarted.{nothing_taken}
 use Rattle.xc_station.proofs.RowsCalled.{called, starved}
 use Rattle.xc_station.proofs.RowsRun.{unclaimed}
 use Rattle.xc_station.proofs.running.try_call.Goals as goal
@@ -21,66 +18,74 @@ pub returns-in-Ok-clause-row : goal.returns-in-Ok-clause-row
 returns-in-Ok-clause-row g c rules now at job here has terms =
     let e = c.in-Ok.ensures in
     called g.H.Host.model _ _ _ _ _ _ c.args.tx.now here has
-    (record { host = c.do_call.new.host; buffers = c.claim.new.shared.buffers; words = c.claim.new.shared.words; sentinels = c.claim.new.shared.sentinels })
+    (record { host = c.do_call.new.host; buffers = c.do_call.new.buffers; words = c.claim.new.shared.words; sentinels = c.claim.new.shared.sentinels })
     c.claim.new.tx c.args.call
     c.in_default.ensures.same.1 c.requires.asked c.in_default.ensures.claimed (λ tells. tells) c.do_call.new.place
     (front_of c.claim.new.shared) c.do_call.new.tx
     c.note.new.self c.in-Ok.reply (record { begin = e.begin; walk = e.walk; nearer = e.nearer }) c.in_default.ensures.same.0
-    (e.acted c.claim.new.shared.buffers.kept) c.note.ensures.noted
+    e.acted c.note.ensures.noted
 
 pub returns-in-Err-do_call-clause-row : goal.returns-in-Err-do_call-clause-row
 returns-in-Err-do_call-clause-row g c rules now at job here has terms =
     let e = c.in-Err-do_call.ensures in
     starved g.H.Host.model _ _ _ _ _ _ c.args.tx.now here has
-    (record { host = c.do_call.new.host; buffers = c.claim.new.shared.buffers; words = c.claim.new.shared.words; sentinels = c.claim.new.shared.sentinels })
+    (record { host = c.do_call.new.host; buffers = c.do_call.new.buffers; words = c.claim.new.shared.words; sentinels = c.claim.new.shared.sentinels })
     c.claim.new.tx c.args.call
     c.in_default.ensures.same.1 c.requires.asked c.in_default.ensures.claimed (λ tells. tells) c.do_call.new.place
     (front_of c.claim.new.shared) c.do_call.new.tx
-    c.want.new.tx e.err_place c.in_default.ensures.same.0 (e.acted c.claim.new.shared.buffers.kept) c.want.ensures.tx c.want.result c.want.ensures.answer
+    c.want.new.tx e.err_place c.in_default.ensures.same.0 e.acted c.want.ensures.tx c.want.result c.want.ensures.answer
 
 pub returns-in-Err-clause-plan : goal.returns-in-Err-clause-plan
 returns-in-Err-clause-plan g c = ap (λ (f : Front g.row.H.Denot). g.H.Host.model.plan f.host) c.in-Err.ensures.same.0
 
 pub returns-in-Ok-clause-plan : goal.returns-in-Ok-clause-plan
 returns-in-Ok-clause-plan g c =
-    (c.in-Ok.ensures.acted []).uses.used.plan ∙ ap (λ (f : Front g.row.H.Denot). g.H.Host.model.plan f.host) c.in_default.ensures.same.0
+    c.in-Ok.ensures.acted.uses.used.plan ∙ ap (λ (f : Front g.row.H.Denot). g.H.Host.model.plan f.host) c.in_default.ensures.same.0
 
 pub returns-in-Err-do_call-clause-plan : goal.returns-in-Err-do_call-clause-plan
 returns-in-Err-do_call-clause-plan g c =
-    (c.in-Err-do_call.ensures.acted []).uses.used.plan ∙ ap (λ (f : Front g.row.H.Denot). g.H.Host.model.plan f.host) c.in_default.ensures.same.0
+    c.in-Err-do_call.ensures.acted.uses.used.plan ∙ ap (λ (f : Front g.row.H.Denot). g.H.Host.model.plan f.host) c.in_default.ensures.same.0
 
 pub returns-in-Err-clause-lends : goal.returns-in-Err-clause-lends
 returns-in-Err-clause-lends g c =
     let e = c.in-Err.ensures in
     lends_still g.H.Host.model _ _ e.same.0 (unclaimed_takes _ _ _ c.in-Err.turn e.claimed)
 
+pub do_call-requires-clause-lent : goal.do_call-requires-clause-lent
+do_call-requires-clause-lent g c =
+    let model = g.H.Host.model in
+    let e = c.in_default.ensures in
+    λ t. subst (λ (u : SeenTx). IsLentFor u.me u.number c.args.call (model.contents c.claim.new.shared.host) c.claim.new.shared.buffers.kept)
+    (sym e.claimed.held)
+    (subst (λ (f : Front g.row.H.Denot). IsLentFor c.args.tx.now.me.value c.args.tx.now.number c.args.call (model.contents f.host) f.lent.kept) (sym e.same.0)
+    (c.requires.pipes t c.args.call e.claimed.granted.free))
+
+pub do_call-requires-clause-noted : goal.do_call-requires-clause-noted
+do_call-requires-clause-noted g c =
+    let e = c.in_default.ensures in
+    let held = ap (λ (t : SeenTx). length t.taken) e.claimed.held in
+    let lent = ap (λ (f : Front g.row.H.Denot). f.lent.noted) e.same.0 in
+    let noted = c.requires.noted in
+    omega (arith, held, lent, noted)
+
 pub returns-in-Ok-clause-lends : goal.returns-in-Ok-clause-lends
 returns-in-Ok-clause-lends g c =
     let model = g.H.Host.model in
-    let mid = c.claim.new.shared in
-    let e = c.in_default.ensures in
-    let d = c.in-Ok.ensures.acted mid.buffers.kept in
-    let held = ap (λ (t : SeenTx). t.taken) e.claimed.held in
-    let me = ap (λ (t : SeenTx). t.me) e.claimed.held in
-    subst (λ (front : Front g.row.H.Denot). Lends model (record { old = front; new = record { host = c.do_call.new.host; lent = mid.buffers } })
-    (record { old = seen_tx c.args.tx.now; new = seen_tx c.note.new.self })) e.same.0
-    (lends_from model _ (record { old = seen_tx c.claim.new.tx; new = seen_tx c.do_call.new.tx }) (seen_tx c.args.tx.now) (seen_tx c.note.new.self) (sym held)
-    (ap (λ (t : SeenTx). t.taken) c.note.ensures.noted)
-    (lends_done model c.args.call (acting mid.host mid.buffers.kept mid.words c.claim.new.tx)
-    (acting c.do_call.new.host mid.buffers.kept mid.words c.do_call.new.tx) mid.buffers mid.buffers refl c.in-Ok.reply d
-    (nothing_taken c.args.call c.claim.new.tx.me.value c.in-Ok.reply
-    (asked_built (walk_of c.args.script.now c.args.place.now) c.args.call c.requires.asked)) refl))
+    let e = c.in-Ok.ensures in
+    let d = c.in_default.ensures in
+    subst (λ (f : Front g.row.H.Denot). Lends model (record { old = f; new = record { host = c.do_call.new.host; lent = c.do_call.new.buffers } })
+    (record { old = seen_tx c.args.tx.now; new = seen_tx c.note.new.self })) d.same.0
+    (lends_from model _ (record { old = seen_tx c.claim.new.tx; new = seen_tx c.do_call.new.tx }) (seen_tx c.args.tx.now) (seen_tx c.note.new.self)
+    (ap (λ (t : SeenTx). t.taken) (sym d.claimed.held)) (ap (λ (t : SeenTx). t.taken) c.note.ensures.noted)
+    (lends_done model c.args.call _ _ (front_of c.claim.new.shared).lent c.do_call.new.buffers refl c.in-Ok.reply e.acted e.noted e.backs))
 
 pub returns-in-Err-do_call-clause-lends : goal.returns-in-Err-do_call-clause-lends
 returns-in-Err-do_call-clause-lends g c =
     let model = g.H.Host.model in
-    let mid = c.claim.new.shared in
-    let e = c.in_default.ensures in
-    let l = c.in-Err-do_call.ensures.acted mid.buffers.kept in
-    let held = ap (λ (t : SeenTx). t.taken) e.claimed.held in
-    subst (λ (front : Front g.row.H.Denot). Lends model (record { old = front; new = record { host = c.do_call.new.host; lent = mid.buffers } })
-    (record { old = seen_tx c.args.tx.now; new = seen_tx c.want.new.tx })) e.same.0
-    (lends_from model _ (record { old = seen_tx c.claim.new.tx; new = seen_tx c.do_call.new.tx }) (seen_tx c.args.tx.now) (seen_tx c.want.new.tx) (sym held)
-    (ap (λ (t : SeenTx). t.taken) c.want.ensures.tx)
-    (lends_left model c.args.call (acting mid.host mid.buffers.kept mid.words c.claim.new.tx)
-    (acting c.do_call.new.host mid.buffers.kept mid.words c.do_call.new.tx) mid.buffers mid.buffers refl l refl))
+    let e = c.in-Err-do_call.ensures in
+    let d = c.in_default.ensures in
+    subst (λ (f : Front g.row.H.Denot). Lends model (record { old = f; new = record { host = c.do_call.new.host; lent = c.do_call.new.buffers } })
+    (record { old = seen_tx c.args.tx.now; new = seen_tx c.want.new.tx })) d.same.0
+    (lends_from model _ (record { old = seen_tx c.claim.new.tx; new = seen_tx c.do_call.new.tx }) (seen_tx c.args.tx.now) (seen_tx c.want.new.tx)
+    (ap (λ (t : SeenTx). t.taken) (sym d.claimed.held)) (ap (λ (t : SeenTx). t.taken) c.want.ensures.tx)
+    (lends_left model c.args.call _ _ (front_of c.claim.new.shared).lent c.do_call.new.buffers refl e.acted e.noted e.backs))

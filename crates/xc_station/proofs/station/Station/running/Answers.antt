@@ -28,7 +28,7 @@ run-requires-clause-running g c =
     let is = lent station.jobs.items at PlainStage.Running was (subst (λ v. IsStage v.jobs at PlainStage.Running) (sym c.self.view_is) c.requires)
     c.index_mut.ensures.value in
     may_run model station.shared station.journal.items station.jobs.items at was station.opening.script station.rules station.opening.faults station.active
-    station.journal.spare station.lines c.self.invariant.0 c.self.invariant.1 is
+    station.journal.spare station.lines c.self.invariant.0 c.self.invariant.1 c.self.invariant.5 is
 
 pub run-requires-clause-count : goal.run-requires-clause-count
 run-requires-clause-count g c =
