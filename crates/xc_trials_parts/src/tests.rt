@@ -8,7 +8,6 @@ mod file;
 mod journal;
 mod machine;
 mod memhost;
-mod pipe_calls;
 mod pipes;
 mod sentinels;
 mod testhost;
