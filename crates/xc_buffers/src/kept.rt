@@ -115,6 +115,7 @@ impl Kept {
     pub fn take_msg(&mut self, pair: Num, side: u8) -> Option<Chunk>
         ensures found { FindsMessage pair side result self.old.items self.new.items }
         ensures spare { self.old.spare ≤ self.new.spare }
+        ensures in_order { AreKept self.old.items → AreKept self.new.items }
     {
         match first_of(&self.items, Source::Side { pair, side }) {
             Some(at) => Some(take_message(&mut self.items, at, pair, side)),
@@ -129,6 +130,7 @@ impl Kept {
         requires short { length message ≤ 1024 }
         ensures given { PutsFront (Message pair side message) self.old.items self.new.items }
         ensures spare { self.new.spare + 1 ≡ self.old.spare }
+        ensures in_order { AreKept self.old.items → AreKept self.new.items }
     {
         self.give(KeptItem::Message {
             pair,
@@ -138,9 +140,10 @@ impl Kept {
     }
 
     /// How many bytes are kept of a pipe, or how many messages for a side of a pair; 4,294,967,295 where there are more.
-    /// It takes no memory.
+    /// It takes no memory. What is kept is in order, and each item is fit.
     pub fn held(&self, object: &Object, side: u8) -> u32
-        ensures { result ≡ min (kept_count object.now side self.now.items) (2 ^ 32 - 1) }
+        ensures value { result ≡ min (kept_count object.now side self.now.items) (2 ^ 32 - 1) }
+        ensures kept { AreKept self.now.items }
     {
         match object {
             Object::Pipe(pipe) => total_of(part_of(&self.items, Source::Pipe(*pipe))),

@@ -22,14 +22,14 @@ pub record Records : Type 0 where
   pub ended : List Ending
 
 -- a record that is stored: it covers a front of the new bytes; an overwrite has as many old ones, and an
--- append stayed within a file's limit. There are none of pairs so far
+-- append stayed within a file's limit
 abbrev pub IsRecord : Undo → Type 0
 IsRecord (Bytes file at before after n) = (1 ≤ n) × (n ≤ length after) × (length before ≡ length after) × (at + length after < 2 ^ 32)
 IsRecord (Tail file from after n) = (1 ≤ n) × (n ≤ length after) × (from + length after ≤ 65536)
 IsRecord (Made name num) = Unit {0}
 IsRecord (Moved from to) = Unit {0}
 IsRecord (NewPipe num) = Unit {0}
-IsRecord (NewPair num) = ⊥
+IsRecord (NewPair num) = Unit {0}
 
 -- whether the host puts a record's bytes back piece by piece; one call undoes each other kind
 abbrev pub is_overwrite : Undo → Bool

@@ -26,7 +26,8 @@ fn call_back<H: Host>(host: &mut H, undo: &Undo) -> Result<(), Fault>
         Undo::Made { name, num } => host.uncreate(name, *num),
         Undo::Moved { from, to } => host.name_back(from, to),
         Undo::NewPipe(num) => host.drop_pipe(*num),
-        Undo::Bytes { .. } | Undo::NewPair(_) => unreachable!(),
+        Undo::NewPair(num) => host.drop_pair(*num),
+        Undo::Bytes { .. } => unreachable!(),
     }
 }
 

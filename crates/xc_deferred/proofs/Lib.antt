@@ -1,3 +1,4 @@
 pub mod Next
 pub mod Lifted
 pub mod PipePuts
+pub mod Sends

@@ -164,11 +164,13 @@ put_kept w c d pipe bytes items there did =
     ∙ ap (λ x. given_back x items) (put_world w c pipe bytes there)
     ∙ put_stays (with_contents w c) items pipe bytes)
 
-if_false : {T : Type 0} (b : Bool) (x y : T) → b ≡ false → (if b then x else y) ≡ y
+-- a choice whose test fails
+pub if_false : {T : Type 0} (b : Bool) (x y : T) → b ≡ false → (if b then x else y) ≡ y
 if_false true x y e = cc
 if_false false x y e = refl
 
-if_true : {T : Type 0} (b : Bool) (x y : T) → b ≡ true → (if b then x else y) ≡ x
+-- and one whose test holds
+pub if_true : {T : Type 0} (b : Bool) (x y : T) → b ≡ true → (if b then x else y) ≡ x
 if_true true x y e = refl
 if_true false x y e = cc
 
@@ -217,16 +219,16 @@ may_stop_at x pipe r n bytes h lt lt' =
     ap (λ b. not b && nat_lt n (min (length bytes) (room (pipe_of x pipe)))) h.mark
     ∙ lt-ltb n (min (length bytes) (room (pipe_of x pipe))) (omega (arith, h.room_is, lt, lt'))
 
-module _ (c d : Contents) (pipe : Num) (bytes : List ℕ) (items : List KeptItem) where
-  -- a write that put nothing
-  pub nothing_written : (e : LateEnd) → d ≡ c → ((x : World) → late x (WritePipe pipe bytes) (late_answer_of e) ≡ ends x e)
-      → ((x : World) → IsTrue (late_fits x (WritePipe pipe bytes) (late_answer_of e)))
-      → DoesLate (with_kept c items) (with_kept d items) (WritePipe pipe bytes) e
-  nothing_written e same step fits = record {
-    fits = fits (world_of (with_kept c items));
-    step = λ w. step (with_contents w (with_kept c items)) ∙ ap (λ x. ends (with_contents w (with_kept x items)) e) (sym same);
-  }
+-- a call that did nothing
+pub nothing_done : (c d : Contents) (call : LateCall) (items : List KeptItem) (e : LateEnd) → d ≡ c
+    → ((x : World) → late x call (late_answer_of e) ≡ ends x e) → ((x : World) → IsTrue (late_fits x call (late_answer_of e)))
+    → DoesLate (with_kept c items) (with_kept d items) call e
+nothing_done c d call items e same step fits = record {
+  fits = fits (world_of (with_kept c items));
+  step = λ w. step (with_contents w (with_kept c items)) ∙ ap (λ x. ends (with_contents w (with_kept x items)) e) (sym same);
+}
 
+module _ (c d : Contents) (pipe : Num) (bytes : List ℕ) (items : List KeptItem) where
   -- a write to a pipe that is shut
   pub shut_written : d ≡ c → (pipe_in c pipe).shut ≡ true → DoesLate (with_kept c items) (with_kept d items) (WritePipe pipe bytes) end.Shut
   shut_written same shut = record {

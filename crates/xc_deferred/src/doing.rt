@@ -9,6 +9,7 @@ ghost use Rattle.xc_deferred.specs.Ended.{EndsAt};
 ghost use Rattle.xc_deferred.specs.Queue.{is_late_built};
 
 use crate::putting::write_pipe;
+use crate::sending::send;
 use xc_buffers::Kept;
 use xc_data::{LateCall, LateEnd, Name, Num, Object};
 use xc_host::{Host, HostErr};
@@ -68,6 +69,7 @@ pub(crate) fn do_late<H: Host>(host: &mut H, kept: &Kept, call: &LateCall) -> La
         LateCall::Sync(file) => sync(host, *file),
         LateCall::WritePipe(pipe, bytes) => write_pipe(host, kept, *pipe, bytes),
         LateCall::Shutdown(object) => shut(host, object),
-        LateCall::Send { .. } | LateCall::Thread(_) => unreachable!(),
+        LateCall::Send { pair, side, bytes } => send(host, kept, *pair, *side, bytes),
+        LateCall::Thread(_) => unreachable!(),
     }
 }

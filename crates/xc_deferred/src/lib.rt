@@ -4,5 +4,6 @@
 mod doing;
 mod late;
 mod putting;
+mod sending;
 
 pub use late::Late;

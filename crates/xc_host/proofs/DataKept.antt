@@ -10,6 +10,7 @@ use Rattle.xc_data.specs.declared.object.Object.{Object}
 use Rattle.xc_data.specs.declared.object.Object.TheVariants as object
 use Rattle.xc_host.specs.Contents.{Contents}
 use Rattle.xc_host.specs.Kept.{KeepsData}
+use Rattle.xc_host.specs.Pairs.{sent_from}
 use Rattle.xc_host.specs.Pipes.{put_front, put_into, shut_in, taken_from, with_new_pipe}
 
 -- what is there is there behind a change of nothing
@@ -44,6 +45,10 @@ keeps_taken c at n = record { pipes = λ num is. still_there c.pipes at num _ is
 -- a new pipe
 pub keeps_new : (c : Contents) (at : Num) → KeepsData c (with_new_pipe c at)
 keeps_new c at = record { pipes = λ num is. still_there c.pipes at num _ is; pairs = λ num is. is }
+
+-- a message that is sent
+pub keeps_sent : (c : Contents) (at : Num) (side : ℕ) (bytes : List ℕ) → KeepsData c (sent_from c at side bytes)
+keeps_sent c at side bytes = record { pipes = λ num is. is; pairs = λ num is. still_there c.pairs at num _ is }
 
 -- a pipe or a pair that is shut
 pub keeps_shut : (c : Contents) (o : Object) → KeepsData c (shut_in c o)

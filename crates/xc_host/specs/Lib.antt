@@ -1,5 +1,6 @@
 pub mod Contents
 pub mod Pipes
+pub mod Pairs
 pub mod Kept
 pub mod Fronted
 pub mod Cause

@@ -75,6 +75,11 @@ RenamesFor (reply.Fault n) made =
     (made ≡ kind.Lookup ∷ []) ⊎ (made ≡ kind.Lookup ∷ kind.Lookup ∷ []) ⊎ (made ≡ kind.Lookup ∷ kind.Lookup ∷ kind.Rename ∷ [])
 RenamesFor r made = made ≡ kind.Lookup ∷ kind.Lookup ∷ []
 
+-- a receipt asks the host once, and not where it got a message that is kept
+abbrev pub ReceiptsFor : Reply → List Kind → Type 0
+ReceiptsFor (reply.Got message) made = (made ≡ []) ⊎ (made ≡ kind.Recv ∷ [])
+ReceiptsFor r made = made ≡ kind.Recv ∷ []
+
 -- what a call makes that no check refused; one that isn't named makes none
 abbrev pub CallsFor : Call → Reply → List Kind → Type 0
 CallsFor (call.XOpen name) r made = made ≡ kind.Lookup ∷ []
@@ -90,6 +95,8 @@ CallsFor (call.XLen h) r made = made ≡ kind.Len ∷ []
 CallsFor (call.XRename from to) r made = RenamesFor r made
 CallsFor call.XPipe r made = made ≡ kind.NewPipe ∷ []
 CallsFor (call.XReadPipe h n) r made = (count : ℕ) × TakesFor n r count × (made ≡ replicate count kind.Take)
+CallsFor call.XPair r made = made ≡ kind.NewPair ∷ []
+CallsFor (call.XRecvmsg h) r made = ReceiptsFor r made
 CallsFor c r made = made ≡ []
 
 -- what a call makes; one that a check refused makes none
@@ -108,6 +115,8 @@ StopsFor (call.XWriteSeq h bytes) made = (count : ℕ) × (count ≤ length byte
 StopsFor (call.XRename from to) made = (made ≡ kind.Lookup ∷ []) ⊎ (made ≡ kind.Lookup ∷ kind.Lookup ∷ [])
 StopsFor call.XPipe made = (made ≡ []) ⊎ (made ≡ kind.NewPipe ∷ [])
 StopsFor (call.XReadPipe h n) made = (count : ℕ) × (count ≤ n) × (made ≡ replicate count kind.Take)
+StopsFor call.XPair made = (made ≡ []) ⊎ (made ≡ kind.NewPair ∷ [])
+StopsFor (call.XRecvmsg h) made = (made ≡ []) ⊎ (made ≡ kind.Recv ∷ [])
 StopsFor c made = made ≡ []
 
 -- ---- a late call
@@ -127,6 +136,13 @@ PutsFor n (late_end.NoMemory zero) count = count ≡ 1
 PutsFor n (late_end.NoMemory (suc done)) count = (2 ≤ count) × (count ≤ done + 2)
 PutsFor n end count = count ≡ 0
 
+-- what a message's sending makes that ended so: behind the look at what waits for the other side, one call
+abbrev pub SendsFor : LateEnd → List Kind → Type 0
+SendsFor late_end.Done made = made ≡ kind.PairState ∷ kind.Send ∷ []
+SendsFor (late_end.Fault n) made = (made ≡ kind.PairState ∷ []) ⊎ (made ≡ kind.PairState ∷ kind.Send ∷ [])
+SendsFor (late_end.NoMemory n) made = made ≡ kind.PairState ∷ kind.Send ∷ []
+SendsFor end made = made ≡ kind.PairState ∷ []
+
 -- what a late call makes; one that isn't named makes none
 abbrev pub LatesFor : LateCall → LateEnd → List Kind → Type 0
 LatesFor (late.Unlink name) end made = UnlinksFor end made
@@ -134,6 +150,7 @@ LatesFor (late.Sync num) end made = made ≡ kind.Sync ∷ []
 LatesFor (late.WritePipe num bytes) end made =
     (count : ℕ) × PutsFor (length bytes) end count × (made ≡ kind.PipeState ∷ replicate count kind.Put)
 LatesFor (late.Shutdown object) end made = made ≡ kind.Shut ∷ []
+LatesFor (late.Send num side bytes) end made = SendsFor end made
 LatesFor c end made = made ≡ []
 
 -- ---- a compensation

@@ -10,6 +10,9 @@ ghost use Rattle.xc_host.specs.Fronts.{IsFront};
 ghost use Rattle.xc_host.specs.Model.{Answers, HostModel, plan_of};
 ghost use Rattle.xc_host.specs.Pipes.{pipe_in, has_pipe, with_new_pipe, put_into, shut_in, without_pipe};
 ghost use Rattle.xc_host.specs.Pipes.{state_of, IsTakenOf, IsSomeOf, after_take, is_shuttable};
+ghost use Rattle.xc_host.specs.Pairs.{IsMessage, IsReceivedOf, after_receipt, has_pair, pair_in, sent_from, side_state};
+ghost use Rattle.xc_host.specs.Pairs.{with_new_pair, without_pair};
+ghost use Rattle.xc_world.specs.World.{other_side, waiting};
 ghost use Rattle.xc_world.specs.Sound.{is_there};
 
 use crate::{Fault, HostErr, HostState, OpenErr, Took};
@@ -131,6 +134,39 @@ pub trait Host: Drop {
         ensures answered { Answers model Kind.Put (record { old = self.old; new = self.new }) result
             (λ n c. put_into c pipe (take n bytes.now)) };
 
+    /// A pair of a new number, in which no message waits.
+    fn new_pair(&mut self, num: Num) -> Result<(), HostErr>
+        requires new { IsTrue model.tells → has_pair (model.contents self.old) num ≡ false }
+        ensures answered { Answers model Kind.NewPair (record { old = self.old; new = self.new }) result
+            (λ _ c. with_new_pair c num) };
+
+    /// How many messages wait for a side of a pair, and whether the pair is shut.
+    fn pair_state(&mut self, pair: Num, side: u8) -> Result<HostState, Fault>
+        requires there { IsTrue model.tells → has_pair (model.contents self.old) pair ≡ true }
+        requires side { side < 2 }
+        ensures value { IsTrue model.tells → IfOk result (λ state. state ≡ side_state (pair_in (model.contents self.old) pair) side) }
+        ensures answered { Answers model Kind.PairState (record { old = self.old; new = self.new }) (without_memory result)
+            (λ state c. c) };
+
+    /// The first message that waits for a side, which leaves it. There is one exactly where one waits; it may have no bytes, and has
+    /// at most 1,024.
+    fn recv(&mut self, pair: Num, side: u8) -> Result<Took, HostErr>
+        requires there { IsTrue model.tells → has_pair (model.contents self.old) pair ≡ true }
+        requires side { side < 2 }
+        ensures bound { IfOk result IsMessage }
+        ensures value { IsTrue model.tells → IfOk result (IsReceivedOf (pair_in (model.contents self.old) pair) side) }
+        ensures answered { Answers model Kind.Recv (record { old = self.old; new = self.new }) result (after_receipt pair side) };
+
+    /// Puts a side's message behind those that wait for the other side. At most 8 wait there.
+    fn send(&mut self, pair: Num, side: u8, bytes: &[u8]) -> Result<(), HostErr>
+        requires there { IsTrue model.tells → has_pair (model.contents self.old) pair ≡ true }
+        requires side { side < 2 }
+        requires unshut { IsTrue model.tells → (pair_in (model.contents self.old) pair).shut ≡ false }
+        requires fits { IsTrue model.tells → length (waiting (pair_in (model.contents self.old) pair) (other_side side)) < 8 }
+        requires few { length bytes.now ≤ 1024 }
+        ensures answered { Answers model Kind.Send (record { old = self.old; new = self.new }) result
+            (λ _ c. sent_from c pair side bytes.now) };
+
     /// Nothing is put into a pipe, or sent to a pair, any more. It takes no memory.
     fn shut(&mut self, object: &Object) -> Result<(), Fault>
         requires shuttable { is_shuttable object.now ≡ true }
@@ -173,4 +209,10 @@ pub trait Host: Drop {
         requires there { IsTrue model.tells → has_pipe (model.contents self.old) num ≡ true }
         ensures answered { Answers model Kind.DropPipe (record { old = self.old; new = self.new }) (without_memory result)
             (λ _ c. without_pipe c num) };
+
+    /// Undoes a new pair: the pair goes. It takes no memory.
+    fn drop_pair(&mut self, num: Num) -> Result<(), Fault>
+        requires there { IsTrue model.tells → has_pair (model.contents self.old) num ≡ true }
+        ensures answered { Answers model Kind.DropPair (record { old = self.old; new = self.new }) (without_memory result)
+            (λ _ c. without_pair c num) };
 }

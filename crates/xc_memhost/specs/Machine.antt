@@ -7,6 +7,7 @@ use Rattle.xc_data.specs.declared.script.Kind.{Kind}
 use Rattle.xc_data.specs.declared.script.Kind.TheVariants as kind
 use Rattle.xc_host.specs.Contents.{Contents, file_in, has_file, wrote, appended, shortened, created, uncreated, renamed, unnamed}
 use Rattle.xc_host.specs.Pipes.{pipe_in, has_pipe, with_new_pipe, put_into, shut_in, without_pipe, state_of, after_take}
+use Rattle.xc_host.specs.Pairs.{pair_in, has_pair, with_new_pair, sent_from, without_pair, side_state, after_receipt}
 use Rattle.xc_host.specs.declared.pipes.Took.{Took}
 use Rattle.xc_memhost.specs.declared.calls.HostCall.{HostCall}
 use Rattle.xc_memhost.specs.declared.calls.HostCall.TheVariants as call
@@ -15,6 +16,7 @@ use Rattle.xc_memhost.specs.declared.calls.HostAnswer.TheVariants.{Found, Number
 use Rattle.xc_memhost.specs.State.{HostState}
 use Rattle.xc_memhost.specs.Faults.{is_listed, begun, grained}
 use Rattle.xc_memhost.specs.Pipes.{took_of, MayTake, MayPut, MayShut}
+use Rattle.xc_memhost.specs.Pairs.{received_of, MayAsk, MaySend}
 
 -- the kind of a call
 abbrev pub kind_of : HostCall → Kind
@@ -31,12 +33,17 @@ kind_of (call.NewPipe num) = kind.NewPipe
 kind_of (call.PipeState pipe) = kind.PipeState
 kind_of (call.Take pipe n) = kind.Take
 kind_of (call.Put pipe bytes) = kind.Put
+kind_of (call.NewPair num) = kind.NewPair
+kind_of (call.PairState pair side) = kind.PairState
+kind_of (call.Recv pair side) = kind.Recv
+kind_of (call.Send pair side bytes) = kind.Send
 kind_of (call.Shut object) = kind.Shut
 kind_of (call.Restore file at bytes) = kind.Restore
 kind_of (call.Cut file len) = kind.Cut
 kind_of (call.Uncreate name num) = kind.Uncreate
 kind_of (call.NameBack from to) = kind.NameBack
 kind_of (call.DropPipe num) = kind.DropPipe
+kind_of (call.DropPair num) = kind.DropPair
 
 -- ---- a call that doesn't fail
 -- of n bytes from `at`, those that are there and that one call reads
@@ -63,6 +70,10 @@ taken s pipe n = took_of s.grain (pipe_in s.contents pipe) n
 abbrev pub filled : HostState → Num → List ℕ → Contents
 filled s pipe bytes = put_into s.contents pipe (take (written_of s bytes) bytes)
 
+-- what it takes of the messages that wait for a side of a pair
+abbrev pub received : HostState → Num → ℕ → Took
+received s pair side = received_of (pair_in s.contents pair) side
+
 -- its answer
 abbrev pub done : HostState → HostCall → HostAnswer
 done s (call.Lookup name) = Found (map.get s.contents.names name)
@@ -78,12 +89,17 @@ done s (call.NewPipe num) = Done
 done s (call.PipeState pipe) = Stands (state_of (pipe_in s.contents pipe))
 done s (call.Take pipe n) = Taken (taken s pipe n)
 done s (call.Put pipe bytes) = Number (written_of s bytes)
+done s (call.NewPair num) = Done
+done s (call.PairState pair side) = Stands (side_state (pair_in s.contents pair) side)
+done s (call.Recv pair side) = Taken (received s pair side)
+done s (call.Send pair side bytes) = Done
 done s (call.Shut object) = Done
 done s (call.Restore file at bytes) = Number (written_of s bytes)
 done s (call.Cut file len) = Done
 done s (call.Uncreate name num) = Done
 done s (call.NameBack from to) = Done
 done s (call.DropPipe num) = Done
+done s (call.DropPair num) = Done
 
 -- the contents after it
 abbrev pub changed : HostState → HostCall → Contents
@@ -99,13 +115,18 @@ changed s (call.NameBack from to) = renamed s.contents to from
 changed s (call.NewPipe num) = with_new_pipe s.contents num
 changed s (call.Take pipe n) = after_take pipe (taken s pipe n) s.contents
 changed s (call.Put pipe bytes) = filled s pipe bytes
+changed s (call.NewPair num) = with_new_pair s.contents num
+changed s (call.Recv pair side) = after_receipt pair side (received s pair side) s.contents
+changed s (call.Send pair side bytes) = sent_from s.contents pair side bytes
 changed s (call.Shut object) = shut_in s.contents object
 changed s (call.DropPipe num) = without_pipe s.contents num
+changed s (call.DropPair num) = without_pair s.contents num
 changed s (call.Lookup name) = s.contents
 changed s (call.Len file) = s.contents
 changed s (call.ReadAt file at n) = s.contents
 changed s (call.Sync file) = s.contents
 changed s (call.PipeState pipe) = s.contents
+changed s (call.PairState pair side) = s.contents
 
 -- ---- any call: a listed one fails and changes nothing but the counts
 -- its answer
@@ -184,12 +205,17 @@ IsAllowed c (call.NewPipe num) = has_pipe c num ≡ false
 IsAllowed c (call.PipeState pipe) = has_pipe c pipe ≡ true
 IsAllowed c (call.Take pipe n) = MayTake c pipe n
 IsAllowed c (call.Put pipe bytes) = MayPut c pipe bytes
+IsAllowed c (call.NewPair num) = has_pair c num ≡ false
+IsAllowed c (call.PairState pair side) = MayAsk c pair side
+IsAllowed c (call.Recv pair side) = MayAsk c pair side
+IsAllowed c (call.Send pair side bytes) = MaySend c pair side bytes
 IsAllowed c (call.Shut object) = MayShut c object
 IsAllowed c (call.Restore file at bytes) = MayWrite c file at bytes
 IsAllowed c (call.Cut file len) = MayCut c file len
 IsAllowed c (call.Uncreate name num) = MayUncreate c name num
 IsAllowed c (call.NameBack from to) = MayRename c to from
 IsAllowed c (call.DropPipe num) = has_pipe c num ≡ true
+IsAllowed c (call.DropPair num) = has_pair c num ≡ true
 
 -- each call may ask what it asks, in the state that those before it leave
 abbrev pub AreAllowed : HostState → List HostCall → Type 0

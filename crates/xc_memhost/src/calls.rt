@@ -24,6 +24,10 @@ pub enum HostCall {
     PipeState(Num),
     Take { pipe: Num, n: u32 },
     Put { pipe: Num, bytes: Chunk },
+    NewPair(Num),
+    PairState { pair: Num, side: u8 },
+    Recv { pair: Num, side: u8 },
+    Send { pair: Num, side: u8, bytes: Chunk },
     /// Of a pipe or a pair.
     Shut(Object),
     Restore { file: Num, at: u32, bytes: Chunk },
@@ -31,6 +35,7 @@ pub enum HostCall {
     Uncreate { name: Name, num: Num },
     NameBack { from: Name, to: Name },
     DropPipe(Num),
+    DropPair(Num),
 }
 
 /// What a call answers. A write, a restoration, an append and a put answer how many bytes they did.
@@ -139,6 +144,10 @@ fn ask(host: &mut MemHost, call: &HostCall) -> Result<HostAnswer, NoMemory>
         HostCall::PipeState(pipe) => stands(without_memory(host.pipe_state(*pipe))),
         HostCall::Take { pipe, n } => taken(host.take(*pipe, *n)),
         HostCall::Put { pipe, bytes } => number(host.put(*pipe, bytes.as_slice())),
+        HostCall::NewPair(num) => done(host.new_pair(*num)),
+        HostCall::PairState { pair, side } => stands(without_memory(host.pair_state(*pair, *side))),
+        HostCall::Recv { pair, side } => taken(host.recv(*pair, *side)),
+        HostCall::Send { pair, side, bytes } => done(host.send(*pair, *side, bytes.as_slice())),
         HostCall::Shut(object) => done(without_memory(host.shut(object))),
         HostCall::Restore { file, at, bytes } => {
             number(without_memory(host.restore(*file, *at, bytes.as_slice())))
@@ -147,6 +156,7 @@ fn ask(host: &mut MemHost, call: &HostCall) -> Result<HostAnswer, NoMemory>
         HostCall::Uncreate { name, num } => done(without_memory(host.uncreate(name, *num))),
         HostCall::NameBack { from, to } => done(without_memory(host.name_back(from, to))),
         HostCall::DropPipe(num) => done(without_memory(host.drop_pipe(*num))),
+        HostCall::DropPair(num) => done(without_memory(host.drop_pair(*num))),
     }
 }
 

@@ -5,6 +5,7 @@ mod calls;
 mod faults;
 mod file_body;
 mod mem_host;
+mod messages;
 mod objects;
 mod pair_body;
 mod pipe_body;

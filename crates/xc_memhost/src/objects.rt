@@ -1,4 +1,4 @@
-ghost use Rattle.std.specs.Prelude.{◌≡◌, ◌+◌, ◌≤◌, true, false, length, take, drop, All, is_some, None};
+ghost use Rattle.std.specs.Prelude.{◌≡◌, ◌+◌, ◌≤◌, ◌<◌, true, false, length, take, drop, All, is_some, None};
 ghost use Rattle.std.specs.Prelude.{IfOk, IfSome, OnOk, OnErr};
 ghost use Rattle.std.specs.FinMap as map;
 ghost use Rattle.xc_data.specs.Limits.{IsOpenedFit};
@@ -6,6 +6,10 @@ ghost use Rattle.xc_world.specs.Opening.{with_opened};
 ghost use Rattle.xc_host.specs.Contents.{nothing, opened, file_in, has_file, wrote, world_of, contents_of};
 ghost use Rattle.xc_host.specs.Contents.{appended, shortened, created, uncreated, renamed, unnamed};
 ghost use Rattle.xc_host.specs.Pipes.{pipe_in, has_pipe, with_new_pipe, taken_from, put_into, shut_in, without_pipe, state_of};
+ghost use Rattle.xc_host.specs.Pairs.{IsMessage, IsReceivedOf, after_receipt, has_pair, pair_in, sent_from, side_state};
+ghost use Rattle.xc_host.specs.Pairs.{with_new_pair, without_pair};
+ghost use Rattle.xc_memhost.specs.Pairs.{IsSmall, received_of};
+ghost use Rattle.xc_world.specs.World.{other_side, waiting};
 ghost use Rattle.xc_data.specs.declared.object.Object.TheVariants as object;
 ghost use Rattle.xc_world.specs.Sound.{is_there};
 
@@ -15,7 +19,7 @@ use crate::pipe_body::PipeBody;
 use std::alloc::Global;
 use std::marker::Model;
 use xc_data::{Chunk, Name, NoMemory, Num, Object, Opened};
-use xc_host::HostState;
+use xc_host::{HostState, Took};
 use xc_maps::{NameMap, NumMap};
 
 /// The names, files, pipes and pairs.
@@ -264,6 +268,57 @@ impl Objects {
         done
     }
 
+    pub(crate) fn new_pair(&mut self, num: Num) -> Result<(), NoMemory>
+        ensures ok { OnOk result (self.new ≡ with_new_pair self.old num) }
+        ensures err { OnErr result (self.new ≡ self.old) }
+    {
+        self.pairs.insert(num, PairBody::empty(self.alloc))
+    }
+
+    pub(crate) fn pair_state(&self, pair: Num, side: u8) -> HostState
+        ensures { result ≡ side_state (pair_in self.now pair) side }
+    {
+        match self.pairs.get(pair) {
+            Some(body) => body.state(side),
+            None => HostState {
+                held: 0,
+                shut: false,
+            },
+        }
+    }
+
+    // The first message that waits for a side leaves the pair. It takes no memory.
+    pub(crate) fn recv(&mut self, pair: Num, side: u8) -> Took
+        requires there { has_pair self.old pair ≡ true }
+        ensures bound { IsMessage result }
+        ensures value { IsReceivedOf (pair_in self.old pair) side result }
+        ensures first { result ≡ received_of (pair_in self.old pair) side }
+        ensures rest { self.new ≡ after_receipt pair side result self.old }
+    {
+        let Some(mut body) = self.pairs.replace(pair, PairBody::empty(self.alloc)) else {
+            return Took::Empty;
+        };
+        let took = body.take(side);
+        self.pairs.replace(pair, body);
+        took
+    }
+
+    // Puts a message of a side behind those that wait for the other side.
+    pub(crate) fn send(&mut self, pair: Num, side: u8, message: Chunk) -> Result<(), NoMemory>
+        requires there { has_pair self.old pair ≡ true }
+        requires fits { length (waiting (pair_in self.old pair) (other_side side)) < 8 }
+        requires small { IsSmall message }
+        ensures ok { OnOk result (self.new ≡ sent_from self.old pair side message) }
+        ensures err { OnErr result (self.new ≡ self.old) }
+    {
+        let Some(mut body) = self.pairs.replace(pair, PairBody::empty(self.alloc)) else {
+            return Err(NoMemory);
+        };
+        let done = body.send(side, message);
+        self.pairs.replace(pair, body);
+        done
+    }
+
     fn shut_pipe(&mut self, num: Num)
         requires { has_pipe self.old num ≡ true }
         ensures { self.new ≡ shut_in self.old (object.Pipe num) }
@@ -302,5 +357,11 @@ impl Objects {
         ensures { self.new ≡ without_pipe self.old num }
     {
         self.pipes.remove(num);
+    }
+
+    pub(crate) fn drop_pair(&mut self, num: Num)
+        ensures { self.new ≡ without_pair self.old num }
+    {
+        self.pairs.remove(num);
     }
 }

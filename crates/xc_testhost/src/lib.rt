@@ -1,6 +1,7 @@
 //! A host for the tests of what stands above hosts.
 #![tactic(auto)]
 
+mod pairs;
 mod pipes;
 mod tails;
 mod test_host;

@@ -5,6 +5,7 @@ ghost use Rattle.xc_host.specs.Counting.{calls_of};
 
 mod host;
 
+use crate::pairs::Pairs;
 use crate::pipes::Pipes;
 use crate::tails::{Tails, put};
 use std::alloc::Global;
@@ -56,6 +57,7 @@ pub struct TestHost {
     pub names: Vec<(Name, Num)>,
     tails: Tails,
     pipes: Pipes,
+    pairs: Pairs,
     calls: KindCounts,
     faults: u64,
 }
@@ -94,6 +96,7 @@ impl TestHost {
             names: opening_names(alloc)?,
             tails: Tails::new(alloc),
             pipes: Pipes::new(alloc),
+            pairs: Pairs::new(alloc),
             calls: KindCounts::none(),
             faults: 0,
         })

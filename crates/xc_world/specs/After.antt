@@ -39,6 +39,12 @@ abbrev pub IsAppendedAt : List Place → ℕ → ℕ → List Place → Type 0
 IsAppendedAt was h zero is = is ≡ was
 IsAppendedAt was h (suc n) is = (end : ℕ) × (is ≡ with_at was h (at_position (place_of was h) (end + suc n)))
 
+-- the two lowest vacant handles have the sides of a new pair, side 0 the lower one
+abbrev pub ArePairPlaces : Num → List Place → ℕ × ℕ → List Place → Type 0
+ArePairPlaces num was handles is =
+    let first = with_at was handles.0 (place.Pair num 0) in
+    (lowest_vacant was ≡ Some handles.0) × (lowest_vacant first ≡ Some handles.1) × (is ≡ with_at first handles.1 (place.Pair num 1))
+
 -- the handles behind a call with this reply; calls and replies that aren't named leave them as they are
 abbrev pub ArePlaces : ℕ → Call → Private → Reply → List Place → Type 0
 ArePlaces tx (call.XOpen name) me (reply.Made h) is =
@@ -47,6 +53,7 @@ ArePlaces tx (call.XCreate name) me (reply.Made h) is =
     (lowest_vacant me.places ≡ Some h) × (is ≡ with_at me.places h (place.File (next_num me tx) 0))
 ArePlaces tx call.XPipe me (reply.Made h) is =
     (lowest_vacant me.places ≡ Some h) × (is ≡ with_at me.places h (place.Pipe (next_num me tx)))
+ArePlaces tx call.XPair me (reply.MadePair h g) is = ArePairPlaces (next_num me tx) me.places (h, g) is
 ArePlaces tx (call.XRead h n) me (reply.Got bytes) is = is ≡ moved_by me.places h (length bytes)
 ArePlaces tx (call.XWriteOvr h bytes) me r is = is ≡ moved_by me.places h (done_of (length bytes) r)
 ArePlaces tx (call.XWriteSeq h bytes) me r is = IsAppendedAt me.places h (done_of (length bytes) r) is
@@ -55,11 +62,12 @@ ArePlaces tx (call.XClose h) me reply.Done is = is ≡ with_at me.places h place
 ArePlaces tx c me r is = is ≡ me.places
 
 -- ---- what was made and stored
--- how many objects are made behind it: a file or a pipe that was made is one more
+-- how many objects are made behind it: a file, a pipe or a pair that was made is one more
 abbrev pub made_after : Call → Reply → ℕ → ℕ
 made_after (call.XCreate name) (reply.Made h) made = made + 1
 made_after call.XPipe (reply.Made h) made = made + 1
--- of the calls on words, names, files and pipes no other makes one
+made_after call.XPair (reply.MadePair h g) made = made + 1
+-- no other call makes one
 made_after c r made = made
 
 -- the bytes that a reply brings

@@ -11,7 +11,10 @@ ghost use Rattle.xc_memhost.specs.Faults.{is_listed, begun};
 ghost use Rattle.xc_host.specs.Contents.{world_of};
 ghost use Rattle.xc_host.specs.Pipes.{pipe_in, has_pipe, with_new_pipe, put_into, shut_in, without_pipe};
 ghost use Rattle.xc_host.specs.Pipes.{state_of, IsTakenOf, IsSomeOf, after_take, is_shuttable};
-ghost use Rattle.xc_memhost.specs.Machine.{front_of, written_of, written, lengthened, taken, filled};
+ghost use Rattle.xc_host.specs.Pairs.{IsMessage, IsReceivedOf, after_receipt, has_pair, pair_in, sent_from, side_state};
+ghost use Rattle.xc_host.specs.Pairs.{with_new_pair, without_pair};
+ghost use Rattle.xc_world.specs.World.{other_side, waiting};
+ghost use Rattle.xc_memhost.specs.Machine.{front_of, written_of, written, lengthened, taken, filled, received};
 ghost use Rattle.xc_world.specs.Sound.{is_there};
 
 use super::MemHost;
@@ -283,6 +286,84 @@ impl Host for MemHost {
         Ok(self.fill(pipe, bytes)?)
     }
 
+    fn new_pair(&mut self, num: Num) -> Result<(), HostErr>
+        requires new { has_pair self.old.contents num ≡ false }
+        ensures answered { Answers mem_host_model Kind.NewPair (record { old = self.old; new = self.new }) result
+            (λ _ c. with_new_pair c num) }
+
+        // Exactly the listed calls fail. Without memory a call was counted, and nothing else.
+        ensures fault { is_fault result ≡ is_listed Kind.NewPair self.old }
+        ensures state { OnOk result
+            (self.new ≡ record (begun Kind.NewPair self.old) { contents = with_new_pair self.old.contents num }) }
+        ensures failed { OnErr result (self.new ≡ begun Kind.NewPair self.old) }
+    {
+        if self.fails(Kind::NewPair) {
+            return Err(HostErr::Fault);
+        }
+        Ok(self.objects.new_pair(num)?)
+    }
+
+    fn pair_state(&mut self, pair: Num, side: u8) -> Result<HostState, Fault>
+        requires there { has_pair self.old.contents pair ≡ true }
+        requires side { side < 2 }
+        ensures value { IfOk result (λ state. state ≡ side_state (pair_in self.old.contents pair) side) }
+        ensures answered { Answers mem_host_model Kind.PairState (record { old = self.old; new = self.new }) (without_memory result)
+            (λ state c. c) }
+
+        // Exactly the listed calls fail.
+        ensures fault { is_err result ≡ is_listed Kind.PairState self.old }
+        ensures state { self.new ≡ begun Kind.PairState self.old }
+    {
+        if self.fails(Kind::PairState) {
+            return Err(Fault);
+        }
+        Ok(self.objects.pair_state(pair, side))
+    }
+
+    fn recv(&mut self, pair: Num, side: u8) -> Result<Took, HostErr>
+        requires there { has_pair self.old.contents pair ≡ true }
+        requires side { side < 2 }
+        ensures bound { IfOk result IsMessage }
+        ensures value { IfOk result (IsReceivedOf (pair_in self.old.contents pair) side) }
+        ensures answered { Answers mem_host_model Kind.Recv (record { old = self.old; new = self.new }) result
+            (after_receipt pair side) }
+
+        // Exactly the listed calls fail, and a receipt gives exactly the first message. It takes no memory.
+        ensures fault { is_fault result ≡ is_listed Kind.Recv self.old }
+        ensures first { IfOk result (λ took. took ≡ received self.old pair side) }
+        ensures state { OnOk result
+            (self.new ≡ record (begun Kind.Recv self.old)
+            { contents = after_receipt pair side (received self.old pair side) self.old.contents }) }
+        ensures failed { OnErr result (self.new ≡ begun Kind.Recv self.old) }
+    {
+        if self.fails(Kind::Recv) {
+            return Err(HostErr::Fault);
+        }
+        Ok(self.objects.recv(pair, side))
+    }
+
+    fn send(&mut self, pair: Num, side: u8, bytes: &[u8]) -> Result<(), HostErr>
+        requires there { has_pair self.old.contents pair ≡ true }
+        requires side { side < 2 }
+        requires unshut { (pair_in self.old.contents pair).shut ≡ false }
+        requires fits { length (waiting (pair_in self.old.contents pair) (other_side side)) < 8 }
+        requires few { length bytes.now ≤ 1024 }
+        ensures answered { Answers mem_host_model Kind.Send (record { old = self.old; new = self.new }) result
+            (λ _ c. sent_from c pair side bytes.now) }
+
+        // Exactly the listed calls fail. Without memory a call was counted, and nothing else.
+        ensures fault { is_fault result ≡ is_listed Kind.Send self.old }
+        ensures state { OnOk result
+            (self.new ≡ record (begun Kind.Send self.old) { contents = sent_from self.old.contents pair side bytes.now }) }
+        ensures failed { OnErr result (self.new ≡ begun Kind.Send self.old) }
+    {
+        if self.fails(Kind::Send) {
+            return Err(HostErr::Fault);
+        }
+        let message = Chunk::new(self.alloc, bytes)?;
+        Ok(self.objects.send(pair, side, message)?)
+    }
+
     fn shut(&mut self, object: &Object) -> Result<(), Fault>
         requires shuttable { is_shuttable object.now ≡ true }
         requires there { is_there (world_of self.old.contents) object.now ≡ true }
@@ -395,6 +476,24 @@ impl Host for MemHost {
             return Err(Fault);
         }
         self.objects.drop_pipe(num);
+        Ok(())
+    }
+
+    fn drop_pair(&mut self, num: Num) -> Result<(), Fault>
+        requires there { has_pair self.old.contents num ≡ true }
+        ensures answered { Answers mem_host_model Kind.DropPair (record { old = self.old; new = self.new }) (without_memory result)
+            (λ _ c. without_pair c num) }
+
+        // Exactly the listed calls fail.
+        ensures fault { is_err result ≡ is_listed Kind.DropPair self.old }
+        ensures state { OnOk result
+            (self.new ≡ record (begun Kind.DropPair self.old) { contents = without_pair self.old.contents num }) }
+        ensures failed { OnErr result (self.new ≡ begun Kind.DropPair self.old) }
+    {
+        if self.fails(Kind::DropPair) {
+            return Err(Fault);
+        }
+        self.objects.drop_pair(num);
         Ok(())
     }
 }

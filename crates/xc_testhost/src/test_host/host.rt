@@ -130,13 +130,42 @@ impl Host for TestHost {
         Ok(n as u32)
     }
 
-    // It has no pairs.
+    fn new_pair(&mut self, num: Num) -> Result<(), HostErr> {
+        if self.fails(Asked::plain(Kind::NewPair)) {
+            return Err(HostErr::Fault);
+        }
+        Ok(self.pairs.make(num)?)
+    }
+
+    fn pair_state(&mut self, pair: Num, side: u8) -> Result<HostState, Fault> {
+        if self.fails(Asked::plain(Kind::PairState)) {
+            return Err(Fault);
+        }
+        Ok(self.pairs.state(pair, side))
+    }
+
+    fn recv(&mut self, pair: Num, side: u8) -> Result<Took, HostErr> {
+        if self.fails(Asked::plain(Kind::Recv)) {
+            return Err(HostErr::Fault);
+        }
+        Ok(self.pairs.recv(pair, side))
+    }
+
+    fn send(&mut self, pair: Num, side: u8, bytes: &[u8]) -> Result<(), HostErr> {
+        if self.fails(Asked::new(Kind::Send, 0, bytes.len())) {
+            return Err(HostErr::Fault);
+        }
+        Ok(self.pairs.send(pair, side, bytes)?)
+    }
+
     fn shut(&mut self, object: &Object) -> Result<(), Fault> {
         if self.fails(Asked::plain(Kind::Shut)) {
             return Err(Fault);
         }
-        if let Object::Pipe(num) = object {
-            self.pipes.shut(*num);
+        match object {
+            Object::Pipe(num) => self.pipes.shut(*num),
+            Object::Pair(num) => self.pairs.shut(*num),
+            Object::Word(_) | Object::Name(_) | Object::File(_) | Object::Jobs => {}
         }
         Ok(())
     }
@@ -179,6 +208,14 @@ impl Host for TestHost {
             return Err(Fault);
         }
         self.pipes.remove(num);
+        Ok(())
+    }
+
+    fn drop_pair(&mut self, num: Num) -> Result<(), Fault> {
+        if self.fails(Asked::plain(Kind::DropPair)) {
+            return Err(Fault);
+        }
+        self.pairs.remove(num);
         Ok(())
     }
 }

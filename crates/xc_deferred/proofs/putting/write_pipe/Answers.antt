@@ -1,6 +1,7 @@
 use Rattle.std.proofs.Common.{◌+◌, ◌-◌, length, refl, ap, sym, ◌∙◌, subst, arith}
 use Rattle.xc_data.specs.Counts.{CountsFault}
 use Rattle.xc_data.specs.Faults.{is_fault_end}
+use Rattle.xc_data.specs.declared.call.LateCall.TheVariants.{WritePipe}
 use Rattle.xc_data.specs.declared.call.LateEnd.TheVariants.{Fault, Shut}
 use Rattle.xc_buffers.specs.Items.{kept_bytes}
 use Rattle.xc_host.specs.Contents.{Contents}
@@ -8,7 +9,7 @@ use Rattle.xc_host.specs.Kept.{KeepsData}
 use Rattle.xc_host.specs.Pipes.{pipe_in}
 use Rattle.xc_host.specs.declared.pipes.HostState.{HostState}
 use Rattle.xc_deferred.specs.Puts.{Writes}
-use Rattle.xc_deferred.proofs.Lifted.{nothing_written, shut_written, uses_fronted, writes_does}
+use Rattle.xc_deferred.proofs.Lifted.{nothing_done, shut_written, uses_fronted, writes_does}
 use Rattle.xc_deferred.proofs.PipePuts.{keeps_written, look_uses, write_uses}
 use Rattle.xc_deferred.proofs.putting.write_pipe.Goals as goal
 
@@ -21,8 +22,8 @@ returns-in-Err-clause-ends g c =
       cause = did.cause;
       uses = uses_fronted model items c.args.host.now c.pipe_state.new.self
           (look_uses model c.args.pipe c.args.bytes.now (Fault 0) c.args.host.now c.pipe_state.new.self (omega arith) did.used);
-      does = λ t. nothing_written (model.contents c.args.host.now) (model.contents c.pipe_state.new.self) c.args.pipe c.args.bytes.now items (Fault 0)
-          (did.refused t) (λ x. refl) (λ x. refl);
+      does = λ t. nothing_done (model.contents c.args.host.now) (model.contents c.pipe_state.new.self) (WritePipe c.args.pipe c.args.bytes.now) items
+          (Fault 0) (did.refused t) (λ x. refl) (λ x. refl);
     }
 
 pub returns-then-state-clause-ends : goal.returns-then-state-clause-ends

@@ -9,8 +9,8 @@ use Rattle.xc_buffers.specs.declared.source.Source.TheVariants.{Pipe, Side}
 use Rattle.xc_buffers.proofs.Takes.{bytes_count, messages_count}
 use Rattle.xc_buffers.proofs.kept.Kept.held.Goals as goal
 
-pub returns-in-Pipe : goal.returns-in-Pipe
-returns-in-Pipe c =
+pub returns-in-Pipe-clause-value : goal.returns-in-Pipe-clause-value
+returns-in-Pipe-clause-value c =
     let size : KeptItem → ℕ = λ t. length (item_bytes t) in
     let pipe = c.in-Pipe.pipe in
     c.total_of.ensures ∙ ap (λ n. min n (2 ^ 32 - 1))
@@ -18,8 +18,8 @@ returns-in-Pipe c =
     ∙ sym (bytes_count pipe c.self.inside.items.items) ∙ ap (λ (k : KeptView). length (kept_bytes pipe k.items)) c.self.view_is
     ∙ ap (λ (o : Object). kept_count o c.args.side c.args.self.now.items) (sym c.in-Pipe.is))
 
-pub returns-in-Pair : goal.returns-in-Pair
-returns-in-Pair c =
+pub returns-in-Pair-clause-value : goal.returns-in-Pair-clause-value
+returns-in-Pair-clause-value c =
     let pair = c.in-Pair.pair in
     c.capped.ensures ∙ ap (λ n. min n (2 ^ 32 - 1))
     (ap (λ (items : List KeptItem). length items) c.part_of-in-Pair.ensures
