@@ -104,7 +104,8 @@ abbrev pub sides : {H : Type 0} → HostModel H → ReadState H → Sides
 sides model s = record { contents = model.contents s.host; items = s.items }
 
 module _ {H : Type 0} (model : HostModel H) (old new : ReadState H) where
-  uses_both : {IsMade : List Kind → Type 0} → Uses model (record { old = old.host; new = new.host }) IsMade
+  -- a host that was used is so with items in front, whatever becomes of these
+  pub uses_both : {IsMade : List Kind → Type 0} → Uses model (record { old = old.host; new = new.host }) IsMade
       → Uses (fronted model) (record { old = before old.host old.items; new = before new.host new.items }) IsMade
   uses_both u = record { made = u.made; named = u.named; used = record { called = u.used.called; plan = u.used.plan } }
 

@@ -1,0 +1,6 @@
+pub mod KeptPairs
+pub mod Vacant
+pub mod Made
+pub mod Receipts
+pub mod ReceiptSteps
+pub mod ReceiptCalls
