@@ -21,6 +21,8 @@ use Rattle.xc_text.specs.declared.script.Test.{Test}
 use Rattle.xc_text.specs.declared.script.Test.TheVariants as test
 use Rattle.xc_text.specs.declared.script.Expression.TheVariants as expression
 use Rattle.xc_text.specs.Stated.{Term, Expression, Item, CallForm, Statement}
+use Rattle.xc_script.specs.declared.answer.Target.{Target}
+use Rattle.xc_script.specs.declared.answer.Target.TheVariants as target
 use Rattle.xc_script.specs.declared.ask.Ask.{Ask}
 use Rattle.xc_script.specs.declared.ask.Ask.TheVariants as ask
 use Rattle.xc_script.specs.declared.value.Value.{Value}
@@ -227,6 +229,10 @@ form_ask variables stored (form.ReadPipe h n into) = ask.Call (call.XReadPipe (h
 form_ask variables stored (form.WritePipe h items slot) =
     unless_over stored (call.XWritePipe (handle_value variables h) (data_of variables items) (name_of_slot variables slot))
 form_ask variables stored (form.Shutdown h slot) = ask.Call (call.XShutdown (handle_value variables h) (name_of_slot variables slot))
+form_ask variables stored (form.Pair into) = ask.Call call.XPair
+form_ask variables stored (form.Receive h into) = ask.Call (call.XRecvmsg (handle_value variables h))
+form_ask variables stored (form.Send h items slot) =
+    unless_over stored (call.XSendmsg (handle_value variables h) (data_of variables items) (name_of_slot variables slot))
 
 -- what a statement asks that isn't silent: a call, or the transaction's own abort. A `let` is always silent.
 abbrev pub ask_of : Variables → ℕ → Statement → Ask
@@ -245,7 +251,7 @@ asks_of variables stored (s ∷ rest) = ask_of variables stored s
 abbrev pub asks : Walk → Ask
 asks walk = asks_of walk.variables walk.stored walk.left
 
--- what a reply leaves in a variable: its number, its bytes or its handle
+-- what a reply leaves in one variable: its number, its bytes or its one handle
 abbrev pub value_in : Reply → Option Value
 value_in (reply.Number n) = Some (value.Number n)
 value_in (reply.Got bytes) = Some (value.Bytes bytes)
@@ -268,38 +274,76 @@ value_in reply.Late = None
 abbrev pub bound_to : Variables → ℕ → Reply → Variables
 bound_to variables v reply = set_to variables v (value_in reply)
 
--- the variables behind a reply, where a variable may take what it brings
-abbrev pub bound : Variables → Option ℕ → Reply → Variables
-bound variables None reply = variables
-bound variables (Some v) reply = bound_to variables v reply
+-- the handles that a reply leaves in two variables, where it brings those of a pair
+abbrev pub handles_in : Reply → Option (ℕ × ℕ)
+handles_in (reply.Number n) = None
+handles_in (reply.Got bytes) = None
+handles_in (reply.Made h) = None
+handles_in (reply.MadePair h g) = Some (h, g)
+handles_in reply.Done = None
+handles_in reply.End = None
+handles_in reply.Empty = None
+handles_in reply.NoName = None
+handles_in reply.Exists = None
+handles_in reply.BadHandle = None
+handles_in reply.PastEnd = None
+handles_in reply.TooBig = None
+handles_in reply.TooMuch = None
+handles_in reply.BadWord = None
+handles_in (reply.Fault n) = None
+handles_in reply.Late = None
 
--- the variable that takes the reply to a call, where its line names one
-abbrev pub form_target : CallForm → Option ℕ
-form_target (form.Load at into) = into
-form_target (form.Store at value) = None
-form_target (form.Open name into) = into
-form_target (form.Create name into) = into
-form_target (form.Rename from to) = None
-form_target (form.Read h n into) = into
-form_target (form.Overwrite h items) = None
-form_target (form.Append h items) = None
-form_target (form.Seek h to) = None
-form_target (form.Length h into) = into
-form_target (form.Close h) = None
-form_target (form.Unlink name slot) = None
-form_target (form.Sync h slot) = None
-form_target (form.Pipe into) = into
-form_target (form.ReadPipe h n into) = into
-form_target (form.WritePipe h items slot) = None
-form_target (form.Shutdown h slot) = None
+-- two variables take these handles, one after the other, and lose their own where there are none
+abbrev pub bound_both : Variables → ℕ → ℕ → Option (ℕ × ℕ) → Variables
+bound_both variables v w (Some (h, g)) = set_to (set_to variables v (Some (value.Handle h))) w (Some (value.Handle g))
+bound_both variables v w None = set_to (set_to variables v None) w None
 
--- the variable that takes a statement's reply, where it names one
-abbrev pub target_of : Statement → Option ℕ
+-- the variables behind a reply, where one or two of them may take what it brings
+abbrev pub bound : Variables → Target → Reply → Variables
+bound variables target.Nowhere reply = variables
+bound variables (target.One v) reply = bound_to variables v reply
+bound variables (target.Two v w) reply = bound_both variables v w (handles_in reply)
+
+-- one variable, where it is named
+abbrev pub one_target : Option ℕ → Target
+one_target (Some v) = target.One v
+one_target None = target.Nowhere
+
+-- two variables, where they are named
+abbrev pub two_targets : Option (ℕ × ℕ) → Target
+two_targets (Some (v, w)) = target.Two v w
+two_targets None = target.Nowhere
+
+-- the variables that take the reply to a call, where its line names some
+abbrev pub form_target : CallForm → Target
+form_target (form.Load at into) = one_target into
+form_target (form.Store at value) = target.Nowhere
+form_target (form.Open name into) = one_target into
+form_target (form.Create name into) = one_target into
+form_target (form.Rename from to) = target.Nowhere
+form_target (form.Read h n into) = one_target into
+form_target (form.Overwrite h items) = target.Nowhere
+form_target (form.Append h items) = target.Nowhere
+form_target (form.Seek h to) = target.Nowhere
+form_target (form.Length h into) = one_target into
+form_target (form.Close h) = target.Nowhere
+form_target (form.Unlink name slot) = target.Nowhere
+form_target (form.Sync h slot) = target.Nowhere
+form_target (form.Pipe into) = one_target into
+form_target (form.ReadPipe h n into) = one_target into
+form_target (form.WritePipe h items slot) = target.Nowhere
+form_target (form.Shutdown h slot) = target.Nowhere
+form_target (form.Pair into) = two_targets into
+form_target (form.Receive h into) = one_target into
+form_target (form.Send h items slot) = target.Nowhere
+
+-- the variables that take a statement's reply, where it names some
+abbrev pub target_of : Statement → Target
 target_of (statement.Call f) = form_target f
-target_of (statement.Let into e) = None
-target_of statement.Abort = None
-target_of (statement.AbortIf left test right) = None
-target_of statement.Require = None
+target_of (statement.Let into e) = target.Nowhere
+target_of statement.Abort = target.Nowhere
+target_of (statement.AbortIf left test right) = target.Nowhere
+target_of statement.Require = target.Nowhere
 
 -- a call was refused whose reply is none of these: a number, bytes, handles, done, or kept for the commit
 abbrev pub refuses : Reply → Bool

@@ -7,6 +7,8 @@ use Rattle.xc_maps.specs.Keys.{coded_name}
 use Rattle.xc_failure.specs.Slots.{Slots, coded_slots, no_slots}
 use Rattle.xc_text.specs.declared.script.Script.{Script}
 use Rattle.xc_text.specs.Stated.{Statement}
+use Rattle.xc_script.specs.declared.answer.Target.{Target}
+use Rattle.xc_script.specs.declared.answer.Target.TheVariants as target
 use Rattle.xc_script.specs.declared.ask.Ask.{Ask}
 use Rattle.xc_script.specs.declared.ask.Ask.TheVariants as ask
 use Rattle.xc_script.specs.declared.value.Value.{Value}
@@ -112,11 +114,11 @@ is_call ask.End = false
 abbrev pub IsAskedCall : Script → Position → Type 0
 IsAskedCall script place = IsTrue (is_call (asks (walk_of script place)))
 
--- the variable that takes the reply to what is asked, where one does
-abbrev pub first_target : List Statement → Option ℕ
-first_target [] = None
+-- the variables that take the reply to what is asked, where some do
+abbrev pub first_target : List Statement → Target
+first_target [] = target.Nowhere
 first_target (s ∷ rest) = target_of s
 
--- the variable that takes the reply at this place, where one does
-abbrev pub target_at : Script → Position → Option ℕ
+-- the variables that take the reply at this place, where some do
+abbrev pub target_at : Script → Position → Target
 target_at script place = first_target (walk_of script place).left

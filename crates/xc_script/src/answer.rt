@@ -1,11 +1,21 @@
 ghost use Rattle.std.specs.Prelude.{◌≡◌, ◌≤◌, ◌+◌, ◌<◌, ◌^◌, length, IfOk, OnOk, OnErr, IsOk, None};
-ghost use Rattle.xc_script.specs.Ask.{bytes_got, fails_check, stored_after, value_in, form_target, target_of, bound, refuses};
+ghost use Rattle.xc_script.specs.Ask.{bytes_got, fails_check, stored_after, value_in, one_target, two_targets, form_target, target_of};
+ghost use Rattle.xc_script.specs.Ask.{handles_in, bound_both, bound, refuses};
+ghost use Rattle.xc_script.specs.declared.answer.Target.TheVariants.{Nowhere};
 
 use crate::value::{Value, Variables};
 use xc_data::{NoMemory, Reply};
 use xc_text::{CallForm, Place, Statement};
 
-// What a reply leaves in a variable. Bytes are shared.
+/// The variables that take what a reply brings: none, one, or one for each side of a pair.
+#[derive(Clone, Copy)]
+pub enum Target {
+    Nowhere,
+    One(Place),
+    Two(Place, Place),
+}
+
+// What a reply leaves in one variable. Bytes are shared.
 fn value_in(reply: &Reply) -> Result<Option<Value>, NoMemory>
     ensures value { IfOk result (λ value. value ≡ value_in reply.now) }
     ensures none { value_in reply.now ≡ None → IsOk result }
@@ -21,45 +31,98 @@ fn value_in(reply: &Reply) -> Result<Option<Value>, NoMemory>
     }
 }
 
-fn form_target(form: &CallForm<Place>) -> Option<Place>
-    ensures { result ≡ form_target form.now }
+// The handles that a reply leaves in two variables, where it brings those of a pair.
+fn handles_in(reply: &Reply) -> Option<(u16, u16)>
+    ensures { result ≡ handles_in reply.now }
 {
-    match form {
-        CallForm::Load { into, .. } | CallForm::Read { into, .. } => *into,
-        CallForm::Open { into, .. } | CallForm::Create { into, .. } => *into,
-        CallForm::Length { into, .. } => *into,
-        CallForm::Pipe { into } | CallForm::ReadPipe { into, .. } => *into,
-        CallForm::Store { .. } | CallForm::Rename { .. } => None,
-        CallForm::Overwrite { .. } | CallForm::Append { .. } => None,
-        CallForm::Seek { .. } | CallForm::Close { .. } => None,
-        CallForm::Unlink { .. } | CallForm::Sync { .. } => None,
-        CallForm::WritePipe { .. } | CallForm::Shutdown { .. } => None,
+    match reply {
+        Reply::MadePair(h, g) => Some((*h, *g)),
+        Reply::Number(_) | Reply::Got(_) | Reply::Made(_) | Reply::Done => None,
+        Reply::End | Reply::Empty | Reply::NoName | Reply::Exists => None,
+        Reply::BadHandle | Reply::PastEnd | Reply::TooBig | Reply::TooMuch => None,
+        Reply::BadWord | Reply::Fault(_) | Reply::Late => None,
     }
 }
 
-/// The variable that takes a statement's reply.
-pub fn target_of(statement: &Statement<Place>) -> Option<Place>
+fn one_target(into: Option<Place>) -> Target
+    ensures { result ≡ one_target into }
+{
+    match into {
+        Some(at) => Target::One(at),
+        None => Target::Nowhere,
+    }
+}
+
+fn two_targets(into: Option<(Place, Place)>) -> Target
+    ensures { result ≡ two_targets into }
+{
+    match into {
+        Some((first, second)) => Target::Two(first, second),
+        None => Target::Nowhere,
+    }
+}
+
+fn form_target(form: &CallForm<Place>) -> Target
+    ensures { result ≡ form_target form.now }
+{
+    match form {
+        CallForm::Load { into, .. } | CallForm::Read { into, .. } => one_target(*into),
+        CallForm::Open { into, .. } | CallForm::Create { into, .. } => one_target(*into),
+        CallForm::Length { into, .. } => one_target(*into),
+        CallForm::Pipe { into } | CallForm::ReadPipe { into, .. } => one_target(*into),
+        CallForm::Pair { into } => two_targets(*into),
+        CallForm::Receive { into, .. } => one_target(*into),
+        CallForm::Store { .. } | CallForm::Rename { .. } => Target::Nowhere,
+        CallForm::Overwrite { .. } | CallForm::Append { .. } => Target::Nowhere,
+        CallForm::Seek { .. } | CallForm::Close { .. } => Target::Nowhere,
+        CallForm::Unlink { .. } | CallForm::Sync { .. } => Target::Nowhere,
+        CallForm::WritePipe { .. } | CallForm::Shutdown { .. } => Target::Nowhere,
+        CallForm::Send { .. } => Target::Nowhere,
+    }
+}
+
+/// The variables that take a statement's reply.
+pub fn target_of(statement: &Statement<Place>) -> Target
     ensures { result ≡ target_of statement.now }
 {
     match statement {
         Statement::Call(form) => form_target(form),
-        Statement::Let { .. } | Statement::Abort => None,
-        Statement::AbortIf { .. } | Statement::Require => None,
+        Statement::Let { .. } | Statement::Abort => Target::Nowhere,
+        Statement::AbortIf { .. } | Statement::Require => Target::Nowhere,
     }
 }
 
-/// The variable takes what the reply has for it, or loses its own.
-pub fn bind(variables: &mut Variables, target: Option<Place>, reply: &Reply) -> Result<(), NoMemory>
+// Two variables take the handles of a pair, the second one last, or lose their own. It takes no memory.
+fn bind_both(variables: &mut Variables, first: Place, second: Place, reply: &Reply)
+    ensures { variables.new ≡ bound_both variables.old first second (handles_in reply.now) }
+{
+    match handles_in(reply) {
+        Some((h, g)) => {
+            variables.set(first, Some(Value::Handle(h)));
+            variables.set(second, Some(Value::Handle(g)));
+        }
+        None => {
+            variables.set(first, None);
+            variables.set(second, None);
+        }
+    }
+}
+
+/// The variables take what the reply has for them, or lose their own.
+pub fn bind(variables: &mut Variables, target: Target, reply: &Reply) -> Result<(), NoMemory>
     ensures ok { OnOk result (variables.new ≡ bound variables.old target reply.now) }
     ensures err { OnErr result (variables.new ≡ variables.old) }
-    ensures sure { target ≡ None → IsOk result }
+    ensures sure { target ≡ Nowhere → IsOk result }
     ensures lasting { value_in reply.now ≡ None → IsOk result }
 {
-    let Some(at) = target else {
-        return Ok(());
-    };
-    let value = value_in(reply)?;
-    variables.set(at, value);
+    match target {
+        Target::Nowhere => {}
+        Target::One(at) => {
+            let value = value_in(reply)?;
+            variables.set(at, value);
+        }
+        Target::Two(first, second) => bind_both(variables, first, second, reply),
+    }
     Ok(())
 }
 

@@ -1,6 +1,6 @@
 ghost use Rattle.std.specs.Prelude.{◌≡◌, ◌≤◌, length, IfOk, Some, None, if◌then◌else◌};
 ghost use Rattle.xc_data.specs.declared.call.Call.TheVariants.{Store, XClose, XRead, XSeek, XSync, XUnlink, XWriteOvr, XWriteSeq};
-ghost use Rattle.xc_data.specs.declared.call.Call.TheVariants.{XReadPipe, XShutdown, XWritePipe};
+ghost use Rattle.xc_data.specs.declared.call.Call.TheVariants.{XReadPipe, XSendmsg, XShutdown, XWritePipe};
 ghost use Rattle.xc_script.specs.Ask.{is_over, unless_over, data_of, handle_value, term_value, expression_value};
 ghost use Rattle.xc_script.specs.Ask.{name_of_slot, form_ask, ask_of, carried_by};
 
@@ -87,6 +87,27 @@ fn append(
     }
 }
 
+// The data and the slot of a late call, where the transaction may store so many bytes more.
+fn late_data(
+    alloc: Global,
+    variables: &Variables,
+    stored: u128,
+    items: &Data<Place>,
+    slot: Option<Place>,
+) -> Result<Option<(Chunk, Option<Boxed<Ident>>)>, NoMemory>
+    ensures { let bytes = data_of variables.now items.now in
+        IfOk result (λ found. found
+        ≡ (if is_over stored (length bytes) then None else Some (bytes, name_of_slot variables.now slot))) }
+{
+    match data_within(alloc, variables, stored, items)? {
+        Some(bytes) => {
+            let slot = Boxed::new_optional(alloc, variables.slot_name(slot))?;
+            Ok(Some((bytes, slot)))
+        }
+        None => Ok(None),
+    }
+}
+
 // Bytes for a pipe through a handle, or the transaction's own abort.
 fn write_pipe(
     alloc: Global,
@@ -94,17 +115,35 @@ fn write_pipe(
     stored: u128,
     handle: Place,
     items: &Data<Place>,
-    slot: Option<Ident>,
+    slot: Option<Place>,
 ) -> Result<Ask, NoMemory>
     ensures { IfOk result (λ ask. ask
-        ≡ unless_over stored (XWritePipe (handle_value variables.now handle) (data_of variables.now items.now) slot)) }
+        ≡ unless_over stored (XWritePipe (handle_value variables.now handle) (data_of variables.now items.now)
+        (name_of_slot variables.now slot))) }
 {
     let h = handle_in(variables, handle);
-    match data_within(alloc, variables, stored, items)? {
-        Some(bytes) => {
-            let slot = Boxed::new_optional(alloc, slot)?;
-            Ok(Ask::Call(Call::XWritePipe { h, bytes, slot }))
-        }
+    match late_data(alloc, variables, stored, items, slot)? {
+        Some((bytes, slot)) => Ok(Ask::Call(Call::XWritePipe { h, bytes, slot })),
+        None => Ok(Ask::Abort),
+    }
+}
+
+// A message for a pair through a handle, or the transaction's own abort.
+fn send(
+    alloc: Global,
+    variables: &Variables,
+    stored: u128,
+    handle: Place,
+    items: &Data<Place>,
+    slot: Option<Place>,
+) -> Result<Ask, NoMemory>
+    ensures { IfOk result (λ ask. ask
+        ≡ unless_over stored (XSendmsg (handle_value variables.now handle) (data_of variables.now items.now)
+        (name_of_slot variables.now slot))) }
+{
+    let h = handle_in(variables, handle);
+    match late_data(alloc, variables, stored, items, slot)? {
+        Some((bytes, slot)) => Ok(Ask::Call(Call::XSendmsg { h, bytes, slot })),
         None => Ok(Ask::Abort),
     }
 }
@@ -231,11 +270,17 @@ fn form_ask(
         CallForm::Pipe { .. } => Ok(Ask::Call(Call::XPipe)),
         CallForm::ReadPipe { handle, n, .. } => Ok(Ask::Call(read_pipe(variables, *handle, *n))),
         CallForm::WritePipe { handle, data, slot } => {
-            let slot = variables.slot_name(*slot);
-            write_pipe(alloc, variables, stored, *handle, data, slot)
+            write_pipe(alloc, variables, stored, *handle, data, *slot)
         }
         CallForm::Shutdown { handle, slot } => {
             Ok(Ask::Call(shutdown(alloc, variables, *handle, *slot)?))
+        }
+        CallForm::Pair { .. } => Ok(Ask::Call(Call::XPair)),
+        CallForm::Receive { handle, .. } => Ok(Ask::Call(Call::XRecvmsg {
+            h: handle_in(variables, *handle),
+        })),
+        CallForm::Send { handle, data, slot } => {
+            send(alloc, variables, stored, *handle, data, *slot)
         }
     }
 }
@@ -275,11 +320,13 @@ fn form_carried(variables: &Variables, stored: u128, form: &CallForm<Place>) -> 
         CallForm::Overwrite { data, .. } => data_carried(variables, stored, data),
         CallForm::Append { data, .. } => data_carried(variables, stored, data),
         CallForm::WritePipe { data, .. } => data_carried(variables, stored, data),
+        CallForm::Send { data, .. } => data_carried(variables, stored, data),
         CallForm::Load { .. } | CallForm::Store { .. } | CallForm::Open { .. } => 0,
         CallForm::Create { .. } | CallForm::Rename { .. } | CallForm::Read { .. } => 0,
         CallForm::Seek { .. } | CallForm::Length { .. } | CallForm::Close { .. } => 0,
         CallForm::Unlink { .. } | CallForm::Sync { .. } => 0,
         CallForm::Pipe { .. } | CallForm::ReadPipe { .. } | CallForm::Shutdown { .. } => 0,
+        CallForm::Pair { .. } | CallForm::Receive { .. } => 0,
     }
 }
 

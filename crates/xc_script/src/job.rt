@@ -5,6 +5,7 @@ ghost use Rattle.xc_text.specs.Scripts.{IsScript};
 ghost use Rattle.xc_script.specs.Ask.{asks_from, answered, next_body, transactions_at, fresh_job, value_in};
 ghost use Rattle.xc_script.specs.Slots.{kept_of, with_ends};
 ghost use Rattle.xc_script.specs.Position.{Position, job_of, walk_of, at_begin, nothing_kept, IsSettled, IsAskedCall, target_at};
+ghost use Rattle.xc_script.specs.declared.answer.Target.TheVariants.{Nowhere};
 
 use crate::Ask;
 use crate::answer::{bind, refuses, stored_after, target_of};
@@ -134,7 +135,7 @@ impl JobState {
         ensures err { OnErr result (self.new ≡ self.old) }
 
         // Only a variable that takes what the reply brings can want memory.
-        ensures sure { target_at script.now self.old ≡ None → IsOk result }
+        ensures sure { target_at script.now self.old ≡ Nowhere → IsOk result }
         ensures lasting { value_in reply.now ≡ None → IsOk result }
     {
         let Some(body) = body_at(script, self.block, self.next) else {

@@ -23,6 +23,7 @@ form_built : (variables : Variables) (stored : ℕ) (f : CallForm) → asks_buil
 form_built variables stored (form.Overwrite h items) = or_abort (is_over stored _) (call.XWriteOvr (handle_value variables h) _) refl
 form_built variables stored (form.Append h items) = or_abort (is_over stored _) (call.XWriteSeq (handle_value variables h) _) refl
 form_built variables stored (form.WritePipe h items slot) = or_abort (is_over stored _) (call.XWritePipe (handle_value variables h) _ _) refl
+form_built variables stored (form.Send h items slot) = or_abort (is_over stored _) (call.XSendmsg (handle_value variables h) _ _) refl
 form_built variables stored _ = refl
 
 statement_built : (variables : Variables) (stored : ℕ) (s : Statement) → asks_built (ask_of variables stored s) ≡ true

@@ -263,6 +263,9 @@ is_built call.XPipe = true
 is_built (call.XReadPipe h n) = true
 is_built (call.XWritePipe h bytes slot) = true
 is_built (call.XShutdown h slot) = true
+is_built call.XPair = true
+is_built (call.XRecvmsg h) = true
+is_built (call.XSendmsg h bytes slot) = true
 -- no other call is built so far, nor one yet to come
 is_built _ = false
 

@@ -1,6 +1,6 @@
 -- What is true between two turns of the stories of all jobs.
 use Rattle.std.specs.Prelude.{◌≡◌, ℕ, ◌+◌, ◌<◌, ◌≤◌, true, false, List, [], ◌∷◌, ◌++◌, length, map, slice_get, unwrap_or}
-use Rattle.std.specs.Prelude.{IsSome, IsPermutation, Contains}
+use Rattle.std.specs.Prelude.{All, IsSome, IsPermutation, Contains}
 use Rattle.std.specs.Prelude.{Option}
 use Rattle.std.specs.declared.option.Option.TheVariants.{None, Some}
 use Rattle.xc_data.specs.declared.claim.Claim.{Claim}
@@ -25,6 +25,7 @@ use Rattle.xc_story.specs.Truth.{AsksEach, AreTrue, IsCauseOf, counting, next_of
 use Rattle.xc_story.specs.Ending.{IsEnd}
 use Rattle.xc_story.specs.InTime.{AreInTime}
 use Rattle.xc_data.specs.Calls.{thread_asked, thread_in}
+use Rattle.xc_data.specs.Private.{IsSided}
 use Rattle.xc_story.specs.Seen.{SeenTx, SeenJob, Doing, Idle, Active, Starved, Ended, actives, active_of, revoked}
 
 -- ---- an active transaction, as a part of its job's story
@@ -79,6 +80,8 @@ pub record IsUnderway (s : Setting) (f : Following) (place : Position) (tx : See
   -- those replied late, and no others
   pub in_time : AreInTime tx.calls tx.replies
   pub stored : tx.me.stored ≤ 16384
+  -- a pair is open at one of its two sides
+  pub sided : All IsSided tx.me.places
   pub phase : IsInPhase s f place tx tx.phase
 
 -- ---- a job
@@ -99,6 +102,7 @@ IsDoing s begun f job (Ended end) = IsEnd s begun f end
 pub record IsJobTold (s : Setting) (begun entered : ℕ) (f : Following) (job : SeenJob) : Type 0 where
   pub block : f.block ≡ job.block
   pub fresh : job.me ≡ beginning job.me.places
+  pub sided : All IsSided job.me.places
   pub since : f.since ≤ entered
   pub attempts : AreAttempts f job.attempts
   pub few : length f.failed ≤ s.rules.attempts

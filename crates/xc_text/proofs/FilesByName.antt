@@ -1,4 +1,4 @@
--- An index of the names of files, and a count of pipes.
+-- An index of the names of files, and counts of pipes and of pairs.
 use Rattle.std.proofs.Common.{◌≡◌, ℕ, ◌+◌, Bool, true, false, List, [], ◌∷◌, ◌++◌, Option, Some, cond, refl, ap, sym, ◌∙◌, ◌||◌, arith}
 use Rattle.std.specs.Prelude.{is_some, count_by}
 use Rattle.std.specs.Cmp.Lexicographic.{nat_list_cmp_total, texts_ties}
@@ -9,7 +9,7 @@ use Rattle.std.proofs.lemmas.List.Folds.{list_any-append}
 use Rattle.std.proofs.lemmas.List.Sums.{sum_by_push}
 use Rattle.xc_data.specs.declared.script.Opened.{Opened}
 use Rattle.xc_data.specs.declared.script.Opened.TheVariants.{File, Pipe}
-use Rattle.xc_data.specs.Limits.{is_pipe_line}
+use Rattle.xc_data.specs.Limits.{is_pipe_line, is_pair_line}
 use Rattle.xc_maps.specs.Keys.{name_cmp}
 use Rattle.xc_text.specs.Views.{NamesFiles}
 use Rattle.xc_text.specs.Steps.{is_file_of}
@@ -51,3 +51,7 @@ pipes_stay objects name bytes = omega (arith, sum_by_push (λ o. cond (is_pipe_l
 pub one_pipe_more : (objects : List Opened) (bytes : List ℕ) (n : ℕ) → n ≡ count_by is_pipe_line objects →
     n + 1 ≡ count_by is_pipe_line (objects ++ Pipe bytes ∷ [])
 one_pipe_more objects bytes n is = omega (arith, is, sum_by_push (λ o. cond (is_pipe_line o) 1 0) objects (Pipe bytes))
+
+-- a file is no pair
+pub pairs_stay : (objects : List Opened) (name bytes : List ℕ) → count_by is_pair_line objects ≡ count_by is_pair_line (objects ++ File name bytes ∷ [])
+pairs_stay objects name bytes = omega (arith, sum_by_push (λ o. cond (is_pair_line o) 1 0) objects (File name bytes))

@@ -12,7 +12,7 @@ use Rattle.xc_text.specs.declared.script.CallForm.TheVariants as form
 use Rattle.xc_text.specs.declared.script.Statement.TheVariants as statement
 use Rattle.xc_text.specs.Named as named
 use Rattle.xc_text.specs.Said.{Names}
-use Rattle.xc_text.specs.Places.{Placed, place_of, at_place, variable, placed_term, placed_expression, placed_target, placed_ending}
+use Rattle.xc_text.specs.Places.{Placed, place_of, at_place, variable, placed_two, placed_term, placed_expression, placed_target, placed_targets, placed_ending}
 use Rattle.xc_text.specs.Places.{placed_item, placed_data, placed_term_into, placed_written, placed_form, placed}
 
 -- no variable goes
@@ -56,6 +56,22 @@ expression_grows names (Difference a b) =
 target_grows : (names : Names) (into : Option (List ℕ)) → Grows names (placed_target names into).0
 target_grows names (Some name) = variable_grows names name
 target_grows names None = omega arith
+
+-- two variables, new or not
+pub variables_grow : (names : Names) (v w : List ℕ) → Grows names (placed_two names v w).0
+variables_grow names v w = two_grow names (variable names v) (λ n. variable n w) (variable_grows names v) (λ n. variable_grows n w)
+
+-- both have their places behind them
+pub have_places : (names : Names) (v w : List ℕ) → let p = placed_two names v w in
+    (p.1.0 < length p.0.variables) × (p.1.1 < length p.0.variables)
+have_places names v w =
+    let first = variable names v in
+    let grows = variable_grows first.0 w in
+    (omega (arith, has_place names v, grows), has_place first.0 w)
+
+targets_grow : (names : Names) (into : Option (List ℕ × List ℕ)) → Grows names (placed_targets names into).0
+targets_grow names (Some (v, w)) = variables_grow names v w
+targets_grow names None = omega arith
 
 ending_grows : (names : Names) (into : Option (List ℕ)) → Grows names (placed_ending names into).0
 ending_grows names (Some name) = omega arith
@@ -102,6 +118,10 @@ form_grows names (form.ReadPipe handle n into) = handled_grows names handle (λ 
 form_grows names (form.WritePipe handle items into) =
     two_grow names (placed_written names handle items) (λ n. placed_ending n into) (written_grows names handle items) (λ n. ending_grows n into)
 form_grows names (form.Shutdown handle into) = handled_grows names handle (λ n. placed_ending n into) (λ n. ending_grows n into)
+form_grows names (form.Pair into) = targets_grow names into
+form_grows names (form.Receive handle into) = handled_grows names handle (λ n. placed_target n into) (λ n. target_grows n into)
+form_grows names (form.Send handle items into) =
+    two_grow names (placed_written names handle items) (λ n. placed_ending n into) (written_grows names handle items) (λ n. ending_grows n into)
 
 -- a statement more
 pub placed_grows : (names : Names) (s : named.Statement) → Grows names (placed names s).0

@@ -1,13 +1,13 @@
 -- What a script that was read keeps to.
 use Rattle.std.proofs.Common.{◌≡◌, ℕ, ◌+◌, ◌<◌, ◌≤◌, Bool, true, false, List, [], ◌∷◌, ◌++◌, length, Option, None, Some, Result, Ok, Err, IfOk, IfSome, cond}
-use Rattle.std.proofs.Common.{refl, ap, ◌∙◌, subst, arith, lit≤, nat_lt, nat_le, ◌||◌, ◌&&◌}
+use Rattle.std.proofs.Common.{refl, ap, ◌∙◌, subst, append_assoc, arith, lit≤, nat_lt, nat_le, ◌||◌, ◌&&◌}
 use Rattle.std.specs.Prelude.{All, codes, count_by, is_some, nat_eq, if◌then◌else◌}
 use Rattle.std.specs.Cmp.Lexicographic.{pointwise}
 use Rattle.std.specs.List.{list_all, list_any, IsDistinct}
 use Rattle.std.proofs.lemmas.Bool.{cond_both, ltb-true, ltb-false, leb-false, leb-true, and_parts, or_parts}
 use Rattle.std.proofs.lemmas.List.{length-append, length-replicate, length-set, length-map, map-append}
 use Rattle.std.proofs.lemmas.List.Elements.{All-nil, All-push}
-use Rattle.std.proofs.lemmas.List.Sums.{sum_by-le, sum_by_push}
+use Rattle.std.proofs.lemmas.List.Sums.{sum_by_push}
 use Rattle.xc_data.specs.declared.script.Kind.{Kind}
 use Rattle.xc_data.specs.declared.script.Opened.{Opened}
 use Rattle.xc_data.specs.declared.script.Opened.TheVariants.{File, Pipe, Pair}
@@ -23,24 +23,25 @@ use Rattle.xc_tokens.specs.declared.why.Why.{Why}
 use Rattle.xc_tokens.specs.declared.why.Why.TheVariants.{UnknownLine}
 use Rattle.xc_tokens.specs.Answers.{and_then, both, seen}
 use Rattle.xc_text.specs.Refusals.{Refusal}
-use Rattle.xc_text.specs.Grammar.{line_of, first_line, worded_line, words_line, word_line, file_line, pipe_line, fault_line, grain_line, job_line}
+use Rattle.xc_text.specs.Grammar.{line_of, first_line, worded_line, words_line, word_line, file_line, pipe_line, pair_line}
+use Rattle.xc_text.specs.Grammar.{fault_line, grain_line, job_line}
 use Rattle.xc_text.specs.Kinds.{kind}
 use Rattle.xc_tokens.specs.Lines.{lines_of, is_line_byte}
 use Rattle.xc_tokens.specs.Literals.{is_within, contents, only_literals}
 use Rattle.xc_text.specs.Said.{Names, Said, opening}
 use Rattle.xc_text.specs.Sections.{block_in, transaction_in, is_outside}
-use Rattle.xc_text.specs.Scripts.{names_of, IsBlock, IsFileOrPipe, IsOneCall, handle_count, IsScript, at_line, prologue_of, script_of}
+use Rattle.xc_text.specs.Scripts.{names_of, IsBlock, IsOneCall, handle_count, IsScript, at_line, prologue_of, script_of}
 use Rattle.xc_text.specs.Scripts.{closed, read_from, parse_of}
 use Rattle.xc_text.specs.Steps.{are_few, is_call, is_file_of, has_few_calls, is_among, sized_by, valued_by, added, faulted, grained}
-use Rattle.xc_text.specs.Steps.{has_room_for_pipe, piped_at, piped}
+use Rattle.xc_text.specs.Steps.{has_room_for_pipe, piped_at, piped, has_room_for_pair, paired_at, paired}
 use Rattle.xc_text.specs.Steps.{filed, started, begun, stated_as, committed, ended_block, after, after_any}
 use Rattle.xc_text.specs.Steps.{after_tokens, after_bytes}
-use Rattle.xc_text.specs.Places.{Placed, placed, variable}
+use Rattle.xc_text.specs.Places.{Placed, placed, variable, placed_two}
 use Rattle.xc_text.specs.Shapes.{bare}
 use Rattle.xc_text.specs.Statements.{statement_line}
 use Rattle.xc_tokens.specs.Words.{spells, number, ident, name}
 use Rattle.xc_tokens.specs.Tokens.{Lexeme, Word, Literal, tokens_of}
-use Rattle.xc_text.proofs.Growing.{Grows, has_place, variable_grows, placed_grows}
+use Rattle.xc_text.proofs.Growing.{Grows, has_place, variable_grows, have_places, variables_grow, placed_grows}
 use Rattle.xc_text.proofs.Indexing.{distinct_more}
 
 -- how many transactions of the block under way have ended
@@ -57,8 +58,8 @@ IsBody body = count_by is_call body ≤ 256
 pub record IsOpening (p : OnePrologue) : Type 0 where
   pub few : length p.objects ≤ 4096
   pub fit : All IsOpenedFit p.objects
-  pub each : All IsFileOrPipe p.objects
   pub pipes : count_by is_pipe_line p.objects ≤ 64
+  pub pairs : count_by is_pair_line p.objects ≤ 32
   pub faults : All IsOneCall p.faults
   pub grain : IsGrain p.grain
 
@@ -120,8 +121,8 @@ opening-keeps =
           record {
             few = omega arith;
             fit = All-nil IsOpenedFit;
-            each = All-nil IsFileOrPipe;
             pipes = omega arith;
+            pairs = omega arith;
             faults = All-nil IsOneCall;
             grain = tt;
           };
@@ -206,8 +207,8 @@ added-keeps r file (Some bytes) few k =
       opening = record {
         few = rw length-append (omega (arith, leb-false _ _ room));
         fit = All-push IsOpenedFit r.objects (File file bytes) k.opening.fit few;
-        each = All-push IsFileOrPipe r.objects (File file bytes) k.opening.each tt;
         pipes = omega (arith, k.opening.pipes, pipes_of r.objects (File file bytes));
+        pairs = omega (arith, k.opening.pairs, pairs_of r.objects (File file bytes));
         faults = k.opening.faults;
         grain = k.opening.grain;
       };
@@ -245,8 +246,8 @@ piped_at-keeps r bytes p few within grows k =
       opening = record {
         few = rw length-append (omega (arith, ltb-true _ _ objects.0));
         fit = All-push IsOpenedFit r.objects (Pipe bytes) k.opening.fit few;
-        each = All-push IsFileOrPipe r.objects (Pipe bytes) k.opening.each tt;
         pipes = omega (arith, ltb-true _ _ objects.1, pipes_of r.objects (Pipe bytes));
+        pairs = omega (arith, k.opening.pairs, pairs_of r.objects (Pipe bytes));
         faults = k.opening.faults;
         grain = k.opening.grain;
       };
@@ -261,6 +262,47 @@ piped-keeps : (r : Said) (handle : List ℕ) (bytes : Option (List ℕ)) → IfS
 piped-keeps r handle None few k = tt
 piped-keeps r handle (Some bytes) few k =
     piped_at-keeps r bytes (variable r.names handle) few (has_place r.names handle) (variable_grows r.names handle) k
+
+-- places of variables, and two more of them
+All-push_two : (P : ℕ → Type 0) (places : List ℕ) (a b : ℕ) → All P places → P a → P b → All P (places ++ a ∷ b ∷ [])
+All-push_two P places a b all first second =
+    subst (All P) (append_assoc places (a ∷ []) (b ∷ [])) (All-push P (places ++ a ∷ []) b (All-push P places a all first) second)
+
+paired_at-keeps : (r : Said) (p : Placed (ℕ × ℕ)) → (p.1.0 < length p.0.variables) × (p.1.1 < length p.0.variables) → Grows r.names p.0
+    → IsSound r → Keeps (paired_at r p)
+paired_at-keeps r p within grows k =
+    cond_both (has_room_for_pair r.objects && are_few p.0) _ _ Keeps (λ room.
+    let parts = and_parts (has_room_for_pair r.objects) (are_few p.0) room in
+    let objects = and_parts (nat_lt (length r.objects) 4096) (nat_lt (count_by is_pair_line r.objects) 32) parts.0 in
+    let names = and_parts (nat_le (length p.0.variables) 256) (nat_le (length p.0.slots) 256) parts.1 in
+    let places = kept_within r.names p.0 r.handles grows k.each_handle in
+    record {
+      some_words = k.some_words;
+      few_words = k.few_words;
+      count = k.count;
+      named = k.named;
+      few_blocks = k.few_blocks;
+      distinct = k.distinct;
+      calls = k.calls;
+      body = k.body;
+      opening = record {
+        few = rw length-append (omega (arith, ltb-true _ _ objects.0));
+        fit = All-push IsOpenedFit r.objects Pair k.opening.fit tt;
+        pipes = omega (arith, k.opening.pipes, pipes_of r.objects Pair);
+        pairs = omega (arith, ltb-true _ _ objects.1, pairs_of r.objects Pair);
+        faults = k.opening.faults;
+        grain = k.opening.grain;
+      };
+      each_block = k.each_block;
+      few_variables = leb-true _ _ names.0;
+      few_slots = leb-true _ _ names.1;
+      handles = rw length-append (omega (arith, k.handles, pipes_of r.objects Pair, pairs_of r.objects Pair));
+      each_handle = All-push_two (λ v. v < length p.0.variables) r.handles p.1.0 p.1.1 places within.0 within.1;
+    }) (λ _. tt)
+
+paired-keeps : (r : Said) (first second : List ℕ) → IsSound r → Keeps (paired r first second)
+paired-keeps r first second k =
+    paired_at-keeps r (placed_two r.names first second) (have_places r.names first second) (variables_grow r.names first second) k
 
 faulted-keeps : (r : Said) (kind : Kind) (n : ℕ) → IsSound r → Keeps (faulted r kind n)
 faulted-keeps r kind n k =
@@ -277,8 +319,8 @@ faulted-keeps r kind n k =
       opening = record {
         few = k.opening.few;
         fit = k.opening.fit;
-        each = k.opening.each;
         pipes = k.opening.pipes;
+        pairs = k.opening.pairs;
         faults = All-push IsOneCall r.faults _ k.opening.faults (ltb-false _ _ counted, refl);
         grain = k.opening.grain;
       };
@@ -306,8 +348,8 @@ grained-keeps r n k =
       opening = record {
         few = k.opening.few;
         fit = k.opening.fit;
-        each = k.opening.each;
         pipes = k.opening.pipes;
+        pairs = k.opening.pairs;
         faults = k.opening.faults;
         grain = (ltb-false _ _ parts.0, ltb-false _ _ parts.1);
       };
@@ -451,6 +493,7 @@ after-keeps r (line.Words n) first k = sized-keeps r n k
 after-keeps r (line.Word at value) first k = valued-keeps r at value k
 after-keeps r (line.File file bytes) first k = filed-keeps r file bytes first k
 after-keeps r (line.Pipe handle bytes) first k = piped-keeps r handle bytes first k
+after-keeps r (line.Pair v w) first k = paired-keeps r v w k
 after-keeps r (line.Fault kind n) first k = faulted-keeps r kind n k
 after-keeps r (line.Grain n) first k = grained-keeps r n k
 after-keeps r (line.Job name) first k = started-keeps r name first k
@@ -493,6 +536,12 @@ pipe_fits (v ∷ literals) =
     fits_seen Prologue (λ (p : List ℕ × Unit {0}). line.Pipe p.0 (contents 4096 literals)) (both (ident v) (only_literals literals))
     (λ _. few_bytes 4096 literals)
 
+pair_fits : (rest : List Lexeme) → IfOk (pair_line rest) (IsFitLine Prologue)
+pair_fits [] = tt
+pair_fits (v ∷ []) = tt
+pair_fits (v ∷ w ∷ []) = fits_seen Prologue (λ (p : List ℕ × List ℕ). line.Pair p.0 p.1) (both (ident v) (ident w)) (λ _. tt)
+pair_fits (v ∷ w ∷ u ∷ ts) = tt
+
 fault_fits : (rest : List Lexeme) → IfOk (fault_line rest) (IsFitLine Prologue)
 fault_fits [] = tt
 fault_fits (k ∷ []) = tt
@@ -509,25 +558,27 @@ job_fits p [] outside = tt
 job_fits p (n ∷ []) outside = fits_seen p line.Job (ident n) (λ _. outside)
 job_fits p (n ∷ m ∷ ts) outside = tt
 
-prologue_fits : (rest : List Lexeme) (words word file pipe fault grain job : Bool) →
+prologue_fits : (rest : List Lexeme) (words word file pipe pair fault grain job : Bool) →
     IfOk (
     if words then words_line rest
     else if word then word_line rest
     else if file then file_line rest
     else if pipe then pipe_line rest
+    else if pair then pair_line rest
     else if fault then fault_line rest
     else if grain then grain_line rest
     else if job then job_line rest
     else Err UnknownLine
     ) (IsFitLine Prologue)
-prologue_fits rest true word file pipe fault grain job = words_fits rest
-prologue_fits rest false true file pipe fault grain job = word_fits rest
-prologue_fits rest false false true pipe fault grain job = file_fits rest
-prologue_fits rest false false false true fault grain job = pipe_fits rest
-prologue_fits rest false false false false true grain job = fault_fits rest
-prologue_fits rest false false false false false true job = grain_fits rest
-prologue_fits rest false false false false false false true = job_fits Prologue rest refl
-prologue_fits rest false false false false false false false = tt
+prologue_fits rest true word file pipe pair fault grain job = words_fits rest
+prologue_fits rest false true file pipe pair fault grain job = word_fits rest
+prologue_fits rest false false true pipe pair fault grain job = file_fits rest
+prologue_fits rest false false false true pair fault grain job = pipe_fits rest
+prologue_fits rest false false false false true fault grain job = pair_fits rest
+prologue_fits rest false false false false false true grain job = fault_fits rest
+prologue_fits rest false false false false false false true job = grain_fits rest
+prologue_fits rest false false false false false false false true = job_fits Prologue rest refl
+prologue_fits rest false false false false false false false false = tt
 
 between_fits : (rest : List Lexeme) (job : Bool) → IfOk (if job then job_line rest else Err UnknownLine) (IsFitLine Between)
 between_fits rest true = job_fits Between rest refl
@@ -547,7 +598,7 @@ transaction_fits p word rest false = fits_seen p line.Statement (statement_line 
 worded_fits : (p : Section) (word : List ℕ) (rest : List Lexeme) → IfOk (worded_line p word rest) (IsFitLine p)
 worded_fits Prologue word rest =
     prologue_fits rest (spells word (codes "words")) (spells word (codes "word")) (spells word (codes "file")) (spells word (codes "pipe"))
-    (spells word (codes "fault")) (spells word (codes "grain")) (spells word (codes "job"))
+    (spells word (codes "pair")) (spells word (codes "fault")) (spells word (codes "grain")) (spells word (codes "job"))
 worded_fits Between word rest = between_fits rest (spells word (codes "job"))
 worded_fits (Block name) word rest = block_fits (Block name) rest (spells word (codes "tx")) (spells word (codes "end"))
 worded_fits (Transaction name) word rest = transaction_fits (Transaction name) word rest (spells word (codes "commit"))
@@ -582,18 +633,13 @@ after_bytes-keeps r bytes k =
     then_keeps Any IsSound (tokens_of bytes) (λ (tokens : List Lexeme). after_tokens r tokens)
     (for_any Any (tokens_of bytes) (λ _. tt)) (λ tokens _. after_tokens-keeps r tokens k)) (λ _. tt)
 
-no_pair : (o : Opened) → IsFileOrPipe o → cond (is_pair_line o) 1 0 ≤ 0
-no_pair (File file bytes) is = omega arith
-no_pair (Pipe bytes) is = omega arith
-no_pair Pair is = absurd is
-
 of_lines : (p : OnePrologue) → IsOpening p → IsPrologue p
 of_lines p is =
     record {
       objects = is.few;
       contents = is.fit;
       pipes = is.pipes;
-      pairs = omega (arith, sum_by-le (λ o. cond (is_pair_line o) 1 0) 0 p.objects (λ k d lt. no_pair _ (is.each k d lt)));
+      pairs = is.pairs;
       grain = is.grain;
     }
 
@@ -608,7 +654,6 @@ script_of-keeps r outside k =
       jobs = jobs;
       bodies = refl;
       prologue = of_lines (prologue_of r) k.opening;
-      objects = k.opening.each;
       faults = k.opening.faults;
       each_block = k.each_block;
       few_variables = k.few_variables;

@@ -2,7 +2,7 @@
 use Rattle.std.specs.Prelude.{ℕ, List, map, Option, Some, None, Result, Err}
 use Rattle.xc_text.specs.declared.calls.TheConstants.{CALL_KINDS}
 use Rattle.xc_text.specs.declared.calls.CallKind.{CallKind}
-use Rattle.xc_text.specs.declared.calls.CallKind.TheVariants.{Word, Name, Handle, Pipe}
+use Rattle.xc_text.specs.declared.calls.CallKind.TheVariants.{Word, Name, Handle, Pipe, Pair}
 use Rattle.xc_text.specs.declared.calls.WordCall.{WordCall}
 use Rattle.xc_text.specs.declared.calls.WordCall.TheVariants as word
 use Rattle.xc_text.specs.declared.calls.NameCall.{NameCall}
@@ -11,10 +11,12 @@ use Rattle.xc_text.specs.declared.calls.HandleCall.{HandleCall}
 use Rattle.xc_text.specs.declared.calls.HandleCall.TheVariants as handled
 use Rattle.xc_text.specs.declared.calls.PipeCall.{PipeCall}
 use Rattle.xc_text.specs.declared.calls.PipeCall.TheVariants as piped
+use Rattle.xc_text.specs.declared.calls.PairCall.{PairCall}
+use Rattle.xc_text.specs.declared.calls.PairCall.TheVariants as paired
 use Rattle.xc_text.specs.declared.script.CallForm.TheVariants as form
 use Rattle.xc_text.specs.declared.script.Statement.TheVariants as statement
 use Rattle.xc_text.specs.Pieces.{data_of}
-use Rattle.xc_text.specs.Shapes.{alone, led, target, slot_ending, before_slot}
+use Rattle.xc_text.specs.Shapes.{alone, led, target, two_targets, slot_ending, before_slot}
 use Rattle.xc_text.specs.Named.{Term, Expression, Item, CallForm, Statement}
 use Rattle.xc_text.specs.Terms.{term, expression_of}
 use Rattle.xc_tokens.specs.declared.why.Why.{Why}
@@ -69,12 +71,19 @@ pipe_form piped.Read rest = seen (λ (p : HandleTermInto). form.ReadPipe p.0 p.1
 pipe_form piped.Write rest = seen (λ (p : HandleDataSlot). form.WritePipe p.0 p.1.0 p.1.1) (led ident (before_slot data_of) rest)
 pipe_form piped.Shutdown rest = seen (λ (p : NameAnd). form.Shutdown p.0 p.1) (led ident slot_ending rest)
 
+-- the call on a pair: nothing, `H` or `H D`, and behind them `-> V W`, `-> V` or `slot S` where that is wanted
+abbrev pub pair_form : PairCall → List Lexeme → Result CallForm Why
+pair_form paired.Make rest = seen form.Pair (two_targets rest)
+pair_form paired.Receive rest = seen (λ (p : NameAnd). form.Receive p.0 p.1) (led ident target rest)
+pair_form paired.Send rest = seen (λ (p : HandleDataSlot). form.Send p.0 p.1.0 p.1.1) (led ident (before_slot data_of) rest)
+
 -- the call of a kind that the tokens behind its word make
 abbrev pub form_of : CallKind → List Lexeme → Result CallForm Why
 form_of (Word call) rest = word_form call rest
 form_of (Name call) rest = name_form call rest
 form_of (Handle call) rest = handle_form call rest
 form_of (Pipe call) rest = pipe_form call rest
+form_of (Pair call) rest = pair_form call rest
 
 -- a call, where its word is one
 abbrev pub call_line : Option CallKind → List Lexeme → Result Statement Why

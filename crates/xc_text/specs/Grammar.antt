@@ -37,6 +37,11 @@ pipe_line [] = Err BadForm
 pipe_line (v ∷ literals) =
     seen (λ (p : List ℕ × Unit {0}). line.Pipe p.0 (contents 4096 literals)) (both (ident v) (only_literals literals))
 
+-- `pair V W`
+abbrev pub pair_line : List Lexeme → Result Line Why
+pair_line (v ∷ w ∷ []) = seen (λ (p : List ℕ × List ℕ). line.Pair p.0 p.1) (both (ident v) (ident w))
+pair_line _ = Err BadForm
+
 -- `fault KIND N`
 abbrev pub fault_line : List Lexeme → Result Line Why
 fault_line (k ∷ n ∷ []) = seen (λ (p : Kind × ℕ). line.Fault p.0 p.1) (both (kind k) (number n))
@@ -59,6 +64,7 @@ prologue_line word rest =
     else if spells word (codes "word") then word_line rest
     else if spells word (codes "file") then file_line rest
     else if spells word (codes "pipe") then pipe_line rest
+    else if spells word (codes "pair") then pair_line rest
     else if spells word (codes "fault") then fault_line rest
     else if spells word (codes "grain") then grain_line rest
     else if spells word (codes "job") then job_line rest

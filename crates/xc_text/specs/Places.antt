@@ -44,6 +44,10 @@ one f p = (p.0, f p.1)
 abbrev pub two : {A B C : Type 0} → (A → B → C) → Placed A → (Names → Placed B) → Placed C
 two f p behind = ((behind p.0).0, f p.1 (behind p.0).1)
 
+-- two variables, the first one first
+abbrev pub placed_two : Names → List ℕ → List ℕ → Placed (ℕ × ℕ)
+placed_two names v w = two (λ a b. (a, b)) (variable names v) (λ behind. variable behind w)
+
 -- a term
 abbrev pub placed_term : Names → named.Term → Placed Term
 placed_term names (Number n) = (names, Number n)
@@ -60,6 +64,11 @@ placed_expression names (Difference a b) = two Difference (placed_term names a) 
 abbrev pub placed_target : Names → Option (List ℕ) → Placed (Option ℕ)
 placed_target names (Some name) = one Some (variable names name)
 placed_target names None = (names, None)
+
+-- the variables that two handles go to
+abbrev pub placed_targets : Names → Option (List ℕ × List ℕ) → Placed (Option (ℕ × ℕ))
+placed_targets names (Some (v, w)) = one Some (placed_two names v w)
+placed_targets names None = (names, None)
 
 -- the slot that the end of a late call goes to
 abbrev pub placed_ending : Names → Option (List ℕ) → Placed (Option ℕ)
@@ -107,6 +116,10 @@ placed_form names (form.ReadPipe handle n into) =
 placed_form names (form.WritePipe handle items into) =
     two (λ p s. form.WritePipe p.0 p.1 s) (placed_written names handle items) (λ behind. placed_ending behind into)
 placed_form names (form.Shutdown handle into) = two form.Shutdown (variable names handle) (λ behind. placed_ending behind into)
+placed_form names (form.Pair into) = one form.Pair (placed_targets names into)
+placed_form names (form.Receive handle into) = two form.Receive (variable names handle) (λ behind. placed_target behind into)
+placed_form names (form.Send handle items into) =
+    two (λ p s. form.Send p.0 p.1 s) (placed_written names handle items) (λ behind. placed_ending behind into)
 
 -- a test of two terms
 abbrev pub placed_test : Names → named.Term → Test → named.Term → Placed Statement

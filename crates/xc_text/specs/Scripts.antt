@@ -5,7 +5,6 @@ use Rattle.std.specs.Cmp.Lexicographic.{pointwise}
 use Rattle.std.specs.List.{IsDistinct}
 use Rattle.xc_data.specs.declared.script.FaultLine.{FaultLine}
 use Rattle.xc_data.specs.declared.script.Opened.{Opened}
-use Rattle.xc_data.specs.declared.script.Opened.TheVariants.{File, Pipe, Pair}
 use Rattle.xc_data.specs.declared.script.Prologue.{Prologue}
 use Rattle.xc_data.specs.Limits.{IsPrologue, is_pipe_line, is_pair_line}
 use Rattle.xc_text.specs.declared.script.Block.{Block as OneBlock}
@@ -65,12 +64,6 @@ pub record IsBlock (b : OneBlock) : Type 0 where
   pub transactions : length b.transactions ≤ 1000
   pub calls : All (λ body. count_by is_call body ≤ 256) b.transactions
 
--- an object of a `file` or of a `pipe` line
-abbrev pub IsFileOrPipe : Opened → Type 0
-IsFileOrPipe (File name bytes) = Unit {0}
-IsFileOrPipe (Pipe bytes) = Unit {0}
-IsFileOrPipe Pair = ⊥
-
 -- how many handles objects have at the opening: a pipe has one, and a pair has two
 abbrev pub handle_count : List Opened → ℕ
 handle_count objects = count_by is_pipe_line objects + 2 * count_by is_pair_line objects
@@ -88,7 +81,6 @@ pub record IsScript (s : Script) : Type 0 where
   pub jobs : s.outline.jobs ≡ names_of s.blocks
   pub bodies : s.outline.bodies ≡ []
   pub prologue : IsPrologue s.outline.prologue
-  pub objects : All IsFileOrPipe s.outline.prologue.objects
   pub faults : All IsOneCall s.outline.prologue.faults
   pub each_block : All IsBlock s.blocks
   pub few_variables : length s.variables ≤ 256

@@ -27,6 +27,12 @@ target [] = Ok None
 target (arrow ∷ v ∷ []) = if is_sign arrow (codes "->") then seen Some (ident v) else Err BadForm
 target _ = Err BadForm
 
+-- nothing, or `-> V W`
+abbrev pub two_targets : List Lexeme → Result (Option (List ℕ × List ℕ)) Why
+two_targets [] = Ok None
+two_targets (arrow ∷ v ∷ w ∷ []) = if is_sign arrow (codes "->") then seen Some (both (ident v) (ident w)) else Err BadForm
+two_targets _ = Err BadForm
+
 -- nothing, or `slot S`
 abbrev pub slot_ending : List Lexeme → Result (Option (List ℕ)) Why
 slot_ending [] = Ok None

@@ -5,8 +5,8 @@ use Rattle.std.specs.List.{list_all, list_any}
 use Rattle.std.specs.Cmp.Lexicographic.{pointwise}
 use Rattle.xc_data.specs.declared.script.Kind.{Kind}
 use Rattle.xc_data.specs.declared.script.Opened.{Opened}
-use Rattle.xc_data.specs.declared.script.Opened.TheVariants.{File, Pipe}
-use Rattle.xc_data.specs.Limits.{is_pipe_line}
+use Rattle.xc_data.specs.declared.script.Opened.TheVariants.{File, Pipe, Pair}
+use Rattle.xc_data.specs.Limits.{is_pipe_line, is_pair_line}
 use Rattle.xc_text.specs.declared.script.Statement.TheVariants as statement
 use Rattle.xc_text.specs.declared.line.Line.{Line}
 use Rattle.xc_text.specs.declared.line.Line.TheVariants as line
@@ -18,7 +18,7 @@ use Rattle.xc_text.specs.Grammar.{line_of}
 use Rattle.xc_tokens.specs.Lines.{is_line_byte}
 use Rattle.xc_text.specs.Said.{Names, Said}
 use Rattle.xc_text.specs.Named.{Statement as NamedStatement}
-use Rattle.xc_text.specs.Places.{Placed, variable, placed}
+use Rattle.xc_text.specs.Places.{Placed, variable, placed_two, placed}
 use Rattle.xc_text.specs.Stated.{Statement}
 use Rattle.xc_text.specs.Sections.{block_in, transaction_in}
 use Rattle.xc_tokens.specs.Tokens.{Lexeme, tokens_of}
@@ -84,6 +84,21 @@ abbrev pub piped : Said → List ℕ → Option (List ℕ) → Result Said Why
 piped s name (Some bytes) = piped_at s bytes (variable s.names name)
 piped s name None = Err TooMany
 
+-- with a pair more there are at most 4,096 objects, and at most 32 pairs among them
+abbrev pub has_room_for_pair : List Opened → Bool
+has_room_for_pair objects = nat_lt (length objects) 4096 && nat_lt (count_by is_pair_line objects) 32
+
+-- a pair more, whose handles are in two variables, where the variables of the script stay few
+abbrev pub paired_at : Said → Placed (ℕ × ℕ) → Result Said Why
+paired_at s p =
+    if has_room_for_pair s.objects && are_few p.0 then
+    Ok (record s { objects = s.objects ++ Pair ∷ []; names = p.0; handles = s.handles ++ p.1.0 ∷ p.1.1 ∷ [] })
+    else Err TooMany
+
+-- a pair, whose side 0 has its handle in the first variable, and side 1 in the second
+abbrev pub paired : Said → List ℕ → List ℕ → Result Said Why
+paired s v w = paired_at s (placed_two s.names v w)
+
 -- a call of a kind fails, by its number from 1
 abbrev pub faulted : Said → Kind → ℕ → Result Said Why
 faulted s kind n =
@@ -142,6 +157,7 @@ after s (line.Words n) = sized_by s n
 after s (line.Word at value) = valued_by s at value
 after s (line.File name bytes) = filed s name bytes
 after s (line.Pipe name bytes) = piped s name bytes
+after s (line.Pair first second) = paired s first second
 after s (line.Fault kind n) = faulted s kind n
 after s (line.Grain n) = grained s n
 after s (line.Job name) = started s name

@@ -1,7 +1,7 @@
 //! Lines that are calls.
 
 ghost use Rattle.std.specs.Prelude.{◌≡◌, map};
-ghost use Rattle.xc_text.specs.Calls.{call_kinds, word_form, name_form, handle_form, pipe_form, form_of, call_line as call_said};
+ghost use Rattle.xc_text.specs.Calls.{call_kinds, word_form, name_form, handle_form, pipe_form, pair_form, form_of, call_line as call_said};
 ghost use Rattle.xc_text.specs.declared.calls.NameCall.TheVariants.{Rename};
 ghost use Rattle.xc_tokens.specs.Answers.{Gives};
 ghost use Rattle.xc_tokens.specs.ByWord.{by_word as found_by};
@@ -11,6 +11,7 @@ use crate::script::{CallForm, Statement};
 use crate::shapes::{
     handle_alone, handle_and_data, handle_and_slot, handle_and_term, handle_data_slot, handle_into,
     handle_term_into, name_and_slot, name_into, target, term_and_expression, term_into, two_names,
+    two_targets,
 };
 use std::alloc::Global;
 use xc_data::Boxed;
@@ -53,18 +54,27 @@ pub enum PipeCall {
     Shutdown,
 }
 
-/// The kinds of calls, which the first word of a line tells: on words, on names of files, through the handle of a file, and on
-/// pipes.
+/// The calls on socket pairs.
+#[derive(Clone, Copy)]
+pub enum PairCall {
+    Make,
+    Receive,
+    Send,
+}
+
+/// The kinds of calls, which the first word of a line tells: on words, on names of files, through the handle of a file, on
+/// pipes, and on socket pairs.
 #[derive(Clone, Copy)]
 pub enum CallKind {
     Word(WordCall),
     Name(NameCall),
     Handle(HandleCall),
     Pipe(PipeCall),
+    Pair(PairCall),
 }
 
 /// The words that lines begin with which are calls.
-const CALL_KINDS: [(&[u8], CallKind); 17] = [
+const CALL_KINDS: [(&[u8], CallKind); 20] = [
     (b"load", CallKind::Word(WordCall::Load)),
     (b"store", CallKind::Word(WordCall::Store)),
     (b"x_open", CallKind::Name(NameCall::Open)),
@@ -82,6 +92,9 @@ const CALL_KINDS: [(&[u8], CallKind); 17] = [
     (b"x_read_pipe", CallKind::Pipe(PipeCall::Read)),
     (b"x_write_pipe", CallKind::Pipe(PipeCall::Write)),
     (b"x_shutdown", CallKind::Pipe(PipeCall::Shutdown)),
+    (b"x_pair", CallKind::Pair(PairCall::Make)),
+    (b"x_recvmsg", CallKind::Pair(PairCall::Receive)),
+    (b"x_sendmsg", CallKind::Pair(PairCall::Send)),
 ];
 
 fn call_kind(word: &[u8]) -> Option<CallKind>
@@ -205,6 +218,28 @@ fn pipe_call<'a>(
     }
 }
 
+fn pair_call<'a>(
+    alloc: Global,
+    call: PairCall,
+    rest: &[Token<'a>],
+) -> Result<CallForm<IdentWord<'a>>, Stop>
+    ensures { Gives (λ form. form) result (pair_form call (map lexeme rest.now)) }
+{
+    match call {
+        PairCall::Make => Ok(CallForm::Pair {
+            into: two_targets(rest)?,
+        }),
+        PairCall::Receive => {
+            let (handle, into) = handle_into(rest)?;
+            Ok(CallForm::Receive { handle, into })
+        }
+        PairCall::Send => {
+            let (handle, (data, slot)) = handle_data_slot(alloc, rest)?;
+            Ok(CallForm::Send { handle, data, slot })
+        }
+    }
+}
+
 // The call of a kind that the tokens behind its word make.
 fn call_form<'a>(
     alloc: Global,
@@ -218,6 +253,7 @@ fn call_form<'a>(
         CallKind::Name(call) => name_call(alloc, call, rest),
         CallKind::Handle(call) => handle_call(alloc, call, rest),
         CallKind::Pipe(call) => pipe_call(alloc, call, rest),
+        CallKind::Pair(call) => pair_call(alloc, call, rest),
     }
 }
 

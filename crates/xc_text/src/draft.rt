@@ -224,6 +224,7 @@ impl Draft {
             Line::Word { at, value } => self.value(at, value),
             Line::File { name, bytes } => self.file(name, bytes),
             Line::Pipe { handle, bytes } => self.pipe(&handle, bytes),
+            Line::Pair { first, second } => self.pair(&first, &second),
             Line::Fault { kind, n } => self.fault(kind, n),
             Line::Grain(n) => self.set_grain(n),
             Line::Job(name) => self.start(name),

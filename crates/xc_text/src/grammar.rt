@@ -3,7 +3,7 @@
 ghost use Rattle.std.specs.Prelude.{◌≡◌, map};
 ghost use Rattle.xc_tokens.specs.Answers.{Gives};
 ghost use Rattle.xc_text.specs.Grammar.{words_line as words_said, word_line as word_said, file_line as file_said, job_line as job_said};
-ghost use Rattle.xc_text.specs.Grammar.{pipe_line as pipe_said, fault_line as fault_said, grain_line as grain_said};
+ghost use Rattle.xc_text.specs.Grammar.{pipe_line as pipe_said, pair_line as pair_said, fault_line as fault_said, grain_line as grain_said};
 ghost use Rattle.xc_text.specs.Grammar.{prologue_line as prologue_said, between_line as between_said};
 ghost use Rattle.xc_tokens.specs.Literals.{only_literals as literals_alone};
 ghost use Rattle.xc_tokens.specs.Views.{lexeme};
@@ -73,6 +73,18 @@ fn pipe_line<'a>(alloc: Global, tokens: &[Token<'a>]) -> Result<Line<'a>, Stop>
     }
 }
 
+fn pair_line<'a>(tokens: &[Token<'a>]) -> Result<Line<'a>, Why>
+    ensures { result ≡ pair_said (map lexeme tokens.now) }
+{
+    match tokens {
+        [first, second] => {
+            let (first, second) = both(ident_token(first), ident_token(second))?;
+            Ok(Line::Pair { first, second })
+        }
+        _ => Err(Why::BadForm),
+    }
+}
+
 fn job_line<'a>(tokens: &[Token<'a>]) -> Result<Line<'a>, Why>
     ensures { result ≡ job_said (map lexeme tokens.now) }
 {
@@ -118,6 +130,9 @@ pub fn prologue_line<'a>(alloc: Global, word: &[u8], rest: &[Token<'a>]) -> Resu
     }
     if spells(word, b"pipe") {
         return pipe_line(alloc, rest);
+    }
+    if spells(word, b"pair") {
+        return Ok(pair_line(rest)?);
     }
     if spells(word, b"fault") {
         return Ok(fault_line(rest)?);

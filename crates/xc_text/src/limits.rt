@@ -10,6 +10,8 @@ pub const FIRST_WORDS: u64 = 16;
 pub const MOST_OBJECTS: usize = 4096;
 /// Pipes among them.
 pub const MOST_PIPES: u32 = 64;
+/// Socket pairs among them.
+pub const MOST_PAIRS: u32 = 32;
 /// The bytes that a pipe opens with.
 pub const MOST_PIPE_BYTES: u32 = 4096;
 /// The grain of a host.

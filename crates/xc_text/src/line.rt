@@ -67,6 +67,11 @@ pub enum Line<'a> {
         handle: IdentWord<'a>,
         bytes: Option<Chunk>,
     },
+    /// A socket pair opens, and each job has the handles of its sides in two variables, side 0 in the first one.
+    Pair {
+        first: IdentWord<'a>,
+        second: IdentWord<'a>,
+    },
     /// The nth call of a kind fails.
     Fault {
         kind: Kind,

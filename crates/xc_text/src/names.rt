@@ -1,5 +1,5 @@
 ghost use Rattle.std.specs.Prelude.{◌≡◌, ◌++◌, ◌∷◌, [], length, IfOk, OnOk};
-ghost use Rattle.xc_text.specs.Places.{place_of, taken, variable, slot};
+ghost use Rattle.xc_text.specs.Places.{place_of, taken, variable, slot, placed_two};
 ghost use Rattle.xc_text.specs.Said.{no_names};
 ghost use Rattle.xc_text.specs.Steps.{are_few};
 
@@ -90,6 +90,20 @@ impl Names {
         ensures at { IfOk result (λ at. at ≡ (variable self.old name.now).1) }
     {
         narrow(take(&mut self.variables, name)?)
+    }
+
+    /// The places of two variables, the first one first.
+    pub fn two_variables(
+        &mut self,
+        first: &IdentWord,
+        second: &IdentWord,
+    ) -> Result<(Place, Place), NoMemory>
+        ensures names { OnOk result (self.new ≡ (placed_two self.old first.now second.now).0) }
+        ensures at { IfOk result (λ at. at ≡ (placed_two self.old first.now second.now).1) }
+    {
+        let first = self.variable(first)?;
+        let second = self.variable(second)?;
+        Ok((first, second))
     }
 
     /// The place of a slot.

@@ -3,8 +3,9 @@
 ghost use Rattle.std.specs.Prelude.{◌≡◌, IfOk, OnOk};
 ghost use Rattle.xc_text.specs.declared.script.CallForm.TheVariants as call;
 ghost use Rattle.xc_text.specs.declared.script.Statement.TheVariants as statement;
-ghost use Rattle.xc_text.specs.Places.{placed_term, placed_expression, placed_target, placed_ending, placed_item, placed_data};
-ghost use Rattle.xc_text.specs.Places.{placed_term_into, placed_written, placed_form, placed_test, placed as placed_statement};
+ghost use Rattle.xc_text.specs.Places.{placed_term, placed_expression, placed_target, placed_targets, placed_ending};
+ghost use Rattle.xc_text.specs.Places.{placed_item, placed_data, placed_term_into, placed_written, placed_form, placed_test};
+ghost use Rattle.xc_text.specs.Places.{placed as placed_statement};
 
 use crate::names::Names;
 use crate::script::{CallForm, Data, Expression, Item, Place, Statement, Term, Test};
@@ -49,6 +50,19 @@ fn place_target(names: &mut Names, into: &Option<IdentWord>) -> Result<Option<Pl
 {
     match into {
         Some(name) => Ok(Some(names.variable(name)?)),
+        None => Ok(None),
+    }
+}
+
+fn place_targets(
+    names: &mut Names,
+    into: &Option<(IdentWord, IdentWord)>,
+) -> Result<Option<(Place, Place)>, NoMemory>
+    ensures names { OnOk result (names.new ≡ (placed_targets names.old into.now).0) }
+    ensures placed { IfOk result (λ placed. placed ≡ (placed_targets names.old into.now).1) }
+{
+    match into {
+        Some((first, second)) => Ok(Some(names.two_variables(first, second)?)),
         None => Ok(None),
     }
 }
@@ -340,6 +354,48 @@ fn place_shutdown(
     Ok(CallForm::Shutdown { handle, slot })
 }
 
+#[inline(never)]
+fn place_pair(
+    names: &mut Names,
+    into: &Option<(IdentWord, IdentWord)>,
+) -> Result<CallForm<Place>, NoMemory>
+    ensures names { OnOk result (names.new ≡ (placed_form names.old (call.Pair into.now)).0) }
+    ensures placed { IfOk result (λ placed. placed ≡ (placed_form names.old (call.Pair into.now)).1) }
+{
+    let into = place_targets(names, into)?;
+    Ok(CallForm::Pair { into })
+}
+
+#[inline(never)]
+fn place_receive(
+    names: &mut Names,
+    handle: &IdentWord,
+    into: &Option<IdentWord>,
+) -> Result<CallForm<Place>, NoMemory>
+    ensures names { OnOk result (names.new ≡ (placed_form names.old (call.Receive handle.now into.now)).0) }
+    ensures placed { IfOk result (λ placed. placed ≡ (placed_form names.old (call.Receive handle.now into.now)).1) }
+{
+    let handle = names.variable(handle)?;
+    let into = place_target(names, into)?;
+    Ok(CallForm::Receive { handle, into })
+}
+
+#[inline(never)]
+fn place_send(
+    alloc: Global,
+    names: &mut Names,
+    handle: &IdentWord,
+    items: &Data<IdentWord>,
+    slot: &Option<IdentWord>,
+) -> Result<CallForm<Place>, NoMemory>
+    ensures names { OnOk result (names.new ≡ (placed_form names.old (call.Send handle.now items.now slot.now)).0) }
+    ensures placed { IfOk result (λ placed. placed ≡ (placed_form names.old (call.Send handle.now items.now slot.now)).1) }
+{
+    let (handle, data) = place_written(alloc, names, handle, items)?;
+    let slot = place_ending(names, slot)?;
+    Ok(CallForm::Send { handle, data, slot })
+}
+
 // The form with the places of its variables and slots, read or written; those that are new take the next ones.
 fn place_form(
     alloc: Global,
@@ -369,6 +425,9 @@ fn place_form(
             place_write_pipe(alloc, names, handle, data, slot)
         }
         CallForm::Shutdown { handle, slot } => place_shutdown(names, handle, slot),
+        CallForm::Pair { into } => place_pair(names, into),
+        CallForm::Receive { handle, into } => place_receive(names, handle, into),
+        CallForm::Send { handle, data, slot } => place_send(alloc, names, handle, data, slot),
     }
 }
 

@@ -129,6 +129,21 @@ pub enum CallForm<N> {
         handle: N,
         slot: Option<N>,
     },
+    /// Makes a socket pair. Two variables take the handles of its sides where they are named.
+    Pair {
+        into: Option<(N, N)>,
+    },
+    /// Takes the first message of the side whose handle is in a variable.
+    Receive {
+        handle: N,
+        into: Option<N>,
+    },
+    /// Sends bytes as one message from the side whose handle is in a variable, at the commit.
+    Send {
+        handle: N,
+        data: Data<N>,
+        slot: Option<N>,
+    },
 }
 
 /// A line of a transaction between its `tx` and its `commit`.

@@ -3,7 +3,7 @@
 ghost use Rattle.std.specs.Prelude.{◌≡◌, ◌∷◌, [], map};
 ghost use Rattle.xc_text.specs.Pieces.{data_of};
 ghost use Rattle.xc_text.specs.Shapes.{bare as bare_said, alone, led, target as target_said, slot_ending as slot_ending_said};
-ghost use Rattle.xc_text.specs.Shapes.{before_slot, parted as parted_said};
+ghost use Rattle.xc_text.specs.Shapes.{before_slot, parted as parted_said, two_targets as two_targets_said};
 ghost use Rattle.xc_text.specs.Terms.{term as term_said, expression_of};
 ghost use Rattle.xc_tokens.specs.Answers.{Gives};
 ghost use Rattle.xc_tokens.specs.Views.{lexeme};
@@ -42,6 +42,30 @@ pub fn target<'a>(tokens: &[Token<'a>]) -> Result<Option<IdentWord<'a>>, Why>
     match tokens {
         [] => Ok(None),
         [arrow, into] => target_in(arrow, into),
+        _ => Err(Why::BadForm),
+    }
+}
+
+fn two_targets_in<'a>(
+    arrow: &Token,
+    first: &Token<'a>,
+    second: &Token<'a>,
+) -> Result<Option<(IdentWord<'a>, IdentWord<'a>)>, Why>
+    ensures { result ≡ two_targets_said (lexeme arrow.now ∷ lexeme first.now ∷ lexeme second.now ∷ []) }
+{
+    if !is_sign(arrow, b"->") {
+        return Err(Why::BadForm);
+    }
+    Ok(Some(both(ident_token(first), ident_token(second))?))
+}
+
+/// Nothing, or `-> V W`
+pub fn two_targets<'a>(tokens: &[Token<'a>]) -> Result<Option<(IdentWord<'a>, IdentWord<'a>)>, Why>
+    ensures { result ≡ two_targets_said (map lexeme tokens.now) }
+{
+    match tokens {
+        [] => Ok(None),
+        [arrow, first, second] => two_targets_in(arrow, first, second),
         _ => Err(Why::BadForm),
     }
 }

@@ -20,6 +20,7 @@ pub mod Lefts
 pub mod Lists
 pub mod Orders
 pub mod Progressing
+pub mod Sided
 pub mod SpokenClaims
 pub mod SpokenLists
 pub mod SpokenRows

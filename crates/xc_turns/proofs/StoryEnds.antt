@@ -1,11 +1,12 @@
 -- A transaction enters the journal, and its job goes on behind it.
 use Rattle.std.proofs.Common.{◌≡◌, ℕ, ◌+◌, ◌≤◌, List, [], ◌∷◌, ◌++◌, length, zero, suc, refl, ap, ap₂, sym, ◌∙◌, subst, arith, length-append, length-set}
-use Rattle.std.specs.Prelude.{IsPermutation, Option, map, slice_get, slice_set, unwrap_or}
+use Rattle.std.specs.Prelude.{All, IsPermutation, Option, map, slice_get, slice_set, unwrap_or}
 use Rattle.std.specs.declared.option.Option.TheVariants.{None, Some}
 use Rattle.std.proofs.lemmas.List.Sorted.{length_permutation}
 use Rattle.xc_data.specs.declared.entry.Cause.{Cause}
 use Rattle.xc_data.specs.declared.entry.Cause.TheVariants as cause
 use Rattle.xc_data.specs.declared.entry.Entry.{Entry}
+use Rattle.xc_data.specs.Private.{IsSided}
 use Rattle.xc_world.specs.World.{beginning}
 use Rattle.xc_script.specs.Ask.{Job, Variables, Walk}
 use Rattle.xc_script.specs.Position.{at_begin}
@@ -86,6 +87,7 @@ committed_told s begun entered led f job tx active commits count told =
     record {
       block = told.block;
       fresh = refl;
+      sided = under.sided;
       since = omega arith;
       attempts = (refl, refl);
       few = omega arith;
@@ -94,10 +96,10 @@ committed_told s begun entered led f job tx active commits count told =
 
 -- and the jobs that it started
 pub started_told : (s : Setting) (begun entered led : ℕ) (starter : Job) (behind : SeenJob) (blocks : List (List ℕ)) → led ≡ entered
-    → behind.me ≡ beginning behind.me.places → behind.place.variables ≡ starter.variables
+    → behind.me ≡ beginning behind.me.places → All IsSided behind.me.places → behind.place.variables ≡ starter.variables
     → AreJobsTold s begun (entered + 1) (map (progress_started s.script starter (led + 1)) blocks) (map (started_job s.script behind) blocks)
-started_told s begun entered led starter behind [] count fresh same at f job got there = cc got
-started_told s begun entered led starter behind (block ∷ blocks) count fresh same zero f job got there =
+started_told s begun entered led starter behind [] count fresh sided same at f job got there = cc got
+started_told s begun entered led starter behind (block ∷ blocks) count fresh sided same zero f job got there =
     let g = progress_started s.script starter (led + 1) block in
     let mine = started_job s.script behind block in
     let is_f : g ≡ f = cc got in
@@ -105,14 +107,15 @@ started_told s begun entered led starter behind (block ∷ blocks) count fresh s
     let told : IsJobTold s begun (entered + 1) g mine = record {
       block = refl;
       fresh = fresh;
+      sided = sided;
       since = omega arith;
       attempts = (refl, refl);
       few = omega arith;
       doing = (refl, ap (λ variables. at_begin (started_from s.script variables block)) same);
     } in
     subst (λ h. IsJobTold s begun (entered + 1) h job) is_f (subst (IsJobTold s begun (entered + 1) g) is_job told)
-started_told s begun entered led starter behind (block ∷ blocks) count fresh same (suc at) f job got there =
-    started_told s begun entered led starter behind blocks count fresh same at f job got there
+started_told s begun entered led starter behind (block ∷ blocks) count fresh sided same (suc at) f job got there =
+    started_told s begun entered led starter behind blocks count fresh sided same at f job got there
 
 -- the same attempts
 attempts_same : (f g : Following) (o : Option Attempts) → g.first ≡ f.first → g.failed ≡ f.failed → AreAttempts f o → AreAttempts g o
@@ -130,6 +133,7 @@ asked_told s begun entered led f job tx e count under told =
     record {
       block = told.block;
       fresh = told.fresh;
+      sided = told.sided;
       since = omega arith;
       attempts = (refl, refl);
       few = omega arith;
@@ -145,6 +149,7 @@ wanted_told s begun entered led f job tx e count under told =
     record {
       block = told.block;
       fresh = told.fresh;
+      sided = told.sided;
       since = omega arith;
       attempts = attempts_same f g job.attempts refl refl told.attempts;
       few = told.few;
@@ -174,6 +179,7 @@ tried_told s begun entered led f job tx c count under told =
     record {
       block = told.block;
       fresh = told.fresh;
+      sided = told.sided;
       since = omega arith;
       attempts = (ap Some (sym under.rank), longer ∙ ap (λ n. n + 1) (attempts_count f job.attempts told.attempts), omega arith, f.failed, refl);
       few = let lt = under.attempts in omega arith;

@@ -70,6 +70,7 @@ told_later s begun begun' entered entered' f job le longer told =
     record {
       block = told.block;
       fresh = told.fresh;
+      sided = told.sided;
       since = let since = told.since in omega arith;
       attempts = told.attempts;
       few = told.few;

@@ -1,6 +1,6 @@
 -- Each row of the table that enters nothing goes on with its job's story.
 use Rattle.std.proofs.Common.{◌≡◌, ℕ, ◌+◌, ◌<◌, ◌≤◌, false, List, [], ◌∷◌, ◌++◌, length, refl, ap, sym, ◌∙◌, subst, arith, length-append}
-use Rattle.std.specs.Prelude.{IsSome, Option, unwrap_or}
+use Rattle.std.specs.Prelude.{All, IsSome, Option, unwrap_or}
 use Rattle.std.specs.declared.option.Option.TheVariants.{None, Some}
 use Rattle.xc_data.specs.declared.call.Call.{Call}
 use Rattle.xc_data.specs.declared.call.LateEnd.{LateEnd}
@@ -9,6 +9,7 @@ use Rattle.xc_data.specs.declared.claim.Claim.{Claim}
 use Rattle.xc_data.specs.declared.entry.Cause.{Cause}
 use Rattle.xc_data.specs.declared.entry.JobEnd.{JobEnd}
 use Rattle.xc_data.specs.declared.entry.JobEnd.TheVariants as job_end
+use Rattle.xc_data.specs.Private.{IsSided}
 use Rattle.xc_data.specs.declared.private.Private.{Private}
 use Rattle.xc_data.specs.declared.undo.Undo.{Undo}
 use Rattle.xc_data.specs.declared.undo.UndoEnd.{UndoEnd}
@@ -16,6 +17,7 @@ use Rattle.xc_compensate.specs.Records.{Records, way_of}
 use Rattle.xc_script.specs.declared.ask.Ask.TheVariants as ask
 use Rattle.xc_script.specs.Ask.{Walk, answered, all_answered, asks, walk_from}
 use Rattle.xc_script.specs.Position.{Position, at_begin, walk_of, IsSettled}
+use Rattle.xc_world.specs.After.{IsMeAfter}
 use Rattle.xc_world.specs.World.{World, beginning}
 use Rattle.xc_world.specs.Ends.{AreLegal, IsLegalEnd}
 use Rattle.xc_story.specs.declared.phase.Attempts.{Attempts}
@@ -30,6 +32,7 @@ use Rattle.xc_story.specs.Rows.{new_tx, noting, with_tx}
 use Rattle.xc_story.specs.Told.{AreAttempts, IsDoing, IsInPhase, IsCommitting, IsJobTold, IsRunning, IsStanding, IsUndoing, IsUnderway}
 use Rattle.xc_turns.proofs.StoryAsks.{answered-more, asks-more, asks-count, in_time-more}
 use Rattle.xc_turns.proofs.LateCounts.{late-more}
+use Rattle.xc_turns.proofs.Sided.{sided_after}
 
 -- ---- an idle job
 -- the attempts that the journal tells are as many as the job counts
@@ -68,6 +71,7 @@ ended_told s now entered f job end idle ending told =
     record {
       block = told.block;
       fresh = told.fresh;
+      sided = told.sided;
       since = told.since;
       attempts = told.attempts;
       few = told.few;
@@ -78,7 +82,15 @@ ended_told s now entered f job end idle ending told =
 pub waiting_told : (s : Setting) (begun entered : ℕ) (f : Following) (job : SeenJob) → IsJobTold s begun entered f job
     → IsJobTold s begun entered f (waiting job)
 waiting_told s begun entered f job told =
-    record { block = told.block; fresh = told.fresh; since = told.since; attempts = told.attempts; few = told.few; doing = waiting_doing job.doing told.doing }
+    record {
+      block = told.block;
+      fresh = told.fresh;
+      sided = told.sided;
+      since = told.since;
+      attempts = told.attempts;
+      few = told.few;
+      doing = waiting_doing job.doing told.doing;
+    }
   where
     waiting_doing : (d : Doing) → IsDoing s begun f job d → IsDoing s begun f (waiting job) d
     waiting_doing Idle h = h
@@ -88,10 +100,10 @@ waiting_told s begun entered f job told =
 
 -- a transaction that begins
 begun_underway : (s : Setting) (now : Now) (f : Following) (job : SeenJob) → IsReady s now job → AreAttempts f job.attempts
-    → f.starved ≡ false → job.place ≡ at_begin f.job → f.since ≤ length now.journal → job.me ≡ beginning job.me.places
+    → f.starved ≡ false → job.place ≡ at_begin f.job → f.since ≤ length now.journal → job.me ≡ beginning job.me.places → All IsSided job.me.places
     → IsUnderway s f (record job.place { begun = job.place.variables })
     (new_tx (begun_count now + 1) (rank_of job.attempts (begun_count now + 1)) (length now.journal) job.me)
-begun_underway s now f job ready are goes place since fresh =
+begun_underway s now f job ready are goes place since fresh sided =
     let none : job.me.stored ≡ 0 = ap (λ (m : Private). m.stored) fresh in
     record {
       goes_on = goes;
@@ -108,6 +120,7 @@ begun_underway s now f job ready are goes place since fresh =
       kept = refl;
       in_time = refl;
       stored = omega arith;
+      sided = sided;
       phase = record { ahead = ap (λ (p : Position). walk_of s.script (record p { begun = p.variables })) place; none = refl; no_ends = refl };
     }
 
@@ -119,10 +132,11 @@ begun_told s now f job idle ready told =
     record {
       block = told.block;
       fresh = told.fresh;
+      sided = told.sided;
       since = told.since;
       attempts = told.attempts;
       few = told.few;
-      doing = begun_underway s now f job ready told.attempts goes place told.since told.fresh;
+      doing = begun_underway s now f job ready told.attempts goes place told.since told.fresh told.sided;
     }
 
 -- ---- a job with an active transaction that stays active
@@ -134,6 +148,7 @@ active_told s begun entered f job place tx next active moves told =
     record {
       block = told.block;
       fresh = told.fresh;
+      sided = told.sided;
       since = told.since;
       attempts = told.attempts;
       few = told.few;
@@ -154,8 +169,9 @@ pub called_underway : (w : World) (s : Setting) (f : Following) (old new : Posit
     (parts : Parts) (made : List Undo)
     → tx.phase ≡ Running → asks (walk_of s.script old) ≡ ask.Call call → IsSameBegin old new → walk_of s.script new ≡ answered (walk_of s.script old) reply
     → IsReplyInTime tx.me tx.number call reply → parts.undo ≡ record tx.undo { pending = tx.undo.pending ++ made }
-    → parts.me.stored ≤ 16384 → IsUnderway s f old tx → IsUnderway s f new (noting tx call reply claims parts)
-called_underway w s f old new tx call reply claims parts made runs asked same behind in_time undo stored under =
+    → parts.me.stored ≤ 16384 → IsMeAfter tx.number call reply tx.me parts.me → IsUnderway s f old tx
+    → IsUnderway s f new (noting tx call reply claims parts)
+called_underway w s f old new tx call reply claims parts made runs asked same behind in_time undo stored after under =
     let running = running_phase s f old tx runs under in
     let begin = walk_from s.script f.job in
     let is : asks (all_answered begin tx.replies) ≡ ask.Call call = ap asks (sym running.ahead) ∙ asked in
@@ -176,6 +192,7 @@ called_underway w s f old new tx call reply claims parts made runs asked same be
       in_time = in_time-more tx.calls tx.replies call reply
           (record { kept = λ waiting. (tx.me, tx.number, in_time.kept waiting); now = in_time.now }) under.in_time;
       stored = stored;
+      sided = sided_after tx.number call tx.me reply parts.me.places after.places under.sided;
       phase = subst (IsInPhase s f new (noting tx call reply claims parts)) (sym runs) phase;
     }
 
@@ -197,6 +214,7 @@ back_underway s f old new tx c undo held ended runs same caused under =
       kept = under.kept;
       in_time = under.in_time;
       stored = under.stored;
+      sided = under.sided;
       phase = record {
         caused = caused (ap asks (sym running.ahead));
         legal = subst (λ ends. AreLegal s.rules.undo_tries (length undo.pending + 1) ends) (sym (ended ∙ running.none)) tt;
@@ -221,6 +239,7 @@ same_underway s f old new tx runs same under =
       kept = under.kept;
       in_time = under.in_time;
       stored = under.stored;
+      sided = under.sided;
       phase = subst (IsInPhase s f new tx) (sym runs) phase;
     }
 
@@ -240,6 +259,7 @@ commits_underway s f old new tx runs same settled asked under =
       kept = under.kept;
       in_time = under.in_time;
       stored = under.stored;
+      sided = under.sided;
       phase = record {
         ahead = same.walk ∙ running.ahead;
         asked = ap asks same.walk ∙ asked;
@@ -273,6 +293,7 @@ ended_underway s f place tx end commits some under =
       kept = under.kept;
       in_time = under.in_time;
       stored = under.stored;
+      sided = under.sided;
       phase = subst (IsInPhase s f place next) (sym commits) phase;
     }
 
@@ -300,6 +321,7 @@ tried_underway s f place tx c older u end undoes newest legal under =
       kept = under.kept;
       in_time = under.in_time;
       stored = under.stored;
+      sided = under.sided;
       phase = subst (IsInPhase s f place next) (sym undoes) phase;
     }
 
@@ -308,4 +330,4 @@ pub starved_told : (s : Setting) (begun entered : ℕ) (f : Following) (job : Se
     → IsJobTold s begun entered f (record job { doing = Ended job_end.NoMemory })
 starved_told s begun entered f job starved told =
     let was = subst (IsDoing s begun f job) starved told.doing in
-    record { block = told.block; fresh = told.fresh; since = told.since; attempts = told.attempts; few = told.few; doing = was.1 }
+    record { block = told.block; fresh = told.fresh; sided = told.sided; since = told.since; attempts = told.attempts; few = told.few; doing = was.1 }

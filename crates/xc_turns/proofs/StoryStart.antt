@@ -20,6 +20,7 @@ use Rattle.xc_story.specs.Spoken.{AreSpoken}
 use Rattle.xc_story.specs.Told.{AreBegins, AreTold, IsJobTold, active_begin, active_parts, reading}
 use Rattle.xc_story.specs.Started.{starting}
 use Rattle.xc_turns.proofs.Jobs.{none_active, opened_rests}
+use Rattle.xc_turns.proofs.Sided.{opened_sided}
 
 -- a job of a script that hasn't begun
 abbrev opened_following : Script → List ℕ → Following
@@ -43,6 +44,7 @@ opened_told s begun entered (name ∷ names) zero f job got_f got =
     let told : IsJobTold s begun entered (opened_following s.script name) (opened_job s.script name) = record {
       block = refl;
       fresh = refl;
+      sided = opened_sided s.script.outline;
       since = omega arith;
       attempts = (refl, refl);
       few = omega arith;

@@ -123,7 +123,7 @@ module _ (s : Setting) (at : ℕ) (old new : Now) (job : SeenJob) (b : Before s 
   called_row tx call active runs asked row =
       active_row row.place tx (noting tx call row.reply (claims_at old tx call) row.parts) active refl
       (λ f under. called_underway (world_of old.contents) s f job.place row.place tx call row.reply (claims_at old tx call) row.parts row.made runs asked
-      row.begin row.walk row.in_time row.undo row.stored under)
+      row.begin row.walk row.in_time row.undo row.stored row.after under)
       (ap (λ (n : Now). n.journal) row.behind) (ap (λ (n : Now). n.jobs) row.behind)
 
   conflict_row : (tx : SeenTx) (call : Call) → job.doing ≡ Active tx → tx.phase ≡ Running → asked_at s job.place ≡ ask.Call call
@@ -244,7 +244,8 @@ module _ (s : Setting) (at : ℕ) (old new : Now) (job : SeenJob) (b : Before s 
       (ap active_in active) refl refl got (commit_leads s.script p f at tx got under.kept)
       (length-map blocks (progress_started s.script starter (p.entered + 1)) ∙ sym (length-map blocks (started_job s.script (behind_commit job tx))))
       (started_idle s.script (behind_commit job tx) blocks)
-      (started_told s (begun_count old) (length old.journal) p.entered starter (behind_commit job tx) blocks (entered-all s.script old.journal) refl variables)
+      (started_told s (begun_count old) (length old.journal) p.entered starter (behind_commit job tx) blocks (entered-all s.script old.journal) refl gone.sided
+      variables)
       (commit_true s (length old.words) p f at job.place tx got commits none under (began_by_now tx active) (replies_said tx active)
       (λ t. b.played t tx (is_active tx active)))
       gone b.told)

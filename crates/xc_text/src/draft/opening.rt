@@ -4,7 +4,7 @@ ghost use Rattle.std.specs.Prelude.{◌≡◌, false, Some};
 ghost use Rattle.std.specs.List.{list_any};
 ghost use Rattle.xc_tokens.specs.Answers.{Gives};
 ghost use Rattle.xc_text.specs.Places.{variable};
-ghost use Rattle.xc_text.specs.Steps.{is_file_of, sized_by, valued_by, filed, added, piped, piped_at, faulted, grained};
+ghost use Rattle.xc_text.specs.Steps.{is_file_of, sized_by, valued_by, filed, added, piped, piped_at, paired, faulted, grained};
 
 use crate::draft::{Draft, zeros};
 use crate::limits::{MOST_GRAIN, MOST_OBJECTS, MOST_WORDS};
@@ -80,6 +80,19 @@ impl Draft {
             Some(bytes) => self.add_pipe(handle, bytes),
             None => Err(Stop::Refused(Why::TooMany)),
         }
+    }
+
+    pub(super) fn pair(&mut self, first: &IdentWord, second: &IdentWord) -> Result<(), Stop>
+        ensures { Gives (λ _. self.new) result (paired self.old first.now second.now) }
+    {
+        let (first, second) = self.names.two_variables(first, second)?;
+        if !self.objects.has_room_for_pair() || !self.names.are_few() {
+            return Err(Stop::Refused(Why::TooMany));
+        }
+        self.objects.push_pair()?;
+        self.handles.push(first)?;
+        self.handles.push(second)?;
+        Ok(())
     }
 
     pub(super) fn fault(&mut self, kind: Kind, n: u64) -> Result<(), Stop>

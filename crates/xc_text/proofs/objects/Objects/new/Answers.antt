@@ -3,4 +3,4 @@ use Rattle.xc_text.proofs.FilesByName.{no_names}
 use Rattle.xc_text.proofs.objects.Objects.new.Goals as goal
 
 pub invariant_of-result : goal.invariant_of-result
-invariant_of-result c = rw (c.new-2.ensures, c.new.ensures) (no_names, refl)
+invariant_of-result c = rw (c.new-2.ensures, c.new.ensures) (no_names, refl, refl)
