@@ -23,14 +23,13 @@ use Rattle.xc_deferred.specs.Queue.{Queue}
 use Rattle.xc_file.specs.Calls.{Acts, AreRecorded, CallState, DidPart, IsFileCall, Moment, StepsAlone}
 use Rattle.xc_file.specs.Kept.{IsKept}
 use Rattle.xc_file.proofs.FileCalls.{alone_call}
-use Rattle.xc_data.specs.Private.{place_of}
 use Rattle.xc_host.specs.Contents.{contents_of, with_contents, world_of}
 use Rattle.xc_host.specs.Fronted.{Fronted, before as in_front, fronted}
 use Rattle.xc_host.specs.Kept.{KeepsData, with_kept}
 use Rattle.xc_host.specs.Model.{HostModel}
 use Rattle.xc_host.specs.Uses.{CallsOf, Uses}
 use Rattle.xc_pipe.specs.Deferring.{IsKeptWith}
-use Rattle.xc_pipe.specs.Reading.{IsPipeIn, Notes}
+use Rattle.xc_pipe.specs.Reading.{Notes}
 use Rattle.xc_host.proofs.Called.{unused}
 use Rattle.xc_data.specs.declared.script.Kind.{Kind}
 use Rattle.xc_script.specs.declared.ask.Ask.TheVariants as ask
@@ -51,11 +50,12 @@ use Rattle.xc_world.specs.Trail.{recorded}
 use Rattle.xc_story.specs.Rows.{Parts, DoesIn, DoesPartIn, IsReplyInTime, StopsAt, parts_of, seen, stored_by}
 use Rattle.xc_story.specs.Seen.{SeenTx, queue_of, with_queue}
 use Rattle.xc_story.specs.WordCalls.{IsWordStep, is_word_call, word_reply, words_after}
-use Rattle.xc_station.specs.Acting.{Acting, HasActed, HasDone, LeavesOff, StopsRead, leaving, told_between, told_of, with_parts}
+use Rattle.xc_station.specs.Acting.{Acting, HasActed, HasDone, IsLentFor, IsSidedFor, LeavesOff, StopsTaking, leaving, told_between, told_of}
+use Rattle.xc_station.specs.Acting.{with_parts}
 use Rattle.xc_station.specs.Lent.{IsBacked}
 use Rattle.xc_station.proofs.Backed.{keeps_called, keeps_part}
 use Rattle.xc_station.proofs.Lent.{acts_kept, kept_again, kept_of, part_kept, recorded_there}
-use Rattle.xc_station.proofs.PipeReads.{IsReadStep, PipeRead, read_returns}
+use Rattle.xc_station.proofs.Takings.{IsTakingStep, Taking, taking_returns}
 use Rattle.xc_station.proofs.Notes.{keeps_itself}
 use Rattle.xc_station.proofs.WordActs.{append_nil, still_words, no_stores, no_value, word-act, word-after, word-checked, word-fine, word-quiet}
 use Rattle.xc_station.proofs.WordActs.{word-trail, word-uses}
@@ -308,14 +308,14 @@ module _ {H : Type 0} (model : HostModel H) (c : Call) (old new : Acting H) (oth
         contents = λ tells. pipe_part untaken k.made (k.memory.effect tells);
       }
 
--- a new pipe is made, or memory was wanting
-pub made_acted : {H : Type 0} (model : HostModel H) (c : Call) (old new : Acting H) (me : Private) (r : Result Reply NoMemory) → me ≡ old.tx.me
-    → c ≡ call.XPipe → IsFileCall (fronted model) call.XPipe (record (calling_front old) { me = me }) (calling_front new) r
+-- a call on a pipe or a pair that takes nothing and isn't kept is done, or memory was wanting
+pub made_acted : {H : Type 0} (model : HostModel H) (c d : Call) (old new : Acting H) (me : Private) (r : Result Reply NoMemory) → me ≡ old.tx.me
+    → c ≡ d → is_word_call d ≡ false → takes_data d ≡ false → is_kept d ≡ false
+    → IsFileCall (fronted model) d (record (calling_front old) { me = me }) (calling_front new) r
     → (IsTrue model.tells → KeepsData (model.contents old.host) (model.contents new.host))
     → new.tx ≡ record old.tx { me = new.tx.me; undo = new.tx.undo } → new.tx.me.stored ≤ 16384 → IfOk r (λ reply. is_late reply ≡ false)
     → HasActed model c old new r
-made_acted {H = H} model c old new me r same is k keeps frame stored now =
-    let d = call.XPipe in
+made_acted {H = H} model c d old new me r same is other untaken at_once k keeps frame stored now =
     let writes = ap (λ (t : SeenTx). t.writes) frame in
     let whole : new.tx ≡ framed old.tx (parts_of new.tx) =
     frame ∙ ap (λ ws. record old.tx { me = new.tx.me; writes = ws; undo = new.tx.undo }) (sym writes) in
@@ -323,36 +323,36 @@ made_acted {H = H} model c old new me r same is k keeps frame stored now =
     subst (λ (e : Call). HasActed model e old new r) (sym is) (by_result r whole writes called now)
   where
     by_result : (r : Result Reply NoMemory) → new.tx ≡ framed old.tx (parts_of new.tx) → new.tx.writes ≡ old.tx.writes
-        → IsFileCall (fronted model) call.XPipe (calling_front old) (calling_front new) r → IfOk r (λ reply. is_late reply ≡ false)
-        → HasActed model call.XPipe old new r
+        → IsFileCall (fronted model) d (calling_front old) (calling_front new) r → IfOk r (λ reply. is_late reply ≡ false)
+        → HasActed model d old new r
     by_result (Ok reply) whole writes called now =
-        pipe_done model call.XPipe old new refl reply called (λ tells. All-nil (IsBacked (model.contents old.host))) keeps
-        (whole ∙ framed_now old.tx (parts_of new.tx) call.XPipe reply refl now) writes stored (in_time_now call.XPipe old.tx.me old.tx.number reply refl now)
-    by_result (Err e) whole writes called now = pipe_left model call.XPipe old new refl e refl called keeps whole writes
+        let P = IsBacked (model.contents old.host) in
+        pipe_done model d old new other reply called (λ tells. subst (All P) (sym (none_taken d old.tx.me reply untaken)) (All-nil P)) keeps
+        (whole ∙ framed_now old.tx (parts_of new.tx) d reply untaken now) writes stored (in_time_now d old.tx.me old.tx.number reply at_once now)
+    by_result (Err e) whole writes called now = pipe_left model d old new other e untaken called keeps whole writes
 
--- a transaction that read, and noted what it took
+-- a transaction that took something, and noted it
 abbrev pub reading : SeenTx → Private → List KeptItem → SeenTx
 reading tx me taken = record tx { me = me; taken = taken }
 
--- a pipe is read, or memory was wanting
-module _ {H : Type 0} (model : HostModel H) (h n : ℕ) (old : Acting H) (host : H) (kept taken : List KeptItem) (me : Private) where
+-- something is taken, or memory was wanting
+module _ {H : Type 0} (model : HostModel H) (d : Call) (old : Acting H) (host : H) (kept taken : List KeptItem) (me : Private) where
   abbrev pub read_to : Acting H
   read_to = record old { host = host; kept = kept; tx = reading old.tx me taken }
 
-  pub read_acted : (r : Result Reply NoMemory)
-      → IfOk r (λ reply. IsFileCall (fronted model) (call.XReadPipe h n) (calling_front old) (calling_front read_to) (Ok reply))
-      → OnErr r (StopsRead model h n (record { old = old.host; new = host }) (record { old = old.tx.me; new = me }))
-      → Notes (call.XReadPipe h n) old.tx.me (record { old = old.tx.taken; new = taken }) r
+  pub read_acted : (r : Result Reply NoMemory) → is_word_call d ≡ false → is_kept d ≡ false
+      → IfOk r (λ reply. IsFileCall (fronted model) d (calling_front old) (calling_front read_to) (Ok reply))
+      → OnErr r (StopsTaking model d (record { old = old.host; new = host }) (record { old = old.tx.me; new = me }))
+      → Notes d old.tx.me (record { old = old.tx.taken; new = taken }) r
       → (IsTrue model.tells → OnErr r (told_of model read_to ≡ told_of model old))
-      → (IsTrue model.tells → IfOk r (λ reply. All (IsBacked (model.contents old.host)) (taken_by (call.XReadPipe h n) old.tx.me reply)))
+      → (IsTrue model.tells → IfOk r (λ reply. All (IsBacked (model.contents old.host)) (taken_by d old.tx.me reply)))
       → (IsTrue model.tells → KeepsData (model.contents old.host) (model.contents host)) → me.stored ≤ 16384 → IfOk r (λ reply. is_late reply ≡ false)
-      → HasActed model (call.XReadPipe h n) old read_to r
-  read_acted (Ok reply) k stops notes err backed keeps stored now =
-      let c = call.XReadPipe h n in
-      pipe_done model c old read_to refl reply k backed keeps
-      (λ i. record read_to.tx { taken = notes i; late = none_behind old.tx.late c old.tx.me reply now i }) refl stored
-      (in_time_now c old.tx.me old.tx.number reply refl now)
-  read_acted (Err e) k stops notes err backed keeps stored now =
+      → HasActed model d old read_to r
+  read_acted (Ok reply) other at_once k stops notes err backed keeps stored now =
+      pipe_done model d old read_to other reply k backed keeps
+      (λ i. record read_to.tx { taken = notes i; late = none_behind old.tx.late d old.tx.me reply now i }) refl stored
+      (in_time_now d old.tx.me old.tx.number reply at_once now)
+  read_acted (Err e) other at_once k stops notes err backed keeps stored now =
       record {
         left = [];
         one = omega arith;
@@ -363,24 +363,23 @@ module _ {H : Type 0} (model : HostModel H) (h n : ℕ) (old : Acting H) (host :
         contents = λ tells. inl (refl, err tells);
       }
 
--- so is one at these handles
-pub read_acted_at : {H : Type 0} (model : HostModel H) (c : Call) (h n : ℕ) (old : Acting H) (host : H) (kept taken : List KeptItem) (was me : Private)
-    (r : Result Reply NoMemory) → was ≡ old.tx.me → c ≡ call.XReadPipe h n
-    → IfOk r (λ reply. IsFileCall (fronted model) (call.XReadPipe h n) (record (calling_front old) { me = was })
-    (calling_front (read_to model h n old host kept taken me)) (Ok reply))
-    → OnErr r (StopsRead model h n (record { old = old.host; new = host }) (record { old = was; new = me }))
-    → Notes (call.XReadPipe h n) was (record { old = old.tx.taken; new = taken }) r
+-- so is it at these handles
+pub read_acted_at : {H : Type 0} (model : HostModel H) (c d : Call) (old : Acting H) (host : H) (kept taken : List KeptItem) (was me : Private)
+    (r : Result Reply NoMemory) → was ≡ old.tx.me → c ≡ d → is_word_call d ≡ false → is_kept d ≡ false
+    → IfOk r (λ reply. IsFileCall (fronted model) d (record (calling_front old) { me = was })
+    (calling_front (read_to model d old host kept taken me)) (Ok reply))
+    → OnErr r (StopsTaking model d (record { old = old.host; new = host }) (record { old = was; new = me }))
+    → Notes d was (record { old = old.tx.taken; new = taken }) r
     → (IsTrue model.tells → OnErr r (with_kept (model.contents host) kept ≡ told_of model old))
-    → (IsTrue model.tells → IfOk r (λ reply. All (IsBacked (model.contents old.host)) (taken_by (call.XReadPipe h n) was reply)))
+    → (IsTrue model.tells → IfOk r (λ reply. All (IsBacked (model.contents old.host)) (taken_by d was reply)))
     → (IsTrue model.tells → KeepsData (model.contents old.host) (model.contents host)) → me.stored ≤ 16384 → IfOk r (λ reply. is_late reply ≡ false)
-    → HasActed model c old (read_to model h n old host kept taken me) r
-read_acted_at model c h n old host kept taken was me r same is k stops notes err backed keeps stored now =
-    let d = call.XReadPipe h n in
-    let after = read_to model h n old host kept taken me in
+    → HasActed model c old (read_to model d old host kept taken me) r
+read_acted_at model c d old host kept taken was me r same is other at_once k stops notes err backed keeps stored now =
+    let after = read_to model d old host kept taken me in
     subst (λ (e : Call). HasActed model e old after r) (sym is)
-    (read_acted model h n old host kept taken me r
+    (read_acted model d old host kept taken me r other at_once
     (subst (λ (m : Private). IfOk r (λ reply. IsFileCall (fronted model) d (record (calling_front old) { me = m }) (calling_front after) (Ok reply))) same k)
-    (subst (λ (m : Private). OnErr r (StopsRead model h n (record { old = old.host; new = host }) (record { old = m; new = me }))) same stops)
+    (subst (λ (m : Private). OnErr r (StopsTaking model d (record { old = old.host; new = host }) (record { old = m; new = me }))) same stops)
     (subst (λ (m : Private). Notes d m (record { old = old.tx.taken; new = taken }) r) same notes) err
     (λ t. subst (λ (m : Private). IfOk r (λ reply. All (IsBacked (model.contents old.host)) (taken_by d m reply))) same (backed t)) keeps stored now)
 
@@ -621,68 +620,79 @@ no_items : {A : Type 0} (xs : List A) → length xs ≡ 0 → xs ≡ []
 no_items [] none = refl
 no_items (x ∷ xs) none = cc none
 
--- a read at a moment, in one of the worlds that show it
-abbrev pub pipe_read : {H : Type 0} → HostModel H → ℕ × ℕ → Acting H → Acting H → Reply → PipeRead
-pipe_read model asked old new reply =
+-- a call that takes at a moment, in one of the worlds that show it
+abbrev pub taking_at : {H : Type 0} → HostModel H → Call → Acting H → Acting H → Reply → Taking
+taking_at model d old new reply =
     let w = record (world_of (told_of model old)) { words = old.words } in
     record {
       world = record { old = seen w (told_of model old) old.tx.writes; new = seen w (told_of model new) new.tx.writes };
       me = record { old = old.tx.me; new = new.tx.me };
       number = old.tx.number;
-      h = asked.0;
-      n = asked.1;
+      call = d;
       reply = reply;
     }
 
 -- it was done
-pub read_step : {H : Type 0} (model : HostModel H) (h n : ℕ) (old new : Acting H) (reply : Reply) → HasDone model (call.XReadPipe h n) old new reply
-    → (IsTrue model.tells → refusal_of (call.XReadPipe h n) old.tx.me ≡ None → IsPipeIn (model.contents old.host) (place_of old.tx.me.places h))
-    → IsTrue model.tells → IsReadStep (pipe_read model (h, n) old new reply) (model.contents old.host) old.kept
-read_step model h n old new reply d there tells =
+pub taking_step : {H : Type 0} (model : HostModel H) (d : Call) (old new : Acting H) (reply : Reply) → takes_data d ≡ true → HasDone model d old new reply
+    → (IsTrue model.tells → IsLentFor old.tx.me old.tx.number d (model.contents old.host) old.kept) → IsSidedFor old.tx.me d
+    → IsTrue model.tells → IsTakingStep (taking_at model d old new reply) (model.contents old.host) old.kept
+taking_step model d old new reply takes done lent sided tells =
     let w = record (world_of (told_of model old)) { words = old.words } in
-    record { told = refl; step = (d.does tells w refl).step; there = there tells }
+    record { takes = takes; told = refl; step = (done.does tells w refl).step; there = (lent tells).source; sided = sided }
+
+-- a call that takes is none on words, and leaves no record
+takes_alone : (d : Call) → takes_data d ≡ true → is_word_call d ≡ false
+takes_alone (call.XReadPipe h n) takes = refl
+takes_alone (call.XRecvmsg h) takes = refl
+takes_alone d takes = cc takes
+
+takes_unrecorded : (w : World) (me : Private) (tx : ℕ) (d : Call) (r : Reply) → takes_data d ≡ true → length (recorded w me tx d r) ≡ 0
+takes_unrecorded w me tx (call.XReadPipe h n) r takes = refl
+takes_unrecorded w me tx (call.XRecvmsg h) r takes = refl
+takes_unrecorded w me tx d r takes = cc takes
 
 -- what it took was given back: all is as before
-pub read_undone : {H : Type 0} (model : HostModel H) (h n : ℕ) (old new behind : Acting H) (kept : List KeptItem) (reply : Reply)
-    → HasDone model (call.XReadPipe h n) old new reply
-    → (IsTrue model.tells → refusal_of (call.XReadPipe h n) old.tx.me ≡ None → IsPipeIn (model.contents old.host) (place_of old.tx.me.places h))
-    → ((w : World) → given_back w kept ≡ given_back (given_back w new.kept) (taken_by (call.XReadPipe h n) old.tx.me reply))
+pub taking_undone : {H : Type 0} (model : HostModel H) (d : Call) (old new behind : Acting H) (kept : List KeptItem) (reply : Reply)
+    → takes_data d ≡ true → HasDone model d old new reply
+    → (IsTrue model.tells → IsLentFor old.tx.me old.tx.number d (model.contents old.host) old.kept) → IsSidedFor old.tx.me d
+    → ((w : World) → given_back w kept ≡ given_back (given_back w new.kept) (taken_by d old.tx.me reply))
     → behind ≡ record new { kept = kept; tx = record new.tx { me = old.tx.me; taken = old.tx.taken } } → (value_in reply ≡ None → ⊥)
-    → LeavesOff model (call.XReadPipe h n) old behind
-read_undone model h n old new behind kept reply d there given is brings =
-    let c = call.XReadPipe h n in
-    let none : d.made ≡ [] = no_items d.made (d.count (world_of (told_of model old))) in
+    → LeavesOff model d old behind
+taking_undone model d old new behind kept reply takes done lent sided given is brings =
+    let w₀ = world_of (told_of model old) in
+    let none : done.made ≡ [] = no_items done.made (done.count w₀ ∙ takes_unrecorded w₀ old.tx.me old.tx.number d reply takes) in
     let undo : new.tx.undo ≡ record old.tx.undo { pending = old.tx.undo.pending ++ [] } =
-    d.undo ∙ ap (λ us. record old.tx.undo { pending = old.tx.undo.pending ++ us }) none in
-    let writes : new.tx.writes ≡ old.tx.writes = d.stores ∙ append_nil old.tx.writes in
-    let late : old.tx.late ++ kept_call c old.tx.me reply ≡ old.tx.late = sym (none_behind old.tx.late c old.tx.me reply (unkept reply brings)) in
+    done.undo ∙ ap (λ us. record old.tx.undo { pending = old.tx.undo.pending ++ us }) none in
+    let writes : new.tx.writes ≡ old.tx.writes =
+    done.stores ∙ ap (λ ws. old.tx.writes ++ ws) (no_stores (length old.words) d (takes_alone d takes)) ∙ append_nil old.tx.writes in
+    let late : old.tx.late ++ kept_call d old.tx.me reply ≡ old.tx.late = sym (none_behind old.tx.late d old.tx.me reply (unkept reply brings)) in
     let whole : record new.tx { me = old.tx.me; taken = old.tx.taken } ≡ leaving old.tx [] =
-    ap (λ (t : SeenTx). record t { me = old.tx.me; taken = old.tx.taken }) d.tx
+    ap (λ (t : SeenTx). record t { me = old.tx.me; taken = old.tx.taken }) done.tx
     ∙ (λ i. record old.tx {
       writes = writes i;
       undo = undo i;
       late = late i;
     }) in
-    let now : LeavesOff model c old (record new { kept = kept; tx = record new.tx { me = old.tx.me; taken = old.tx.taken } }) = record {
+    let now : LeavesOff model d old (record new { kept = kept; tx = record new.tx { me = old.tx.me; taken = old.tx.taken } }) = record {
       left = [];
       one = omega arith;
       tx = whole;
       uses = record {
-        made = d.uses.made;
-        named = stops_behind (refusal_of c old.tx.me) c reply d.uses.made d.uses.named;
-        used = d.uses.used;
+        made = done.uses.made;
+        named = stops_behind (refusal_of d old.tx.me) d reply done.uses.made done.uses.named;
+        used = done.uses.used;
       };
-      faults = subst (λ b. CountsFault b (model.fault_count old.host) (model.fault_count new.host)) (unfaulty reply brings) d.cause;
-      keeps = d.keeps;
+      faults = subst (λ b. CountsFault b (model.fault_count old.host) (model.fault_count new.host)) (unfaulty reply brings) done.cause;
+      keeps = done.keeps;
       contents = λ tells. inl (
         refl,
-        kept_again (model.contents new.host) new.kept kept (taken_by c old.tx.me reply) given
+        kept_again (model.contents new.host) new.kept kept (taken_by d old.tx.me reply) given
             ∙ (let w = record (world_of (told_of model old)) { words = old.words } in
-            sym (kept_of (seen w (told_of model new) new.tx.writes) (taken_by c old.tx.me reply))
-            ∙ ap contents_of (read_returns _ _ _ (read_step model h n old new reply d there tells))),
+            sym (kept_of (seen w (told_of model new) new.tx.writes) (taken_by d old.tx.me reply))
+            ∙ ap contents_of (taking_returns _ _ _ (taking_step model d old new reply takes done lent sided tells))),
       );
     } in
-    subst (λ a. LeavesOff model c old a) (sym is) now
+    subst (λ a. LeavesOff model d old a) (sym is) now
 
 -- the same of an answer
 pub unanswered_so : {H : Type 0} (model : HostModel H) (c : Call) (old new : Acting H) (r : Result Reply NoMemory) → IsErr r

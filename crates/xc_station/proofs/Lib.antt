@@ -32,6 +32,6 @@ pub mod Giving
 pub mod Lending
 pub mod Lent
 pub mod Notes
-pub mod PipeReads
+pub mod Takings
 pub mod Reaching
 pub mod Unanswered

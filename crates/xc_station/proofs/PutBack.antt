@@ -3,7 +3,7 @@ use Rattle.std.proofs.Common.{◌≡◌, ℕ, zero, suc, Bool, true, false, List
 use Rattle.std.proofs.lemmas.List.Quantifiers.{position-Some}
 use Rattle.std.proofs.lemmas.Option.{unwrap_or-slice_get}
 use Rattle.std.specs.Prelude.{◌==◌, slice_set, if◌then◌else◌, Option}
-use Rattle.std.specs.declared.option.Option.TheVariants.{Some}
+use Rattle.std.specs.declared.option.Option.TheVariants.{None, Some}
 use Rattle.xc_data.specs.Private.{is_vacant, lowest_vacant, place_of}
 use Rattle.xc_data.specs.declared.call.Call.{Call}
 use Rattle.xc_data.specs.declared.call.Call.TheVariants as call
@@ -12,6 +12,7 @@ use Rattle.xc_data.specs.declared.call.Reply.TheVariants as reply
 use Rattle.xc_data.specs.declared.private.Place.{Place}
 use Rattle.xc_data.specs.declared.private.Place.TheVariants.{Vacant, File, Pipe, Pair}
 use Rattle.xc_data.specs.declared.private.Private.{Private}
+use Rattle.xc_script.specs.Ask.{value_in}
 use Rattle.xc_world.specs.After.{ArePlaces, IsAppendedAt, IsMeAfter, further}
 use Rattle.xc_world.specs.Trail.{done_of}
 use Rattle.xc_station.specs.PutBack.{changed_at, place_before, put_at}
@@ -55,23 +56,25 @@ given xs is h p lowest set =
     ap (λ q. slice_set is h q) (sym vacant) ∙ back_set xs is h p set
 
 -- the places behind a call, with the one before it where it may have changed one, are those before it
-pub places_back : (tx : ℕ) (c : Call) (me : Private) (r : Reply) (is : List Place) → ArePlaces tx c me r is
+pub places_back : (tx : ℕ) (c : Call) (me : Private) (r : Reply) (is : List Place) → ArePlaces tx c me r is → (value_in r ≡ None → ⊥)
     → put_at (changed_at c r) (place_before c me.places) is ≡ me.places
-places_back tx (call.XOpen name) me (reply.Made h) is (lowest, num, set) = given me.places is h (File num 0) lowest set
-places_back tx (call.XOpen name) me r is same = same
-places_back tx (call.XCreate name) me (reply.Made h) is (lowest, set) = given me.places is h _ lowest set
-places_back tx (call.XCreate name) me r is same = same
-places_back tx call.XPipe me (reply.Made h) is (lowest, set) = given me.places is h _ lowest set
-places_back tx call.XPipe me r is same = same
-places_back tx (call.XRead h n) me (reply.Got bytes) is set = moved me.places is h (length bytes) (length bytes == 0) set
-places_back tx (call.XRead h n) me r is same = back_same me.places is h same
-places_back tx (call.XWriteOvr h bytes) me r is set = moved me.places is h (done_of (length bytes) r) (done_of (length bytes) r == 0) set
-places_back tx (call.XWriteSeq h bytes) me r is set = appended me.places is h (done_of (length bytes) r) set
-places_back tx (call.XSeek h to) me reply.Done is set = back_set me.places is h _ set
-places_back tx (call.XSeek h to) me r is same = back_same me.places is h same
-places_back tx (call.XClose h) me reply.Done is set = back_set me.places is h Vacant set
-places_back tx (call.XClose h) me r is same = back_same me.places is h same
-places_back tx c me r is same = same
+places_back tx (call.XOpen name) me (reply.Made h) is (lowest, num, set) brings = given me.places is h (File num 0) lowest set
+places_back tx (call.XOpen name) me r is same brings = same
+places_back tx (call.XCreate name) me (reply.Made h) is (lowest, set) brings = given me.places is h _ lowest set
+places_back tx (call.XCreate name) me r is same brings = same
+places_back tx call.XPipe me (reply.Made h) is (lowest, set) brings = given me.places is h _ lowest set
+places_back tx call.XPipe me r is same brings = same
+places_back tx call.XPair me (reply.MadePair h g) is set brings = absurd (brings refl)
+places_back tx call.XPair me r is same brings = same
+places_back tx (call.XRead h n) me (reply.Got bytes) is set brings = moved me.places is h (length bytes) (length bytes == 0) set
+places_back tx (call.XRead h n) me r is same brings = back_same me.places is h same
+places_back tx (call.XWriteOvr h bytes) me r is set brings = moved me.places is h (done_of (length bytes) r) (done_of (length bytes) r == 0) set
+places_back tx (call.XWriteSeq h bytes) me r is set brings = appended me.places is h (done_of (length bytes) r) set
+places_back tx (call.XSeek h to) me reply.Done is set brings = back_set me.places is h _ set
+places_back tx (call.XSeek h to) me r is same brings = back_same me.places is h same
+places_back tx (call.XClose h) me reply.Done is set brings = back_set me.places is h Vacant set
+places_back tx (call.XClose h) me r is same brings = back_same me.places is h same
+places_back tx c me r is same brings = same
 
 -- past the last handle there is nothing to put
 pub set_past : (xs : List Place) (h : ℕ) (p : Place) → length xs ≤ h → slice_set xs h p ≡ xs
@@ -81,5 +84,6 @@ set_past (x ∷ xs) (suc h) p past = ap (λ ys. x ∷ ys) (set_past xs h p (omeg
 
 -- so are those that were put back
 pub put_back_is : (tx : ℕ) (c : Call) (r : Reply) (was is : Private) (at : Option ℕ) (p : Place) (places : List Place) → IsMeAfter tx c r was is
-    → at ≡ changed_at c r → p ≡ place_before c was.places → places ≡ put_at at p is.places → places ≡ was.places
-put_back_is tx c r was is at p places after there stood put = put ∙ (λ i. put_at (there i) (stood i) is.places) ∙ places_back tx c was r is.places after.places
+    → (value_in r ≡ None → ⊥) → at ≡ changed_at c r → p ≡ place_before c was.places → places ≡ put_at at p is.places → places ≡ was.places
+put_back_is tx c r was is at p places after brings there stood put =
+    put ∙ (λ i. put_at (there i) (stood i) is.places) ∙ places_back tx c was r is.places after.places brings

@@ -1,14 +1,14 @@
--- What a running transaction's calls need of pipes is there.
+-- What a running transaction's calls need of pipes and pairs is there.
 use Rattle.std.proofs.Common.{◌≡◌, ℕ, Bool, true, false, cond, Option, Some, None, is_some, List, [], ◌∷◌, length, refl, ap, sym, ◌∙◌, subst, arith}
 use Rattle.std.proofs.lemmas.List.Elements.{All-contains_itself}
 use Rattle.std.specs.Prelude.{All, Contains, IsTrue, ◌||◌, if◌then◌else◌}
 use Rattle.std.specs.FinMap as map
 use Rattle.std.specs.List.{filter, flat_map, list_any}
-use Rattle.xc_buffers.specs.Items.{item_bytes, keeps_from, kept_bytes}
+use Rattle.xc_buffers.specs.Items.{item_bytes, keeps_from, keeps_pair, kept_bytes}
 use Rattle.xc_buffers.specs.Sources.{is_from}
-use Rattle.xc_buffers.specs.Worlds.{has_pipe}
+use Rattle.xc_buffers.specs.Worlds.{has_pair, has_pipe}
 use Rattle.xc_buffers.specs.declared.source.Source.TheVariants as source
-use Rattle.xc_buffers.proofs.Held.{pipe_is_there}
+use Rattle.xc_buffers.proofs.Held.{pair_is_there, pipe_is_there}
 use Rattle.xc_data.specs.Claims.{objects}
 use Rattle.xc_data.specs.Private.{place_of}
 use Rattle.xc_data.specs.declared.call.Call.{Call}
@@ -23,6 +23,7 @@ use Rattle.xc_file.proofs.Refusals.{passed_checks}
 use Rattle.xc_host.specs.Contents.{Contents, world_of}
 use Rattle.xc_host.specs.Kept.{with_kept}
 use Rattle.xc_pipe.specs.Reading.{IsPipeIn}
+use Rattle.xc_socket.specs.Checks.{IsPairIn}
 use Rattle.xc_world.specs.Act.Names.{next_num}
 use Rattle.xc_world.specs.Checks.{is_refused, refusal_of}
 use Rattle.xc_world.specs.Modes.{mode_of}
@@ -37,7 +38,7 @@ use Rattle.xc_story.specs.Setting.{Setting}
 use Rattle.xc_played.specs.Flying.{AreFlying}
 use Rattle.xc_played.proofs.ClaimedThere.{claimed_there}
 use Rattle.xc_played.proofs.NewNumbers.{free_now}
-use Rattle.xc_station.specs.Acting.{IsLentFor}
+use Rattle.xc_station.specs.Acting.{IsFreeFor, IsLentFor, IsSourceIn}
 use Rattle.xc_station.specs.Lent.{IsBacked}
 use Rattle.xc_station.proofs.Backed.{there_below}
 
@@ -73,23 +74,40 @@ module _ (s : Setting) (now : Now) (at : ℕ) (tx : SeenTx) (c : Contents) (kept
   pipe_below (place.Pair num side) known = tt
   pipe_below place.Vacant known = tt
 
-  -- a read that no check refuses claims its pipe
-  claims_pipe : (h n : ℕ) → refusal_of (call.XReadPipe h n) tx.me ≡ None
-      → All (Contains (objects (claims_at now tx (call.XReadPipe h n)))) (object_at (place_of tx.me.places h))
-  claims_pipe h n passes =
-      let d = call.XReadPipe h n in
+  pair_below : (p : Place) → IsKnown (world_of now.contents) p → IsPairIn c p
+  pair_below (place.Pair num side) known =
+      there_below c kept backed (object.Pair num) (subst (λ (k : Contents). is_some (map.get k.pairs num) ≡ true) told known.0)
+  pair_below (place.File num at) known = tt
+  pair_below (place.Pipe num) known = tt
+  pair_below place.Vacant known = tt
+
+  -- a call through a handle that no check refuses claims what is open there
+  claims_open : (d : Call) (h : ℕ) → touch d tx.me (length now.words)
+      ≡ (if is_refused d tx.me (length now.words) then [] else object_at (place_of tx.me.places h))
+      → is_refused d tx.me (length now.words) ≡ false → All (Contains (objects (claims_at now tx d))) (object_at (place_of tx.me.places h))
+  claims_open d h touches passes =
       let mine = object_at (place_of tx.me.places h) in
       let touched : objects (claims_at now tx d) ≡ mine =
-      objects_of_claims (mode_of d) (touch d tx.me (length now.words))
-      ∙ ap (λ (b : Bool). if b then [] else mine) (passed_checks tx.me d (length now.words) passes) in
+      objects_of_claims (mode_of d) (touch d tx.me (length now.words)) ∙ touches ∙ ap (λ (b : Bool). if b then [] else mine) passes in
       subst (λ (os : List Object). All (Contains os) mine) (sym touched) (All-contains_itself mine)
 
-  -- each call has what it needs
-  pub lent_for : (d : Call) → All (HasNoRival now.jobs at) (claims_at now tx d) → IsLentFor tx.me tx.number d c kept
-  lent_for (call.XReadPipe h n) free = λ passes.
+  -- it finds there what it takes from
+  source_there : (d : Call) → All (HasNoRival now.jobs at) (claims_at now tx d) → refusal_of d tx.me ≡ None → IsSourceIn c tx.me d
+  source_there (call.XReadPipe h n) free passes =
+      let d = call.XReadPipe h n in
       pipe_below (place_of tx.me.places h)
-      (claimed_there s now flying at active.0 tx (call.XReadPipe h n) active.1 active.2 runs free h (claims_pipe h n passes))
-  lent_for call.XPipe free =
+      (claimed_there s now flying at active.0 tx d active.1 active.2 runs free h
+      (claims_open d h refl (passed_checks tx.me d (length now.words) passes)))
+  source_there (call.XRecvmsg h) free passes =
+      let d = call.XRecvmsg h in
+      pair_below (place_of tx.me.places h)
+      (claimed_there s now flying at active.0 tx d active.1 active.2 runs free h
+      (claims_open d h refl (passed_checks tx.me d (length now.words) passes)))
+  source_there _ free passes = tt
+
+  -- nothing has the number of what it makes
+  number_free : (d : Call) → IsFreeFor c kept (next_num tx.me tx.number) d
+  number_free call.XPipe =
       let num = next_num tx.me tx.number in
       let none : is_some (map.get now.contents.pipes num) ≡ false =
       lacks (map.get now.contents.pipes num) (free_now s now flying at active.0 tx active.1 active.2 runs tx.me.made (omega arith)).pipe in
@@ -98,4 +116,17 @@ module _ (s : Setting) (now : Now) (at : ℕ) (tx : SeenTx) (c : Contents) (kept
         rest_false (keeps_from (source.Pipe num) kept) (has_pipe (world_of c) num) both,
         none_kept num kept (first_false (keeps_from (source.Pipe num) kept) (has_pipe (world_of c) num) both),
       )
-  lent_for _ free = tt
+  number_free call.XPair =
+      let num = next_num tx.me tx.number in
+      let none : is_some (map.get now.contents.pairs num) ≡ false =
+      lacks (map.get now.contents.pairs num) (free_now s now flying at active.0 tx active.1 active.2 runs tx.me.made (omega arith)).pair in
+      let both : (keeps_pair num kept || has_pair (world_of c) num) ≡ false =
+      sym (pair_is_there (world_of c) kept num) ∙ ap (λ (k : Contents). is_some (map.get k.pairs num)) (sym told) ∙ none in (
+        rest_false (keeps_pair num kept) (has_pair (world_of c) num) both,
+        first_false (keeps_pair num kept) (has_pair (world_of c) num) both,
+      )
+  number_free _ = tt
+
+  -- each call has what it needs
+  pub lent_for : (d : Call) → All (HasNoRival now.jobs at) (claims_at now tx d) → IsLentFor tx.me tx.number d c kept
+  lent_for d free = record { source = source_there d free; free = number_free d }

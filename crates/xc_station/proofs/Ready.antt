@@ -205,9 +205,10 @@ module _ {H : Type 0} (model : HostModel H) (shared : Shared H) (journal : List 
           running = runs.phase;
           within = subst (λ n. AreWithin n runs.tx.writes) (sym steady.kept.spoken.count) spoken.within;
           stored = t.underway.stored;
+          sided = t.underway.sided;
           none = phase.none;
         };
-        pipes = λ tells.
+        needs = λ tells.
             λ call free.
             lent_for s now at runs.tx (model.contents shared.host) shared.buffers.kept refl (steady.flying tells) active runs.phase
             ((backed tells).kept) call

@@ -5,7 +5,7 @@ use Rattle.std.specs.Prelude.{map, nat_eq, if◌then◌else◌}
 use Rattle.std.specs.Cmp.Lexicographic.{pointwise}
 use Rattle.xc_data.specs.declared.call.Call.{Call}
 use Rattle.xc_data.specs.declared.call.Call.TheVariants.{Load, Store, XOpen, XCreate, XRead, XWriteOvr, XWriteSeq, XSeek, XLen, XRename, XClose}
-use Rattle.xc_data.specs.declared.call.Call.TheVariants.{XUnlink, XSync, XPipe, XReadPipe, XWritePipe, XShutdown}
+use Rattle.xc_data.specs.declared.call.Call.TheVariants.{XUnlink, XSync, XPipe, XReadPipe, XWritePipe, XShutdown, XPair, XRecvmsg, XSendmsg}
 use Rattle.xc_data.specs.declared.object.Object.{Object}
 use Rattle.xc_data.specs.declared.object.Object.TheVariants as object
 use Rattle.xc_data.specs.declared.private.Place.{Place}
@@ -65,6 +65,10 @@ few_touched (XWritePipe h bytes slot) me words is =
     few_if (is_refused (XWritePipe h bytes slot) me words) (objects_of_call (XWritePipe h bytes slot) me) (few_at (place_of me.places h))
 few_touched (XShutdown h slot) me words is =
     few_if (is_refused (XShutdown h slot) me words) (objects_of_call (XShutdown h slot) me) (few_at (place_of me.places h))
+few_touched XPair me words is = few_if (is_refused XPair me words) (objects_of_call XPair me) (omega arith)
+few_touched (XRecvmsg h) me words is = few_if (is_refused (XRecvmsg h) me words) (objects_of_call (XRecvmsg h) me) (few_at (place_of me.places h))
+few_touched (XSendmsg h bytes slot) me words is =
+    few_if (is_refused (XSendmsg h bytes slot) me words) (objects_of_call (XSendmsg h bytes slot) me) (few_at (place_of me.places h))
 few_touched _ me words is = cc
 
 -- and claims as many

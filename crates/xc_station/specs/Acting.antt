@@ -1,10 +1,10 @@
 -- What a call of a running transaction needs, and what it does.
 use Rattle.std.specs.Prelude.{◌≡◌, ◌⊎◌, ℕ, ◌≤◌, false, List, [], ◌++◌, length, All, IsTrue, Result, Ok, Err}
 use Rattle.std.specs.declared.option.Option.TheVariants.{None}
-use Rattle.xc_buffers.specs.Items.{kept_bytes}
+use Rattle.xc_buffers.specs.Items.{keeps_pair, kept_bytes}
 use Rattle.xc_data.specs.Counts.{CountsFault}
 use Rattle.xc_data.specs.Faults.{is_fault_reply}
-use Rattle.xc_data.specs.Private.{place_of}
+use Rattle.xc_data.specs.Private.{IsSided, place_of}
 use Rattle.xc_data.specs.Step.{Step}
 use Rattle.xc_data.specs.declared.call.Answer.{Answer}
 use Rattle.xc_data.specs.declared.call.Call.{Call}
@@ -13,15 +13,18 @@ use Rattle.xc_data.specs.declared.call.Reply.{Reply}
 use Rattle.xc_data.specs.declared.claim.Claim.{Claim}
 use Rattle.xc_data.specs.declared.entry.KeptItem.{KeptItem}
 use Rattle.xc_data.specs.declared.memory.NoMemory.{NoMemory}
+use Rattle.xc_data.specs.declared.object.Num.{Num}
 use Rattle.xc_data.specs.declared.private.Private.{Private}
 use Rattle.xc_data.specs.declared.undo.Undo.{Undo}
 use Rattle.xc_file.specs.Calls.{IsNewIn, IsOpenIn}
 use Rattle.xc_host.specs.Contents.{Contents}
 use Rattle.xc_host.specs.Kept.{KeepsData, with_kept}
 use Rattle.xc_host.specs.Model.{HostModel}
+use Rattle.xc_host.specs.Pairs.{has_pair}
 use Rattle.xc_host.specs.Pipes.{has_pipe}
 use Rattle.xc_host.specs.Uses.{CallsOf, StopsFor, Uses}
 use Rattle.xc_pipe.specs.Reading.{IsPipeIn}
+use Rattle.xc_socket.specs.Checks.{IsPairIn}
 use Rattle.xc_script.specs.declared.ask.Ask.TheVariants as ask
 use Rattle.xc_txmem.specs.Overlay.{AreWithin, overlaid}
 use Rattle.xc_wordlocks.specs.Held.{HasRoomFor}
@@ -56,6 +59,7 @@ pub record MayGo (words : ℕ) (tx : SeenTx) : Type 0 where
   pub running : tx.phase ≡ Running
   pub within : AreWithin words tx.writes
   pub stored : tx.me.stored ≤ 16384
+  pub sided : All IsSided tx.me.places
   pub none : tx.undo.ended ≡ []
 
 -- and what the contents of a host have for it: each open file is there, within its limit, and no file has the number of
@@ -64,18 +68,37 @@ pub record AreReadyFor (tx : SeenTx) (contents : Contents) : Type 0 where
   pub files : (h : ℕ) → IsOpenIn contents (place_of tx.me.places h)
   pub new : IsNewIn contents tx.me tx.number
 
--- ---- what a call needs of pipes
--- of the host and of what is kept in front of it, at these handles of a transaction: the pipe that it reads, where no check refuses
--- it, is there; of the number that it gives to a new pipe there is none, and nothing is kept
-abbrev pub IsLentFor : Private → ℕ → Call → Contents → List KeptItem → Type 0
-IsLentFor me number (call.XReadPipe h n) c kept = refusal_of (call.XReadPipe h n) me ≡ None → IsPipeIn c (place_of me.places h)
-IsLentFor me number call.XPipe c kept = let num = next_num me number in (has_pipe c num ≡ false) × (kept_bytes num kept ≡ [])
--- it is asked of calls that reach a pipe of the host at once, and of no other
-IsLentFor me number _ c kept = Unit {0}
+-- ---- what a call needs of pipes and pairs
+-- of the host: the pipe or the pair that it takes from is there
+abbrev pub IsSourceIn : Contents → Private → Call → Type 0
+IsSourceIn c me (call.XReadPipe h n) = IsPipeIn c (place_of me.places h)
+IsSourceIn c me (call.XRecvmsg h) = IsPairIn c (place_of me.places h)
+-- no other call takes, nor one yet to come
+IsSourceIn c me _ = Unit {0}
 
--- a read for which memory was wanting: it called the host for no more than the call, met no fault, and left the private state
-pub record StopsRead {H : Type 0} (model : HostModel H) (h n : ℕ) (host : Step H) (state : Step Private) : Type 0 where
-  pub uses : Uses model host (StopsFor (call.XReadPipe h n))
+-- of the host and of what is kept in front of it: of the number that it gives to a new pipe or pair there is none, and nothing is kept
+abbrev pub IsFreeFor : Contents → List KeptItem → Num → Call → Type 0
+IsFreeFor c kept num call.XPipe = (has_pipe c num ≡ false) × (kept_bytes num kept ≡ [])
+IsFreeFor c kept num call.XPair = (has_pair c num ≡ false) × (keeps_pair num kept ≡ false)
+-- no other call makes one, nor one yet to come
+IsFreeFor c kept num _ = Unit {0}
+
+-- both, at these handles of a transaction; what it takes from is there where no check refuses it
+pub record IsLentFor (me : Private) (number : ℕ) (call : Call) (c : Contents) (kept : List KeptItem) : Type 0 where
+  pub source : refusal_of call me ≡ None → IsSourceIn c me call
+  pub free : IsFreeFor c kept (next_num me number) call
+
+-- of the transaction: the pair that it is on is open at one of its two sides
+abbrev pub IsSidedFor : Private → Call → Type 0
+IsSidedFor me (call.XRecvmsg h) = IsSided (place_of me.places h)
+IsSidedFor me (call.XSendmsg h bytes slot) = IsSided (place_of me.places h)
+-- no other call is on a side, nor one yet to come
+IsSidedFor me _ = Unit {0}
+
+-- a call that takes, and for which memory was wanting: it called the host for no more than the call, met no fault, and left the
+-- private state
+pub record StopsTaking {H : Type 0} (model : HostModel H) (call : Call) (host : Step H) (state : Step Private) : Type 0 where
+  pub uses : Uses model host (StopsFor call)
   pub faults : model.fault_count host.new ≡ model.fault_count host.old
   pub me : state.new ≡ state.old
 

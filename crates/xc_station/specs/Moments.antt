@@ -211,9 +211,9 @@ module _ (m : Mover) (new : Now) where
     pub table : IsTable sentinels.claims new.jobs
     pub seats : AreSeats sentinels.seats new.jobs
 
--- each call has what it needs of pipes, where nobody holds against it what it claims
-abbrev pub HasPipes : {H : Type 0} → HostModel H → Shared H → SeenTx → Type 0
-HasPipes model shared tx =
+-- each call has what it needs of pipes and pairs, where nobody holds against it what it claims
+abbrev pub HasNeeds : {H : Type 0} → HostModel H → Shared H → SeenTx → Type 0
+HasNeeds model shared tx =
     (call : Call) → All (IsNotMet shared.sentinels.claims tx.number) (claims_of call tx.me (length shared.words))
     → IsLentFor tx.me tx.number call (model.contents shared.host) shared.buffers.kept
 
@@ -224,5 +224,5 @@ pub record CanRun {H : Type 0} (script : Script) (model : HostModel H) (shared :
   pub left : IsSome (next_body script (job_of job.place))
   pub may : MayGo (length shared.words) tx
   pub ready : IsTrue model.tells → AreReadyFor tx (model.contents shared.host)
-  pub pipes : IsTrue model.tells → HasPipes model shared tx
+  pub needs : IsTrue model.tells → HasNeeds model shared tx
   pub noted : length tx.taken ≤ shared.buffers.noted

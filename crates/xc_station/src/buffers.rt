@@ -1,19 +1,18 @@
-ghost use Rattle.std.specs.Prelude.{◌≡◌, ◌⊎◌, ◌≤◌, ◌+◌, ◌++◌, ◌∷◌, [], ℕ, true, false, List, All, length, Contains};
-ghost use Rattle.std.specs.Prelude.{IfOk, Ok, OnErr, IsTrue, None};
+ghost use Rattle.std.specs.Prelude.{◌≡◌, ◌⊎◌, ◌<◌, ◌≤◌, ◌+◌, ◌^◌, ◌++◌, ◌∷◌, [], ℕ, true, false, List, All, length, Contains};
+ghost use Rattle.std.specs.Prelude.{IfOk, Ok, OnOk, OnErr, IsTrue, None};
 ghost use Rattle.xc_buffers.specs.Items.{is_fit};
 ghost use Rattle.xc_compensate.specs.Records.{Records};
 ghost use Rattle.xc_data.specs.Calls.{is_late};
-ghost use Rattle.xc_data.specs.Private.{place_of};
-ghost use Rattle.xc_data.specs.declared.call.Call.TheVariants.{XReadPipe};
+ghost use Rattle.xc_data.specs.declared.call.Call.TheVariants.{XReadPipe, XRecvmsg};
 ghost use Rattle.xc_data.specs.declared.entry.KeptItem.{KeptItem};
 ghost use Rattle.xc_file.specs.Calls.{IsFileCall};
 ghost use Rattle.xc_host.specs.Fronted.{before, fronted};
 ghost use Rattle.xc_host.specs.Kept.{KeepsData, with_kept};
-ghost use Rattle.xc_pipe.specs.Reading.{IsPipeIn, Notes};
+ghost use Rattle.xc_pipe.specs.Reading.{Notes};
 ghost use Rattle.xc_world.specs.Checks.{refusal_of};
 ghost use Rattle.xc_world.specs.Run.{given_back, gives};
 ghost use Rattle.xc_world.specs.World.{World};
-ghost use Rattle.xc_station.specs.Acting.{StopsRead};
+ghost use Rattle.xc_station.specs.Acting.{IsSidedFor, IsSourceIn, StopsTaking};
 ghost use Rattle.xc_station.specs.Lent.{StaysBacked};
 
 use std::alloc::Global;
@@ -22,6 +21,7 @@ use xc_buffers::{Kept, Taken};
 use xc_data::{KeptList, NoMemory, Private, Reply};
 use xc_host::Host;
 use xc_pipe::x_read_pipe;
+use xc_socket::x_recvmsg;
 
 /// What aborted transactions gave back to pipes and pairs, with room for all that active ones have taken, and two more.
 #[derive(Drop)]
@@ -41,6 +41,19 @@ impl Model for Buffers {
     ghost view = { λ b. record { kept = b.kept.items; noted = b.noted } };
 
     ghost invariant = { λ b. (b.noted + 2 ≤ b.kept.spare) × AreKept b.kept.items };
+}
+
+// Room to give back so many notes and what one call more takes, as two pieces, and two more.
+fn make_room(kept: &mut Kept, noted: u32) -> Result<(), NoMemory>
+    ensures room { OnOk result (noted + 4 ≤ kept.new.spare) }
+    ensures counted { OnOk result (noted + 4 < 2 ^ 32) }
+    ensures items { kept.new.items ≡ kept.old.items }
+    ensures spare { kept.old.spare ≤ kept.new.spare }
+{
+    if noted > u32::MAX - 4 {
+        return Err(NoMemory);
+    }
+    kept.reserve(noted + 4)
 }
 
 impl Buffers {
@@ -67,12 +80,12 @@ impl Buffers {
         requires stored { me.old.stored ≤ 16384 }
         requires noted { length taken.old.items ≤ self.old.noted }
         requires there { IsTrue H.model.tells → refusal_of (XReadPipe h n) me.old ≡ None
-            → IsPipeIn (H.model.contents host.old) (place_of me.old.places h) }
+            → IsSourceIn (H.model.contents host.old) me.old (XReadPipe h n) }
         ensures call { (number : ℕ) (undo : Records) → IfOk result (λ reply. IsFileCall (fronted H.model) (XReadPipe h n)
             (record { host = before host.old self.old.kept; number = number; me = me.old; undo = undo })
             (record { host = before host.new self.new.kept; number = number; me = me.new; undo = undo }) (Ok reply)) }
         ensures stops { OnErr result
-            (StopsRead H.model h n (record { old = host.old; new = host.new }) (record { old = me.old; new = me.new })) }
+            (StopsTaking H.model (XReadPipe h n) (record { old = host.old; new = host.new }) (record { old = me.old; new = me.new })) }
         ensures err { IsTrue H.model.tells → OnErr result
             (with_kept (H.model.contents host.new) self.new.kept ≡ with_kept (H.model.contents host.old) self.old.kept) }
         ensures notes { Notes (XReadPipe h n) me.old (record { old = taken.old.items; new = taken.new.items }) result }
@@ -83,12 +96,45 @@ impl Buffers {
         ensures now { IfOk result (λ reply. is_late reply ≡ false) }
         ensures keeps { IsTrue H.model.tells → KeepsData (H.model.contents host.old) (H.model.contents host.new) }
     {
-        if self.noted > u32::MAX - 4 {
-            return Err(NoMemory);
-        }
-        self.kept.reserve(self.noted + 4)?;
+        make_room(&mut self.kept, self.noted)?;
         let before = taken.count();
         let reply = x_read_pipe(alloc, host, &mut self.kept, taken, me, h, n)?;
+        self.noted += taken.count() - before;
+        Ok(reply)
+    }
+
+    /// Receives the first message for a side of a pair, what is kept first, with room to give it back. Memory is wanting where more is
+    /// noted than can be counted, too.
+    pub fn receive<H: Host>(
+        &mut self,
+        host: &mut H,
+        taken: &mut Taken,
+        me: &mut Private,
+        h: u16,
+    ) -> Result<Reply, NoMemory>
+        requires stored { me.old.stored ≤ 16384 }
+        requires noted { length taken.old.items ≤ self.old.noted }
+        requires sided { IsSidedFor me.old (XRecvmsg h) }
+        requires there { IsTrue H.model.tells → refusal_of (XRecvmsg h) me.old ≡ None
+            → IsSourceIn (H.model.contents host.old) me.old (XRecvmsg h) }
+        ensures call { (number : ℕ) (undo : Records) → IfOk result (λ reply. IsFileCall (fronted H.model) (XRecvmsg h)
+            (record { host = before host.old self.old.kept; number = number; me = me.old; undo = undo })
+            (record { host = before host.new self.new.kept; number = number; me = me.new; undo = undo }) (Ok reply)) }
+        ensures stops { OnErr result
+            (StopsTaking H.model (XRecvmsg h) (record { old = host.old; new = host.new }) (record { old = me.old; new = me.new })) }
+        ensures err { IsTrue H.model.tells → OnErr result
+            (with_kept (H.model.contents host.new) self.new.kept ≡ with_kept (H.model.contents host.old) self.old.kept) }
+        ensures notes { Notes (XRecvmsg h) me.old (record { old = taken.old.items; new = taken.new.items }) result }
+        ensures noted { self.new.noted + length taken.old.items ≡ self.old.noted + length taken.new.items }
+        ensures backs { IsTrue H.model.tells → StaysBacked (H.model.contents host.old) self.old.kept self.new.kept }
+        ensures fit_taken { IfOk result (λ reply. All (λ t. is_fit t ≡ true) taken.new.items) }
+        ensures stored { me.new.stored ≤ 16384 }
+        ensures now { IfOk result (λ reply. is_late reply ≡ false) }
+        ensures keeps { IsTrue H.model.tells → KeepsData (H.model.contents host.old) (H.model.contents host.new) }
+    {
+        make_room(&mut self.kept, self.noted)?;
+        let before = taken.count();
+        let reply = x_recvmsg(host, &mut self.kept, taken, me, h)?;
         self.noted += taken.count() - before;
         Ok(reply)
     }

@@ -1,7 +1,7 @@
-ghost use Rattle.std.specs.Prelude.{◌≡◌, ◌<◌, ◌++◌, ℕ, ◌+◌, ◌≤◌, slice_set, true, false, length, IfOk, OnOk, OnErr, IsTrue};
+ghost use Rattle.std.specs.Prelude.{None, ◌≡◌, ◌≢◌, ◌<◌, ◌++◌, ℕ, ◌+◌, ◌≤◌, slice_set, true, false, length, IfOk, OnOk, OnErr, IsTrue};
 ghost use Rattle.xc_data.specs.declared.call.Call.TheVariants as PlainCall;
 ghost use Rattle.xc_script.specs.declared.ask.Ask.TheVariants.{Call as AskedCall};
-ghost use Rattle.xc_script.specs.Ask.{asks, answered};
+ghost use Rattle.xc_script.specs.Ask.{asks, answered, value_in};
 ghost use Rattle.xc_script.specs.Position.{walk_of, IsSettled};
 ghost use Rattle.xc_txmem.specs.Overlay.{overlaid, AreWithin};
 ghost use Rattle.xc_data.specs.declared.private.Private.{Private as PlainPrivate};
@@ -26,6 +26,7 @@ use xc_host::Host;
 use xc_pipe::{x_pipe, x_shutdown, x_write_pipe};
 use xc_script::JobState;
 use xc_sentinel::Sentinels;
+use xc_socket::{x_pair, x_sendmsg};
 use xc_text::Script;
 use xc_txmem::{Words, WriteSet};
 
@@ -116,8 +117,11 @@ fn act<H: Host>(
         Call::XReadPipe { h, n } => buffers.read_pipe(alloc, host, taken, me, *h, *n),
         Call::XWritePipe { h, bytes, .. } => x_write_pipe(late, me, *h, bytes),
         Call::XShutdown { h, .. } => x_shutdown(late, me, *h),
+        Call::XPair => x_pair(host, me, undo, *number),
+        Call::XRecvmsg { h } => buffers.receive(host, taken, me, *h),
+        Call::XSendmsg { h, bytes, .. } => x_sendmsg(late, me, *h, bytes),
         // The contract leaves no other call.
-        _ => unreachable!(),
+        Call::XThreadCreate { .. } => unreachable!(),
     }
 }
 
@@ -164,7 +168,7 @@ fn handle_in(reply: &Reply) -> Option<u16>
 {
     match reply {
         Reply::Made(h) => Some(*h),
-        // No other reply of a call that is built gives one.
+        // No other reply gives one; two handles take no memory, and so are never put back.
         _ => None,
     }
 }
@@ -194,8 +198,9 @@ fn put_place(places: &mut [Place; 256], h: u16, place: Place)
     }
 }
 
-// The private state is as it was before the call.
+// The private state is as it was before a call whose reply brings a value.
 fn put_back(me: &mut Private, call: &Call, reply: &Reply, before: &Before)
+    requires { value_in reply.now ≢ None }
     ensures { (tx : ℕ) (was : PlainPrivate) → IsMeAfter tx call.now reply.now was me.old
         → before.now ≡ record { place = place_before call.now was.places; made = was.made; stored = was.stored } → me.new ≡ was }
 {

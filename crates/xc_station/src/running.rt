@@ -12,7 +12,7 @@ ghost use Rattle.xc_story.specs.Setting.{setting};
 ghost use Rattle.xc_story.specs.Rows.{with_tx, mover};
 ghost use Rattle.xc_station.specs.Acting.{AreReadyFor, MayGo};
 ghost use Rattle.xc_station.specs.Jobs.{begun_of, seen_job, seen_tx};
-ghost use Rattle.xc_station.specs.Moments.{AreTerms, CanRun, HasClaimed, HasPipes, HasTx, IsAt, IsRow, IsRunningRow, KeepsSeated, Lends};
+ghost use Rattle.xc_station.specs.Moments.{AreTerms, CanRun, HasClaimed, HasNeeds, HasTx, IsAt, IsRow, IsRunningRow, KeepsSeated, Lends};
 ghost use Rattle.xc_station.specs.Moments.{counted, front_of, marks_of, moved, runs, seated_as};
 ghost use Rattle.xc_sentinel.specs.Seating.{seat_in};
 
@@ -114,7 +114,7 @@ fn try_call<H: Host>(
     requires may { MayGo (length shared.old.words) (seen_tx tx.old) }
     requires count { length shared.old.words ≤ 4096 }
     requires ready { IsTrue H.model.tells → AreReadyFor (seen_tx tx.old) (H.model.contents shared.old.host) }
-    requires pipes { IsTrue H.model.tells → HasPipes H.model shared.old (seen_tx tx.old) }
+    requires needs { IsTrue H.model.tells → HasNeeds H.model shared.old (seen_tx tx.old) }
     requires noted { length tx.old.taken.items ≤ shared.old.buffers.noted }
     ensures words { shared.new.words ≡ shared.old.words }
     ensures plan { H.model.plan shared.new.host ≡ H.model.plan shared.old.host }
@@ -160,7 +160,7 @@ fn go<H: Host>(
     requires may { MayGo (length shared.old.words) (seen_tx tx.old) }
     requires count { length shared.old.words ≤ 4096 }
     requires ready { IsTrue H.model.tells → AreReadyFor (seen_tx tx.old) (H.model.contents shared.old.host) }
-    requires pipes { IsTrue H.model.tells → HasPipes H.model shared.old (seen_tx tx.old) }
+    requires needs { IsTrue H.model.tells → HasNeeds H.model shared.old (seen_tx tx.old) }
     requires noted { length tx.old.taken.items ≤ shared.old.buffers.noted }
     ensures count { length shared.new.words ≡ length shared.old.words }
     ensures plan { H.model.plan shared.new.host ≡ H.model.plan shared.old.host }

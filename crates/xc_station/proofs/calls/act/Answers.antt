@@ -1,18 +1,16 @@
-use Rattle.std.proofs.Common.{◌≡◌, [], None, arith, ap, refl, subst, sym, ◌∙◌, Ok, IsTrue}
+use Rattle.std.proofs.Common.{◌≡◌, [], None, false, arith, ap, refl, subst, sym, ◌∙◌, Ok, IsTrue}
 use Rattle.xc_data.specs.declared.call.Call.TheVariants as call
 use Rattle.xc_file.specs.Calls.{IsFileCall}
-use Rattle.xc_buffers.specs.Items.{kept_bytes}
+use Rattle.xc_buffers.specs.Items.{keeps_pair, kept_bytes}
 use Rattle.xc_world.specs.Act.Names.{next_num}
-use Rattle.xc_station.specs.Acting.{IsLentFor, acting}
+use Rattle.xc_station.specs.Acting.{IsFreeFor, IsLentFor, IsSourceIn, acting}
 use Rattle.xc_station.specs.Jobs.{seen_tx}
 use Rattle.xc_data.specs.declared.private.Private.{Private}
 use Rattle.xc_station.proofs.Doings.{alone_acted_at, calling, file_acted, file_acted_at, kept_acted, kept_acted_at, load_acted, made_acted}
 use Rattle.xc_station.proofs.Doings.{read_acted_at, store_acted, stored_acted_at}
-use Rattle.xc_data.specs.Private.{place_of}
-use Rattle.xc_pipe.specs.Reading.{IsPipeIn}
 use Rattle.xc_world.specs.Checks.{refusal_of}
 use Rattle.xc_host.specs.Fronted.{fronted}
-use Rattle.xc_station.proofs.PipeReads.{note_backed, ok_checked}
+use Rattle.xc_station.proofs.Takings.{note_backed, ok_checked}
 use Rattle.xc_station.proofs.calls.act.Goals as goal
 
 pub returns-in-Load-clause-acted : goal.returns-in-Load-clause-acted
@@ -108,26 +106,63 @@ returns-in-XPipe-clause-acted g c =
     let same = c.deref_mut-in-XPipe.ensures.value in
     let stored = ap (λ (me : Private). me.stored) same in
     let tx = seen_tx c.args.tx.now in
-    let none : IsTrue model.tells → kept_bytes (next_num tx.me tx.number) c.args.buffers.now.kept ≡ [] =
-    λ t. (subst (λ d. IsLentFor tx.me tx.number d (model.contents c.args.host.now) c.args.buffers.now.kept) c.in-XPipe.is (c.requires.lent t)).1 in
-    made_acted model _ _ _ _ _ same c.in-XPipe.is
-    (e.call c.args.buffers.now.kept (λ t. ap (λ (me : Private). kept_bytes (next_num me tx.number) c.args.buffers.now.kept) same ∙ none t))
+    let kept = c.args.buffers.now.kept in
+    let none : IsTrue model.tells → kept_bytes (next_num tx.me tx.number) kept ≡ [] =
+    λ t. (subst (IsFreeFor (model.contents c.args.host.now) kept (next_num tx.me tx.number)) c.in-XPipe.is (c.requires.lent t).free).1 in
+    made_acted model _ _ _ _ _ _ same c.in-XPipe.is refl refl refl
+    (e.call kept (λ t. ap (λ (me : Private). kept_bytes (next_num me tx.number) kept) same ∙ none t))
+    e.keeps refl (omega (arith, e.stored, stored, c.requires.may.stored)) e.now
+
+pub returns-in-XPair-clause-acted : goal.returns-in-XPair-clause-acted
+returns-in-XPair-clause-acted g c =
+    let model = g.H.Host.model in
+    let e = c.x_pair.ensures in
+    let same = c.deref_mut-in-XPair.ensures.value in
+    let stored = ap (λ (me : Private). me.stored) same in
+    let tx = seen_tx c.args.tx.now in
+    let kept = c.args.buffers.now.kept in
+    let none : IsTrue model.tells → keeps_pair (next_num tx.me tx.number) kept ≡ false =
+    λ t. (subst (IsFreeFor (model.contents c.args.host.now) kept (next_num tx.me tx.number)) c.in-XPair.is (c.requires.lent t).free).1 in
+    made_acted model _ _ _ _ _ _ same c.in-XPair.is refl refl refl
+    (e.call kept (λ t. ap (λ (me : Private). keeps_pair (next_num me tx.number) kept) same ∙ none t))
     e.keeps refl (omega (arith, e.stored, stored, c.requires.may.stored)) e.now
 
 pub returns-in-XReadPipe-clause-acted : goal.returns-in-XReadPipe-clause-acted
 returns-in-XReadPipe-clause-acted g c =
     let model = g.H.Host.model in
     let e = c.read_pipe.ensures in
+    let d = call.XReadPipe c.in-XReadPipe.h c.in-XReadPipe.n in
     let k = e.call c.args.tx.now.number c.args.tx.now.undo in
     let same = c.deref_mut-in-XReadPipe.ensures.value in
-    read_acted_at model _ _ _ _ _ _ _ _ _ _ same c.in-XReadPipe.is k e.stops e.notes e.err
-    (λ t. note_backed (model.contents c.args.host.now) c.in-XReadPipe.h c.in-XReadPipe.n c.deref_mut-in-XReadPipe.result.now
+    let there : IsTrue model.tells → refusal_of d c.args.tx.now.me.value ≡ None → IsSourceIn (model.contents c.args.host.now) c.args.tx.now.me.value d =
+    λ t. (subst (λ d. IsLentFor c.args.tx.now.me.value c.args.tx.now.number d (model.contents c.args.host.now) c.args.buffers.now.kept) c.in-XReadPipe.is
+    (c.requires.lent t)).source in
+    read_acted_at model _ d _ _ _ _ _ _ _ same c.in-XReadPipe.is refl refl k e.stops e.notes e.err
+    (λ t. note_backed (model.contents c.args.host.now) d c.deref_mut-in-XReadPipe.result.now
     (record { old = c.args.tx.now.taken.items; new = c.read_pipe.new.taken.items }) c.read_pipe.result
-    (subst (λ (m : Private). refusal_of (call.XReadPipe c.in-XReadPipe.h c.in-XReadPipe.n) m ≡ None
-    → IsPipeIn (model.contents c.args.host.now) (place_of m.places c.in-XReadPipe.h)) (sym same)
-    (subst (λ d. IsLentFor c.args.tx.now.me.value c.args.tx.now.number d (model.contents c.args.host.now) c.args.buffers.now.kept) c.in-XReadPipe.is
-    (c.requires.lent t)))
+    (subst (λ (m : Private). refusal_of d m ≡ None → IsSourceIn (model.contents c.args.host.now) m d) (sym same) (there t))
     (ok_checked (fronted model) _ _ _ c.read_pipe.result k) e.notes e.fit_taken) e.keeps e.stored e.now
+
+pub returns-in-XRecvmsg-clause-acted : goal.returns-in-XRecvmsg-clause-acted
+returns-in-XRecvmsg-clause-acted g c =
+    let model = g.H.Host.model in
+    let e = c.receive.ensures in
+    let d = call.XRecvmsg c.in-XRecvmsg.h in
+    let k = e.call c.args.tx.now.number c.args.tx.now.undo in
+    let same = c.deref_mut-in-XRecvmsg.ensures.value in
+    let there : IsTrue model.tells → refusal_of d c.args.tx.now.me.value ≡ None → IsSourceIn (model.contents c.args.host.now) c.args.tx.now.me.value d =
+    λ t. (subst (λ d. IsLentFor c.args.tx.now.me.value c.args.tx.now.number d (model.contents c.args.host.now) c.args.buffers.now.kept) c.in-XRecvmsg.is
+    (c.requires.lent t)).source in
+    read_acted_at model _ d _ _ _ _ _ _ _ same c.in-XRecvmsg.is refl refl k e.stops e.notes e.err
+    (λ t. note_backed (model.contents c.args.host.now) d c.deref_mut-in-XRecvmsg.result.now
+    (record { old = c.args.tx.now.taken.items; new = c.receive.new.taken.items }) c.receive.result
+    (subst (λ (m : Private). refusal_of d m ≡ None → IsSourceIn (model.contents c.args.host.now) m d) (sym same) (there t))
+    (ok_checked (fronted model) _ _ _ c.receive.result k) e.notes e.fit_taken) e.keeps e.stored e.now
+
+pub returns-in-XSendmsg-clause-acted : goal.returns-in-XSendmsg-clause-acted
+returns-in-XSendmsg-clause-acted g c =
+    let e = c.x_sendmsg.ensures in
+    stored_acted_at g.H.Host.model _ _ _ _ _ _ _ c.deref_mut-in-XSendmsg.ensures.value c.in-XSendmsg.is refl refl refl (e.call _) e.err e.stored
 
 pub returns-in-XWritePipe-clause-acted : goal.returns-in-XWritePipe-clause-acted
 returns-in-XWritePipe-clause-acted g c =

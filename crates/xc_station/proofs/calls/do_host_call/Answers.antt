@@ -3,7 +3,6 @@ use Rattle.std.specs.Prelude.{Contains, Ok}
 use Rattle.xc_data.specs.declared.private.Private.{Private}
 use Rattle.xc_script.specs.Position.{walk_of}
 use Rattle.xc_story.specs.Seen.{SeenTx}
-use Rattle.xc_story.proofs.AskedCalls.{asked_built}
 use Rattle.xc_world.specs.After.{IsMeAfter}
 use Rattle.xc_world.specs.Run.{given_back}
 use Rattle.xc_station.specs.Acting.{acting, HasActed, HasDone}
@@ -33,12 +32,11 @@ returns-then-is_err-clause-acted g c =
     let after = subst (IsMeAfter c.keep.new.self.number call reply was) (sym c.deref_mut.ensures.value) acted.after in
     let back : c.put_back.new.me ≡ c.args.tx.now.me.value =
     c.put_back.ensures c.keep.new.self.number was after stood ∙ ap (λ (t : SeenTx). t.me) c.keep.ensures.tx in
-    let built = asked_built (walk_of c.args.script.now c.args.place.now) call c.requires.asked in
     let brings = wants_value c.answer.result _ (sym c.if-is_err.ensures.value) c.answer.ensures.lasting in
     let held = ap (λ (t : SeenTx). length t.taken) c.keep.ensures.tx in
     let counts = c.in_ok-reply.ensures.noted in
     elim c.if-noted.branch [
-      | then-noted w ↦ given_undone model call old done reply did built c.requires.lent behind
+      | then-noted w ↦ given_undone model call old done reply did c.requires.may.sided c.requires.lent behind
           (let more = w.if-noted.true in omega (arith, held, counts, more, c.noted.ensures, c.noted-noted.ensures))
           (λ notes last is. let gave = w.give_last.ensures.given notes last is in
           (ap (λ (t : Tx). t.taken.items) w.tx-is ∙ gave.0, λ v. ap (λ (b : Lent). given_back v b.kept) w.buffers-is ∙ gave.1 v))
@@ -47,7 +45,7 @@ returns-then-is_err-clause-acted g c =
             kept = behind.kept;
             tx = record done.tx { me = back i; taken = sym (ap (λ (t : Tx). t.taken.items) w.tx-is) i };
           })) brings
-      | else-noted w ↦ nothing_undone model call old done reply did built c.requires.lent behind
+      | else-noted w ↦ nothing_undone model call old done reply did c.requires.may.sided c.requires.lent behind
           (let more = w.if-noted.false in omega (arith, held, counts, more, c.noted.ensures, c.noted-noted.ensures))
           ((λ i. acting c.act.new.host (w.buffers-is i).kept c.args.words.now (w.tx-is i)) ∙ (λ i. record done { tx = record done.tx { me = back i } })) brings
     ]
@@ -61,12 +59,11 @@ returns-then-is_err-clause-backs g c = λ tells.
     let done = acting c.act.new.host c.act.new.buffers.kept c.args.words.now c.act.new.tx in
     let did : HasDone model call old done reply =
     subst (λ (t : SeenTx). HasDone model call (record old { tx = t }) done reply) c.keep.ensures.tx c.in_ok-reply.ensures.acted in
-    let built = asked_built (walk_of c.args.script.now c.args.place.now) call c.requires.asked in
     let held = ap (λ (t : SeenTx). length t.taken) c.keep.ensures.tx in
     let counts = c.in_ok-reply.ensures.noted in
     let stays : StaysBacked (model.contents c.args.host.now) c.args.buffers.now.kept c.act.new.buffers.kept = c.in_ok-reply.ensures.backs tells in
     elim c.if-noted.branch [
-      | then-noted w ↦ last_backed model call old done reply did built c.if-noted.buffers.kept tells
+      | then-noted w ↦ last_backed model call old done reply did c.requires.may.sided c.if-noted.buffers.kept tells
           (let more = w.if-noted.true in omega (arith, held, counts, more, c.noted.ensures, c.noted-noted.ensures))
           (λ notes last is item at. w.give_last.ensures.among notes last is item (subst (λ (b : Lent). Contains b.kept item) w.buffers-is at)) stays
       | else-noted w ↦ subst (λ (b : Lent). StaysBacked (model.contents c.args.host.now) c.args.buffers.now.kept b.kept) (sym w.buffers-is) stays

@@ -12,9 +12,9 @@ returns c tx was after same =
     let me = c.args.me.now in
     let stood = ap (λ (b : Before). b.place) same in
     let places : c.match-changed_at.me.places ≡ was.places = elim c.match-changed_at.branch [
-      | in-Some w ↦ put_back_is tx call reply was me (Some w.in-Some.h) c.args.before.now.place c.match-changed_at.me.places after
+      | in-Some w ↦ put_back_is tx call reply was me (Some w.in-Some.h) c.args.before.now.place c.match-changed_at.me.places after c.requires
           (sym w.in-Some.is ∙ c.changed_at.ensures) stood (ap (λ (m : Private). m.places) w.me-is ∙ w.put_place.ensures)
-      | in_default w ↦ put_back_is tx call reply was me None c.args.before.now.place c.match-changed_at.me.places after
+      | in_default w ↦ put_back_is tx call reply was me None c.args.before.now.place c.match-changed_at.me.places after c.requires
           (sym w.in_default.is ∙ c.changed_at.ensures) stood (ap (λ (m : Private). m.places) w.me-is)
     ] in
     λ i. record { places = places i; made = ap (λ (b : Before). b.made) same i; stored = ap (λ (b : Before). b.stored) same i }

@@ -6,7 +6,7 @@ use Rattle.xc_story.specs.Rows.{with_tx, mover}
 use Rattle.xc_data.specs.declared.entry.Turn.{Turn}
 use Rattle.xc_station.specs.declared.calls.Shared.{Shared}
 use Rattle.xc_station.specs.Jobs.{seen_job, seen_tx}
-use Rattle.xc_station.specs.Moments.{HasPipes, IsRunningRow, counted, moved, runs, seated_as}
+use Rattle.xc_station.specs.Moments.{HasNeeds, IsRunningRow, counted, moved, runs, seated_as}
 use Rattle.xc_station.proofs.Closed.{counted_doing, moves_on, is_active, its_active, active_again}
 use Rattle.xc_station.proofs.RowsMarked.{gone_row, its_rank, revoked_row}
 use Rattle.xc_station.proofs.running.run.Goals as goal
@@ -81,7 +81,7 @@ returns-clause-lends g c tx is =
           (sym (ap (λ (t : SeenTx). t.taken) (its_active job tx is))) refl c.go-answer.ensures.lends,
     )
 
-pub go-answer-requires-clause-pipes : goal.go-answer-requires-clause-pipes
-go-answer-requires-clause-pipes g c =
+pub go-answer-requires-clause-needs : goal.go-answer-requires-clause-needs
+go-answer-requires-clause-needs g c =
     let was = c.requires.running in
-    λ t. subst (λ (x : SeenTx). HasPipes g.H.Host.model c.args.shared.now x) (sym (its_active c.args.job.now was.tx was.doing)) (was.pipes t)
+    λ t. subst (λ (x : SeenTx). HasNeeds g.H.Host.model c.args.shared.now x) (sym (its_active c.args.job.now was.tx was.doing)) (was.needs t)

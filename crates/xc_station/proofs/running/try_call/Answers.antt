@@ -58,7 +58,7 @@ do_call-requires-clause-lent g c =
     λ t. subst (λ (u : SeenTx). IsLentFor u.me u.number c.args.call (model.contents c.claim.new.shared.host) c.claim.new.shared.buffers.kept)
     (sym e.claimed.held)
     (subst (λ (f : Front g.row.H.Denot). IsLentFor c.args.tx.now.me.value c.args.tx.now.number c.args.call (model.contents f.host) f.lent.kept) (sym e.same.0)
-    (c.requires.pipes t c.args.call e.claimed.granted.free))
+    (c.requires.needs t c.args.call e.claimed.granted.free))
 
 pub do_call-requires-clause-noted : goal.do_call-requires-clause-noted
 do_call-requires-clause-noted g c =

@@ -1,4 +1,4 @@
-use Rattle.std.proofs.Common.{◌≡◌, List, [], Ok, Err, ap, sym, ◌∙◌, subst}
+use Rattle.std.proofs.Common.{◌≡◌, List, [], Ok, Err, refl, ap, sym, ◌∙◌, subst}
 use Rattle.std.specs.Prelude.{All}
 use Rattle.xc_buffers.specs.Items.{AreKept}
 use Rattle.xc_compensate.specs.Records.{Records}
@@ -8,7 +8,7 @@ use Rattle.xc_file.specs.Calls.{IsFileCall}
 use Rattle.xc_file.proofs.FileCalls.{always_err}
 use Rattle.xc_host.specs.Fronted.{before, fronted}
 use Rattle.xc_station.specs.Lent.{IsBacked, Lent}
-use Rattle.xc_station.proofs.PipeReads.{read_keeps, read_stops}
+use Rattle.xc_station.proofs.Takings.{taking_keeps, taking_stops}
 use Rattle.xc_station.proofs.buffers.Buffers.read_pipe.Goals as goal
 
 -- no record
@@ -18,22 +18,22 @@ none = record { pending = []; ended = [] }
 pub returns-in_err-reply-clause-stops : goal.returns-in_err-reply-clause-stops
 returns-in_err-reply-clause-stops g c =
     always_err _ c.from_residual-in_err-reply.result
-    (read_stops g.H.Host.model c.args.h c.args.n _ _ (Err c.in_err-reply.field-0.0) (c.in_err-reply.ensures.call 0 none))
+    (taking_stops g.H.Host.model (XReadPipe c.args.h c.args.n) _ _ (Err c.in_err-reply.field-0.0) (c.in_err-reply.ensures.call 0 none))
 
 pub returns-in_err-reply-clause-backs : goal.returns-in_err-reply-clause-backs
 returns-in_err-reply-clause-backs g c =
     let model = g.H.Host.model in
-    let items : c.reserve.new.self.items ≡ c.args.self.now.kept = c.reserve.ensures.items ∙ ap (λ (l : Lent). l.kept) c.self.view_is in
-    let in_order = c.x_read_pipe.ensures.in_order (subst AreKept (sym c.reserve.ensures.items) c.self.invariant.1) in
-    λ t backed. read_keeps model c.args.h c.args.n
-    (record { host = before c.args.host.now c.reserve.new.self.items; number = 0; me = c.args.me.now; undo = none })
+    let items : c.make_room.new.kept.items ≡ c.args.self.now.kept = c.make_room.ensures.items ∙ ap (λ (l : Lent). l.kept) c.self.view_is in
+    let in_order = c.x_read_pipe.ensures.in_order (subst AreKept (sym c.make_room.ensures.items) c.self.invariant.1) in
+    λ t backed. taking_keeps model (XReadPipe c.args.h c.args.n)
+    (record { host = before c.args.host.now c.make_room.new.kept.items; number = 0; me = c.args.me.now; undo = none })
     (record { host = before c.x_read_pipe.new.host c.x_read_pipe.new.kept.items; number = 0; me = c.x_read_pipe.new.me; undo = none })
-    (Err c.in_err-reply.field-0.0) tt t (c.in_err-reply.ensures.err t) (c.requires.there t) in_order.fit
+    (Err c.in_err-reply.field-0.0) refl tt t (c.in_err-reply.ensures.err t) (c.requires.there t) tt in_order.fit
     (subst (λ (ks : List KeptItem). All (IsBacked (model.contents c.args.host.now)) ks) (sym items) backed)
 
 pub returns-clause-call : goal.returns-clause-call
 returns-clause-call g c =
-    let items : c.reserve.new.self.items ≡ c.args.self.now.kept = c.reserve.ensures.items ∙ ap (λ (l : Lent). l.kept) c.self.view_is in
+    let items : c.make_room.new.kept.items ≡ c.args.self.now.kept = c.make_room.ensures.items ∙ ap (λ (l : Lent). l.kept) c.self.view_is in
     λ number undo. subst (λ (ks : List KeptItem). IsFileCall (fronted g.H.Host.model) (XReadPipe c.args.h c.args.n)
     (record { host = before c.args.host.now ks; number = number; me = c.args.me.now; undo = undo })
     (record { host = before c.x_read_pipe.new.host c.x_read_pipe.new.kept.items; number = number; me = c.x_read_pipe.new.me; undo = undo })
@@ -42,10 +42,10 @@ returns-clause-call g c =
 pub returns-clause-backs : goal.returns-clause-backs
 returns-clause-backs g c =
     let model = g.H.Host.model in
-    let items : c.reserve.new.self.items ≡ c.args.self.now.kept = c.reserve.ensures.items ∙ ap (λ (l : Lent). l.kept) c.self.view_is in
-    let in_order = c.x_read_pipe.ensures.in_order (subst AreKept (sym c.reserve.ensures.items) c.self.invariant.1) in
-    λ t backed. read_keeps model c.args.h c.args.n
-    (record { host = before c.args.host.now c.reserve.new.self.items; number = 0; me = c.args.me.now; undo = none })
+    let items : c.make_room.new.kept.items ≡ c.args.self.now.kept = c.make_room.ensures.items ∙ ap (λ (l : Lent). l.kept) c.self.view_is in
+    let in_order = c.x_read_pipe.ensures.in_order (subst AreKept (sym c.make_room.ensures.items) c.self.invariant.1) in
+    λ t backed. taking_keeps model (XReadPipe c.args.h c.args.n)
+    (record { host = before c.args.host.now c.make_room.new.kept.items; number = 0; me = c.args.me.now; undo = none })
     (record { host = before c.x_read_pipe.new.host c.x_read_pipe.new.kept.items; number = 0; me = c.x_read_pipe.new.me; undo = none })
-    (Ok c.in_ok-reply.reply) (c.in_ok-reply.ensures.call 0 none) t tt (c.requires.there t) in_order.fit
+    (Ok c.in_ok-reply.reply) refl (c.in_ok-reply.ensures.call 0 none) t tt (c.requires.there t) tt in_order.fit
     (subst (λ (ks : List KeptItem). All (IsBacked (model.contents c.args.host.now)) ks) (sym items) backed)
