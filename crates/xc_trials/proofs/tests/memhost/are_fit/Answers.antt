@@ -3,7 +3,7 @@ use Rattle.std.specs.Prelude.{All}
 use Rattle.std.proofs.lemmas.List.{take_all}
 use Rattle.std.proofs.lemmas.List.Elements.{All-more}
 use Rattle.xc_data.specs.Limits.{IsOpenedFit}
-use Rattle.xc_trials_parts.proofs.tests.memhost.are_fit.Goals as goal
+use Rattle.xc_trials.proofs.tests.memhost.are_fit.Goals as goal
 
 pub loop-opened-preserved : goal.loop-opened-preserved
 loop-opened-preserved c =

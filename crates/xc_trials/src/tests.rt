@@ -1,3 +1,4 @@
+mod app;
 mod buffers;
 mod claims;
 mod compensate;
@@ -8,10 +9,14 @@ mod file;
 mod journal;
 mod machine;
 mod memhost;
-mod pipes;
+mod notes;
+mod pace;
+mod print;
 mod sentinels;
 mod testhost;
+mod turnstile;
 mod words;
+mod workers;
 
 use std::alloc::Global;
 use xc_data::{Kind, Name, NoMemory, Num};

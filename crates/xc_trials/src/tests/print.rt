@@ -1,14 +1,8 @@
-mod effects;
 mod jobs;
-mod kept;
 mod late;
-mod replies;
 
 use std::alloc::Global;
-use xc_data::{
-    Call, Cause, Claim, Entry, Items, LateList, Mode, NoMemory, Num, Object, Outcome, RecordList,
-    Reply, Report,
-};
+use xc_data::{Call, Claim, Entry, Items, LateList, Mode, NoMemory, Num, Object, Outcome, Reply};
 use xc_print::render;
 
 // What scripts have no lines for yet is tried here; all else is in the rows of `tests/rows`.
@@ -36,10 +30,6 @@ fn entry(alloc: Global, outcome: Outcome) -> Entry {
 
 fn commit(alloc: Global, late: LateList) -> Entry {
     entry(alloc, Outcome::Committed { late })
-}
-
-fn abort(alloc: Global, cause: Cause, records: RecordList) -> Entry {
-    entry(alloc, Outcome::Aborted(Report { cause, records }))
 }
 
 fn tell(entry: &mut Entry, call: Call, reply: Reply) -> Result<(), NoMemory> {

@@ -9,12 +9,6 @@ fn ident(text: &[u8]) -> Result<Ident, NoMemory> {
     Ident::new(text).ok_or(NoMemory)
 }
 
-fn send(alloc: Global) -> Result<Call, NoMemory> {
-    let slot = Boxed::new_optional(alloc, Some(ident(b"s")?))?;
-    let bytes = Chunk::new(alloc, b"one")?;
-    Ok(Call::XSendmsg { h: 1, bytes, slot })
-}
-
 fn write_pipe(alloc: Global) -> Result<Call, NoMemory> {
     let bytes = Chunk::new(alloc, b"ab")?;
     let slot = None;
@@ -28,33 +22,18 @@ fn start(alloc: Global) -> Result<Call, NoMemory> {
 }
 
 fn ends(alloc: Global) -> Result<LateList, NoMemory> {
-    let ends = [
-        LateEnd::Full(1),
-        LateEnd::Shut,
-        LateEnd::NoMemory(0),
-        LateEnd::NoScript,
-    ];
+    let ends = [LateEnd::NoMemory(0), LateEnd::NoScript];
     Ok(Items::from_vec(ends.to_vec(alloc)?))
 }
 
 fn held(alloc: Global) -> Result<Vec<Claim>, NoMemory> {
-    let held = [
-        exclusive(Object::Pair(FIRST)),
-        exclusive(Object::Pipe(FIRST)),
-        exclusive(Object::Jobs),
-    ];
+    let held = [exclusive(Object::Pipe(FIRST)), exclusive(Object::Jobs)];
     Ok(held.to_vec(alloc)?)
 }
 
 fn with_late_calls(alloc: Global) -> Result<Entry, NoMemory> {
     let mut entry = commit(alloc, ends(alloc)?);
-    tell(&mut entry, send(alloc)?, Reply::Late)?;
     tell(&mut entry, write_pipe(alloc)?, Reply::Late)?;
-    tell(
-        &mut entry,
-        Call::XShutdown { h: 0, slot: None },
-        Reply::Late,
-    )?;
     tell(&mut entry, start(alloc)?, Reply::Late)?;
     entry.held = Items::from_vec(held(alloc)?);
     Ok(entry)
@@ -68,15 +47,11 @@ fn prints_late_calls(rt: HostRuntime) -> Result<(), Fail> {
             rt.alloc(),
             entry,
             "commit t1 job 1 rank 1 began 0
-  x_sendmsg h1 \"one\" slot s = late
   x_write_pipe h0 \"ab\" = late
-  x_shutdown h0 = late
   x_thread_create none = late
-  late 1 = full 1
-  late 2 = shut
-  late 3 = no memory 0
-  late 4 = no script
-  held pair 0.0, pipe 0.0, jobs
+  late 1 = no memory 0
+  late 2 = no script
+  held pipe 0.0, jobs
 total 1 committed, 0 aborted, 0 faults, 0 remains
 ",
         )?

@@ -1,17 +1,12 @@
 ghost use Rattle.std.specs.Prelude.{◌≡◌, ◌≤◌};
 
-use super::deferred::ends_so;
-use super::{FILE, are_of, host_of, name};
-use Kind::{Append, Create, Len, Lookup, ReadAt, Rename, Sync, Unlink, WriteAt};
+use super::{FILE, host_of};
+use Kind::{Append, Len, ReadAt, WriteAt};
 use std::alloc::Global;
 use std::test::Fail;
-use xc_buffers::Kept;
 use xc_compensate::Stack;
-use xc_data::{Chunk, Kind, LateEnd, Name, NoMemory, Place, Private, Reply};
-use xc_deferred::Late;
-use xc_file::{
-    x_close, x_create, x_open, x_read, x_rename, x_sync, x_unlink, x_write_ovr, x_write_seq,
-};
+use xc_data::{Chunk, Kind, NoMemory, Place, Private, Reply};
+use xc_file::{x_read, x_write_ovr, x_write_seq};
 use xc_testhost::{Asked, TestHost};
 
 // The file is open at handle 0, with so many bytes stored.
@@ -133,80 +128,5 @@ fn appends_by_two(alloc: Global, mut host: TestHost, bytes: &Chunk) -> Result<bo
 fn an_append_appends_the_rest(rt: HostRuntime) -> Result<(), Fail> {
     let bytes = Chunk::new(rt.alloc(), b"HELLO")?;
     assert!(rt; appends_by_two(rt.alloc(), grained(rt.alloc())?, &bytes)?);
-    Ok(())
-}
-
-fn opens(mut host: TestHost, name: &Name) -> Result<bool, NoMemory> {
-    let mut me = opened(0);
-    let reply = x_open(&mut host, &mut me, name)?;
-    Ok(reply == Reply::Made(1) && are_of(&host.log, &[Lookup]))
-}
-
-#[test]
-fn a_name_is_opened(rt: HostRuntime) -> Result<(), Fail> {
-    let name = name(b"a")?;
-    assert!(rt; opens(host_of(rt.alloc(), b"hello")?, &name)?);
-    Ok(())
-}
-
-fn creates(alloc: Global, mut host: TestHost, name: &Name) -> Result<bool, NoMemory> {
-    let mut me = opened(0);
-    let mut undo = Stack::new(alloc);
-    let reply = x_create(&mut host, &mut me, &mut undo, 9, name)?;
-    Ok(reply == Reply::Made(1) && are_of(&host.log, &[Lookup, Create]))
-}
-
-#[test]
-fn a_file_is_made(rt: HostRuntime) -> Result<(), Fail> {
-    let name = name(b"b")?;
-    assert!(rt; creates(rt.alloc(), host_of(rt.alloc(), b"hello")?, &name)?);
-    Ok(())
-}
-
-fn renames(alloc: Global, mut host: TestHost, from: &Name, to: &Name) -> Result<bool, NoMemory> {
-    let mut undo = Stack::new(alloc);
-    let reply = x_rename(&mut host, &mut undo, from, to)?;
-    Ok(reply == Reply::Done && are_of(&host.log, &[Lookup, Lookup, Rename]))
-}
-
-#[test]
-fn a_file_is_renamed(rt: HostRuntime) -> Result<(), Fail> {
-    let (from, to) = (name(b"a")?, name(b"b")?);
-    assert!(rt; renames(rt.alloc(), host_of(rt.alloc(), b"hello")?, &from, &to)?);
-    Ok(())
-}
-
-// The second unlink is late as the first is: the name is looked for at the commit.
-fn unlinks(late: &mut Late, name: &Name) -> Result<bool, NoMemory> {
-    Ok(x_unlink(late, name)? == Reply::Late && x_unlink(late, name)? == Reply::Late)
-}
-
-#[test]
-fn an_unlink_is_late(rt: HostRuntime) -> Result<(), Fail> {
-    let name = name(b"a")?;
-    let host = host_of(rt.alloc(), b"hello")?;
-    let mut late = Late::new(rt.alloc());
-    assert!(rt; unlinks(&mut late, &name)?);
-    let ends = [LateEnd::Done, LateEnd::NoName];
-    let kept = Kept::new(rt.alloc());
-    assert!(rt; ends_so(host, late, &kept, &ends, &[Lookup, Unlink, Lookup]));
-    Ok(())
-}
-
-// A sync is of the file that was open at the call, and a bad handle is kept for nothing.
-fn syncs(late: &mut Late) -> Result<bool, NoMemory> {
-    let mut me = opened(0);
-    let replied = x_sync(late, &me, 0)? == Reply::Late;
-    let closed = x_close(&mut me, 0) == Reply::Done;
-    Ok(replied && closed && x_sync(late, &me, 0)? == Reply::BadHandle)
-}
-
-#[test]
-fn a_sync_is_late(rt: HostRuntime) -> Result<(), Fail> {
-    let host = host_of(rt.alloc(), b"hello")?;
-    let mut late = Late::new(rt.alloc());
-    assert!(rt; syncs(&mut late)?);
-    let kept = Kept::new(rt.alloc());
-    assert!(rt; ends_so(host, late, &kept, &[LateEnd::Done], &[Sync]));
     Ok(())
 }

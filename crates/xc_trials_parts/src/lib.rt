@@ -1,6 +1,0 @@
-//! Tests of the parts that a run is made of: plain data, lists, words, claims, the hosts, the calls on files with what
-//! undoes and ends them, the plain machine as it runs, and the outside of a program.
-#![tactic(auto)]
-
-#[cfg(test)]
-mod tests;

@@ -1,6 +1,0 @@
-mod app;
-mod notes;
-mod pace;
-mod print;
-mod turnstile;
-mod workers;
