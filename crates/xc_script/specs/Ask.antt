@@ -233,6 +233,7 @@ form_ask variables stored (form.Pair into) = ask.Call call.XPair
 form_ask variables stored (form.Receive h into) = ask.Call (call.XRecvmsg (handle_value variables h))
 form_ask variables stored (form.Send h items slot) =
     unless_over stored (call.XSendmsg (handle_value variables h) (data_of variables items) (name_of_slot variables slot))
+form_ask variables stored (form.Start block slot) = ask.Call (call.XThreadCreate block (name_of_slot variables slot))
 
 -- what a statement asks that isn't silent: a call, or the transaction's own abort. A `let` is always silent.
 abbrev pub ask_of : Variables → ℕ → Statement → Ask
@@ -336,6 +337,7 @@ form_target (form.Shutdown h slot) = target.Nowhere
 form_target (form.Pair into) = two_targets into
 form_target (form.Receive h into) = one_target into
 form_target (form.Send h items slot) = target.Nowhere
+form_target (form.Start block slot) = target.Nowhere
 
 -- the variables that take a statement's reply, where it names some
 abbrev pub target_of : Statement → Target
@@ -420,6 +422,10 @@ passed script job replies =
 -- no variable holds anything, and each of the script's slots is unset
 abbrev pub no_variables : Script → Variables
 no_variables script = record { values = replicate (length script.variables) None; slots = unset script.slots }
+
+-- the variables of a starter, with all slots unset
+abbrev pub handed_on : Script → Variables → Variables
+handed_on script variables = record (no_variables script) { values = variables.values }
 
 -- the values where these variables hold handles, from h on: of several in one variable the last one stays
 abbrev pub with_handles : List ℕ → ℕ → Values → Values

@@ -77,7 +77,7 @@ fn form_target(form: &CallForm<Place>) -> Target
         CallForm::Seek { .. } | CallForm::Close { .. } => Target::Nowhere,
         CallForm::Unlink { .. } | CallForm::Sync { .. } => Target::Nowhere,
         CallForm::WritePipe { .. } | CallForm::Shutdown { .. } => Target::Nowhere,
-        CallForm::Send { .. } => Target::Nowhere,
+        CallForm::Send { .. } | CallForm::Start { .. } => Target::Nowhere,
     }
 }
 

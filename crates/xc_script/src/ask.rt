@@ -1,6 +1,6 @@
 ghost use Rattle.std.specs.Prelude.{◌≡◌, ◌≤◌, length, IfOk, Some, None, if◌then◌else◌};
 ghost use Rattle.xc_data.specs.declared.call.Call.TheVariants.{Store, XClose, XRead, XSeek, XSync, XUnlink, XWriteOvr, XWriteSeq};
-ghost use Rattle.xc_data.specs.declared.call.Call.TheVariants.{XReadPipe, XSendmsg, XShutdown, XWritePipe};
+ghost use Rattle.xc_data.specs.declared.call.Call.TheVariants.{XReadPipe, XSendmsg, XShutdown, XThreadCreate, XWritePipe};
 ghost use Rattle.xc_script.specs.Ask.{is_over, unless_over, data_of, handle_value, term_value, expression_value};
 ghost use Rattle.xc_script.specs.Ask.{name_of_slot, form_ask, ask_of, carried_by};
 
@@ -233,6 +233,20 @@ fn shutdown(
     })
 }
 
+fn start(
+    alloc: Global,
+    variables: &Variables,
+    block: &Boxed<Ident>,
+    slot: Option<Place>,
+) -> Result<Call, NoMemory>
+    ensures { IfOk result (λ call. call ≡ XThreadCreate block.now (name_of_slot variables.now slot)) }
+{
+    Ok(Call::XThreadCreate {
+        body: block.copied(alloc)?,
+        slot: Boxed::new_optional(alloc, variables.slot_name(slot))?,
+    })
+}
+
 // What a line that is a call asks, behind so many stored bytes.
 fn form_ask(
     alloc: Global,
@@ -282,6 +296,7 @@ fn form_ask(
         CallForm::Send { handle, data, slot } => {
             send(alloc, variables, stored, *handle, data, *slot)
         }
+        CallForm::Start { block, slot } => Ok(Ask::Call(start(alloc, variables, block, *slot)?)),
     }
 }
 
@@ -326,7 +341,7 @@ fn form_carried(variables: &Variables, stored: u128, form: &CallForm<Place>) -> 
         CallForm::Seek { .. } | CallForm::Length { .. } | CallForm::Close { .. } => 0,
         CallForm::Unlink { .. } | CallForm::Sync { .. } => 0,
         CallForm::Pipe { .. } | CallForm::ReadPipe { .. } | CallForm::Shutdown { .. } => 0,
-        CallForm::Pair { .. } | CallForm::Receive { .. } => 0,
+        CallForm::Pair { .. } | CallForm::Receive { .. } | CallForm::Start { .. } => 0,
     }
 }
 

@@ -2,7 +2,7 @@ ghost use Rattle.std.specs.Prelude.{◌≡◌, ◌≤◌, ◌<◌, is_some, ◌+
 ghost use Rattle.std.specs.Option.{option_copied};
 ghost use Rattle.std.specs.Cmp.Lexicographic.{pointwise};
 ghost use Rattle.xc_text.specs.Scripts.{IsScript};
-ghost use Rattle.xc_script.specs.Ask.{asks_from, answered, next_body, transactions_at, fresh_job, value_in};
+ghost use Rattle.xc_script.specs.Ask.{asks_from, answered, next_body, transactions_at, fresh_job, handed_on, value_in};
 ghost use Rattle.xc_script.specs.Slots.{kept_of, with_ends};
 ghost use Rattle.xc_script.specs.Position.{Position, job_of, walk_of, at_begin, nothing_kept, IsSettled, IsAskedCall, target_at};
 ghost use Rattle.xc_script.specs.declared.answer.Target.TheVariants.{Nowhere};
@@ -81,6 +81,30 @@ impl JobState {
         variables.hold(script.handles.as_slice());
         Ok(JobState {
             alloc,
+            block,
+            next: 0,
+            at: 0,
+            stored: 0,
+            refused: false,
+            variables,
+            begun: None,
+        })
+    }
+
+    /// A job that this one starts, at the begin of the block at this place in the script: its variables are this one's, and its
+    /// slots are unset. Room for the ends of late calls is made here, for all of the script's slots.
+    pub fn child(&self, script: &Script, block: usize) -> Result<JobState, NoMemory>
+        ensures { IfOk result (λ job. job ≡ at_begin (record {
+          block = block;
+          next = 0;
+          variables = handed_on script.now self.now.variables;
+        })) }
+    {
+        let variables = self
+            .variables
+            .handed_on(self.alloc, script.slots.as_slice())?;
+        Ok(JobState {
+            alloc: self.alloc,
             block,
             next: 0,
             at: 0,

@@ -59,6 +59,16 @@ impl Variables {
         })
     }
 
+    /// The same values, whose bytes are shared, and each of these slots unset.
+    pub fn handed_on(&self, alloc: Global, slots: &[Ident]) -> Result<Variables, NoMemory>
+        ensures { IfOk result (λ known. known ≡ record { values = self.now.values; slots = unset slots.now }) }
+    {
+        Ok(Variables {
+            slots: Slots::unset(alloc, slots)?,
+            values: self.values.copied()?,
+        })
+    }
+
     /// What a variable holds.
     pub fn get(&self, at: Place) -> Option<&Value>
         ensures { option_copied result ≡ value_at self.now.values at }

@@ -122,6 +122,7 @@ form_grows names (form.Pair into) = targets_grow names into
 form_grows names (form.Receive handle into) = handled_grows names handle (λ n. placed_target n into) (λ n. target_grows n into)
 form_grows names (form.Send handle items into) =
     two_grow names (placed_written names handle items) (λ n. placed_ending n into) (written_grows names handle items) (λ n. ending_grows n into)
+form_grows names (form.Start block into) = ending_grows names into
 
 -- a statement more
 pub placed_grows : (names : Names) (s : named.Statement) → Grows names (placed names s).0

@@ -1,12 +1,13 @@
 -- What a script that was read keeps to.
 use Rattle.std.proofs.Common.{◌≡◌, ℕ, ◌+◌, ◌<◌, ◌≤◌, Bool, true, false, List, [], ◌∷◌, ◌++◌, length, Option, None, Some, Result, Ok, Err, IfOk, IfSome, cond}
-use Rattle.std.proofs.Common.{refl, ap, ◌∙◌, subst, append_assoc, arith, lit≤, nat_lt, nat_le, ◌||◌, ◌&&◌}
-use Rattle.std.specs.Prelude.{All, codes, count_by, is_some, nat_eq, if◌then◌else◌}
+use Rattle.std.proofs.Common.{refl, subst, append_assoc, arith, lit≤, nat_lt, nat_le, ◌||◌, ◌&&◌}
+use Rattle.std.specs.Prelude.{All, IsPermutation, codes, count_by, is_some, nat_eq, if◌then◌else◌}
 use Rattle.std.specs.Cmp.Lexicographic.{pointwise}
 use Rattle.std.specs.List.{list_all, list_any, IsDistinct}
 use Rattle.std.proofs.lemmas.Bool.{cond_both, ltb-true, ltb-false, leb-false, leb-true, and_parts, or_parts}
 use Rattle.std.proofs.lemmas.List.{length-append, length-replicate, length-set, length-map, map-append}
 use Rattle.std.proofs.lemmas.List.Elements.{All-nil, All-push}
+use Rattle.std.proofs.lemmas.List.Sorted.{IsPermutation-refl, length_permutation}
 use Rattle.std.proofs.lemmas.List.Sums.{sum_by_push}
 use Rattle.xc_data.specs.declared.script.Kind.{Kind}
 use Rattle.xc_data.specs.declared.script.Opened.{Opened}
@@ -24,7 +25,7 @@ use Rattle.xc_tokens.specs.declared.why.Why.TheVariants.{UnknownLine}
 use Rattle.xc_tokens.specs.Answers.{and_then, both, seen}
 use Rattle.xc_text.specs.Refusals.{Refusal}
 use Rattle.xc_text.specs.Grammar.{line_of, first_line, worded_line, words_line, word_line, file_line, pipe_line, pair_line}
-use Rattle.xc_text.specs.Grammar.{fault_line, grain_line, job_line}
+use Rattle.xc_text.specs.Grammar.{fault_line, grain_line, job_line, body_line}
 use Rattle.xc_text.specs.Kinds.{kind}
 use Rattle.xc_tokens.specs.Lines.{lines_of, is_line_byte}
 use Rattle.xc_tokens.specs.Literals.{is_within, contents, only_literals}
@@ -34,7 +35,7 @@ use Rattle.xc_text.specs.Scripts.{names_of, IsBlock, IsOneCall, handle_count, Is
 use Rattle.xc_text.specs.Scripts.{closed, read_from, parse_of}
 use Rattle.xc_text.specs.Steps.{are_few, is_call, is_file_of, has_few_calls, is_among, sized_by, valued_by, added, faulted, grained}
 use Rattle.xc_text.specs.Steps.{has_room_for_pipe, piped_at, piped, has_room_for_pair, paired_at, paired}
-use Rattle.xc_text.specs.Steps.{filed, started, begun, stated_as, committed, ended_block, after, after_any}
+use Rattle.xc_text.specs.Steps.{filed, may_begin, started, bodied, begun, stated_as, committed, ended_block, after, after_any}
 use Rattle.xc_text.specs.Steps.{after_tokens, after_bytes}
 use Rattle.xc_text.specs.Places.{Placed, placed, variable, placed_two}
 use Rattle.xc_text.specs.Shapes.{bare}
@@ -42,7 +43,7 @@ use Rattle.xc_text.specs.Statements.{statement_line}
 use Rattle.xc_tokens.specs.Words.{spells, number, ident, name}
 use Rattle.xc_tokens.specs.Tokens.{Lexeme, Word, Literal, tokens_of}
 use Rattle.xc_text.proofs.Growing.{Grows, has_place, variable_grows, have_places, variables_grow, placed_grows}
-use Rattle.xc_text.proofs.Indexing.{distinct_more}
+use Rattle.xc_text.proofs.Indexing.{job_among, body_among, distinct_moved, distinct_job, distinct_body}
 
 -- how many transactions of the block under way have ended
 abbrev pub CountFits : Section → ℕ → Type 0
@@ -79,9 +80,9 @@ pub record IsSound (s : Said) : Type 0 where
   pub some_words : 1 ≤ length s.words
   pub few_words : length s.words ≤ 4096
   pub count : CountFits s.section (length s.transactions)
-  pub named : s.jobs ≡ all_names s.section (names_of s.blocks)
-  pub few_blocks : length s.jobs ≤ 1000
-  pub distinct : AreDistinct s.jobs
+  pub named : IsPermutation (s.jobs ++ s.bodies) (all_names s.section (names_of s.blocks))
+  pub few_blocks : length s.jobs + length s.bodies ≤ 1000
+  pub distinct : AreDistinct (s.jobs ++ s.bodies)
   pub calls : All IsBody s.transactions
   pub body : IsBody s.body
   pub opening : IsOpening (prologue_of s)
@@ -99,8 +100,8 @@ count_at : (r : Said) (p : Section) → r.section ≡ p → IsSound r → CountF
 count_at r p e k = subst (λ q. CountFits q (length r.transactions)) e k.count
 
 -- the names where the section is known
-names_at : (r : Said) (p : Section) → r.section ≡ p → IsSound r → r.jobs ≡ all_names p (names_of r.blocks)
-names_at r p e k = subst (λ q. r.jobs ≡ all_names q (names_of r.blocks)) e k.named
+names_at : (r : Said) (p : Section) → r.section ≡ p → IsSound r → IsPermutation (r.jobs ++ r.bodies) (all_names p (names_of r.blocks))
+names_at r p e k = subst (λ q. IsPermutation (r.jobs ++ r.bodies) (all_names q (names_of r.blocks))) e k.named
 
 none_alike : AreDistinct []
 unfolding IsDistinct
@@ -112,7 +113,7 @@ opening-keeps =
       some_words = lit≤ tt;
       few_words = lit≤ tt;
       count = refl;
-      named = refl;
+      named = IsPermutation-refl [];
       few_blocks = omega arith;
       distinct = none_alike;
       calls = All-nil IsBody;
@@ -450,6 +451,7 @@ ended-keeps r (Block name) e k =
 -- a line that may stand in a section: a block begins outside of the others, and a file and a pipe aren't too long
 abbrev IsFitLine : Section → Line → Type 0
 IsFitLine p (line.Job block) = is_outside p ≡ true
+IsFitLine p (line.Body block) = is_outside p ≡ true
 IsFitLine p (line.File file bytes) = IfSome bytes (λ bs. length bs ≤ 65536)
 IsFitLine p (line.Pipe handle bytes) = IfSome bytes (λ bs. length bs ≤ 4096)
 IsFitLine p _ = Unit {0}
@@ -467,17 +469,34 @@ ended_names Between names outside = refl
 ended_names (Block name) names outside = cc
 ended_names (Transaction name) names outside = cc
 
+outside_names : (r : Said) → is_outside r.section ≡ true → IsSound r → IsPermutation (r.jobs ++ r.bodies) (names_of r.blocks)
+outside_names r outside k = subst (IsPermutation (r.jobs ++ r.bodies)) (ended_names r.section (names_of r.blocks) outside) k.named
+
+-- no block has the name, and there may be one more
+abbrev IsNew : Said → List ℕ → Type 0
+IsNew r name = (is_among name (r.jobs ++ r.bodies) ≡ false) × (length r.jobs + length r.bodies < 1000)
+
+new_block : (r : Said) (name : List ℕ) → IfOk (may_begin r name) (λ _. IsNew r name)
+new_block r name =
+    cond_both (is_among name (r.jobs ++ r.bodies)) _ _ (λ (a : Result (Unit {0}) Why). IfOk a (λ _. IsNew r name)) (λ _. tt) (λ new.
+    cond_both (nat_le 1000 (length r.jobs + length r.bodies)) _ _ (λ (a : Result (Unit {0}) Why). IfOk a (λ _. IsNew r name)) (λ _. tt)
+    (λ room. (new, leb-false _ _ room)))
+
+seen_where : {A B E : Type 0} (P : B → Type 0) (Q : Type 0) (f : A → B) (a : Result A E) → IfOk a (λ _. Q) → (Q → (x : A) → P (f x))
+    → IfOk (seen f a) P
+seen_where P Q f (Ok x) q h = h q x
+seen_where P Q f (Err e) q h = tt
+
 started-keeps : (r : Said) (name : List ℕ) → is_outside r.section ≡ true → IsSound r → Keeps (started r name)
 started-keeps r name outside k =
-    cond_both (is_among name r.jobs) _ _ Keeps (λ _. tt) (λ new.
-    cond_both (nat_le 1000 (length r.jobs)) _ _ Keeps (λ _. tt) (λ room.
+    seen_where IsSound (IsNew r name) _ (may_begin r name) (new_block r name) (λ new _.
     record {
       some_words = k.some_words;
       few_words = k.few_words;
       count = omega (arith, none_under_way r.section (length r.transactions) outside k.count);
-      named = ap (λ names. names ++ name ∷ []) (k.named ∙ ended_names r.section (names_of r.blocks) outside);
-      few_blocks = rw length-append (omega (arith, leb-false _ _ room));
-      distinct = distinct_more r.jobs name new k.distinct;
+      named = job_among r.jobs r.bodies (names_of r.blocks) name (outside_names r outside k);
+      few_blocks = rw length-append (omega (arith, new.1));
+      distinct = distinct_job r.jobs r.bodies name new.0 k.distinct;
       calls = k.calls;
       body = k.body;
       opening = k.opening;
@@ -486,7 +505,27 @@ started-keeps r name outside k =
       few_slots = k.few_slots;
       handles = k.handles;
       each_handle = k.each_handle;
-    }))
+    })
+
+bodied-keeps : (r : Said) (name : List ℕ) → is_outside r.section ≡ true → IsSound r → Keeps (bodied r name)
+bodied-keeps r name outside k =
+    seen_where IsSound (IsNew r name) _ (may_begin r name) (new_block r name) (λ new _.
+    record {
+      some_words = k.some_words;
+      few_words = k.few_words;
+      count = omega (arith, none_under_way r.section (length r.transactions) outside k.count);
+      named = body_among r.jobs r.bodies (names_of r.blocks) name (outside_names r outside k);
+      few_blocks = rw length-append (omega (arith, new.1));
+      distinct = distinct_body r.jobs r.bodies name new.0 k.distinct;
+      calls = k.calls;
+      body = k.body;
+      opening = k.opening;
+      each_block = k.each_block;
+      few_variables = k.few_variables;
+      few_slots = k.few_slots;
+      handles = k.handles;
+      each_handle = k.each_handle;
+    })
 
 after-keeps : (r : Said) (says : Line) → IsFitLine r.section says → IsSound r → Keeps (after r says)
 after-keeps r (line.Words n) first k = sized-keeps r n k
@@ -497,6 +536,7 @@ after-keeps r (line.Pair v w) first k = paired-keeps r v w k
 after-keeps r (line.Fault kind n) first k = faulted-keeps r kind n k
 after-keeps r (line.Grain n) first k = grained-keeps r n k
 after-keeps r (line.Job name) first k = started-keeps r name first k
+after-keeps r (line.Body name) first k = bodied-keeps r name first k
 after-keeps r line.Begin first k = begun-keeps r r.section refl k
 after-keeps r (line.Statement s) first k = stated-keeps r (placed r.names s) (placed_grows r.names s) k
 after-keeps r line.Commit first k = committed-keeps r r.section refl k
@@ -558,7 +598,12 @@ job_fits p [] outside = tt
 job_fits p (n ∷ []) outside = fits_seen p line.Job (ident n) (λ _. outside)
 job_fits p (n ∷ m ∷ ts) outside = tt
 
-prologue_fits : (rest : List Lexeme) (words word file pipe pair fault grain job : Bool) →
+body_fits : (p : Section) (rest : List Lexeme) → is_outside p ≡ true → IfOk (body_line rest) (IsFitLine p)
+body_fits p [] outside = tt
+body_fits p (n ∷ []) outside = fits_seen p line.Body (ident n) (λ _. outside)
+body_fits p (n ∷ m ∷ ts) outside = tt
+
+prologue_fits : (rest : List Lexeme) (words word file pipe pair fault grain job body : Bool) →
     IfOk (
     if words then words_line rest
     else if word then word_line rest
@@ -568,21 +613,25 @@ prologue_fits : (rest : List Lexeme) (words word file pipe pair fault grain job 
     else if fault then fault_line rest
     else if grain then grain_line rest
     else if job then job_line rest
+    else if body then body_line rest
     else Err UnknownLine
     ) (IsFitLine Prologue)
-prologue_fits rest true word file pipe pair fault grain job = words_fits rest
-prologue_fits rest false true file pipe pair fault grain job = word_fits rest
-prologue_fits rest false false true pipe pair fault grain job = file_fits rest
-prologue_fits rest false false false true pair fault grain job = pipe_fits rest
-prologue_fits rest false false false false true fault grain job = pair_fits rest
-prologue_fits rest false false false false false true grain job = fault_fits rest
-prologue_fits rest false false false false false false true job = grain_fits rest
-prologue_fits rest false false false false false false false true = job_fits Prologue rest refl
-prologue_fits rest false false false false false false false false = tt
+prologue_fits rest true word file pipe pair fault grain job body = words_fits rest
+prologue_fits rest false true file pipe pair fault grain job body = word_fits rest
+prologue_fits rest false false true pipe pair fault grain job body = file_fits rest
+prologue_fits rest false false false true pair fault grain job body = pipe_fits rest
+prologue_fits rest false false false false true fault grain job body = pair_fits rest
+prologue_fits rest false false false false false true grain job body = fault_fits rest
+prologue_fits rest false false false false false false true job body = grain_fits rest
+prologue_fits rest false false false false false false false true body = job_fits Prologue rest refl
+prologue_fits rest false false false false false false false false true = body_fits Prologue rest refl
+prologue_fits rest false false false false false false false false false = tt
 
-between_fits : (rest : List Lexeme) (job : Bool) → IfOk (if job then job_line rest else Err UnknownLine) (IsFitLine Between)
-between_fits rest true = job_fits Between rest refl
-between_fits rest false = tt
+between_fits : (rest : List Lexeme) (job body : Bool) →
+    IfOk (if job then job_line rest else if body then body_line rest else Err UnknownLine) (IsFitLine Between)
+between_fits rest true body = job_fits Between rest refl
+between_fits rest false true = body_fits Between rest refl
+between_fits rest false false = tt
 
 block_fits : (p : Section) (rest : List Lexeme) (tx end : Bool) →
     IfOk (if tx then seen (λ _. line.Begin) (bare rest) else if end then seen (λ _. line.End) (bare rest) else Err UnknownLine) (IsFitLine p)
@@ -599,7 +648,8 @@ worded_fits : (p : Section) (word : List ℕ) (rest : List Lexeme) → IfOk (wor
 worded_fits Prologue word rest =
     prologue_fits rest (spells word (codes "words")) (spells word (codes "word")) (spells word (codes "file")) (spells word (codes "pipe"))
     (spells word (codes "pair")) (spells word (codes "fault")) (spells word (codes "grain")) (spells word (codes "job"))
-worded_fits Between word rest = between_fits rest (spells word (codes "job"))
+    (spells word (codes "body"))
+worded_fits Between word rest = between_fits rest (spells word (codes "job")) (spells word (codes "body"))
 worded_fits (Block name) word rest = block_fits (Block name) rest (spells word (codes "tx")) (spells word (codes "end"))
 worded_fits (Transaction name) word rest = transaction_fits (Transaction name) word rest (spells word (codes "commit"))
 
@@ -643,16 +693,20 @@ of_lines p is =
       grain = is.grain;
     }
 
+-- so many blocks as jobs and bodies
+pub block_count : (s : Script) → IsPermutation (s.outline.jobs ++ s.outline.bodies) (names_of s.blocks)
+    → length s.blocks ≡ length s.outline.jobs + length s.outline.bodies
+block_count s named = rw (length-map, length-append) at (length_permutation (s.outline.jobs ++ s.outline.bodies) (names_of s.blocks) named)
+
 script_of-keeps : (r : Said) → is_outside r.section ≡ true → IsSound r → IsScript (script_of r)
 script_of-keeps r outside k =
-    let jobs : r.jobs ≡ names_of r.blocks = k.named ∙ ended_names r.section (names_of r.blocks) outside in
+    let named : IsPermutation (r.jobs ++ r.bodies) (names_of r.blocks) = outside_names r outside k in
     record {
       some_words = k.some_words;
       few_words = k.few_words;
-      few_blocks = rw length-map at (subst (λ names. length names ≤ 1000) jobs k.few_blocks);
-      distinct = subst AreDistinct jobs k.distinct;
-      jobs = jobs;
-      bodies = refl;
+      few_blocks = omega (arith, k.few_blocks, block_count (script_of r) named);
+      distinct = distinct_moved (r.jobs ++ r.bodies) (names_of r.blocks) named k.distinct;
+      named = named;
       prologue = of_lines (prologue_of r) k.opening;
       faults = k.opening.faults;
       each_block = k.each_block;
@@ -689,5 +743,5 @@ in_limits s k =
     record {
       words = k.few_words;
       prologue = k.prologue;
-      blocks = rw (k.jobs, k.bodies) (rw length-map (omega (arith, k.few_blocks)));
+      blocks = omega (arith, k.few_blocks, block_count s k.named);
     }

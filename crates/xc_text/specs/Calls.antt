@@ -2,7 +2,7 @@
 use Rattle.std.specs.Prelude.{ℕ, List, map, Option, Some, None, Result, Err}
 use Rattle.xc_text.specs.declared.calls.TheConstants.{CALL_KINDS}
 use Rattle.xc_text.specs.declared.calls.CallKind.{CallKind}
-use Rattle.xc_text.specs.declared.calls.CallKind.TheVariants.{Word, Name, Handle, Pipe, Pair}
+use Rattle.xc_text.specs.declared.calls.CallKind.TheVariants.{Word, Name, Handle, Pipe, Pair, Thread}
 use Rattle.xc_text.specs.declared.calls.WordCall.{WordCall}
 use Rattle.xc_text.specs.declared.calls.WordCall.TheVariants as word
 use Rattle.xc_text.specs.declared.calls.NameCall.{NameCall}
@@ -30,7 +30,7 @@ use Rattle.xc_tokens.specs.Words.{ident, name}
 abbrev pub call_kinds : List (Entry CallKind)
 call_kinds = map (λ entry. (entry.0.now, entry.1)) CALL_KINDS
 
--- a name or a handle, and nothing or a variable or a slot
+-- a name, a handle or a block, and nothing or a variable or a slot
 abbrev pub NameAnd : Type 0
 NameAnd = List ℕ × Option (List ℕ)
 
@@ -77,6 +77,10 @@ pair_form paired.Make rest = seen form.Pair (two_targets rest)
 pair_form paired.Receive rest = seen (λ (p : NameAnd). form.Receive p.0 p.1) (led ident target rest)
 pair_form paired.Send rest = seen (λ (p : HandleDataSlot). form.Send p.0 p.1.0 p.1.1) (led ident (before_slot data_of) rest)
 
+-- the call that starts a job: `BLOCK`, and behind it `slot S` where that is wanted. No block needs to have the name
+abbrev pub thread_form : List Lexeme → Result CallForm Why
+thread_form rest = seen (λ (p : NameAnd). form.Start p.0 p.1) (led ident slot_ending rest)
+
 -- the call of a kind that the tokens behind its word make
 abbrev pub form_of : CallKind → List Lexeme → Result CallForm Why
 form_of (Word call) rest = word_form call rest
@@ -84,6 +88,7 @@ form_of (Name call) rest = name_form call rest
 form_of (Handle call) rest = handle_form call rest
 form_of (Pipe call) rest = pipe_form call rest
 form_of (Pair call) rest = pair_form call rest
+form_of Thread rest = thread_form rest
 
 -- a call, where its word is one
 abbrev pub call_line : Option CallKind → List Lexeme → Result Statement Why

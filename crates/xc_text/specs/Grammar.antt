@@ -57,6 +57,11 @@ abbrev pub job_line : List Lexeme → Result Line Why
 job_line (n ∷ []) = seen line.Job (ident n)
 job_line _ = Err BadForm
 
+-- `body NAME`
+abbrev pub body_line : List Lexeme → Result Line Why
+body_line (n ∷ []) = seen line.Body (ident n)
+body_line _ = Err BadForm
+
 -- a line before the first block
 abbrev pub prologue_line : List ℕ → List Lexeme → Result Line Why
 prologue_line word rest =
@@ -68,11 +73,15 @@ prologue_line word rest =
     else if spells word (codes "fault") then fault_line rest
     else if spells word (codes "grain") then grain_line rest
     else if spells word (codes "job") then job_line rest
+    else if spells word (codes "body") then body_line rest
     else Err UnknownLine
 
 -- a line behind a block
 abbrev pub between_line : List ℕ → List Lexeme → Result Line Why
-between_line word rest = if spells word (codes "job") then job_line rest else Err UnknownLine
+between_line word rest =
+    if spells word (codes "job") then job_line rest
+    else if spells word (codes "body") then body_line rest
+    else Err UnknownLine
 
 -- a line in a block
 abbrev pub block_line : List ℕ → List Lexeme → Result Line Why

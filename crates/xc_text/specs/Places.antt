@@ -120,6 +120,7 @@ placed_form names (form.Pair into) = one form.Pair (placed_targets names into)
 placed_form names (form.Receive handle into) = two form.Receive (variable names handle) (λ behind. placed_target behind into)
 placed_form names (form.Send handle items into) =
     two (λ p s. form.Send p.0 p.1 s) (placed_written names handle items) (λ behind. placed_ending behind into)
+placed_form names (form.Start block into) = one (form.Start block) (placed_ending names into)
 
 -- a test of two terms
 abbrev pub placed_test : Names → named.Term → Test → named.Term → Placed Statement

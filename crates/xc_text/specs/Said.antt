@@ -16,10 +16,19 @@ pub record Names : Type 0 where
 abbrev pub no_names : Names
 no_names = record { variables = []; slots = [] }
 
+-- the names of blocks, those of jobs and those of bodies
+pub record BlockNames : Type 0 where
+  pub jobs : List (List ℕ)
+  pub bodies : List (List ℕ)
+
+-- no block
+abbrev pub no_blocks : BlockNames
+no_blocks = record { jobs = []; bodies = [] }
+
 -- the section that the next line stands in; the words, and whether a `words` and a `word` line came; the objects, the
 -- faults and the grain of the prologue, and the variables that its handles are in; the names of the variables and of the
--- slots; the names of the blocks that have begun; the blocks that have ended, of the one under way the transactions that
--- have ended, and of the transaction under way the statements
+-- slots; the names of the jobs and of the bodies that have begun; the blocks that have ended, of the one under way the
+-- transactions that have ended, and of the transaction under way the statements
 pub record Said : Type 0 where
   pub section : Section
   pub words : List ℕ
@@ -31,6 +40,7 @@ pub record Said : Type 0 where
   pub handles : List ℕ
   pub names : Names
   pub jobs : List (List ℕ)
+  pub bodies : List (List ℕ)
   pub blocks : List Block
   pub transactions : List (List Statement)
   pub body : List Statement
@@ -48,6 +58,7 @@ opening = record {
   handles = [];
   names = no_names;
   jobs = [];
+  bodies = [];
   blocks = [];
   transactions = [];
   body = [];

@@ -1,6 +1,6 @@
 -- What a script says, and what a script that was read keeps to.
-use Rattle.std.specs.Prelude.{◌≡◌, ℕ, ◌+◌, ◌*◌, ◌<◌, ◌≤◌, List, [], ◌∷◌, length, map, All, count_by, nat_eq, nat_lt, Result, Ok, Err}
-use Rattle.std.specs.Prelude.{if◌then◌else◌}
+use Rattle.std.specs.Prelude.{◌≡◌, ℕ, ◌+◌, ◌*◌, ◌<◌, ◌≤◌, List, [], ◌∷◌, ◌++◌, length, map, All, IsPermutation, count_by, nat_eq}
+use Rattle.std.specs.Prelude.{nat_lt, Result, Ok, Err, if◌then◌else◌}
 use Rattle.std.specs.Cmp.Lexicographic.{pointwise}
 use Rattle.std.specs.List.{IsDistinct}
 use Rattle.xc_data.specs.declared.script.FaultLine.{FaultLine}
@@ -37,7 +37,7 @@ script_of s = record {
   outline = record {
     words = s.words;
     prologue = prologue_of s;
-    bodies = [];
+    bodies = s.bodies;
     jobs = s.jobs;
   };
   blocks = s.blocks;
@@ -78,8 +78,7 @@ pub record IsScript (s : Script) : Type 0 where
   pub few_words : length s.outline.words ≤ 4096
   pub few_blocks : length s.blocks ≤ 1000
   pub distinct : IsDistinct (pointwise nat_eq) (names_of s.blocks)
-  pub jobs : s.outline.jobs ≡ names_of s.blocks
-  pub bodies : s.outline.bodies ≡ []
+  pub named : IsPermutation (s.outline.jobs ++ s.outline.bodies) (names_of s.blocks)
   pub prologue : IsPrologue s.outline.prologue
   pub faults : All IsOneCall s.outline.prologue.faults
   pub each_block : All IsBlock s.blocks

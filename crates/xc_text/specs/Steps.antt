@@ -1,6 +1,6 @@
 -- What one more line adds to what was said so far.
-use Rattle.std.specs.Prelude.{ℕ, ◌||◌, ◌&&◌, Bool, true, false, List, [], ◌∷◌, ◌++◌, length, count_by, nat_eq, nat_le, nat_lt, replicate}
-use Rattle.std.specs.Prelude.{slice_set, is_some, Option, Some, None, Result, Ok, Err, if◌then◌else◌}
+use Rattle.std.specs.Prelude.{ℕ, ◌+◌, ◌||◌, ◌&&◌, Bool, true, false, List, [], ◌∷◌, ◌++◌, length, count_by, nat_eq, nat_le, nat_lt}
+use Rattle.std.specs.Prelude.{replicate, slice_set, is_some, Option, Some, None, Result, Ok, Err, if◌then◌else◌}
 use Rattle.std.specs.List.{list_all, list_any}
 use Rattle.std.specs.Cmp.Lexicographic.{pointwise}
 use Rattle.xc_data.specs.declared.script.Kind.{Kind}
@@ -13,7 +13,7 @@ use Rattle.xc_text.specs.declared.line.Line.TheVariants as line
 use Rattle.xc_text.specs.declared.line.Section.TheVariants.{Between, Block, Transaction}
 use Rattle.xc_tokens.specs.declared.why.Why.{Why}
 use Rattle.xc_tokens.specs.declared.why.Why.TheVariants.{BadByte, UnknownLine, BadNumber, Twice, TooMany}
-use Rattle.xc_tokens.specs.Answers.{and_then}
+use Rattle.xc_tokens.specs.Answers.{and_then, seen}
 use Rattle.xc_text.specs.Grammar.{line_of}
 use Rattle.xc_tokens.specs.Lines.{is_line_byte}
 use Rattle.xc_text.specs.Said.{Names, Said}
@@ -112,12 +112,20 @@ grained s n =
     else if is_some s.grain then Err Twice
     else Ok (record s { grain = Some n })
 
--- a block begins, one of a name, and at most 1,000
+-- a block may begin: one of a name, and at most 1,000 of both kinds
+abbrev pub may_begin : Said → List ℕ → Result (Unit {0}) Why
+may_begin s name =
+    if is_among name (s.jobs ++ s.bodies) then Err Twice
+    else if nat_le 1000 (length s.jobs + length s.bodies) then Err TooMany
+    else Ok tt
+
+-- a job begins
 abbrev pub started : Said → List ℕ → Result Said Why
-started s name =
-    if is_among name s.jobs then Err Twice
-    else if nat_le 1000 (length s.jobs) then Err TooMany
-    else Ok (record s { section = Block name; jobs = s.jobs ++ name ∷ [] })
+started s name = seen (λ _. record s { section = Block name; jobs = s.jobs ++ name ∷ [] }) (may_begin s name)
+
+-- a body begins
+abbrev pub bodied : Said → List ℕ → Result Said Why
+bodied s name = seen (λ _. record s { section = Block name; bodies = s.bodies ++ name ∷ [] }) (may_begin s name)
 
 -- at most 1,000 transactions in a block
 abbrev pub begun : Said → Option (List ℕ) → Result Said Why
@@ -161,6 +169,7 @@ after s (line.Pair first second) = paired s first second
 after s (line.Fault kind n) = faulted s kind n
 after s (line.Grain n) = grained s n
 after s (line.Job name) = started s name
+after s (line.Body name) = bodied s name
 after s line.Begin = begun s (block_in s.section)
 after s (line.Statement statement) = stated s statement
 after s line.Commit = committed s (transaction_in s.section)

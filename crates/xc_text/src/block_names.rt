@@ -1,4 +1,6 @@
-ghost use Rattle.std.specs.Prelude.{◌≡◌, ◌++◌, ◌∷◌, [], false, length, OnOk, OnErr};
+ghost use Rattle.std.specs.Prelude.{◌≡◌, ◌++◌, ◌∷◌, [], ◌+◌, false, length, OnOk, OnErr, None};
+ghost use Rattle.std.specs.FinMap as map;
+ghost use Rattle.xc_text.specs.Said.{no_blocks};
 ghost use Rattle.xc_text.specs.Steps.{is_among};
 
 use std::alloc::Global;
@@ -6,67 +8,92 @@ use std::marker::Model;
 use xc_data::{Ident, IdentList, Items, NoMemory};
 use xc_maps::IdentMap;
 
-/// The names of blocks, in the order of their lines, and looked up by an index.
+/// The names of blocks, those of jobs and those of bodies, in the order of their lines, and looked up by one index.
 #[derive(Drop)]
 pub struct BlockNames {
-    names: IdentList,
+    jobs: IdentList,
+    bodies: IdentList,
     index: IdentMap<()>,
 }
 
 impl Model for BlockNames {
-    ghost use Rattle.std.specs.Prelude.{ℕ, List};
+    ghost use Rattle.std.specs.Prelude.{◌++◌};
+    ghost use Rattle.xc_text.specs.Said.{BlockNames as PlainBlockNames};
     ghost use Rattle.xc_text.specs.Views.{Indexes};
 
-    ghost Value = { List (List ℕ) };
+    ghost Value = { PlainBlockNames };
 
-    ghost view = { λ a. a.names };
+    ghost view = { λ a. record { jobs = a.jobs; bodies = a.bodies } };
 
-    ghost invariant = { λ a. Indexes a.index a.names };
+    ghost invariant = { λ a. Indexes a.index (a.jobs ++ a.bodies) };
+}
+
+// A name that the index hasn't goes behind these names and into the index.
+fn add(index: &mut IdentMap<()>, names: &mut IdentList, name: Ident) -> Result<(), NoMemory>
+    requires new { map.get index.old name ≡ None }
+    ensures index { OnOk result (index.new ≡ map.insert index.old name tt) }
+    ensures names { OnOk result (names.new ≡ names.old ++ name ∷ []) }
+    ensures err { OnErr result ((index.new ≡ index.old) × (names.new ≡ names.old)) }
+{
+    index.insert(name, ())?;
+    match names.push(name) {
+        Ok(()) => Ok(()),
+        Err(NoMemory) => {
+            index.remove(name);
+            Err(NoMemory)
+        }
+    }
 }
 
 impl BlockNames {
     pub fn new(alloc: Global) -> Self
-        ensures { result ≡ [] }
+        ensures { result ≡ no_blocks }
     {
         BlockNames {
-            names: Items::new(alloc),
+            jobs: Items::new(alloc),
+            bodies: Items::new(alloc),
             index: IdentMap::new(alloc),
         }
     }
 
     pub fn len(&self) -> usize
-        ensures { result ≡ length self.now }
+        ensures { result ≡ length self.now.jobs + length self.now.bodies }
     {
-        self.names.len()
+        self.jobs.as_slice().len() + self.bodies.as_slice().len()
     }
 
     /// A block has the name.
     pub fn has(&self, name: Ident) -> bool
-        ensures { result ≡ is_among name self.now }
+        ensures { result ≡ is_among name (self.now.jobs ++ self.now.bodies) }
     {
         self.index.get(name).is_some()
     }
 
-    /// Adds a name that no block has.
-    pub fn push(&mut self, name: Ident) -> Result<(), NoMemory>
-        requires new { is_among name self.old ≡ false }
-        ensures ok { OnOk result (self.new ≡ self.old ++ name ∷ []) }
+    /// Adds the name of a job, which no block has.
+    pub fn push_job(&mut self, name: Ident) -> Result<(), NoMemory>
+        requires new { is_among name (self.old.jobs ++ self.old.bodies) ≡ false }
+        ensures ok { OnOk result (self.new ≡ record self.old { jobs = self.old.jobs ++ name ∷ [] }) }
         ensures err { OnErr result (self.new ≡ self.old) }
     {
-        self.index.insert(name, ())?;
-        match self.names.push(name) {
-            Ok(()) => Ok(()),
-            Err(NoMemory) => {
-                self.index.remove(name);
-                Err(NoMemory)
-            }
-        }
+        add(&mut self.index, &mut self.jobs, name)?;
+        Ok(())
     }
 
-    /// It takes no memory.
-    pub fn into_names(self) -> IdentList
-        ensures { result ≡ self }
+    /// Adds the name of a body, which no block has.
+    pub fn push_body(&mut self, name: Ident) -> Result<(), NoMemory>
+        requires new { is_among name (self.old.jobs ++ self.old.bodies) ≡ false }
+        ensures ok { OnOk result (self.new ≡ record self.old { bodies = self.old.bodies ++ name ∷ [] }) }
+        ensures err { OnErr result (self.new ≡ self.old) }
     {
-        self.names
+        add(&mut self.index, &mut self.bodies, name)?;
+        Ok(())
+    }
+
+    /// The names of the jobs, and those of the bodies. It takes no memory.
+    pub fn into_lists(self) -> (IdentList, IdentList)
+        ensures jobs { result.0 ≡ self.jobs }
+        ensures bodies { result.1 ≡ self.bodies }
+    {
+        (self.jobs, self.bodies)
     }
 }

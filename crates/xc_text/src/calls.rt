@@ -1,7 +1,8 @@
 //! Lines that are calls.
 
 ghost use Rattle.std.specs.Prelude.{◌≡◌, map};
-ghost use Rattle.xc_text.specs.Calls.{call_kinds, word_form, name_form, handle_form, pipe_form, pair_form, form_of, call_line as call_said};
+ghost use Rattle.xc_text.specs.Calls.{call_kinds, word_form, name_form, handle_form, pipe_form, pair_form, thread_form, form_of};
+ghost use Rattle.xc_text.specs.Calls.{call_line as call_said};
 ghost use Rattle.xc_text.specs.declared.calls.NameCall.TheVariants.{Rename};
 ghost use Rattle.xc_tokens.specs.Answers.{Gives};
 ghost use Rattle.xc_tokens.specs.ByWord.{by_word as found_by};
@@ -9,9 +10,9 @@ ghost use Rattle.xc_tokens.specs.Views.{lexeme};
 
 use crate::script::{CallForm, Statement};
 use crate::shapes::{
-    handle_alone, handle_and_data, handle_and_slot, handle_and_term, handle_data_slot, handle_into,
-    handle_term_into, name_and_slot, name_into, target, term_and_expression, term_into, two_names,
-    two_targets,
+    handle_alone, handle_and_data, handle_and_term, handle_data_slot, handle_into,
+    handle_term_into, ident_and_slot, name_and_slot, name_into, target, term_and_expression,
+    term_into, two_names, two_targets,
 };
 use std::alloc::Global;
 use xc_data::Boxed;
@@ -63,7 +64,7 @@ pub enum PairCall {
 }
 
 /// The kinds of calls, which the first word of a line tells: on words, on names of files, through the handle of a file, on
-/// pipes, and on socket pairs.
+/// pipes, on socket pairs, and the one that starts a job.
 #[derive(Clone, Copy)]
 pub enum CallKind {
     Word(WordCall),
@@ -71,10 +72,11 @@ pub enum CallKind {
     Handle(HandleCall),
     Pipe(PipeCall),
     Pair(PairCall),
+    Thread,
 }
 
 /// The words that lines begin with which are calls.
-const CALL_KINDS: [(&[u8], CallKind); 20] = [
+const CALL_KINDS: [(&[u8], CallKind); 21] = [
     (b"load", CallKind::Word(WordCall::Load)),
     (b"store", CallKind::Word(WordCall::Store)),
     (b"x_open", CallKind::Name(NameCall::Open)),
@@ -95,6 +97,7 @@ const CALL_KINDS: [(&[u8], CallKind); 20] = [
     (b"x_pair", CallKind::Pair(PairCall::Make)),
     (b"x_recvmsg", CallKind::Pair(PairCall::Receive)),
     (b"x_sendmsg", CallKind::Pair(PairCall::Send)),
+    (b"x_thread_create", CallKind::Thread),
 ];
 
 fn call_kind(word: &[u8]) -> Option<CallKind>
@@ -186,7 +189,7 @@ fn handle_call<'a>(
             handle: handle_alone(rest)?,
         }),
         HandleCall::Sync => {
-            let (handle, slot) = handle_and_slot(rest)?;
+            let (handle, slot) = ident_and_slot(rest)?;
             Ok(CallForm::Sync { handle, slot })
         }
     }
@@ -212,7 +215,7 @@ fn pipe_call<'a>(
             Ok(CallForm::WritePipe { handle, data, slot })
         }
         PipeCall::Shutdown => {
-            let (handle, slot) = handle_and_slot(rest)?;
+            let (handle, slot) = ident_and_slot(rest)?;
             Ok(CallForm::Shutdown { handle, slot })
         }
     }
@@ -240,6 +243,14 @@ fn pair_call<'a>(
     }
 }
 
+fn thread_call<'a>(alloc: Global, rest: &[Token<'a>]) -> Result<CallForm<IdentWord<'a>>, Stop>
+    ensures { Gives (λ form. form) result (thread_form (map lexeme rest.now)) }
+{
+    let (block, slot) = ident_and_slot(rest)?;
+    let block = Boxed::new(alloc, block.ident())?;
+    Ok(CallForm::Start { block, slot })
+}
+
 // The call of a kind that the tokens behind its word make.
 fn call_form<'a>(
     alloc: Global,
@@ -254,6 +265,7 @@ fn call_form<'a>(
         CallKind::Handle(call) => handle_call(alloc, call, rest),
         CallKind::Pipe(call) => pipe_call(alloc, call, rest),
         CallKind::Pair(call) => pair_call(alloc, call, rest),
+        CallKind::Thread => thread_call(alloc, rest),
     }
 }
 

@@ -1,11 +1,12 @@
-ghost use Rattle.std.specs.Prelude.{◌≡◌, ◌≤◌, map, replicate, IfOk};
+ghost use Rattle.std.specs.Prelude.{◌≡◌, ◌≤◌, ◌++◌, false, map, replicate, IfOk, IsOk};
 ghost use Rattle.xc_tokens.specs.Answers.{Gives, and_then};
 ghost use Rattle.xc_tokens.specs.Views.{lexeme};
 ghost use Rattle.xc_text.specs.Grammar.{prologue_line, between_line, block_line, transaction_line, worded_line, first_line};
 ghost use Rattle.xc_text.specs.Said.{opening};
 ghost use Rattle.xc_text.specs.Scripts.{script_of};
 ghost use Rattle.xc_text.specs.Sections.{block_in, is_outside, transaction_in};
-ghost use Rattle.xc_text.specs.Steps.{started, begun, stated, stated_as, committed, ended_block, after, after_tokens, after_bytes};
+ghost use Rattle.xc_text.specs.Steps.{is_among, may_begin, started, bodied, begun, stated, stated_as, committed, ended_block};
+ghost use Rattle.xc_text.specs.Steps.{after, after_tokens, after_bytes};
 
 use crate::block_names::BlockNames;
 use crate::counted::Counted;
@@ -42,7 +43,7 @@ pub struct Draft {
     handles: Items<Place>,
     names: Names,
     /// The names of all blocks, also of the one under way.
-    jobs: BlockNames,
+    block_names: BlockNames,
     /// The blocks that have ended.
     blocks: Items<Block>,
     /// The transactions of the block under way that have ended.
@@ -66,7 +67,8 @@ impl Model for Draft {
       grain = a.grain;
       handles = a.handles;
       names = a.names;
-      jobs = a.jobs;
+      jobs = a.block_names.jobs;
+      bodies = a.block_names.bodies;
       blocks = a.blocks;
       transactions = a.transactions;
       body = a.body;
@@ -95,7 +97,7 @@ impl Draft {
             grain: None,
             handles: Items::new(alloc),
             names: Names::new(alloc),
-            jobs: BlockNames::new(alloc),
+            block_names: BlockNames::new(alloc),
             blocks: Items::new(alloc),
             transactions: Items::new(alloc),
             body: Counted::new(alloc),
@@ -110,9 +112,10 @@ impl Draft {
     }
 
     /// The whole script.
-    pub fn into_script(self, alloc: Global) -> Script
+    pub fn into_script(self) -> Script
         ensures { result ≡ script_of self }
     {
+        let (jobs, bodies) = self.block_names.into_lists();
         let prologue = Prologue {
             objects: self.objects.into_objects(),
             faults: self.faults,
@@ -122,8 +125,8 @@ impl Draft {
             outline: Outline {
                 words: self.words,
                 prologue,
-                bodies: Items::new(alloc),
-                jobs: self.jobs.into_names(),
+                bodies,
+                jobs,
             },
             blocks: self.blocks,
             variables: self.names.variables,
@@ -132,16 +135,34 @@ impl Draft {
         }
     }
 
-    fn start(&mut self, name: Ident) -> Result<(), Stop>
+    // A block of this name may begin.
+    fn check_block(&self, name: Ident) -> Result<(), Why>
+        ensures check { result ≡ may_begin self.now name }
+        ensures new { IsOk result → is_among name (self.now.jobs ++ self.now.bodies) ≡ false }
+    {
+        if self.block_names.has(name) {
+            return Err(Why::Twice);
+        }
+        if self.block_names.len() >= MOST_BLOCKS {
+            return Err(Why::TooMany);
+        }
+        Ok(())
+    }
+
+    fn start_job(&mut self, name: Ident) -> Result<(), Stop>
         ensures { Gives (λ _. self.new) result (started self.old name) }
     {
-        if self.jobs.has(name) {
-            return Err(Stop::Refused(Why::Twice));
-        }
-        if self.jobs.len() >= MOST_BLOCKS {
-            return Err(Stop::Refused(Why::TooMany));
-        }
-        self.jobs.push(name)?;
+        self.check_block(name)?;
+        self.block_names.push_job(name)?;
+        self.section = Section::Block(name);
+        Ok(())
+    }
+
+    fn start_body(&mut self, name: Ident) -> Result<(), Stop>
+        ensures { Gives (λ _. self.new) result (bodied self.old name) }
+    {
+        self.check_block(name)?;
+        self.block_names.push_body(name)?;
         self.section = Section::Block(name);
         Ok(())
     }
@@ -227,7 +248,8 @@ impl Draft {
             Line::Pair { first, second } => self.pair(&first, &second),
             Line::Fault { kind, n } => self.fault(kind, n),
             Line::Grain(n) => self.set_grain(n),
-            Line::Job(name) => self.start(name),
+            Line::Job(name) => self.start_job(name),
+            Line::Body(name) => self.start_body(name),
             Line::Begin => self.begin(),
             Line::Statement(statement) => self.state(alloc, &statement),
             Line::Commit => self.commit(alloc),

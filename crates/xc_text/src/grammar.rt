@@ -3,6 +3,7 @@
 ghost use Rattle.std.specs.Prelude.{◌≡◌, map};
 ghost use Rattle.xc_tokens.specs.Answers.{Gives};
 ghost use Rattle.xc_text.specs.Grammar.{words_line as words_said, word_line as word_said, file_line as file_said, job_line as job_said};
+ghost use Rattle.xc_text.specs.Grammar.{body_line as body_said};
 ghost use Rattle.xc_text.specs.Grammar.{pipe_line as pipe_said, pair_line as pair_said, fault_line as fault_said, grain_line as grain_said};
 ghost use Rattle.xc_text.specs.Grammar.{prologue_line as prologue_said, between_line as between_said};
 ghost use Rattle.xc_tokens.specs.Literals.{only_literals as literals_alone};
@@ -94,6 +95,15 @@ fn job_line<'a>(tokens: &[Token<'a>]) -> Result<Line<'a>, Why>
     }
 }
 
+fn body_line<'a>(tokens: &[Token<'a>]) -> Result<Line<'a>, Why>
+    ensures { result ≡ body_said (map lexeme tokens.now) }
+{
+    match tokens {
+        [name] => Ok(Line::Body(ident(name)?)),
+        _ => Err(Why::BadForm),
+    }
+}
+
 fn fault_line<'a>(tokens: &[Token<'a>]) -> Result<Line<'a>, Why>
     ensures { result ≡ fault_said (map lexeme tokens.now) }
 {
@@ -143,6 +153,9 @@ pub fn prologue_line<'a>(alloc: Global, word: &[u8], rest: &[Token<'a>]) -> Resu
     if spells(word, b"job") {
         return Ok(job_line(rest)?);
     }
+    if spells(word, b"body") {
+        return Ok(body_line(rest)?);
+    }
     Err(Stop::Refused(Why::UnknownLine))
 }
 
@@ -152,6 +165,9 @@ pub fn between_line<'a>(word: &[u8], rest: &[Token<'a>]) -> Result<Line<'a>, Why
 {
     if spells(word, b"job") {
         return job_line(rest);
+    }
+    if spells(word, b"body") {
+        return body_line(rest);
     }
     Err(Why::UnknownLine)
 }

@@ -81,6 +81,8 @@ pub enum Line<'a> {
     Grain(u64),
     /// A `job` block begins.
     Job(Ident),
+    /// A `body` block begins.
+    Body(Ident),
     /// A transaction begins.
     Begin,
     Statement(Statement<IdentWord<'a>>),

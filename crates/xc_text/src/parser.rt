@@ -13,7 +13,7 @@ use std::alloc::Global;
 use xc_tokens::{Stop, Why, first_line};
 
 // The script of all lines, whose number is given.
-fn close(alloc: Global, draft: Draft, lines: u32) -> Result<Script, ParseErr>
+fn close(draft: Draft, lines: u32) -> Result<Script, ParseErr>
     ensures { Reads result (read_from lines draft []) }
 {
     if !draft.is_outside() {
@@ -22,7 +22,7 @@ fn close(alloc: Global, draft: Draft, lines: u32) -> Result<Script, ParseErr>
             why: Why::Unclosed,
         });
     }
-    Ok(draft.into_script(alloc))
+    Ok(draft.into_script())
 }
 
 fn read_lines(alloc: Global, bytes: &[u8]) -> Result<Script, ParseErr>
@@ -43,7 +43,7 @@ fn read_lines(alloc: Global, bytes: &[u8]) -> Result<Script, ParseErr>
         }
         rest = behind;
     }
-    close(alloc, draft, lines)
+    close(draft, lines)
 }
 
 /// Reads a script: what the grammar says of the bytes, or the first bad line with its first reason.

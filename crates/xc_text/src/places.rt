@@ -10,7 +10,7 @@ ghost use Rattle.xc_text.specs.Places.{placed as placed_statement};
 use crate::names::Names;
 use crate::script::{CallForm, Data, Expression, Item, Place, Statement, Term, Test};
 use std::alloc::Global;
-use xc_data::{Boxed, Items, Name, NoMemory};
+use xc_data::{Boxed, Ident, Items, Name, NoMemory};
 use xc_tokens::IdentWord;
 
 fn place_term(names: &mut Names, term: &Term<IdentWord>) -> Result<Term<Place>, NoMemory>
@@ -396,6 +396,22 @@ fn place_send(
     Ok(CallForm::Send { handle, data, slot })
 }
 
+// Its block is no variable.
+#[inline(never)]
+fn place_start(
+    alloc: Global,
+    names: &mut Names,
+    block: &Boxed<Ident>,
+    slot: &Option<IdentWord>,
+) -> Result<CallForm<Place>, NoMemory>
+    ensures names { OnOk result (names.new ≡ (placed_form names.old (call.Start block.now slot.now)).0) }
+    ensures placed { IfOk result (λ placed. placed ≡ (placed_form names.old (call.Start block.now slot.now)).1) }
+{
+    let slot = place_ending(names, slot)?;
+    let block = block.copied(alloc)?;
+    Ok(CallForm::Start { block, slot })
+}
+
 // The form with the places of its variables and slots, read or written; those that are new take the next ones.
 fn place_form(
     alloc: Global,
@@ -428,6 +444,7 @@ fn place_form(
         CallForm::Pair { into } => place_pair(names, into),
         CallForm::Receive { handle, into } => place_receive(names, handle, into),
         CallForm::Send { handle, data, slot } => place_send(alloc, names, handle, data, slot),
+        CallForm::Start { block, slot } => place_start(alloc, names, block, slot),
     }
 }
 

@@ -144,6 +144,11 @@ pub enum CallForm<N> {
         data: Data<N>,
         slot: Option<N>,
     },
+    /// Starts a job at the begin of a block, at the commit. No block needs to have the name.
+    Start {
+        block: Boxed<Ident>,
+        slot: Option<N>,
+    },
 }
 
 /// A line of a transaction between its `tx` and its `commit`.
@@ -173,7 +178,7 @@ pub type Place = u16;
 /// The statements of one transaction, in order.
 pub type Body = Items<Statement<Place>>;
 
-/// A `job` block and its transactions, in order.
+/// A `job` or a `body` block and its transactions, in order.
 #[derive(Drop)]
 pub struct Block {
     pub name: Ident,

@@ -229,8 +229,8 @@ pub fn handle_and_term<'a>(
     }
 }
 
-/// `H`, `H slot S`
-pub fn handle_and_slot<'a>(
+/// `H`, `H slot S`, or the name of a block in place of `H`
+pub fn ident_and_slot<'a>(
     tokens: &[Token<'a>],
 ) -> Result<(IdentWord<'a>, Option<IdentWord<'a>>), Why>
     ensures { result ≡ led ident_said slot_ending_said (map lexeme tokens.now) }
