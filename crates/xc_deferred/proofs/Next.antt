@@ -1,12 +1,13 @@
 -- The first late call that has no end yet, and how it ends.
 use Rattle.std.proofs.Common.{◌≡◌, ℕ, zero, suc, Some, List, [], ◌∷◌, ◌++◌, length, drop, ap, sym, ◌∙◌, subst}
 use Rattle.std.specs.List.{slice_get}
+use Rattle.xc_data.specs.Calls.{thread_in}
 use Rattle.xc_data.specs.declared.call.LateCall.{LateCall}
 use Rattle.xc_data.specs.declared.call.LateEnd.{LateEnd}
 use Rattle.xc_host.specs.Model.{HostModel}
 use Rattle.xc_deferred.specs.Does.{EndsNext}
 use Rattle.xc_deferred.specs.Ended.{EndsAt}
-use Rattle.xc_deferred.specs.Queue.{Queue, left}
+use Rattle.xc_deferred.specs.Queue.{Queue, left, next_thread}
 
 abbrev of : List LateCall → List LateEnd → Queue
 of calls ends = record { calls = calls; ends = ends }
@@ -20,6 +21,11 @@ drop_at (c ∷ cs) (suc n) call there = drop_at cs n call there
 pub left_at : (q : Queue) (calls : List LateCall) (ends : List LateEnd) (n : ℕ) (call : LateCall) → of calls ends ≡ q → n ≡ length ends
     → slice_get calls n ≡ Some call → left q ≡ call ∷ drop (suc n) calls
 left_at q calls ends n call view size there = sym (ap left view) ∙ ap (λ k. drop k calls) (sym size) ∙ drop_at calls n call there
+
+-- it starts the next job, where it starts one
+pub next_at : (q : Queue) (calls : List LateCall) (ends : List LateEnd) (n : ℕ) (call : LateCall) → of calls ends ≡ q → n ≡ length ends
+    → slice_get calls n ≡ Some call → next_thread (left q) ≡ thread_in call
+next_at q calls ends n call view size there = ap next_thread (left_at q calls ends n call view size there)
 
 -- the first call that is left was done, and its end stands behind the others
 pub ends_next : {H : Type 0} (model : HostModel H) (was is : H) (q : Queue) (calls : List LateCall) (ends now : List LateEnd) (n : ℕ) (done : LateCall)

@@ -1,4 +1,5 @@
-ghost use Rattle.std.specs.Prelude.{◌≡◌, true, IsTrue};
+ghost use Rattle.std.specs.Prelude.{◌≡◌, true, None, IsTrue};
+ghost use Rattle.xc_data.specs.Calls.{thread_in};
 ghost use Rattle.xc_data.specs.declared.call.LateCall.TheVariants.{Unlink, Sync, Shutdown};
 ghost use Rattle.xc_host.specs.Contents.{has_file};
 ghost use Rattle.xc_host.specs.Fronted.{before, fronted};
@@ -6,7 +7,7 @@ ghost use Rattle.xc_host.specs.Kept.{KeepsData};
 ghost use Rattle.xc_host.specs.Pipes.{is_shuttable};
 ghost use Rattle.xc_deferred.specs.Does.{IsThereFor};
 ghost use Rattle.xc_deferred.specs.Ended.{EndsAt};
-ghost use Rattle.xc_deferred.specs.Queue.{is_late_built};
+ghost use Rattle.xc_deferred.specs.Queue.{is_late_fit};
 
 use crate::putting::write_pipe;
 use crate::sending::send;
@@ -54,9 +55,10 @@ fn shut<H: Host>(host: &mut H, object: &Object) -> LateEnd
     }
 }
 
-/// Does a late call at a host with kept items in front of it, and answers how it ended.
+/// Does a late call that starts no job at a host with kept items in front of it, and answers how it ended.
 pub(crate) fn do_late<H: Host>(host: &mut H, kept: &Kept, call: &LateCall) -> LateEnd
-    requires built { is_late_built call.now ≡ true }
+    requires fit { is_late_fit call.now ≡ true }
+    requires hosted { thread_in call.now ≡ None }
     requires there { IsTrue H.model.tells → IsThereFor (H.model.contents host.old) call.now }
     ensures ends { EndsAt (fronted H.model) call.now (record {
       old = before host.old kept.now.items;
@@ -70,6 +72,7 @@ pub(crate) fn do_late<H: Host>(host: &mut H, kept: &Kept, call: &LateCall) -> La
         LateCall::WritePipe(pipe, bytes) => write_pipe(host, kept, *pipe, bytes),
         LateCall::Shutdown(object) => shut(host, object),
         LateCall::Send { pair, side, bytes } => send(host, kept, *pair, *side, bytes),
+        // The contract leaves no call that starts a job.
         LateCall::Thread(_) => unreachable!(),
     }
 }

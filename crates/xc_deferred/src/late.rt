@@ -1,7 +1,8 @@
-ghost use Rattle.std.specs.Prelude.{◌≡◌, ◌<◌, ◌++◌, ◌∷◌, [], List, true, length, MatchBool, OnOk, OnErr, IsTrue};
+ghost use Rattle.std.specs.Prelude.{◌≡◌, ◌<◌, ◌++◌, ◌∷◌, [], List, true, length, None, MatchBool, OnOk, OnErr, IsTrue};
+ghost use Rattle.xc_data.specs.Calls.{thread_in};
 ghost use Rattle.xc_data.specs.declared.call.LateCall.{LateCall as PlainCall};
 ghost use Rattle.xc_deferred.specs.Does.{EndsNext, IsThereFor};
-ghost use Rattle.xc_deferred.specs.Queue.{is_late_built, left};
+ghost use Rattle.xc_deferred.specs.Queue.{is_late_fit, left, next_thread};
 ghost use Rattle.xc_host.specs.Fronted.{before, fronted};
 ghost use Rattle.xc_host.specs.Kept.{KeepsData};
 
@@ -9,9 +10,20 @@ use crate::doing::do_late;
 use std::alloc::Global;
 use std::marker::Model;
 use xc_buffers::Kept;
-use xc_data::{LateCall, LateEnd, LateList, NoMemory};
+use xc_data::{Ident, LateCall, LateEnd, LateList, NoMemory};
 use xc_host::Host;
 use xc_journal::Roomy;
+
+// The block of the job that a call starts, where it starts one.
+fn thread_in(call: &LateCall) -> Option<Ident>
+    ensures { result ≡ thread_in call.now }
+{
+    match call {
+        LateCall::Thread(block) => Some(*block),
+        LateCall::Unlink(_) | LateCall::Sync(_) | LateCall::WritePipe(..) => None,
+        LateCall::Shutdown(_) | LateCall::Send { .. } => None,
+    }
+}
 
 /// A transaction's calls that are kept for its commit, in the order in which they were made, with the ends
 /// of those that are done.
@@ -46,7 +58,7 @@ impl Late {
 
     /// Keeps a call behind the others.
     pub fn push(&mut self, call: LateCall) -> Result<(), NoMemory>
-        requires built { is_late_built call ≡ true }
+        requires fit { is_late_fit call ≡ true }
         ensures ok { OnOk result (self.new ≡ record self.old { calls = self.old.calls ++ call ∷ [] }) }
         ensures err { OnErr result (self.new ≡ self.old) }
     {
@@ -68,10 +80,30 @@ impl Late {
         self.ends.len() < self.calls.len()
     }
 
-    /// Does the first call that has no end yet, at a host with kept items in front of it, and notes how it ended. It
-    /// takes no memory of its own.
+    /// The block of the job that the first call without an end starts; None exactly where no such call is left or it is of
+    /// another kind. It takes no memory.
+    pub fn next_thread(&self) -> Option<Ident>
+        ensures { result ≡ next_thread (left self.now) }
+    {
+        if !self.has_left() {
+            return None;
+        }
+        thread_in(self.calls.get(self.ends.len()))
+    }
+
+    /// Notes the end of the first call that has none, which starts a job. It takes no memory.
+    pub fn end_thread(&mut self, end: LateEnd)
+        requires left { 0 < length (left self.old) }
+        ensures { self.new ≡ record self.old { ends = self.old.ends ++ end ∷ [] } }
+    {
+        self.ends.enter(end)
+    }
+
+    /// Does the first call that has no end yet, which starts no job, at a host with kept items in front of it, and notes how
+    /// it ended. It takes no memory of its own.
     pub fn do_one<H: Host>(&mut self, host: &mut H, kept: &Kept)
         requires left { 0 < length (left self.old) }
+        requires hosted { next_thread (left self.old) ≡ None }
         requires there { IsTrue H.model.tells → (call : PlainCall) (calls : List PlainCall) → left self.old ≡ call ∷ calls
             → IsThereFor (H.model.contents host.old) call }
         ensures ends { (call : PlainCall) (calls : List PlainCall) → left self.old ≡ call ∷ calls

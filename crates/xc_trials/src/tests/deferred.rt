@@ -24,7 +24,7 @@ fn ends_so(
     calls: &[Kind],
 ) -> bool {
     for _ in 0..9 {
-        if late.has_left() {
+        if late.has_left() && late.next_thread().is_none() {
             late.do_one(&mut host, kept);
         }
     }
