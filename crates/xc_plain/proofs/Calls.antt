@@ -2,8 +2,6 @@
 use Rattle.std.proofs.Common.{◌≡◌, ℕ, ◌+◌, ◌≤◌, Bool, true, false, List, [], ◌∷◌, ◌++◌, length, zero, suc, cond, refl, ap, sym, ◌∙◌, subst, arith}
 use Rattle.std.proofs.Common.{append_assoc}
 use Rattle.std.specs.Prelude.{map, count_by, sum_by, if◌then◌else◌}
-use Rattle.std.specs.List.{list_all}
-use Rattle.std.proofs.lemmas.Bool.{and_from}
 use Rattle.std.proofs.lemmas.List.{append-nil}
 use Rattle.std.proofs.lemmas.List.Sums.{sum_by-cons}
 use Rattle.xc_data.specs.Faults.{is_fault_reply}
@@ -17,8 +15,6 @@ use Rattle.xc_script.specs.Ask.{Variables, Walk, is_silent, set_by, settled, ask
 use Rattle.xc_script.specs.Ask.{bound, target_of, stored_after, refuses}
 use Rattle.xc_script.specs.declared.ask.Ask.{Ask}
 use Rattle.xc_script.specs.declared.ask.Ask.TheVariants as ask
-use Rattle.xc_story.specs.Rows.{is_built}
-use Rattle.xc_story.proofs.AskedCalls.{asked_built}
 use Rattle.xc_story.specs.Truth.{AsksEach}
 use Rattle.xc_text.specs.Stated.{Statement}
 use Rattle.xc_world.specs.Act.{act}
@@ -78,14 +74,6 @@ none_replied : (w : World) (me : Private) (tx : ℕ) (more : World → Private �
     → replied w me tx more a ≡ []
 none_replied w me tx more (ask.Call c) e = cc
 none_replied w me tx more _ e = refl
-
--- ---- no call of a script starts a job
--- a body's calls are those that scripts have so far
-pub each_built : (walk : Walk) (calls : List Call) (replies : List Reply) → AsksEach walk calls replies → list_all is_built calls ≡ true
-each_built walk [] replies asked = refl
-each_built walk (c ∷ calls) [] asked = absurd asked
-each_built walk (c ∷ calls) (r ∷ replies) asked =
-    and_from (is_built c) (list_all is_built calls) (asked_built walk c asked.0) (each_built (answered walk r) calls replies asked.1)
 
 -- ---- calls with their replies
 -- the replies of a body that goes on are those so far, and those of the body behind

@@ -1,3 +1,1 @@
-pub mod AskedCalls
-pub mod KeptCalls
 pub mod StartedCalls

@@ -16,7 +16,7 @@ use Rattle.xc_data.specs.declared.entry.Outcome.TheVariants.{Committed, Aborted}
 use Rattle.xc_data.specs.declared.entry.Entry.{Entry}
 use Rattle.xc_data.specs.declared.private.Private.{Private}
 use Rattle.xc_text.specs.declared.script.Script.{Script}
-use Rattle.xc_script.specs.Ask.{Job, Variables, no_variables, passed, fresh_job, block_place}
+use Rattle.xc_script.specs.Ask.{Job, Variables, handed_on, passed, fresh_job, block_place}
 use Rattle.xc_script.specs.Slots.{kept_of, with_ends}
 use Rattle.xc_world.specs.World.{State, beginning, no_handles}
 use Rattle.xc_world.specs.Run.{Ran, Run, body, run, asked_of}
@@ -99,10 +99,6 @@ committed_state state job run blocks =
       world = run.late.world;
       handles = slice_set state.handles (job - 1) run.body.me.places ++ replicate (length blocks) run.body.me.places;
     }
-
--- the variables of a starter, with all slots unset
-abbrev pub handed_on : Script → Variables → Variables
-handed_on script variables = record (no_variables script) { values = variables.values }
 
 -- a job of a block that was started by one with these variables
 abbrev pub started_from : Script → Variables → List ℕ → Job

@@ -244,31 +244,6 @@ abbrev pub HasCalled : (List Kind → Type 0) → Now → Now → Type 0
 HasCalled IsMade old new = (made : List Kind) × IsMade made × IsCalled made old.calls new.calls
 
 -- ---- a running transaction makes the call that is asked
--- the calls that scripts have so far
-abbrev pub is_built : Call → Bool
-is_built (call.Load at) = true
-is_built (call.Store at value) = true
-is_built (call.XOpen name) = true
-is_built (call.XRead h n) = true
-is_built (call.XWriteOvr h bytes) = true
-is_built (call.XWriteSeq h bytes) = true
-is_built (call.XSeek h to) = true
-is_built (call.XLen h) = true
-is_built (call.XClose h) = true
-is_built (call.XCreate name) = true
-is_built (call.XRename from to) = true
-is_built (call.XUnlink name slot) = true
-is_built (call.XSync h slot) = true
-is_built call.XPipe = true
-is_built (call.XReadPipe h n) = true
-is_built (call.XWritePipe h bytes slot) = true
-is_built (call.XShutdown h slot) = true
-is_built call.XPair = true
-is_built (call.XRecvmsg h) = true
-is_built (call.XSendmsg h bytes slot) = true
--- no other call is built so far, nor one yet to come
-is_built _ = false
-
 -- what a call works on beside the host: its transaction's number, the private state, the stores that wait, the records
 pub record Parts : Type 0 where
   pub number : ℕ

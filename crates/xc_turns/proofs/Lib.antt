@@ -26,7 +26,10 @@ pub mod SpokenLists
 pub mod SpokenRows
 pub mod SpokenTurns
 pub mod SpokenTx
+pub mod StartedLists
 pub mod StartedTurns
+pub mod StartersAlone
+pub mod StartsHeld
 pub mod StoryAsks
 pub mod StoryBegins
 pub mod StoryEnds

@@ -118,7 +118,8 @@ owned_merged new (h ∷ held) alone is = by_test (is_object new.object h.object)
         (stronger_later h.mode new.mode alone) e
     by_test false e is later = owned_behind h.object new.object (owned (map (merged new) held)) (exclusive h) (later is)
 
-owned_one : (held : List Claim) (new : Claim) → exclusive new ≡ true → has (owned (holding_one held new)) new.object ≡ true
+-- what is claimed exclusively is owned
+pub owned_one : (held : List Claim) (new : Claim) → exclusive new ≡ true → has (owned (holding_one held new)) new.object ≡ true
 owned_one held new alone = by_test (has (objects held) new.object) refl
   where
     by_test : (b : Bool) → has (objects held) new.object ≡ b → has (owned (if b then map (merged new) held else held ++ new ∷ [])) new.object ≡ true
@@ -132,7 +133,8 @@ seen_still : (held claims : List Claim) (o : Object) → has (objects held) o �
 seen_still held [] o is = is
 seen_still held (c ∷ claims) o is = seen_still (holding_one held c) claims o (seen_still_one held c o is)
 
-owned_still : (held claims : List Claim) (o : Object) → has (owned held) o ≡ true → has (owned (holding held claims)) o ≡ true
+-- what was owned still is
+pub owned_still : (held claims : List Claim) (o : Object) → has (owned held) o ≡ true → has (owned (holding held claims)) o ≡ true
 owned_still held [] o is = is
 owned_still held (c ∷ claims) o is = owned_still (holding_one held c) claims o (owned_still_one held c o is)
 
@@ -184,7 +186,8 @@ exclusive_mode : (m : Mode) → is_exclusive m ≡ true → m ≡ Exclusive
 exclusive_mode Exclusive is = refl
 exclusive_mode Shared is = cc is
 
-owner_of : (held : List Claim) (o : Object) → has (owned held) o ≡ true → OwnsIt held o
+-- what is owned is claimed exclusively
+pub owner_of : (held : List Claim) (o : Object) → has (owned held) o ≡ true → OwnsIt held o
 owner_of [] o is = cc is
 owner_of (c ∷ held) o is = by_mode (exclusive c) refl is (λ later. owned_further c held o (owner_of held o later))
   where
@@ -203,7 +206,8 @@ owned_seen [] o is = is
 owned_seen (c ∷ cs) o is =
     kept_in_front c.object c.object o (owned cs) (objects cs) (exclusive c) true refl (λ _. refl) (owned_seen cs o) is
 
-alone_first : (m : Mode) → compatible Exclusive m ≡ true → ⊥
+-- nothing goes together with an exclusive claim
+pub alone_first : (m : Mode) → compatible Exclusive m ≡ true → ⊥
 alone_first Shared e = cc e
 alone_first Exclusive e = cc e
 

@@ -1,18 +1,27 @@
--- A turn keeps as many jobs started as are live or have ended and as active transactions have started.
-use Rattle.std.proofs.Common.{◌≡◌, ℕ, ◌+◌, ◌≤◌, List, [], ◌∷◌, ◌++◌, length, drop, Option, Some, None, refl, ap, sym, ◌∙◌, subst, arith, append-nil}
-use Rattle.std.proofs.Common.{inl, inr, append_assoc, length-append, length-set}
-use Rattle.std.specs.Prelude.{slice_get, slice_set, sum_by}
-use Rattle.std.proofs.lemmas.List.{length-map}
+-- A turn keeps the order of the started jobs, and that whoever keeps a start owns the jobs.
+use Rattle.std.proofs.Common.{◌≡◌, ◌≢◌, ℕ, ◌+◌, ◌≤◌, Bool, true, false, List, [], ◌∷◌, ◌++◌, length, drop, Option, Some, None, refl, ap, ap₂, sym, ◌∙◌}
+use Rattle.std.proofs.Common.{subst, arith, append-nil, inl, inr, append_assoc, length-append}
+use Rattle.std.specs.Prelude.{Contains, flat_map, slice_get, slice_set, sum_by}
+use Rattle.std.specs.List.{list_any}
+use Rattle.std.proofs.lemmas.List.{length-map, map-append}
+use Rattle.std.proofs.lemmas.List.Concat.{length-flat_map}
+use mathlib.Core.Logic.{dite}
+use native.Mathlib.Decide.{ℕ_discrete}
 use Rattle.xc_data.specs.declared.call.Call.{Call}
 use Rattle.xc_data.specs.declared.call.LateCall.{LateCall}
 use Rattle.xc_data.specs.declared.call.LateCall.TheVariants.{Thread, Unlink, Sync, WritePipe, Shutdown, Send}
 use Rattle.xc_data.specs.declared.call.LateEnd.{LateEnd}
 use Rattle.xc_data.specs.declared.call.LateEnd.TheVariants as end
+use Rattle.xc_data.specs.declared.claim.Claim.{Claim}
 use Rattle.xc_data.specs.declared.entry.Cause.{Cause}
+use Rattle.xc_data.specs.declared.entry.Cause.TheVariants as cause
 use Rattle.xc_data.specs.declared.entry.JobEnd.TheVariants as job_end
 use Rattle.xc_data.specs.declared.entry.Turn.{Turn}
 use Rattle.xc_data.specs.declared.entry.Turn.TheVariants as turn
+use Rattle.xc_data.specs.declared.object.Object.TheVariants as object
 use Rattle.xc_data.specs.declared.undo.Undo.{Undo}
+use Rattle.xc_data.specs.Calls.{thread_in}
+use Rattle.xc_data.specs.Claims.{owned}
 use Rattle.xc_script.specs.declared.ask.Ask.{Ask}
 use Rattle.xc_script.specs.declared.ask.Ask.TheVariants as ask
 use Rattle.xc_script.specs.Position.{Position}
@@ -21,34 +30,28 @@ use Rattle.xc_story.specs.declared.phase.Phase.{Phase}
 use Rattle.xc_story.specs.declared.phase.Phase.TheVariants.{Running, Committing, Undoing}
 use Rattle.xc_story.specs.Setting.{Setting}
 use Rattle.xc_story.specs.LateCalls.{started_late, started_with}
-use Rattle.xc_data.specs.Calls.{thread_in}
 use Rattle.xc_story.specs.Told.{AreTold, IsInPhase, IsRunning}
+use Rattle.xc_story.specs.Holding.{AreApart}
 use Rattle.xc_story.specs.Seen.{SeenTx, SeenJob, Doing, Idle, Active, Starved, Ended, Now, active_in, active_of, actives, late_left, waiting}
-use Rattle.xc_story.specs.Started.{AreStarted, starting}
-use Rattle.xc_story.specs.Rows.{IsActiveAt, Calls, EndsLate, IsStart, LateTurn, NextLate, noting, claims_at, with_tx, beginning_job, behind_commit}
-use Rattle.xc_story.specs.Rows.{behind_abort, started_job, started_jobs, mover}
+use Rattle.xc_story.specs.Started.{AreStarted, blocks, is_start, keeps_start, started_by, starting}
+use Rattle.xc_story.specs.Rows.{IsActiveAt, Calls, EndsLate, IsStart, LateTurn, NextLate, HoldsWanting, noting, claims_at, with_tx, beginning_job}
+use Rattle.xc_story.specs.Rows.{asked_at, behind_abort, behind_commit, started_jobs, mover}
 use Rattle.xc_story.specs.Rows.{IdleTurn, AskedTurn, MarkedTurn, RunningTurn, CommittingTurn, BackTurn, UndoingTurn, StarvedTurn, ActiveTurn, TurnOf, IsTurn}
 use Rattle.xc_turns.proofs.CountedSums.{adds, sum_set}
 use Rattle.xc_turns.proofs.CountedTurns.{in_phase, none_late}
-use Rattle.xc_turns.proofs.Grown.{grown_actives, started_idle}
-use Rattle.xc_turns.proofs.Jobs.{behind_abort_none}
+use Rattle.xc_turns.proofs.Grown.{AreIdle, grown_active, grown_actives, started_idle}
+use Rattle.xc_turns.proofs.Jobs.{active_before, active_is, behind_abort_none}
+use Rattle.xc_turns.proofs.Lists.{not_both}
+use Rattle.xc_turns.proofs.StartedLists.{all_started, blocks_set, keeps_none, no_thread, only_here, only_there, same_started, started_blocks, started_in}
+use Rattle.xc_turns.proofs.StartsHeld.{HoldStarts, HoldsStart, noted_holds, others_keep_none, owns_further}
 
 -- ---- late calls and their ends
-none_started : (late : List LateCall) → started_late late [] ≡ []
+pub none_started : (late : List LateCall) → started_late late [] ≡ []
 none_started [] = refl
 none_started (c ∷ late) = refl
 
-no_thread : (e : LateEnd) → started_with None e ≡ []
-no_thread end.Done = refl
-no_thread end.Shut = refl
-no_thread end.NoName = refl
-no_thread end.NoScript = refl
-no_thread (end.Full n) = refl
-no_thread (end.Fault n) = refl
-no_thread (end.NoMemory n) = refl
-
 -- with one end more what that tells of is started too
-one_more : (late : List LateCall) (ends : List LateEnd) (c : LateCall) (rest : List LateCall) (e : LateEnd) → drop (length ends) late ≡ c ∷ rest
+pub one_more : (late : List LateCall) (ends : List LateEnd) (c : LateCall) (rest : List LateCall) (e : LateEnd) → drop (length ends) late ≡ c ∷ rest
     → started_late late (ends ++ e ∷ []) ≡ started_late late ends ++ started_with (thread_in c) e
 one_more [] [] c rest e left = cc left
 one_more [] (x ∷ ends) c rest e left = cc left
@@ -61,41 +64,78 @@ one_more (d ∷ late) (x ∷ ends) c rest e left =
     ∙ sym (append_assoc (started_with (thread_in d) x) (started_late late ends) (started_with (thread_in c) e))
 
 -- ---- a turn
+-- a job behind an abort has its block
+abort_block : (job : SeenJob) (tx : SeenTx) (c : Cause) → (behind_abort job tx c).block ≡ job.block
+abort_block job tx cause.Asked = refl
+abort_block job tx cause.NoMemory = refl
+abort_block job tx (cause.Conflict object holder at) = refl
+abort_block job tx (cause.Revoked object by at) = refl
+
+-- a job without a transaction keeps no start
+none_holds : (job : SeenJob) → active_of job ≡ None → (t : SeenTx) → active_of job ≡ Some t → HoldsStart t
+none_holds job none t has = absurd (not_both (active_of job) t none has)
+
+-- and one of a transaction what that keeps
+one_holds : (tx t : SeenTx) → Some tx ≡ Some t → HoldsStart tx → HoldsStart t
+one_holds tx t has holds = let same : tx ≡ t = cc in subst HoldsStart same holds
+
 module _ (s : Setting) (at : ℕ) (old : Now) (job : SeenJob) (new : Now) (stands : slice_get old.jobs at ≡ Some job)
-    (told : AreTold s (length old.words) old.marks old.journal old.jobs) (h : AreStarted old) where
-  -- what a job's transaction has started
-  abbrev part : SeenJob → ℕ
-  part x = adds starting (active_of x)
+    (told : AreTold s (length old.words) old.marks old.journal old.jobs) (apart : AreApart old.jobs) (h : AreStarted old) where
+  -- whoever keeps a start where one job is set
+  set_holds : (job' : SeenJob) → ((t : SeenTx) → active_of job' ≡ Some t → HoldsStart t) → HoldStarts (slice_set old.jobs at job')
+  set_holds job' mine j t a = dite (ℕ_discrete j at)
+      (λ (here : j ≡ at). mine t (active_is old.jobs at job stands job' t (subst (λ k. IsActiveAt (slice_set old.jobs at job') k t) here a)))
+      (λ (away : j ≢ at). h.holds j t (active_before old.jobs at j job' t away a))
 
-  -- so many jobs more are live
-  more_started : (job' : SeenJob) (k : ℕ) → actives new.jobs ≡ actives (slice_set old.jobs at job') → length new.jobs ≡ length old.jobs + k
-      → length new.started + part job ≡ length old.started + part job' + k → length new.started ≤ 1000 → AreStarted new
-  more_started job' k put many parts few =
-      let sums = sum_set starting old.jobs at job job' stands in
-      let now_sum = ap (sum_by starting) put in
-      let was = h.count in
-      record { count = omega (arith, sums, now_sum, many, parts, was); few = few }
+  -- one job is set, and these are live behind the others
+  changed : (job' : SeenJob) (more : List SeenJob) → AreIdle more → new.jobs ≡ slice_set old.jobs at job' ++ more → job'.block ≡ job.block
+      → new.started ≡ (blocks old.jobs ++ blocks more) ++ all_started (slice_set old.jobs at job') → length new.started ≤ 1000
+      → ((t : SeenTx) → active_of job' ≡ Some t → HoldsStart t) → AreStarted new
+  changed job' more idle jobs block started few mine =
+      let set = slice_set old.jobs at job' in
+      let names : blocks new.jobs ≡ blocks old.jobs ++ blocks more =
+      ap blocks jobs ∙ map-append (λ (x : SeenJob). x.block) set more ∙ ap (λ bs. bs ++ blocks more) (blocks_set old.jobs at job job' stands block) in
+      let rest : all_started new.jobs ≡ all_started set = ap all_started jobs ∙ ap (flat_map started_by) (grown_actives set more idle) in
+      let hold : HoldStarts (set ++ more) = λ j t a. set_holds job' mine j t (grown_active set more idle j t a) in
+      record {
+        order = started ∙ sym (ap₂ (λ a b. a ++ b) names rest);
+        few = few;
+        holds = subst HoldStarts (sym jobs) hold;
+      }
 
-  -- only a job changed, and it started as many
-  still_started : (job' : SeenJob) → new.jobs ≡ slice_set old.jobs at job' → new.started ≡ old.started → part job' ≡ part job → AreStarted new
-  still_started job' jobs started same =
-      let few = h.few in
-      let as_many = ap length started in
-      more_started job' 0 (ap actives jobs) (ap length jobs ∙ length-set old.jobs at job' ∙ (let z : length old.jobs ≡ length old.jobs + 0 = omega arith in z))
-      (omega (arith, as_many, same)) (omega (arith, as_many, few))
+  -- only a job changed
+  only_changed : (job' : SeenJob) → new.jobs ≡ slice_set old.jobs at job' → job'.block ≡ job.block
+      → new.started ≡ blocks old.jobs ++ all_started (slice_set old.jobs at job') → length new.started ≤ 1000
+      → ((t : SeenTx) → active_of job' ≡ Some t → HoldsStart t) → AreStarted new
+  only_changed job' jobs block started few mine =
+      changed job' [] tt (jobs ∙ sym (append-nil (slice_set old.jobs at job'))) block
+      (started ∙ ap (λ bs. bs ++ all_started (slice_set old.jobs at job')) (sym (append-nil (blocks old.jobs)))) few mine
+
+  few_as_before : new.started ≡ old.started → length new.started ≤ 1000
+  few_as_before same = let few = h.few in let as_many = ap length same in omega (arith, as_many, few)
+
+  -- and it has started the same
+  still_started : (job' : SeenJob) → new.jobs ≡ slice_set old.jobs at job' → new.started ≡ old.started → job'.block ≡ job.block
+      → started_in (active_of job') ≡ started_in (active_of job) → ((t : SeenTx) → active_of job' ≡ Some t → HoldsStart t) → AreStarted new
+  still_started job' jobs started block same mine =
+      only_changed job' jobs block
+      (started ∙ h.order ∙ ap (λ bs. blocks old.jobs ++ bs) (sym (same_started old.jobs at job job' stands same))) (few_as_before started) mine
 
   by_idle : job.doing ≡ Idle → (answer : Turn) → IdleTurn (mover s at old job) answer new → AreStarted new
-  by_idle is (turn.Ended end) row = still_started (record job { doing = Ended end }) (ap (λ (n : Now). n.jobs) row.1) (ap (λ (n : Now). n.started) row.1)
-      (ap (λ d. adds starting (active_in d)) (sym is))
-  by_idle is turn.Went row = still_started (beginning_job old job) (ap (λ (n : Now). n.jobs) row.1) (ap (λ (n : Now). n.started) row.1)
-      (ap (λ d. adds starting (active_in d)) (sym is))
-  by_idle is (turn.Busy object number) row = still_started (waiting job) (ap (λ (n : Now). n.jobs) row.1) (ap (λ (n : Now). n.started) row.1) refl
+  by_idle is (turn.Ended end) row =
+      still_started (record job { doing = Ended end }) (ap (λ (n : Now). n.jobs) row.1) (ap (λ (n : Now). n.started) row.1) refl
+      (ap (λ d. started_in (active_in d)) (sym is)) (none_holds (record job { doing = Ended end }) refl)
+  by_idle is turn.Went row =
+      still_started (beginning_job old job) (ap (λ (n : Now). n.jobs) row.1) (ap (λ (n : Now). n.started) row.1) refl
+      (ap (λ d. started_in (active_in d)) (sym is)) (λ t has. one_holds _ t has (λ keeps. cc keeps))
+  by_idle is (turn.Busy object number) row =
+      still_started (waiting job) (ap (λ (n : Now). n.jobs) row.1) (ap (λ (n : Now). n.started) row.1) refl refl (none_holds (waiting job) (ap active_in is))
   by_idle is turn.NoMemory row = absurd row
 
   by_starved : job.doing ≡ Starved → (answer : Turn) → StarvedTurn (mover s at old job) answer new → AreStarted new
   by_starved is (turn.Ended job_end.NoMemory) row =
-      still_started (record job { doing = Ended job_end.NoMemory }) (ap (λ (n : Now). n.jobs) row) (ap (λ (n : Now). n.started) row)
-      (ap (λ d. adds starting (active_in d)) (sym is))
+      still_started (record job { doing = Ended job_end.NoMemory }) (ap (λ (n : Now). n.jobs) row) (ap (λ (n : Now). n.started) row) refl
+      (ap (λ d. started_in (active_in d)) (sym is)) (none_holds (record job { doing = Ended job_end.NoMemory }) refl)
   by_starved is (turn.Ended job_end.Done) row = absurd row
   by_starved is (turn.Ended (job_end.GaveUp c)) row = absurd row
   by_starved is (turn.Ended job_end.JournalFull) row = absurd row
@@ -104,14 +144,27 @@ module _ (s : Setting) (at : ℕ) (old : Now) (job : SeenJob) (new : Now) (stand
   by_starved is turn.NoMemory row = absurd row
 
   module _ (tx : SeenTx) (is : job.doing ≡ Active tx) where
-    mine : starting tx ≡ part job
-    mine = ap (λ d. adds starting (active_in d)) (sym is)
+    mine : started_by tx ≡ started_in (active_of job)
+    mine = ap (λ d. started_in (active_in d)) (sym is)
 
-    -- it goes on, with the same late calls and ends
-    goes : (place : Position) (tx' : SeenTx) → tx'.late ≡ tx.late → tx'.ends ≡ tx.ends → new.jobs ≡ slice_set old.jobs at (with_tx job place tx')
+    -- it is active in its place
+    here : IsActiveAt old.jobs at tx
+    here = (job, stands, ap active_in is)
+
+    holds_here : HoldsStart tx
+    holds_here = h.holds at tx here
+
+    -- where it keeps a start no other has started any
+    others_none : keeps_start tx ≡ true → (j : ℕ) (u : SeenTx) → j ≢ at → IsActiveAt old.jobs j u → started_by u ≡ []
+    others_none keeps j u ne a = keeps_none u (others_keep_none old.jobs at tx apart h.holds here (holds_here keeps) j u ne a)
+
+    -- it goes on, with the same late calls and ends, and owns what it owned
+    goes : (place : Position) (tx' : SeenTx) → tx'.late ≡ tx.late → tx'.ends ≡ tx.ends
+        → (Contains (owned tx.held) object.Jobs → Contains (owned tx'.held) object.Jobs) → new.jobs ≡ slice_set old.jobs at (with_tx job place tx')
         → new.started ≡ old.started → AreStarted new
-    goes place tx' late ends jobs started =
-        still_started (with_tx job place tx') jobs started ((λ i. length (started_late (late i) (ends i))) ∙ mine)
+    goes place tx' late ends owns jobs started =
+        still_started (with_tx job place tx') jobs started refl ((λ i. started_late (late i) (ends i)) ∙ mine)
+        (λ t has. one_holds tx' t has (λ keeps. owns (holds_here (sym (ap (list_any is_start) late) ∙ keeps))))
 
     -- a running one has no ends
     runs_none : tx.phase ≡ Running → tx.ends ≡ []
@@ -120,66 +173,101 @@ module _ (s : Setting) (at : ℕ) (old : Now) (job : SeenJob) (new : Now) (stand
         let running : IsRunning s phase.0 job.place tx = subst (IsInPhase s phase.0 job.place tx) runs phase.1 in
         running.no_ends
 
+    -- without ends it has started none
+    no_ends : (t : SeenTx) → t.ends ≡ [] → started_by t ≡ []
+    no_ends t none = ap (started_late t.late) none ∙ none_started t.late
+
     call_started : (call : Call) → tx.phase ≡ Running → Calls (mover s at old job) tx call new → AreStarted new
     call_started call runs row =
         let tx' = noting tx call row.reply (claims_at old tx call) row.parts in
         let none = runs_none runs in
-        let was : starting tx ≡ 0 = ap (λ es. length (started_late tx.late es)) none ∙ ap length (none_started tx.late) in
-        let is_now : starting tx' ≡ 0 = ap (λ es. length (started_late tx'.late es)) none ∙ ap length (none_started tx'.late) in
-        still_started (with_tx job row.place tx') (ap (λ (n : Now). n.jobs) row.behind) (ap (λ (n : Now). n.started) row.behind) (is_now ∙ sym was ∙ mine)
+        still_started (with_tx job row.place tx') (ap (λ (n : Now). n.jobs) row.behind) (ap (λ (n : Now). n.started) row.behind) refl
+        (no_ends tx' none ∙ sym (no_ends tx none) ∙ mine) (λ t has. one_holds tx' t has (noted_holds tx call row.reply (length old.words) holds_here))
 
     by_ask : tx.phase ≡ Running → (a : Ask) → AskedTurn (mover s at old job) tx a new → AreStarted new
     by_ask runs (ask.Call call) (inl row) = call_started call runs row
-    by_ask runs (ask.Call call) (inr row) = goes row.place _ refl refl (ap (λ (n : Now). n.jobs) row.behind) (ap (λ (n : Now). n.started) row.behind)
+    by_ask runs (ask.Call call) (inr row) =
+        goes row.place _ refl refl (λ o. o) (ap (λ (n : Now). n.jobs) row.behind) (ap (λ (n : Now). n.started) row.behind)
     by_ask runs ask.Commit row =
-        goes row.place (record tx { phase = Committing }) refl refl (ap (λ (n : Now). n.jobs) row.behind) (ap (λ (n : Now). n.started) row.behind)
-    by_ask runs ask.Abort row = goes row.place _ refl refl (ap (λ (n : Now). n.jobs) row.behind) (ap (λ (n : Now). n.started) row.behind)
+        goes row.place (record tx { phase = Committing }) refl refl (λ o. o) (ap (λ (n : Now). n.jobs) row.behind) (ap (λ (n : Now). n.started) row.behind)
+    by_ask runs ask.Abort row = goes row.place _ refl refl (λ o. o) (ap (λ (n : Now). n.jobs) row.behind) (ap (λ (n : Now). n.started) row.behind)
     by_ask runs ask.End row = absurd row
+
+    -- what it owned it owns where memory was wanting
+    wanting_owns : (a : Ask) (left : List Undo) (held : List Claim) → HoldsWanting (mover s at old job) tx a left held
+        → Contains (owned tx.held) object.Jobs → Contains (owned held) object.Jobs
+    wanting_owns (ask.Call call) left held (inl same) owns = subst (λ (l : List Claim). Contains (owned l) object.Jobs) (sym same.1) owns
+    wanting_owns (ask.Call call) left held (inr more) owns =
+        subst (λ (l : List Claim). Contains (owned l) object.Jobs) (sym more.1) (owns_further tx.held (claims_at old tx call) object.Jobs owns)
+    wanting_owns ask.Commit left held same owns = subst (λ (l : List Claim). Contains (owned l) object.Jobs) (sym same.1) owns
+    wanting_owns ask.Abort left held same owns = subst (λ (l : List Claim). Contains (owned l) object.Jobs) (sym same.1) owns
+    wanting_owns ask.End left held same owns = subst (λ (l : List Claim). Contains (owned l) object.Jobs) (sym same.1) owns
 
     by_running : tx.phase ≡ Running → (answer : Turn) → RunningTurn (mover s at old job) tx answer new → AreStarted new
     by_running runs turn.Went row = by_ask runs _ row
-    by_running runs turn.NoMemory row = goes row.place _ refl refl (ap (λ (n : Now). n.jobs) row.behind) (ap (λ (n : Now). n.started) row.behind)
+    by_running runs turn.NoMemory row =
+        goes row.place _ refl refl (wanting_owns (asked_at s job.place) row.left row.held row.holds) (ap (λ (n : Now). n.jobs) row.behind)
+        (ap (λ (n : Now). n.started) row.behind)
     by_running runs (turn.Busy object holder) row =
-        still_started (waiting (with_tx job row.place tx)) (ap (λ (n : Now). n.jobs) row.behind) (ap (λ (n : Now). n.started) row.behind) mine
+        still_started (waiting (with_tx job row.place tx)) (ap (λ (n : Now). n.jobs) row.behind) (ap (λ (n : Now). n.started) row.behind) refl mine
+        (λ t has. one_holds tx t has holds_here)
     by_running runs (turn.Ended end) row = absurd row
 
     by_mark : tx.phase ≡ Running → (m : Option Mark) (answer : Turn) → MarkedTurn (mover s at old job) tx m answer new → AreStarted new
     by_mark runs None answer row = by_running runs answer row
-    by_mark runs (Some m) turn.Went row = goes job.place _ refl refl (ap (λ (n : Now). n.jobs) row) (ap (λ (n : Now). n.started) row)
+    by_mark runs (Some m) turn.Went row = goes job.place _ refl refl (λ o. o) (ap (λ (n : Now). n.jobs) row) (ap (λ (n : Now). n.started) row)
     by_mark runs (Some m) _ row = absurd row
 
     -- ---- one that commits
-    -- one end more, with so many more started
+    -- what it starts comes behind all
+    grows : (e : LateEnd) (c : LateCall) (rest : List LateCall) → late_left tx ≡ c ∷ rest → (b : Bool) → keeps_start tx ≡ b
+        → all_started (slice_set old.jobs at (with_tx job job.place (record tx { ends = tx.ends ++ e ∷ [] })))
+        ≡ all_started old.jobs ++ started_with (thread_in c) e
+    grows e c rest left true keeps =
+        only_here old.jobs at job (with_tx job job.place (record tx { ends = tx.ends ++ e ∷ [] })) stands (others_none keeps)
+        ∙ one_more tx.late tx.ends c rest e left
+        ∙ ap (λ bs. bs ++ started_with (thread_in c) e) (mine ∙ sym (only_there old.jobs at job stands (others_none keeps)))
+    grows e c rest left false keeps =
+        let tx' : SeenTx = record tx { ends = tx.ends ++ e ∷ [] } in
+        let was = keeps_none tx keeps in
+        let is_now = keeps_none tx' keeps in
+        let no_more : started_with (thread_in c) e ≡ [] =
+        sym (ap (λ bs. bs ++ started_with (thread_in c) e) was) ∙ sym (one_more tx.late tx.ends c rest e left) ∙ is_now in
+        same_started old.jobs at job (with_tx job job.place tx') stands (is_now ∙ sym was ∙ mine)
+        ∙ sym (ap (λ bs. all_started old.jobs ++ bs) no_more ∙ append-nil (all_started old.jobs))
+
+    -- one end more
     ended : (e : LateEnd) (c : LateCall) (rest : List LateCall) → late_left tx ≡ c ∷ rest
         → new.jobs ≡ slice_set old.jobs at (with_tx job job.place (record tx { ends = tx.ends ++ e ∷ [] }))
-        → length new.started ≡ length old.started + length (started_with (thread_in c) e) → length new.started ≤ 1000 → AreStarted new
+        → new.started ≡ old.started ++ started_with (thread_in c) e → length new.started ≤ 1000 → AreStarted new
     ended e c rest left jobs more few =
-        let job' = with_tx job job.place (record tx { ends = tx.ends ++ e ∷ [] }) in
-        let grew : part job' ≡ starting tx + length (started_with (thread_in c) e) =
-        ap length (one_more tx.late tx.ends c rest e left) ∙ length-append (started_late tx.late tx.ends) (started_with (thread_in c) e) in
-        let was = mine in
-        more_started job' 0 (ap actives jobs) (ap length jobs ∙ length-set old.jobs at job'
-        ∙ (let z : length old.jobs ≡ length old.jobs + 0 = omega arith in z))
-        (omega (arith, grew, was, more)) few
+        let tx' : SeenTx = record tx { ends = tx.ends ++ e ∷ [] } in
+        let w = started_with (thread_in c) e in
+        only_changed (with_tx job job.place tx') jobs refl
+        (more ∙ ap (λ bs. bs ++ w) h.order ∙ append_assoc (blocks old.jobs) (all_started old.jobs) w
+        ∙ ap (λ bs. blocks old.jobs ++ bs) (sym (grows e c rest left (keeps_start tx) refl))) few
+        (λ t has. one_holds tx' t has holds_here)
 
     at_host : (c : LateCall) (rest : List LateCall) → thread_in c ≡ None → late_left tx ≡ c ∷ rest → EndsLate (mover s at old job) tx c new → AreStarted new
     at_host c rest none left row =
         let same : new.started ≡ old.started = ap (λ (n : Now). n.started) row.behind in
-        let nothing : length (started_with (thread_in c) row.end) ≡ 0 = ap (λ o. length (started_with o row.end)) none ∙ ap length (no_thread row.end) in
-        let few = h.few in
-        let as_many = ap length same in
-        ended row.end c rest left (ap (λ (n : Now). n.jobs) row.behind) (omega (arith, as_many, nothing)) (omega (arith, as_many, few))
+        let nothing : started_with (thread_in c) row.end ≡ [] = ap (λ o. started_with o row.end) none ∙ no_thread row.end in
+        ended row.end c rest left (ap (λ (n : Now). n.jobs) row.behind)
+        (same ∙ sym (ap (λ bs. old.started ++ bs) nothing ∙ append-nil old.started)) (few_as_before same)
 
     -- what a start adds
     adds_one : (block : List ℕ) (e : LateEnd) (is : List (List ℕ)) → IsStart s.script old.started block e is
-        → (length is ≡ length old.started + length (started_with (Some block) e)) × (length is ≤ 1000)
+        → (is ≡ old.started ++ started_with (Some block) e) × (length is ≤ 1000)
     adds_one block end.Done is k =
         let lt = k.1 in
         let sum = ap length k.2 ∙ length-append old.started (block ∷ []) in
-        (sum, omega (arith, sum, lt))
-    adds_one block end.NoScript is k = let few = h.few in let e = ap length k.1 in (omega (arith, e), omega (arith, e, few))
-    adds_one block (end.Full n) is k = let few = h.few in let e = ap length k.3 in (omega (arith, e), omega (arith, e, few))
-    adds_one block (end.NoMemory n) is k = let few = h.few in let e = ap length k.1 in (omega (arith, e), omega (arith, e, few))
+        (k.2, omega (arith, sum, lt))
+    adds_one block end.NoScript is k =
+        let few = h.few in let e = ap length k.1 in (k.1 ∙ sym (append-nil old.started), omega (arith, e, few))
+    adds_one block (end.Full n) is k =
+        let few = h.few in let e = ap length k.3 in (k.3 ∙ sym (append-nil old.started), omega (arith, e, few))
+    adds_one block (end.NoMemory n) is k =
+        let few = h.few in let e = ap length k.1 in (k.1 ∙ sym (append-nil old.started), omega (arith, e, few))
     adds_one block (end.Fault n) is k = absurd k
     adds_one block end.Shut is k = absurd k
     adds_one block end.NoName is k = absurd k
@@ -194,19 +282,27 @@ module _ (s : Setting) (at : ℕ) (old : Now) (job : SeenJob) (new : Now) (stand
     by_next (Shutdown o) rest left row = at_host (Shutdown o) rest refl left row
     by_next (Send num side bytes) rest left row = at_host (Send num side bytes) rest refl left row
 
+    -- what it has started stands in front of what others have
+    leads : (b : Bool) → keeps_start tx ≡ b → all_started old.jobs ≡ started_by tx ++ all_started (slice_set old.jobs at (behind_commit job tx))
+    leads true keeps =
+        only_there old.jobs at job stands (others_none keeps) ∙ sym mine ∙ sym (append-nil (started_by tx))
+        ∙ ap (λ bs. started_by tx ++ bs) (sym (only_here old.jobs at job (behind_commit job tx) stands (others_none keeps)))
+    leads false keeps =
+        let none = keeps_none tx keeps in
+        sym (same_started old.jobs at job (behind_commit job tx) stands (sym none ∙ mine))
+        ∙ ap (λ bs. bs ++ all_started (slice_set old.jobs at (behind_commit job tx))) (sym none)
+
     by_late : (calls : List LateCall) → late_left tx ≡ calls → LateTurn (mover s at old job) tx calls new → AreStarted new
     by_late [] left row =
         let job' = behind_commit job tx in
         let more = started_jobs s.script job tx in
+        let rest = all_started (slice_set old.jobs at job') in
         let jobs : new.jobs ≡ slice_set old.jobs at job' ++ more = ap (λ (n : Now). n.jobs) row.0 in
-        let same = ap (λ (n : Now). length n.started) row.0 in
-        let many : length more ≡ starting tx = length-map (started_late tx.late tx.ends) (started_job s.script job') in
-        let was = mine in
-        let few = h.few in
-        more_started job' (length more)
-        (ap actives jobs ∙ grown_actives (slice_set old.jobs at job') more (started_idle s.script job' (started_late tx.late tx.ends)))
-        (ap length jobs ∙ length-append (slice_set old.jobs at job') more ∙ ap (λ n. n + length more) (length-set old.jobs at job'))
-        (omega (arith, same, many, was)) (omega (arith, same, few))
+        let same : new.started ≡ old.started = ap (λ (n : Now). n.started) row.0 in
+        let names : blocks more ≡ started_by tx = started_blocks s.script job' (started_by tx) in
+        changed job' more (started_idle s.script job' (started_by tx)) jobs refl
+        (same ∙ h.order ∙ ap (λ bs. blocks old.jobs ++ bs) (leads (keeps_start tx) refl) ∙ sym (append_assoc (blocks old.jobs) (started_by tx) rest)
+        ∙ ap (λ bs. (blocks old.jobs ++ bs) ++ rest) (sym names)) (few_as_before same) (none_holds job' refl)
     by_late (c ∷ calls) left row = by_next c calls left row
 
     by_committing : (answer : Turn) → CommittingTurn (mover s at old job) tx answer new → AreStarted new
@@ -219,10 +315,10 @@ module _ (s : Setting) (at : ℕ) (old : Now) (job : SeenJob) (new : Now) (stand
     by_records : (c : Cause) → tx.phase ≡ Undoing c → (pending : List Undo) → BackTurn (mover s at old job) tx c pending new → AreStarted new
     by_records c undoes [] row =
         let none : tx.ends ≡ [] = none_late s at old job tx c stands is undoes told in
-        let was : starting tx ≡ 0 = ap (λ es. length (started_late tx.late es)) none ∙ ap length (none_started tx.late) in
-        still_started (behind_abort job tx c) (ap (λ (n : Now). n.jobs) row.behind) (ap (λ (n : Now). n.started) row.behind)
-        (ap (adds starting) (behind_abort_none job tx c) ∙ sym was ∙ mine)
-    by_records c undoes (u ∷ pending) row = goes job.place _ refl refl (ap (λ (n : Now). n.jobs) row.behind) (ap (λ (n : Now). n.started) row.behind)
+        still_started (behind_abort job tx c) (ap (λ (n : Now). n.jobs) row.behind) (ap (λ (n : Now). n.started) row.behind) (abort_block job tx c)
+        (ap started_in (behind_abort_none job tx c) ∙ sym (no_ends tx none) ∙ mine) (none_holds (behind_abort job tx c) (behind_abort_none job tx c))
+    by_records c undoes (u ∷ pending) row =
+        goes job.place _ refl refl (λ o. o) (ap (λ (n : Now). n.jobs) row.behind) (ap (λ (n : Now). n.started) row.behind)
 
     by_undoing : (c : Cause) → tx.phase ≡ Undoing c → (answer : Turn) → UndoingTurn (mover s at old job) tx c answer new → AreStarted new
     by_undoing c undoes turn.Went row = by_records c undoes tx.undo.pending row
@@ -241,10 +337,19 @@ module _ (s : Setting) (at : ℕ) (old : Now) (job : SeenJob) (new : Now) (stand
   by_doing Starved e answer row = by_starved e answer row
   by_doing (Ended end) e answer row = absurd row
 
--- a turn keeps the count
+-- a turn keeps the order of the started jobs
 pub turn_keeps_started : (s : Setting) (at : ℕ) (old new : Now) (answer : Turn) → IsTurn s at old answer new
-    → AreTold s (length old.words) old.marks old.journal old.jobs → AreStarted old → AreStarted new
-turn_keeps_started s at old new answer t told h = by_doing s at old t.job new t.stands told h t.job.doing refl answer t.row
+    → AreTold s (length old.words) old.marks old.journal old.jobs → AreApart old.jobs → AreStarted old → AreStarted new
+turn_keeps_started s at old new answer t told apart h = by_doing s at old t.job new t.stands told apart h t.job.doing refl answer t.row
+
+-- ---- what the order says
+-- as many are started as are live or have ended and as active transactions have started
+pub started_count : (now : Now) → AreStarted now → length now.started ≡ length now.jobs + sum_by starting (actives now.jobs)
+started_count now h =
+    let sum = ap length h.order ∙ length-append (blocks now.jobs) (all_started now.jobs) in
+    let first = length-map now.jobs (λ (job : SeenJob). job.block) in
+    let later = length-flat_map started_by (actives now.jobs) in
+    omega (arith, sum, first, later)
 
 -- so there is room for the jobs that an entry makes live
 pub entry_room : (now : Now) (at : ℕ) (tx : SeenTx) → AreStarted now → IsActiveAt now.jobs at tx → length now.jobs + starting tx ≤ 1000
@@ -252,6 +357,6 @@ entry_room now at tx h (job, there, has) =
     let rests : SeenJob = record job { doing = Ended job_end.Done } in
     let sums = sum_set starting now.jobs at job rests there in
     let mine : adds starting (active_of job) ≡ starting tx = ap (adds starting) has in
-    let was = h.count in
+    let was = started_count now h in
     let few = h.few in
     omega (arith, sums, mine, was, few)

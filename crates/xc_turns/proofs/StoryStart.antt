@@ -1,6 +1,7 @@
 -- Before the first turn all is true that is true between two turns.
-use Rattle.std.proofs.Common.{◌≡◌, ℕ, ◌+◌, ◌≤◌, List, [], ◌∷◌, length, map, zero, suc, refl, ap, sym, ◌∙◌, subst, arith}
-use Rattle.std.specs.Prelude.{Option, get_or, slice_get, sum_by}
+use Rattle.std.proofs.Common.{◌≡◌, ℕ, ◌+◌, ◌≤◌, List, [], ◌∷◌, ◌++◌, length, map, zero, suc, refl, ap, ap₂, sym, ◌∙◌, subst, arith}
+use Rattle.std.proofs.Common.{append-nil}
+use Rattle.std.specs.Prelude.{Option, flat_map, get_or, slice_get, sum_by}
 use Rattle.std.specs.declared.option.Option.TheVariants.{None, Some}
 use Rattle.std.proofs.lemmas.List.{length-map}
 use Rattle.std.proofs.lemmas.List.Sorted.{IsPermutation-refl}
@@ -18,7 +19,7 @@ use Rattle.xc_story.specs.Opened.{IsOpening, opened_job}
 use Rattle.xc_story.specs.Seen.{SeenTx, SeenJob, Now, actives}
 use Rattle.xc_story.specs.Spoken.{AreSpoken}
 use Rattle.xc_story.specs.Told.{AreBegins, AreTold, IsJobTold, active_begin, active_parts, reading}
-use Rattle.xc_story.specs.Started.{starting}
+use Rattle.xc_story.specs.Started.{blocks, started_by}
 use Rattle.xc_turns.proofs.Jobs.{none_active, opened_rests}
 use Rattle.xc_turns.proofs.Sided.{opened_sided}
 
@@ -33,6 +34,11 @@ opened_jobs script names = map (opened_job script) names
 -- none of them is active
 none_opened : (script : Script) (names : List (List ℕ)) → actives (opened_jobs script names) ≡ []
 none_opened script names = none_active (opened_jobs script names) (opened_rests script names)
+
+-- they are of these blocks
+opened_blocks : (script : Script) (names : List (List ℕ)) → blocks (opened_jobs script names) ≡ names
+opened_blocks script [] = refl
+opened_blocks script (name ∷ names) = ap (λ bs. name ∷ bs) (opened_blocks script names)
 
 -- each is told
 opened_told : (s : Setting) (begun entered : ℕ) (names : List (List ℕ)) (at : ℕ) (f : Following) (job : SeenJob)
@@ -109,11 +115,9 @@ start_counted script names faults =
     subst (λ (txs : List SeenTx). RisesBy (0 + sum_by tx_faults txs) faults faults) (sym (none_opened script names)) refl
 
 start_started : (script : Script) (names : List (List ℕ))
-    → length names ≡ length (opened_jobs script names) + sum_by starting (actives (opened_jobs script names))
+    → names ≡ blocks (opened_jobs script names) ++ flat_map started_by (actives (opened_jobs script names))
 start_started script names =
-    let none = ap (sum_by starting) (none_opened script names) in
-    let many : length (opened_jobs script names) ≡ length names = length-map names (opened_job script) in
-    omega (arith, none, many)
+    sym (ap₂ (λ a b. a ++ b) (opened_blocks script names) (ap (flat_map started_by) (none_opened script names)) ∙ append-nil names)
 
 -- a start keeps all
 pub start_kept : (s : Setting) (now : Now) → length s.script.outline.jobs ≤ 1000 → IsOpening s.script now → IsKept s now.faults now
@@ -127,6 +131,10 @@ start_kept s now few opening =
       spoken = start_spoken s.script names s.script.outline.words;
       apart = start_apart s.script names;
       counted = start_counted s.script names now.faults;
-      started = record { count = start_started s.script names; few = few };
+      started = record {
+        order = start_started s.script names;
+        few = few;
+        holds = λ j tx active. absurd (opened_rests s.script names j tx active);
+      };
     } in
     subst (IsKept s now.faults) (sym same) kept

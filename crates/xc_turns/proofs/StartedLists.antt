@@ -1,0 +1,128 @@
+-- The blocks of started jobs, where one job changes.
+use Rattle.std.proofs.Common.{◌≡◌, ◌≢◌, ℕ, zero, suc, Bool, true, false, List, [], ◌∷◌, ◌++◌, refl, ap, ap₂, sym, ◌∙◌, arith, append-nil}
+use Rattle.std.specs.Prelude.{Option, flat_map, is_some, map, slice_get, slice_set}
+use Rattle.std.specs.List.{cons_option, list_any}
+use Rattle.std.specs.declared.option.Option.TheVariants.{None, Some}
+use Rattle.std.proofs.lemmas.Bool.{or_parts}
+use Rattle.xc_data.specs.declared.call.LateCall.{LateCall}
+use Rattle.xc_data.specs.declared.call.LateEnd.{LateEnd}
+use Rattle.xc_data.specs.declared.call.LateEnd.TheVariants as end
+use Rattle.xc_data.specs.Calls.{thread_in}
+use Rattle.xc_text.specs.declared.script.Script.{Script}
+use Rattle.xc_story.specs.LateCalls.{started_late, started_with}
+use Rattle.xc_story.specs.Rows.{IsActiveAt, started_job}
+use Rattle.xc_story.specs.Seen.{SeenTx, SeenJob, active_of, actives}
+use Rattle.xc_story.specs.Started.{blocks, is_start, keeps_start, started_by}
+
+-- ---- of one transaction
+-- what it has started, where there is one
+abbrev pub started_in : Option SeenTx → List (List ℕ)
+started_in None = []
+started_in (Some tx) = started_by tx
+
+-- a call without a block starts none
+pub no_thread : (e : LateEnd) → started_with None e ≡ []
+no_thread end.Done = refl
+no_thread end.Shut = refl
+no_thread end.NoName = refl
+no_thread end.NoScript = refl
+no_thread (end.Full n) = refl
+no_thread (end.Fault n) = refl
+no_thread (end.NoMemory n) = refl
+
+not_started : (o : Option (List ℕ)) (e : LateEnd) → is_some o ≡ false → started_with o e ≡ []
+not_started None e none = no_thread e
+not_started (Some block) e none = cc none
+
+none_kept : (late : List LateCall) (ends : List LateEnd) → list_any is_start late ≡ false → started_late late ends ≡ []
+none_kept [] ends none = refl
+none_kept (c ∷ late) [] none = refl
+none_kept (c ∷ late) (e ∷ ends) none =
+    let parts = or_parts (is_start c) (list_any is_start late) none in
+    ap₂ (λ a b. a ++ b) (not_started (thread_in c) e parts.0) (none_kept late ends parts.1)
+
+-- one that keeps no start has started none
+pub keeps_none : (tx : SeenTx) → keeps_start tx ≡ false → started_by tx ≡ []
+keeps_none tx none = none_kept tx.late tx.ends none
+
+-- so one that has started some keeps one
+pub started_keeps : (tx : SeenTx) → started_by tx ≢ [] → keeps_start tx ≡ true
+started_keeps tx some = by_test (keeps_start tx) refl
+  where
+    by_test : (b : Bool) → keeps_start tx ≡ b → keeps_start tx ≡ true
+    by_test true e = e
+    by_test false e = absurd (some (keeps_none tx e))
+
+-- ---- of all
+-- what active transactions have started
+abbrev pub all_started : List SeenJob → List (List ℕ)
+all_started jobs = flat_map started_by (actives jobs)
+
+started_first : (o : Option SeenTx) (txs : List SeenTx) → flat_map started_by (cons_option o txs) ≡ started_in o ++ flat_map started_by txs
+started_first None txs = refl
+started_first (Some tx) txs = refl
+
+none_in : (o : Option SeenTx) → ((tx : SeenTx) → o ≡ Some tx → started_by tx ≡ []) → started_in o ≡ []
+none_in None none = refl
+none_in (Some tx) none = none tx refl
+
+-- where none has started any there are none
+pub nobody_started : (jobs : List SeenJob) → ((j : ℕ) (tx : SeenTx) → IsActiveAt jobs j tx → started_by tx ≡ []) → all_started jobs ≡ []
+nobody_started [] none = refl
+nobody_started (job ∷ jobs) none =
+    started_first (active_of job) (actives jobs)
+    ∙ ap₂ (λ a b. a ++ b) (none_in (active_of job) (λ tx e. none 0 tx (job, refl, e)))
+    (nobody_started jobs (λ j tx (there, at, has). none (suc j) tx (there, at, has)))
+
+-- where no other has, they are those of the job that is set
+pub only_here : (jobs : List SeenJob) (at : ℕ) (job job' : SeenJob) → slice_get jobs at ≡ Some job
+    → ((j : ℕ) (u : SeenTx) → j ≢ at → IsActiveAt jobs j u → started_by u ≡ []) → all_started (slice_set jobs at job') ≡ started_in (active_of job')
+only_here [] at job job' stands others = cc
+only_here (x ∷ jobs) zero job job' stands others =
+    started_first (active_of job') (actives jobs)
+    ∙ ap (λ bs. started_in (active_of job') ++ bs)
+    (nobody_started jobs (λ j u (there, at, has). others (suc j) u (λ e. omega (arith, e)) (there, at, has)))
+    ∙ append-nil (started_in (active_of job'))
+only_here (x ∷ jobs) (suc at) job job' stands others =
+    started_first (active_of x) (actives (slice_set jobs at job'))
+    ∙ ap₂ (λ a b. a ++ b) (none_in (active_of x) (λ u e. others 0 u (λ z. omega (arith, z)) (x, refl, e)))
+    (only_here jobs at job job' stands (λ j u ne (there, is, has). others (suc j) u (λ e. ne (omega (arith, e))) (there, is, has)))
+
+-- nothing changes where the job stands already
+set_itself : (jobs : List SeenJob) (at : ℕ) (job : SeenJob) → slice_get jobs at ≡ Some job → slice_set jobs at job ≡ jobs
+set_itself [] at job stands = refl
+set_itself (x ∷ jobs) zero job stands = let same : x ≡ job = cc in ap (λ y. y ∷ jobs) (sym same)
+set_itself (x ∷ jobs) (suc at) job stands = ap (λ ys. x ∷ ys) (set_itself jobs at job stands)
+
+-- and then they are those of the job there
+pub only_there : (jobs : List SeenJob) (at : ℕ) (job : SeenJob) → slice_get jobs at ≡ Some job
+    → ((j : ℕ) (u : SeenTx) → j ≢ at → IsActiveAt jobs j u → started_by u ≡ []) → all_started jobs ≡ started_in (active_of job)
+only_there jobs at job stands others = sym (ap all_started (set_itself jobs at job stands)) ∙ only_here jobs at job job stands others
+
+-- where the job that is set has started as the one before, they stay
+pub same_started : (jobs : List SeenJob) (at : ℕ) (job job' : SeenJob) → slice_get jobs at ≡ Some job
+    → started_in (active_of job') ≡ started_in (active_of job) → all_started (slice_set jobs at job') ≡ all_started jobs
+same_started [] at job job' stands same = cc
+same_started (x ∷ jobs) zero job job' stands same =
+    let here : x ≡ job = cc in
+    started_first (active_of job') (actives jobs)
+    ∙ ap (λ bs. bs ++ all_started jobs) (same ∙ sym (ap (λ (y : SeenJob). started_in (active_of y)) here))
+    ∙ sym (started_first (active_of x) (actives jobs))
+same_started (x ∷ jobs) (suc at) job job' stands same =
+    started_first (active_of x) (actives (slice_set jobs at job'))
+    ∙ ap (λ bs. started_in (active_of x) ++ bs) (same_started jobs at job job' stands same)
+    ∙ sym (started_first (active_of x) (actives jobs))
+
+-- ---- blocks
+-- a job of the same block in another's place
+pub blocks_set : (jobs : List SeenJob) (at : ℕ) (job job' : SeenJob) → slice_get jobs at ≡ Some job → job'.block ≡ job.block
+    → blocks (slice_set jobs at job') ≡ blocks jobs
+blocks_set [] at job job' stands same = cc
+blocks_set (x ∷ jobs) zero job job' stands same =
+    let here : x ≡ job = cc in ap (λ b. b ∷ blocks jobs) (same ∙ sym (ap (λ (y : SeenJob). y.block) here))
+blocks_set (x ∷ jobs) (suc at) job job' stands same = ap (λ bs. x.block ∷ bs) (blocks_set jobs at job job' stands same)
+
+-- jobs of these blocks
+pub started_blocks : (script : Script) (starter : SeenJob) (names : List (List ℕ)) → blocks (map (started_job script starter) names) ≡ names
+started_blocks script starter [] = refl
+started_blocks script starter (name ∷ names) = ap (λ bs. name ∷ bs) (started_blocks script starter names)
