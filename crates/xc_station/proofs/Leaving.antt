@@ -1,4 +1,4 @@
--- What every turn leaves: another job in one place, and a journal that goes on.
+-- What every turn leaves: another job in one place, jobs that are live behind the others, and a journal that goes on.
 use Rattle.std.proofs.Common.{◌≡◌, inl, inr, ℕ, List, [], ◌∷◌, ◌++◌, refl, ap, sym, ◌∙◌}
 use Rattle.std.proofs.lemmas.List.{append-nil}
 use Rattle.std.specs.Prelude.{Option, slice_set}
@@ -17,24 +17,30 @@ use Rattle.xc_script.specs.declared.ask.Ask.{Ask}
 use Rattle.xc_script.specs.declared.ask.Ask.TheVariants as ask
 use Rattle.xc_story.specs.declared.phase.Phase.{Phase}
 use Rattle.xc_story.specs.declared.phase.Phase.TheVariants.{Running, Committing, Undoing}
-use Rattle.xc_data.specs.Calls.{thread_in}
 use Rattle.xc_story.specs.Setting.{Setting}
-use Rattle.xc_story.specs.Seen.{SeenTx, SeenJob, Doing, Idle, Active, Starved, Ended, Now, active_in, late_left, waiting}
-use Rattle.xc_story.specs.Rows.{IsActiveAt, IsTurn, TurnOf, IdleTurn, ActiveTurn, MarkedTurn, RunningTurn, AskedTurn, CommittingTurn, LateTurn, NextLate}
+use Rattle.xc_story.specs.Seen.{SeenTx, SeenJob, Doing, Idle, Active, Starved, Ended, Now, late_left, waiting}
+use Rattle.xc_story.specs.Rows.{IsTurn, TurnOf, IdleTurn, ActiveTurn, MarkedTurn, RunningTurn, AskedTurn, CommittingTurn, LateTurn, NextLate}
 use Rattle.xc_story.specs.Rows.{UndoingTurn, BackTurn, StarvedTurn, asked_at, behind_abort, behind_commit, beginning_job, entry_of, mover}
+use Rattle.xc_story.specs.Rows.{started_jobs}
 use Rattle.xc_station.specs.Stations.{ChangesOne}
-use Rattle.xc_station.proofs.Unstarted.{StartNone, next_none, none_joins}
 
 module _ (s : Setting) (at : ℕ) (old : Now) (job : SeenJob) (new : Now) where
   still : (behind : SeenJob) → new.jobs ≡ slice_set old.jobs at behind → new.journal ≡ old.journal → ChangesOne at old new
-  still behind jobs journal = record { behind = behind; jobs = jobs; front = ([], journal ∙ sym (append-nil old.journal)) }
+  still behind jobs journal =
+      record {
+        behind = behind;
+        started = [];
+        jobs = jobs ∙ sym (append-nil (slice_set old.jobs at behind));
+        front = ([], journal ∙ sym (append-nil old.journal));
+      }
 
   -- a moment that is known whole: another job in this place, and the journal is as before
   alone : (behind : SeenJob) (now : Now) → new ≡ now → now.jobs ≡ slice_set old.jobs at behind → now.journal ≡ old.journal → ChangesOne at old new
   alone behind now is jobs journal = still behind (ap (λ (n : Now). n.jobs) is ∙ jobs) (ap (λ (n : Now). n.journal) is ∙ journal)
 
-  enters : (behind : SeenJob) (entry : Entry) → new.jobs ≡ slice_set old.jobs at behind → new.journal ≡ old.journal ++ entry ∷ [] → ChangesOne at old new
-  enters behind entry jobs journal = record { behind = behind; jobs = jobs; front = (entry ∷ [], journal) }
+  enters : (behind : SeenJob) (started : List SeenJob) (entry : Entry) → new.jobs ≡ slice_set old.jobs at behind ++ started
+      → new.journal ≡ old.journal ++ entry ∷ [] → ChangesOne at old new
+  enters behind started entry jobs journal = record { behind = behind; started = started; jobs = jobs; front = (entry ∷ [], journal) }
 
   idle_leaves : (answer : Turn) → IdleTurn (mover s at old job) answer new → ChangesOne at old new
   idle_leaves (turn.Ended end) row = alone (record job { doing = Ended end }) _ row.1 refl refl
@@ -46,7 +52,7 @@ module _ (s : Setting) (at : ℕ) (old : Now) (job : SeenJob) (new : Now) where
   starved_leaves (turn.Ended job_end.NoMemory) row = alone (record job { doing = Ended job_end.NoMemory }) _ row refl refl
   starved_leaves _ row = absurd row
 
-  module _ (tx : SeenTx) (none : StartNone tx.late) where
+  module _ (tx : SeenTx) where
     asked_leaves : (asked : Ask) → AskedTurn (mover s at old job) tx asked new → ChangesOne at old new
     asked_leaves (ask.Call call) (inl row) = alone _ _ row.behind refl refl
     asked_leaves (ask.Call call) (inr row) = alone _ _ row.behind refl refl
@@ -67,30 +73,28 @@ module _ (s : Setting) (at : ℕ) (old : Now) (job : SeenJob) (new : Now) where
     marked_leaves (Some m) turn.NoMemory row = absurd row
     marked_leaves (Some m) (turn.Ended end) row = absurd row
 
-    next_leaves : (call : LateCall) → thread_in call ≡ None → NextLate (mover s at old job) tx call new → ChangesOne at old new
-    next_leaves (late_call.Thread block) starts row = cc starts
-    next_leaves (late_call.Unlink name) starts row = alone _ _ row.behind refl refl
-    next_leaves (late_call.Sync num) starts row = alone _ _ row.behind refl refl
-    next_leaves (late_call.WritePipe num bytes) starts row = alone _ _ row.behind refl refl
-    next_leaves (late_call.Shutdown object) starts row = alone _ _ row.behind refl refl
-    next_leaves (late_call.Send pair side bytes) starts row = alone _ _ row.behind refl refl
+    next_leaves : (call : LateCall) → NextLate (mover s at old job) tx call new → ChangesOne at old new
+    next_leaves (late_call.Thread block) row = alone _ _ row.behind refl refl
+    next_leaves (late_call.Unlink name) row = alone _ _ row.behind refl refl
+    next_leaves (late_call.Sync num) row = alone _ _ row.behind refl refl
+    next_leaves (late_call.WritePipe num bytes) row = alone _ _ row.behind refl refl
+    next_leaves (late_call.Shutdown object) row = alone _ _ row.behind refl refl
+    next_leaves (late_call.Send pair side bytes) row = alone _ _ row.behind refl refl
 
-    late_leaves : (late : List LateCall) → late_left tx ≡ late → LateTurn (mover s at old job) tx late new → ChangesOne at old new
-    late_leaves [] left row =
-        enters (behind_commit job tx) (entry_of tx at (Committed tx.ends))
-        (ap (λ (n : Now). n.jobs) row.0 ∙ ap (λ more. slice_set old.jobs at (behind_commit job tx) ++ more) (none_joins s job tx none)
-        ∙ append-nil (slice_set old.jobs at (behind_commit job tx)))
+    late_leaves : (late : List LateCall) → LateTurn (mover s at old job) tx late new → ChangesOne at old new
+    late_leaves [] row =
+        enters (behind_commit job tx) (started_jobs s.script job tx) (entry_of tx at (Committed tx.ends)) (ap (λ (n : Now). n.jobs) row.0)
         (ap (λ (n : Now). n.journal) row.0)
-    late_leaves (call ∷ late) left row = next_leaves call (next_none tx none call late left) row
+    late_leaves (call ∷ late) row = next_leaves call row
 
     committing_leaves : (answer : Turn) → CommittingTurn (mover s at old job) tx answer new → ChangesOne at old new
-    committing_leaves turn.Went row = late_leaves (late_left tx) refl row
+    committing_leaves turn.Went row = late_leaves (late_left tx) row
     committing_leaves _ row = absurd row
 
     back_leaves : (c : Cause) (pending : List Undo) → BackTurn (mover s at old job) tx c pending new → ChangesOne at old new
     back_leaves c [] row =
-        enters (behind_abort job tx c) (entry_of tx at (Aborted (record { cause = c; records = tx.undo.ended })))
-        (ap (λ (n : Now). n.jobs) row.behind) (ap (λ (n : Now). n.journal) row.behind)
+        enters (behind_abort job tx c) [] (entry_of tx at (Aborted (record { cause = c; records = tx.undo.ended })))
+        (ap (λ (n : Now). n.jobs) row.behind ∙ sym (append-nil (slice_set old.jobs at (behind_abort job tx c)))) (ap (λ (n : Now). n.journal) row.behind)
     back_leaves c (u ∷ pending) row = alone _ _ row.behind refl refl
 
     undoing_leaves : (c : Cause) (answer : Turn) → UndoingTurn (mover s at old job) tx c answer new → ChangesOne at old new
@@ -102,15 +106,12 @@ module _ (s : Setting) (at : ℕ) (old : Now) (job : SeenJob) (new : Now) where
     active_leaves Committing answer row = committing_leaves answer row
     active_leaves (Undoing c) answer row = undoing_leaves c answer row
 
-  doing_leaves : (d : Doing) → ((tx : SeenTx) → active_in d ≡ Some tx → StartNone tx.late) → (answer : Turn) → TurnOf (mover s at old job) d answer new
-      → ChangesOne at old new
-  doing_leaves Idle none answer row = idle_leaves answer row
-  doing_leaves (Active tx) none answer row = active_leaves tx (none tx refl) tx.phase answer row
-  doing_leaves Starved none answer row = starved_leaves answer row
-  doing_leaves (Ended end) none answer row = absurd row
+  doing_leaves : (d : Doing) (answer : Turn) → TurnOf (mover s at old job) d answer new → ChangesOne at old new
+  doing_leaves Idle answer row = idle_leaves answer row
+  doing_leaves (Active tx) answer row = active_leaves tx tx.phase answer row
+  doing_leaves Starved answer row = starved_leaves answer row
+  doing_leaves (Ended end) answer row = absurd row
 
--- each turn does, where no transaction starts a job
-pub turn_leaves : (s : Setting) (at : ℕ) (old new : Now) (answer : Turn) → ((tx : SeenTx) → IsActiveAt old.jobs at tx → StartNone tx.late)
-    → IsTurn s at old answer new → ChangesOne at old new
-turn_leaves s at old new answer none t =
-    doing_leaves s at old t.job new t.job.doing (λ tx is. none tx (t.job, t.stands, is)) answer t.row
+-- each turn does
+pub turn_leaves : (s : Setting) (at : ℕ) (old new : Now) (answer : Turn) → IsTurn s at old answer new → ChangesOne at old new
+turn_leaves s at old new answer t = doing_leaves s at old t.job new t.job.doing answer t.row

@@ -1,7 +1,6 @@
 -- What a turn of a running transaction does to what was taken.
-use Rattle.std.proofs.Common.{◌≡◌, ◌+◌, [], ◌++◌, IsTrue, length, ap, sym, ◌∙◌, subst, arith}
+use Rattle.std.proofs.Common.{◌≡◌, ◌+◌, ◌++◌, IsTrue, length, ap, sym, subst, arith}
 use Rattle.std.specs.Prelude.{All, Err}
-use Rattle.std.proofs.lemmas.List.{append-nil}
 use Rattle.std.proofs.lemmas.List.Elements.{All-append}
 use Rattle.xc_data.specs.Step.{Step}
 use Rattle.xc_data.specs.declared.call.Call.{Call}

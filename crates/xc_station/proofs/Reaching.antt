@@ -1,7 +1,7 @@
 -- What a running transaction's calls need of pipes and pairs is there.
 use Rattle.std.proofs.Common.{◌≡◌, ℕ, Bool, true, false, cond, Option, Some, None, is_some, List, [], ◌∷◌, length, refl, ap, sym, ◌∙◌, subst, arith}
 use Rattle.std.proofs.lemmas.List.Elements.{All-contains_itself}
-use Rattle.std.specs.Prelude.{All, Contains, IsTrue, ◌||◌, if◌then◌else◌}
+use Rattle.std.specs.Prelude.{All, Contains, ◌||◌, if◌then◌else◌}
 use Rattle.std.specs.FinMap as map
 use Rattle.std.specs.List.{filter, flat_map, list_any}
 use Rattle.xc_buffers.specs.Items.{item_bytes, keeps_from, keeps_pair, kept_bytes}
@@ -27,7 +27,6 @@ use Rattle.xc_socket.specs.Checks.{IsPairIn}
 use Rattle.xc_world.specs.Act.Names.{next_num}
 use Rattle.xc_world.specs.Checks.{is_refused, refusal_of}
 use Rattle.xc_world.specs.Modes.{mode_of}
-use Rattle.xc_world.specs.Run.{given_back}
 use Rattle.xc_world.specs.Sound.{IsKnown}
 use Rattle.xc_world.specs.Touch.{object_at, touch}
 use Rattle.xc_world.proofs.Calls.{objects_of_claims}

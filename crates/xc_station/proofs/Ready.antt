@@ -20,7 +20,7 @@ use Rattle.xc_txmem.specs.Overlay.{AreWithin}
 use Rattle.xc_text.specs.declared.script.Block.{Block}
 use Rattle.xc_text.specs.declared.script.Script.{Script}
 use Rattle.xc_text.specs.Scripts.{IsBlock}
-use Rattle.xc_script.specs.Ask.{walk_from, transactions_of, transactions_at}
+use Rattle.xc_script.specs.Ask.{transactions_of, transactions_at}
 use Rattle.xc_story.specs.declared.phase.Attempts.{Attempts}
 use Rattle.xc_story.specs.declared.rules.Rules.{Rules}
 use Rattle.xc_story.specs.Setting.{Setting, setting}
@@ -63,7 +63,6 @@ use Rattle.xc_station.proofs.Reaching.{lent_for}
 use Rattle.xc_station.proofs.Rivals.{none_met}
 use Rattle.xc_station.proofs.Rooms.{one_active}
 use Rattle.xc_station.proofs.Stages.{IsThere, committing_stage, running_stage, undoing_stage}
-use Rattle.xc_station.proofs.Unstarted.{StartNone, late_none}
 
 -- ---- the job's story
 get_beside : {A B : Type 0} (xs : List A) (ys : List B) (i : ℕ) (y : B) → length xs ≡ length ys → slice_get ys i ≡ Some y
@@ -98,12 +97,6 @@ active_does (Active t) tx is = let same : t ≡ tx = cc is in ap Active same
 active_does Idle tx is = cc is
 active_does Starved tx is = cc is
 active_does (Ended end) tx is = cc is
-
--- it starts no job
-pub starts_none : (s : Setting) (faults : ℕ) (now : Now) → IsSteady s faults now → (at : ℕ) (tx : SeenTx) → IsActiveAt now.jobs at tx → StartNone tx.late
-starts_none s faults now steady at tx (job, stands, active) =
-    let t = telling s faults now steady at job tx stands (active_does job.doing tx active) in
-    late_none (walk_from s.script t.following.job) tx t.underway.asked t.underway.kept
 
 -- ---- its transaction is one of a few
 few_there : (blocks : List Block) (i : ℕ) → All IsBlock blocks → length (transactions_of (slice_get blocks i)) ≤ 1000
@@ -301,11 +294,6 @@ module _ {H : Type 0} (model : HostModel H) (shared : Shared H) (journal : List 
             late_below (model.contents shared.host) shared.buffers.kept ((backed tells).kept) call
             (late_there s now (steady.flying tells) at (seen_job was) mine.tx call calls there (ap active_in mine.doing) mine.phase left),
       )
-
-  -- the transaction of a job starts no job
-  pub none_here : (s : Stage) → IsThere jobs at s was → (tx : SeenTx) → doing_of was ≡ Active tx → StartNone tx.late
-  none_here s is tx does = starts_none (setting script rules model.tells) faults (moment model shared journal jobs) steady at tx
-      (seen_job was, get_map seen_job jobs at was is.stands, ap active_in does)
 
   -- the next transaction has no seat yet
   pub next_unseated : seat_in shared.sentinels.seats (length journal + active + 1) ≡ None

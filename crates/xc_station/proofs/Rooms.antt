@@ -1,5 +1,5 @@
 -- What a station keeps beside its moment: the table of claims, the seats, and room.
-use Rattle.std.proofs.Common.{◌≡◌, ℕ, ◌+◌, ◌≤◌, length, ap, sym, ◌∙◌, subst, arith}
+use Rattle.std.proofs.Common.{◌≡◌, ℕ, ◌+◌, ◌≤◌, length, [], ap, sym, ◌∙◌, subst, arith}
 use Rattle.std.specs.Prelude.{slice_get, slice_set}
 use Rattle.std.specs.declared.option.Option.TheVariants.{Some}
 use Rattle.xc_data.specs.declared.entry.JobLine.{JobLine}
@@ -31,8 +31,21 @@ rooms_set shared shared' active active' spare spare' old new lines at job job' t
       few = let few = has.few in omega (arith, few, many);
       count = let was = has.count in omega (arith, picked, same, was, count);
       room = room;
-      lines_room = let lines_room = has.lines_room in omega (arith, lines_room, many);
       none = has.none;
+    }
+
+-- with other room for lines
+pub rooms_relined : {H : Type 0} (shared : Shared H) (active spare : ℕ) (now : Now) (lines lines' : Roomy JobLine) → lines'.items ≡ []
+    → HasRooms shared active spare now lines → HasRooms shared active spare now lines'
+rooms_relined shared active spare now lines lines' none has =
+    record {
+      claims = has.claims;
+      seats = has.seats;
+      noted = has.noted;
+      few = has.few;
+      count = has.count;
+      room = has.room;
+      none = none;
     }
 
 -- a job with an active transaction is one of those that are counted

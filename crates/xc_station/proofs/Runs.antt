@@ -1,5 +1,5 @@
 -- Runs of turns.
-use Rattle.std.proofs.Common.{◌≡◌, ◌≢◌, ◌+◌, ◌-◌, ◌%◌, ◌^◌, ◌<◌, ◌≤◌, ℕ, zero, suc, Bool, true, false, List, [], ◌∷◌, ◌++◌, length, length-set}
+use Rattle.std.proofs.Common.{◌≡◌, ◌≢◌, ◌+◌, ◌-◌, ◌%◌, ◌^◌, ◌<◌, ◌≤◌, ℕ, zero, suc, Bool, true, false, List, [], ◌∷◌, ◌++◌, length, length-append, length-set}
 use Rattle.std.proofs.Common.{ap, sym, refl, ◌∙◌, subst, arith}
 use Rattle.std.proofs.Math.Decide.{dec_le}
 use Rattle.std.proofs.lemmas.Bool.{ne_eqb}
@@ -20,6 +20,7 @@ use Rattle.xc_story.specs.Alone.{AreAlone}
 use Rattle.xc_data.specs.declared.call.LateCall.{LateCall}
 use Rattle.xc_story.specs.Seen.{SeenTx, SeenJob, Doing, Active, Now, active_in, late_left}
 use Rattle.xc_story.specs.Rows.{IsTurn, IsActiveAt}
+use Rattle.xc_turns.proofs.Lists.{get_inside}
 use Rattle.xc_turns.proofs.Orders.{alone_turned, alone_later}
 use Rattle.xc_station.specs.declared.job.Job.{Job}
 use Rattle.xc_station.specs.Jobs.{back_stage, goes_on, is_live, late_stage, phase_stage, seen_job, seen_jobs, stage_of}
@@ -36,15 +37,16 @@ goes_further a b c h k =
         h.front.0 ++ k.front.0,
         k.front.1 ∙ ap (λ es. es ++ k.front.0) h.front.1 ∙ append_assoc a.journal h.front.0 k.front.0,
       );
-      count = k.count ∙ h.count;
+      count = let first = h.count in let more = k.count in omega (arith, first, more);
     }
 
 -- one run of turns of a job behind another
-pub works_further : {H : Type 0} (model : HostModel H) (job : ℕ) (a b c : Seen H) → WorksOn model job a b → WorksOn model job b c → WorksOn model job a c
-works_further model job a b c h k =
+pub works_further : {H : Type 0} (model : HostModel H) (job : ℕ) (a b c : Seen H) → length a.jobs ≤ length b.jobs → WorksOn model job a b
+    → WorksOn model job b c → WorksOn model job a c
+works_further model job a b c rises h k =
     record {
       taken = k.taken ∙ h.taken;
-      others = λ other away. k.others other away ∙ h.others other away;
+      others = λ other away low. let more = rises in k.others other away (omega (arith, low, more)) ∙ h.others other away low;
       alone = λ alone. k.alone (h.alone alone);
     }
 
@@ -79,20 +81,24 @@ pub numbered : (jobs : List Job) (job : ℕ) → live_at jobs job ≡ true → 1
 numbered jobs zero live = cc
 numbered jobs (suc n) live = omega arith
 
-others_live : (old new : List Job) (at : ℕ) (behind : SeenJob) → seen_jobs new ≡ slice_set (seen_jobs old) at behind → (other : ℕ) → other ≢ at
-    → lives (slice_get new other) ≡ lives (slice_get old other)
-others_live old new at behind jobs other away =
-    lives_as new other ∙ ap (λ js. seen_live (slice_get js other)) jobs ∙ ap seen_live (get_other (seen_jobs old) at other behind away)
+others_live : (old new : List Job) (at : ℕ) (behind : SeenJob) (more : List SeenJob) → seen_jobs new ≡ slice_set (seen_jobs old) at behind ++ more
+    → (other : ℕ) → other ≢ at → other < length old → lives (slice_get new other) ≡ lives (slice_get old other)
+others_live old new at behind more jobs other away low =
+    let count = length-set (seen_jobs old) at behind in let as_many = length-map old seen_job in
+    lives_as new other ∙ ap (λ js. seen_live (slice_get js other)) jobs
+    ∙ ap seen_live (get_inside (slice_set (seen_jobs old) at behind) more other (omega (arith, low, count, as_many))
+    ∙ get_other (seen_jobs old) at other behind away)
     ∙ sym (lives_as old other)
 
--- a turn of one job leaves whether another lives
-pub other_lives : (old new : List Job) (job : ℕ) (behind : SeenJob) → 1 ≤ job → seen_jobs new ≡ slice_set (seen_jobs old) (job - 1) behind → (other : ℕ)
-    → other ≢ job → live_at new other ≡ live_at old other
-other_lives old new job behind positive jobs other away =
+-- a turn of one job leaves whether another lives that was there
+pub other_lives : (old new : List Job) (job : ℕ) (behind : SeenJob) (more : List SeenJob) → 1 ≤ job
+    → seen_jobs new ≡ slice_set (seen_jobs old) (job - 1) behind ++ more → (other : ℕ) → other ≢ job → other ≤ length old
+    → live_at new other ≡ live_at old other
+other_lives old new job behind more positive jobs other away low =
     dite (ℕ_discrete other 0)
     (λ none. ap (live_at new) none ∙ sym (ap (live_at old) none))
     (λ some. ap (λ (b : Bool). if other == 0 then false else b)
-    (others_live old new (job - 1) behind jobs (other - 1) (λ same. away (omega arith))))
+    (others_live old new (job - 1) behind more jobs (other - 1) (λ same. away (omega arith)) (omega (arith, low, some))))
 
 module _ {H : Type 0} (model : HostModel H) (job : ℕ) (old new : Seen H) (answer : Turn) (kept : KeepsOpening old new)
     (row : IsTurn (setting_of model old) (job - 1) (now_of model old) answer (now_of model new))
@@ -102,15 +108,18 @@ module _ {H : Type 0} (model : HostModel H) (job : ℕ) (old new : Seen H) (answ
       record {
         origin = record { opening = kept.opening; rules = kept.rules };
         front = left.front;
-        count = sym (length-map new.jobs seen_job) ∙ ap length left.jobs ∙ length-set (seen_jobs old.jobs) (job - 1) left.behind
-            ∙ length-map old.jobs seen_job;
+        count =
+            let behind = ap length left.jobs ∙ length-append (slice_set (seen_jobs old.jobs) (job - 1) left.behind) left.started in
+            let set = length-set (seen_jobs old.jobs) (job - 1) left.behind in
+            let news = length-map new.jobs seen_job in let olds = length-map old.jobs seen_job in
+            omega (arith, behind, set, news, olds);
       }
 
   pub turn_works : 1 ≤ job → WorksOn model job old new
   turn_works positive =
       record {
         taken = kept.taken;
-        others = other_lives old.jobs new.jobs job left.behind positive left.jobs;
+        others = other_lives old.jobs new.jobs job left.behind left.started positive left.jobs;
         alone = alone_turned _ _ _ _ _ row;
       }
 
@@ -147,6 +156,22 @@ ended_rests jobs at ended tx (job, stands, active) =
     let not : seen_live (slice_get (seen_jobs jobs) at) ≡ false = sym (lives_as jobs at) ∙ sym (by_place jobs at) ∙ ended in
     let no : true ≡ false = sym live ∙ not in cc
 
+none_there : (b : Bool) → (if b then false else lives None) ≡ false
+none_there true = refl
+none_there false = refl
+
+-- no job lives past the last
+pub none_past : (jobs : List Job) (number : ℕ) → length jobs < number → live_at jobs number ≡ false
+none_past jobs number high =
+    ap (λ (o : Option Job). if number == 0 then false else lives o) (slice_get_past jobs (number - 1) (omega (arith, high))) ∙ none_there (number == 0)
+
+-- so the number of one that lives is no more
+pub live_within : (jobs : List Job) (number : ℕ) → live_at jobs number ≡ true → number ≤ length jobs
+live_within jobs number live =
+    dite (dec_le number (length jobs))
+    (λ low. low)
+    (λ high. let both : true ≡ false = sym live ∙ none_past jobs number (omega (arith, high)) in cc both)
+
 -- a worker takes the next job, and takes it to its end
 module _ {H : Type 0} (model : HostModel H) (job : ℕ) (old taking new : Seen H) (is : taking.jobs ≡ old.jobs) (at : taking.taken ≡ job)
     (now : now_of model taking ≡ now_of model old) (next : IsNextOf old.jobs old.taken job)
@@ -157,7 +182,7 @@ module _ {H : Type 0} (model : HostModel H) (job : ℕ) (old taking new : Seen H
       (record {
         origin = record { opening = opening; rules = rules };
         front = ([], ap (λ (n : Now). n.journal) now ∙ sym (append-nil old.journal));
-        count = ap length is;
+        count = let same = ap length is in omega (arith, same);
       }) goes
 
   before : (from : ℕ) → ((other : ℕ) → from < other → other ≤ old.taken → live_at old.jobs other ≡ false) → (other : ℕ) → from < other
@@ -170,12 +195,14 @@ module _ {H : Type 0} (model : HostModel H) (job : ℕ) (old taking new : Seen H
       let last : new.taken ≡ job = works.taken ∙ at in
       dite (ℕ_discrete other job)
       (λ same. ap (live_at new.jobs) same ∙ mine)
-      (λ away. works.others other away ∙ ap (λ js. live_at js other) is ∙ before from ended other low (omega (arith, last, most, away)))
+      (λ away. works.others other away (let count = ap length is in let within = live_within old.jobs job next.live in omega (arith, last, most, within, count))
+      ∙ ap (λ js. live_at js other) is ∙ before from ended other low (omega (arith, last, most, away)))
 
   pub next_others : (from : ℕ) → from ≤ old.taken → (other : ℕ) → other ≤ from → live_at new.jobs other ≡ live_at old.jobs other
   next_others from low other most =
       let above = next.above in
-      works.others other (λ same. omega (arith, same, above, low, most)) ∙ ap (λ js. live_at js other) is
+      let count = ap length is in let within = live_within old.jobs job next.live in
+      works.others other (λ same. omega (arith, same, above, low, most)) (omega (arith, above, low, most, within, count)) ∙ ap (λ js. live_at js other) is
 
   pub next_alone : ((other : ℕ) → 0 < other → other ≤ old.taken → live_at old.jobs other ≡ false) → AreAlone (now_of model old) (old.taken - 1)
       → AreAlone (now_of model new) (new.taken - 1)
@@ -244,22 +271,6 @@ pub taken_more : {H : Type 0} (model : HostModel H) (jobs : List ℕ) (job : ℕ
 taken_more {H = H} model [] job old mid new same step =
     (new, subst (λ (s : Seen H). IsStepOf model job (record { old = s; new = new }) (live_at s.jobs job)) same step, refl)
 taken_more model (j ∷ jobs) job old mid new (next, first, rest) step = (next, first, taken_more model jobs job next mid new rest step)
-
-none_there : (b : Bool) → (if b then false else lives None) ≡ false
-none_there true = refl
-none_there false = refl
-
--- no job lives past the last
-pub none_past : (jobs : List Job) (number : ℕ) → length jobs < number → live_at jobs number ≡ false
-none_past jobs number high =
-    ap (λ (o : Option Job). if number == 0 then false else lives o) (slice_get_past jobs (number - 1) (omega (arith, high))) ∙ none_there (number == 0)
-
--- so the number of one that lives is no more
-pub live_within : (jobs : List Job) (number : ℕ) → live_at jobs number ≡ true → number ≤ length jobs
-live_within jobs number live =
-    dite (dec_le number (length jobs))
-    (λ low. low)
-    (λ high. let both : true ≡ false = sym live ∙ none_past jobs number (omega (arith, high)) in cc both)
 
 -- those that don't live are passed over
 pub passed_over : {H : Type 0} (model : HostModel H) (at more : ℕ) (old mid : Seen H) → TakeTurns model (numbers at) old mid

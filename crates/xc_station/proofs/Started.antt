@@ -1,7 +1,7 @@
 -- A station before its first turn.
-use Rattle.std.proofs.lemmas.List.Elements.{All-nil}
+use Rattle.std.proofs.lemmas.List.Elements.{All-head, All-nil, All-tail}
 use Rattle.std.proofs.lemmas.List.Sums.{sum_by-cons}
-use Rattle.std.proofs.Common.{◌≡◌, ℕ, ◌+◌, ◌-◌, ◌≤◌, List, [], ◌∷◌, ◌++◌, length, map, replicate, All, refl, ap, sym, ◌∙◌, subst, arith, IsTrue}
+use Rattle.std.proofs.Common.{◌≡◌, ℕ, ◌≤◌, List, [], ◌∷◌, length, map, All, refl, ap, sym, ◌∙◌, subst, arith, IsTrue}
 use Rattle.std.proofs.lemmas.List.{length-map}
 use Rattle.std.specs.Prelude.{slice_get, zero, suc}
 use Rattle.std.specs.declared.option.Option.TheVariants.{None, Some}
@@ -13,6 +13,7 @@ use Rattle.xc_host.specs.Contents.{Contents, opened}
 use Rattle.xc_journal.specs.Room.{Roomy}
 use Rattle.xc_text.specs.declared.script.Script.{Script}
 use Rattle.xc_text.specs.Scripts.{IsScript}
+use Rattle.xc_text.proofs.Keeping.{block_count}
 use Rattle.xc_sentinel.specs.Seating.{seat_in}
 use Rattle.xc_wordlocks.specs.Table.{mode_of}
 use Rattle.xc_story.specs.Setting.{Setting}
@@ -22,7 +23,8 @@ use Rattle.xc_story.specs.Kept.{IsSet, IsKept}
 use Rattle.xc_turns.proofs.StoryStart.{start_kept}
 use Rattle.xc_played.proofs.TurnStart.{start_flies}
 use Rattle.xc_station.specs.declared.calls.Shared.{Shared}
-use Rattle.xc_station.specs.Jobs.{blocks_of}
+use Rattle.xc_station.specs.declared.job.Job.{Job}
+use Rattle.xc_station.specs.Jobs.{HasChildren, seen_child, seen_job, seen_jobs, started_in}
 use Rattle.xc_station.specs.Lent.{AreBacked, IsBacked, notes_in_all, notes_of}
 use Rattle.xc_station.specs.Moments.{seated_as}
 use Rattle.xc_station.specs.Stations.{IsSteady, HasRooms}
@@ -41,13 +43,20 @@ none_there script (b ∷ blocks) zero tx job at is =
     cc
 none_there script (b ∷ blocks) (suc j) tx job at is = none_there script blocks j tx job at is
 
--- the blocks of its jobs
-pub opened_blocks : (script : Script) (blocks : List (List ℕ)) (jobs : List SeenJob) → jobs ≡ map (opened_job script) blocks → blocks_of jobs ≡ blocks
-opened_blocks script blocks jobs are = ap blocks_of are ∙ each script blocks
-  where
-    each : (script : Script) (blocks : List (List ℕ)) → blocks_of (map (opened_job script) blocks) ≡ blocks
-    each script [] = refl
-    each script (b ∷ blocks) = ap (λ bs. b ∷ bs) (each script blocks)
+-- nothing waits with them
+pub each_opened : (script : Script) (blocks : List (List ℕ)) (jobs : List Job) → seen_jobs jobs ≡ map (opened_job script) blocks
+    → All (λ (job : Job). job.children.items ≡ []) jobs → (at : ℕ) (job : Job) → slice_get jobs at ≡ Some job → HasChildren script job
+each_opened script blocks [] are none at job is = cc is
+each_opened script [] (x ∷ jobs) are none at job is = cc are
+each_opened script (b ∷ blocks) (x ∷ jobs) are none zero job is =
+    let first : seen_job x ≡ opened_job script b = cc are in
+    let one : x ≡ job = cc is in
+    subst (HasChildren script) one
+    (ap (map seen_child) (All-head (λ (j : Job). j.children.items ≡ []) x jobs none)
+    ∙ sym (ap (λ (j : SeenJob). started_in script (seen_job x) j.doing) first))
+each_opened script (b ∷ blocks) (x ∷ jobs) are none (suc at) job is =
+    let rest : seen_jobs jobs ≡ map (opened_job script) blocks = cc are in
+    each_opened script blocks jobs rest (All-tail (λ (j : Job). j.children.items ≡ []) x jobs none) at job is
 
 -- what is true of it
 pub started : (s : Setting) (faults : ℕ) (now : Now) → IsSet s → KeepsLimits s.script.outline → IsOpening s.script now → now.faults ≡ faults
@@ -71,9 +80,10 @@ none_noted script (b ∷ blocks) =
 -- and its rooms
 pub roomy : {H : Type 0} (script : Script) (shared : Shared H) (spare : ℕ) (now : Now) (lines : Roomy JobLine) → IsScript script → IsOpening script now
     → ((n : ℕ) (o : Object) → mode_of shared.sentinels.claims n o ≡ None) → ((n : ℕ) → seat_in shared.sentinels.seats n ≡ None)
-    → length now.jobs ≤ lines.spare → lines.items ≡ [] → shared.buffers.noted ≡ 0 → HasRooms shared 0 spare now lines
-roomy script shared spare now lines read opening empty nobody room none unlent =
+    → lines.items ≡ [] → shared.buffers.noted ≡ 0 → HasRooms shared 0 spare now lines
+roomy script shared spare now lines read opening empty nobody none unlent =
     let blocks = script.outline.jobs in
+    let few : length blocks ≤ 1000 = omega (arith, read.few_blocks, block_count script read.named) in
     record {
       claims = λ o. record {
         held = λ j tx active. absurd (none_there script blocks j tx active.0 (ap (λ jobs. slice_get jobs j) (sym opening.jobs) ∙ active.1) active.2);
@@ -84,12 +94,9 @@ roomy script shared spare now lines read opening empty nobody room none unlent =
         known = λ n x holds. absurd (let no : None ≡ Some x = sym (ap seated_as (nobody n)) ∙ holds in let bad : ⊥ = cc in bad);
       };
       noted = ap notes_in_all opening.jobs ∙ none_noted script blocks ∙ sym unlent;
-      few = subst (λ (n : ℕ). n ≤ 1000)
-          (sym (ap length opening.jobs ∙ length-map blocks (opened_job script) ∙ ap length read.jobs ∙ length-map script.blocks (λ b. b.name)))
-          read.few_blocks;
+      few = subst (λ (n : ℕ). n ≤ 1000) (sym (ap length opening.jobs ∙ length-map blocks (opened_job script))) few;
       count = ap (λ jobs. length (actives jobs)) opening.jobs ∙ ap length (none_begun script blocks);
       room = omega arith;
-      lines_room = room;
       none = none;
     }
 

@@ -37,7 +37,7 @@ steady_kept s faults at old new answer steady turned =
         spoken = turn_keeps_words s at old new answer turned steady.kept.apart steady.kept.spoken;
         apart = apart_kept s at old new answer turned steady.kept.apart;
         counted = turn_keeps_count s at faults old new answer turned told steady.kept.counted;
-        started = turn_keeps_started s at old new answer turned told steady.kept.started;
+        started = turn_keeps_started s at old new answer turned told steady.kept.apart steady.kept.started;
       };
       flying = λ tells. turn_flies s at old new answer tells turned told (steady.flying tells);
     }

@@ -1,5 +1,5 @@
 -- Memory is wanting for the variable that takes a call's reply: what the call took goes back to the front.
-use Rattle.std.proofs.Common.{◌≡◌, ◌⊎◌, inl, inr, ℕ, ◌≤◌, ◌<◌, Bool, true, false, List, [], ◌∷◌, ◌++◌, length, refl, ap, sym, ◌∙◌, subst, IsTrue, arith}
+use Rattle.std.proofs.Common.{◌≡◌, ◌⊎◌, inl, inr, ◌≤◌, ◌<◌, Bool, true, false, List, [], ◌∷◌, ◌++◌, length, refl, ap, sym, ◌∙◌, subst, IsTrue, arith}
 use Rattle.std.proofs.lemmas.List.{append-nil, length-append}
 use Rattle.std.proofs.lemmas.List.Elements.{All-head}
 use Rattle.std.specs.Prelude.{All, Contains}
@@ -10,7 +10,6 @@ use Rattle.xc_data.specs.Private.{IsSided}
 use Rattle.xc_data.specs.declared.private.Private.{Private}
 use Rattle.xc_data.specs.declared.call.Reply.{Reply}
 use Rattle.xc_data.specs.declared.entry.KeptItem.{KeptItem}
-use Rattle.xc_host.specs.Contents.{Contents}
 use Rattle.xc_host.specs.Model.{HostModel}
 use Rattle.xc_script.specs.Ask.{value_in}
 use Rattle.xc_story.specs.Seen.{SeenTx}

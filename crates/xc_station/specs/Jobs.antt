@@ -1,17 +1,20 @@
 -- A job and its active transaction as plain data, and what a turn of the job goes by.
 use Rattle.std.specs.Prelude.{◌≡◌, ℕ, Bool, true, false, List, [], ◌∷◌, map, slice_get, if◌then◌else◌}
-use Rattle.std.specs.declared.option.Option.TheVariants.{Some}
+use Rattle.std.specs.declared.option.Option.TheVariants.{None, Some}
 use Rattle.xc_data.specs.declared.call.LateCall.{LateCall}
 use Rattle.xc_data.specs.declared.call.LateEnd.{LateEnd}
 use Rattle.xc_data.specs.declared.entry.Outcome.{Outcome}
 use Rattle.xc_data.specs.declared.entry.Outcome.TheVariants.{Committed, Aborted}
 use Rattle.xc_data.specs.declared.private.Private.{Private}
 use Rattle.xc_data.specs.declared.undo.Undo.{Undo}
+use Rattle.xc_text.specs.declared.script.Script.{Script}
 use Rattle.xc_world.specs.Ends.{Ending}
+use Rattle.xc_story.specs.Rows.{started_jobs}
 use Rattle.xc_story.specs.declared.phase.Phase.{Phase}
 use Rattle.xc_story.specs.declared.phase.Phase.TheVariants as phase
 use Rattle.xc_story.specs.Seen.{SeenTx, SeenJob, Doing, Idle, Active, Starved, Ended, late_left}
 use Rattle.xc_station.specs.declared.tx.Tx.{Tx}
+use Rattle.xc_station.specs.declared.job.Child.{Child}
 use Rattle.xc_station.specs.declared.job.Job.{Job}
 use Rattle.xc_station.specs.declared.job.Activity.{Activity}
 use Rattle.xc_station.specs.declared.job.Activity.TheVariants as activity
@@ -56,6 +59,23 @@ doing_of job = seen_doing job.tx job.activity
 abbrev pub seen_job : Job → SeenJob
 seen_job job =
     record { block = job.block; me = begun_of job.tx; place = job.place; attempts = job.attempts; busy = job.busy; doing = doing_of job }
+
+-- ---- what a committing transaction has started
+-- a child, as the job that it is from the entry on
+abbrev pub seen_child : Child → SeenJob
+seen_child child = record { block = child.block; me = begun_of child.tx; place = child.place; attempts = None; busy = 0; doing = Idle }
+
+-- the jobs that this one's active transaction has started, as they are from its entry on
+abbrev pub started_in : Script → SeenJob → Doing → List SeenJob
+started_in script job (Active tx) = started_jobs script job tx
+-- it has none
+started_in script job Idle = []
+started_in script job Starved = []
+started_in script job (Ended end) = []
+
+-- they wait with the job
+abbrev pub HasChildren : Script → Job → Type 0
+HasChildren script job = map seen_child job.children.items ≡ started_in script (seen_job job) (doing_of job)
 
 -- all jobs
 abbrev pub seen_jobs : List Job → List SeenJob

@@ -3,6 +3,8 @@ pub mod Beginning
 pub mod Jobs
 pub mod Lent
 pub mod Moments
+pub mod Places
 pub mod PutBack
+pub mod Starting
 pub mod Stations
 pub mod Waits

@@ -1,6 +1,7 @@
 -- What contracts see of a station, and what is true of it between two turns.
 use Rattle.std.specs.Prelude.{◌≡◌, ◌≢◌, ℕ, zero, suc, ◌==◌, ◌+◌, ◌%◌, ◌-◌, ◌<◌, ◌≤◌, Bool, true, false, List, [], ◌∷◌, ◌++◌}
-use Rattle.std.specs.Prelude.{length, slice_get, slice_set}
+use Rattle.std.specs.Global.{Global}
+use Rattle.std.specs.Prelude.{Vec, length, slice_get, slice_set, vec_capacity}
 use Rattle.std.specs.Prelude.{if◌then◌else◌, IsTrue, Option}
 use Rattle.std.specs.declared.option.Option.TheVariants.{None, Some}
 use Rattle.xc_data.specs.Step.{Step}
@@ -15,6 +16,7 @@ use Rattle.xc_host.specs.Model.{HostModel}
 use Rattle.xc_journal.specs.Room.{Roomy}
 use Rattle.xc_data.specs.declared.entry.JobLine.{JobLine}
 use Rattle.xc_sentinel.specs.Seated.{Seats}
+use Rattle.xc_text.specs.declared.script.Script.{Script}
 use Rattle.xc_story.specs.declared.rules.Rules.{Rules}
 use Rattle.xc_story.specs.Setting.{Setting, setting}
 use Rattle.xc_story.specs.Seen.{SeenJob, Now, actives}
@@ -26,7 +28,7 @@ use Rattle.xc_played.specs.Flying.{AreFlying}
 use Rattle.xc_station.specs.declared.calls.Shared.{Shared}
 use Rattle.xc_station.specs.declared.job.Job.{Job}
 use Rattle.xc_station.specs.declared.start.Opening.{Opening}
-use Rattle.xc_station.specs.Jobs.{blocks_of, is_live, seen_job, seen_jobs}
+use Rattle.xc_station.specs.Jobs.{HasChildren, is_live, seen_job, seen_jobs}
 use Rattle.xc_station.specs.Lent.{notes_in_all}
 use Rattle.xc_station.specs.Moments.{AreSeats, IsTable, marks_of, told_by}
 
@@ -43,6 +45,8 @@ pub record Seen (H : Type 0) : Type 0 where
   -- the jobs in the places below this one were taken by a worker, or have ended
   pub taken : ℕ
   pub seats : Seats
+  -- the blocks of all jobs that were started, also of those that aren't live yet
+  pub started : List (List ℕ)
   -- how many events there were, modulo 2^64, and the last of them
   pub events : ℕ
   pub last : Option Event
@@ -57,7 +61,7 @@ now_of model station =
       calls = model.calls station.host;
       journal = station.journal;
       jobs = seen_jobs station.jobs;
-      started = blocks_of (seen_jobs station.jobs);
+      started = station.started;
       marks = marks_of station.seats;
     }
 
@@ -82,8 +86,24 @@ pub record HasRooms {H : Type 0} (shared : Shared H) (active spare : ℕ) (now :
   pub few : length now.jobs ≤ 1000
   pub count : length (actives now.jobs) ≡ active
   pub room : active ≤ spare
-  pub lines_room : length now.jobs ≤ lines.spare
   pub none : lines.items ≡ []
+
+-- for how many jobs there is room, for their lines, and for their marks
+pub record Room : Type 0 where
+  pub jobs : ℕ
+  pub lines : ℕ
+  pub marks : ℕ
+
+-- as the code has it
+abbrev pub room_of : Vec Job Global → Roomy JobLine → Vec ℕ Global → Room
+room_of jobs lines ahead = record { jobs = vec_capacity jobs; lines = lines.spare; marks = vec_capacity ahead }
+
+-- what transactions have started waits with their jobs, and there is room for all jobs that were started
+pub record HasStarts (script : Script) (started : List (List ℕ)) (jobs : List Job) (room : Room) : Type 0 where
+  pub children : (at : ℕ) (job : Job) → slice_get jobs at ≡ Some job → HasChildren script job
+  pub jobs_room : length started ≤ room.jobs
+  pub lines_room : length started ≤ room.lines
+  pub marks_room : length started + 1 ≤ room.marks
 
 -- ---- what a turn never changes
 pub record KeepsOpening {H : Type 0} (old new : Seen H) : Type 0 where
@@ -120,26 +140,28 @@ pub record KeepsOrigin {H : Type 0} (old new : Seen H) : Type 0 where
 abbrev pub IsFrontOf : List Entry → List Entry → Type 0
 IsFrontOf front whole = (more : List Entry) × (whole ≡ front ++ more)
 
--- a turn of the job in this place changes no other job and starts none, and the journal goes on
+-- a turn of the job in this place changes no other job; those that are live from then on are behind the others; and the journal
+-- goes on
 pub record ChangesOne (at : ℕ) (old new : Now) : Type 0 where
   pub behind : SeenJob
-  pub jobs : new.jobs ≡ slice_set old.jobs at behind
+  pub started : List SeenJob
+  pub jobs : new.jobs ≡ slice_set old.jobs at behind ++ started
   pub front : IsFrontOf old.journal new.journal
 
 -- its jobs ran one after another
 abbrev pub RanAlone : {H : Type 0} → HostModel H → Seen H → Type 0
 RanAlone model station = (at : ℕ) × AreAlone (now_of model station) at
 
--- all that a run of turns keeps: also the number of jobs
+-- all that a run of turns keeps: no job goes
 pub record GoesOn {H : Type 0} (old new : Seen H) : Type 0 where
   pub origin : KeepsOrigin old new
   pub front : IsFrontOf old.journal new.journal
-  pub count : length new.jobs ≡ length old.jobs
+  pub count : length old.jobs ≤ length new.jobs
 
--- and what one of turns of this job keeps: whether others live, and that it works alone
+-- and what one of turns of this job keeps: whether the others that were there live, and that it works alone
 pub record WorksOn {H : Type 0} (model : HostModel H) (job : ℕ) (old new : Seen H) : Type 0 where
   pub taken : new.taken ≡ old.taken
-  pub others : (other : ℕ) → other ≢ job → live_at new.jobs other ≡ live_at old.jobs other
+  pub others : (other : ℕ) → other ≢ job → other ≤ length old.jobs → live_at new.jobs other ≡ live_at old.jobs other
   pub alone : AreAlone (now_of model old) (job - 1) → AreAlone (now_of model new) (job - 1)
 
 -- ---- a list of turns
@@ -220,7 +242,7 @@ moment model shared journal jobs =
       calls = model.calls shared.host;
       journal = journal;
       jobs = seen_jobs jobs;
-      started = blocks_of (seen_jobs jobs);
+      started = shared.started.items;
       marks = marks_of shared.sentinels.seats;
     }
 

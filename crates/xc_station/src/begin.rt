@@ -103,7 +103,8 @@ fn why_halted(
 // The turn of a job that doesn't begin.
 fn stop(job: &mut Job, halt: &Halt) -> Turn
     requires { WaitsOnly job.old.busy 4294967295 halt.now }
-    ensures { IsStopped (seen_job job.old) (seen_job job.new) halt.now result }
+    ensures stopped { IsStopped (seen_job job.old) (seen_job job.new) halt.now result }
+    ensures children { job.new.children.items ≡ job.old.children.items }
 {
     match halt {
         Halt::End(end) => job.end(end),
@@ -183,6 +184,7 @@ pub fn begin(
         → now.marks ≡ marks_of sentinels.old.seats
         → IdleTurn (mover (setting script.now rules.now tells) at now (seen_job job.old)) result
         (record (with_job now at (seen_job job.new)) { marks = marks_of sentinels.new.seats }) }
+    ensures children { job.new.children.items ≡ job.old.children.items }
 {
     let entered = journal.len();
     if let Some(halt) = why_halted(script, rules, sentinels, entered + active as usize, job) {

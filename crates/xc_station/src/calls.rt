@@ -8,7 +8,7 @@ ghost use Rattle.xc_data.specs.declared.private.Private.{Private as PlainPrivate
 ghost use Rattle.xc_world.specs.After.{IsMeAfter};
 ghost use Rattle.xc_data.specs.Calls.{is_late};
 ghost use Rattle.xc_story.specs.WordCalls.{is_word_call, word_reply, words_after};
-ghost use Rattle.xc_story.specs.Rows.{IsSameBegin, is_built, stored_by};
+ghost use Rattle.xc_story.specs.Rows.{IsSameBegin, stored_by};
 ghost use Rattle.xc_station.specs.Acting.{AreReadyFor, HasActed, IsLentFor, MayGo, acting};
 ghost use Rattle.xc_station.specs.Jobs.{begun_of, seen_tx};
 ghost use Rattle.xc_station.specs.Lent.{StaysBacked};
@@ -17,17 +17,19 @@ ghost use Rattle.xc_station.specs.PutBack.{changed_at, handle_in, place_before};
 use crate::buffers::Buffers;
 use crate::tx::Tx;
 use std::alloc::Global;
-use xc_data::{Call, NoMemory, Place, Private, Reply};
+use xc_data::{Call, Ident, NoMemory, Place, Private, Reply};
 use xc_file::{
     x_close, x_create, x_len, x_open, x_read, x_rename, x_seek, x_sync, x_unlink, x_write_ovr,
     x_write_seq,
 };
 use xc_host::Host;
+use xc_journal::Roomy;
 use xc_pipe::{x_pipe, x_shutdown, x_write_pipe};
 use xc_script::JobState;
 use xc_sentinel::Sentinels;
 use xc_socket::{x_pair, x_sendmsg};
 use xc_text::Script;
+use xc_thread::x_thread_create;
 use xc_txmem::{Words, WriteSet};
 
 /// What all jobs of a station share.
@@ -38,6 +40,8 @@ pub struct Shared<H: Host> {
     pub buffers: Buffers,
     pub words: Words,
     pub sentinels: Sentinels,
+    /// The blocks of all jobs that were started, also of those that aren't live yet.
+    pub started: Roomy<Ident>,
 }
 
 // The transaction's own stores are seen.
@@ -77,7 +81,6 @@ fn act<H: Host>(
     tx: &mut Tx,
     call: &Call,
 ) -> Result<Reply, NoMemory>
-    requires built { is_built call.now ≡ true }
     requires may { MayGo (length words.now) (seen_tx tx.old) }
     requires ready { IsTrue H.model.tells → AreReadyFor (seen_tx tx.old) (H.model.contents host.old) }
     requires lent { IsTrue H.model.tells → IsLentFor tx.old.me.value tx.old.number call.now (H.model.contents host.old) buffers.old.kept }
@@ -120,8 +123,7 @@ fn act<H: Host>(
         Call::XPair => x_pair(host, me, undo, *number),
         Call::XRecvmsg { h } => buffers.receive(host, taken, me, *h),
         Call::XSendmsg { h, bytes, .. } => x_sendmsg(late, me, *h, bytes),
-        // The contract leaves no other call.
-        Call::XThreadCreate { .. } => unreachable!(),
+        Call::XThreadCreate { body, .. } => x_thread_create(late, body.value()),
     }
 }
 

@@ -1,11 +1,11 @@
-ghost use Rattle.std.specs.Prelude.{◌≡◌, ◌≢◌, ℕ, ◌<◌, ◌≤◌, ◌+◌, ◌^◌, List, [], ◌∷◌, length, None, IsTrue};
+ghost use Rattle.std.specs.Prelude.{◌≡◌, ◌≢◌, ℕ, ◌<◌, ◌≤◌, ◌+◌, ◌^◌, List, [], ◌∷◌, ◌++◌, length, None, IsTrue};
 ghost use Rattle.xc_data.specs.declared.call.LateCall.{LateCall as PlainCall};
 ghost use Rattle.xc_data.specs.declared.entry.Cause.{Cause as PlainCause};
 ghost use Rattle.xc_data.specs.declared.entry.Outcome.TheVariants.{Committed, Aborted};
 ghost use Rattle.xc_deferred.specs.Does.{EndsNext, IsThereFor};
 ghost use Rattle.xc_host.specs.Fronted.{before, fronted};
 ghost use Rattle.xc_host.specs.Kept.{KeepsData};
-ghost use Rattle.xc_deferred.specs.Queue.{Queue};
+ghost use Rattle.xc_deferred.specs.Queue.{Queue, next_thread};
 ghost use Rattle.xc_script.specs.Position.{at_begin};
 ghost use Rattle.xc_compensate.specs.Records.{IsTried, NextIsCovered, Records};
 ghost use Rattle.xc_story.specs.declared.phase.Phase.TheVariants as PlainPhase;
@@ -17,10 +17,11 @@ ghost use Rattle.xc_station.specs.Moments.{GivesUpClaims, HoldsItsClaims};
 
 use crate::buffers::Buffers;
 use crate::calls::Shared;
-use crate::job::{Activity, Job};
+use crate::job::{Activity, Child, Job};
 use crate::tx::Tx;
 use std::alloc::Global;
-use xc_data::{Cause, Entry};
+use std::mem::replace;
+use xc_data::{Cause, Entry, LateEnd};
 use xc_host::Host;
 use xc_script::JobState;
 use xc_story::{Attempts, Phase};
@@ -38,6 +39,7 @@ fn go_on(place: &mut JobState, attempts: &mut Option<Attempts>)
 /// A committing job behind a turn in which its next late call was done.
 pub fn end_late<H: Host>(host: &mut H, buffers: &Buffers, job: &mut Job)
     requires committing { (tx : SeenTx) × ((seen_job job.old).doing ≡ Active tx) × (0 < length (late_left tx))
+        × (next_thread (late_left tx) ≡ None)
         × (IsTrue H.model.tells → (call : PlainCall) (calls : List PlainCall) → late_left tx ≡ call ∷ calls
         → IsThereFor (H.model.contents host.old) call) }
     ensures ends { (tx : SeenTx) (call : PlainCall) (calls : List PlainCall) → (seen_job job.old).doing ≡ Active tx
@@ -46,22 +48,41 @@ pub fn end_late<H: Host>(host: &mut H, buffers: &Buffers, job: &mut Job)
         × EndsNext (fronted H.model) call (record { host = before host.old buffers.now.kept; late = queue_of tx })
         (record { host = before host.new buffers.now.kept; late = queue }) }
     ensures keeps { IsTrue H.model.tells → KeepsData (H.model.contents host.old) (H.model.contents host.new) }
+    ensures children { job.new.children.items ≡ job.old.children.items }
 {
     job.tx.late.do_one(host, buffers.kept());
 }
 
-/// A committed job behind its last turn, and its entry: its slots have taken the ends of its late calls, and its claims are
-/// given up. The job's number counts from 1.
-pub fn commit<H: Host>(alloc: Global, number: u32, job: &mut Job, shared: &mut Shared<H>) -> Entry
+/// A committing job behind a turn in which its next late call, which starts a job, ended so.
+pub fn end_start(job: &mut Job, end: LateEnd)
+    requires committing { (tx : SeenTx) × ((seen_job job.old).doing ≡ Active tx) × (0 < length (late_left tx)) }
+    ensures ends { (tx : SeenTx) → (seen_job job.old).doing ≡ Active tx
+        → seen_job job.new ≡ with_tx (seen_job job.old) job.old.place (record tx { ends = tx.ends ++ end ∷ [] }) }
+    ensures children { job.new.children.items ≡ job.old.children.items }
+{
+    job.tx.late.end_thread(end);
+}
+
+/// What a committed transaction leaves: its entry, and the jobs that it has started.
+pub struct Closing {
+    pub entry: Entry,
+    pub children: Vec<Child>,
+}
+
+/// A committed job behind its last turn, and what its transaction leaves: its slots have taken the ends of its late calls, and its
+/// claims are given up. The job's number counts from 1.
+pub fn commit<H: Host>(alloc: Global, number: u32, job: &mut Job, shared: &mut Shared<H>) -> Closing
     requires committing { (tx : SeenTx) × ((seen_job job.old).doing ≡ Active tx) × (tx.phase ≡ PlainPhase.Committing) }
     requires next { job.old.place.next < 2 ^ 32 }
     requires table { HoldsItsClaims shared.old.sentinels.claims (seen_job job.old) }
     requires noted { notes_of (seen_job job.old) ≤ shared.old.buffers.noted }
     ensures same { (shared.new.host ≡ shared.old.host) × (shared.new.words ≡ shared.old.words) }
+    ensures started { shared.new.started ≡ shared.old.started }
     ensures gone { LetsGo shared.old.buffers shared.new.buffers (seen_job job.old) }
     ensures entry { (tx : SeenTx) (at : ℕ) → (seen_job job.old).doing ≡ Active tx → number ≡ at + 1
-        → (seen_job job.new ≡ behind_commit (seen_job job.old) tx) × (result ≡ entry_of tx at (Committed tx.ends)) }
+        → (seen_job job.new ≡ behind_commit (seen_job job.old) tx) × (result.entry ≡ entry_of tx at (Committed tx.ends)) }
     ensures freed { GivesUpClaims shared.old.sentinels shared.new.sentinels (seen_job job.old) }
+    ensures children { (result.children.items ≡ job.old.children.items) × (job.new.children.items ≡ []) }
 {
     job.activity = Activity::Idle;
     job.busy = 0;
@@ -76,7 +97,10 @@ pub fn commit<H: Host>(alloc: Global, number: u32, job: &mut Job, shared: &mut S
         .set_ends(calls.as_slice(), replies.as_slice(), late.ends());
     go_on(&mut job.place, &mut job.attempts);
     job.tx.renew();
-    job.tx.close(alloc, number, &mut shared.sentinels)
+    Closing {
+        entry: job.tx.close(alloc, number, &mut shared.sentinels),
+        children: replace(&mut job.children, Vec::new(alloc)),
+    }
 }
 
 /// An undoing job behind a turn in which its newest record without an end was tried.
@@ -84,9 +108,10 @@ pub fn undo<H: Host>(host: &mut H, tries: u32, job: &mut Job)
     requires undoing { (tx : SeenTx) × ((seen_job job.old).doing ≡ Active tx) × (tx.undo.pending ≢ [])
         × (IsTrue H.model.tells → NextIsCovered (H.model.contents host.old) tx.undo) }
     requires tries { 1 ≤ tries }
-    ensures { (tx : SeenTx) → (seen_job job.old).doing ≡ Active tx → (undo : Records)
+    ensures undone { (tx : SeenTx) → (seen_job job.old).doing ≡ Active tx → (undo : Records)
         × (seen_job job.new ≡ with_tx (seen_job job.old) job.old.place (record tx { undo = undo }))
         × IsTried H.model tries (record { host = host.old; undo = tx.undo }) (record { host = host.new; undo = undo }) }
+    ensures children { job.new.children.items ≡ job.old.children.items }
 {
     job.tx.undo.undo_next(host, tries);
 }
@@ -124,7 +149,8 @@ fn go_back(job: &mut Job, rank: u32, cause: Cause)
     requires idle { ((seen_job job.old).doing ≡ Idle) × (job.old.busy ≡ 0) }
     requires next { job.old.place.next < 2 ^ 32 }
     requires attempts { failures job.old.attempts + 1 < 2 ^ 32 }
-    ensures { (tx : SeenTx) → tx.rank ≡ rank → seen_job job.new ≡ behind_abort (seen_job job.old) tx cause }
+    ensures back { (tx : SeenTx) → tx.rank ≡ rank → seen_job job.new ≡ behind_abort (seen_job job.old) tx cause }
+    ensures children { job.new.children.items ≡ job.old.children.items }
 {
     match cause {
         Cause::NoMemory => job.activity = Activity::Starved,
@@ -149,11 +175,13 @@ pub fn abort<H: Host>(alloc: Global, number: u32, job: &mut Job, shared: &mut Sh
     requires table { HoldsItsClaims shared.old.sentinels.claims (seen_job job.old) }
     requires noted { notes_of (seen_job job.old) ≤ shared.old.buffers.noted }
     ensures same { (shared.new.host ≡ shared.old.host) × (shared.new.words ≡ shared.old.words) }
+    ensures started { shared.new.started ≡ shared.old.started }
     ensures given { Gives shared.old.buffers shared.new.buffers (seen_job job.old) }
     ensures entry { (tx : SeenTx) (c : PlainCause) (at : ℕ) → (seen_job job.old).doing ≡ Active tx → tx.phase ≡ PlainPhase.Undoing c
         → number ≡ at + 1 → (seen_job job.new ≡ behind_abort (seen_job job.old) tx c)
         × (result ≡ entry_of tx at (Aborted (record { cause = c; records = tx.undo.ended }))) }
     ensures freed { GivesUpClaims shared.old.sentinels shared.new.sentinels (seen_job job.old) }
+    ensures children { job.new.children.items ≡ job.old.children.items }
 {
     let cause = cause_of(&job.tx);
     let rank = job.tx.rank;

@@ -18,7 +18,15 @@ pub enum Activity {
     Ended(JobEnd),
 }
 
-/// A started job.
+/// A job that a committing transaction has started. It is live from the transaction's entry on.
+#[derive(Drop)]
+pub struct Child {
+    pub block: Ident,
+    pub place: JobState,
+    pub tx: Tx,
+}
+
+/// A started job that is live, or has ended.
 #[derive(Drop)]
 pub struct Job {
     pub block: Ident,
@@ -30,6 +38,8 @@ pub struct Job {
     pub activity: Activity,
     /// Its active transaction; while it has none, the handles of the last one's end stay in it for the next.
     pub tx: Tx,
+    /// What its committing transaction has started, in the order of the calls.
+    pub children: Vec<Child>,
 }
 
 /// The rows of the table of turns: what a job's next turn goes by.
@@ -92,14 +102,16 @@ impl Job {
     /// It was told to wait once more.
     pub fn wait(&mut self)
         requires { self.old.busy + 1 < 2 ^ 32 }
-        ensures { seen_job self.new ≡ waiting (seen_job self.old) }
+        ensures waits { seen_job self.new ≡ waiting (seen_job self.old) }
+        ensures children { self.new.children.items ≡ self.old.children.items }
     {
         self.busy += 1;
     }
 
     /// It ends.
     pub fn end(&mut self, end: &JobEnd) -> Turn
-        ensures { (seen_job self.new ≡ record (seen_job self.old) { doing = Ended end.now }) × (result ≡ Turn.Ended end.now) }
+        ensures ended { (seen_job self.new ≡ record (seen_job self.old) { doing = Ended end.now }) × (result ≡ Turn.Ended end.now) }
+        ensures children { self.new.children.items ≡ self.old.children.items }
     {
         self.activity = Activity::Ended(*end);
         Turn::Ended(*end)

@@ -6,9 +6,11 @@ mod buffers;
 mod calls;
 mod close;
 mod job;
+mod places;
 mod running;
 mod schedule;
 mod start;
+mod starting;
 mod station;
 mod tx;
 

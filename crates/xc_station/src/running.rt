@@ -68,6 +68,7 @@ fn claim<H: Host>(
 ) -> Result<(), Turn>
     requires count { length shared.old.words ≤ 4096 }
     ensures same { (front_of shared.new ≡ front_of shared.old) × (shared.new.words ≡ shared.old.words) }
+    ensures started { shared.new.started ≡ shared.old.started }
     ensures claimed { HasClaimed (record { old = shared.old.sentinels; new = shared.new.sentinels })
         (record { old = tx.old; new = tx.new })
         (record { claims = claims_of call.now tx.old.me.value (length shared.old.words); patient = terms.patient; at = terms.at }) result }
@@ -117,6 +118,7 @@ fn try_call<H: Host>(
     requires needs { IsTrue H.model.tells → HasNeeds H.model shared.old (seen_tx tx.old) }
     requires noted { length tx.old.taken.items ≤ shared.old.buffers.noted }
     ensures words { shared.new.words ≡ shared.old.words }
+    ensures started { shared.new.started ≡ shared.old.started }
     ensures plan { H.model.plan shared.new.host ≡ H.model.plan shared.old.host }
     ensures seats { KeepsSeated shared.old.sentinels.seats shared.new.sentinels.seats }
     ensures waits { (object : Object) (holder : ℕ) → result ≡ Turn.Busy object holder → terms.patient ≡ true }
@@ -163,6 +165,7 @@ fn go<H: Host>(
     requires needs { IsTrue H.model.tells → HasNeeds H.model shared.old (seen_tx tx.old) }
     requires noted { length tx.old.taken.items ≤ shared.old.buffers.noted }
     ensures count { length shared.new.words ≡ length shared.old.words }
+    ensures started { shared.new.started ≡ shared.old.started }
     ensures plan { H.model.plan shared.new.host ≡ H.model.plan shared.old.host }
     ensures seats { KeepsSeated shared.old.sentinels.seats shared.new.sentinels.seats }
     ensures waits { (object : Object) (holder : ℕ) → result ≡ Turn.Busy object holder → terms.patient ≡ true }
@@ -224,6 +227,7 @@ fn count_wait(job: &mut Job, answer: &Turn)
     requires { (object : Object) (holder : ℕ) → answer.now ≡ Turn.Busy object holder → job.old.busy + 1 < 2 ^ 32 }
     ensures counted { seen_job job.new ≡ counted answer.now (seen_job job.old) }
     ensures block { job.new.block ≡ job.old.block }
+    ensures children { job.new.children.items ≡ job.old.children.items }
 {
     match answer {
         Turn::Busy { .. } => job.wait(),
@@ -245,8 +249,10 @@ pub fn run<H: Host>(
     requires running { CanRun script.now H.model shared.old (seen_job job.old) }
     requires count { length shared.old.words ≤ 4096 }
     ensures count { length shared.new.words ≡ length shared.old.words }
+    ensures started { shared.new.started ≡ shared.old.started }
     ensures plan { H.model.plan shared.new.host ≡ H.model.plan shared.old.host }
     ensures block { job.new.block ≡ job.old.block }
+    ensures children { job.new.children.items ≡ job.old.children.items }
     ensures lends { (tx : SeenTx) → (seen_job job.old).doing ≡ Active tx → (behind : SeenTx) × ((seen_job job.new).doing ≡ Active behind)
         × Lends H.model (record { old = front_of shared.old; new = front_of shared.new }) (record { old = tx; new = behind }) }
     ensures row { (now : Now) (at : ℕ) → let s = setting script.now rules.now H.model.tells in

@@ -1,11 +1,12 @@
-ghost use Rattle.std.specs.Prelude.{◌≡◌, ◌<◌, ◌≤◌, ◌-◌, ◌+◌, ℕ, length, [], ◌&&◌, not, true, false};
-ghost use Rattle.std.specs.Prelude.{All, IfOk, IfErr, map, sum_by, IsTrue, IsNone, MatchOption, Some, slice_get};
+ghost use Rattle.std.specs.Prelude.{◌≡◌, ◌<◌, ◌≤◌, ◌-◌, ◌+◌, ℕ, length, [], ◌&&◌, not, slice_get, None, true, false};
+ghost use Rattle.std.specs.Prelude.{All, IfOk, IfErr, map, sum_by, IsTrue, IsNone, MatchOption, Some};
 ghost use Rattle.xc_data.specs.Counts.{RisesBy};
 ghost use Rattle.xc_data.specs.Faults.{entry_faults};
 ghost use Rattle.xc_data.specs.Limits.{KeepsLimits};
 ghost use Rattle.xc_host.specs.Contents.{needs_scripted, opened};
 ghost use Rattle.xc_host.specs.Kept.{with_kept};
 ghost use Rattle.xc_host.specs.Model.{plan_of};
+ghost use Rattle.xc_script.specs.Ask.{block_place};
 ghost use Rattle.xc_text.specs.Scripts.{IsScript};
 ghost use Rattle.xc_world.specs.Opening.{opening_handles};
 ghost use Rattle.xc_world.specs.World.{beginning};
@@ -14,11 +15,15 @@ ghost use Rattle.xc_story.specs.Kept.{AreLinesOf, IsLineOf};
 ghost use Rattle.xc_story.specs.Measure.{turns_left};
 ghost use Rattle.xc_story.specs.Opened.{IsOpening, opened_job};
 ghost use Rattle.xc_story.specs.Rows.{IsTurn};
+ghost use Rattle.xc_story.specs.Seen.{SeenTx, Active, late_left};
 ghost use Rattle.xc_story.specs.Setting.{setting};
 ghost use Rattle.xc_station.specs.declared.job.Stage.TheVariants as PlainStage;
 ghost use Rattle.xc_station.specs.declared.job.Job.{Job as PlainJob};
-ghost use Rattle.xc_station.specs.Jobs.{IsStage, is_live, seen_job, seen_jobs};
+ghost use Rattle.xc_station.specs.Jobs.{IsStage, doing_of, is_live, seen_job, seen_jobs};
+ghost use Rattle.xc_station.specs.Places.{IndexesBlocks};
 ghost use Rattle.xc_data.specs.declared.entry.Event.TheVariants.{Turned, Picked, Looked};
+ghost use Rattle.xc_data.specs.declared.entry.Turn.TheVariants as PlainTurn;
+ghost use Rattle.xc_deferred.specs.Queue.{next_thread};
 ghost use Rattle.xc_station.specs.Waits.{IsFairWait};
 ghost use Rattle.xc_station.specs.Stations.{AreAhead, ChangesOne, IsEvent, IsNextOf, IsTried, KeepsEvents, KeepsOpening, NobodyLives};
 ghost use Rattle.xc_station.specs.Stations.{live_at, noted, now_of, setting_of};
@@ -26,16 +31,19 @@ ghost use Rattle.xc_station.specs.Stations.{live_at, noted, now_of, setting_of};
 use crate::begin::begin;
 use crate::buffers::Buffers;
 use crate::calls::Shared;
-use crate::close::{abort, commit, end_late, undo};
+use crate::close::{Closing, abort, commit, end_late, end_start, undo};
 use crate::job::{Activity, Job, Stage};
+use crate::places::{block_at, places_of};
 use crate::running::run;
 use crate::start::{End, NotStarted, Opening};
+use crate::starting::{Start, join, start_job};
 use crate::tx::Tx;
 use std::alloc::Global;
 use std::marker::Model;
 use xc_data::{Event, Ident, JobEnd, JobLine, JobList, NoMemory, Private, Turn};
 use xc_host::{Host, OpenErr};
 use xc_journal::{Journal, Roomy};
+use xc_maps::IdentMap;
 use xc_script::JobState;
 use xc_sentinel::Sentinels;
 use xc_story::Rules;
@@ -49,6 +57,8 @@ use xc_world::opening_private;
 pub struct Station<H: Host> {
     alloc: Global,
     opening: Opening,
+    // The place of each block in the script.
+    places: IdentMap<usize>,
     rules: Rules,
     shared: Shared<H>,
     journal: Journal,
@@ -75,7 +85,8 @@ impl<H: Host> Model for Station<H> {
     ghost use Rattle.xc_story.specs.Setting.{setting};
     ghost use Rattle.xc_station.specs.Jobs.{seen_jobs};
     ghost use Rattle.xc_station.specs.Lent.{AreBacked};
-    ghost use Rattle.xc_station.specs.Stations.{Seen, AreAhead, IsSteady, HasRooms, moment};
+    ghost use Rattle.xc_station.specs.Places.{IndexesBlocks};
+    ghost use Rattle.xc_station.specs.Stations.{Seen, AreAhead, HasRooms, HasStarts, IsSteady, moment, room_of};
 
     ghost Value = { Seen H };
 
@@ -91,6 +102,7 @@ impl<H: Host> Model for Station<H> {
       jobs = s.jobs.items;
       taken = s.taken;
       seats = s.shared.sentinels.seats;
+      started = s.shared.started.items;
       events = s.events;
       last = s.last;
     } };
@@ -101,7 +113,9 @@ impl<H: Host> Model for Station<H> {
         × AreAhead s.jobs.items s.ahead.items
         × (s.taken ≤ length s.jobs.items)
         × (H.model.plan s.shared.host ≡ plan_of s.opening.script.outline.prologue)
-        × (IsTrue H.model.tells → AreBacked (H.model.contents s.shared.host) s.shared.buffers.kept (seen_jobs s.jobs.items)) };
+        × (IsTrue H.model.tells → AreBacked (H.model.contents s.shared.host) s.shared.buffers.kept (seen_jobs s.jobs.items))
+        × IndexesBlocks s.opening.script s.places
+        × HasStarts s.opening.script s.shared.started.items s.jobs.items (room_of s.jobs s.lines s.ahead) };
 }
 
 impl<H: Host> Station<H> {
@@ -118,7 +132,7 @@ impl<H: Host> Station<H> {
         }
     }
 
-    /// How many jobs were started.
+    /// How many jobs are live or have ended. A started job is among them from its starter's entry on.
     pub fn count(&self) -> u32
         ensures all { result ≡ length self.now.jobs }
         ensures few { result ≤ 1000 }
@@ -207,29 +221,71 @@ impl<H: Host> Station<H> {
         )
     }
 
-    // Does the next late call of a committing transaction, under its claims.
-    fn committing(&mut self, at: usize) -> Turn
-        requires { IsStage self.old.jobs at PlainStage.Committing }
+    // The next late call of a committing transaction starts a job of this block.
+    fn late_start(&mut self, at: usize, block: Ident)
+        requires stage { IsStage self.old.jobs at PlainStage.Committing }
+        requires starts { (job : PlainJob) → slice_get self.old.jobs at ≡ Some job → (tx : SeenTx) → doing_of job ≡ Active tx
+            → next_thread (late_left tx) ≡ Some block }
         ensures same { KeepsOpening self.old self.new }
         ensures quiet { KeepsEvents self.old self.new }
-        ensures row { IsTurn (setting_of H.model self.old) at (now_of H.model self.old) result (now_of H.model self.new) }
+        ensures row { IsTurn (setting_of H.model self.old) at (now_of H.model self.old) PlainTurn.Went (now_of H.model self.new) }
+    {
+        let start = Start {
+            block,
+            place: block_at(&self.opening.script, &self.places, block),
+        };
+        let end = start_job(
+            self.alloc,
+            &self.opening.script,
+            start,
+            &mut self.jobs,
+            at,
+            &mut self.lines,
+            &mut self.ahead,
+            &mut self.shared.started,
+        );
+        end_start(&mut self.jobs[at], end);
+    }
+
+    // The next late call of a committing transaction is done at the host, under its claims.
+    fn late_call(&mut self, at: usize)
+        requires stage { IsStage self.old.jobs at PlainStage.Committing }
+        requires hosted { (job : PlainJob) → slice_get self.old.jobs at ≡ Some job → (tx : SeenTx) → doing_of job ≡ Active tx
+            → next_thread (late_left tx) ≡ None }
+        ensures same { KeepsOpening self.old self.new }
+        ensures quiet { KeepsEvents self.old self.new }
+        ensures row { IsTurn (setting_of H.model self.old) at (now_of H.model self.old) PlainTurn.Went (now_of H.model self.new) }
     {
         end_late(
             &mut self.shared.host,
             &self.shared.buffers,
             &mut self.jobs[at],
         );
+    }
+
+    // Does the next late call of a committing transaction.
+    fn committing(&mut self, at: usize) -> Turn
+        requires { IsStage self.old.jobs at PlainStage.Committing }
+        ensures same { KeepsOpening self.old self.new }
+        ensures quiet { KeepsEvents self.old self.new }
+        ensures row { IsTurn (setting_of H.model self.old) at (now_of H.model self.old) result (now_of H.model self.new) }
+    {
+        match self.jobs[at].tx.late.next_thread() {
+            Some(block) => self.late_start(at, block),
+            None => self.late_call(at),
+        }
         Turn::Went
     }
 
-    // The entry of a committed transaction, into the room that was made at its begin. Its claims end.
+    // The entry of a committed transaction, into the room that was made at its begin. Its claims end, and the jobs that it started are
+    // live.
     fn committed(&mut self, at: usize) -> Turn
         requires { IsStage self.old.jobs at PlainStage.Committed }
         ensures same { KeepsOpening self.old self.new }
         ensures quiet { KeepsEvents self.old self.new }
         ensures row { IsTurn (setting_of H.model self.old) at (now_of H.model self.old) result (now_of H.model self.new) }
     {
-        let entry = commit(
+        let Closing { entry, children } = commit(
             self.alloc,
             at as u32 + 1,
             &mut self.jobs[at],
@@ -237,6 +293,7 @@ impl<H: Host> Station<H> {
         );
         self.journal.enter(entry);
         self.active -= 1;
+        join(self.alloc, &mut self.jobs, &mut self.ahead, children);
         Turn::Went
     }
 
@@ -314,6 +371,7 @@ impl<H: Host> Station<H> {
     fn note(&mut self, event: Event)
         ensures noted { self.new ≡ noted self.old event }
         ensures few { length self.old.journal ≤ 10000 }
+        ensures few_jobs { length self.old.jobs ≤ 1000 }
     {
         self.events = self.events.wrapping_add(1);
         self.last = Some(event);
@@ -347,8 +405,8 @@ impl<H: Host> Station<H> {
     /// | running, the commit is asked | its stores are written | Went |
     /// | running, an abort is asked | it undoes | Went |
     /// | running, no memory | nothing is noted, but what a call had done at the host is recorded; it undoes | NoMemory |
-    /// | committing, a late call has no end | the first such call is done | Went |
-    /// | committing, all have one | the Committed entry, with its slots set; its claims end | Went |
+    /// | committing, a late call has no end | the first such call is done at the host, or it starts a job | Went |
+    /// | committing, all have one | the Committed entry, with its slots set; its claims end, and the jobs that it started are live | Went |
     /// | undoing, a record has no end | the newest such record is tried | Went |
     /// | undoing, all have one | what it took is in front again, the Aborted entry; its claims end | Went |
     /// | starved by want of memory | it ends | Ended(NoMemory) |
@@ -392,6 +450,7 @@ impl<H: Host> Station<H> {
             (λ job. IsNextOf self.old.jobs self.old.taken job × (self.new.taken ≡ job)) }
         ensures taken { (self.old.taken ≤ self.new.taken) × (self.new.taken ≤ length self.new.jobs) }
         ensures all { IsNone result → self.new.taken ≡ length self.new.jobs }
+        ensures few { length self.new.jobs ≤ 1000 }
         ensures event { IsEvent self.old self.new (Picked result) }
     {
         let job = self.take_next();
@@ -429,41 +488,66 @@ impl<H: Host> Chronicle for Station<H> {
     }
 }
 
-// The job of the job block at this place, at the begin of it, with the prologue's handles.
+// The job of the block at this place, at the begin of it, with the prologue's handles.
 fn opened_job(
     alloc: Global,
     script: &Script,
-    at: usize,
+    place: usize,
     block: Ident,
     me: &Private,
 ) -> Result<Job, NoMemory>
     requires script { IsScript script.now }
-    requires block { slice_get script.now.outline.jobs at ≡ Some block }
+    requires place { place ≡ block_place script.now block }
     requires handles { me.now ≡ beginning (opening_handles script.now.outline) }
-    ensures { IfOk result (λ job. seen_job job ≡ opened_job script.now block) }
+    ensures job { IfOk result (λ job. seen_job job ≡ opened_job script.now block) }
+    ensures alone { IfOk result (λ job. job.children.items ≡ []) }
 {
     Ok(Job {
         block,
-        place: JobState::new(alloc, script, at)?,
+        place: JobState::new(alloc, script, place)?,
         attempts: None,
         busy: 0,
         activity: Activity::Idle,
         tx: Tx::new(alloc, me)?,
+        children: Vec::new(alloc),
     })
 }
 
 // The jobs of the script's job blocks, each at the begin of its block.
-fn opened_jobs(alloc: Global, script: &Script) -> Result<Vec<Job>, NoMemory>
+fn opened_jobs(
+    alloc: Global,
+    script: &Script,
+    places: &IdentMap<usize>,
+) -> Result<Vec<Job>, NoMemory>
     requires script { IsScript script.now }
     requires limits { KeepsLimits script.now.outline }
-    ensures { IfOk result (λ jobs. seen_jobs jobs.items ≡ map (opened_job script.now) script.now.outline.jobs) }
+    requires places { IndexesBlocks script.now places.now }
+    ensures jobs { IfOk result (λ jobs. seen_jobs jobs.items ≡ map (opened_job script.now) script.now.outline.jobs) }
+    ensures alone { IfOk result (λ jobs. All (λ (job : PlainJob). job.children.items ≡ []) jobs.items) }
 {
     let me = opening_private(alloc, script.outline())?;
     let mut jobs = Vec::with_capacity(alloc, script.outline().jobs.len())?;
-    for (at, block) in script.outline().jobs.as_slice().iter().enumerate() {
-        jobs.push(opened_job(alloc, script, at, *block, &me)?)?;
+    for block in script.outline().jobs.as_slice() {
+        match block_at(script, places, *block) {
+            Some(place) => jobs.push(opened_job(alloc, script, place, *block, &me)?)?,
+            // Each job has a block of its name.
+            None => unreachable!(),
+        }
     }
     Ok(jobs)
+}
+
+// The blocks of the jobs that are started at the opening.
+fn opened_names(alloc: Global, names: &[Ident]) -> Result<Roomy<Ident>, NoMemory>
+    requires { length names.now ≤ 1000 }
+    ensures { IfOk result (λ started. started.items ≡ names.now) }
+{
+    let mut started = Roomy::new(alloc);
+    started.reserve(names.len() as u32)?;
+    for name in names {
+        started.enter(*name);
+    }
+    Ok(started)
 }
 
 // Room for a line of each job.
@@ -491,9 +575,11 @@ fn ahead_of(alloc: Global, jobs: &Vec<Job>) -> Result<Vec<u32>, NoMemory>
 // What a start takes memory for.
 #[derive(Drop)]
 struct Rooms {
+    places: IdentMap<usize>,
     words: Words,
     buffers: Buffers,
     jobs: Vec<Job>,
+    started: Roomy<Ident>,
     lines: Roomy<JobLine>,
     ahead: Vec<u32>,
 }
@@ -502,21 +588,28 @@ struct Rooms {
 fn make_rooms(alloc: Global, script: &Script) -> Result<Rooms, NoMemory>
     requires script { IsScript script.now }
     requires limits { KeepsLimits script.now.outline }
+    ensures places { IfOk result (λ made. IndexesBlocks script.now made.places) }
     ensures words { IfOk result (λ made. made.words ≡ script.now.outline.words) }
     ensures buffers { IfOk result (λ made. made.buffers ≡ record { kept = []; noted = 0 }) }
     ensures jobs { IfOk result (λ made. seen_jobs made.jobs.items ≡ map (opened_job script.now) script.now.outline.jobs) }
+    ensures alone { IfOk result (λ made. All (λ (job : PlainJob). job.children.items ≡ []) made.jobs.items) }
+    ensures started { IfOk result (λ made. made.started.items ≡ script.now.outline.jobs) }
     ensures lines { IfOk result (λ made. (length made.jobs.items ≤ made.lines.spare) × (made.lines.items ≡ [])) }
     ensures ahead { IfOk result (λ made. AreAhead made.jobs.items made.ahead.items) }
 {
+    let places = places_of(alloc, script)?;
     let words = Words::new(alloc, script.outline().words.as_slice())?;
     let buffers = Buffers::new(alloc)?;
-    let jobs = opened_jobs(alloc, script)?;
+    let jobs = opened_jobs(alloc, script, &places)?;
+    let started = opened_names(alloc, script.outline().jobs.as_slice())?;
     let lines = room_for(alloc, &jobs)?;
     let ahead = ahead_of(alloc, &jobs)?;
     Ok(Rooms {
+        places,
         words,
         buffers,
         jobs,
+        started,
         lines,
         ahead,
     })
@@ -560,12 +653,14 @@ impl<H: Host> Station<H> {
         Ok(Station {
             alloc,
             opening: Opening { script, faults },
+            places: rooms.places,
             rules,
             shared: Shared {
                 host,
                 buffers: rooms.buffers,
                 words: rooms.words,
                 sentinels,
+                started: rooms.started,
             },
             journal,
             active: 0,

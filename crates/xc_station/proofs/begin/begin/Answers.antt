@@ -17,18 +17,18 @@ stop-requires c = c.in-Some.ensures.patient
 pub returns-in-Some-clause-row : goal.returns-in-Some-clause-row
 returns-in-Some-clause-row c tells now at begun sat same =
     stopped (setting c.args.script.now c.args.rules.now tells) at now (seen_job c.args.job.now) _ c.in-Some.halt _ _ same
-    (c.in-Some.ensures.halts tells now (all_begun now _ _ _ begun c.len-entered.ensures) sat) c.stop.ensures
+    (c.in-Some.ensures.halts tells now (all_begun now _ _ _ begun c.len-entered.ensures) sat) c.stop.ensures.stopped
 
 pub returns-in-Some-clause-seats : goal.returns-in-Some-clause-seats
-returns-in-Some-clause-seats c = stopped_seats _ _ c.args.sentinels.now.seats _ _ c.in-Some.halt _ c.stop.ensures
+returns-in-Some-clause-seats c = stopped_seats _ _ c.args.sentinels.now.seats _ _ c.in-Some.halt _ c.stop.ensures.stopped
 
 pub returns-in-Some-clause-room : goal.returns-in-Some-clause-room
-returns-in-Some-clause-room c = (λ went. absurd (stopped_there _ _ c.in-Some.halt _ c.stop.ensures went), omega arith)
+returns-in-Some-clause-room c = (λ went. absurd (stopped_there _ _ c.in-Some.halt _ c.stop.ensures.stopped went), omega arith)
 
 pub returns-then-is_err-clause-seats : goal.returns-then-is_err-clause-seats
 returns-then-is_err-clause-seats c =
     let kept = where_err c.take_room.result (sym c.is_err.ensures.value ∙ c.if-is_err.true) c.take_room.ensures.err_seats in
-    ended_seats _ _ c.args.sentinels.now.seats c.take_room.new.sentinels.seats job_end.NoMemory _ c.end.ensures.1 kept
+    ended_seats _ _ c.args.sentinels.now.seats c.take_room.new.sentinels.seats job_end.NoMemory _ c.end.ensures.ended.1 kept
 
 pub returns-then-is_err-clause-row : goal.returns-then-is_err-clause-row
 returns-then-is_err-clause-row c tells now at begun sat same =
@@ -39,7 +39,7 @@ returns-then-is_err-clause-row c tells now at begun sat same =
     let seats : KeepsSeats c.args.sentinels.now.seats c.take_room.new.sentinels.seats = where_err c.take_room.result failed c.take_room.ensures.err_seats in
     ends (setting c.args.script.now c.args.rules.now tells) at now (seen_job job) _ _ job_end.NoMemory (marks_of c.take_room.new.sentinels.seats)
     (same ∙ sym (marks_kept c.args.sentinels.now.seats c.take_room.new.sentinels.seats seats)) ready.left
-    (c.end.ensures.0 ∙ ap (λ (p : Position). record (seen_job job) { place = p; doing = Ended job_end.NoMemory }) place) c.end.ensures.1
+    (c.end.ensures.ended.0 ∙ ap (λ (p : Position). record (seen_job job) { place = p; doing = Ended job_end.NoMemory }) place) c.end.ensures.ended.1
 
 pub returns-clause-row : goal.returns-clause-row
 returns-clause-row c tells now at begun sat same =

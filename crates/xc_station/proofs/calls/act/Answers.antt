@@ -94,6 +94,13 @@ returns-in-XUnlink-clause-acted g c =
     (c.in-XUnlink.is ∙ (λ i. call.XUnlink (sym c.value-in-XUnlink.ensures i) c.in-XUnlink.slot)) refl refl refl
     (e.call c.args.tx.now.me.value _) e.err c.requires.may.stored
 
+pub returns-in-XThreadCreate-clause-acted : goal.returns-in-XThreadCreate-clause-acted
+returns-in-XThreadCreate-clause-acted g c =
+    let e = c.x_thread_create.ensures in
+    kept_acted g.H.Host.model _ _ _ _ _
+    (c.in-XThreadCreate.is ∙ (λ i. call.XThreadCreate (sym c.value-in-XThreadCreate.ensures i) c.in-XThreadCreate.slot)) refl refl refl
+    (e.call c.args.tx.now.me.value _) e.err c.requires.may.stored
+
 pub returns-in-XSync-clause-acted : goal.returns-in-XSync-clause-acted
 returns-in-XSync-clause-acted g c =
     let e = c.x_sync.ensures in

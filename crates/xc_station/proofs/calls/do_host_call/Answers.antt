@@ -1,7 +1,6 @@
-use Rattle.std.proofs.Common.{◌≡◌, ◌<◌, ap, subst, sym, ◌∙◌, length, arith, IsTrue}
+use Rattle.std.proofs.Common.{◌≡◌, ap, subst, sym, ◌∙◌, length, arith}
 use Rattle.std.specs.Prelude.{Contains, Ok}
 use Rattle.xc_data.specs.declared.private.Private.{Private}
-use Rattle.xc_script.specs.Position.{walk_of}
 use Rattle.xc_story.specs.Seen.{SeenTx}
 use Rattle.xc_world.specs.After.{IsMeAfter}
 use Rattle.xc_world.specs.Run.{given_back}

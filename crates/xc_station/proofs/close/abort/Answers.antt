@@ -26,7 +26,7 @@ returns-clause-entry g c tx cause at is phase number =
     let same : seen_tx job.tx ≡ tx = its_active job tx is in
     let caused = same_cause _ _ (sym c.cause_of-cause.ensures ∙ ap (λ (t : SeenTx). t.phase) same ∙ phase) in (
       abort_behind (seen_job job) _ _ tx _ _ (λ i. record (seen_job job) { me = c.close-entry.ensures.begun i; busy = 0; doing = Idle }) caused
-          (c.go_back.ensures tx (sym (ap (λ (t : SeenTx). t.rank) same))),
+          (c.go_back.ensures.back tx (sym (ap (λ (t : SeenTx). t.rank) same))),
       c.close-entry.ensures.entry at number ∙ abort_entry _ _ at _ same phase,
     )
 

@@ -16,7 +16,7 @@ pub do_one-requires-clause-there : goal.do_one-requires-clause-there
 do_one-requires-clause-there g c =
     let required = c.requires.committing in
     subst (λ (t : SeenTx). IsTrue g.H.Host.model.tells → (call : LateCall) (calls : List LateCall) → late_left t ≡ call ∷ calls
-    → IsThereFor (g.H.Host.model.contents c.args.host.now) call) (sym (its_active c.args.job.now required.0 required.1)) required.3
+    → IsThereFor (g.H.Host.model.contents c.args.host.now) call) (sym (its_active c.args.job.now required.0 required.1)) required.4
 
 pub returns-clause-ends : goal.returns-clause-ends
 returns-clause-ends g c tx call calls is left =

@@ -10,8 +10,8 @@ undo_next-requires-clause-covered g c =
     subst (λ (t : SeenTx). IsTrue g.H.Host.model.tells → NextIsCovered (g.H.Host.model.contents c.args.host.now) t.undo)
     (sym (its_active c.args.job.now required.0 required.1)) required.3
 
-pub returns : goal.returns
-returns g c tx is =
+pub returns-clause-undone : goal.returns-clause-undone
+returns-clause-undone g c tx is =
     let required = c.requires.undoing in
     let job = c.args.job.now in
     let left : job.tx.undo.pending ≢ [] = subst (λ (t : SeenTx). t.undo.pending ≢ []) (sym (its_active job required.0 required.1)) required.2 in (

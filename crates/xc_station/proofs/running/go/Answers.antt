@@ -17,7 +17,13 @@ returns-in-Ok-Commit-clause-row g c rules now at job here doing place terms =
     let same : IsSamePosition (setting c.args.script.now rules g.H.Host.model.tells) c.args.place.now c.ask.new.self =
     record { begin = record { block = e.same.0; next = e.same.1; begun = e.begun }; walk = e.walk; at = e.at } in
     commits g.H.Host.model _ _ _ _ _ c.ask.new.self c.args.tx.now here (has_tx _ _ _ _ _ doing place same)
-    (record { host = c.args.shared.now.host; buffers = c.args.shared.now.buffers; words = c.apply.new.words; sentinels = c.args.shared.now.sentinels })
+    (record {
+      host = c.args.shared.now.host;
+      buffers = c.args.shared.now.buffers;
+      words = c.apply.new.words;
+      sentinels = c.args.shared.now.sentinels;
+      started = c.args.shared.now.started;
+    })
     (record c.args.tx.now { phase = Committing })
     refl c.apply.ensures.words refl refl
     (asked_walk c.args.script.now c.args.place.now c.ask.new.self _ c.requires.left e.walk e.value ∙ c.in-Ok-Commit.field-0-is) e.settled

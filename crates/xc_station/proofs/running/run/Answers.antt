@@ -19,7 +19,7 @@ returns-in-Some-clause-row g c now at here journal =
     let job = c.args.job.now in
     let was = c.requires.running in
     let shared = c.args.shared.now in
-    let shared' : Shared g.row.H.Denot = record { host = shared.host; buffers = shared.buffers; words = shared.words; sentinels = c.settle.new.sentinels } in
+    let shared' : Shared g.row.H.Denot = record shared { sentinels = c.settle.new.sentinels } in
     let new = c.revoke-answer.new.tx in
     let doing = is_active job was.tx was.doing in
     let running : runs job.tx.phase ≡ true = ap (λ (t : SeenTx). runs t.phase) (its_active job was.tx was.doing) ∙ ap runs was.may.running in
@@ -43,7 +43,7 @@ returns-clause-row g c now at here journal =
     let job = c.args.job.now in
     let was = c.requires.running in
     let mid = c.go-answer.new.shared in
-    let shared' : Shared g.row.H.Denot = record { host = mid.host; buffers = mid.buffers; words = mid.words; sentinels = c.settle-2.new.sentinels } in
+    let shared' : Shared g.row.H.Denot = record mid { sentinels = c.settle-2.new.sentinels } in
     let new = c.go-answer.new.tx in
     let doing = is_active job was.tx was.doing in
     let running : runs job.tx.phase ≡ true = ap (λ (t : SeenTx). runs t.phase) (its_active job was.tx was.doing) ∙ ap runs was.may.running in

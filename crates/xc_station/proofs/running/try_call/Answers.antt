@@ -1,7 +1,7 @@
 use Rattle.std.proofs.Common.{ap, refl, subst, sym, ◌∙◌, arith, length}
 use Rattle.xc_story.specs.Seen.{SeenTx}
 use Rattle.xc_station.specs.Jobs.{seen_tx}
-use Rattle.xc_station.specs.Acting.{IsLentFor, acting}
+use Rattle.xc_station.specs.Acting.{IsLentFor}
 use Rattle.xc_station.specs.Moments.{Front, Lends, front_of}
 use Rattle.xc_station.proofs.Lending.{lends_done, lends_from, lends_left, lends_still, unclaimed_takes}
 use Rattle.xc_station.proofs.RowsCalled.{called, starved}
@@ -18,7 +18,13 @@ pub returns-in-Ok-clause-row : goal.returns-in-Ok-clause-row
 returns-in-Ok-clause-row g c rules now at job here has terms =
     let e = c.in-Ok.ensures in
     called g.H.Host.model _ _ _ _ _ _ c.args.tx.now here has
-    (record { host = c.do_call.new.host; buffers = c.do_call.new.buffers; words = c.claim.new.shared.words; sentinels = c.claim.new.shared.sentinels })
+    (record {
+      host = c.do_call.new.host;
+      buffers = c.do_call.new.buffers;
+      words = c.claim.new.shared.words;
+      sentinels = c.claim.new.shared.sentinels;
+      started = c.claim.new.shared.started;
+    })
     c.claim.new.tx c.args.call
     c.in_default.ensures.same.1 c.requires.asked c.in_default.ensures.claimed (λ tells. tells) c.do_call.new.place
     (front_of c.claim.new.shared) c.do_call.new.tx
@@ -29,7 +35,13 @@ pub returns-in-Err-do_call-clause-row : goal.returns-in-Err-do_call-clause-row
 returns-in-Err-do_call-clause-row g c rules now at job here has terms =
     let e = c.in-Err-do_call.ensures in
     starved g.H.Host.model _ _ _ _ _ _ c.args.tx.now here has
-    (record { host = c.do_call.new.host; buffers = c.do_call.new.buffers; words = c.claim.new.shared.words; sentinels = c.claim.new.shared.sentinels })
+    (record {
+      host = c.do_call.new.host;
+      buffers = c.do_call.new.buffers;
+      words = c.claim.new.shared.words;
+      sentinels = c.claim.new.shared.sentinels;
+      started = c.claim.new.shared.started;
+    })
     c.claim.new.tx c.args.call
     c.in_default.ensures.same.1 c.requires.asked c.in_default.ensures.claimed (λ tells. tells) c.do_call.new.place
     (front_of c.claim.new.shared) c.do_call.new.tx

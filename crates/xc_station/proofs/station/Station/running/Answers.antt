@@ -4,13 +4,14 @@ use Rattle.xc_story.specs.Setting.{setting}
 use Rattle.xc_story.specs.Rows.{IsTurn}
 use Rattle.xc_station.specs.declared.job.Stage.TheVariants as PlainStage
 use Rattle.xc_station.specs.Jobs.{doing_of, IsStage, goes_on, seen_job}
-use Rattle.xc_station.specs.Stations.{moment, now_of, setting_of}
+use Rattle.xc_station.specs.Stations.{moment, now_of, room_of, setting_of}
 use Rattle.xc_station.proofs.Ahead.{ahead_kept, taken_kept}
 use Rattle.xc_station.proofs.Ready.{may_run, stands_now, few_words}
 use Rattle.xc_station.proofs.RoomsKept.{rooms_running}
 use Rattle.xc_station.proofs.Stages.{lent, running_stage}
 use Rattle.xc_station.proofs.Steady.{steady_kept}
 use Rattle.xc_station.proofs.TurnRows.{running_turned}
+use Rattle.xc_station.proofs.Waiting.{none_running, starts_still}
 use Rattle.xc_station.proofs.station.Station.running.Goals as goal
 use Rattle.xc_station.specs.Lent.{IsBacked, notes_in}
 use Rattle.xc_story.specs.Seen.{SeenTx, active_in}
@@ -56,7 +57,7 @@ invariant_of-self g c =
     (stands_now model station.shared station.journal.items station.jobs.items at was station.opening.script station.rules station.opening.faults
     station.active
     station.journal.spare station.lines c.self.invariant.0 c.self.invariant.1 PlainStage.Running is) (sym c.len-entered.ensures) in
-    let turned = running_turned model station.shared station.journal.items station.jobs.items at was s shared' job c.run.result is c.run.ensures.block row in
+    let turned = running_turned model station.shared station.journal.items station.jobs.items at was s shared' job c.run.result is c.run.ensures.started row in
     let mine = running_stage (doing_of was) is.stage in
     let lends = c.run.ensures.lends mine.tx mine.doing in (
       steady_kept s station.opening.faults at _ _ c.run.result c.self.invariant.0 turned,
@@ -82,6 +83,11 @@ invariant_of-self g c =
           let one : lends.0 ≡ tx = cc both in
           subst (λ (t : SeenTx). All (IsBacked d) t.taken) one took)
           are,
+      c.self.invariant.6,
+      starts_still model station.shared shared' station.journal.items station.journal.items station.jobs.items at was job
+          (room_of station.jobs station.lines station.ahead) s station.opening.faults c.run.result c.self.invariant.0 is.stands turned c.run.ensures.started
+          (none_running s station.opening.faults (moment model station.shared station.journal.items station.jobs.items) at (seen_job was) mine.tx
+          c.self.invariant.0 (get_map seen_job station.jobs.items at was is.stands) mine.doing mine.phase) c.run.ensures.children c.self.invariant.7,
     )
 
 pub returns-clause-row : goal.returns-clause-row
@@ -99,6 +105,6 @@ returns-clause-row g c =
     (stands_now model station.shared station.journal.items station.jobs.items at was station.opening.script station.rules station.opening.faults
     station.active
     station.journal.spare station.lines c.self.invariant.0 c.self.invariant.1 PlainStage.Running is) (sym c.len-entered.ensures) in
-    let turned = running_turned model station.shared station.journal.items station.jobs.items at was s shared' job c.run.result is c.run.ensures.block row in
+    let turned = running_turned model station.shared station.journal.items station.jobs.items at was s shared' job c.run.result is c.run.ensures.started row in
     subst (λ v. IsTurn (setting_of model v) at (now_of model v) c.run.result (moment model shared' station.journal.items (slice_set station.jobs.items at job)))
     c.self.view_is turned

@@ -1,14 +1,14 @@
-use Rattle.std.proofs.Common.{ap, sym, ◌∙◌, subst, ◌≤◌, arith}
+use Rattle.std.proofs.Common.{ap, sym, ◌∙◌, length, arith}
 use Rattle.std.proofs.lemmas.List.{length-map}
 use Rattle.xc_data.specs.declared.script.Outline.{Outline}
 use Rattle.xc_host.specs.Contents.{opened}
 use Rattle.xc_host.specs.Model.{plan_of}
 use Rattle.xc_sentinel.specs.Asking.{mark_of}
-use Rattle.xc_story.specs.Opened.{IsOpening}
+use Rattle.xc_story.specs.Opened.{IsOpening, opened_job}
 use Rattle.xc_story.specs.Setting.{setting}
 use Rattle.xc_station.specs.Jobs.{seen_job}
 use Rattle.xc_station.specs.Stations.{moment}
-use Rattle.xc_station.proofs.Started.{opened_blocks, roomy, started, backed_at_start}
+use Rattle.xc_station.proofs.Started.{backed_at_start, each_opened, roomy, started}
 use Rattle.xc_station.proofs.station.Station.start.Goals as goal
 use Rattle.xc_station.specs.Lent.{Lent}
 use Rattle.xc_host.specs.Kept.{with_kept}
@@ -22,14 +22,14 @@ invariant_of-result g c =
       host = c.open_with.new.self;
       buffers = rooms.buffers;
       words = rooms.words;
-      sentinels =
-          c.new-sentinels.result;
+      sentinels = c.new-sentinels.result;
+      started = rooms.started;
     })
     c.new-journal.result.items rooms.jobs.items) = record {
       words = c.in-Ok.ensures.words;
       journal = c.new-journal.ensures;
       jobs = c.in-Ok.ensures.jobs;
-      started = opened_blocks c.args.script _ _ c.in-Ok.ensures.jobs;
+      started = c.in-Ok.ensures.started;
       marks = λ n. ap mark_of (c.new-sentinels.ensures.nobody n);
       calls = c.in_default-open_with.ensures.fresh;
     } in (
@@ -38,12 +38,26 @@ invariant_of-result g c =
           (λ t. ap (λ (lent : Lent). with_kept (model.contents c.open_with.new.self) lent.kept) c.in-Ok.ensures.buffers
           ∙ c.in_default-open_with.ensures.ok t ∙ ap (λ (p : Outline). opened p.prologue.objects) c.outline.ensures),
       roomy c.args.script _ _ _ _ c.requires.script opening c.new-sentinels.ensures.nothing c.new-sentinels.ensures.nobody
-          (subst (λ n. n ≤ c.in-Ok.rooms.lines.spare) (sym (length-map c.in-Ok.rooms.jobs.items seen_job)) c.in-Ok.ensures.lines.0) c.in-Ok.ensures.lines.1
+          c.in-Ok.ensures.lines.1
           (ap (λ (lent : Lent). lent.noted) c.in-Ok.ensures.buffers),
       c.in-Ok.ensures.ahead,
       omega arith,
       c.in_default-open_with.ensures.plan ∙ ap (λ (p : Outline). plan_of p.prologue) c.outline.ensures,
       λ tells. backed_at_start c.args.script _ _ _ c.in-Ok.ensures.jobs (ap (λ (lent : Lent). lent.kept) c.in-Ok.ensures.buffers),
+      c.in-Ok.ensures.places,
+      (let count = sym (length-map rooms.jobs.items seen_job) ∙ ap length c.in-Ok.ensures.jobs
+          ∙ length-map c.args.script.outline.jobs (opened_job c.args.script) in
+          let names = ap length c.in-Ok.ensures.started in
+          let lines = c.in-Ok.ensures.lines.0 in
+          let marks = c.in-Ok.ensures.ahead.count in
+          let jobs_len = rooms.jobs.ok.0 in let jobs_cap = rooms.jobs.ok.1 in
+          let ahead_len = rooms.ahead.ok.0 in let ahead_cap = rooms.ahead.ok.1 in
+          record {
+            children = each_opened c.args.script c.args.script.outline.jobs rooms.jobs.items c.in-Ok.ensures.jobs c.in-Ok.ensures.alone;
+            jobs_room = omega (arith, count, names, jobs_len, jobs_cap);
+            lines_room = omega (arith, count, names, lines);
+            marks_room = omega (arith, count, names, marks, ahead_len, ahead_cap);
+          }),
     )
 
 pub returns-clause-opening : goal.returns-clause-opening
@@ -52,7 +66,7 @@ returns-clause-opening g c =
       words = c.in-Ok.ensures.words;
       journal = c.new-journal.ensures;
       jobs = c.in-Ok.ensures.jobs;
-      started = opened_blocks c.args.script _ _ c.in-Ok.ensures.jobs;
+      started = c.in-Ok.ensures.started;
       marks = λ n. ap mark_of (c.new-sentinels.ensures.nobody n);
       calls = c.in_default-open_with.ensures.fresh;
     }

@@ -4,13 +4,14 @@ use Rattle.xc_story.specs.Seen.{active_in, active_of}
 use Rattle.xc_story.specs.Setting.{setting}
 use Rattle.xc_story.specs.Rows.{IsTurn}
 use Rattle.xc_station.specs.declared.job.Stage.TheVariants as PlainStage
-use Rattle.xc_station.specs.Jobs.{IsStage, doing_of, goes_on}
-use Rattle.xc_station.specs.Stations.{moment, now_of, setting_of}
+use Rattle.xc_station.specs.Jobs.{IsStage, doing_of, goes_on, seen_job, started_in}
+use Rattle.xc_station.specs.Stations.{moment, now_of, room_of, setting_of}
 use Rattle.xc_station.proofs.Ahead.{ahead_kept, taken_kept}
 use Rattle.xc_station.proofs.RoomsKept.{rooms_still}
 use Rattle.xc_station.proofs.Stages.{lent, starved_stage}
 use Rattle.xc_station.proofs.Steady.{steady_kept}
 use Rattle.xc_station.proofs.TurnRows.{starved_turned}
+use Rattle.xc_station.proofs.Waiting.{starts_still}
 use Rattle.xc_station.proofs.station.Station.starved.Goals as goal
 use Rattle.xc_station.proofs.Notes.{backed_without}
 
@@ -24,19 +25,23 @@ invariant_of-self g c =
     let s = setting station.opening.script station.rules model.tells in
     let is = lent station.jobs.items at PlainStage.Starved was (subst (λ v. IsStage v.jobs at PlainStage.Starved)
     (sym c.self.view_is) c.requires) c.index_mut.ensures.value in
-    let turned = starved_turned model station.shared station.journal.items station.jobs.items at was s job c.end.result is c.end.ensures in (
+    let turned = starved_turned model station.shared station.journal.items station.jobs.items at was s job c.end.result is c.end.ensures.ended in (
       steady_kept s station.opening.faults at _ _ c.end.result c.self.invariant.0 turned,
       rooms_still model station.shared station.journal.items station.jobs.items at was job station.active station.journal.spare station.lines is.stands
           c.self.invariant.1 station.shared.sentinels station.journal.items station.journal.spare refl (λ n. refl)
           (ap active_in (starved_stage (doing_of was) is.stage))
-          (ap active_of c.end.ensures.0)
+          (ap active_of c.end.ensures.ended.0)
           (omega arith),
       ahead_kept station.jobs.items at was job station.ahead.items is.stands (ap goes_on is.stage) c.self.invariant.2,
       taken_kept station.jobs.items at job station.taken c.self.invariant.3,
       c.self.invariant.4,
       λ tells.
-          backed_without _ _ _ station.jobs.items at was job is.stands ((c.self.invariant.5 tells).kept) (ap active_of c.end.ensures.0)
+          backed_without _ _ _ station.jobs.items at was job is.stands ((c.self.invariant.5 tells).kept) (ap active_of c.end.ensures.ended.0)
           (c.self.invariant.5 tells),
+      c.self.invariant.6,
+      starts_still model station.shared station.shared station.journal.items station.journal.items station.jobs.items at was job
+          (room_of station.jobs station.lines station.ahead) s station.opening.faults c.end.result c.self.invariant.0 is.stands turned refl
+          (ap (started_in station.opening.script (seen_job was)) (starved_stage (doing_of was) is.stage)) c.end.ensures.children c.self.invariant.7,
     )
 
 pub returns-clause-row : goal.returns-clause-row
@@ -49,6 +54,6 @@ returns-clause-row g c =
     let is = lent station.jobs.items at PlainStage.Starved was (subst (λ v. IsStage v.jobs at PlainStage.Starved)
     (sym c.self.view_is) c.requires) c.index_mut.ensures.value in
     let turned = starved_turned model station.shared station.journal.items station.jobs.items at was
-    (setting station.opening.script station.rules model.tells) job c.end.result is c.end.ensures in
+    (setting station.opening.script station.rules model.tells) job c.end.result is c.end.ensures.ended in
     subst (λ v. IsTurn (setting_of model v) at (now_of model v) c.end.result (moment model station.shared station.journal.items
     (slice_set station.jobs.items at job))) c.self.view_is turned

@@ -6,13 +6,14 @@ use Rattle.xc_station.specs.declared.calls.Shared.{Shared}
 use Rattle.xc_data.specs.declared.entry.Turn.TheVariants as turn
 use Rattle.xc_station.specs.declared.job.Stage.TheVariants as PlainStage
 use Rattle.xc_station.specs.Jobs.{IsStage, doing_of, goes_on, seen_job, seen_jobs}
-use Rattle.xc_station.specs.Stations.{moment, now_of, setting_of}
+use Rattle.xc_station.specs.Stations.{moment, now_of, room_of, setting_of}
 use Rattle.xc_station.proofs.Ahead.{ahead_kept, taken_kept}
 use Rattle.xc_station.proofs.Ready.{may_undo, took_elsewhere, undo_elsewhere}
 use Rattle.xc_station.proofs.RoomsKept.{rooms_going}
 use Rattle.xc_station.proofs.Stages.{lent, undoing_stage}
 use Rattle.xc_station.proofs.Steady.{steady_kept}
 use Rattle.xc_station.proofs.TurnRows.{undoing_turned}
+use Rattle.xc_station.proofs.Waiting.{none_undoing, starts_still}
 use Rattle.xc_station.proofs.station.Station.undoing.Goals as goal
 use Rattle.xc_station.proofs.Backed.{backed_undone}
 use Rattle.xc_station.specs.Lent.{AreBacked}
@@ -41,20 +42,14 @@ invariant_of-self g c =
     let s = setting station.opening.script station.rules model.tells in
     let is = lent station.jobs.items at PlainStage.Undoing was (subst (λ v. IsStage v.jobs at PlainStage.Undoing) (sym c.self.view_is) c.requires)
     c.index_mut.ensures.value in
-    let shared' : Shared g.row.H.Denot = record {
-      host = c.undo.new.host;
-      buffers = station.shared.buffers;
-      words = station.shared.words;
-      sentinels =
-          station.shared.sentinels;
-    } in
+    let shared' : Shared g.row.H.Denot = record station.shared { host = c.undo.new.host } in
     let job = c.undo.new.job in
     let away = undo_elsewhere model station.shared station.journal.items station.jobs.items at was station.opening.script station.rules station.opening.faults
     station.active station.journal.spare station.lines c.self.invariant.0 c.self.invariant.1 c.self.invariant.5 is in
     let turned = undoing_turned model station.shared station.journal.items station.jobs.items at was station.opening.script station.rules shared' job is
-    c.undo.ensures away (refl, refl, refl) in
+    c.undo.ensures.undone away (refl, refl, refl, refl) in
     let back = undoing_stage (doing_of was) is.stage in
-    let gave = c.undo.ensures back.tx back.doing in (
+    let gave = c.undo.ensures.undone back.tx back.doing in (
       steady_kept s station.opening.faults at _ _ turn.Went c.self.invariant.0 turned,
       rooms_going model station.shared station.journal.items station.jobs.items at was job station.active station.journal.spare station.lines is.stands
           c.self.invariant.1 s shared' back.tx (record back.tx { undo = gave.0 }) c.self.invariant.0.kept.told refl back.doing (ap (λ j. j.doing) gave.1)
@@ -77,6 +72,12 @@ invariant_of-self g c =
           let one : record back.tx { undo = gave.0 } ≡ tx = cc both in
           (back.tx, (seen_job was, get_map seen_job station.jobs.items at was is.stands, ap active_in back.doing), ap (λ (t : SeenTx). t.taken) one))
           are),
+      c.self.invariant.6,
+      starts_still model station.shared shared' station.journal.items station.journal.items station.jobs.items at was job
+          (room_of station.jobs station.lines station.ahead) s station.opening.faults turn.Went c.self.invariant.0 is.stands turned refl
+          (none_undoing s station.opening.faults (moment model station.shared station.journal.items station.jobs.items) at (seen_job was) back.tx
+          back.cause c.self.invariant.0 (get_map seen_job station.jobs.items at was is.stands) back.doing back.phase) c.undo.ensures.children
+          c.self.invariant.7,
     )
 
 pub returns-clause-row : goal.returns-clause-row
@@ -88,17 +89,11 @@ returns-clause-row g c =
     let s = setting station.opening.script station.rules model.tells in
     let is = lent station.jobs.items at PlainStage.Undoing was (subst (λ v. IsStage v.jobs at PlainStage.Undoing) (sym c.self.view_is) c.requires)
     c.index_mut.ensures.value in
-    let shared' : Shared g.row.H.Denot = record {
-      host = c.undo.new.host;
-      buffers = station.shared.buffers;
-      words = station.shared.words;
-      sentinels =
-          station.shared.sentinels;
-    } in
+    let shared' : Shared g.row.H.Denot = record station.shared { host = c.undo.new.host } in
     let job = c.undo.new.job in
     let away = undo_elsewhere model station.shared station.journal.items station.jobs.items at was station.opening.script station.rules station.opening.faults
     station.active station.journal.spare station.lines c.self.invariant.0 c.self.invariant.1 c.self.invariant.5 is in
     let turned = undoing_turned model station.shared station.journal.items station.jobs.items at was station.opening.script station.rules shared' job is
-    c.undo.ensures away (refl, refl, refl) in
+    c.undo.ensures.undone away (refl, refl, refl, refl) in
     subst (λ v. IsTurn (setting_of model v) at (now_of model v) turn.Went (moment model shared' station.journal.items (slice_set station.jobs.items at job)))
     c.self.view_is turned

@@ -6,7 +6,7 @@ use Rattle.xc_story.specs.Rows.{IsTurn}
 use Rattle.xc_data.specs.declared.entry.Turn.TheVariants as turn
 use Rattle.xc_station.specs.declared.job.Stage.TheVariants as PlainStage
 use Rattle.xc_station.specs.Jobs.{IsStage, doing_of, goes_on, seen_job, seen_jobs}
-use Rattle.xc_station.specs.Stations.{moment, now_of, setting_of}
+use Rattle.xc_station.specs.Stations.{moment, now_of, room_of, setting_of}
 use Rattle.xc_station.proofs.Ahead.{ahead_kept, taken_kept}
 use Rattle.xc_station.proofs.Placed.{get_map}
 use Rattle.xc_station.proofs.Ready.{fits_next, fits_failures, has_room}
@@ -14,6 +14,7 @@ use Rattle.xc_station.proofs.RoomsKept.{rooms_entered, back_none}
 use Rattle.xc_station.proofs.Stages.{lent, undone_stage}
 use Rattle.xc_station.proofs.Steady.{steady_kept}
 use Rattle.xc_station.proofs.TurnRows.{undone_turned}
+use Rattle.xc_station.proofs.Waiting.{none_undoing, starts_still}
 use Rattle.xc_station.proofs.station.Station.undone.Goals as goal
 use Rattle.xc_station.proofs.Notes.{backed_without, notes_within}
 use Rattle.xc_station.proofs.Giving.{given_all}
@@ -107,7 +108,8 @@ invariant_of-self g c =
     let job = c.abort-entry.new.job in
     let turned = undone_turned model station.shared station.journal.items station.jobs.items at was s shared' c.enter.new.self.items c.abort-entry.result job
     (at + 1)
-    is c.abort-entry.ensures.entry (λ tx does. (c.abort-entry.ensures.freed tx does).seats) refl c.abort-entry.ensures.same
+    is c.abort-entry.ensures.entry (λ tx does. (c.abort-entry.ensures.freed tx does).seats) refl
+    (c.abort-entry.ensures.same.0, c.abort-entry.ensures.same.1, c.abort-entry.ensures.started)
     c.abort-entry.ensures.given c.enter.ensures.items in
     let mine = undone_stage (doing_of was) is.stage in
     let gave = c.abort-entry.ensures.entry mine.tx mine.cause at mine.doing mine.phase refl in
@@ -131,6 +133,13 @@ invariant_of-self g c =
           subst (λ h. AreBacked (model.contents h) shared'.buffers.kept (seen_jobs (slice_set station.jobs.items at job))) (sym c.abort-entry.ensures.same.0)
           (backed_without _ _ _ station.jobs.items at was job is.stands backed
           (ap active_of gave.0 ∙ back_none (seen_job was) mine.tx mine.cause) are),
+      c.self.invariant.6,
+      starts_still model station.shared shared' station.journal.items c.enter.new.self.items station.jobs.items at was job
+          (room_of station.jobs station.lines station.ahead) s station.opening.faults turn.Went c.self.invariant.0 is.stands turned
+          c.abort-entry.ensures.started
+          (none_undoing s station.opening.faults (moment model station.shared station.journal.items station.jobs.items) at (seen_job was) mine.tx
+          mine.cause c.self.invariant.0 (get_map seen_job station.jobs.items at was is.stands) mine.doing mine.phase) c.abort-entry.ensures.children
+          c.self.invariant.7,
     )
 
 pub returns-clause-row : goal.returns-clause-row
@@ -146,7 +155,8 @@ returns-clause-row g c =
     let job = c.abort-entry.new.job in
     let turned = undone_turned model station.shared station.journal.items station.jobs.items at was s shared' c.enter.new.self.items c.abort-entry.result job
     (at + 1)
-    is c.abort-entry.ensures.entry (λ tx does. (c.abort-entry.ensures.freed tx does).seats) refl c.abort-entry.ensures.same
+    is c.abort-entry.ensures.entry (λ tx does. (c.abort-entry.ensures.freed tx does).seats) refl
+    (c.abort-entry.ensures.same.0, c.abort-entry.ensures.same.1, c.abort-entry.ensures.started)
     c.abort-entry.ensures.given c.enter.ensures.items in
     subst (λ v. IsTurn (setting_of model v) at (now_of model v) turn.Went (moment model shared' c.enter.new.self.items (slice_set station.jobs.items at job)))
     c.self.view_is turned

@@ -1,24 +1,27 @@
 use Rattle.std.proofs.Common.{refl, sym, subst, ap, ◌∙◌, ◌≡◌}
-use Rattle.std.specs.Prelude.{slice_set, All}
-use Rattle.xc_story.specs.Seen.{with_queue, SeenTx, active_in}
+use Rattle.std.specs.Prelude.{slice_get, slice_set, All, map}
+use Rattle.xc_deferred.specs.Queue.{Queue, next_thread}
+use Rattle.xc_story.specs.Seen.{SeenTx, SeenJob, Active, active_in, late_left, with_queue}
 use Rattle.xc_story.specs.Setting.{setting}
-use Rattle.xc_story.specs.Rows.{IsTurn}
+use Rattle.xc_story.specs.Rows.{IsTurn, with_tx}
 use Rattle.xc_station.specs.declared.calls.Shared.{Shared}
 use Rattle.xc_data.specs.declared.entry.Turn.TheVariants as turn
 use Rattle.xc_station.specs.declared.job.Stage.TheVariants as PlainStage
-use Rattle.xc_station.specs.Jobs.{IsStage, doing_of, goes_on, seen_job}
-use Rattle.xc_station.specs.Stations.{moment, now_of, setting_of}
+use Rattle.xc_station.specs.declared.job.Job.{Job}
+use Rattle.xc_station.specs.Jobs.{IsStage, doing_of, goes_on, seen_child, seen_job, started_in}
+use Rattle.xc_station.specs.Stations.{moment, now_of, room_of, setting_of}
 use Rattle.xc_station.proofs.Ahead.{ahead_kept, taken_kept}
-use Rattle.xc_station.proofs.Ready.{may_end_late, none_here}
+use Rattle.xc_station.proofs.Ready.{may_end_late}
 use Rattle.xc_station.proofs.RoomsKept.{rooms_going}
 use Rattle.xc_station.proofs.Stages.{lent, committing_stage}
 use Rattle.xc_station.proofs.Steady.{steady_kept}
 use Rattle.xc_station.proofs.TurnRows.{committing_turned}
-use Rattle.xc_station.proofs.station.Station.committing.Goals as goal
+use Rattle.xc_station.proofs.Waiting.{hosted_same, starts_set}
+use Rattle.xc_station.proofs.station.Station.late_call.Goals as goal
 use Rattle.xc_station.specs.Lent.{IsBacked}
 use Rattle.xc_station.proofs.Notes.{backed_jobs, still_backed}
 use Rattle.xc_station.proofs.Placed.{get_map}
-use Rattle.std.specs.declared.option.Option.TheVariants.{Some}
+use Rattle.std.specs.declared.option.Option.TheVariants.{None, Some}
 
 pub end_late-requires : goal.end_late-requires
 end_late-requires g c =
@@ -27,12 +30,14 @@ end_late-requires g c =
     let model = g.H.Host.model in
     let at = c.args.at in
     let s = setting station.opening.script station.rules model.tells in
-    let is = lent station.jobs.items at PlainStage.Committing was (subst (λ v. IsStage v.jobs at PlainStage.Committing) (sym c.self.view_is) c.requires)
+    let is = lent station.jobs.items at PlainStage.Committing was (subst (λ v. IsStage v.jobs at PlainStage.Committing) (sym c.self.view_is) c.requires.stage)
     c.index_mut.ensures.value in
-    record {
-      committing = may_end_late model station.shared station.journal.items station.jobs.items at was station.opening.script station.rules
-          station.opening.faults station.active station.journal.spare station.lines c.self.invariant.0 c.self.invariant.1 c.self.invariant.5 is;
-    }
+    let may = may_end_late model station.shared station.journal.items station.jobs.items at was station.opening.script station.rules
+    station.opening.faults station.active station.journal.spare station.lines c.self.invariant.0 c.self.invariant.1 c.self.invariant.5 is in
+    let none : next_thread (late_left may.0) ≡ None =
+    subst (λ v. (job : Job) → slice_get v.jobs at ≡ Some job → (t : SeenTx) → doing_of job ≡ Active t → next_thread (late_left t) ≡ None)
+    (sym c.self.view_is) c.requires.hosted was is.stands may.0 may.1 in
+    record { committing = (may.0, may.1, may.2, none, may.3) }
 
 pub invariant_of-self : goal.invariant_of-self
 invariant_of-self g c =
@@ -41,19 +46,15 @@ invariant_of-self g c =
     let model = g.H.Host.model in
     let at = c.args.at in
     let s = setting station.opening.script station.rules model.tells in
-    let is = lent station.jobs.items at PlainStage.Committing was (subst (λ v. IsStage v.jobs at PlainStage.Committing) (sym c.self.view_is) c.requires)
+    let is = lent station.jobs.items at PlainStage.Committing was (subst (λ v. IsStage v.jobs at PlainStage.Committing) (sym c.self.view_is) c.requires.stage)
     c.index_mut.ensures.value in
-    let shared' : Shared g.row.H.Denot = record {
-      host = c.end_late.new.host;
-      buffers = station.shared.buffers;
-      words = station.shared.words;
-      sentinels =
-          station.shared.sentinels;
-    } in
+    let shared' : Shared g.row.H.Denot = record station.shared { host = c.end_late.new.host } in
     let job = c.end_late.new.job in
+    let none : (tx : SeenTx) → doing_of was ≡ Active tx → next_thread (late_left tx) ≡ None =
+    λ tx does. subst (λ v. (job : Job) → slice_get v.jobs at ≡ Some job → (t : SeenTx) → doing_of job ≡ Active t → next_thread (late_left t) ≡ None)
+    (sym c.self.view_is) c.requires.hosted was is.stands tx does in
     let turned = committing_turned model station.shared station.journal.items station.jobs.items at was s shared' job (λ tells. tells) is
-    (none_here model station.shared station.journal.items station.jobs.items at was station.opening.script station.rules station.opening.faults station.active
-    station.journal.spare station.lines c.self.invariant.0 c.self.invariant.1 PlainStage.Committing is) c.end_late.ensures.ends (refl, refl, refl) in
+    none c.end_late.ensures.ends (refl, refl, refl, refl) in
     let mine = committing_stage (doing_of was) is.stage in
     let gave = c.end_late.ensures.ends mine.tx mine.next mine.later mine.doing mine.left in (
       steady_kept s station.opening.faults at _ _ turn.Went c.self.invariant.0 turned,
@@ -76,6 +77,14 @@ invariant_of-self g c =
           let one : with_queue mine.tx gave.0 ≡ tx = cc both in
           subst (λ (t : SeenTx). All (IsBacked d) t.taken) one took)
           are,
+      c.self.invariant.6,
+      starts_set s.script station.shared.started.items station.jobs.items (room_of station.jobs station.lines station.ahead) at was job is.stands
+          (ap (map seen_child) c.end_late.ensures.children ∙ c.self.invariant.7.children at was is.stands
+          ∙ ap (started_in s.script (seen_job was)) mine.doing
+          ∙ sym (hosted_same s.script (seen_job was) mine.tx mine.next mine.later gave.2.end mine.left
+          (sym (ap next_thread mine.left) ∙ none mine.tx mine.doing))
+          ∙ sym (ap (λ (j : SeenJob). started_in s.script j j.doing)
+          (gave.1 ∙ ap (λ (queue : Queue). with_tx (seen_job was) was.place (with_queue mine.tx queue)) gave.2.noted))) c.self.invariant.7,
     )
 
 pub returns-clause-row : goal.returns-clause-row
@@ -85,18 +94,14 @@ returns-clause-row g c =
     let model = g.H.Host.model in
     let at = c.args.at in
     let s = setting station.opening.script station.rules model.tells in
-    let is = lent station.jobs.items at PlainStage.Committing was (subst (λ v. IsStage v.jobs at PlainStage.Committing) (sym c.self.view_is) c.requires)
+    let is = lent station.jobs.items at PlainStage.Committing was (subst (λ v. IsStage v.jobs at PlainStage.Committing) (sym c.self.view_is) c.requires.stage)
     c.index_mut.ensures.value in
-    let shared' : Shared g.row.H.Denot = record {
-      host = c.end_late.new.host;
-      buffers = station.shared.buffers;
-      words = station.shared.words;
-      sentinels =
-          station.shared.sentinels;
-    } in
+    let shared' : Shared g.row.H.Denot = record station.shared { host = c.end_late.new.host } in
     let job = c.end_late.new.job in
+    let none : (tx : SeenTx) → doing_of was ≡ Active tx → next_thread (late_left tx) ≡ None =
+    λ tx does. subst (λ v. (job : Job) → slice_get v.jobs at ≡ Some job → (t : SeenTx) → doing_of job ≡ Active t → next_thread (late_left t) ≡ None)
+    (sym c.self.view_is) c.requires.hosted was is.stands tx does in
     let turned = committing_turned model station.shared station.journal.items station.jobs.items at was s shared' job (λ tells. tells) is
-    (none_here model station.shared station.journal.items station.jobs.items at was station.opening.script station.rules station.opening.faults station.active
-    station.journal.spare station.lines c.self.invariant.0 c.self.invariant.1 PlainStage.Committing is) c.end_late.ensures.ends (refl, refl, refl) in
+    none c.end_late.ensures.ends (refl, refl, refl, refl) in
     subst (λ v. IsTurn (setting_of model v) at (now_of model v) turn.Went (moment model shared' station.journal.items (slice_set station.jobs.items at job)))
     c.self.view_is turned
