@@ -9,9 +9,9 @@ use Rattle.xc_data.specs.declared.entry.JobEnd.TheVariants as job_end
 use Rattle.xc_data.specs.declared.entry.JobLine.{JobLine}
 use Rattle.xc_settings.specs.declared.chosen.Chosen.{Chosen}
 use Rattle.xc_settings.specs.Options.{settings_of}
-use Rattle.xc_story.specs.Setting.{Setting, setting}
-use Rattle.xc_story.specs.Ending.{IsEnd, AreEnds, is_done, all_done, is_memory, is_starved, some_late_starved}
-use Rattle.xc_story.specs.Progress.{Following, progress_of}
+use Rattle.xc_model.specs.Setting.{Setting, setting}
+use Rattle.xc_model.specs.Ending.{IsEnd, AreEnds, is_done, all_done, is_memory, is_starved, some_late_starved}
+use Rattle.xc_model.specs.Progress.{Following, progress_of}
 use Rattle.std.specs.Io.KnownBytes.{Consumes, IsAtEnd}
 use Rattle.xc_station.specs.declared.start.End.{End}
 use Rattle.xc_tokens.specs.declared.why.Why.{Why}
@@ -20,7 +20,7 @@ use Rattle.xc_text.specs.Scripts.{parse_of}
 use Rattle.xc_app.specs.declared.finish.Status.{Status}
 use Rattle.xc_app.specs.declared.finish.Status.TheVariants as status
 use Rattle.xc_edge.specs.Streams.{AppendsWhole}
-use Rattle.xc_edge.specs.Told.{Told}
+use Rattle.xc_edge.specs.View.{StreamView}
 use Rattle.xc_host.specs.Model.{HostModel}
 use Rattle.xc_app.specs.Headline.{IsRead, IsRefusal, is_refused_by, IsUnscripted, AreScript, IsCaused, IsDone, IsDue, IsRun}
 use Rattle.xc_app.specs.Headline.{IsDoneWith, IsSaidPlainly, RunsAlone}
@@ -70,7 +70,7 @@ are_followed : (takes : Bool) (left : Option (List ℕ)) (bytes : List ℕ) → 
 are_followed takes None bytes script same = absurd script
 are_followed takes (Some told) bytes (script, read, followed) same = (script, ap parse_of (sym same) ∙ read, followed)
 
-read_followed : (takes : Bool) (old new : Told) (bytes : List ℕ) → AreScript takes old.bytes → IsRead old new bytes → AreFollowed takes bytes
+read_followed : (takes : Bool) (old new : StreamView) (bytes : List ℕ) → AreScript takes old.bytes → IsRead old new bytes → AreFollowed takes bytes
 read_followed takes old new bytes script came =
     are_followed takes old.bytes bytes script (came_told 1048577 old.bytes new.bytes bytes came.taken came.bound came.end)
 
@@ -78,7 +78,7 @@ ok_is_err : (r : Result Script (ℕ × Why)) (s : Script) (e : ℕ × Why) → r
 ok_is_err (Ok t) s e ok is = cc
 ok_is_err (Err f) s e ok is = cc
 
-never_refused : (takes : Bool) (old new : Told) (line : ℕ) (why : Why) → AreScript takes old.bytes → IsRefusal old new line why → ⊥
+never_refused : (takes : Bool) (old new : StreamView) (line : ℕ) (why : Why) → AreScript takes old.bytes → IsRefusal old new line why → ⊥
 never_refused takes old new line why script (bytes, came, e) =
     let followed = read_followed takes old new bytes script came in ok_is_err (parse_of bytes) followed.0 (line, why) followed.1 e
 
@@ -86,7 +86,7 @@ ok_both : (r : Result Script (ℕ × Why)) (s t : Script) → r ≡ Ok s → r �
 ok_both (Ok u) s t p q = let both : Ok s ≡ Ok t = sym p ∙ q in cc
 ok_both (Err f) s t p q = cc
 
-never_unscripted : (takes : Bool) (old new : Told) → AreScript takes old.bytes → IsUnscripted takes old new → ⊥
+never_unscripted : (takes : Bool) (old new : StreamView) → AreScript takes old.bytes → IsUnscripted takes old new → ⊥
 never_unscripted takes old new script (bytes, other, came, e, refused) =
     let followed = read_followed takes old new bytes script came in
     let same : followed.0 ≡ other = ok_both (parse_of bytes) followed.0 other followed.1 e in
@@ -94,7 +94,7 @@ never_unscripted takes old new script (bytes, other, came, e, refused) =
     cc
 
 -- the status of bytes that were read has its cause
-pub caused_by_bytes : (words : List (List ℕ)) (chosen : Chosen) (takes : Bool) (old new : Told) (s : Status) → settings_of words ≡ Some chosen
+pub caused_by_bytes : (words : List (List ℕ)) (chosen : Chosen) (takes : Bool) (old new : StreamView) (s : Status) → settings_of words ≡ Some chosen
     → IsOfBytes s → ((line : ℕ) (why : Why) → s ≡ status.Refused line why → IsRefusal old new line why)
     → (s ≡ status.NotScripted → IsUnscripted takes old new) → IsCaused words takes old new s
 caused_by_bytes words chosen takes old new s chose answer refused unscripted = record {
@@ -114,7 +114,8 @@ caused_by_bytes words chosen takes old new s chose answer refused unscripted = r
   no_fault : (s : Status) → IsOfBytes s → s ≡ status.ReadFault → ⊥
   no_fault s answer e = subst IsOfBytes e answer
 
-  done_of : (takes : Bool) (old new : Told) (s : Status) → IsOfBytes s → ((line : ℕ) (why : Why) → s ≡ status.Refused line why → IsRefusal old new line why)
+  done_of : (takes : Bool) (old new : StreamView) (s : Status) → IsOfBytes s
+      → ((line : ℕ) (why : Why) → s ≡ status.Refused line why → IsRefusal old new line why)
       → (s ≡ status.NotScripted → IsUnscripted takes old new) → AreScript takes old.bytes → IsDone s
   done_of takes old new status.Done answer refused unscripted script = tt
   done_of takes old new status.Left answer refused unscripted script = tt
@@ -154,7 +155,7 @@ all_fed : {H : Type 0} (end : End H) → starves end ≡ false → list_any is_s
 all_fed end fed = (or_false (list_any is_starved end.jobs) (some_late_starved end.journal.items) fed).0
 
 -- a run whose whole text is due, without a job that starved or gave up, is done
-pub done_with : {H : Type 0} (model : HostModel H) (words : List (List ℕ)) (old new : Told) (host : H) (s : Status) (o : Option (End H)) (due : List ℕ)
+pub done_with : {H : Type 0} (model : HostModel H) (words : List (List ℕ)) (old new : StreamView) (host : H) (s : Status) (o : Option (End H)) (due : List ℕ)
     → IsDue s o due → IfSome o (IsRun model words (record { old = old; new = new }) host) → IsDoneWith s o
 done_with model words old new host status.Done None due h run = h
 done_with model words old new host status.Done (Some end) due h (chosen, chose, bytes, came, (read, run)) =
@@ -182,7 +183,8 @@ same_choice : (a b : Chosen) (o : Option Chosen) → o ≡ Some a → o ≡ Some
 same_choice a b o one two = let both : Some a ≡ Some b = sym one ∙ two in cc both
 
 -- where the whole text is due its lines but those on kept data are the script's alone
-plain_due : {H : Type 0} (model : HostModel H) (words : List (List ℕ)) (old new : Told) (host : H) (end : End H) (due : List ℕ) (before after : Told)
+plain_due : {H : Type 0} (model : HostModel H) (words : List (List ℕ)) (old new : StreamView) (host : H) (end : End H) (due : List ℕ)
+    (before after : StreamView)
     → due ≡ end_text end → starves end ≡ false → IsRun model words (record { old = old; new = new }) host end → AppendsWhole before after due
     → IsTrue model.tells
     → IsSaidPlainly words before after end
@@ -190,9 +192,9 @@ plain_due model words old new host end due before after text fed (by, chose, byt
     let one : by ≡ chosen = same_choice by chosen (settings_of words) chose again in
     (subst (AppendsWhole before after) text wrote, run.plain (subst RunsAlone (sym one) alone) tells faults fed)
 
--- what a run has written is the text of its script alone, but where memory was wanting
-pub plainly : {H : Type 0} (model : HostModel H) (words : List (List ℕ)) (old new : Told) (host : H) (s : Status) (o : Option (End H)) (due : List ℕ)
-    (before after : Told) → IsDue s o due → IfSome o (IsRun model words (record { old = old; new = new }) host) → AppendsWhole before after due
+-- what a run has written is the text of its script alone, but where memory ran out
+pub plainly : {H : Type 0} (model : HostModel H) (words : List (List ℕ)) (old new : StreamView) (host : H) (s : Status) (o : Option (End H)) (due : List ℕ)
+    (before after : StreamView) → IsDue s o due → IfSome o (IsRun model words (record { old = old; new = new }) host) → AppendsWhole before after due
     → IsTrue model.tells
     → s ≢ status.NoMemory → IfSome o (IsSaidPlainly words before after)
 plainly model words old new host s None due before after h run wrote tells not = tt

@@ -12,19 +12,19 @@ use Rattle.xc_host.specs.Contents.{Contents, needs_scripted}
 use Rattle.xc_host.specs.Kept.{with_kept}
 use Rattle.xc_text.specs.declared.script.Script.{Script}
 use Rattle.xc_edge.specs.Streams.{Came, AppendsPart, AppendsWhole}
-use Rattle.xc_edge.specs.Told.{Told, HasFailed}
+use Rattle.xc_edge.specs.View.{StreamView, HasFailed}
 use Rattle.xc_print.specs.Text.{rendered}
 use Rattle.xc_print.specs.Totals.{totals_of}
 use Rattle.xc_station.specs.declared.start.End.{End}
 use Rattle.xc_settings.specs.declared.chosen.Chosen.{Chosen}
 use Rattle.xc_settings.specs.Options.{settings_of}
-use Rattle.xc_story.specs.Accounted.{AreAccounted}
-use Rattle.xc_story.specs.Ending.{Final, IsTrueEnd, IsComplete, StopWhereFull, wanted_memory}
-use Rattle.xc_story.specs.Setting.{setting}
-use Rattle.xc_story.specs.Truth.{IsSerial}
+use Rattle.xc_model.specs.Accounted.{AreAccounted}
+use Rattle.xc_model.specs.Ending.{Final, IsTrueEnd, IsComplete, StopWhereFull, wanted_memory}
+use Rattle.xc_model.specs.Setting.{setting}
+use Rattle.xc_model.specs.Serial.{IsSerial}
 use Rattle.xc_tokens.specs.declared.why.Why.{Why}
 use Rattle.xc_text.specs.Scripts.{parse_of}
-use Rattle.xc_plain.specs.Plain.{plain_text}
+use Rattle.xc_serial.specs.Plain.{plain_text}
 use Rattle.xc_app.specs.declared.finish.Finish.{Finish}
 use Rattle.xc_app.specs.declared.finish.Status.{Status}
 use Rattle.xc_app.specs.declared.finish.Status.TheVariants as status
@@ -33,11 +33,11 @@ use Rattle.xc_app.specs.Lines.{usage_line, read_fault_line, no_memory_line, not_
 
 -- ---- what was read
 -- all bytes of the source came, or so many that they are too long for a script
-abbrev pub IsRead : Told → Told → List ℕ → Type 0
+abbrev pub IsRead : StreamView → StreamView → List ℕ → Type 0
 IsRead old new bytes = Came 1048577 old new bytes
 
 -- the bytes read are no script, and this is the first bad line with its first reason
-abbrev pub IsRefusal : Told → Told → ℕ → Why → Type 0
+abbrev pub IsRefusal : StreamView → StreamView → ℕ → Why → Type 0
 IsRefusal old new line why = (bytes : List ℕ) × IsRead old new bytes × (parse_of bytes ≡ Err (line, why))
 
 -- the script has a line that this host can't follow
@@ -45,7 +45,7 @@ abbrev pub is_refused_by : Bool → Script → Bool
 is_refused_by takes_scripts script = not takes_scripts && needs_scripted script.outline.prologue
 
 -- the bytes read are a script with a line that this host can't follow
-abbrev pub IsUnscripted : Bool → Told → Told → Type 0
+abbrev pub IsUnscripted : Bool → StreamView → StreamView → Type 0
 IsUnscripted takes_scripts old new =
     (bytes : List ℕ) × (script : Script) × IsRead old new bytes × (parse_of bytes ≡ Ok script) × (is_refused_by takes_scripts script ≡ true)
 
@@ -61,7 +61,7 @@ pub record RunsAlone (chosen : Chosen) : Type 0 where
   pub schedule : chosen.schedule ≡ None
   pub workers : chosen.workers ≡ 1
 
--- some job ended for want of memory, or some late call did
+-- some job ended for lack of memory, or some late call did
 abbrev pub starves : {H : Type 0} → End H → Bool
 starves end = wanted_memory end.jobs end.journal.items
 
@@ -90,7 +90,7 @@ module _ {H : Type 0} (model : HostModel H) where
     pub whole : IsTrueEnd (setting end.opening.script chosen.rules model.tells) end.journal.items (final_of end)
     -- with one worker and no schedule its transactions ran one after another
     pub serial : RunsAlone chosen → IsSerial end.journal.items
-    -- and none is of a job behind one that found the journal full
+    -- and none is of a job after one that found the journal full
     pub stops : RunsAlone chosen → StopWhereFull end.jobs end.journal.items
     -- each transaction committed, but where there was a cause for its abort
     pub accounted : AreAccounted (setting end.opening.script chosen.rules model.tells) end.journal.items
@@ -107,7 +107,7 @@ module _ {H : Type 0} (model : HostModel H) where
   IsRunOf bytes chosen host end = (parse_of bytes ≡ Ok end.opening.script) × IsRunOver chosen host end
 
   -- the words chose something, bytes were read from the source, and this is the end of their run
-  abbrev pub IsRun : List (List ℕ) → Step Told → H → End H → Type 0
+  abbrev pub IsRun : List (List ℕ) → Step StreamView → H → End H → Type 0
   IsRun words source host end =
       (chosen : Chosen) × (settings_of words ≡ Some chosen) × (bytes : List ℕ) × IsRead source.old source.new bytes
       × IsRunOf bytes chosen host end
@@ -156,20 +156,20 @@ IsDone status.GaveUp = Unit {0}
 IsDone status.NoMemory = Unit {0}
 IsDone _ = ⊥
 
--- the words are refused, but for want of memory
+-- the words are refused, but for lack of memory
 abbrev pub IsUsage : Status → Type 0
 IsUsage status.Usage = Unit {0}
 IsUsage status.NoMemory = Unit {0}
 IsUsage _ = ⊥
 
 -- a status has its cause: in the words, in the host, and in the source before and after it was read
-pub record IsCaused (words : List (List ℕ)) (takes_scripts : Bool) (old new : Told) (meant : Status) : Type 0 where
+pub record IsCaused (words : List (List ℕ)) (takes_scripts : Bool) (old new : StreamView) (meant : Status) : Type 0 where
   pub usage : meant ≡ status.Usage → settings_of words ≡ None
   pub refused_words : settings_of words ≡ None → IsUsage meant
   pub refused : (line : ℕ) (why : Why) → meant ≡ status.Refused line why → IsRefusal old new line why
   pub unscripted : meant ≡ status.NotScripted → IsUnscripted takes_scripts old new
   pub read_fault : meant ≡ status.ReadFault → HasFailed old new
-  -- with words that choose, no failed read and a script that the host follows the run is done, but for want of memory
+  -- with words that choose, no failed read and a script that the host follows the run is done, but for lack of memory
   pub complete : IsSome (settings_of words) → (HasFailed old new → ⊥) → AreScript takes_scripts old.bytes → IsDone meant
 
 -- ---- what is written
@@ -196,17 +196,17 @@ IsDue meant None due = IsDueAlone meant due
 IsDue meant (Some end) due = IsDueWithEnd meant end due
 
 -- all was written, and the run ends with the status that was meant; or a front, and it ends with the sink's failure
-abbrev pub IsWritten : Status → Status → List ℕ → Told → Told → Type 0
+abbrev pub IsWritten : Status → Status → List ℕ → StreamView → StreamView → Type 0
 IsWritten meant ends due old new =
     ((ends ≡ meant) × AppendsWhole old new due) ⊎ ((ends ≡ status.WriteFault) × AppendsPart old new due × HasFailed old new)
 
 -- what is due with this status was written, or a front of it
-abbrev pub IsSaid : {H : Type 0} → Status → Finish H → Told → Told → Type 0
+abbrev pub IsSaid : {H : Type 0} → Status → Finish H → StreamView → StreamView → Type 0
 IsSaid meant finish old new = (due : List ℕ) × IsDue meant finish.end due × IsWritten meant finish.status due old new
 
 -- the run's text was written; and, with one worker and no schedule, where no fault is recorded, its lines but those on kept data
 -- are the text of the script alone
-abbrev pub IsSaidPlainly : {H : Type 0} → List (List ℕ) → Told → Told → End H → Type 0
+abbrev pub IsSaidPlainly : {H : Type 0} → List (List ℕ) → StreamView → StreamView → End H → Type 0
 IsSaidPlainly words old new end =
     (chosen : Chosen) → settings_of words ≡ Some chosen → RunsAlone chosen → sum_by entry_faults end.journal.items ≡ 0
     → AppendsWhole old new (end_text end) × (lines_but_kept end ≡ plain_text end.opening.script)

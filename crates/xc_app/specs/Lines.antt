@@ -13,7 +13,7 @@ usage_line = codes "usage: xcalls [--workers N] [--schedule LIST] [--attempts N]
 abbrev pub read_fault_line : List ℕ
 read_fault_line = codes "read fault\n"
 
--- with status 5, where memory is wanting for the text itself or before a run
+-- with status 5, where memory runs out for the text itself or before a run
 abbrev pub no_memory_line : List ℕ
 no_memory_line = codes "no memory\n"
 

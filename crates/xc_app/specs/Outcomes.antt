@@ -1,7 +1,7 @@
 -- What the parts of the top call promise one another.
 use Rattle.std.specs.Prelude.{◌≡◌, ℕ, List}
 use Rattle.xc_host.specs.Model.{HostModel}
-use Rattle.xc_station.specs.Stations.{Seen, TakeRounds, TakeTurns}
+use Rattle.xc_station.specs.Stations.{StationView, TakeRounds, TakeTurns}
 use Rattle.xc_tokens.specs.declared.why.Why.{Why}
 use Rattle.xc_app.specs.declared.finish.Status.{Status}
 use Rattle.xc_app.specs.declared.finish.Status.TheVariants as status
@@ -25,6 +25,6 @@ IsUnrefused (status.Refused line why) = ⊥
 IsUnrefused _ = Unit {0}
 
 -- the listed turns were taken in their order, and then rounds
-abbrev pub TakeListed : {H : Type 0} → HostModel H → List ℕ → Seen H → Seen H → Type 0
+abbrev pub TakeListed : {H : Type 0} → HostModel H → List ℕ → StationView H → StationView H → Type 0
 TakeListed {H = H} model jobs old new =
-    (listed : Seen H) × TakeTurns model jobs old listed × (rounds : ℕ) × TakeRounds model rounds listed new
+    (listed : StationView H) × TakeTurns model jobs old listed × (rounds : ℕ) × TakeRounds model rounds listed new

@@ -1,11 +1,11 @@
-ghost use Rattle.std.specs.Prelude.{◌≡◌, ◌≢◌, ◌≤◌, ℕ, Some, None, Ok, Err, length, [], map, string_bytes, true, if◌then◌else◌};
+ghost use Rattle.std.specs.Prelude.{◌≡◌, ◌≢◌, ◌≤◌, ℕ, Some, None, Ok, Err, length, [], map, string_bytes, true};
 ghost use Rattle.std.specs.Prelude.{IfOk, IfSome, IsErrOf, IsTrue};
 ghost use Rattle.xc_data.specs.Limits.{KeepsLimits};
 ghost use Rattle.xc_text.specs.declared.script.Script.{Script};
 ghost use Rattle.xc_tokens.specs.declared.why.Why.{Why};
 ghost use Rattle.xc_text.specs.Scripts.{parse_of, IsScript};
 ghost use Rattle.xc_settings.specs.Options.{settings_of};
-ghost use Rattle.xc_story.specs.Alone.{AreAlone};
+ghost use Rattle.xc_model.specs.Alone.{AreAlone};
 ghost use Rattle.xc_station.specs.Stations.{KeepsOrigin, NobodyLives, RanAlone, now_of};
 ghost use Rattle.xc_app.specs.Due.{due_bytes};
 ghost use Rattle.xc_app.specs.Headline.{is_refused_by, IsRun, IsRunOf, IsRunOver, IsOneOf, IsCaused, IsDoneWith, RunsAlone};
@@ -72,7 +72,7 @@ struct Outcome<H> {
 }
 
 // An outcome without a run.
-fn alone<H>(host: H, status: Status, due: Due) -> Outcome<H>
+fn without_a_run<H>(host: H, status: Status, due: Due) -> Outcome<H>
     requires { IsDueAlone status (due_bytes due) }
     ensures due { IsDue result.status result.end (due_bytes result.due) }
     ensures status { (result.status ≡ status) × (result.end ≡ None) × (result.host ≡ Some host) }
@@ -89,7 +89,7 @@ fn no_memory<H>(host: H) -> Outcome<H>
     ensures due { IsDue result.status result.end (due_bytes result.due) }
     ensures status { (result.status ≡ Status.NoMemory) × (result.end ≡ None) × (result.host ≡ Some host) }
 {
-    alone(host, Status::NoMemory, Due::NoMemory)
+    without_a_run(host, Status::NoMemory, Due::NoMemory)
 }
 
 fn of_refusal<H: Drop>(alloc: Global, host: H, line: u32, why: Why) -> Outcome<H>
@@ -98,7 +98,7 @@ fn of_refusal<H: Drop>(alloc: Global, host: H, line: u32, why: Why) -> Outcome<H
     ensures none { (result.end ≡ None) × (result.host ≡ Some host) }
 {
     match refused(alloc, line, why) {
-        Ok(text) => alone(host, Status::Refused { line, why }, Due::Line(text)),
+        Ok(text) => without_a_run(host, Status::Refused { line, why }, Due::Line(text)),
         Err(_) => no_memory(host),
     }
 }
@@ -144,7 +144,7 @@ fn of_refused_start<H: Drop>(not_started: NotStarted<H>) -> Outcome<H>
 {
     let NotStarted { host, why } = not_started;
     match why {
-        OpenErr::NotScripted => alone(host, Status::NotScripted, Due::NotScripted),
+        OpenErr::NotScripted => without_a_run(host, Status::NotScripted, Due::NotScripted),
         OpenErr::NoMemory => no_memory(host),
     }
 }
@@ -297,19 +297,19 @@ fn decide<S: Source, H: Host + Send, P: Pace + Sync, R: AllocGlobal + Threads + 
 {
     let chosen = match settings(rt.alloc(), words) {
         Ok(chosen) => chosen,
-        Err(SettingsErr::Usage) => return alone(host, Status::Usage, Due::Usage),
+        Err(SettingsErr::Usage) => return without_a_run(host, Status::Usage, Due::Usage),
         Err(SettingsErr::NoMemory) => return no_memory(host),
     };
     match read_up_to(rt.alloc(), source, LIMIT) {
         Ok(bytes) => of_bytes(rt, host, bytes, &chosen, pace),
-        Err(ReadErr::Failed) => alone(host, Status::ReadFault, Due::ReadFault),
+        Err(ReadErr::Failed) => without_a_run(host, Status::ReadFault, Due::ReadFault),
         Err(ReadErr::NoMemory) => no_memory(host),
     }
 }
 
 /// Reads a script from the source, runs it over the host, and writes its text to the sink.
 ///
-/// `words` are those of the command line behind the program's name. With a script that isn't run,
+/// `words` are those of the command line after the program's name. With a script that isn't run,
 /// one line is written that says why, and the host is given back. A source or a sink that fails ends
 /// the run, with the end in `Finish` where the script had been run.
 pub fn xcalls_run<
@@ -320,7 +320,7 @@ pub fn xcalls_run<
     P: Pace + Sync,
 >(rt: &R, words: &[String], source: &mut S, sink: &mut K, host: H, pace: &P) -> Finish<H>
     // A status was meant, and it has its cause. What is due with it was written, and it is the run's
-    // status; or the sink failed behind a front of that. A run that is meant to be done has an entry
+    // status; or the sink failed after a front of that. A run that is meant to be done has an entry
     // for each transaction, which committed or aborted itself; so has one of which effects are left,
     // where no job gave up.
     ensures answered { (meant : Status) × IsCaused (map string_bytes words.now) H.model.takes_scripts (S.told source.old)
@@ -336,7 +336,7 @@ pub fn xcalls_run<
         IsRun H.model (map string_bytes words.now) (record { old = S.told source.old; new = S.told source.new }) host) }
 
     // The text, but for its lines on kept data, is a function of the script: jobs one after another, over a host that tells and
-    // met no fault, write those of the script alone, but where memory was wanting or the sink failed.
+    // met no fault, write those of the script alone, but where memory ran out or the sink failed.
     ensures plain { IsTrue H.model.tells → result.status ≢ Status.NoMemory → result.status ≢ Status.WriteFault
         → IfSome result.end (IsSaidPlainly (map string_bytes words.now) (K.told sink.old) (K.told sink.new)) }
 

@@ -1,4 +1,4 @@
--- What is given back in a world goes together with changes elsewhere, and with changes behind it.
+-- What is given back in a world goes together with changes elsewhere, and with changes after it.
 use Rattle.std.proofs.Common.{◌≡◌, ℕ, ◌<◌, ◌==◌, Bool, true, false, Option, Some, unwrap_or, List, [], ◌∷◌, ◌++◌, refl, ap, sym, ◌∙◌}
 use Rattle.std.proofs.Common.{arith}
 use Rattle.std.specs.Prelude.{All, if◌then◌else◌}
@@ -25,7 +25,7 @@ pub given_append : (w : World) (first second : List KeptItem) → given_back w (
 given_append w [] second = refl
 given_append w (t ∷ first) second = ap (λ x. gives x t) (given_append w first second)
 
--- an item may be given back before or behind a change
+-- an item may be given back before or after a change
 abbrev pub Passes : (World → World) → KeptItem → Type 0
 Passes change t = (x : World) → gives (change x) t ≡ change (gives x t)
 
@@ -41,7 +41,7 @@ given_passes change (t ∷ items) all w =
 abbrev pub fronted : List ℕ → Option Pipe → Pipe
 fronted bytes found = with_front bytes (unwrap_or found empty_pipe)
 
--- an item of this pipe may be given back before or behind a change of it
+-- an item of this pipe may be given back before or after a change of it
 abbrev pub PipeAlike : Num → (Option Pipe → Pipe) → KeptItem → Type 0
 PipeAlike num f (Bytes pipe bytes) = eq_by_cmp num_cmp num pipe ≡ true → (found : Option Pipe) → fronted bytes (Some (f found)) ≡ f (Some (fronted bytes found))
 PipeAlike num f (Message pair side bytes) = Unit {0}
@@ -64,7 +64,7 @@ turned side g pair = with_waiting pair side (g (waiting pair side))
 abbrev pub firsted : ℕ → List ℕ → Option Pair → Pair
 firsted side message found = turned side (λ ms. message ∷ ms) (unwrap_or found empty_pair)
 
--- an item of this pair may be given back before or behind a change of it
+-- an item of this pair may be given back before or after a change of it
 abbrev pub PairAlike : Num → (Option Pair → Pair) → KeptItem → Type 0
 PairAlike num f (Message pair side bytes) =
     eq_by_cmp num_cmp num pair ≡ true → (found : Option Pair) → firsted side bytes (Some (f found)) ≡ f (Some (firsted side bytes found))

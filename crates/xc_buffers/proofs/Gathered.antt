@@ -8,7 +8,7 @@ use Rattle.xc_world.specs.Run.{given_back}
 use Rattle.xc_buffers.specs.declared.source.Source.{Source}
 use Rattle.xc_buffers.specs.Sources.{source_of, is_from}
 use Rattle.xc_buffers.specs.Items.{items_from}
-use Rattle.xc_buffers.specs.Changes.{PutsFront, PutsAll}
+use Rattle.xc_buffers.specs.Changes.{PutsFront}
 use Rattle.xc_buffers.proofs.Orders.{own, one}
 use Rattle.xc_buffers.proofs.Fronts.{given_append}
 
@@ -29,7 +29,7 @@ filter_apart p q h (x ∷ xs) = by_test (q x) (h x) (filter_apart p q h xs)
     by_test true le e = ap (λ ys. cond (p x) (x ∷ ys) ys) e
     by_test false le e = by_own (p x) refl le e
 
--- what is kept of each source behind an item that was put in front
+-- what is kept of each source after an item that was put in front
 pub from_put : (t : KeptItem) (old new : List KeptItem) → PutsFront t old new → (source : Source)
     → items_from source new ≡ items_from source (t ∷ []) ++ items_from source old
 from_put t old new put source = by_test (is_from source t) refl
@@ -68,7 +68,3 @@ pending_more notes kept left now next t p put = record {
   world = λ w.
       ap (λ x. given_back x left) (put.world w) ∙ sym (given_append (given_back w now) left (t ∷ [])) ∙ p.world w;
 }
-
--- all are given back
-pub pending_none : (notes kept now : List KeptItem) → Pending notes kept [] now → PutsAll notes kept now
-pending_none notes kept now p = record { each = p.each; world = p.world }

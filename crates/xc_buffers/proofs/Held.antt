@@ -266,7 +266,7 @@ no_message_items (t ∷ items) num side none = by_test (is_from (OfSide num side
     by_test true more e = cc
     by_test false more e = more e
 
--- ---- changes behind what is kept
+-- ---- changes after what is kept
 -- nothing but pipes and pairs
 pub held_alone : (rest w : World) (items : List KeptItem) → given_back (with_held rest w) items ≡ with_held rest (given_back w items)
 held_alone rest w items = given_passes (with_held rest) items (each passes items) w
@@ -278,7 +278,7 @@ held_alone rest w items = given_passes (with_held rest) items (each passes items
 abbrev put_behind : List ℕ → Option Pipe → Pipe
 put_behind bytes found = let pipe = unwrap_or found empty_pipe in record pipe { held = pipe.held ++ bytes }
 
--- bytes behind those of a pipe
+-- bytes after those of a pipe
 pub put_stays : (w : World) (items : List KeptItem) (num : Num) (bytes : List ℕ)
     → given_back (with_put w num bytes) items ≡ with_put (given_back w items) num bytes
 put_stays w items num bytes = given_passes (turn_pipe num (put_behind bytes)) items (each passes items) w
@@ -292,7 +292,7 @@ put_stays w items num bytes = given_passes (turn_pipe num (put_behind bytes)) it
     passes : (t : KeptItem) → Passes (turn_pipe num (put_behind bytes)) t
     passes t = pipe_passes num (put_behind bytes) t (alike t)
 
--- a message behind those for a side
+-- a message after those for a side
 pub sent_stays : (w : World) (items : List KeptItem) (num : Num) (side : ℕ) (bytes : List ℕ)
     → given_back (with_pair w num (sent_to (pair_of w num) side bytes)) items
     ≡ with_pair (given_back w items) num (sent_to (pair_of (given_back w items) num) side bytes)

@@ -19,7 +19,7 @@ use Rattle.xc_buffers.proofs.Splits.{All-between, All-without, All-of, reversed_
 abbrev pub NotBefore : KeptItem → KeptItem → Type 0
 NotBefore t u = is_before (source_of u) (source_of t) ≡ false
 
--- each item against all that are behind it
+-- each item against all that are after it
 abbrev pub Rises : List KeptItem → Type 0
 Rises [] = Unit {0}
 Rises (t ∷ items) = All (NotBefore t) items × Rises items
@@ -35,7 +35,7 @@ pub order_from : (items : List KeptItem) → Rises items → IsInOrder items
 order_from [] rises = λ i j d lt within. absurd (omega arith)
 order_from (t ∷ items) rises = AllPairs-cons (λ x y. NotBefore x y) t items rises.0 (order_from items rises.1)
 
--- an item goes in behind those of sources before its own, in front of the others
+-- an item goes in after those of sources before its own, in front of the others
 pub rises_with : (before behind : List KeptItem) (t : KeptItem) → Rises (before ++ behind)
     → All (λ x. is_before (source_of x) (source_of t) ≡ true) before → All (λ x. is_before (source_of x) (source_of t) ≡ false) behind
     → Rises (before ++ t ∷ behind)
@@ -132,7 +132,7 @@ start_at source stored from to d within start place = by_case (cases_lt to from)
         let no = before_not source (source_of (get_or stored to d)) behind in
         absurd (cc (no, before))
 
--- the start isn't behind the place
+-- the start isn't after the place
 pub start_within : (source : Source) (stored : List KeptItem) (from to : ℕ) → from ≤ length stored → IsStart source stored from
     → IsPlace source stored to → from ≤ to
 start_within source [] from to within start place = omega (arith, within)
@@ -142,7 +142,7 @@ start_within source (t ∷ stored) from to within start place = start_at source 
 pub from_between : (source : Source) (t : KeptItem) → is_before source (source_of t) ≡ false → is_before (source_of t) source ≡ false → is_from source t ≡ true
 from_between source t e f = neither source (source_of t) e f
 
--- the item in front of the place is the first of its source, unless its source stands behind
+-- the item in front of the place is the first of its source, unless its source stands after
 pub first_there : (source : Source) (stored : List KeptItem) (at : ℕ) (d : KeptItem) → 0 < at → at ≤ length stored → IsPlace source stored at
     → is_before source (source_of (get_or stored (at - 1) d)) ≡ false → source_of (get_or stored (at - 1) d) ≡ source
 first_there source stored at d some within place not_behind =

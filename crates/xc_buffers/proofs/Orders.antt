@@ -80,7 +80,7 @@ less_apart Less e = refl
 less_apart Equal e = cc
 less_apart Greater e = cc
 
--- one that stands behind a source is another
+-- one that stands after a source is another
 pub behind_apart : (a b : Source) → is_before b a ≡ true → eq_by_cmp source_cmp b a ≡ false
 behind_apart a b e = less_apart (source_cmp b a) e
 

@@ -32,7 +32,7 @@ or_true true = refl
 or_true false = refl
 
 -- a list without the item and with it, in front of those of its source
-pub record Stands (t : KeptItem) (without whole : List KeptItem) : Type 0 where
+pub record IsAmong (t : KeptItem) (without whole : List KeptItem) : Type 0 where
   pub before : List KeptItem
   pub behind : List KeptItem
   pub apart : without ≡ before ++ behind
@@ -60,7 +60,7 @@ module _ (t : KeptItem) (before behind : List KeptItem) (ahead : All (λ x. is_b
       ∙ ap (λ x. gives x t) (sym (given_append w before behind))
 
 -- it was put in front
-pub puts_front : (t : KeptItem) (without whole : List KeptItem) → Stands t without whole → All (λ x. is_fit x ≡ true) whole → PutsFront t without whole
+pub puts_front : (t : KeptItem) (without whole : List KeptItem) → IsAmong t without whole → All (λ x. is_fit x ≡ true) whole → PutsFront t without whole
 puts_front t without whole s fit =
     let P : KeptItem → Type 0 = λ x. is_fit x ≡ true in
     let at = subst (All P) s.there fit in
@@ -75,7 +75,7 @@ puts_front t without whole s fit =
     }
 
 -- what is kept without it is kept in order
-pub kept_without : (t : KeptItem) (without whole : List KeptItem) → Stands t without whole → AreKept whole → AreKept without
+pub kept_without : (t : KeptItem) (without whole : List KeptItem) → IsAmong t without whole → AreKept whole → AreKept without
 kept_without t without whole s kept =
     let P : KeptItem → Type 0 = λ x. is_fit x ≡ true in
     record {
@@ -85,7 +85,7 @@ kept_without t without whole s kept =
     }
 
 -- and with it, where the others aren't of sources before its own
-pub kept_with : (t : KeptItem) (without whole : List KeptItem) (s : Stands t without whole)
+pub kept_with : (t : KeptItem) (without whole : List KeptItem) (s : IsAmong t without whole)
     → All (λ x. is_before (source_of x) (source_of t) ≡ false) s.behind → is_fit t ≡ true → AreKept without → AreKept whole
 kept_with t without whole s others fit kept =
     let P : KeptItem → Type 0 = λ x. is_fit x ≡ true in
@@ -194,7 +194,7 @@ takes_message pair side message old new put = record {
 -- ---- in a list in the reverse order
 -- an item that is inserted at the place of its source
 pub stands_inserted : (stored : List KeptItem) (at : ℕ) (t : KeptItem) → IsPlace (source_of t) stored at
-    → Stands t (reverse stored) (reverse (insert stored at t))
+    → IsAmong t (reverse stored) (reverse (insert stored at t))
 stands_inserted stored at t place =
     let P : KeptItem → Type 0 = λ x. is_before (source_of x) (source_of t) ≡ true in
     record {
@@ -224,7 +224,7 @@ cut_there : (stored : List KeptItem) (at : ℕ) (t : KeptItem) → at < length s
 cut_there stored at t lt is = ap reverse (sym (ap (set stored at) is ∙ set-get_or stored at t)) ∙ set_there stored at t lt
 
 stands_as : (stored : List KeptItem) (at : ℕ) (t : KeptItem) (whole : List KeptItem) → IsFirst (source_of t) stored at
-    → whole ≡ reverse (drop (suc at) stored) ++ t ∷ reverse (take at stored) → Stands t (reverse (remove stored at)) whole
+    → whole ≡ reverse (drop (suc at) stored) ++ t ∷ reverse (take at stored) → IsAmong t (reverse (remove stored at)) whole
 stands_as stored at t whole first there =
     let P : KeptItem → Type 0 = λ x. is_before (source_of x) (source_of t) ≡ true in
     record {
@@ -237,12 +237,12 @@ stands_as stored at t whole first there =
 
 -- the first item of its source, with any of that source in its place
 pub stands_set : (stored : List KeptItem) (at : ℕ) (t : KeptItem) → IsFirst (source_of t) stored at
-    → Stands t (reverse (remove stored at)) (reverse (set stored at t))
+    → IsAmong t (reverse (remove stored at)) (reverse (set stored at t))
 stands_set stored at t first = stands_as stored at t (reverse (set stored at t)) first (set_there stored at t first.within)
 
 -- the item itself
 pub stands_there : (stored : List KeptItem) (at : ℕ) (t : KeptItem) → IsFirst (source_of t) stored at → t ≡ get_or stored at t
-    → Stands t (reverse (remove stored at)) (reverse stored)
+    → IsAmong t (reverse (remove stored at)) (reverse stored)
 stands_there stored at t first is = stands_as stored at t (reverse stored) first (cut_there stored at t first.within is)
 
 -- what is kept with another of its source in its place is in order

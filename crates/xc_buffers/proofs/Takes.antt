@@ -28,7 +28,7 @@ use Rattle.xc_buffers.proofs.Splits.{All-reverse, filter-none, filter-part, filt
 pub none_first : (source : Source) (stored : List KeptItem) (at : ℕ) → IsPlace source stored at → at ≤ 0 → keeps_from source stored ≡ false
 none_first source stored at place le = any_none (is_from source) stored (λ k d lt. before_apart _ source (place.1 k d (omega arith) lt))
 
--- the last that doesn't stand before it stands behind
+-- the last that doesn't stand before it stands after
 pub none_behind : (source : Source) (stored : List KeptItem) (at : ℕ) (t : KeptItem) → IsInOrder (reverse stored) → IsPlace source stored at
     → 0 < at → at ≤ length stored → t ≡ get_or stored (at - 1) t → is_before source (source_of t) ≡ true → keeps_from source stored ≡ false
 none_behind source stored at t order place some within is behind = any_none (is_from source) stored (λ k d lt. apart k d lt (cases_lt k at))

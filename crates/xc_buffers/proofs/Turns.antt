@@ -1,4 +1,4 @@
--- Changes of one value of a finite map by number, one behind another.
+-- Changes of one value of a finite map by number, one after another.
 use Rattle.std.proofs.Common.{◌≡◌, ◌≢◌, Bool, true, false, cond, Option, Some, None, refl, ap, sym, ◌∙◌}
 use Rattle.std.specs.Ordering.{eq_by_cmp}
 use Rattle.std.specs.FinMap.{FinMap, get, insert, remove, get-insert, get-remove, same_map}
@@ -46,7 +46,7 @@ module _ {X : Type 0} where
           true_false : true ≡ false → ⊥
           true_false h = cc
 
-  -- what a number has behind a change
+  -- what a number has after a change
   pub get-change : (m : FinMap num_cmp X) (k q : Num) (f : Option X → X) → get (change m k f) q ≡ cond (eq_by_cmp num_cmp q k) (Some (f (get m k))) (get m q)
   get-change m k q f = get-insert num_total m k (f (get m k)) q
 

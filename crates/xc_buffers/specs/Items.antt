@@ -52,7 +52,7 @@ abbrev pub item_bytes : KeptItem → List ℕ
 item_bytes (Bytes pipe bytes) = bytes
 item_bytes (Message pair side bytes) = bytes
 
--- the bytes that are kept of a pipe, one item's behind the other's
+-- the bytes that are kept of a pipe, one item's after the other's
 abbrev pub kept_bytes : Num → List KeptItem → List ℕ
 kept_bytes pipe items = flat_map item_bytes (items_from (Pipe pipe) items)
 

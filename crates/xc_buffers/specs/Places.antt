@@ -11,7 +11,7 @@ abbrev pub IsPlace : Source → List KeptItem → ℕ → Type 0
 IsPlace source stored at = IsPartitionPoint (λ t. is_before (source_of t) source ≡ false) (λ t. is_before
     (source_of t) source ≡ true) stored at
 
--- the items of the source begin there: those before have sources behind it, and the others have none
+-- the items of the source begin there: those before have sources after it, and the others have none
 abbrev pub IsStart : Source → List KeptItem → ℕ → Type 0
 IsStart source stored at = IsPartitionPoint (λ t. is_before source (source_of t) ≡ true) (λ t. is_before source
     (source_of t) ≡ false) stored at

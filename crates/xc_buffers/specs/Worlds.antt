@@ -2,7 +2,7 @@
 use Rattle.std.specs.Prelude.{ℕ, Bool, is_some, List, ◌++◌, drop}
 use Rattle.std.specs.FinMap as map
 use Rattle.xc_data.specs.declared.object.Num.{Num}
-use Rattle.xc_world.specs.World.{World, Pipe, Pair, pipe_of, pair_of, with_pipe, with_pair, waiting, with_waiting}
+use Rattle.xc_world.specs.World.{World, Pipe, pipe_of, pair_of, with_pipe, with_pair, waiting, with_waiting}
 
 -- there is such a pipe
 abbrev pub has_pipe : World → Num → Bool
@@ -15,10 +15,6 @@ has_pair w num = is_some (map.get w.pairs num)
 -- a pipe with bytes in front of those that it holds
 abbrev pub with_front : List ℕ → Pipe → Pipe
 with_front bytes pipe = record pipe { held = bytes ++ pipe.held }
-
--- a pair with messages in front of those that wait for a side
-abbrev pub with_first : ℕ → List (List ℕ) → Pair → Pair
-with_first side messages pair = with_waiting pair side (messages ++ waiting pair side)
 
 -- a pipe loses its first bytes, so many of them
 abbrev pub without_front : World → Num → ℕ → World

@@ -1,4 +1,4 @@
-ghost use Rattle.std.specs.Prelude.{◌≡◌, ◌++◌, ◌∷◌, [], ◌||◌, ◌<◌, ℕ, true, false, List, All};
+ghost use Rattle.std.specs.Prelude.{◌≡◌, ◌++◌, [], ◌||◌, ◌<◌, ℕ, true, false, List, All};
 ghost use Rattle.xc_data.specs.declared.entry.KeptItem.{KeptItem};
 ghost use Rattle.xc_data.specs.declared.object.Num.{Num};
 ghost use Rattle.xc_data.specs.declared.object.Object.{Object};
@@ -7,7 +7,6 @@ ghost use Rattle.xc_world.specs.Run.{given_back};
 ghost use Rattle.xc_world.specs.World.{World, Pipe, Pair, pipe_of, pair_of, with_pipe, with_pair, waiting, with_waiting};
 ghost use Rattle.xc_buffers.specs.Items.{is_fit, keeps_from, keeps_pair, kept_bytes, kept_messages};
 ghost use Rattle.xc_buffers.specs.Worlds.{has_pipe, has_pair, with_front, with_held, without_pipe, without_pair};
-ghost use Rattle.xc_buffers.specs.declared.source.Source.{Source};
 ghost use Rattle.xc_buffers.specs.declared.source.Source.TheVariants.{Pipe as OfPipe, Side as OfSide};
 
 // ---- what is where, with kept items in front
@@ -64,13 +63,13 @@ pub fn kept_items_change_pipes_and_pairs_alone()
         → given_back (with_held rest w) items ≡ with_held rest (given_back w items) }
 {}
 
-/// What is put behind a pipe's bytes stands behind them with kept items too.
+/// What is put after a pipe's bytes stands after them with kept items too.
 pub fn bytes_behind_stay_behind()
     ensures { (w : World) (items : List KeptItem) (num : Num) (bytes : List ℕ)
         → given_back (with_put w num bytes) items ≡ with_put (given_back w items) num bytes }
 {}
 
-/// What is put behind the messages of a side stands behind them with kept items too.
+/// What is put after the messages of a side stands after them with kept items too.
 pub fn messages_behind_stay_behind()
     ensures { (w : World) (items : List KeptItem) (num : Num) (side : ℕ) (bytes : List ℕ)
         → given_back (with_pair w num (sent_to (pair_of w num) side bytes)) items

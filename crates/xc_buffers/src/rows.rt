@@ -1,6 +1,6 @@
-//! A list of kept items in the reverse order: the first item of a source stands behind the others of it, so that one goes
+//! A list of kept items in the reverse order: the first item of a source stands after the others of it, so that one goes
 //! in and out there and moves only items of other sources.
-ghost use Rattle.std.specs.Prelude.{◌≡◌, ◌<◌, ◌≤◌, ◌+◌, ◌-◌, ◌^◌, ℕ, true, false, min, length, reverse, vec_len, vec_capacity};
+ghost use Rattle.std.specs.Prelude.{◌≡◌, ◌<◌, ◌≤◌, ◌+◌, ◌-◌, ◌^◌, true, false, min, length, reverse, vec_len, vec_capacity};
 ghost use Rattle.std.specs.Prelude.{MatchOption, OnErr, IfOk};
 ghost use Rattle.std.specs.List.{sum_by};
 ghost use Rattle.xc_buffers.specs.Changes.{PutsFront, TakesBytes, TakesMessage};

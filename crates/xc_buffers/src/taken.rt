@@ -55,7 +55,7 @@ impl Taken {
         Ok(self.notes.reserve(1)?)
     }
 
-    /// Notes what a call took, behind the other notes. It takes no memory.
+    /// Notes what a call took, after the other notes. It takes no memory.
     pub fn note(&mut self, item: KeptItem)
         requires room { 1 ≤ self.old.spare }
         requires fit { is_fit item ≡ true }

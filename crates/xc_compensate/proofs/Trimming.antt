@@ -28,10 +28,6 @@ gone older u n zero = sym (append-nil older) ∙ ap (λ b. older ++ (if b then [
 pub kept : (older : List Undo) (u : Undo) (n : ℕ) → n ≢ 0 → older ++ covered u n ∷ [] ≡ older ++ cut_to n u
 kept older u n some = ap (λ b. older ++ (if b then [] else covered u n ∷ [])) (sym (ne_eqb n 0 some))
 
--- what holds of the newest, for every split
-pub last_within : (older : List Undo) (u : Undo) (n : ℕ) → n ≤ covers u → (others : List Undo) (v : Undo) → older ++ u ∷ [] ≡ others ++ v ∷ [] → n ≤ covers v
-last_within older u n le others v same = subst (λ w. n ≤ covers w) (same_from_push older others u v same).1 le
-
 record_covered : (u : Undo) (n : ℕ) → IsRecord u → 1 ≤ n → n ≤ covers u → IsRecord (covered u n)
 record_covered (Bytes file at before after m) n is some within = (some, omega (arith, within, is.1), is.2, is.3)
 record_covered (Tail file from after m) n is some within = (some, omega (arith, within, is.1), is.2)

@@ -40,7 +40,7 @@ is_overwrite (Moved from to) = false
 is_overwrite (NewPipe num) = false
 is_overwrite (NewPair num) = false
 
--- what the lists and the room behind them keep: each record has room for its end, and numbers are a u32's
+-- what the lists and the room after them keep: each record has room for its end, and numbers are a u32's
 pub record IsStack (records : List Undo) (newest : List Ending) (spare : ℕ) : Type 0 where
   pub kinds : All IsRecord records
   pub room : length records ≤ spare
@@ -65,17 +65,17 @@ covered u n = u
 abbrev pub cut_to : ℕ → Undo → List Undo
 cut_to n u = if n == 0 then [] else covered u n ∷ []
 
--- ---- the way back
+-- ---- the rollback
 -- a host, and the records of one transaction at it
 pub record AtHost (H : Type 0) : Type 0 where
   pub host : H
   pub undo : Records
 
--- the number of the record behind these
+-- the number of the record after these
 abbrev pub number_behind : List Undo → ℕ
 number_behind older = length older + 1
 
--- what stands in the way of the newest record without an end, behind the older ones
+-- what stands in the way of the newest record without an end, after the older ones
 abbrev pub way_of : List Undo → Undo → Records → Option ℕ
 way_of older u undo = blocker (number_behind older + 1) u undo.ended
 

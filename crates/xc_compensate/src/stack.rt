@@ -13,7 +13,7 @@ use std::alloc::Global;
 use std::marker::Model;
 use xc_data::{Items, NoMemory, RecordList, Undo, UndoEnd};
 use xc_host::Host;
-use xc_journal::Roomy;
+use xc_roomy::Roomy;
 
 /// What one turn of an undoing did.
 #[derive(Clone, Copy, PartialEq)]
@@ -84,7 +84,7 @@ fn hindering(hindered: bool, newest_first: &[(Undo, UndoEnd)]) -> &[(Undo, UndoE
 }
 
 impl Stack {
-    /// It takes no memory.
+    /// No record yet. It takes no memory.
     pub fn new(alloc: Global) -> Stack
         ensures { result ≡ record { pending = []; ended = [] } }
     {
@@ -97,6 +97,7 @@ impl Stack {
     }
 
     /// Made before the host is called.
+    /// `NoMemory` also past 2^32 records; a transaction has at most 256 calls.
     pub fn push(&mut self, undo: Undo) -> Result<(), NoMemory>
         requires record { IsRecord undo }
         requires none { self.old.ended ≡ [] }

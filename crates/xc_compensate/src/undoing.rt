@@ -171,7 +171,7 @@ fn undo_one<H: Host>(host: &mut H, undo: &Undo, tries: u32) -> UndoEnd
     }
 }
 
-/// Tries one record of this number, behind which only the given ones stand. It takes no memory.
+/// Tries one record of this number, after which only the given ones stand. It takes no memory.
 pub(crate) fn try_one<H: Host>(
     alloc: Global,
     host: &mut H,

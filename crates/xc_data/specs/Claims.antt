@@ -1,5 +1,5 @@
 -- Claims on objects, and what a list of them holds.
-use Rattle.std.specs.Prelude.{ℕ, ◌≤◌, Bool, true, false, count_by, List, [], ◌∷◌, ◌++◌, map, Option, if◌then◌else◌}
+use Rattle.std.specs.Prelude.{◌≡◌, ◌≤◌, Bool, true, false, count_by, List, [], ◌∷◌, ◌++◌, map, Option, if◌then◌else◌}
 use Rattle.std.specs.List.{fold, list_any, filter_map}
 use Rattle.std.specs.declared.option.Option.TheVariants.{None, Some}
 use Rattle.xc_data.specs.declared.object.Object.{Object}
@@ -30,6 +30,10 @@ abbrev pub compatible : Mode → Mode → Bool
 compatible Shared Shared = true
 compatible _ _ = false
 
+-- the two are on one object, in modes in which two transactions may not hold it
+abbrev pub Clash : Claim → Claim → Type 0
+Clash wanted held = (held.object ≡ wanted.object) × (compatible wanted.mode held.mode ≡ false)
+
 -- the objects of claims
 abbrev pub objects : List Claim → List Object
 objects claims = map (λ c. c.object) claims
@@ -48,19 +52,19 @@ abbrev pub stronger : Mode → Mode → Mode
 stronger Exclusive m = Exclusive
 stronger Shared m = m
 
--- a held claim behind a new one
+-- a held claim after a new one
 abbrev pub merged : Claim → Claim → Claim
 merged new held = if is_object new.object held.object then record held { mode = stronger held.mode new.mode } else held
 
--- what is held behind a new claim
+-- what is held after a new claim
 abbrev pub holding_one : List Claim → Claim → List Claim
 holding_one held new = if list_any (is_object new.object) (objects held) then map (merged new) held else held ++ new ∷ []
 
--- what is held behind several
+-- what is held after several
 abbrev pub holding : List Claim → List Claim → List Claim
 holding held claims = fold holding_one held claims
 
--- what is held behind these alone
+-- what is held after these alone
 abbrev pub held_of : List Claim → List Claim
 held_of claims = holding [] claims
 

@@ -6,5 +6,5 @@ pub mod Kinds
 pub mod Limits
 pub mod Private
 pub mod Spelling
-pub mod Standing
+pub mod Remaining
 pub mod Step

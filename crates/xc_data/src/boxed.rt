@@ -6,6 +6,9 @@ use std::marker::Model;
 
 /// A value in a place of its own in memory, so that what names it stays small. Contracts see it as
 /// the value.
+///
+/// A name has room for 64 bytes and an identifier for 32: unboxed, each would make every call and every
+/// statement as large as the largest.
 #[derive(Debug, Drop)]
 pub struct Boxed<T> {
     value: Box<T>,
@@ -18,6 +21,7 @@ impl<T> Model for Boxed<T> {
 }
 
 impl<T: Drop> Boxed<T> {
+    /// Puts a value on the heap. `NoMemory` if there is none for it; the value is dropped then.
     pub fn new(alloc: Global, value: T) -> Result<Self, NoMemory>
         ensures { IfOk result (λ boxed. boxed ≡ value) }
     {
@@ -35,6 +39,7 @@ impl<T: Drop> Boxed<T> {
 }
 
 impl<T> Boxed<T> {
+    /// The value inside.
     pub fn value(&self) -> &T
         ensures { result.now ≡ self.now }
     {

@@ -165,7 +165,7 @@ pub enum Answer {
 
 /// A call, and what it met at the host.
 #[derive(Drop)]
-pub struct Asked {
+pub struct CallWithAnswer {
     pub call: Call,
     pub answer: Answer,
 }

@@ -22,6 +22,7 @@ impl Model for Chunk {
 }
 
 impl Chunk {
+    /// A chunk of its own, with these bytes copied.
     pub fn new(alloc: Global, bytes: &[u8]) -> Result<Chunk, NoMemory>
         ensures { IfOk result (λ chunk. chunk ≡ bytes.now) }
     {
@@ -61,6 +62,7 @@ impl Chunk {
         })
     }
 
+    /// The number of bytes.
     pub fn len(&self) -> usize
         ensures value { result ≡ length self.now }
         ensures bound { result < 2 ^ 63 }
@@ -68,12 +70,14 @@ impl Chunk {
         self.bytes.value().len()
     }
 
+    /// Whether there is no byte.
     pub fn is_empty(&self) -> bool
         ensures { IsTrue result ↔ (self.now ≡ []) }
     {
         self.bytes.value().is_empty()
     }
 
+    /// The bytes, without a copy.
     pub fn as_slice(&self) -> &[u8]
         ensures { result.now ≡ self.now }
     {

@@ -39,7 +39,7 @@ pub struct Claim {
 }
 
 impl Claim {
-    /// This claim behind a new one: of the same object it has the stronger mode of both, else it stays.
+    /// This claim after a new one: of the same object it has the stronger mode of both, else it stays.
     pub fn merged(self, new: &Claim) -> Claim
         ensures { result ≡ merged new.now self }
     {

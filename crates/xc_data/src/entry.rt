@@ -1,13 +1,15 @@
-ghost use Rattle.std.specs.Prelude.{◌≡◌, IsTrue};
+ghost use Rattle.std.specs.Prelude.{◌≡◌};
 ghost use Rattle.std.specs.List.{list_any};
-ghost use Rattle.xc_data.specs.Standing.{leaves};
+ghost use Rattle.xc_data.specs.Remaining.{leaves};
 
 use crate::{
     Call, Chunk, Claim, Ident, Items, LateEnd, Num, Object, RecordList, Reply, Undo, UndoEnd,
 };
 
+/// The calls of a transaction, in the order in which they were made.
 pub type CallList = Items<Call>;
 
+/// The replies to the calls of a transaction, one for each.
 pub type ReplyList = Items<Reply>;
 /// Objects in the order in which they were first touched, each with the mode in which it is held.
 pub type HeldList = Items<Claim>;
@@ -16,8 +18,10 @@ pub type LateList = Items<LateEnd>;
 /// Job lines in the order of the jobs' numbers.
 pub type JobList = Items<JobLine>;
 
+/// Bytes and messages that the runtime keeps in front of the host's, in the order in which they come out.
 pub type KeptList = Items<KeptItem>;
 
+/// Jobs by their numbers, which count from 1.
 pub type JobNumbers = Items<u32>;
 /// Bytes to be written out.
 pub type Text = Items<u8>;
@@ -87,6 +91,7 @@ fn is_left(undo: &Undo, end: &UndoEnd) -> bool
     }
 }
 
+/// How a transaction ended.
 #[derive(Debug, Drop)]
 pub enum Outcome {
     Committed { late: LateList },

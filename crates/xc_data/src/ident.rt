@@ -57,7 +57,7 @@ fn is_spelled(bytes: &[u8]) -> bool
     }
 }
 
-// The bytes, with zeros behind them.
+// The bytes, with zeros after them.
 fn padded(bytes: &[u8]) -> [u8; 32]
     requires { length bytes.now ≤ 32 }
     ensures { result ≡ padded_to 32 bytes.now }
@@ -70,6 +70,8 @@ fn padded(bytes: &[u8]) -> [u8; 32]
 }
 
 impl Ident {
+    /// An identifier of these bytes: a letter or an underscore first, then letters, digits and underscores, at most 32 in all. `None` for
+    /// any others.
     pub fn new(bytes: &[u8]) -> Option<Ident>
         ensures exact { IsSome result ↔ IsTrue (is_ident bytes.now) }
         ensures value { IfSome result (λ ident. ident ≡ bytes.now) }
@@ -83,6 +85,7 @@ impl Ident {
         })
     }
 
+    /// Its bytes, without the padding.
     pub fn as_slice(&self) -> &[u8]
         ensures { result.now ≡ self.now }
     {

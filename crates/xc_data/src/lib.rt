@@ -21,7 +21,7 @@ mod script;
 mod undo;
 
 pub use boxed::Boxed;
-pub use call::{Answer, Asked, Call, LateAnswer, LateCall, LateEnd, Reply};
+pub use call::{Answer, Call, CallWithAnswer, LateAnswer, LateCall, LateEnd, Reply};
 pub use chunk::Chunk;
 pub use claim::{Claim, Mode};
 pub use entry::{

@@ -1,6 +1,6 @@
 use std::alloc::{AllocError, AllocFailed};
 
-/// Want of memory. It may come at any call that answers it.
+/// lack of memory. It may come at any call that answers it.
 #[derive(Clone, Copy, Debug)]
 pub struct NoMemory;
 

@@ -61,7 +61,7 @@ fn is_named(bytes: &[u8]) -> bool
     are_name_bytes(bytes) && has_other_than_dot(bytes)
 }
 
-// The bytes, with zeros behind them.
+// The bytes, with zeros after them.
 fn padded(bytes: &[u8]) -> [u8; 64]
     requires { length bytes.now ≤ 64 }
     ensures { result ≡ padded_to 64 bytes.now }
@@ -74,6 +74,7 @@ fn padded(bytes: &[u8]) -> [u8; 64]
 }
 
 impl Name {
+    /// A file name of these bytes: 1 to 64 letters, digits, dots, underscores and dashes, not dots alone. `None` for any others.
     pub fn new(bytes: &[u8]) -> Option<Name>
         ensures exact { IsSome result ↔ IsTrue (is_name bytes.now) }
         ensures value { IfSome result (λ name. name ≡ bytes.now) }
@@ -87,6 +88,7 @@ impl Name {
         })
     }
 
+    /// Its bytes, without the padding.
     pub fn as_slice(&self) -> &[u8]
         ensures { result.now ≡ self.now }
     {

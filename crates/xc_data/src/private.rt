@@ -1,11 +1,11 @@
-ghost use Rattle.std.specs.Prelude.{◌≡◌, false, ◌<◌, ◌+◌, ℕ, replicate, position, length, slice_get, slice_set, Some, IfSome, IsNone};
-ghost use Rattle.std.specs.Prelude.{IfNone, All};
+ghost use Rattle.std.specs.Prelude.{◌≡◌, false, ◌<◌, replicate, position, length, Some, IfSome};
 ghost use Rattle.xc_data.specs.declared.private.Place.{Place};
 ghost use Rattle.xc_data.specs.declared.private.Place.TheVariants.{Vacant};
 ghost use Rattle.xc_data.specs.Private.{place_of, is_vacant, lowest_vacant, with_place};
 
 use crate::Num;
 
+/// What one of a job's 256 handles is open at.
 #[derive(Clone, Copy)]
 pub enum Place {
     Vacant,
@@ -30,6 +30,7 @@ fn first_vacant(places: &[Place]) -> Option<usize>
 }
 
 impl Private {
+    /// No handle is open, nothing is made or stored yet.
     pub fn new() -> Private
         ensures { result ≡ record { places = replicate 256 Vacant; made = 0; stored = 0 } }
     {
@@ -51,6 +52,7 @@ impl Private {
         }
     }
 
+    /// Opens or closes a handle, which is below 256.
     pub fn set_place(&mut self, h: u16, place: Place)
         requires { h < 256 }
         ensures { self.new ≡ with_place self.old h place }
@@ -71,6 +73,7 @@ impl Private {
 }
 
 impl Place {
+    /// Whether nothing is open here.
     pub fn is_vacant(&self) -> bool
         ensures { result ≡ is_vacant self.now }
     {

@@ -5,10 +5,12 @@ pub type CallNumbers = Items<u64>;
 /// The values of the words, in order.
 pub type WordList = Items<u64>;
 
+/// Identifiers, in the order of the script.
 pub type IdentList = Items<Ident>;
 /// Objects in the order of their lines.
 pub type OpenedList = Items<Opened>;
 
+/// The `fault` lines, in the order of the script.
 pub type FaultList = Items<FaultLine>;
 
 /// The kinds of host calls. `Any` counts them all.

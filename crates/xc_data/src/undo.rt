@@ -1,5 +1,5 @@
 ghost use Rattle.std.specs.Prelude.{◌≡◌};
-ghost use Rattle.xc_data.specs.Standing.{objects_of};
+ghost use Rattle.xc_data.specs.Remaining.{objects_of};
 
 use crate::{Chunk, Items, Name, Num, Object};
 use smallvec::SmallVec;

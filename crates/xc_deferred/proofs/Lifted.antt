@@ -34,7 +34,7 @@ use Rattle.xc_buffers.specs.Items.{kept_bytes}
 use Rattle.xc_buffers.specs.Worlds.{with_front}
 use Rattle.xc_buffers.proofs.Fronts.{Passes, given_passes}
 use Rattle.xc_buffers.proofs.Held.{held_alone, put_stays, shut_stays, pipe_front}
-use Rattle.xc_deferred.specs.Does.{DoesLate}
+use Rattle.xc_deferred.specs.Does.{EndsAsPlain}
 use Rattle.xc_deferred.specs.Ended.{EndsAt}
 use Rattle.xc_deferred.specs.Puts.{Writes}
 
@@ -115,8 +115,8 @@ fits_lifted x y (WritePipe num bytes) a e h = cc
 fits_lifted x y (Send num side bytes) a e h = cc
 fits_lifted x y (Thread body) a e h = cc
 
-does_lifted : (was is : Contents) (call : LateCall) (e : LateEnd) (items : List KeptItem) → is_lifted call ≡ true → DoesLate was is call e
-    → DoesLate (with_kept was items) (with_kept is items) call e
+does_lifted : (was is : Contents) (call : LateCall) (e : LateEnd) (items : List KeptItem) → is_lifted call ≡ true → EndsAsPlain was is call e
+    → EndsAsPlain (with_kept was items) (with_kept is items) call e
 does_lifted was is call e items lifted d =
     let a = late_answer_of e in
     record {
@@ -156,7 +156,7 @@ put_world w c pipe [] there =
     by_case None e = cc
     by_case (Some q) e = refl
 
--- the worlds before and behind it, with kept items
+-- the worlds before and after it, with kept items
 put_kept : (w : World) (c d : Contents) (pipe : Num) (bytes : List ℕ) (items : List KeptItem) → has_pipe c pipe ≡ true → d ≡ put_front c pipe bytes
     → with_put (given_back (with_contents w c) items) pipe bytes ≡ with_contents w (with_kept d items)
 put_kept w c d pipe bytes items there did =
@@ -222,7 +222,7 @@ may_stop_at x pipe r n bytes h lt lt' =
 -- a call that did nothing
 pub nothing_done : (c d : Contents) (call : LateCall) (items : List KeptItem) (e : LateEnd) → d ≡ c
     → ((x : World) → late x call (late_answer_of e) ≡ ends x e) → ((x : World) → IsTrue (late_fits x call (late_answer_of e)))
-    → DoesLate (with_kept c items) (with_kept d items) call e
+    → EndsAsPlain (with_kept c items) (with_kept d items) call e
 nothing_done c d call items e same step fits = record {
   fits = fits (world_of (with_kept c items));
   step = λ w. step (with_contents w (with_kept c items)) ∙ ap (λ x. ends (with_contents w (with_kept x items)) e) (sym same);
@@ -230,7 +230,7 @@ nothing_done c d call items e same step fits = record {
 
 module _ (c d : Contents) (pipe : Num) (bytes : List ℕ) (items : List KeptItem) where
   -- a write to a pipe that is shut
-  pub shut_written : d ≡ c → (pipe_in c pipe).shut ≡ true → DoesLate (with_kept c items) (with_kept d items) (WritePipe pipe bytes) end.Shut
+  pub shut_written : d ≡ c → (pipe_in c pipe).shut ≡ true → EndsAsPlain (with_kept c items) (with_kept d items) (WritePipe pipe bytes) end.Shut
   shut_written same shut = record {
     fits = refl;
     step = λ w.
@@ -280,7 +280,7 @@ module _ (c d : Contents) (pipe : Num) (bytes : List ℕ) (items : List KeptItem
 
   -- a write that ended so is the plain machine's
   pub writes_does : (e : LateEnd) → Writes (record { old = c; new = d }) pipe bytes r e
-      → DoesLate (with_kept c items) (with_kept d items) (WritePipe pipe bytes) e
+      → EndsAsPlain (with_kept c items) (with_kept d items) (WritePipe pipe bytes) e
   writes_does end.Done did = record {
     fits = refl;
     step = λ w.

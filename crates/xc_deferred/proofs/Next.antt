@@ -17,7 +17,7 @@ drop_at [] n call there = cc
 drop_at (c ∷ cs) zero call there = cc
 drop_at (c ∷ cs) (suc n) call there = drop_at cs n call there
 
--- the first call that is left stands in the place behind the ends
+-- the first call that is left stands in the place after the ends
 pub left_at : (q : Queue) (calls : List LateCall) (ends : List LateEnd) (n : ℕ) (call : LateCall) → of calls ends ≡ q → n ≡ length ends
     → slice_get calls n ≡ Some call → left q ≡ call ∷ drop (suc n) calls
 left_at q calls ends n call view size there = sym (ap left view) ∙ ap (λ k. drop k calls) (sym size) ∙ drop_at calls n call there
@@ -27,7 +27,7 @@ pub next_at : (q : Queue) (calls : List LateCall) (ends : List LateEnd) (n : ℕ
     → slice_get calls n ≡ Some call → next_thread (left q) ≡ thread_in call
 next_at q calls ends n call view size there = ap next_thread (left_at q calls ends n call view size there)
 
--- the first call that is left was done, and its end stands behind the others
+-- the first call that is left was done, and its end stands after the others
 pub ends_next : {H : Type 0} (model : HostModel H) (was is : H) (q : Queue) (calls : List LateCall) (ends now : List LateEnd) (n : ℕ) (done : LateCall)
     (end : LateEnd) → of calls ends ≡ q → n ≡ length ends → slice_get calls n ≡ Some done → now ≡ ends ++ end ∷ []
     → EndsAt model done (record { old = was; new = is }) end

@@ -1,6 +1,6 @@
 -- Puts that follow each other, and what a write to a pipe makes of them.
 use Rattle.std.proofs.Common.{◌≡◌, ℕ, ◌+◌, ◌-◌, ◌<◌, ◌≤◌, true, is_some, List, [], ◌∷◌, ◌++◌, length, take, drop}
-use Rattle.std.proofs.Common.{replicate, refl, ap, sym, ◌∙◌, subst, arith, length-append}
+use Rattle.std.proofs.Common.{replicate, refl, ap, sym, ◌∙◌, subst, length-append}
 use Rattle.std.proofs.lemmas.List.{take_rest}
 use Rattle.std.specs.Prelude.{unwrap_or}
 use Rattle.xc_data.specs.declared.call.LateCall.TheVariants.{WritePipe}
@@ -14,7 +14,7 @@ use Rattle.xc_world.specs.World.{Pipe, empty_pipe}
 use Rattle.xc_host.specs.Contents.{Contents}
 use Rattle.xc_host.specs.Model.{HostModel, IsUsed}
 use Rattle.xc_host.specs.Pipes.{has_pipe, pipe_in, put_into, put_front}
-use Rattle.xc_host.specs.Uses.{Uses, MayMove, MovesBy, PutsFor, LatesFor}
+use Rattle.xc_host.specs.Uses.{Uses, PutsFor, LatesFor}
 use Rattle.xc_host.proofs.Called.{used_then}
 use Rattle.xc_host.proofs.PipeSteps.{front_put}
 use Rattle.xc_data.specs.Step.{Step}
@@ -22,7 +22,7 @@ use Rattle.xc_host.specs.Kept.{KeepsData}
 use Rattle.xc_host.proofs.DataKept.{keeps_front}
 use Rattle.xc_deferred.specs.Puts.{PutsOnly, Writes}
 
--- a put behind a front that was put makes a longer front
+-- a put after a front that was put makes a longer front
 pub put_more : (was c next : Contents) (pipe : Num) (done more : ℕ) (bytes : List ℕ) → done + more ≤ length bytes → 0 < more
     → c ≡ put_front was pipe (take done bytes) → next ≡ put_into c pipe (take more (take (length bytes - done) (drop done bytes)))
     → next ≡ put_front was pipe (take (done + more) bytes)
@@ -31,7 +31,7 @@ put_more was c next pipe done more bytes within some told did =
     ∙ ap (λ xs. put_into (put_front was pipe (take done bytes)) pipe (take more xs)) (take_rest bytes done)
     ∙ front_put was pipe done more bytes some within
 
--- the pipe behind a put
+-- the pipe after a put
 pub record IsBehind (c next : Contents) (pipe : Num) (n : ℕ) : Type 0 where
   pub there : has_pipe next pipe ≡ true
   pub mark : (pipe_in next pipe).shut ≡ (pipe_in c pipe).shut
@@ -51,21 +51,6 @@ put_keeps c next pipe xs did =
 
 -- ---- how often a write puts
 module _ {H : Type 0} (model : HostModel H) where
-  -- all was put
-  pub puts_all : (n done : ℕ) (a b : H) → done ≡ n → Uses model (record { old = a; new = b }) (MovesBy Put done 0)
-      → Uses model (record { old = a; new = b }) (PutsOnly n end.Done)
-  puts_all n done a b whole uses =
-      let (count, moved, is) = uses.named in
-      record {
-        made = uses.made;
-        named = (
-          0 + count,
-          subst (λ k. MayMove k (0 + count)) whole (record { most = omega (arith, moved.most); least = λ l. omega (arith, moved.least l) }),
-          is,
-        );
-        used = uses.used;
-      }
-
   -- a write is a look at the pipe, and then its puts
   pub write_uses : (pipe : Num) (bytes : List ℕ) (e : LateEnd) (a b c : H) → IsUsed model (PipeState ∷ []) (record { old = a; new = b })
       → Uses model (record { old = b; new = c }) (PutsOnly (length bytes) e)

@@ -23,7 +23,7 @@ use Rattle.xc_host.specs.declared.pipes.HostState.{HostState}
 use Rattle.xc_host.proofs.Called.{used_then}
 use Rattle.xc_buffers.specs.Items.{is_fit, kept_messages}
 use Rattle.xc_buffers.proofs.Held.{pair_mark, sent_stays, side_front}
-use Rattle.xc_deferred.specs.Does.{DoesLate}
+use Rattle.xc_deferred.specs.Does.{EndsAsPlain}
 use Rattle.xc_deferred.proofs.Lifted.{if_false, if_true, uses_fronted, world_with}
 
 -- the other side is one of the two
@@ -50,7 +50,7 @@ module _ (c d : Contents) (pair : Num) (side : ℕ) (bytes : List ℕ) (items : 
       ap (λ (ms : List (List ℕ)). length ms) (side_front (with_contents w c) items pair (other_side side) fit (other_below side))
       ∙ length-append (kept_messages pair (other_side side) items) (waiting (pair_in c pair) (other_side side))
 
-  -- the worlds before and behind it
+  -- the worlds before and after it
   sent_kept : (w : World) → d ≡ sent_from c pair side bytes
       → with_pair (whole w) pair (sent_to (pair_of (whole w) pair) (other_side side) bytes) ≡ with_contents w (with_kept d items)
   sent_kept w did =
@@ -61,7 +61,7 @@ module _ (c d : Contents) (pair : Num) (side : ℕ) (bytes : List ℕ) (items : 
   same_world w same = sym (world_with w c items) ∙ ap (λ x. with_contents w (with_kept x items)) (sym same)
 
   -- into a pair that is shut
-  pub shut_sent : d ≡ c → (pair_in c pair).shut ≡ true → DoesLate (with_kept c items) (with_kept d items) (Send pair side bytes) end.Shut
+  pub shut_sent : d ≡ c → (pair_in c pair).shut ≡ true → EndsAsPlain (with_kept c items) (with_kept d items) (Send pair side bytes) end.Shut
   shut_sent same shut = record {
     fits = refl;
     step = λ w.
@@ -77,7 +77,7 @@ module _ (c d : Contents) (pair : Num) (side : ℕ) (bytes : List ℕ) (items : 
     full_there w b e = ap (λ n. nat_le 8 n) (count_there w fit) ∙ e
 
     -- to a side that is full
-    pub full_sent : d ≡ c → is_full ≡ true → DoesLate (with_kept c items) (with_kept d items) (Send pair side bytes) (end.Full 0)
+    pub full_sent : d ≡ c → is_full ≡ true → EndsAsPlain (with_kept c items) (with_kept d items) (Send pair side bytes) (end.Full 0)
     full_sent same full = record {
       fits = refl;
       step = λ w.
@@ -88,7 +88,7 @@ module _ (c d : Contents) (pair : Num) (side : ℕ) (bytes : List ℕ) (items : 
 
     -- to one that isn't
     pub message_sent : d ≡ sent_from c pair side bytes → is_full ≡ false
-        → DoesLate (with_kept c items) (with_kept d items) (Send pair side bytes) end.Done
+        → EndsAsPlain (with_kept c items) (with_kept d items) (Send pair side bytes) end.Done
     message_sent did few = record {
       fits = refl;
       step = λ w.
@@ -107,7 +107,7 @@ told_full c pair side receiver items state full b across told is e =
     ∙ ap (λ (r : ℕ). nat_le 8 (length (kept_messages pair r items) + length (waiting (pair_in c pair) r))) across)
     ∙ e
 
--- a failure behind a look that counted no fault
+-- a failure after a look that counted no fault
 pub failed_then : (e f : HostErr) (a b c : ℕ) → e ≡ f → b ≡ a → CountsFault (is_fault {T = Unit {0}} (Err e)) b c
     → CountsFault (is_fault {T = Unit {0}} (Err f)) a c
 failed_then e f a b c same still counted =
@@ -121,7 +121,7 @@ module _ {H : Type 0} (model : HostModel H) (items : List KeptItem) (pair : Num)
       → Uses (fronted model) (record { old = before a items; new = before b items }) (LatesFor (Send pair side bytes) e)
   looks_only a b named looked = uses_fronted model items a b (record { made = kind.PairState ∷ []; named = named; used = looked })
 
-  -- and the sending behind it
+  -- and the sending after it
   pub looks_and_sends : (a b c : H) → SendsFor e (kind.PairState ∷ kind.Send ∷ [])
       → IsUsed model (kind.PairState ∷ []) (record { old = a; new = b }) → IsUsed model (kind.Send ∷ []) (record { old = b; new = c })
       → Uses (fronted model) (record { old = before a items; new = before c items }) (LatesFor (Send pair side bytes) e)

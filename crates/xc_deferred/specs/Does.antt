@@ -18,7 +18,7 @@ abbrev pub IsThereFor : Contents → LateCall → Type 0
 IsThereFor contents call = names_there (world_of contents) call ≡ true
 
 -- from these contents of the host to those a late call is the plain machine's, with the answer that its end tells of
-pub record DoesLate (was is : Contents) (call : LateCall) (end : LateEnd) : Type 0 where
+pub record EndsAsPlain (was is : Contents) (call : LateCall) (end : LateEnd) : Type 0 where
   pub fits : IsTrue (late_fits (world_of was) call (late_answer_of end))
   pub step : (w : World) → late (with_contents w was) call (late_answer_of end) ≡ ends (with_contents w is) end
 
@@ -33,7 +33,7 @@ pub record EndsNext {H : Type 0} (model : HostModel H) (call : LateCall) (old ne
   pub noted : new.late ≡ record old.late { ends = old.late.ends ++ end ∷ [] }
   -- a fault exactly where the host's count rose
   pub cause : CountsFault (is_fault_end end) (model.fault_count old.host) (model.fault_count new.host)
-  -- the host was called so, also where memory was wanting
+  -- the host was called so, also where memory ran out
   pub uses : Uses model (record { old = old.host; new = new.host }) (LatesFor call end)
   -- over a host that tells, its end and what it did are the plain machine's
-  pub does : IsTrue model.tells → DoesLate (model.contents old.host) (model.contents new.host) call end
+  pub does : IsTrue model.tells → EndsAsPlain (model.contents old.host) (model.contents new.host) call end

@@ -15,7 +15,7 @@ use Rattle.xc_host.specs.Uses.{Uses, MovesBy, PutsFor}
 use Rattle.xc_host.specs.declared.errors.HostErr.{HostErr}
 use Rattle.xc_deferred.specs.declared.putting.Put.{Put}
 
--- the puts that put so many bytes, and the one behind them that failed, where one did
+-- the puts that put so many bytes, and the one after them that failed, where one did
 abbrev pub PutsUntil : ℕ → Result (Unit {0}) HostErr → List Kind → Type 0
 PutsUntil done (Ok x) made = MovesBy kind.Put done 0 made
 PutsUntil done (Err e) made = MovesBy kind.Put done 1 made

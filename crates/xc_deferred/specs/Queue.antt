@@ -32,7 +32,7 @@ is_late_fit (Shutdown object) = is_shuttable object
 is_late_fit (Send num side bytes) = nat_lt side 2 && nat_le (length bytes) 1024
 is_late_fit (Thread body) = true
 
--- what the lists and the room behind them keep: each call without an end has room for it
+-- what the lists and the room after them keep: each call without an end has room for it
 pub record IsQueue (calls : List LateCall) (ends : List LateEnd) (spare : ℕ) : Type 0 where
   pub within : length ends ≤ length calls
   pub room : length calls ≤ length ends + spare

@@ -12,7 +12,7 @@ use std::marker::Model;
 use xc_buffers::Kept;
 use xc_data::{Ident, LateCall, LateEnd, LateList, NoMemory};
 use xc_host::Host;
-use xc_journal::Roomy;
+use xc_roomy::Roomy;
 
 // The block of the job that a call starts, where it starts one.
 fn thread_in(call: &LateCall) -> Option<Ident>
@@ -46,7 +46,7 @@ impl Model for Late {
 }
 
 impl Late {
-    /// It takes no memory.
+    /// No late call yet. It takes no memory.
     pub fn new(alloc: Global) -> Late
         ensures { result ≡ record { calls = []; ends = [] } }
     {
@@ -56,7 +56,7 @@ impl Late {
         }
     }
 
-    /// Keeps a call behind the others.
+    /// Keeps a call after the others.
     pub fn push(&mut self, call: LateCall) -> Result<(), NoMemory>
         requires fit { is_late_fit call ≡ true }
         ensures ok { OnOk result (self.new ≡ record self.old { calls = self.old.calls ++ call ∷ [] }) }

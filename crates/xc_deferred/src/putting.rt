@@ -48,7 +48,7 @@ fn put_whole<H: Host>(host: &mut H, pipe: Num, bytes: &[u8]) -> Put
     Put { done, end: Ok(()) }
 }
 
-// The bytes that a pipe has room for, behind what is kept of it and what the host holds.
+// The bytes that a pipe has room for, after what is kept of it and what the host holds.
 fn room_behind(kept: &Kept, pipe: Num, held: u32) -> u32
     ensures { result ≡ 4096 - (length (kept_bytes pipe kept.now.items) + held) }
 {

@@ -21,7 +21,7 @@ fn side_across(side: u8) -> u8
     if side == 0 { 1 } else { 0 }
 }
 
-// Whether no more messages may wait for a side, behind what is kept for it and what the host holds.
+// Whether no more messages may wait for a side, after what is kept for it and what the host holds.
 fn is_full(kept: &Kept, pair: Num, side: u8, held: u32) -> bool
     ensures value { result ≡ nat_le 8 (length (kept_messages pair side kept.now.items) + held) }
     ensures kept { AreKept kept.now.items }

@@ -7,7 +7,7 @@ use Rattle.std.proofs.lemmas.List.{take_rest, take-append-drop, drop-drop, lengt
 use Rattle.std.proofs.KnownBytes.{Appends-trans, Consumes-trans}
 use Rattle.std.specs.Io.KnownBytes.{Appends, Consumes}
 use Rattle.xc_edge.specs.Streams.{ConsumesUpTo}
-use Rattle.xc_edge.specs.Told.{Told}
+use Rattle.xc_edge.specs.View.{StreamView}
 
 -- a front of what was left, as `&text[done..]` gives it, makes the front longer
 pub wrote_more : (a b c : Option (List ℕ)) (text : List ℕ) (done more : ℕ) → Appends a b (take done text)
@@ -21,7 +21,7 @@ on_err (Ok _) p = tt
 on_err (Err _) p = p
 
 -- a front was taken, and one more piece of no more bytes than were asked for
-pub took_more : (limit : ℕ) (a b c : Told) (before into : List ℕ) (n : ℕ) → Consumes a.bytes b.bytes before → Consumes b.bytes c.bytes (take n into)
+pub took_more : (limit : ℕ) (a b c : StreamView) (before into : List ℕ) (n : ℕ) → Consumes a.bytes b.bytes before → Consumes b.bytes c.bytes (take n into)
     → n ≤ length into → length before + length into ≤ limit → ConsumesUpTo limit a c
 took_more limit a b c before into n first second whole room =
     (before ++ take n into, omega (arith, length-append before (take n into), length-take n into), Consumes-trans a.bytes b.bytes c.bytes _ _ first second)

@@ -2,4 +2,4 @@ pub mod Counts
 pub mod Memory
 pub mod Standard
 pub mod Streams
-pub mod Told
+pub mod View

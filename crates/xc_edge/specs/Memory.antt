@@ -1,7 +1,7 @@
 -- A source and a sink in memory.
 use Rattle.std.specs.Prelude.{◌≡◌, ◌⊎◌, ℕ, List, Some, Contains, length, drop, take, Result, Ok, Err, ◌++◌}
 use Rattle.xc_data.specs.Counts.{counted}
-use Rattle.xc_edge.specs.Told.{Told}
+use Rattle.xc_edge.specs.View.{StreamView}
 
 -- what is left to be read; the numbers of the reads that fail; how many bytes a read gives at most
 pub record MemSource : Type 0 where
@@ -12,8 +12,8 @@ pub record MemSource : Type 0 where
   pub faults : ℕ
 
 -- it tells all
-abbrev pub told_of_source : MemSource → Told
-told_of_source source = record { bytes = Some source.left; faults = source.faults }
+abbrev pub source_view : MemSource → StreamView
+source_view source = record { bytes = Some source.left; faults = source.faults }
 
 -- the next read fails: its number is listed
 abbrev pub ReadFails : MemSource → Type 0
@@ -34,8 +34,8 @@ pub record MemSink : Type 0 where
   pub faults : ℕ
 
 -- it tells all
-abbrev pub told_of_sink : MemSink → Told
-told_of_sink sink = record { bytes = Some sink.taken; faults = sink.faults }
+abbrev pub sink_view : MemSink → StreamView
+sink_view sink = record { bytes = Some sink.taken; faults = sink.faults }
 
 -- the next write fails: its number is listed, or the room is full
 abbrev pub WriteFails : MemSink → Type 0

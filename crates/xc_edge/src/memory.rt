@@ -2,7 +2,7 @@ ghost use Rattle.std.specs.Prelude.{◌≡◌, ◌↔◌, ◌≤◌, ◌<◌, �
 ghost use Rattle.std.specs.Io.{ReadsAtMost};
 ghost use Rattle.std.specs.Io.KnownBytes.{ReadConsumes, WriteAppends};
 ghost use Rattle.xc_edge.specs.Counts.{HasCause};
-ghost use Rattle.xc_edge.specs.Memory.{ReadFails, WriteFails, after_read, after_write, told_of_source, told_of_sink};
+ghost use Rattle.xc_edge.specs.Memory.{ReadFails, WriteFails, after_read, after_write, source_view, sink_view};
 
 use crate::{Failed, Sink, Source};
 use std::alloc::Global;
@@ -66,7 +66,7 @@ impl MemSource {
 }
 
 impl Source for MemSource {
-    ghost told = { told_of_source };
+    ghost told = { source_view };
 
     fn faults(&self) -> u64 {
         self.faults
@@ -75,7 +75,7 @@ impl Source for MemSource {
     fn read(&mut self, into: &mut [u8]) -> Result<usize, Failed>
         ensures bound { ReadsAtMost result into.new }
         ensures bytes { ReadConsumes (Some self.old.left) (Some self.new.left) result into.new }
-        ensures cause { HasCause (told_of_source self.old) (told_of_source self.new) result }
+        ensures cause { HasCause (source_view self.old) (source_view self.new) result }
         ensures fails { IsErr result ↔ ReadFails self.old }
         ensures count { IfOk result (λ n. n ≡ min (min (length self.old.left) (length into.old)) self.old.grain) }
         ensures after { self.new ≡ after_read self.old result }
@@ -144,6 +144,7 @@ impl MemSink {
         })
     }
 
+    /// All bytes that were written, in order.
     pub fn taken(&self) -> &[u8]
         ensures { result.now ≡ self.now.taken }
     {
@@ -160,7 +161,7 @@ impl MemSink {
 }
 
 impl Sink for MemSink {
-    ghost told = { told_of_sink };
+    ghost told = { sink_view };
 
     fn faults(&self) -> u64 {
         self.faults
@@ -170,7 +171,7 @@ impl Sink for MemSink {
         requires some { 0 < length piece.now }
         ensures bound { IfOk result (λ n. (0 < n) × (n ≤ length piece.now)) }
         ensures bytes { WriteAppends (Some self.old.taken) (Some self.new.taken) result piece.now }
-        ensures cause { HasCause (told_of_sink self.old) (told_of_sink self.new) result }
+        ensures cause { HasCause (sink_view self.old) (sink_view self.new) result }
         ensures fails { IsErr result ↔ WriteFails self.old }
         ensures count { IfOk result (λ n. n ≡ min (min (length piece.now) (self.old.room - length self.old.taken)) self.old.grain) }
         ensures after { self.new ≡ after_write self.old piece.now result }

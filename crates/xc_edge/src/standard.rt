@@ -2,7 +2,7 @@ ghost use Rattle.std.specs.Prelude.{◌≡◌, ◌<◌, ◌≤◌, length, IfOk}
 ghost use Rattle.std.specs.Io.{ReadsAtMost};
 ghost use Rattle.std.specs.Io.KnownBytes.{ReadConsumes, WriteAppends};
 ghost use Rattle.xc_edge.specs.Counts.{HasCause, faults_after};
-ghost use Rattle.xc_edge.specs.Standard.{told_with};
+ghost use Rattle.xc_edge.specs.Standard.{view_with};
 
 use crate::{Failed, Sink, Source};
 use std::io::{Read, Write};
@@ -26,6 +26,7 @@ impl<R> Model for StdSource<R> {
 }
 
 impl<R: Read> StdSource<R> {
+    /// A source over a reader, such as standard input.
     pub fn new(inner: R) -> StdSource<R>
         ensures { result ≡ record { inner = inner; faults = 0 } }
     {
@@ -34,7 +35,7 @@ impl<R: Read> StdSource<R> {
 }
 
 impl<R: Read> Source for StdSource<R> {
-    ghost told = { told_with R.remaining };
+    ghost told = { view_with R.remaining };
 
     fn faults(&self) -> u64 {
         self.faults
@@ -43,7 +44,7 @@ impl<R: Read> Source for StdSource<R> {
     fn read(&mut self, into: &mut [u8]) -> Result<usize, Failed>
         ensures bound { ReadsAtMost result into.new }
         ensures bytes { ReadConsumes (R.remaining self.old.inner) (R.remaining self.new.inner) result into.new }
-        ensures cause { HasCause (told_with R.remaining self.old) (told_with R.remaining self.new) result }
+        ensures cause { HasCause (view_with R.remaining self.old) (view_with R.remaining self.new) result }
         ensures faults { self.new.faults ≡ faults_after result self.old.faults }
     {
         match self.inner.read(into) {
@@ -75,6 +76,7 @@ impl<W> Model for StdSink<W> {
 }
 
 impl<W: Write> StdSink<W> {
+    /// A sink over a writer, such as standard output.
     pub fn new(inner: W) -> StdSink<W>
         ensures { result ≡ record { inner = inner; faults = 0 } }
     {
@@ -83,7 +85,7 @@ impl<W: Write> StdSink<W> {
 }
 
 impl<W: Write> Sink for StdSink<W> {
-    ghost told = { told_with W.contents };
+    ghost told = { view_with W.contents };
 
     fn faults(&self) -> u64 {
         self.faults
@@ -93,7 +95,7 @@ impl<W: Write> Sink for StdSink<W> {
         requires some { 0 < length piece.now }
         ensures bound { IfOk result (λ n. (0 < n) × (n ≤ length piece.now)) }
         ensures bytes { WriteAppends (W.contents self.old.inner) (W.contents self.new.inner) result piece.now }
-        ensures cause { HasCause (told_with W.contents self.old) (told_with W.contents self.new) result }
+        ensures cause { HasCause (view_with W.contents self.old) (view_with W.contents self.new) result }
         ensures faults { self.new.faults ≡ faults_after result self.old.faults }
     {
         match self.inner.write(piece) {

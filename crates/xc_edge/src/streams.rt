@@ -2,7 +2,7 @@ ghost use Rattle.std.specs.Prelude.{◌≡◌, ◌<◌, ◌≤◌, length, IfOk}
 ghost use Rattle.std.specs.Io.{ReadsAtMost};
 ghost use Rattle.std.specs.Io.KnownBytes.{ReadConsumes, WriteAppends};
 ghost use Rattle.xc_edge.specs.Counts.{HasCause};
-ghost use Rattle.xc_edge.specs.Told.{Told};
+ghost use Rattle.xc_edge.specs.View.{StreamView};
 
 use thiserror::Error;
 
@@ -14,8 +14,9 @@ pub struct Failed;
 /// Where bytes come from.
 pub trait Source {
     /// The bytes that are left, and how often a read failed.
-    ghost told: { Self → Told };
+    ghost told: { Self → StreamView };
 
+    /// How many calls have failed since it was made.
     fn faults(&self) -> u64
         ensures { result ≡ (told self.now).faults };
 
@@ -30,12 +31,14 @@ pub trait Source {
 /// Where bytes go.
 pub trait Sink {
     /// The bytes that it took, and how often a write failed.
-    ghost told: { Self → Told };
+    ghost told: { Self → StreamView };
 
+    /// How many calls have failed since it was made.
     fn faults(&self) -> u64
         ensures { result ≡ (told self.now).faults };
 
     /// Appends a front of the piece, at least one byte. A write that fails appends nothing.
+    /// No piece is empty, so a failure always has a write before it.
     fn write(&mut self, piece: &[u8]) -> Result<usize, Failed>
         requires some { 0 < length piece.now }
         ensures bound { IfOk result (λ n. (0 < n) × (n ≤ length piece.now)) }

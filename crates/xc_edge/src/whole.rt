@@ -1,7 +1,7 @@
 ghost use Rattle.std.specs.Prelude.{◌≤◌, IfOk, OnOk, OnErr, IsErrOf};
 ghost use Rattle.xc_edge.specs.Counts.{HasCause};
 ghost use Rattle.xc_edge.specs.Streams.{Came, ConsumesUpTo, AppendsPart, AppendsWhole};
-ghost use Rattle.xc_edge.specs.Told.{HasFailed};
+ghost use Rattle.xc_edge.specs.View.{HasFailed};
 
 use crate::{Failed, Sink, Source};
 use std::alloc::{AllocError, Global};

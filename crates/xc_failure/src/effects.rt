@@ -1,12 +1,12 @@
 ghost use Rattle.std.specs.Prelude.{◌≡◌};
-ghost use Rattle.xc_data.specs.Standing.{stands_from};
+ghost use Rattle.xc_data.specs.Remaining.{remains_from};
 
 use xc_data::{Undo, UndoEnd};
 
 /// The byte of a record from which on its effect stands: none exactly where it is undone, the number of restored bytes for an
 /// overwrite that was restored in part, and 0 for every other record. It takes no memory.
-pub fn standing(undo: &Undo, end: &UndoEnd) -> Option<u32>
-    ensures { result ≡ stands_from undo.now end.now }
+pub fn remaining_from(undo: &Undo, end: &UndoEnd) -> Option<u32>
+    ensures { result ≡ remains_from undo.now end.now }
 {
     match end {
         UndoEnd::Undone { .. } => None,

@@ -6,6 +6,6 @@ mod effects;
 mod law;
 mod slots;
 
-pub use effects::standing;
+pub use effects::remaining_from;
 pub use law::a_report_remains_exactly_where_an_effect_stands;
 pub use slots::Slots;

@@ -73,7 +73,6 @@ impl Slots {
     }
 
     /// A slot takes an end; a name that isn't among the slots is passed over. It takes no memory.
-
     pub fn set(&mut self, name: Ident, end: LateEnd)
         ensures { self.new ≡ with_slot self.old name end }
     {

@@ -1,4 +1,4 @@
--- An append, as its contract has it; where memory is wanting, it did its part.
+-- An append, as its contract has it; where memory runs out, it did its part.
 use Rattle.std.proofs.Common.{◌≡◌, ℕ, ◌<◌, ◌≤◌, ◌+◌, ◌++◌, Bool, true, false, IsTrue, None, Ok, Err, List, [], ◌∷◌, length}
 use Rattle.std.proofs.Common.{ap, sym, ◌∙◌, inr, arith, if◌then◌else◌}
 use Rattle.std.proofs.lemmas.Grind.{common_steps}
@@ -26,13 +26,13 @@ use Rattle.xc_host.specs.Contents.{Contents, file_in, with_contents}
 use Rattle.xc_host.specs.Model.{HostModel}
 use Rattle.xc_compensate.specs.Records.{Records}
 use Rattle.xc_file.specs.Appending.{Appends, StopsShort, tail}
-use Rattle.xc_file.specs.Calls.{CallState, Moment, Acts, AreRecorded, DidPart, IsFileCall}
+use Rattle.xc_file.specs.Calls.{CallState, CallView, ActsAsPlain, AreRecorded, DidPart, IsFileCall}
 use Rattle.xc_file.specs.Passing.{Passes}
 use Rattle.xc_file.specs.declared.checks.OpenFile.{OpenFile}
 use Rattle.xc_file.specs.Writing.{moved_on}
-use Rattle.xc_file.proofs.FileCalls.{moment, Grows, replied_call, some_refusal}
+use Rattle.xc_file.proofs.FileCalls.{call_view_at, Grows, replied_call, some_refusal}
 
--- the state behind an append of n of the bytes, at the file's end
+-- the state after an append of n of the bytes, at the file's end
 abbrev behind : Private → OpenFile → List ℕ → ℕ → Private
 behind me file bytes n = storing (moved_on me file.h file.num file.at n) (length bytes)
 
@@ -52,7 +52,8 @@ front_fits : (was is : Contents) (number : ℕ) (me : Private) (h : ℕ) (num : 
 front_fits was is number me h num at bytes n w big much there some did = grind (arith, common_steps)
 
 -- a call that the plain machine does with a reply did its part
-part_of : (call : Call) (was is : Moment) (made : List Undo) (r : Reply) → Acts call was is r → AreRecorded call was made r → DidPart call was is.contents made
+part_of : (call : Call) (was is : CallView) (made : List Undo) (r : Reply) → ActsAsPlain call was is r → AreRecorded call was made r
+    → DidPart call was is.contents made
 part_of call was is made r acts records = record {
   answer = answer_of r;
   fits = acts.fits;
@@ -64,9 +65,9 @@ part_of call was is made r acts records = record {
 front_part : (was is : Contents) (number : ℕ) (me : Private) (h : ℕ) (num : Num) (at : ℕ) (bytes : List ℕ) (from n : ℕ)
     → (length bytes ≤ 1024) × (me.stored + length bytes ≤ 16384) → place_of me.places h ≡ File num at → 0 < length bytes
     → Appends was is num bytes (Fault n) → from ≡ length (file_in was num)
-    → DidPart (XWriteSeq h bytes) (moment was number me) is (tail num from bytes n)
+    → DidPart (XWriteSeq h bytes) (call_view_at was number me) is (tail num from bytes n)
 front_part was is number me h num at bytes from n (big, much) there some did end =
-    part_of (XWriteSeq h bytes) (moment was number me) (moment is number (behind me (at_end was h num) bytes n)) (tail num from bytes n) (Fault n)
+    part_of (XWriteSeq h bytes) (call_view_at was number me) (call_view_at is number (behind me (at_end was h num) bytes n)) (tail num from bytes n) (Fault n)
     (record {
       step = λ w. front_step was is number me h num at bytes n w big much there some did;
       fits = λ w. front_fits was is number me h num at bytes n w big much there some did;

@@ -13,7 +13,7 @@ use Rattle.xc_host.specs.Contents.{Contents, file_in, has_file, appended, append
 file_in-appended : (c : Contents) (file : Num) (xs : List ℕ) → file_in (appended c file xs) file ≡ file_in c file ++ xs
 file_in-appended c file xs = ap (λ o. unwrap_or o []) (get-insert_same num_total num_exact c.files file (file_in c file ++ xs))
 
--- a file is there behind an append, and has as many bytes more
+-- a file is there after an append, and has as many bytes more
 pub append_grows : (c next : Contents) (file : Num) (bytes : List ℕ) → next ≡ appended c file bytes
     → (has_file next file ≡ true) × (length (file_in next file) ≡ length (file_in c file) + length bytes)
 append_grows c next file bytes did = (
@@ -21,7 +21,7 @@ append_grows c next file bytes did = (
   ap (λ n. length (file_in n file)) did ∙ ap length (file_in-appended c file bytes) ∙ length-append (file_in c file) bytes,
 )
 
--- an append behind an append
+-- an append after an append
 appended-more : (c : Contents) (file : Num) (xs ys : List ℕ) → appended (appended c file xs) file ys ≡ appended c file (xs ++ ys)
 appended-more c file xs ys =
     ap (λ f. record c { files = map.insert (map.insert c.files file (file_in c file ++ xs)) file (f ++ ys) }) (file_in-appended c file xs)
@@ -29,7 +29,7 @@ appended-more c file xs ys =
     ∙ ap (λ m. record c { files = m })
     (insert-insert_same num_total num_exact c.files file (file_in c file ++ xs) (file_in c file ++ (xs ++ ys)))
 
--- an append that isn't empty, behind a front
+-- an append that isn't empty, after a front
 appended_front-more : (c : Contents) (file : Num) (xs ys : List ℕ) → 0 < length ys
     → appended (appended_front c file xs) file ys ≡ appended_front c file (xs ++ ys)
 appended_front-more c file [] (y ∷ ys) some = refl
@@ -43,7 +43,7 @@ longer c file done more bytes before some =
     appended_front-more c file (take done bytes) (take more (drop done bytes)) (omega (arith, count))
     ∙ ap (appended_front c file) (sym (take-add done more bytes))
 
--- an append behind a front that was appended makes a longer front
+-- an append after a front that was appended makes a longer front
 pub append_more : (was c next : Contents) (file : Num) (done more : ℕ) (bytes : List ℕ) → done + more ≤ length bytes → 0 < more
     → c ≡ appended_front was file (take done bytes) → next ≡ appended c file (take more (take (length bytes - done) (drop done bytes)))
     → next ≡ appended_front was file (take (done + more) bytes)

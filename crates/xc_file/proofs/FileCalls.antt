@@ -26,11 +26,11 @@ use Rattle.xc_host.specs.Uses.{Uses, CallsFor, CallsOf}
 use Rattle.xc_host.proofs.Called.{unused}
 use Rattle.xc_host.specs.Contents.{Contents, with_contents}
 use Rattle.xc_compensate.specs.Records.{Records}
-use Rattle.xc_file.specs.Calls.{CallState, Moment, moment_of, IsFileCall, IsMePassed, AreRecorded, StepsAlone}
+use Rattle.xc_file.specs.Calls.{CallState, CallView, call_view, IsFileCall, IsMePassed, AreRecorded, StepsAlone}
 use Rattle.xc_file.specs.Passing.{IsAsBefore, Leaves, Passes, at_host}
 use Rattle.xc_file.proofs.Refusals.{plain_first, refused_acts}
 
--- a record with nothing behind
+-- a record with nothing after
 grown_by_none : (undo : Records) → undo ≡ record undo { pending = undo.pending ++ [] }
 grown_by_none undo = ap (λ (p : List Undo). let u : Records = record undo { pending = p } in u) (sym (append-nil undo.pending))
 
@@ -39,7 +39,7 @@ pub ok_more : (P Q : Reply → Type 0) (result : Result Reply NoMemory) → ((r 
 ok_more P Q (Ok r) more p = more r p
 ok_more P Q (Err e) more p = tt
 
--- what holds anyway holds behind each failure
+-- what holds anyway holds after each failure
 pub always_err : {T E : Type 0} (P : Type 0) (result : Result T E) → P → OnErr result P
 always_err P (Ok x) p = tt
 always_err P (Err e) p = p
@@ -101,7 +101,7 @@ pub record Grows {H : Type 0} (model : HostModel H) (call : Call) (old new : Cal
   pub one : length made ≤ 1
   pub count : (w : World) → length made ≡ length (recorded w old.me old.number call r)
   pub undo : new.undo ≡ record old.undo { pending = old.undo.pending ++ made }
-  pub records : IsTrue model.tells → AreRecorded call (moment_of model old) made r
+  pub records : IsTrue model.tells → AreRecorded call (call_view model old) made r
 
 -- a call that is passed, and replies
 pub replied_call : {H : Type 0} (model : HostModel H) (call : Call) (old new : CallState H) (r : Reply)
@@ -123,7 +123,7 @@ replied_call model call old new r free passes grows =
       memory = tt;
     }
 
--- a call that is passed, and wants memory before it changes anything
+-- a call that is passed, and runs out of memory before it changes anything
 starved_call : {H : Type 0} (model : HostModel H) (call : Call) (old new : CallState H) (e : NoMemory)
     → refusal_of call old.me ≡ None → Passes model call (record { old = old; new = new }) (Err e)
     → IsAsBefore model (at_host (record { old = old; new = new }))
@@ -179,7 +179,7 @@ told_grow model call made old new (Ok r) none one are undo =
     }
 told_grow model call made old new (Err e) none one are undo = tt
 
--- what is put behind the same records is the same
+-- what is put after the same records is the same
 same_made : (old new : Records) (made more : List Undo) → new ≡ record old { pending = old.pending ++ made }
     → new ≡ record { pending = old.pending ++ more; ended = [] } → made ≡ more
 same_made old new made more grown is = append_cancel_left old.pending made more (ap (λ u. u.pending) (sym grown ∙ is))
@@ -193,7 +193,7 @@ pub some_grow : {H : Type 0} (model : HostModel H) (call : Call) (made : Reply �
     (result : Result Reply NoMemory)
     → IfOk result (λ r. Leaves model (at_host (record { old = old; new = new })) (done r) (made r))
     → ((r : Reply) (w : World) → length (recorded w old.me old.number call r) ≡ (if done r == 0 then 0 else 1))
-    → ((r : Reply) → AreRecorded call (moment_of model old) (made r) r)
+    → ((r : Reply) → AreRecorded call (call_view model old) (made r) r)
     → IfOk result (Grows model call old new)
 some_grow model call made done old new (Ok r) leaves sizes are =
     let adds = leaves.adds in
@@ -207,8 +207,8 @@ some_grow model call made done old new (Ok r) leaves sizes are =
 some_grow model call made done old new (Err e) leaves sizes are = tt
 
 -- the moment of these contents, with this private state
-abbrev pub moment : Contents → ℕ → Private → Moment
-moment c number me = record { contents = c; number = number; me = me }
+abbrev pub call_view_at : Contents → ℕ → Private → CallView
+call_view_at c number me = record { contents = c; number = number; me = me }
 
 -- a call at the handle of an open file
 pub at_handle : {H : Type 0} (model : HostModel H) (call : ℕ → Call) (k h : ℕ) (old new : CallState H) (result : Result Reply NoMemory)

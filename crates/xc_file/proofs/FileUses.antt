@@ -31,7 +31,7 @@ by_appends : (h : ℕ) (bytes : List ℕ) (r : Reply) (count : ℕ) → 0 < leng
 by_appends h [] r count some are = absurd (omega (arith, some))
 by_appends h (b ∷ bs) r count some are = (count, are, refl)
 
--- so many bytes were written, or a fault came behind them
+-- so many bytes were written, or a fault came after them
 written_by : (n done reads count : ℕ) → MayMove n reads → MayMove done count → 0 < n → OverwritesFor n (reply.Fault done) reads (1 + count)
 written_by n zero reads count read wrote some = (read.most, omega (arith, wrote.most), omega (arith, read.least some, wrote.most))
 written_by n (suc done) reads count read wrote some = (read, omega (arith, wrote.least (omega arith)), omega (arith, wrote.most))
@@ -40,13 +40,13 @@ appended_by : (n done count : ℕ) → MayMove done count → AppendsFor n (repl
 appended_by n zero count did = omega (arith, did.most)
 appended_by n (suc done) count did = (omega (arith, did.least (omega arith)), omega (arith, did.most))
 
--- where memory was wanting, the create is one more or none
+-- where memory ran out, the create is one more or none
 starved : (made : List Kind) → (made ≡ []) ⊎ (made ≡ Create ∷ []) → (Lookup ∷ made ≡ Lookup ∷ []) ⊎ (Lookup ∷ made ≡ Lookup ∷ Create ∷ [])
 starved made (inl e) = inl (ap (λ m. Lookup ∷ m) e)
 starved made (inr e) = inr (ap (λ m. Lookup ∷ m) e)
 
 module _ {H : Type 0} (model : HostModel H) where
-  -- a create behind the look for its name
+  -- a create after the look for its name
   pub creates : (name : List ℕ) (a b c : H) (result : Result Reply NoMemory) → IsUsed model (Lookup ∷ []) (record { old = a; new = b })
       → Uses model (record { old = b; new = c }) (CreatesOnce result)
       → Uses model (record { old = a; new = c }) (PassedBy (XCreate name) result)
@@ -61,7 +61,7 @@ module _ {H : Type 0} (model : HostModel H) where
     used = used_then model (Lookup ∷ []) then.made a b c looked then.used;
   }
 
-  -- a rename behind the look for its names
+  -- a rename after the look for its names
   pub renames : (from to : List ℕ) (a b c d : H) (result : Result Reply NoMemory) → IsUsed model (Lookup ∷ []) (record { old = a; new = b })
       → IsUsed model (Lookup ∷ []) (record { old = b; new = c }) → Uses model (record { old = c; new = d }) (RenamesOnce result)
       → Uses model (record { old = a; new = d }) (PassedBy (XRename from to) result)
@@ -87,7 +87,7 @@ module _ {H : Type 0} (model : HostModel H) where
       let all = moves_none model Append done 0 a b c so_far last in
       record { made = all.made; named = (1 + all.named.0, omega (arith, all.named.1.most, short), all.named.2); used = all.used }
 
-  -- an append behind the look for the length, that wants memory
+  -- an append after the look for the length, that runs out of memory
   pub append_starves : (h n done : ℕ) (bytes : List ℕ) (a b c : H) → n ≡ length bytes → IsUsed model (Len ∷ []) (record { old = a; new = b })
       → Uses model (record { old = b; new = c }) (AppendsUntil n done (Err host_err.NoMemory))
       → Uses model (record { old = a; new = c }) (StopsFor (XWriteSeq h bytes))
@@ -97,7 +97,7 @@ module _ {H : Type 0} (model : HostModel H) where
     used = used_then model (Len ∷ []) then.made a b c looked then.used;
   }
 
-  -- an append behind the look for the length
+  -- an append after the look for the length
   pub appends_all : (h done : ℕ) (bytes : List ℕ) (a b c : H) → 0 < length bytes → done ≡ length bytes → IsUsed model (Len ∷ []) (record { old = a; new = b })
       → Uses model (record { old = b; new = c }) (MovesBy Append done 0)
       → Uses model (record { old = a; new = c }) (CallsFor (XWriteSeq h bytes) reply.Done)
@@ -124,7 +124,7 @@ module _ {H : Type 0} (model : HostModel H) where
             (subst (λ made. IsUsed model made (record { old = b; new = c })) is then.used);
       }
 
-  -- bytes are read behind the look for the length
+  -- bytes are read after the look for the length
   looked_used : (count : ℕ) (a b c : H) → IsUsed model (Len ∷ []) (record { old = a; new = b })
       → IsUsed model (replicate count ReadAt) (record { old = b; new = c }) → IsUsed model (overwrites count 0) (record { old = a; new = c })
   looked_used count a b c looked read =
@@ -175,7 +175,7 @@ module _ {H : Type 0} (model : HostModel H) where
       subst (λ k. Uses model (record { old = a; new = b }) (LooksThere k)) same
       (subst (λ r. Uses model (record { old = a; new = b }) (LooksFor size r)) found looked)
 
-  -- bytes are written behind those reads
+  -- bytes are written after those reads
   overwrote_used : (reads writes : ℕ) (a b c : H) → IsUsed model (overwrites reads 0) (record { old = a; new = b })
       → IsUsed model (replicate writes WriteAt) (record { old = b; new = c }) → IsUsed model (overwrites reads writes) (record { old = a; new = c })
   overwrote_used reads writes a b c read wrote =

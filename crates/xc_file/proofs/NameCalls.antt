@@ -22,8 +22,8 @@ use Rattle.xc_world.specs.Checks.{has_made_all}
 use Rattle.xc_host.specs.Contents.{Contents, with_contents, renamed_file}
 use Rattle.xc_world.specs.After.{bytes_in}
 use Rattle.xc_world.specs.Trail.{create_record, rename_record}
-use Rattle.xc_file.specs.Calls.{Acts, IsMePassed}
-use Rattle.xc_file.proofs.FileCalls.{moment}
+use Rattle.xc_file.specs.Calls.{ActsAsPlain, IsMePassed}
+use Rattle.xc_file.proofs.FileCalls.{call_view_at}
 use Rattle.xc_file.specs.Naming.{Renames, Creates, IsMadeAt, with_made}
 
 -- ---- a rename
@@ -44,7 +44,7 @@ renamed_exists w me from to (Some num) (Some other) some there = refl
 
 -- a rename is the plain machine's
 pub rename_acts : (was is : Contents) (number : ℕ) (me : Private) (from to : List ℕ) (r : Reply) → Renames was is from to r
-    → Acts (XRename from to) (moment was number me) (moment is number me) r
+    → ActsAsPlain (XRename from to) (call_view_at was number me) (call_view_at is number me) r
 rename_acts was is number me from to reply.Done (same, named, absent) =
     record {
       step = λ w. ap (λ p. step_renamed (with_contents w was) me from to (map.get was.names from, p)) absent
@@ -64,7 +64,7 @@ rename_acts was is number me from to reply.Exists (same, named, there) =
       fits = λ w. refl;
     }
 rename_acts was is number me from to (reply.Fault n) (same, none) =
-    subst (λ m. Acts (XRename from to) (moment was number me) (moment is number me) (reply.Fault m)) (sym none)
+    subst (λ m. ActsAsPlain (XRename from to) (call_view_at was number me) (call_view_at is number me) (reply.Fault m)) (sym none)
     (record {
       step = λ w. ap (λ c. step_to (with_contents w c) me (reply.Fault 0)) (sym same);
       fits = λ w. refl;
@@ -107,11 +107,11 @@ created_exists w me number name (Some num) vacant there = refl
 -- a create is the plain machine's
 pub create_acts : (was is : Contents) (number : ℕ) (me : Private) (name : List ℕ) (h : ℕ) (r : Reply)
     → me.made < 16 → lowest_vacant me.places ≡ Some h → IsMadeAt h r → Creates was is name (next_num me number) r
-    → Acts (XCreate name) (moment was number me) (moment is number (with_made me h (next_num me number) r)) r
+    → ActsAsPlain (XCreate name) (call_view_at was number me) (call_view_at is number (with_made me h (next_num me number) r)) r
 create_acts was is number me name h (reply.Made k) few vacant at (same, absent) =
     let next = with_made me h (next_num me number) (reply.Made h) in
     let free = much_none (has_made_all me) (lowest_vacant me.places) h (lt-leb 16 me.made few) vacant in
-    subst (λ j. Acts (XCreate name) (moment was number me) (moment is number next) (reply.Made j)) (sym at)
+    subst (λ j. ActsAsPlain (XCreate name) (call_view_at was number me) (call_view_at is number next) (reply.Made j)) (sym at)
     (record {
       step = λ w. passes (with_contents w was) me number name answer.Fine free
           ∙ ap (λ o. step_created (with_contents w was) me number name (o, lowest_vacant me.places)) absent
@@ -129,7 +129,7 @@ create_acts was is number me name h reply.Exists few vacant at (same, named) =
     }
 create_acts was is number me name h (reply.Fault n) few vacant at (same, none) =
     let free = much_none (has_made_all me) (lowest_vacant me.places) h (lt-leb 16 me.made few) vacant in
-    subst (λ m. Acts (XCreate name) (moment was number me) (moment is number me) (reply.Fault m)) (sym none)
+    subst (λ m. ActsAsPlain (XCreate name) (call_view_at was number me) (call_view_at is number me) (reply.Fault m)) (sym none)
     (record {
       step = λ w. passes (with_contents w was) me number name (answer.Fault 0) free ∙ ap (λ c. step_to (with_contents w c) me (reply.Fault 0)) (sym same);
       fits = λ w. ap (λ b. not b && true) (or-false (much (has_made_all me) (lowest_vacant me.places)) ∙ free);
@@ -140,9 +140,10 @@ create_acts was is number me name h _ few vacant at never = absurd never
 pub created_acts : (was is : Contents) (number : ℕ) (me next : Private) (name : List ℕ) (h : ℕ) (result : Result Reply NoMemory)
     → me.made < 16 → lowest_vacant me.places ≡ Some h → IfOk result (IsMadeAt h)
     → IfOk result (λ r. next ≡ with_made me h (next_num me number) r) → IfOk result (Creates was is name (next_num me number))
-    → IfOk result (Acts (XCreate name) (moment was number me) (moment is number next))
+    → IfOk result (ActsAsPlain (XCreate name) (call_view_at was number me) (call_view_at is number next))
 created_acts was is number me next name h (Ok r) few vacant at same told =
-    subst (λ m. Acts (XCreate name) (moment was number me) (moment is number m) r) (sym same) (create_acts was is number me name h r few vacant at told)
+    subst (λ m. ActsAsPlain (XCreate name) (call_view_at was number me) (call_view_at is number m) r) (sym same)
+    (create_acts was is number me name h r few vacant at told)
 created_acts was is number me next name h (Err e) few vacant at same told = tt
 
 -- a create leaves one record at most

@@ -7,7 +7,7 @@ use Rattle.xc_host.specs.Contents.{Contents, file_in}
 use Rattle.xc_host.specs.Fronts.{IsFront}
 use Rattle.xc_file.specs.Reading.{AppendsFront}
 
--- a front of what is behind a front makes a longer one
+-- a front of what is after a front makes a longer one
 pub front_more : (file : List ℕ) (at len n : ℕ) (so_far piece : List ℕ) → so_far ≡ take len (drop at file) → IsFront file (at + len) n piece
     → so_far ++ piece ≡ take (len + length piece) (drop at file)
 front_more file at len n so_far piece e f =

@@ -5,7 +5,7 @@ use Rattle.xc_data.specs.declared.object.Num.{Num}
 use Rattle.xc_host.specs.Contents.{Contents, file_in, has_file, wrote, wrote_front}
 use Rattle.xc_host.proofs.Writes.{front_grows, keeps_length}
 
--- a write behind a front that was written makes a longer front
+-- a write after a front that was written makes a longer front
 pub write_more : (was c next : Contents) (file : Num) (at done more : ℕ) (bytes : List ℕ) → done + more ≤ length bytes → 0 < more
     → at + length bytes ≤ length (file_in was file) → c ≡ wrote_front was file at (take done bytes)
     → next ≡ wrote c file (at + done) (take more (take (length bytes - done) (drop done bytes)))
@@ -16,7 +16,7 @@ write_more was c next file at done more bytes within some inside told did =
     ∙ ap (λ xs. wrote (wrote_front was file at (take done bytes)) file (at + done) (take more xs)) (take_rest bytes done)
     ∙ front_grows was file at done more bytes some within inside
 
--- the file is there behind it, at its length
+-- the file is there after it, at its length
 pub write_keeps : (c next : Contents) (file : Num) (at done more : ℕ) (bytes : List ℕ) → done + more ≤ length bytes → has_file c file ≡ true
     → at + length bytes ≤ length (file_in c file)
     → next ≡ wrote c file (at + done) (take more (take (length bytes - done) (drop done bytes)))

@@ -52,7 +52,7 @@ pub record IsAppended {H : Type 0} (model : HostModel H) (file : Num) (bytes : L
       → model.contents step.new ≡ appended_front (model.contents step.old) file (take appended.done bytes)
   pub cause : CountsFault (is_fault appended.end) (model.fault_count step.old) (model.fault_count step.new)
 
--- an append that wanted memory behind a front, which a record tells of
+-- an append that wanted memory after a front, which a record tells of
 pub record StopsShort {H : Type 0} (model : HostModel H) (file : Num) (bytes : List ℕ) (old new : AtHost H) : Type 0 where
   pub from : ℕ
   pub done : ℕ

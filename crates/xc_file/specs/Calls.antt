@@ -36,14 +36,14 @@ pub record CallState (H : Type 0) : Type 0 where
   pub undo : Records
 
 -- the same over a host that tells, but for the records: what the plain machine knows of it
-pub record Moment : Type 0 where
+pub record CallView : Type 0 where
   pub contents : Contents
   pub number : ℕ
   pub me : Private
 
 -- what a host that tells shows of a transaction at it
-abbrev pub moment_of : {H : Type 0} → HostModel H → CallState H → Moment
-moment_of model state = record { contents = model.contents state.host; number = state.number; me = state.me }
+abbrev pub call_view : {H : Type 0} → HostModel H → CallState H → CallView
+call_view model state = record { contents = model.contents state.host; number = state.number; me = state.me }
 
 -- an open file is there, within its limit
 abbrev pub IsOpenIn : Contents → Place → Type 0
@@ -56,14 +56,14 @@ IsNewIn c me number = has_file c (next_num me number) ≡ false
 
 -- ---- what a call does
 -- in every world with the host's contents the plain machine gives this reply, with the answer that the
--- reply records, the next private state, and the host's contents behind the call
-pub record Acts (call : Call) (was is : Moment) (reply : Reply) : Type 0 where
+-- reply records, the next private state, and the host's contents after the call
+pub record ActsAsPlain (call : Call) (was is : CallView) (reply : Reply) : Type 0 where
   pub step : (w : World) → act (with_contents w was.contents) was.me was.number call (answer_of reply)
       ≡ step_to (with_contents w is.contents) is.me reply
   pub fits : (w : World) → IsTrue (fits (with_contents w was.contents) was.me was.number call (answer_of reply))
 
 -- these are the plain machine's records of the call
-abbrev pub AreRecorded : Call → Moment → List Undo → Reply → Type 0
+abbrev pub AreRecorded : Call → CallView → List Undo → Reply → Type 0
 AreRecorded call was made reply = (w : World) → made ≡ recorded (with_contents w was.contents) was.me was.number call reply
 
 -- a call that reaches no host: in every world the plain machine's step, which leaves the world and no record;
@@ -78,19 +78,19 @@ pub record StepsAlone (call : Call) (me next : Private) (reply : Reply) : Type 0
   -- it is none of those that call the host
   pub uncalled : CallsOf (refusal_of call me) call reply []
 
--- a reply is a fault; for want of memory there is no reply
+-- a reply is a fault; for lack of memory there is no reply
 abbrev pub replies_fault : Result Reply NoMemory → Bool
 replies_fault (Ok reply) = is_fault_reply reply
 replies_fault (Err e) = false
 
--- calls that have all their memory before the host does anything; an append may want it behind a front
+-- calls that have all their memory before the host does anything; an append may want it after a front
 abbrev pub takes_memory_first : Call → Bool
 takes_memory_first (call.XWriteSeq h bytes) = false
 -- every other call has to, also one yet to come
 takes_memory_first _ = true
 
--- a call did its part at the host, as a record tells, before memory was wanting for the rest
-pub record DidPart (call : Call) (was : Moment) (is : Contents) (made : List Undo) : Type 0 where
+-- a call did its part at the host, as a record tells, before memory ran out for the rest
+pub record DidPart (call : Call) (was : CallView) (is : Contents) (made : List Undo) : Type 0 where
   pub answer : Answer
   pub fits : (w : World) → IsTrue (fits (with_contents w was.contents) was.me was.number call answer)
   pub world : (w : World) → (act (with_contents w was.contents) was.me was.number call answer).world ≡ with_contents w is
@@ -98,14 +98,14 @@ pub record DidPart (call : Call) (was : Moment) (is : Contents) (made : List Und
       ≡ recorded (with_contents w was.contents) was.me was.number call
       (act (with_contents w was.contents) was.me was.number call answer).reply
 
--- memory is wanting: the private state is as before; nothing is changed, or the call did its part
+-- memory runs out: the private state is as before; nothing is changed, or the call did its part
 pub record IsStarved {H : Type 0} (model : HostModel H) (call : Call) (old new : CallState H) (made : List Undo) : Type 0 where
   pub me : new.me ≡ old.me
   pub effect : IsTrue model.tells → ((made ≡ []) × (model.contents new.host ≡ model.contents old.host))
-      ⊎ DidPart call (moment_of model old) (model.contents new.host) made
+      ⊎ DidPart call (call_view model old) (model.contents new.host) made
   pub none : takes_memory_first call ≡ true → made ≡ []
 
--- the private state behind a call that no check refused
+-- the private state after a call that no check refused
 pub record IsMePassed (tx : ℕ) (call : Call) (was is : Private) (reply : Reply) : Type 0 where
   pub places : ArePlaces tx call was reply is.places
   pub made : is.made ≡ made_after call reply was.made
@@ -120,7 +120,7 @@ abbrev pub PassedBy : Call → Result Reply NoMemory → List Kind → Type 0
 PassedBy call (Ok reply) made = CallsFor call reply made
 PassedBy call (Err e) made = StopsFor call made
 
--- which calls of the host are made by the end of a call: those of its reply, or where memory was wanting the first of them
+-- which calls of the host are made by the end of a call: those of its reply, or where memory ran out the first of them
 abbrev pub MadeBy : Call → Private → Result Reply NoMemory → List Kind → Type 0
 MadeBy call me (Ok reply) made = CallsOf (refusal_of call me) call reply made
 MadeBy call me (Err e) made = StopsFor call made
@@ -135,14 +135,14 @@ pub record IsFileCall {H : Type 0} (model : HostModel H) (call : Call) (old new 
   pub after : IfOk result (λ reply. IsMeAfter old.number call reply old.me new.me)
   -- it called the host so
   pub uses : Uses model (record { old = old.host; new = new.host }) (MadeBy call old.me result)
-  -- the older records stay, and one comes behind them exactly where the plain machine leaves one
+  -- the older records stay, and one comes after them exactly where the plain machine leaves one
   pub made : List Undo
   pub one : length made ≤ 1
   pub count : (w : World) → IfOk result (λ reply. length made ≡ length (recorded w old.me old.number call reply))
   pub undo : new.undo ≡ record old.undo { pending = old.undo.pending ++ made }
   -- where the host tells, the step and the records are the plain machine's
-  pub acts : IsTrue model.tells → IfOk result (Acts call (moment_of model old) (moment_of model new))
-  pub records : IsTrue model.tells → IfOk result (AreRecorded call (moment_of model old) made)
+  pub acts : IsTrue model.tells → IfOk result (ActsAsPlain call (call_view model old) (call_view model new))
+  pub records : IsTrue model.tells → IfOk result (AreRecorded call (call_view model old) made)
   -- the host's count rose exactly where the reply is a fault
   pub cause : CountsFault (replies_fault result) (model.fault_count old.host) (model.fault_count new.host)
   pub memory : OnErr result (IsStarved model call old new made)

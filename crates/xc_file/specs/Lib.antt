@@ -5,4 +5,4 @@ pub mod Passing
 pub mod Naming
 pub mod Appending
 pub mod Checks
-pub mod Kept
+pub mod Deferred

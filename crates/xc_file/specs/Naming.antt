@@ -62,17 +62,17 @@ with_made me h num (Made k) = making (with_place me h (File num 0))
 -- with any other reply nothing was made
 with_made me h num _ = me
 
--- the one call that makes a file, behind a look for its name; where memory was wanting, it may not have come to it
+-- the one call that makes a file, after a look for its name; where memory ran out, it may not have come to it
 abbrev pub CreatesOnce : Result Reply NoMemory → List Kind → Type 0
 CreatesOnce (Ok reply) made = (made ≡ kind.Create ∷ []) × CreatesFor reply (kind.Lookup ∷ kind.Create ∷ [])
 CreatesOnce (Err e) made = (made ≡ []) ⊎ (made ≡ kind.Create ∷ [])
 
--- the one call that gives another name, behind two looks; it takes no memory
+-- the one call that gives another name, after two looks; it takes no memory
 abbrev pub RenamesOnce : Result Reply NoMemory → List Kind → Type 0
 RenamesOnce (Ok reply) made = (made ≡ kind.Rename ∷ []) × RenamesFor reply (kind.Lookup ∷ kind.Lookup ∷ kind.Rename ∷ [])
 RenamesOnce (Err e) made = made ≡ []
 
--- a create whose new handle is this one: what it replies, does and records; where memory was wanting, all is as before
+-- a create whose new handle is this one: what it replies, does and records; where memory ran out, all is as before
 pub record IsCreate {H : Type 0} (model : HostModel H) (name : List ℕ) (h : ℕ) (step : Step (CallState H))
     (result : Result Reply NoMemory) : Type 0 where
   pub made : IfOk result (IsMadeAt h)

@@ -1,4 +1,4 @@
--- What a call does that no check refused: from where it stands to where it stands behind it.
+-- What a call does that no check refused: from where it stands to where it stands after it.
 use Rattle.std.specs.Prelude.{◌≡◌, ℕ, ◌++◌, Bool, true, false, List, [], length, IsTrue, Result, IfOk, OnErr}
 use Rattle.xc_data.specs.Counts.{CountsFault}
 use Rattle.xc_data.specs.Step.{Step}
@@ -16,7 +16,7 @@ use Rattle.xc_host.specs.Uses.{Uses}
 use Rattle.xc_compensate.specs.Records.{AtHost}
 use Rattle.xc_file.specs.declared.checks.OpenFile.{OpenFile}
 use Rattle.xc_file.specs.Appending.{StopsShort}
-use Rattle.xc_file.specs.Calls.{CallState, moment_of, Acts, IsMePassed, PassedBy, replies_fault}
+use Rattle.xc_file.specs.Calls.{CallState, call_view, ActsAsPlain, IsMePassed, PassedBy, replies_fault}
 use Rattle.xc_file.specs.Writing.{AddsFor}
 
 -- ---- at the host
@@ -36,19 +36,19 @@ module _ {H : Type 0} (model : HostModel H) (step : Step (AtHost H)) where
     pub undo : step.new.undo ≡ step.old.undo
     pub contents : IsTrue model.tells → model.contents step.new.host ≡ model.contents step.old.host
 
-  -- the older records stay, and one comes behind them exactly where some bytes are done; where the host tells, these do
+  -- the older records stay, and one comes after them exactly where some bytes are done; where the host tells, these do
   pub record Leaves (done : ℕ) (made : List Undo) : Type 0 where
     pub adds : AddsFor done step.old.undo step.new.undo
     pub records : IsTrue model.tells → step.new.undo ≡ record { pending = step.old.undo.pending ++ made; ended = [] }
 
 module _ {H : Type 0} (model : HostModel H) (file : OpenFile) (bytes : List ℕ) (step : Step (AtHost H)) where
-  -- what an overwrite at an open file leaves: the record of what it did; where memory was wanting, all is as before
+  -- what an overwrite at an open file leaves: the record of what it did; where memory ran out, all is as before
   pub record LeavesOverwrite (result : Result Reply NoMemory) : Type 0 where
     pub records : IfOk result (λ reply. Leaves model step (done_of (length bytes) reply)
         (overwrite_record (world_of (model.contents step.old.host)) bytes (done_of (length bytes) reply) (File file.num file.at)))
     pub err : OnErr result (IsAsBefore model step)
 
-  -- what an append leaves: the record of what it did; where memory was wanting, it may have done a front
+  -- what an append leaves: the record of what it did; where memory ran out, it may have done a front
   pub record LeavesAppend (result : Result Reply NoMemory) : Type 0 where
     pub records : IfOk result (λ reply. Leaves model step (done_of (length bytes) reply)
         (append_record (world_of (model.contents step.old.host)) bytes (done_of (length bytes) reply) (File file.num file.at)))
@@ -63,12 +63,12 @@ at_host step = record {
 }
 
 -- a call that no check refused: its reply is none of a check's, the host was called for it, and the private state is that of
--- the reply, or as before where memory was wanting. Where the host tells, it is the plain machine's step. A fault is counted
+-- the reply, or as before where memory ran out. Where the host tells, it is the plain machine's step. A fault is counted
 pub record Passes {H : Type 0} (model : HostModel H) (call : Call) (step : Step (CallState H)) (result : Result Reply NoMemory)
     : Type 0 where
   pub reply : IfOk result (λ reply. is_check_reply call reply ≡ false)
   pub uses : Uses model (record { old = step.old.host; new = step.new.host }) (PassedBy call result)
   pub after : IfOk result (IsMePassed step.old.number call step.old.me step.new.me)
-  pub acts : IsTrue model.tells → IfOk result (Acts call (moment_of model step.old) (moment_of model step.new))
+  pub acts : IsTrue model.tells → IfOk result (ActsAsPlain call (call_view model step.old) (call_view model step.new))
   pub err : OnErr result (step.new.me ≡ step.old.me)
   pub cause : CountsFault (replies_fault result) (model.fault_count step.old.host) (model.fault_count step.new.host)

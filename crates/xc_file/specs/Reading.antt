@@ -10,7 +10,7 @@ use Rattle.xc_host.specs.Uses.{MayMove}
 abbrev pub ReadsBy : ℕ → ℕ → List Kind → Type 0
 ReadsBy n len made = (count : ℕ) × MayMove n count × (count ≤ len + 1) × (made ≡ replicate count kind.ReadAt)
 
--- behind the bytes so far comes a front of the n bytes from `at`, of `more` bytes
+-- after the bytes so far comes a front of the n bytes from `at`, of `more` bytes
 pub record AppendsFront (file : List ℕ) (at n more : ℕ) (bytes : Step (List ℕ)) : Type 0 where
   pub piece : List ℕ
   pub size : length piece ≡ more

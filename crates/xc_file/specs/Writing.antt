@@ -28,11 +28,11 @@ Overwrote c file at bytes (Fault n) = (c.new ≡ wrote_front c.old file at (take
 -- it has no other reply
 Overwrote c file at bytes _ = ⊥
 
--- the position of an open file is behind what was done
+-- the position of an open file is after what was done
 abbrev pub moved_on : Private → ℕ → Num → ℕ → ℕ → Private
 moved_on me h file at done = if done == 0 then me else with_place me h (File file (at + done))
 
--- the older records stay, and one comes behind them exactly where some bytes are done
+-- the older records stay, and one comes after them exactly where some bytes are done
 pub record AddsFor (done : ℕ) (old new : Records) : Type 0 where
   pub made : List Undo
   pub count : length made ≡ (if done == 0 then 0 else 1)

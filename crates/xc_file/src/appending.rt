@@ -1,4 +1,4 @@
-ghost use Rattle.std.specs.Prelude.{◌≡◌, ◌<◌, ◌≤◌, ◌+◌, ℕ, ◌++◌, ◌∷◌, [], ◌^◌, true, false};
+ghost use Rattle.std.specs.Prelude.{◌≡◌, ◌<◌, ◌≤◌, ◌+◌, ℕ, ◌++◌, ◌∷◌, [], ◌^◌, false};
 ghost use Rattle.std.specs.Prelude.{length, IfOk, IfSome, MatchOption, OnOk, OnErr, IsTrue, is_err};
 ghost use Rattle.xc_data.specs.Calls.{is_late};
 ghost use Rattle.xc_data.specs.Counts.{CountsFault};
@@ -118,7 +118,7 @@ fn append_recorded<H: Host>(
     appended
 }
 
-// Appends bytes, and moves the position behind what was done.
+// Appends bytes, and moves the position after what was done.
 fn append<H: Host>(
     host: &mut H,
     me: &mut Private,
@@ -199,7 +199,7 @@ fn append_next<H: Host>(
 }
 
 /// Appends bytes to an open file, whose position is then its end. The record is pushed before the
-/// host's append, and covers what was done; memory may be wanting behind a front.
+/// host's append, and covers what was done; memory may be wanting after a front.
 pub fn x_write_seq<H: Host>(
     host: &mut H,
     me: &mut Private,

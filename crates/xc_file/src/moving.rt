@@ -4,7 +4,7 @@ ghost use Rattle.xc_file.specs.Writing.{moved_on};
 use crate::checks::OpenFile;
 use xc_data::{Place, Private};
 
-/// The position of an open file is behind what was done.
+/// The position of an open file is after what was done.
 pub(crate) fn move_on(me: &mut Private, file: OpenFile, done: u32)
     requires open { file.h < 256 }
     requires room { file.at + done < 2 ^ 32 }

@@ -11,7 +11,7 @@ use Rattle.xc_data.specs.declared.private.Place.{Place}
 use Rattle.xc_data.specs.declared.private.Private.{Private}
 use Rattle.xc_data.specs.Private.{place_of}
 use Rattle.xc_world.specs.World.{World, beginning}
-use Rattle.xc_world.specs.Run.{Ran}
+use Rattle.xc_world.specs.Run.{BodyResult}
 use Rattle.xc_world.specs.Ends.{Ending, IsLegalEnd, blocker, remains, with_remains}
 use Rattle.xc_world.specs.Effects.{AreMadeIn, SparesNew, undone_to, whole}
 use Rattle.xc_world.proofs.EffectsTrail.{body-made}
@@ -19,7 +19,7 @@ use Rattle.xc_world.proofs.EffectsUndone.{record-undone}
 use Rattle.xc_world.proofs.EffectsRemains.{remains-fit, remains-sound}
 use Rattle.xc_flight.specs.Active.{Tx, Undoing}
 use Rattle.xc_flight.specs.Flight.{asked, effects}
-use Rattle.xc_flight.specs.Standing.{Standing, active_at, IsActive, InFlight, AreSound, IsSoundFor, IsIdleSound, Flies, turned, entered}
+use Rattle.xc_flight.specs.State.{FlightState, active_at, IsActive, InFlight, AreSound, IsSoundFor, IsIdleSound, Flies, turned, entered}
 use Rattle.xc_flight.specs.Turns.{with_undone, after_abort}
 use Rattle.xc_flight.proofs.Frames.{ran_whole, all_back}
 use Rattle.xc_flight.proofs.Moving.{get_set_same, get_set_other, is_inside}
@@ -27,15 +27,15 @@ use Rattle.xc_flight.proofs.Taking.{Coined, trail_coined}
 use Rattle.xc_flight.proofs.Undoing.{undoes}
 
 -- its records were made one after another
-pub records_made : (s : Standing) (job : ℕ) (t : Tx) → InFlight s → IsActive s job t → IsSoundFor s.state t
+pub records_made : (s : FlightState) (job : ℕ) (t : Tx) → InFlight s → IsActive s job t → IsSoundFor s.state t
     → AreMadeIn s.state (t.pending ++ map (λ r. r.0) t.ended)
 records_made s job t h active sound =
     let i = (h.flights job t active).inside in
     subst (AreMadeIn s.state) i.trail
-    (subst (λ (r : Ran). AreMadeIn s.state r.trail) (ran_whole s.state t) (body-made s.state t.began t.number (asked t) sound i.fits))
+    (subst (λ (r : BodyResult). AreMadeIn s.state r.trail) (ran_whole s.state t) (body-made s.state t.began t.number (asked t) sound i.fits))
 
 -- the newest of them is undone, however its compensation ends
-pub newest_undone : (s : Standing) (job : ℕ) (t : Tx) (older : List Undo) (u : Undo) (end : UndoEnd) → Flies s job t Undoing → IsSoundFor s.state t
+pub newest_undone : (s : FlightState) (job : ℕ) (t : Tx) (older : List Undo) (u : Undo) (end : UndoEnd) → Flies s job t Undoing → IsSoundFor s.state t
     → AreMadeIn s.state (t.pending ++ map (λ r. r.0) t.ended) → t.pending ≡ older ++ u ∷ []
     → (tries : ℕ) → IsLegalEnd tries u end (blocker (length older + 1 + 1) u t.ended)
     → InFlight (turned s job (Some (with_undone t older u end)) (undone_to s.now u end))
@@ -57,7 +57,7 @@ coined_spares me m n (undo.Bytes file at before after k) ne coined = tt
 coined_spares me m n (undo.Tail file from after k) ne coined = tt
 coined_spares me m n (undo.Moved from to) ne coined = tt
 
-module _ (s : Standing) (job : ℕ) (t : Tx) (f : Flies s job t Undoing) where
+module _ (s : FlightState) (job : ℕ) (t : Tx) (f : Flies s job t Undoing) where
   ended_spare : (me : Private) (m : ℕ) → t.number ≢ m → All (SparesNew me m) (map (λ r. r.0) t.ended)
   ended_spare me m ne =
       let ended = map (λ (r : Ending). r.0) t.ended in
@@ -85,7 +85,7 @@ module _ (s : Standing) (job : ℕ) (t : Tx) (f : Flies s job t Undoing) where
       remains-sound s.state (beginning places) m t.ended made (ended_spare (beginning places) m two) (idle m le)
 
 -- its own job may begin its next transaction, with the handles that it had
-pub own_after_abort : (s : Standing) (job : ℕ) (t : Tx) (now : World) → IsSoundFor s.state t → AreMadeIn s.state (map (λ r. r.0) t.ended)
+pub own_after_abort : (s : FlightState) (job : ℕ) (t : Tx) (now : World) → IsSoundFor s.state t → AreMadeIn s.state (map (λ r. r.0) t.ended)
     → InFlight (entered s job (after_abort s.state t) now) → IsIdleSound (after_abort s.state t) s.next t.began.places
 own_after_abort s job t now sound made after m le =
     let stays = remains-fit s.state t.ended made sound.world in

@@ -3,11 +3,11 @@ use Rattle.std.proofs.Common.{◌≡◌, ℕ, ◌+◌, ◌&&◌, Bool, true, fal
 use Rattle.std.specs.Prelude.{IsTrue}
 use Rattle.std.proofs.lemmas.Bool.{and_parts}
 use Rattle.xc_data.specs.declared.call.Call.{Call}
-use Rattle.xc_data.specs.declared.call.Asked.{Asked}
+use Rattle.xc_data.specs.declared.call.CallWithAnswer.{CallWithAnswer}
 use Rattle.xc_data.specs.declared.call.Reply.{Reply}
 use Rattle.xc_world.specs.Act.{act}
 use Rattle.xc_world.specs.Fits.{fits, answer_of}
-use Rattle.xc_world.specs.Run.{Ran, step, goes_on, body_fits, asked_of}
+use Rattle.xc_world.specs.Run.{BodyResult, step, goes_on, body_fits, asked_of}
 
 -- two tests that hold
 pub both_true : (a b : Bool) → a ≡ true → b ≡ true → (a && b) ≡ true
@@ -15,7 +15,7 @@ both_true true b p q = q
 both_true false b p q = p
 
 -- its answer fits where the body ended
-pub fits_more : (tx : ℕ) (r : Ran) (asked : List Asked) (c : Asked) → IsTrue (body_fits r.world r.me tx asked)
+pub fits_more : (tx : ℕ) (r : BodyResult) (asked : List CallWithAnswer) (c : CallWithAnswer) → IsTrue (body_fits r.world r.me tx asked)
     → IsTrue (fits (goes_on tx r asked).world (goes_on tx r asked).me tx c.call c.answer) → IsTrue (body_fits r.world r.me tx (asked ++ c ∷ []))
 fits_more tx r [] c before fit = both_true (fits r.world r.me tx c.call c.answer) true fit refl
 fits_more tx r (d ∷ asked) c before fit =
@@ -37,7 +37,7 @@ push_count [] x = refl
 push_count (y ∷ ys) x = ap suc (push_count ys x)
 
 -- a body gives a reply for each call
-pub replies_count : (tx : ℕ) (r : Ran) (asked : List Asked) → length (goes_on tx r asked).replies ≡ length r.replies + length asked
+pub replies_count : (tx : ℕ) (r : BodyResult) (asked : List CallWithAnswer) → length (goes_on tx r asked).replies ≡ length r.replies + length asked
 replies_count tx r [] = omega arith
 replies_count tx r (c ∷ asked) = (let more = replies_count tx (step tx r c) asked in let one = push_count r.replies
     (act r.world r.me tx c.call c.answer).reply in omega (arith, more, one))

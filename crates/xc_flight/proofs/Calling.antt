@@ -8,14 +8,14 @@ use native.Mathlib.Decide.{ℕ_discrete}
 use Rattle.xc_data.specs.declared.object.Object.{Object}
 use Rattle.xc_data.specs.declared.object.Object.TheVariants as object
 use Rattle.xc_data.specs.declared.claim.Claim.{Claim}
-use Rattle.xc_data.specs.declared.call.Asked.{Asked}
+use Rattle.xc_data.specs.declared.call.CallWithAnswer.{CallWithAnswer}
 use Rattle.xc_data.specs.Claims.{objects, owned}
 use Rattle.xc_txmem.specs.Overlay.{overlaid}
 use Rattle.xc_world.specs.World.{World}
 use Rattle.xc_world.specs.Touch.{touch, made_by}
 use Rattle.xc_world.specs.Late.{kept_call}
 use Rattle.xc_world.specs.Fits.{fits}
-use Rattle.xc_world.specs.Run.{Ran, begins, step, goes_on, body, body_fits, asked_of}
+use Rattle.xc_world.specs.Run.{BodyResult, begins, step, goes_on, body, body_fits, asked_of}
 use Rattle.xc_world.specs.Ends.{Ending}
 use Rattle.xc_world.specs.Modes.{claims_of}
 use Rattle.xc_world.specs.Laws.{AgreeAt}
@@ -26,7 +26,7 @@ use Rattle.xc_world.proofs.Bodies.{Alike, Within, step_alike, call_agreed, keeps
 use Rattle.xc_world.proofs.Joined.{body_last}
 use Rattle.xc_flight.specs.Active.{Tx, Phase, Running, Has, Own, Covers}
 use Rattle.xc_flight.specs.Flight.{noted, ran, asked, left, returned, IsRunning, IsPhase, Inside, Flight}
-use Rattle.xc_flight.specs.Standing.{Standing, IsActive, InFlight, OwnAt, turned}
+use Rattle.xc_flight.specs.State.{FlightState, IsActive, InFlight, OwnAt, turned}
 use Rattle.xc_flight.specs.Turns.{seen, did, leaving, taking, noting, after_call, MayDo, IsNoted}
 use Rattle.xc_flight.proofs.Basics.{own_decide, owns_has, owns_own}
 use Rattle.xc_flight.proofs.Worlds.{overlaid_alike, overlaid_count}
@@ -56,20 +56,20 @@ over_words now w x stores (object.Pair num) same e = e
 over_words now w x stores object.Jobs same e = e
 
 -- ---- what an active transaction has without owning it is as in S
-pub free_of : (s : Standing) (job : ℕ) (t : Tx) → InFlight s → IsActive s job t → (o : Object) → Has t o → (Own t o → ⊥) → AgreeAt s.now s.state o
+pub free_of : (s : FlightState) (job : ℕ) (t : Tx) → InFlight s → IsActive s job t → (o : Object) → Has t o → (Own t o → ⊥) → AgreeAt s.now s.state o
 free_of s job t h active o has lacks =
     h.free o (λ j e. dite (ℕ_discrete j job)
     (λ (q : j ≡ job). lacks (it_owns s job t o active (subst (λ k. OwnAt s k o) q e)))
     (λ (ne : j ≢ job). h.apart j job o ne e (has_it s job t o active has)))
 
 -- until it turns back the station tells what it left at all that it has
-pub now_left : (s : Standing) (job : ℕ) (t : Tx) → InFlight s → IsActive s job t → (p : Phase) → AgreeOn (Own t) s.now (left s.state t p)
+pub now_left : (s : FlightState) (job : ℕ) (t : Tx) → InFlight s → IsActive s job t → (p : Phase) → AgreeOn (Own t) s.now (left s.state t p)
     → AgreeOn (Has t) s.now (left s.state t p)
 now_left s job t h active p owns o has =
     ⊎_elim (λ (e : Own t o). owns o e) (λ (lacks : Own t o → ⊥). agree_on s.now s.state (left s.state t p) o (free_of s job t h active o has lacks)
     ((left_keeps s.state t (h.flights job t active).inside p).others o lacks)) (own_decide t o)
 
-module _ (s : Standing) (job : ℕ) (t : Tx) (h : InFlight s) (active : IsActive s job t) (phase : t.phase ≡ Running) where
+module _ (s : FlightState) (job : ℕ) (t : Tx) (h : InFlight s) (active : IsActive s job t) (phase : t.phase ≡ Running) where
   flight : Flight s.state s.now t
   flight = h.flights job t active
 
@@ -90,7 +90,7 @@ module _ (s : Standing) (job : ℕ) (t : Tx) (h : InFlight s) (active : IsActive
   pub all_noted : ran s.state t ≡ noted s.state t
   all_noted = ap (goes_on t.number (noted s.state t)) is_running.all_noted
 
--- ---- claims one behind another
+-- ---- claims one after another
 pub covers_both : (held a b : List Claim) → Covers held a → Covers held b → Covers held (a ++ b)
 covers_both held a b p q =
     record {
@@ -100,24 +100,25 @@ covers_both held a b p q =
     }
 
 -- ---- a call of a running transaction
-module _ (s : Standing) (job : ℕ) (t : Tx) (c : Asked) (h : InFlight s) (active : IsActive s job t) (phase : t.phase ≡ Running) (k : MayDo s.now t c) where
+module _ (s : FlightState) (job : ℕ) (t : Tx) (c : CallWithAnswer) (h : InFlight s) (active : IsActive s job t) (phase : t.phase ≡ Running)
+    (k : MayDo s.now t c) where
   inside : Inside s.state t
   inside = (h.flights job t active).inside
 
   body_sees : AgreeOn (Has t) (noted s.state t).world (seen s.now t)
-  body_sees = subst (λ (r : Ran). AgreeOn (Has t) r.world (seen s.now t)) (all_noted s job t h active phase) (sees s job t h active phase)
+  body_sees = subst (λ (r : BodyResult). AgreeOn (Has t) r.world (seen s.now t)) (all_noted s job t h active phase) (sees s job t h active phase)
 
   body_covers : Covers t.held (noted s.state t).touched
-  body_covers = subst (λ (r : Ran). Covers t.held r.touched) (all_noted s job t h active phase) inside.covers
+  body_covers = subst (λ (r : BodyResult). Covers t.held r.touched) (all_noted s job t h active phase) inside.covers
 
   body_keeps_own : KeepsBut (Own t) s.state (noted s.state t).world
-  body_keeps_own = subst (λ (r : Ran). KeepsBut (Own t) s.state r.world) (all_noted s job t h active phase) (ran_keeps s.state t inside.covers)
+  body_keeps_own = subst (λ (r : BodyResult). KeepsBut (Own t) s.state r.world) (all_noted s job t h active phase) (ran_keeps s.state t inside.covers)
 
   seen_count : length (noted s.state t).world.words ≡ length s.now.words
   seen_count = body_keeps_own.count ∙ sym h.count
 
   -- the body in what it sees
-  abbrev in_sight : Ran
+  abbrev in_sight : BodyResult
   in_sight = record (noted s.state t) { world = seen s.now t; me = t.me }
 
   both_alike : Alike (Has t) t.number ((noted s.state t).world, seen s.now t) (noted s.state t) in_sight
@@ -186,7 +187,7 @@ module _ (s : Standing) (job : ℕ) (t : Tx) (c : Asked) (h : InFlight s) (activ
 
   old_trail : (noted s.state t).trail ≡ t.pending
   old_trail =
-      ap (λ (r : Ran). r.trail) (sym (all_noted s job t h active phase)) ∙ inside.trail
+      ap (λ (r : BodyResult). r.trail) (sym (all_noted s job t h active phase)) ∙ inside.trail
       ∙ ap (λ es. t.pending ++ map (λ (e : Ending). e.0) es) (is_running s job t h active phase).none ∙ append-nil t.pending
 
   -- its records, and then that of the call
@@ -197,7 +198,7 @@ module _ (s : Standing) (job : ℕ) (t : Tx) (c : Asked) (h : InFlight s) (activ
 
   -- what it took, and then what the call took
   pub step_taken : (step t.number (noted s.state t) c).taken ≡ t.taken ++ taking s.now t c
-  step_taken = steps.gave.taken ∙ ap (λ l. l ++ taking s.now t c) (ap (λ (r : Ran). r.taken) (sym (all_noted s job t h active phase)) ∙ inside.taken)
+  step_taken = steps.gave.taken ∙ ap (λ l. l ++ taking s.now t c) (ap (λ (r : BodyResult). r.taken) (sym (all_noted s job t h active phase)) ∙ inside.taken)
 
   -- the body's world after the step is in the station, its stores aside
   pub step_stands : AgreeOn (Has t) (after_call s.now t c) (record (step t.number (noted s.state t) c).world { words = s.state.words })
@@ -207,7 +208,8 @@ module _ (s : Standing) (job : ℕ) (t : Tx) (c : Asked) (h : InFlight s) (activ
       (λ at e. words_now at (subst (Has t) e has))
 
 -- ---- it is noted
-module _ (s : Standing) (job : ℕ) (t : Tx) (c : Asked) (writes : List (ℕ × ℕ)) (h : InFlight s) (active : IsActive s job t) (phase : t.phase ≡ Running)
+module _ (s : FlightState) (job : ℕ) (t : Tx) (c : CallWithAnswer) (writes : List (ℕ × ℕ)) (h : InFlight s) (active : IsActive s job t)
+    (phase : t.phase ≡ Running)
     (k : MayDo s.now t c) (d : IsNoted s.now t c writes) where
   noted_more : noted s.state (noting s.now t c writes) ≡ step t.number (noted s.state t) c
   noted_more =
@@ -232,10 +234,10 @@ module _ (s : Standing) (job : ℕ) (t : Tx) (c : Asked) (writes : List (ℕ × 
 
   words_then : (ran s.state (noting s.now t c writes)).world.words ≡ overlaid s.state.words writes
   words_then =
-      ap (λ (r : Ran). r.world.words) ran_more
+      ap (λ (r : BodyResult). r.world.words) ran_more
       ∙ words_there s.state (step t.number (noted s.state t) c).world t writes
-      (subst (λ (r : Ran). KeepsBut (Own t) s.state r.world) ran_more (ran_keeps s.state (noting s.now t c writes)
-      (subst (λ (r : Ran). Covers t.held r.touched) (sym ran_more) (step_covers s job t c h active phase k))))
+      (subst (λ (r : BodyResult). KeepsBut (Own t) s.state r.world) ran_more (ran_keeps s.state (noting s.now t c writes)
+      (subst (λ (r : BodyResult). Covers t.held r.touched) (sym ran_more) (step_covers s job t c h active phase k))))
       d.stored
       (λ at has. (steps s job t c h active phase k).agree (object.Word at) has ∙ ap (λ ws. slice_get ws at) (sym d.words)
       ∙ overlaid_alike s.now.words s.state.words writes at ((words_now s job t c h active phase k) at has))
@@ -246,14 +248,14 @@ module _ (s : Standing) (job : ℕ) (t : Tx) (c : Asked) (writes : List (ℕ × 
       record {
         new = (inside s job t c h active phase k).new;
         fits = subst (λ l. IsTrue (body_fits s.state t.began t.number l)) (sym asked_now) (fits_then s job t c h active phase k);
-        replies = ap (λ (r : Ran). r.replies) noted_more ∙ (steps s job t c h active phase k).gave.replies ∙ ap (λ l. l ++ (did s.now t c).reply ∷ [])
+        replies = ap (λ (r : BodyResult). r.replies) noted_more ∙ (steps s job t c h active phase k).gave.replies ∙ ap (λ l. l ++ (did s.now t c).reply ∷ [])
             (inside s job t c h active phase k).replies;
-        me = ap (λ (r : Ran). r.me) noted_more ∙ (steps s job t c h active phase k).gave.me;
-        late = ap (λ (r : Ran). r.late) noted_more ∙ (steps s job t c h active phase k).gave.late ∙ ap
+        me = ap (λ (r : BodyResult). r.me) noted_more ∙ (steps s job t c h active phase k).gave.me;
+        late = ap (λ (r : BodyResult). r.late) noted_more ∙ (steps s job t c h active phase k).gave.late ∙ ap
             (λ l. l ++ kept_call c.call t.me (did s.now t c).reply) (inside s job t c h active phase k).late;
-        trail = ap (λ (r : Ran). r.trail) ran_more ∙ (step_trail s job t c h active phase k);
-        taken = ap (λ (r : Ran). r.taken) ran_more ∙ step_taken s job t c h active phase k;
-        covers = subst (λ (r : Ran). Covers t.held r.touched) (sym ran_more) (step_covers s job t c h active phase k);
+        trail = ap (λ (r : BodyResult). r.trail) ran_more ∙ (step_trail s job t c h active phase k);
+        taken = ap (λ (r : BodyResult). r.taken) ran_more ∙ step_taken s job t c h active phase k;
+        covers = subst (λ (r : BodyResult). Covers t.held r.touched) (sym ran_more) (step_covers s job t c h active phase k);
         phase = subst (IsPhase s.state (noting s.now t c writes)) (sym phase)
             (record { none = p.none; all_noted = p.all_noted; no_late_ends = p.no_late_ends; words = words_then; stored = d.stored });
       }
@@ -265,6 +267,6 @@ module _ (s : Standing) (job : ℕ) (t : Tx) (c : Asked) (writes : List (ℕ × 
         inside = noted_inside;
         owns = subst (λ p. AgreeOn (Own t) (returned (after_call s.now t c) (noting s.now t c writes) p)
             (left s.state (noting s.now t c writes) p)) (sym phase)
-            (λ o e. subst (λ (r : Ran). AgreeAt (after_call s.now t c) (record r.world { words = s.state.words }) o) (sym ran_more)
+            (λ o e. subst (λ (r : BodyResult). AgreeAt (after_call s.now t c) (record r.world { words = s.state.words }) o) (sym ran_more)
             ((step_stands s job t c h active phase k) o (owns_has t o e)));
       })

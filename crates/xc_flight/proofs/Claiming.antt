@@ -16,13 +16,14 @@ use Rattle.xc_data.specs.declared.claim.Mode.TheVariants.{Shared, Exclusive}
 use Rattle.xc_data.specs.Claims.{is_object, is_exclusive, exclusive, compatible, objects, owned, holding, holding_one, held_of}
 use Rattle.xc_world.specs.Laws.{AgreeAt}
 use Rattle.xc_world.specs.Own.{IsNumbered, AgreeOn}
-use Rattle.xc_world.proofs.Objects.{same_object, found, agree_on}
+use Rattle.xc_world.proofs.Objects.{found, agree_on}
+use Rattle.xc_data.proofs.Objects.{same_object}
 use Rattle.xc_world.proofs.Calls.{keeps_itself}
 use Rattle.xc_world.proofs.Bodies.{objects_append, owned_append}
 use Rattle.xc_world.proofs.Holding.{has, held_seen, held_owned}
 use Rattle.xc_flight.specs.Active.{Tx, Running, Has, Own, Covers, HoldTheSame, IsBelow}
 use Rattle.xc_flight.specs.Flight.{ran, left, returned, IsPhase}
-use Rattle.xc_flight.specs.Standing.{Standing, active_at, IsActive, HasSome, OwnSome, HasAt, OwnAt, InFlight, turned}
+use Rattle.xc_flight.specs.State.{FlightState, active_at, IsActive, HasSome, OwnSome, HasAt, OwnAt, InFlight, turned}
 use Rattle.xc_flight.specs.Turns.{claiming, GoTogether, IsGranted, AreCompatible}
 use Rattle.xc_flight.proofs.Basics.{own_decide, owns_has}
 use Rattle.xc_flight.proofs.Frames.{left_keeps}
@@ -121,8 +122,16 @@ apart_modes Shared Exclusive e x = cc e
 apart_modes Exclusive Shared e x = cc e
 apart_modes Exclusive Exclusive e x = cc e
 
+-- two claims on one object that go together are in compatible modes
+goes_with : (c d : Claim) → GoTogether c d → d.object ≡ c.object → compatible c.mode d.mode ≡ true
+goes_with c d lacks same = by_test (compatible c.mode d.mode) refl
+  where
+    by_test : (b : Bool) → compatible c.mode d.mode ≡ b → b ≡ true
+    by_test true e = refl
+    by_test false e = absurd (lacks (same, e))
+
 -- ---- a running transaction takes claims that are granted
-module _ (s : Standing) (job : ℕ) (t : Tx) (claims held : List Claim) (h : InFlight s) (active : IsActive s job t) (granted : All (IsGranted s job) claims)
+module _ (s : FlightState) (job : ℕ) (t : Tx) (claims held : List Claim) (h : InFlight s) (active : IsActive s job t) (granted : All (IsGranted s job) claims)
     (same : HoldTheSame held (t.held ++ claims)) where
   still_held : Covers held t.held
   still_held = covers_through held (t.held ++ claims) t.held same.left (front_held t.held claims)
@@ -149,7 +158,7 @@ module _ (s : Standing) (job : ℕ) (t : Tx) (claims held : List Claim) (h : InF
   new_owned : (j : ℕ) (u : Tx) (o : Object) → j ≢ job → IsActive s j u → Contains (owned claims) o → Has u o → ⊥
   new_owned j u o ne other at (inl holds) =
       of_owned (IsGranted s job) claims o ⊥ granted at (λ c g one x.
-      of_object (GoTogether c) u.held o ⊥ (g.together j u ne other) holds (λ d k e. apart_modes c.mode d.mode (k (e ∙ sym one)) (inl x)))
+      of_object (GoTogether c) u.held o ⊥ (g.together j u ne other) holds (λ d k e. apart_modes c.mode d.mode (goes_with c d k (e ∙ sym one)) (inl x)))
   new_owned j u o ne other at (inr numbered) =
       of_owned (IsGranted s job) claims o ⊥ granted at (λ c g one x. g.object.foreign j u ne other (subst (IsNumbered u.number) (sym one) numbered))
 
@@ -157,7 +166,7 @@ module _ (s : Standing) (job : ℕ) (t : Tx) (claims held : List Claim) (h : InF
   new_held : (j : ℕ) (u : Tx) (o : Object) → j ≢ job → IsActive s j u → Contains (objects claims) o → Own u o → ⊥
   new_held j u o ne other at (inl holds) =
       of_object (IsGranted s job) claims o ⊥ granted at (λ c g one.
-      of_owned (GoTogether c) u.held o ⊥ (g.together j u ne other) holds (λ d k e x. apart_modes c.mode d.mode (k (e ∙ sym one)) (inr x)))
+      of_owned (GoTogether c) u.held o ⊥ (g.together j u ne other) holds (λ d k e x. apart_modes c.mode d.mode (goes_with c d k (e ∙ sym one)) (inr x)))
   new_held j u o ne other at (inr numbered) =
       of_object (IsGranted s job) claims o ⊥ granted at (λ c g one. g.object.foreign j u ne other (subst (IsNumbered u.number) (sym one) numbered))
 
@@ -244,7 +253,7 @@ one_number m n object.Jobs a b = absurd a
 pub claims_apart : (t u : Tx) → AreCompatible t u → (o : Object) → Own t o → Has u o → ⊥
 claims_apart t u k o (inl a) (inl b) =
     of_owned (λ c. All (GoTogether c) u.held) t.held o ⊥ k.together a (λ c together one x.
-    of_object (GoTogether c) u.held o ⊥ together b (λ d go e. apart_modes c.mode d.mode (go (e ∙ sym one)) (inl x)))
+    of_object (GoTogether c) u.held o ⊥ together b (λ d go e. apart_modes c.mode d.mode (goes_with c d go (e ∙ sym one)) (inl x)))
 claims_apart t u k o (inl a) (inr b) = k.foreign o (owns_has t o (inl a)) b
 claims_apart t u k o (inr a) (inl b) = k.foreign_too o (inl b) a
 claims_apart t u k o (inr a) (inr b) = k.numbers (one_number t.number u.number o a b)

@@ -11,7 +11,7 @@ use Rattle.xc_data.specs.declared.call.LateAnswer.{LateAnswer}
 use Rattle.xc_world.specs.World.{World}
 use Rattle.xc_world.specs.Late.{late}
 use Rattle.xc_world.specs.Fits.{late_fits, late_answer_of}
-use Rattle.xc_world.specs.Run.{Ran, goes_on as body_goes_on, lates, lates_fit, late_asked_of}
+use Rattle.xc_world.specs.Run.{BodyResult, goes_on as body_goes_on, lates, lates_fit, late_asked_of}
 use Rattle.xc_world.specs.Laws.{AgreeAt, EndsAlike, late_objects}
 use Rattle.xc_world.specs.Own.{AgreeOn, LooksWithin}
 use Rattle.xc_world.proofs.Objects.{agree_back}
@@ -20,7 +20,7 @@ use Rattle.xc_world.proofs.Calls.{agreed, still_agree, keeps_itself}
 use Rattle.xc_world.proofs.Runs.{late_keeps, late_fits_alike}
 use Rattle.xc_flight.specs.Active.{Tx, Running, Committing, Has, Own}
 use Rattle.xc_flight.specs.Flight.{noted, ran, late_done, left, returned, IsCommitting, IsPhase, Inside}
-use Rattle.xc_flight.specs.Standing.{Standing, IsActive, InFlight, turned, entered}
+use Rattle.xc_flight.specs.State.{FlightState, IsActive, InFlight, turned, entered}
 use Rattle.xc_flight.specs.Turns.{seen, in_phase, IsDoneLate, with_end, after_commit}
 use Rattle.xc_flight.proofs.Basics.{owns_has}
 use Rattle.xc_flight.proofs.Worlds.{overlaid_count}
@@ -39,7 +39,7 @@ unwritten now t stored (object.Pair q) lacks = refl
 unwritten now t stored object.Jobs lacks = refl
 
 -- a commit keeps all
-pub commits : (s : Standing) (job : ℕ) (t : Tx) → InFlight s → IsActive s job t → t.phase ≡ Running
+pub commits : (s : FlightState) (job : ℕ) (t : Tx) → InFlight s → IsActive s job t → t.phase ≡ Running
     → InFlight (turned s job (Some (in_phase t Committing)) (seen s.now t))
 commits s job t h active phase =
     let w = s.state in
@@ -69,7 +69,7 @@ commits s job t h active phase =
           (agree_back (ran w t).world (seen s.now t) o (sees s job t h active phase o (owns_has t o e)));
     })
 
--- ---- late calls one behind another
+-- ---- late calls one after another
 take_front : (front : List LateCall) (xs : List LateCall) (n : ℕ) → length front ≡ n → take n (front ++ xs) ≡ front
 take_front [] xs zero e = refl
 take_front [] xs (suc n) e = absurd (omega arith)
@@ -129,10 +129,10 @@ is_committing w t i phase = subst (IsPhase w t) phase i.phase
 -- its late calls are those that its body left
 pub ran_late : (w : World) (t : Tx) → Inside w t → t.phase ≡ Committing → (ran w t).late ≡ t.late
 ran_late w t i phase =
-    ap (λ (r : Ran). r.late) (ap (λ l. body_goes_on t.number (noted w t) l) (is_committing w t i phase).all_noted) ∙ i.late
+    ap (λ (r : BodyResult). r.late) (ap (λ l. body_goes_on t.number (noted w t) l) (is_committing w t i phase).all_noted) ∙ i.late
 
 -- what it left so far is in the station
-pub left_there : (s : Standing) (job : ℕ) (t : Tx) → InFlight s → IsActive s job t → t.phase ≡ Committing
+pub left_there : (s : FlightState) (job : ℕ) (t : Tx) → InFlight s → IsActive s job t → t.phase ≡ Committing
     → AgreeOn (Has t) (left s.state t Committing) s.now
 left_there s job t h active phase o e =
     agree_back s.now (left s.state t Committing) o
@@ -140,7 +140,7 @@ left_there s job t h active phase o e =
     (h.flights job t active).owns) o e)
 
 -- ---- it does its next late call
-module _ (s : Standing) (job : ℕ) (t : Tx) (c : LateCall) (a : LateAnswer) (h : InFlight s) (active : IsActive s job t) (phase : t.phase ≡ Committing)
+module _ (s : FlightState) (job : ℕ) (t : Tx) (c : LateCall) (a : LateAnswer) (h : InFlight s) (active : IsActive s job t) (phase : t.phase ≡ Committing)
     (k : IsDoneLate s.now t c a) where
   inside : Inside s.state t
   inside = (h.flights job t active).inside
@@ -226,10 +226,10 @@ left_run w t i phase all =
     let done : take (length t.late_ends) (ran w t).late ≡ (ran w t).late = take_all (length t.late_ends) (ran w t).late
     (let e = ap length (ran_late w t i phase) in omega (arith, e, all)) in
     ap (λ l. (lates (ran w t).world (late_asked_of l t.late_ends)).world) done ∙ ap
-    (λ (r : Ran). (lates r.world (late_asked_of r.late t.late_ends)).world) same
+    (λ (r : BodyResult). (lates r.world (late_asked_of r.late t.late_ends)).world) same
 
 -- it enters
-pub committed : (s : Standing) (job : ℕ) (t : Tx) → InFlight s → IsActive s job t → t.phase ≡ Committing → length t.late_ends ≡ length t.late
+pub committed : (s : FlightState) (job : ℕ) (t : Tx) → InFlight s → IsActive s job t → t.phase ≡ Committing → length t.late_ends ≡ length t.late
     → InFlight (entered s job (after_commit s.state t) s.now)
 committed s job t h active phase all =
     let w = s.state in

@@ -4,7 +4,7 @@ use Rattle.std.specs.FinMap as map
 use Rattle.xc_maps.specs.Keys.{num_cmp}
 use Rattle.xc_data.specs.declared.object.Object.TheVariants as object
 use Rattle.xc_data.specs.declared.claim.Mode.TheVariants.{Shared, Exclusive}
-use Rattle.xc_data.specs.declared.call.Asked.{Asked}
+use Rattle.xc_data.specs.declared.call.CallWithAnswer.{CallWithAnswer}
 use Rattle.xc_data.specs.declared.call.Call.TheVariants as call
 use Rattle.xc_data.specs.declared.call.Answer.TheVariants as answer
 use Rattle.xc_data.specs.declared.call.Reply.TheVariants as reply
@@ -12,7 +12,7 @@ use Rattle.xc_data.specs.declared.private.Private.{Private}
 use Rattle.xc_data.specs.Claims.{claim}
 use Rattle.xc_world.specs.World.{World, beginning}
 use Rattle.xc_flight.specs.Active.{Tx, num}
-use Rattle.xc_flight.specs.Standing.{Standing, active_at, InFlight}
+use Rattle.xc_flight.specs.State.{FlightState, active_at, InFlight}
 use Rattle.xc_flight.specs.Turns.{starting, claiming, seen, noting, after_call, GoTogether}
 use Rattle.xc_flight.proofs.Rows.{starts, begins}
 
@@ -21,7 +21,7 @@ abbrev small : World
 small = record { words = 5 ∷ 6 ∷ []; names = map.empty; files = map.empty; pipes = map.empty; pairs = map.empty; started = []; blocks = [] }
 
 -- two jobs, none of which has a transaction
-abbrev idle : Standing
+abbrev idle : FlightState
 idle = record { state = small; now = small; active = None ∷ None ∷ []; next = 1 }
 
 abbrev nothing_yet : Private
@@ -49,7 +49,7 @@ two_begin =
 abbrev first : Tx
 first = claiming (starting 1 nothing_yet) (claim Exclusive (object.Word 0) ∷ claim Shared (object.Word 1) ∷ [])
 
-abbrev store : Asked
+abbrev store : CallWithAnswer
 store = record { call = call.Store 0 9; answer = answer.Fine }
 
 -- its store is noted, and waits: it sees it, and the station's words are as before
@@ -66,8 +66,8 @@ its_reply = refl
 
 -- two may hold a word shared, and none holds it beside one that holds it exclusively
 pub both_may_read : GoTogether (claim Shared (object.Word 1)) (claim Shared (object.Word 1))
-both_may_read same = refl
+both_may_read clash = (let no = clash.1 in cc no)
 
 -- but none does beside one that holds it exclusively
 pub a_writer_is_alone : GoTogether (claim Exclusive (object.Word 1)) (claim Shared (object.Word 1)) → ⊥
-a_writer_is_alone together = (let no = together refl in cc no)
+a_writer_is_alone together = together (refl, refl)

@@ -12,11 +12,11 @@ use Rattle.xc_data.specs.declared.call.LateEnd.{LateEnd}
 use Rattle.xc_data.specs.declared.call.LateAnswer.{LateAnswer}
 use Rattle.xc_data.specs.declared.call.LateAnswer.TheVariants as late_answer
 use Rattle.xc_data.specs.declared.undo.Undo.{Undo}
-use Rattle.xc_data.specs.Standing.{objects_of, stands_from}
+use Rattle.xc_data.specs.Remaining.{objects_of, remains_from}
 use Rattle.xc_txmem.specs.Overlay.{overlaid}
 use Rattle.xc_world.specs.World.{World}
 use Rattle.xc_world.specs.Fits.{late_answer_of}
-use Rattle.xc_world.specs.Run.{Ran, begins, step, body, body_fits, lates, lates_fit, asked_of, late_asked_of}
+use Rattle.xc_world.specs.Run.{BodyResult, begins, step, body, body_fits, lates, lates_fit, asked_of, late_asked_of}
 use Rattle.xc_world.specs.Ends.{Ending, standing_of, remains}
 use Rattle.xc_world.specs.Effects.{whole}
 use Rattle.xc_world.specs.Laws.{AgreeAt, late_objects}
@@ -43,7 +43,7 @@ ran_whole w t = fold-append (step t.number) (begins w t.began) (asked_of t.calls
 pub ran_keeps : (w : World) (t : Tx) → Covers t.held (ran w t).touched → KeepsBut (Own t) w (ran w t).world
 ran_keeps w t covers =
     keeps_more (Owns t.number (ran w t).touched) (Own t) w (ran w t).world (owns_own t (ran w t).touched covers)
-    (subst (λ (r : Ran). KeepsBut (Owns t.number r.touched) w r.world) (ran_whole w t) (body_keeps w t.began t.number (asked t)))
+    (subst (λ (r : BodyResult). KeepsBut (Owns t.number r.touched) w r.world) (ran_whole w t) (body_keeps w t.began t.number (asked t)))
 
 ran_speaks : (w : World) (t : Tx) → SpeaksOfOwn t.number (ran w t)
 ran_speaks w t = subst (SpeaksOfOwn t.number) (ran_whole w t) (body_speaks w t.began t.number (asked t))
@@ -81,7 +81,7 @@ remains_of : (P : Undo → Type 0) (es : List Ending) → All P (map (λ r. r.0)
 remains_of P [] all = All-nil (λ (e : Undo × ℕ). P e.0)
 remains_of P ((u, end) ∷ es) all =
     one_remains (λ (e : Undo × ℕ). P e.0) u (remains es) (λ k. All-head P u (map (λ (r : Ending). r.0) es) all)
-    (remains_of P es (All-tail P u (map (λ (r : Ending). r.0) es) all)) (stands_from u end)
+    (remains_of P es (All-tail P u (map (λ (r : Ending). r.0) es) all)) (remains_from u end)
 
 -- what is so of a list is so of its front
 pub all_front : {X : Type 0} (P : X → Type 0) (xs ys : List X) → All P (xs ++ ys) → All P xs
@@ -160,7 +160,7 @@ module _ (w v : World) (t : Tx) (count : length w.words ≡ length v.words) (blo
   fits_alike : body_fits w t.began t.number (asked t) ≡ body_fits v t.began t.number (asked t)
   fits_alike =
       on_fits_alike (Has t) t.number w v (begins w t.began) (begins v t.began) (asked t) (begin_alike (Has t) t.number w v t.began count agree)
-      (λ o at. inl (i.covers.objects o (subst (λ (r : Ran). Contains (objects r.touched) o) (ran_whole w t) at))) (λ o e. inr e)
+      (λ o at. inl (i.covers.objects o (subst (λ (r : BodyResult). Contains (objects r.touched) o) (ran_whole w t) at))) (λ o e. inr e)
 
   ends_alike : EndAlike (Has t) (Own t) (ran w t).world (ran v t).world (late_done w t)
   ends_alike =

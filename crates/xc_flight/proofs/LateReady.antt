@@ -5,7 +5,7 @@ use Rattle.std.proofs.lemmas.Bool.{and_parts}
 use Rattle.std.proofs.lemmas.List.Elements.{All-head, All-tail, All-weaker, All-nil, All-append, All-contains, All-take}
 use Rattle.xc_data.specs.declared.object.Object.{Object}
 use Rattle.xc_data.specs.declared.object.Object.TheVariants as object
-use Rattle.xc_data.specs.declared.call.Asked.{Asked}
+use Rattle.xc_data.specs.declared.call.CallWithAnswer.{CallWithAnswer}
 use Rattle.xc_data.specs.declared.call.LateCall.{LateCall}
 use Rattle.xc_data.specs.declared.call.LateCall.TheVariants.{Sync, WritePipe, Shutdown, Send}
 use Rattle.xc_data.specs.declared.call.LateEnd.{LateEnd}
@@ -15,7 +15,7 @@ use Rattle.xc_world.specs.World.{World}
 use Rattle.xc_world.specs.Act.{act}
 use Rattle.xc_world.specs.Late.{late, kept_call}
 use Rattle.xc_world.specs.Fits.{fits}
-use Rattle.xc_world.specs.Run.{Ran, begins, step, goes_on, body, body_fits, lates, run, late_asked_of}
+use Rattle.xc_world.specs.Run.{BodyResult, begins, step, goes_on, body, body_fits, lates, run, late_asked_of}
 use Rattle.xc_world.specs.Sound.{IsFit, IsSound, IsReady, is_there, names_there}
 use Rattle.xc_world.specs.Laws.{AgreeAt, late_objects}
 use Rattle.xc_world.specs.Own.{LooksWithin}
@@ -26,13 +26,14 @@ use Rattle.xc_world.proofs.SoundReady.{act_keeps_ready, act_leaves_ready, late_k
 use Rattle.xc_world.proofs.EffectsBody.{body-sound, body-others_sound}
 use Rattle.xc_flight.specs.Active.{Tx, Committing, Has, Own}
 use Rattle.xc_flight.specs.Flight.{asked, ran, late_done, done_late, left, Inside}
-use Rattle.xc_flight.specs.Standing.{Standing, IsActive, InFlight}
+use Rattle.xc_flight.specs.State.{FlightState, IsActive, InFlight}
 use Rattle.xc_flight.proofs.Frames.{ran_whole, answered, late_within}
 use Rattle.xc_flight.proofs.Ending.{one_of, ran_late, left_there}
 
 -- ---- of a body
 -- those that it leaves are ready at its end
-leaves_ready : (tx : ℕ) (r : Ran) (asked : List Asked) → IsSound r.world r.me tx → IsTrue (body_fits r.world r.me tx asked) → All (IsReady r.world) r.late
+leaves_ready : (tx : ℕ) (r : BodyResult) (asked : List CallWithAnswer) → IsSound r.world r.me tx → IsTrue (body_fits r.world r.me tx asked)
+    → All (IsReady r.world) r.late
     → All (IsReady (goes_on tx r asked).world) (goes_on tx r asked).late
 leaves_ready tx r [] sound fit ready = ready
 leaves_ready tx r (c ∷ asked) sound fit ready =
@@ -74,7 +75,8 @@ lates_keep_ready w ((c, a) ∷ rest) d ready fit one =
     (late_keeps_ready w c a d here.short fit one)
 
 -- a run with its late calls keeps all sound
-pub run_sound : (w : World) (me you : Private) (tx ty : ℕ) (asked : List Asked) (ends : List LateEnd) → IsSound w me tx → IsTrue (body_fits w me tx asked)
+pub run_sound : (w : World) (me you : Private) (tx ty : ℕ) (asked : List CallWithAnswer) (ends : List LateEnd) → IsSound w me tx
+    → IsTrue (body_fits w me tx asked)
     → IsSound (body w me tx asked).world you ty
     → IsSound (run w me tx asked ends).late.world you ty
 run_sound w me you tx ty asked ends sound fit other =
@@ -87,7 +89,7 @@ module _ (w : World) (t : Tx) (i : Inside w t) (sound : IsSound w t.began t.numb
   -- those that its body left are ready
   ran_ready : All (IsReady (ran w t).world) (ran w t).late
   ran_ready =
-      subst (λ (r : Ran). All (IsReady r.world) r.late) (ran_whole w t)
+      subst (λ (r : BodyResult). All (IsReady r.world) r.late) (ran_whole w t)
       (leaves_ready t.number (begins w t.began) (asked t) sound i.fits (All-nil (IsReady w)))
 
   done_ready : AllReady (ran w t).world (late_done w t)
@@ -100,14 +102,14 @@ module _ (w : World) (t : Tx) (i : Inside w t) (sound : IsSound w t.began t.numb
   pub done_sound : (you : Private) (ty : ℕ) → ty ≢ t.number → IsSound w you ty → IsSound (done_late w t).world you ty
   done_sound you ty ne other =
       lates_sound (ran w t).world you ty (late_done w t) done_ready
-      (subst (λ (r : Ran). IsSound r.world you ty) (ran_whole w t)
+      (subst (λ (r : BodyResult). IsSound r.world you ty) (ran_whole w t)
       (body-others_sound w t.began you t.number ty (asked t) sound i.fits other ne))
 
   -- and leaves the others ready
   still_ready : (front : List LateCall) (c : LateCall) (rest : List LateCall) → (ran w t).late ≡ front ++ c ∷ rest → IsReady (done_late w t).world c
   still_ready front c rest split =
       let r = ran w t in
-      let end = subst (λ (q : Ran). IsFit q.world) (ran_whole w t) (body-sound w t.began t.number (asked t) sound i.fits).world in
+      let end = subst (λ (q : BodyResult). IsFit q.world) (ran_whole w t) (body-sound w t.began t.number (asked t) sound i.fits).world in
       lates_keep_ready r.world (late_done w t) c done_ready end (one_of (IsReady r.world) front c rest (subst (All (IsReady r.world)) split ran_ready))
 
 -- ---- what is there in one world is there in another that agrees with it
@@ -125,7 +127,7 @@ names_alike w v (Send num side bytes) agree = object_alike w v (object.Pair num)
 names_alike w v _ agree = refl
 
 -- ---- the next one of a committing transaction is ready in the station's world
-pub next_ready : (s : Standing) (job : ℕ) (t : Tx) (c : LateCall) (front rest : List LateCall) → InFlight s → IsActive s job t → t.phase ≡ Committing
+pub next_ready : (s : FlightState) (job : ℕ) (t : Tx) (c : LateCall) (front rest : List LateCall) → InFlight s → IsActive s job t → t.phase ≡ Committing
     → IsSound s.state t.began t.number → t.late ≡ front ++ c ∷ rest → IsReady s.now c
 next_ready s job t c front rest h active phase sound split =
     let w = s.state in

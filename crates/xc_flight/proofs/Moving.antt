@@ -9,12 +9,12 @@ use Rattle.xc_world.specs.Laws.{AgreeAt}
 use Rattle.xc_world.proofs.Objects.{agree_back, agree_on, worlds_same}
 use Rattle.xc_flight.specs.Active.{Tx, Has, Own, IsBelow}
 use Rattle.xc_flight.specs.Flight.{Flight}
-use Rattle.xc_flight.specs.Standing.{Standing, active_at, IsActive, HasSome, OwnSome, HasAt, OwnAt, InFlight, Move}
+use Rattle.xc_flight.specs.State.{FlightState, active_at, IsActive, HasSome, OwnSome, HasAt, OwnAt, InFlight, Move}
 use Rattle.xc_flight.proofs.Basics.{own_decide, owns_has}
 use Rattle.xc_flight.proofs.Frames.{flight_kept}
 
 -- ---- what a job has
-pub own_at_decide : (s : Standing) (job : ℕ) (o : Object) → OwnAt s job o ⊎ (OwnAt s job o → ⊥)
+pub own_at_decide : (s : FlightState) (job : ℕ) (o : Object) → OwnAt s job o ⊎ (OwnAt s job o → ⊥)
 own_at_decide s job o = at (active_at s job)
   where
     at : (t : Option Tx) → OwnSome t o ⊎ (OwnSome t o → ⊥)
@@ -26,23 +26,23 @@ own_some_has None o e = e
 own_some_has (Some t) o e = owns_has t o e
 
 -- a job has what it owns
-pub own_at_has : (s : Standing) (job : ℕ) (o : Object) → OwnAt s job o → HasAt s job o
+pub own_at_has : (s : FlightState) (job : ℕ) (o : Object) → OwnAt s job o → HasAt s job o
 own_at_has s job o e = own_some_has (active_at s job) o e
 
 -- of a job whose active transaction is known
-pub has_it : (s : Standing) (job : ℕ) (t : Tx) (o : Object) → IsActive s job t → Has t o → HasAt s job o
+pub has_it : (s : FlightState) (job : ℕ) (t : Tx) (o : Object) → IsActive s job t → Has t o → HasAt s job o
 has_it s job t o active e = subst (λ x. HasSome x o) (sym active) e
 
 -- it owns what its transaction owns
-pub own_it : (s : Standing) (job : ℕ) (t : Tx) (o : Object) → IsActive s job t → Own t o → OwnAt s job o
+pub own_it : (s : FlightState) (job : ℕ) (t : Tx) (o : Object) → IsActive s job t → Own t o → OwnAt s job o
 own_it s job t o active e = subst (λ x. OwnSome x o) (sym active) e
 
 -- its transaction has what it has
-pub it_has : (s : Standing) (job : ℕ) (t : Tx) (o : Object) → IsActive s job t → HasAt s job o → Has t o
+pub it_has : (s : FlightState) (job : ℕ) (t : Tx) (o : Object) → IsActive s job t → HasAt s job o → Has t o
 it_has s job t o active e = subst (λ x. HasSome x o) active e
 
 -- its transaction owns what it owns
-pub it_owns : (s : Standing) (job : ℕ) (t : Tx) (o : Object) → IsActive s job t → OwnAt s job o → Own t o
+pub it_owns : (s : FlightState) (job : ℕ) (t : Tx) (o : Object) → IsActive s job t → OwnAt s job o → Own t o
 it_owns s job t o active e = subst (λ x. OwnSome x o) active e
 
 -- ---- below
@@ -55,7 +55,7 @@ below_more m n (object.Name name) le lt = tt
 below_more m n object.Jobs le lt = tt
 
 -- ---- a move
-module _ (s s' : Standing) (job : ℕ) (h : InFlight s) (m : Move s s' job) where
+module _ (s s' : FlightState) (job : ℕ) (h : InFlight s) (m : Move s s' job) where
   before : (j : ℕ) (t : Tx) → j ≢ job → IsActive s' j t → IsActive s j t
   before j t ne active = sym (m.others j ne) ∙ active
 
@@ -124,7 +124,7 @@ module _ (s s' : Standing) (job : ℕ) (h : InFlight s) (m : Move s s' job) wher
       }
 
 -- where nobody is active, the two worlds are one
-pub all_free : (s : Standing) → InFlight s → ((job : ℕ) → active_at s job ≡ None) → s.now ≡ s.state
+pub all_free : (s : FlightState) → InFlight s → ((job : ℕ) → active_at s job ≡ None) → s.now ≡ s.state
 all_free s h none = worlds_same s.now s.state (λ o. h.free o (λ job e. subst (λ x. OwnSome x o) (none job) e)) h.blocks
 
 -- ---- the list of active transactions with one put
@@ -148,7 +148,7 @@ is_inside (y ∷ ys) zero t e = omega arith
 is_inside (y ∷ ys) (suc i) t e = let lt = is_inside ys i t e in omega (arith, lt)
 
 -- a job has one at most
-pub one_active : (s : Standing) (job : ℕ) (t u : Tx) → IsActive s job t → IsActive s job u → t ≡ u
+pub one_active : (s : FlightState) (job : ℕ) (t u : Tx) → IsActive s job t → IsActive s job u → t ≡ u
 one_active s job t u a b = some_same t u (sym a ∙ b)
   where
     some_same : (t u : Tx) → Some t ≡ Some u → t ≡ u

@@ -16,7 +16,7 @@ use Rattle.xc_world.proofs.Calls.{keeps_itself}
 use Rattle.xc_world.proofs.Bodies.{keeps_more}
 use Rattle.xc_flight.specs.Active.{Tx, Has, Own, num, IsBelow}
 use Rattle.xc_flight.specs.Flight.{Inside, Flight}
-use Rattle.xc_flight.specs.Standing.{Standing, active_at, IsActive, HasSome, OwnSome, HasAt, OwnAt, InFlight, turned, entered}
+use Rattle.xc_flight.specs.State.{FlightState, active_at, IsActive, HasSome, OwnSome, HasAt, OwnAt, InFlight, turned, entered}
 use Rattle.xc_flight.specs.Turns.{starting}
 use Rattle.xc_flight.proofs.Basics.{owns_has}
 use Rattle.xc_flight.proofs.Moving.{moved, has_it, own_it, it_has, it_owns, own_at_has, get_set_same, get_set_other, is_inside, one_active}
@@ -38,7 +38,7 @@ not_below n next (object.Name name) le lt e = e
 not_below n next object.Jobs le lt e = e
 
 -- ---- the job's active transaction is another one now, or has changed
-module _ (s : Standing) (job : ℕ) (t t' : Tx) (now' : World) (h : InFlight s) (active : IsActive s job t) where
+module _ (s : FlightState) (job : ℕ) (t t' : Tx) (now' : World) (h : InFlight s) (active : IsActive s job t) where
   in_list : job < length s.active
   in_list = is_inside s.active job t active
 
@@ -84,7 +84,7 @@ module _ (s : Standing) (job : ℕ) (t t' : Tx) (now' : World) (h : InFlight s) 
       }) keeps flight
 
 -- ---- it ends: what it owned is as the new state says
-pub ends : (s : Standing) (job : ℕ) (t : Tx) (state now : World) → InFlight s → IsActive s job t → KeepsBut (Own t) s.state state
+pub ends : (s : FlightState) (job : ℕ) (t : Tx) (state now : World) → InFlight s → IsActive s job t → KeepsBut (Own t) s.state state
     → KeepsBut (Own t) s.now now → AgreeOn (Own t) now state
     → InFlight (entered s job state now)
 ends s job t state now h active model host owned =
@@ -142,7 +142,7 @@ none_owned : (n : ℕ) (began : Private) (o : Object) → Own (starting n began)
 none_owned n began o e = none_held n began o (owns_has (starting n began) o e)
 
 -- a begin keeps all
-pub begins : (s : Standing) (job : ℕ) (began : Private) → InFlight s → job < length s.active → active_at s job ≡ None
+pub begins : (s : FlightState) (job : ℕ) (began : Private) → InFlight s → job < length s.active → active_at s job ≡ None
     → InFlight (record s { active = slice_set s.active job (Some (starting s.next began)); next = s.next + 1 })
 begins s job began h lt idle =
     let t = starting s.next began in
@@ -171,7 +171,7 @@ begins s job began h lt idle =
     })
 
 -- ---- the start: nobody is active, and the station's world is the opening
-pub starts : (s : Standing) → ((job : ℕ) → active_at s job ≡ None) → s.now ≡ s.state → ((m k : ℕ) → s.next ≤ m → IsFree s.state (num m k)) → InFlight s
+pub starts : (s : FlightState) → ((job : ℕ) → active_at s job ≡ None) → s.now ≡ s.state → ((m k : ℕ) → s.next ≤ m → IsFree s.state (num m k)) → InFlight s
 starts s idle same free =
     record {
       count = ap (λ (w : World). length w.words) same;
@@ -193,7 +193,7 @@ get_push (x ∷ xs) zero = refl
 get_push (x ∷ xs) (suc j) = get_push xs j
 
 -- a job more changes nothing
-pub one_job_more : (s : Standing) → InFlight s → InFlight (record s { active = s.active ++ None ∷ [] })
+pub one_job_more : (s : FlightState) → InFlight s → InFlight (record s { active = s.active ++ None ∷ [] })
 one_job_more s h =
     let s' = record s { active = s.active ++ None ∷ [] } in
     let same : (j : ℕ) → active_at s' j ≡ active_at s j = λ j. get_push s.active j in

@@ -20,14 +20,14 @@ use Rattle.xc_data.specs.Private.{place_of}
 use Rattle.xc_world.specs.World.{World, beginning}
 use Rattle.xc_world.specs.Checks.{is_refused}
 use Rattle.xc_world.specs.Touch.{touch, objects_of_call, object_at}
-use Rattle.xc_world.specs.Run.{Ran, body, body_fits, run, asked_of}
+use Rattle.xc_world.specs.Run.{BodyResult, body, body_fits, run, asked_of}
 use Rattle.xc_world.specs.Sound.{IsSound, IsKnown, IsFree, is_there}
 use Rattle.xc_world.specs.Laws.{AgreeAt}
 use Rattle.xc_world.specs.Own.{AgreeOn, IsNumbered}
 use Rattle.xc_world.proofs.EffectsBody.{body-sound, body-others_sound}
 use Rattle.xc_flight.specs.Active.{Tx, Running, Committing, Has, num, IsBelow}
 use Rattle.xc_flight.specs.Flight.{noted, ran, asked, left, IsCommitting, IsPhase, Inside}
-use Rattle.xc_flight.specs.Standing.{Standing, IsActive, InFlight, AreSound, IsIdleSound, entered}
+use Rattle.xc_flight.specs.State.{FlightState, IsActive, InFlight, AreSound, IsIdleSound, entered}
 use Rattle.xc_flight.specs.Turns.{IsOpen}
 use Rattle.xc_flight.proofs.Basics.{owns_has}
 use Rattle.xc_flight.proofs.Calling.{running_left, all_noted}
@@ -109,7 +109,7 @@ below_or next w (object.Word at) free there = tt
 below_or next w (object.Name name) free there = tt
 below_or next w object.Jobs free there = tt
 
-module _ (s : Standing) (job : ℕ) (t : Tx) (h : InFlight s) (active : IsActive s job t) where
+module _ (s : FlightState) (job : ℕ) (t : Tx) (h : InFlight s) (active : IsActive s job t) where
   inside : Inside s.state t
   inside = (h.flights job t active).inside
 
@@ -136,8 +136,8 @@ module _ (s : Standing) (job : ℕ) (t : Tx) (h : InFlight s) (active : IsActive
   ran_sound : IsSound s.state t.began t.number → ran s.state t ≡ noted s.state t → IsSound (ran s.state t).world t.me t.number
   ran_sound sound same =
       let end = body-sound s.state t.began t.number (asked t) sound inside.fits in
-      let whole = subst (λ (r : Ran). IsSound r.world r.me t.number) (ran_whole s.state t) end in
-      subst (λ (m : Private). IsSound (ran s.state t).world m t.number) (ap (λ (r : Ran). r.me) same ∙ inside.me) whole
+      let whole = subst (λ (r : BodyResult). IsSound r.world r.me t.number) (ran_whole s.state t) end in
+      subst (λ (m : Private). IsSound (ran s.state t).world m t.number) (ap (λ (r : BodyResult). r.me) same ∙ inside.me) whole
 
   -- what a call touches is open to it
   pub touches_open : IsSound s.state t.began t.number → ran s.state t ≡ noted s.state t → (c : Call) (words : ℕ) (o : Object)
@@ -158,7 +158,7 @@ module _ (s : Standing) (job : ℕ) (t : Tx) (h : InFlight s) (active : IsActive
       (sym (there (object.Pair q) (inr refl))) ((ran_sound sound (all_noted s job t h active phase)).new k le)
 
 -- ---- the entry of a commit
-module _ (s : Standing) (job : ℕ) (t : Tx) (h : InFlight s) (sound : AreSound s) (active : IsActive s job t) (phase : t.phase ≡ Committing) where
+module _ (s : FlightState) (job : ℕ) (t : Tx) (h : InFlight s) (sound : AreSound s) (active : IsActive s job t) (phase : t.phase ≡ Committing) where
   fit : IsTrue (body_fits s.state t.began t.number (asked_of t.calls t.replies))
   fit =
       let i = (h.flights job t active).inside in

@@ -10,7 +10,7 @@ use Rattle.xc_maps.proofs.Laws.{get-insert_same, get-insert_cases}
 use Rattle.xc_data.specs.declared.object.Num.{Num}
 use Rattle.xc_data.specs.declared.call.Call.{Call}
 use Rattle.xc_data.specs.declared.call.Call.TheVariants as call
-use Rattle.xc_data.specs.declared.call.Asked.{Asked}
+use Rattle.xc_data.specs.declared.call.CallWithAnswer.{CallWithAnswer}
 use Rattle.xc_data.specs.declared.call.Reply.{Reply}
 use Rattle.xc_data.specs.declared.call.Reply.TheVariants as reply
 use Rattle.xc_data.specs.declared.entry.KeptItem.{KeptItem}
@@ -21,9 +21,9 @@ use Rattle.xc_data.specs.declared.private.Place.{Place}
 use Rattle.xc_data.specs.declared.private.Place.TheVariants as place
 use Rattle.xc_data.specs.declared.private.Private.{Private}
 use Rattle.xc_data.specs.Private.{place_of}
-use Rattle.xc_data.specs.Standing.{objects_of}
+use Rattle.xc_data.specs.Remaining.{objects_of}
 use Rattle.xc_world.specs.World.{World, Pipe, Pair, pipe_of, pair_of, empty_pipe, empty_pair, waiting, with_waiting}
-use Rattle.xc_world.specs.Run.{Ran, begins, step, goes_on, bytes_taken, message_taken, taken_by, item_object, gives, given_back}
+use Rattle.xc_world.specs.Run.{BodyResult, begins, step, goes_on, bytes_taken, message_taken, taken_by, item_object, gives, given_back}
 use Rattle.xc_world.specs.Trail.{recorded, with_effect, move_name, overwrite_record, append_record, create_record, rename_record, pipe_record, pair_record}
 use Rattle.xc_world.specs.Ends.{with_remains}
 use Rattle.xc_world.specs.Effects.{whole}
@@ -64,7 +64,7 @@ taken_solid (call.XReadPipe h n) me (reply.Got bytes) = bytes_solid (place_of me
 taken_solid (call.XRecvmsg h) me (reply.Got bytes) = message_solid (place_of me.places h) bytes
 taken_solid _ me _ = All-nil Solid
 
-all_solid : (tx : ℕ) (r : Ran) (asked : List Asked) → All Solid r.taken → All Solid (goes_on tx r asked).taken
+all_solid : (tx : ℕ) (r : BodyResult) (asked : List CallWithAnswer) → All Solid r.taken → All Solid (goes_on tx r asked).taken
 all_solid tx r [] solid = solid
 all_solid tx r (c ∷ asked) solid = all_solid tx (step tx r c) asked (All-append Solid r.taken _ solid (taken_solid c.call r.me _))
 
@@ -170,7 +170,7 @@ effect_empty w (undo.Tail file from after n) j (Message num side bytes) e = e
 effect_empty w (undo.Made name file) j (Bytes num bytes) e = e
 effect_empty w (undo.Made name file) j (Message num side bytes) e = e
 
--- behind several
+-- after several
 pub remains_empty : (w : World) (us : List (Undo × ℕ)) (k : KeptItem) → filled w k ≡ 0 → filled (with_remains w us) k ≡ 0
 remains_empty w [] k e = e
 remains_empty w ((u, j) ∷ us) k e = remains_empty (with_effect w u j) us k (effect_empty w u j k e)
@@ -228,13 +228,13 @@ recorded_coined w me tx call.XPipe r = pipe_coined me tx r
 recorded_coined w me tx call.XPair r = pair_coined me tx r
 recorded_coined w me tx _ r = All-nil (Coined tx)
 
-all_coined : (tx : ℕ) (r : Ran) (asked : List Asked) → All (Coined tx) r.trail → All (Coined tx) (goes_on tx r asked).trail
+all_coined : (tx : ℕ) (r : BodyResult) (asked : List CallWithAnswer) → All (Coined tx) r.trail → All (Coined tx) (goes_on tx r asked).trail
 all_coined tx r [] coined = coined
 all_coined tx r (c ∷ asked) coined = all_coined tx (step tx r c) asked (All-append (Coined tx) r.trail _ coined (recorded_coined r.world r.me tx c.call _))
 
 -- of a whole body
 pub trail_coined : (w : World) (t : Tx) → All (Coined t.number) (ran w t).trail
-trail_coined w t = subst (λ (r : Ran). All (Coined t.number) r.trail) (ran_whole w t)
+trail_coined w t = subst (λ (r : BodyResult). All (Coined t.number) r.trail) (ran_whole w t)
     (all_coined t.number (begins w t.began) (asked t) (All-nil (Coined t.number)))
 
 -- ---- giving back, and words
@@ -247,7 +247,7 @@ given_reworded x words (Message num side bytes ∷ ts) = ap (λ v. gives v (Mess
 module _ (w : World) (t : Tx) (i : Inside w t) (sound : IsSound w t.began t.number) where
   returns : given_back (ran w t).world (ran w t).taken ≡ record (with_remains w (whole (ran w t).trail)) { words = (ran w t).world.words }
   returns =
-      subst (λ (r : Ran). given_back r.world r.taken ≡ record (with_remains w (whole r.trail)) { words = r.world.words }) (ran_whole w t)
+      subst (λ (r : BodyResult). given_back r.world r.taken ≡ record (with_remains w (whole r.trail)) { words = r.world.words }) (ran_whole w t)
       (body_returns w t.began t.number (asked t) sound i.fits)
 
   -- with what it took given back, its body's world is S with its records, the words aside
@@ -258,7 +258,7 @@ module _ (w : World) (t : Tx) (i : Inside w t) (sound : IsSound w t.began t.numb
 
   fuller : All (IsFuller (ran w t).world (with_remains w (whole (ran w t).trail))) (ran w t).taken
   fuller =
-      let solid = subst (λ (r : Ran). All Solid r.taken) (ran_whole w t) (all_solid t.number (begins w t.began) (asked t) (All-nil Solid)) in
+      let solid = subst (λ (r : BodyResult). All Solid r.taken) (ran_whole w t) (all_solid t.number (begins w t.began) (asked t) (All-nil Solid)) in
       All-weaker (IsFuller (ran w t).world (given_back (ran w t).world (ran w t).taken)) (IsFuller (ran w t).world (with_remains w (whole (ran w t).trail)))
       (λ k lt. same_filled k (ap (λ x. filled x k) returns) lt) (ran w t).taken (all_fuller (ran w t).world (ran w t).taken solid)
     where

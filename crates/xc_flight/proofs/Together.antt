@@ -8,7 +8,7 @@ use Rattle.xc_data.specs.declared.object.Object.{Object}
 use Rattle.xc_data.specs.declared.claim.Claim.{Claim}
 use Rattle.xc_data.specs.declared.claim.Mode.{Mode}
 use Rattle.xc_data.specs.declared.call.Call.{Call}
-use Rattle.xc_data.specs.declared.call.Asked.{Asked}
+use Rattle.xc_data.specs.declared.call.CallWithAnswer.{CallWithAnswer}
 use Rattle.xc_data.specs.declared.private.Private.{Private}
 use Rattle.xc_data.specs.declared.private.Place.{Place}
 use Rattle.xc_data.specs.declared.private.Place.TheVariants as place
@@ -20,7 +20,7 @@ use Rattle.xc_world.specs.Touch.{touch}
 use Rattle.xc_world.specs.Modes.{mode_of, claims_of}
 use Rattle.xc_world.specs.Sound.{IsSound, IsFit, IsKnown}
 use Rattle.xc_flight.specs.Active.{Tx, Running, HoldTheSame}
-use Rattle.xc_flight.specs.Standing.{Standing, IsActive, InFlight, AreSound, IsIdleSound, turned}
+use Rattle.xc_flight.specs.State.{FlightState, IsActive, InFlight, AreSound, IsIdleSound, turned}
 use Rattle.xc_flight.specs.Turns.{starting, claiming, seen, IsOpen, HasNoRival, IsGranted, MayDo, IsNoted, noting, after_call}
 use Rattle.xc_flight.proofs.Moving.{get_set_same, get_set_other, is_inside, one_active}
 use Rattle.xc_flight.proofs.Calling.{called, all_noted}
@@ -34,11 +34,11 @@ set_twice (z ∷ zs) zero x y = refl
 set_twice (z ∷ zs) (suc i) x y = ap (λ l. z ∷ l) (set_twice zs i x y)
 
 -- the later one counts
-pub two_turns : (s : Standing) (job : ℕ) (t u : Option Tx) (now later : World) → turned (turned s job t now) job u later ≡ turned s job u later
+pub two_turns : (s : FlightState) (job : ℕ) (t u : Option Tx) (now later : World) → turned (turned s job t now) job u later ≡ turned s job u later
 two_turns s job t u now later = ap (λ (l : List (Option Tx)). record s { now = later; active = l }) (set_twice s.active job t u)
 
 -- ---- the claims of a call
-each_granted : (s : Standing) (job : ℕ) (m : Mode) (os : List Object) → All (IsOpen s job) os → All (HasNoRival s job) (map (claim m) os)
+each_granted : (s : FlightState) (job : ℕ) (m : Mode) (os : List Object) → All (IsOpen s job) os → All (HasNoRival s job) (map (claim m) os)
     → All (IsGranted s job) (map (claim m) os)
 each_granted s job m [] here alone = All-nil (IsGranted s job)
 each_granted s job m (o ∷ os) here alone =
@@ -47,7 +47,7 @@ each_granted s job m (o ∷ os) here alone =
     (each_granted s job m os (All-tail (IsOpen s job) o os here) (All-tail (HasNoRival s job) (claim m o) (map (claim m) os) alone))
 
 -- they may be granted where they have no rival
-pub call_granted : (s : Standing) (job : ℕ) (t : Tx) (c : Call) (words : ℕ) → InFlight s → IsActive s job t → t.phase ≡ Running
+pub call_granted : (s : FlightState) (job : ℕ) (t : Tx) (c : Call) (words : ℕ) → InFlight s → IsActive s job t → t.phase ≡ Running
     → IsSound s.state t.began t.number
     → All (HasNoRival s job) (claims_of c t.me words) → All (IsGranted s job) (claims_of c t.me words)
 call_granted s job t c words h active phase sound alone =
@@ -57,7 +57,8 @@ call_granted s job t c words h active phase sound alone =
     alone
 
 -- a call whose claims have no rival is done and noted in one turn
-pub called_with_claims : (s : Standing) (job : ℕ) (t : Tx) (asked : Asked) (held : List Claim) (writes : List (ℕ × ℕ)) → InFlight s → IsActive s job t
+pub called_with_claims : (s : FlightState) (job : ℕ) (t : Tx) (asked : CallWithAnswer) (held : List Claim) (writes : List (ℕ × ℕ)) → InFlight s
+    → IsActive s job t
     → t.phase ≡ Running → IsSound s.state t.began t.number
     → All (HasNoRival s job) (claims_of asked.call t.me (length s.now.words)) → HoldTheSame held (t.held ++ claims_of asked.call t.me (length s.now.words))
     → IsTrue (fits (seen s.now t) t.me t.number asked.call asked.answer) → IsNoted s.now (claiming t held) asked writes
@@ -73,7 +74,7 @@ called_with_claims s job t asked held writes h active phase sound alone same fit
     (called s1 job t1 asked writes first is phase may noted)
 
 -- ---- what keeps all sound
-pub step_sound : (s : Standing) (job : ℕ) (t t' : Tx) (now : World) → AreSound s → IsActive s job t → t'.number ≡ t.number → t'.began ≡ t.began
+pub step_sound : (s : FlightState) (job : ℕ) (t t' : Tx) (now : World) → AreSound s → IsActive s job t → t'.number ≡ t.number → t'.began ≡ t.began
     → AreSound (turned s job (Some t') now)
 step_sound s job t t' now sound active number began j u e = dite (ℕ_discrete j job)
     (λ (q : j ≡ job).
@@ -84,7 +85,7 @@ step_sound s job t t' now sound active number began j u e = dite (ℕ_discrete j
     (λ (ne : j ≢ job). sound j u (sym (get_set_other s.active job j (Some t') ne) ∙ e))
 
 -- a begin keeps all sound
-pub begin_sound : (s : Standing) (job : ℕ) (places : List Place) → AreSound s → job < length s.active → IsIdleSound s.state s.next places
+pub begin_sound : (s : FlightState) (job : ℕ) (places : List Place) → AreSound s → job < length s.active → IsIdleSound s.state s.next places
     → AreSound (record s { active = slice_set s.active job (Some (starting s.next (beginning places))); next = s.next + 1 })
 begin_sound s job places sound lt idle j u e =
     let t = starting s.next (beginning places) in
@@ -102,7 +103,7 @@ vacant_at (suc n) zero = refl
 vacant_at (suc n) (suc h) = vacant_at n h
 
 -- it may begin its first transaction in a world that is fit
-pub joining_sound : (s : Standing) → InFlight s → IsFit s.state → IsIdleSound s.state s.next no_handles
+pub joining_sound : (s : FlightState) → InFlight s → IsFit s.state → IsIdleSound s.state s.next no_handles
 joining_sound s h fit m le =
     record {
       world = fit;

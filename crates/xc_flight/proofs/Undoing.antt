@@ -1,4 +1,4 @@
--- A turn back, want of memory behind a call, a compensation, and the entry of an abort.
+-- A turn back, lack of memory after a call, a compensation, and the entry of an abort.
 use Rattle.std.proofs.Common.{◌≡◌, ◌≢◌, ℕ, ⊎_elim, List, [], ◌∷◌, ◌++◌, length, Some, append_assoc, ap, sym, ◌∙◌, subst, refl}
 use Rattle.std.specs.Prelude.{All, Contains, map}
 use Rattle.std.proofs.lemmas.List.{append-nil}
@@ -6,13 +6,13 @@ use Rattle.std.proofs.lemmas.List.Elements.{All-nil, All-cons, All-head, All-tai
 use Rattle.xc_data.specs.declared.object.Num.{Num}
 use Rattle.xc_data.specs.declared.object.Object.{Object}
 use Rattle.xc_data.specs.declared.object.Object.TheVariants as object
-use Rattle.xc_data.specs.declared.call.Asked.{Asked}
+use Rattle.xc_data.specs.declared.call.CallWithAnswer.{CallWithAnswer}
 use Rattle.xc_data.specs.declared.entry.KeptItem.{KeptItem}
 use Rattle.xc_data.specs.declared.entry.KeptItem.TheVariants.{Bytes, Message}
 use Rattle.xc_data.specs.declared.undo.Undo.{Undo}
 use Rattle.xc_data.specs.declared.undo.Undo.TheVariants as undo
 use Rattle.xc_data.specs.declared.undo.UndoEnd.{UndoEnd}
-use Rattle.xc_data.specs.Standing.{objects_of}
+use Rattle.xc_data.specs.Remaining.{objects_of}
 use Rattle.xc_world.specs.World.{World}
 use Rattle.xc_world.specs.Run.{given_back, item_object}
 use Rattle.xc_world.specs.Ends.{Ending, remains, with_remains}
@@ -25,7 +25,7 @@ use Rattle.xc_world.proofs.Calls.{keeps_itself}
 use Rattle.xc_world.proofs.Records.{undone_to_alike}
 use Rattle.xc_flight.specs.Active.{Tx, Running, Undoing, Own}
 use Rattle.xc_flight.specs.Flight.{ran, effects, left, returned, IsPhase, Inside}
-use Rattle.xc_flight.specs.Standing.{Standing, IsActive, InFlight, turned, entered}
+use Rattle.xc_flight.specs.State.{FlightState, IsActive, InFlight, turned, entered}
 use Rattle.xc_flight.specs.Turns.{in_phase, MayDo, wanting, after_call, with_undone}
 use Rattle.xc_flight.proofs.Basics.{owns_has}
 use Rattle.xc_world.proofs.GivenBack.{given_alike, given_away, given_words, given_blocks}
@@ -50,7 +50,7 @@ turn w now t i sound none there o e =
     (given_alike now (record (ran w t).world { words = w.words }) (ran w t).taken o (there o e)))
 
 -- a turn back keeps all
-pub turns_back : (s : Standing) (job : ℕ) (t : Tx) → InFlight s → IsActive s job t → t.phase ≡ Running → IsSound s.state t.began t.number
+pub turns_back : (s : FlightState) (job : ℕ) (t : Tx) → InFlight s → IsActive s job t → t.phase ≡ Running → IsSound s.state t.began t.number
     → InFlight (turned s job (Some (in_phase t Undoing)) s.now)
 turns_back s job t h active phase sound =
     let i = (h.flights job t active).inside in
@@ -72,8 +72,8 @@ turns_back s job t h active phase sound =
       owns = turn s.state s.now (in_phase t Undoing) i' sound p.none (λ o e. running_left s job t h active phase o (owns_has t o e));
     })
 
--- the call did its part, and then memory was wanting
-pub wants : (s : Standing) (job : ℕ) (t : Tx) (c : Asked) → InFlight s → IsActive s job t → t.phase ≡ Running → MayDo s.now t c
+-- the call did its part, and then memory ran out
+pub wants : (s : FlightState) (job : ℕ) (t : Tx) (c : CallWithAnswer) → InFlight s → IsActive s job t → t.phase ≡ Running → MayDo s.now t c
     → IsSound s.state t.began t.number
     → InFlight (turned s job (Some (wanting s.now t c)) (after_call s.now t c))
 wants s job t c h active phase k sound =
@@ -129,7 +129,7 @@ last_of : {X : Type 0} (P : X → Type 0) (older : List X) (u : X) → All P (ol
 last_of P [] u all = All-head P u [] all
 last_of P (x ∷ older) u all = last_of P older u (All-tail P x (older ++ u ∷ []) all)
 
-module _ (s : Standing) (job : ℕ) (t : Tx) (older : List Undo) (u : Undo) (end : UndoEnd)
+module _ (s : FlightState) (job : ℕ) (t : Tx) (older : List Undo) (u : Undo) (end : UndoEnd)
     (h : InFlight s) (active : IsActive s job t) (phase : t.phase ≡ Undoing) (sound : IsSound s.state t.began t.number)
     (newest : t.pending ≡ older ++ u ∷ []) where
   inside : Inside s.state t
@@ -208,7 +208,7 @@ module _ (s : Standing) (job : ℕ) (t : Tx) (older : List Undo) (u : Undo) (end
       })
 
 -- ---- an aborted transaction, each of whose records has its end, gives back what it took and enters
-pub aborted : (s : Standing) (job : ℕ) (t : Tx) → InFlight s → IsActive s job t → t.phase ≡ Undoing → IsSound s.state t.began t.number → t.pending ≡ []
+pub aborted : (s : FlightState) (job : ℕ) (t : Tx) → InFlight s → IsActive s job t → t.phase ≡ Undoing → IsSound s.state t.began t.number → t.pending ≡ []
     → InFlight (entered s job (with_remains s.state (remains t.ended)) (given_back s.now t.taken))
 aborted s job t h active phase sound none =
     let f = h.flights job t active in

@@ -1,23 +1,12 @@
 -- Worlds: words put in, and what was taken given back.
-use Rattle.std.proofs.Common.{◌≡◌, ◌≢◌, ℕ, Bool, true, false, cond, suc, zero, Option, Some, List, [], ◌∷◌, ap, sym, ◌∙◌, subst, refl}
-use Rattle.std.specs.Prelude.{All, slice_get, slice_set, length, unwrap_or, ◌++◌}
-use Rattle.std.specs.FinMap as map
-use Rattle.std.specs.Ordering.{eq_by_cmp}
+use Rattle.std.proofs.Common.{◌≡◌, ◌≢◌, ℕ, suc, zero, List, [], ◌∷◌, ap, ◌∙◌, refl}
+use Rattle.std.specs.Prelude.{All, slice_get, slice_set, length}
 use Rattle.std.proofs.lemmas.List.Elements.{All-head, All-tail}
-use Rattle.xc_maps.proofs.Maps.{num_total, num_exact}
-use Rattle.xc_maps.proofs.Laws.{tied, get-insert_other}
-use Rattle.xc_maps.specs.Keys.{num_cmp}
-use Rattle.xc_data.specs.declared.object.Num.{Num}
 use Rattle.xc_data.specs.declared.object.Object.{Object}
 use Rattle.xc_data.specs.declared.object.Object.TheVariants as object
-use Rattle.xc_data.specs.declared.entry.KeptItem.{KeptItem}
-use Rattle.xc_data.specs.declared.entry.KeptItem.TheVariants.{Bytes, Message}
 use Rattle.xc_txmem.specs.Overlay.{overlaid}
-use Rattle.xc_world.specs.World.{World, Pipe, Pair, empty_pipe, empty_pair, waiting, with_waiting}
-use Rattle.xc_world.specs.Run.{gives, given_back}
+use Rattle.xc_world.specs.World.{World, Pipe, Pair}
 use Rattle.xc_world.specs.Laws.{AgreeAt}
-use Rattle.xc_world.proofs.LocalParts.{agree_itself}
-use Rattle.xc_world.proofs.Objects.{agree_on}
 
 -- ---- other words in a world
 -- two worlds with the words of others agree where both do

@@ -5,7 +5,7 @@ use Rattle.xc_data.specs.declared.object.Object.{Object}
 use Rattle.xc_data.specs.declared.object.Object.TheVariants as object
 use Rattle.xc_data.specs.declared.claim.Claim.{Claim}
 use Rattle.xc_data.specs.declared.call.Call.{Call}
-use Rattle.xc_data.specs.declared.call.Asked.{Asked}
+use Rattle.xc_data.specs.declared.call.CallWithAnswer.{CallWithAnswer}
 use Rattle.xc_data.specs.declared.call.Reply.{Reply}
 use Rattle.xc_data.specs.declared.call.LateCall.{LateCall}
 use Rattle.xc_data.specs.declared.call.LateEnd.{LateEnd}
@@ -29,10 +29,10 @@ pub record Tx : Type 0 where
   -- its job's private state at its begin, and now
   pub began : Private
   pub me : Private
-  -- its calls with their replies, and a call that did its part before memory was wanting for the reply: none, or one
+  -- its calls with their replies, and a call that did its part before memory ran out for the reply: none, or one
   pub calls : List Call
   pub replies : List Reply
-  pub unnoted : List Asked
+  pub unnoted : List CallWithAnswer
   -- the claims that it holds
   pub held : List Claim
   -- its stores, the oldest first: they wait for the commit

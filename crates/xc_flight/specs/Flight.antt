@@ -1,13 +1,13 @@
 -- One active transaction in flight: against the journal's state w, and the station's world `now`.
 use Rattle.std.specs.Prelude.{◌≡◌, ℕ, ◌≤◌, List, [], ◌++◌, length, take, map, All, IsTrue}
 use Rattle.xc_data.specs.declared.object.Object.TheVariants as object
-use Rattle.xc_data.specs.declared.call.Asked.{Asked}
+use Rattle.xc_data.specs.declared.call.CallWithAnswer.{CallWithAnswer}
 use Rattle.xc_data.specs.declared.call.LateCall.{LateCall}
 use Rattle.xc_data.specs.declared.call.LateAnswer.{LateAnswer}
 use Rattle.xc_data.specs.declared.undo.Undo.{Undo}
 use Rattle.xc_txmem.specs.Overlay.{overlaid}
 use Rattle.xc_world.specs.World.{World}
-use Rattle.xc_world.specs.Run.{Ran, Finished, goes_on, body, body_fits, given_back, lates, lates_fit, asked_of, late_asked_of}
+use Rattle.xc_world.specs.Run.{BodyResult, LateResult, goes_on, body, body_fits, given_back, lates, lates_fit, asked_of, late_asked_of}
 use Rattle.xc_world.specs.Ends.{remains, with_remains}
 use Rattle.xc_world.specs.Effects.{whole}
 use Rattle.xc_world.specs.Sound.{IsFree}
@@ -16,15 +16,15 @@ use Rattle.xc_flight.specs.Active.{Tx, Phase, Running, Committing, Undoing, Own,
 
 -- ---- its body on a world
 -- its calls that have a reply
-abbrev pub noted : World → Tx → Ran
+abbrev pub noted : World → Tx → BodyResult
 noted w t = body w t.began t.number (asked_of t.calls t.replies)
 
 -- all that it did
-abbrev pub ran : World → Tx → Ran
+abbrev pub ran : World → Tx → BodyResult
 ran w t = goes_on t.number (noted w t) t.unnoted
 
 -- all its calls with their answers
-abbrev pub asked : Tx → List Asked
+abbrev pub asked : Tx → List CallWithAnswer
 asked t = asked_of t.calls t.replies ++ t.unnoted
 
 -- the late calls that are done, with the answers that their ends tell
@@ -32,7 +32,7 @@ abbrev pub late_done : World → Tx → List (LateCall × LateAnswer)
 late_done w t = late_asked_of (take (length t.late_ends) (ran w t).late) t.late_ends
 
 -- where they lead
-abbrev pub done_late : World → Tx → Finished
+abbrev pub done_late : World → Tx → LateResult
 done_late w t = lates (ran w t).world (late_done w t)
 
 -- what stands of its records: those with no end yet, whole, and of the others what remains

@@ -1,4 +1,4 @@
 pub mod Active
 pub mod Flight
-pub mod Standing
+pub mod State
 pub mod Turns

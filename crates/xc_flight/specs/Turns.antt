@@ -1,9 +1,9 @@
 -- The turns of one transaction: what it is afterwards, and what each turn has to show.
-use Rattle.std.specs.Prelude.{◌≡◌, ◌≢◌, ℕ, List, [], ◌∷◌, ◌++◌, All, IsTrue, length, true}
+use Rattle.std.specs.Prelude.{◌≡◌, ◌≢◌, ℕ, List, [], ◌∷◌, ◌++◌, All, IsTrue, length}
 use Rattle.xc_data.specs.declared.object.Object.{Object}
 use Rattle.xc_data.specs.declared.object.Object.TheVariants as object
 use Rattle.xc_data.specs.declared.claim.Claim.{Claim}
-use Rattle.xc_data.specs.declared.call.Asked.{Asked}
+use Rattle.xc_data.specs.declared.call.CallWithAnswer.{CallWithAnswer}
 use Rattle.xc_data.specs.declared.call.LateCall.{LateCall}
 use Rattle.xc_data.specs.declared.call.LateEnd.{LateEnd}
 use Rattle.xc_data.specs.declared.call.LateAnswer.{LateAnswer}
@@ -11,7 +11,7 @@ use Rattle.xc_data.specs.declared.entry.KeptItem.{KeptItem}
 use Rattle.xc_data.specs.declared.undo.Undo.{Undo}
 use Rattle.xc_data.specs.declared.undo.UndoEnd.{UndoEnd}
 use Rattle.xc_data.specs.declared.private.Private.{Private}
-use Rattle.xc_data.specs.Claims.{compatible}
+use Rattle.xc_data.specs.Claims.{Clash}
 use Rattle.xc_txmem.specs.Overlay.{overlaid}
 use Rattle.xc_world.specs.World.{World}
 use Rattle.xc_world.specs.Act.{act}
@@ -24,7 +24,7 @@ use Rattle.xc_world.specs.Run.{run, asked_of, taken_by}
 use Rattle.xc_world.specs.Ends.{remains, with_remains}
 use Rattle.xc_world.specs.Own.{IsNumbered}
 use Rattle.xc_flight.specs.Active.{Tx, Phase, Running, Undoing, Has, Own, Covers, IsBelow}
-use Rattle.xc_flight.specs.Standing.{Standing, IsActive}
+use Rattle.xc_flight.specs.State.{FlightState, IsActive}
 
 -- ---- it begins
 -- a transaction that has done nothing
@@ -53,20 +53,20 @@ abbrev pub claiming : Tx → List Claim → Tx
 claiming t held = record t { held = held }
 
 -- no other active transaction made the object, and it has no number that is still to be given
-pub record IsOpen (s : Standing) (job : ℕ) (o : Object) : Type 0 where
+pub record IsOpen (s : FlightState) (job : ℕ) (o : Object) : Type 0 where
   pub below : IsBelow s.next o
   pub foreign : (j : ℕ) (u : Tx) → j ≢ job → IsActive s j u → IsNumbered u.number o → ⊥
 
--- two claims on one object go together
+-- two claims go together: they don't clash
 abbrev pub GoTogether : Claim → Claim → Type 0
-GoTogether c d = d.object ≡ c.object → compatible c.mode d.mode ≡ true
+GoTogether c d = Clash c d → ⊥
 
 -- a job's claim goes together with all that others hold
-abbrev pub HasNoRival : Standing → ℕ → Claim → Type 0
+abbrev pub HasNoRival : FlightState → ℕ → Claim → Type 0
 HasNoRival s job c = (j : ℕ) (u : Tx) → j ≢ job → IsActive s j u → All (GoTogether c) u.held
 
 -- it may be granted
-pub record IsGranted (s : Standing) (job : ℕ) (c : Claim) : Type 0 where
+pub record IsGranted (s : FlightState) (job : ℕ) (c : Claim) : Type 0 where
   pub object : IsOpen s job c.object
   pub together : HasNoRival s job c
 
@@ -83,19 +83,19 @@ abbrev pub seen : World → Tx → World
 seen now t = record now { words = overlaid now.words t.writes }
 
 -- the call's step in what it sees
-abbrev pub did : World → Tx → Asked → Stepped
+abbrev pub did : World → Tx → CallWithAnswer → Stepped
 did now t asked = act (seen now t) t.me t.number asked.call asked.answer
 
 -- the record of the call, where it leaves one
-abbrev pub leaving : World → Tx → Asked → List Undo
+abbrev pub leaving : World → Tx → CallWithAnswer → List Undo
 leaving now t asked = recorded (seen now t) t.me t.number asked.call (did now t asked).reply
 
 -- what it took from a pipe or a pair
-abbrev pub taking : World → Tx → Asked → List KeptItem
+abbrev pub taking : World → Tx → CallWithAnswer → List KeptItem
 taking now t asked = taken_by asked.call t.me (did now t asked).reply
 
 -- the transaction with the call noted, and with these stores
-abbrev pub noting : World → Tx → Asked → List (ℕ × ℕ) → Tx
+abbrev pub noting : World → Tx → CallWithAnswer → List (ℕ × ℕ) → Tx
 noting now t asked writes =
     let s = did now t asked in
     record t {
@@ -109,22 +109,22 @@ noting now t asked writes =
     }
 
 -- the station's world after it: its stores wait
-abbrev pub after_call : World → Tx → Asked → World
+abbrev pub after_call : World → Tx → CallWithAnswer → World
 after_call now t asked = record (did now t asked).world { words = now.words }
 
 -- a call may be made: its answer fits, and its claims are held
-pub record MayDo (now : World) (t : Tx) (asked : Asked) : Type 0 where
+pub record MayDo (now : World) (t : Tx) (asked : CallWithAnswer) : Type 0 where
   pub fit : IsTrue (fits (seen now t) t.me t.number asked.call asked.answer)
   pub covers : Covers t.held (claims_of asked.call t.me (length now.words))
 
 -- it is noted: the answer is read off the reply, and these are the stores with its own
-pub record IsNoted (now : World) (t : Tx) (asked : Asked) (writes : List (ℕ × ℕ)) : Type 0 where
+pub record IsNoted (now : World) (t : Tx) (asked : CallWithAnswer) (writes : List (ℕ × ℕ)) : Type 0 where
   pub told : answer_of (did now t asked).reply ≡ asked.answer
   pub words : overlaid now.words writes ≡ (did now t asked).world.words
   pub stored : All (λ s. Own t (object.Word s.0)) writes
 
--- the call did its part, and memory was wanting for its reply: it isn't noted, and the transaction turns back
-abbrev pub wanting : World → Tx → Asked → Tx
+-- the call did its part, and memory ran out for its reply: it isn't noted, and the transaction turns back
+abbrev pub wanting : World → Tx → CallWithAnswer → Tx
 wanting now t asked =
     record t {
       phase = Undoing;
@@ -156,10 +156,10 @@ abbrev pub with_undone : Tx → List Undo → Undo → UndoEnd → Tx
 with_undone t older u end = record t { pending = older; ended = (u, end) ∷ t.ended }
 
 -- ---- its entry
--- S behind the entry of a commit: its body and its late calls are run
+-- S after the entry of a commit: its body and its late calls are run
 abbrev pub after_commit : World → Tx → World
 after_commit w t = (run w t.began t.number (asked_of t.calls t.replies) t.late_ends).late.world
 
--- S behind the entry of an abort: what remains of its records is there
+-- S after the entry of an abort: what remains of its records is there
 abbrev pub after_abort : World → Tx → World
 after_abort w t = with_remains w (remains t.ended)

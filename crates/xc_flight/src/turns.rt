@@ -1,7 +1,7 @@
 ghost use Rattle.std.specs.Prelude.{map, ◌≡◌, ◌<◌, ◌≤◌, ◌+◌, ◌++◌, ◌∷◌, [], ℕ, List, IsTrue, All, Contains, None, Some, length};
 ghost use Rattle.xc_data.specs.declared.object.Object.{Object};
 ghost use Rattle.xc_world.specs.Own.{AgreeOn};
-ghost use Rattle.xc_data.specs.declared.call.Asked.{Asked};
+ghost use Rattle.xc_data.specs.declared.call.CallWithAnswer.{CallWithAnswer};
 ghost use Rattle.xc_data.specs.declared.claim.Claim.{Claim};
 ghost use Rattle.xc_data.specs.declared.call.Call.{Call};
 ghost use Rattle.xc_world.specs.Touch.{touch};
@@ -19,14 +19,13 @@ ghost use Rattle.xc_world.specs.Effects.{AreMadeIn, undone_to};
 ghost use Rattle.xc_data.specs.declared.call.LateCall.{LateCall};
 ghost use Rattle.xc_data.specs.declared.call.LateAnswer.{LateAnswer};
 ghost use Rattle.xc_world.specs.Late.{late};
-ghost use Rattle.xc_world.specs.Run.{run};
 ghost use Rattle.xc_data.specs.declared.private.Private.{Private};
 ghost use Rattle.xc_flight.specs.Flight.{ran, effects, returned};
-ghost use Rattle.xc_flight.specs.Standing.{Standing, InFlight, IsActive, active_at, turned, entered, Flies, begun, IsSoundFor};
+ghost use Rattle.xc_flight.specs.State.{FlightState, InFlight, IsActive, active_at, turned, entered, Flies, begun, IsSoundFor};
 
 /// A transaction begins with the next number: it holds nothing, and owns what it will make.
 pub fn a_begin_keeps_all()
-    ensures { (s : Standing) (job : ℕ) (began : Private) → InFlight s → job < length s.active → active_at s job ≡ None
+    ensures { (s : FlightState) (job : ℕ) (began : Private) → InFlight s → job < length s.active → active_at s job ≡ None
         → InFlight (begun s job (starting s.next began)) }
 {}
 
@@ -38,13 +37,13 @@ pub fn compatible_claims_are_apart()
 /// What a call of a running transaction touches no other active one has made, and its number, where
 /// it has one, was given.
 pub fn a_call_touches_no_new_object_of_another()
-    ensures { (s : Standing) (job : ℕ) (t : Tx) → Flies s job t Running → IsSoundFor s.state t
+    ensures { (s : FlightState) (job : ℕ) (t : Tx) → Flies s job t Running → IsSoundFor s.state t
         → (call : Call) (words : ℕ) (o : Object) → Contains (touch call t.me words) o → IsOpen s job o }
 {}
 
 /// The claims of a call of a running transaction may be granted where they have no rival.
 pub fn claims_without_a_rival_may_be_granted()
-    ensures { (s : Standing) (job : ℕ) (t : Tx) (call : Call) (words : ℕ) → Flies s job t Running → IsSoundFor s.state t
+    ensures { (s : FlightState) (job : ℕ) (t : Tx) (call : Call) (words : ℕ) → Flies s job t Running → IsSoundFor s.state t
         → All (HasNoRival s job) (claims_of call t.me words) → All (IsGranted s job) (claims_of call t.me words) }
 {}
 
@@ -56,79 +55,80 @@ pub fn merged_claims_hold_the_same()
 /// Claims that go together with all that others hold may be granted to a running transaction: one
 /// that it holds shared becomes exclusive too.
 pub fn a_claim_keeps_all()
-    ensures { (s : Standing) (job : ℕ) (t : Tx) (claims held : List Claim) → Flies s job t Running → All (IsGranted s job) claims
+    ensures { (s : FlightState) (job : ℕ) (t : Tx) (claims held : List Claim) → Flies s job t Running → All (IsGranted s job) claims
         → HoldTheSame held (t.held ++ claims) → InFlight (turned s job (Some (claiming t held)) s.now) }
 {}
 
 /// What a running transaction has it sees as its body left it.
 pub fn what_one_has_it_sees()
-    ensures { (s : Standing) (job : ℕ) (t : Tx) → Flies s job t Running → AgreeOn (Has t) (ran s.state t).world (seen s.now t) }
+    ensures { (s : FlightState) (job : ℕ) (t : Tx) → Flies s job t Running → AgreeOn (Has t) (ran s.state t).world (seen s.now t) }
 {}
 
 /// No object has a number that a running transaction is still to give.
 pub fn what_it_will_make_is_absent()
-    ensures { (s : Standing) (job : ℕ) (t : Tx) → Flies s job t Running → IsSoundFor s.state t
+    ensures { (s : FlightState) (job : ℕ) (t : Tx) → Flies s job t Running → IsSoundFor s.state t
         → (k : ℕ) → t.me.made ≤ k → IsFree s.now (num t.number k) }
 {}
 
 /// A call of a running transaction, done by the plain machine in what it sees, keeps all.
 pub fn a_call_keeps_all()
-    ensures { (s : Standing) (job : ℕ) (t : Tx) (asked : Asked) (writes : List (ℕ × ℕ)) → Flies s job t Running
+    ensures { (s : FlightState) (job : ℕ) (t : Tx) (asked : CallWithAnswer) (writes : List (ℕ × ℕ)) → Flies s job t Running
         → MayDo s.now t asked → IsNoted s.now t asked writes
         → InFlight (turned s job (Some (noting s.now t asked writes)) (after_call s.now t asked)) }
 {}
 
 /// A call whose claims have no rival, done and noted in one turn, keeps all.
 pub fn a_call_with_claims_keeps_all()
-    ensures { (s : Standing) (job : ℕ) (t : Tx) (asked : Asked) (held : List Claim) (writes : List (ℕ × ℕ)) → Flies s job t Running
+    ensures { (s : FlightState) (job : ℕ) (t : Tx) (asked : CallWithAnswer) (held : List Claim) (writes : List (ℕ × ℕ))
+        → Flies s job t Running
         → IsSoundFor s.state t → All (HasNoRival s job) (claims_of asked.call t.me (length s.now.words))
         → HoldTheSame held (t.held ++ claims_of asked.call t.me (length s.now.words))
         → IsTrue (fits (seen s.now t) t.me t.number asked.call asked.answer) → IsNoted s.now (claiming t held) asked writes
         → InFlight (turned s job (Some (noting s.now (claiming t held) asked writes)) (after_call s.now t asked)) }
 {}
 
-/// A call that did its part before memory was wanting for its reply turns its transaction back, and
+/// A call that did its part before memory ran out for its reply turns its transaction back, and
 /// keeps all: what it left is undone with the rest.
 pub fn a_call_without_memory_keeps_all()
-    ensures { (s : Standing) (job : ℕ) (t : Tx) (asked : Asked) → Flies s job t Running
+    ensures { (s : FlightState) (job : ℕ) (t : Tx) (asked : CallWithAnswer) → Flies s job t Running
         → MayDo s.now t asked → IsSoundFor s.state t → InFlight (turned s job (Some (wanting s.now t asked)) (after_call s.now t asked)) }
 {}
 
 /// A commit writes its stores.
 pub fn a_commit_keeps_all()
-    ensures { (s : Standing) (job : ℕ) (t : Tx) → Flies s job t Running
+    ensures { (s : FlightState) (job : ℕ) (t : Tx) → Flies s job t Running
         → InFlight (turned s job (Some (in_phase t Committing)) (seen s.now t)) }
 {}
 
 /// What a late call of a committed transaction needs is in the station's world, whoever holds it.
 pub fn a_late_call_is_ready()
-    ensures { (s : Standing) (job : ℕ) (t : Tx) (front rest : List LateCall) (call : LateCall) → Flies s job t Committing
+    ensures { (s : FlightState) (job : ℕ) (t : Tx) (front rest : List LateCall) (call : LateCall) → Flies s job t Committing
         → IsSoundFor s.state t → t.late ≡ front ++ call ∷ rest → IsReady s.now call }
 {}
 
 /// The next late call of a committed transaction, done in the station's world, keeps all.
 pub fn a_late_call_keeps_all()
-    ensures { (s : Standing) (job : ℕ) (t : Tx) (call : LateCall) (answer : LateAnswer) → Flies s job t Committing
+    ensures { (s : FlightState) (job : ℕ) (t : Tx) (call : LateCall) (answer : LateAnswer) → Flies s job t Committing
         → IsDoneLate s.now t call answer
         → InFlight (turned s job (Some (with_end t (late s.now call answer).end)) (late s.now call answer).world) }
 {}
 
 /// A committed transaction whose late calls are all done enters: the journal's state is its run's.
 pub fn a_commit_enters()
-    ensures { (s : Standing) (job : ℕ) (t : Tx) → Flies s job t Committing → length t.late_ends ≡ length t.late
+    ensures { (s : FlightState) (job : ℕ) (t : Tx) → Flies s job t Committing → length t.late_ends ≡ length t.late
         → InFlight (entered s job (after_commit s.state t) s.now) }
 {}
 
 /// A transaction that turns back leaves the station's world as it is.
 pub fn a_turn_back_keeps_all()
-    ensures { (s : Standing) (job : ℕ) (t : Tx) → Flies s job t Running → IsSoundFor s.state t
+    ensures { (s : FlightState) (job : ℕ) (t : Tx) → Flies s job t Running → IsSoundFor s.state t
         → InFlight (turned s job (Some (in_phase t Undoing)) s.now) }
 {}
 
 /// A compensation of the newest record without an end keeps all, where on S with what stands it
 /// leads to S with what stands then.
 pub fn a_compensation_keeps_all()
-    ensures { (s : Standing) (job : ℕ) (t : Tx) (older : List Undo) (u : Undo) (end : UndoEnd) → Flies s job t Undoing
+    ensures { (s : FlightState) (job : ℕ) (t : Tx) (older : List Undo) (u : Undo) (end : UndoEnd) → Flies s job t Undoing
         → IsSoundFor s.state t → t.pending ≡ older ++ u ∷ []
         → undone_to (with_remains s.state (effects t)) u end ≡ with_remains s.state (effects (with_undone t older u end))
         → InFlight (turned s job (Some (with_undone t older u end)) (undone_to s.now u end)) }
@@ -136,13 +136,13 @@ pub fn a_compensation_keeps_all()
 
 /// The records of a transaction were made one after another.
 pub fn a_transaction_leaves_records()
-    ensures { (s : Standing) (job : ℕ) (t : Tx) → InFlight s → IsActive s job t → IsSoundFor s.state t
+    ensures { (s : FlightState) (job : ℕ) (t : Tx) → InFlight s → IsActive s job t → IsSoundFor s.state t
         → AreMadeIn s.state (t.pending ++ map (λ r. r.0) t.ended) }
 {}
 
 /// The compensation of the newest of them keeps all, however it ends.
 pub fn a_recorded_compensation_keeps_all()
-    ensures { (s : Standing) (job : ℕ) (t : Tx) (older : List Undo) (u : Undo) (end : UndoEnd) → Flies s job t Undoing
+    ensures { (s : FlightState) (job : ℕ) (t : Tx) (older : List Undo) (u : Undo) (end : UndoEnd) → Flies s job t Undoing
         → IsSoundFor s.state t → AreMadeIn s.state (t.pending ++ map (λ r. r.0) t.ended) → t.pending ≡ older ++ u ∷ []
         → (tries : ℕ) → IsLegalEnd tries u end (blocker (length older + 1 + 1) u t.ended)
         → InFlight (turned s job (Some (with_undone t older u end)) (undone_to s.now u end)) }
@@ -151,6 +151,6 @@ pub fn a_recorded_compensation_keeps_all()
 /// An aborted transaction, each of whose records has its end, gives back what it took and enters: the
 /// journal's state is as before, with what remains.
 pub fn an_abort_enters()
-    ensures { (s : Standing) (job : ℕ) (t : Tx) → Flies s job t Undoing → IsSoundFor s.state t → t.pending ≡ []
+    ensures { (s : FlightState) (job : ℕ) (t : Tx) → Flies s job t Undoing → IsSoundFor s.state t → t.pending ≡ []
         → InFlight (entered s job (after_abort s.state t) (returned s.now t Undoing)) }
 {}

@@ -16,7 +16,7 @@ rises_sum (suc m) (suc n) a b c h k =
     let all : RisesBy (suc (m + suc n)) a c = omega (arith, h, k) in
     subst (λ x. RisesBy x a c) (let e : suc (m + suc n) ≡ suc m + suc n = omega arith in e) all
 
--- calls, and others behind them
+-- calls, and others after them
 pub called_then : (made more : List Kind) (a b c : Kind → ℕ) → IsCalled made a b → IsCalled more b c → IsCalled (made ++ more) a c
 called_then made more a b c first then kind =
     subst (λ n. RisesBy n (a kind) (c kind)) (sym (sum_by-append (λ k. cond (counts_for kind k) 1 0) made more))

@@ -1,5 +1,5 @@
 -- Calls of a host that keep each pipe and each pair.
-use Rattle.std.proofs.Common.{◌≡◌, ℕ, Bool, true, false, cond, Option, Some, List, [], ◌∷◌, refl, ap, sym, ◌∙◌, subst}
+use Rattle.std.proofs.Common.{◌≡◌, ℕ, Bool, true, false, cond, Some, List, [], ◌∷◌, refl, ap, ◌∙◌}
 use Rattle.std.specs.Prelude.{is_some}
 use Rattle.std.specs.FinMap as map
 use Rattle.std.specs.Ordering.{eq_by_cmp}
@@ -13,11 +13,11 @@ use Rattle.xc_host.specs.Kept.{KeepsData}
 use Rattle.xc_host.specs.Pairs.{sent_from}
 use Rattle.xc_host.specs.Pipes.{put_front, put_into, shut_in, taken_from, with_new_pipe}
 
--- what is there is there behind a change of nothing
+-- what is there is there after a change of nothing
 pub keeps_itself : (c : Contents) → KeepsData c c
 keeps_itself c = record { pipes = λ num is. is; pairs = λ num is. is }
 
--- and behind two changes that keep all
+-- and after two changes that keep all
 pub keeps_then : (c d e : Contents) → KeepsData c d → KeepsData d e → KeepsData c e
 keeps_then c d e first second = record { pipes = λ num is. second.pipes num (first.pipes num is); pairs = λ num is. second.pairs num (first.pairs num is) }
 

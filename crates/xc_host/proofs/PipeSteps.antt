@@ -22,7 +22,7 @@ it_is c num pipe = ap (λ o. unwrap_or o empty_pipe) (get-insert_same num_total 
 it_is_there : (c : Contents) (num : Num) (pipe : Pipe) → has_pipe (with_it c num pipe) num ≡ true
 it_is_there c num pipe = ap is_some (get-insert_same num_total num_exact c.pipes num pipe)
 
--- a change behind a change of one pipe
+-- a change after a change of one pipe
 twice : (c : Contents) (num : Num) (one : Pipe) (f : Pipe → Pipe)
     → with_it (with_it c num one) num (f (pipe_in (with_it c num one) num)) ≡ with_it c num (f one)
 twice c num one f =
@@ -43,14 +43,14 @@ put_front-put c num [] (y ∷ ys) some = refl
 put_front-put c num (x ∷ xs) ys some = put-put c num (x ∷ xs) ys
 put_front-put c num [] [] some = absurd (omega (arith, some))
 
--- a put behind a front that was put makes a longer front
+-- a put after a front that was put makes a longer front
 pub front_put : (c : Contents) (num : Num) (done more : ℕ) (bytes : List ℕ) → 0 < more → done + more ≤ length bytes
     → put_into (put_front c num (take done bytes)) num (take more (drop done bytes)) ≡ put_front c num (take (done + more) bytes)
 front_put c num done more bytes some le =
     let count : length (take more (drop done bytes)) ≡ more = length-take more (drop done bytes) ∙ omega (arith, length-drop done bytes) in
     put_front-put c num (take done bytes) (take more (drop done bytes)) (omega (arith, count)) ∙ ap (put_front c num) (sym (take-add done more bytes))
 
--- a put leaves the pipe there, with the bytes behind its own
+-- a put leaves the pipe there, with the bytes after its own
 pub put_leaves : (c : Contents) (num : Num) (bytes : List ℕ) → has_pipe c num ≡ true
     → (has_pipe (put_front c num bytes) num ≡ true)
     × (pipe_in (put_front c num bytes) num ≡ record (pipe_in c num) { held = (pipe_in c num).held ++ bytes })
@@ -70,7 +70,7 @@ some_front : (c : Contents) (num : Num) (n : ℕ) → 0 < n → taken_from c num
 some_front c num zero some = absurd (omega (arith, some))
 some_front c num (suc n) some = refl
 
--- a take behind a front that was taken takes a longer front
+-- a take after a front that was taken takes a longer front
 pub front_taken : (c : Contents) (num : Num) (done more : ℕ) → 0 < more
     → taken_from (taken_front c num done) num more ≡ taken_front c num (done + more)
 front_taken c num zero more some = some_front c num more some ∙ ap (taken_front c num) (let e : more ≡ 0 + more = omega arith in e)

@@ -74,7 +74,7 @@ counts_one counts made kind.Any len =
     get_or-set_at own 24 24 (next_of kind.Any counts) 0 refl (omega (arith, len, length-set counts (place_of made) (next_of made counts)))
 counts_one counts made k len = counts_other counts made k (next_of kind.Any counts) (λ e. omega (arith, e)) len
 
--- the same of the counts behind it
+-- the same of the counts after it
 pub is_called : (before after : List ℕ) (made : Kind) → after ≡ with_call made before → length before ≡ 25
     → IsCalled (made ∷ []) (calls_of before) (calls_of after)
 is_called before after made is len =

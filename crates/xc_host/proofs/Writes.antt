@@ -12,7 +12,7 @@ use Rattle.xc_host.specs.Contents.{Contents, file_in, has_file, wrote, wrote_fro
 use Rattle.xc_world.specs.Act.Files.{overwritten}
 use Rattle.xc_world.proofs.SoundFiles.{length-overwritten}
 
--- one overwrite behind another
+-- one overwrite after another
 overwritten-more : (at : ℕ) (xs ys f : List ℕ) → at + (length xs + length ys) ≤ length f
     → overwritten (at + length xs) ys (overwritten at xs f) ≡ overwritten at (xs ++ ys) f
 overwritten-more at xs ys f le =
@@ -30,7 +30,7 @@ overwritten-more at xs ys f le =
 file_in-wrote : (c : Contents) (file : Num) (at : ℕ) (xs : List ℕ) → file_in (wrote c file at xs) file ≡ overwritten at xs (file_in c file)
 file_in-wrote c file at xs = ap (λ o. unwrap_or o []) (get-insert_same num_total num_exact c.files file (overwritten at xs (file_in c file)))
 
--- a write behind a write
+-- a write after a write
 wrote-more : (c : Contents) (file : Num) (at : ℕ) (xs ys : List ℕ) → at + (length xs + length ys) ≤ length (file_in c file)
     → wrote (wrote c file at xs) file (at + length xs) ys ≡ wrote c file at (xs ++ ys)
 wrote-more c file at xs ys le =
@@ -41,14 +41,14 @@ wrote-more c file at xs ys le =
     ∙ ap (λ m. record c { files = m })
     (insert-insert_same num_total num_exact c.files file (overwritten at xs (file_in c file)) (overwritten at (xs ++ ys) (file_in c file)))
 
--- a write that isn't empty, behind a front
+-- a write that isn't empty, after a front
 wrote_front-more : (c : Contents) (file : Num) (at : ℕ) (xs ys : List ℕ) → 0 < length ys → at + (length xs + length ys) ≤ length (file_in c file)
     → wrote (wrote_front c file at xs) file (at + length xs) ys ≡ wrote_front c file at (xs ++ ys)
 wrote_front-more c file at [] (y ∷ ys) some le = let e : at + 0 ≡ at = omega arith in ap (λ n. wrote c file n (y ∷ ys)) e
 wrote_front-more c file at (x ∷ xs) ys some le = wrote-more c file at (x ∷ xs) ys le
 wrote_front-more c file at [] [] some le = absurd (omega arith)
 
--- a write behind a front that was written makes a longer front
+-- a write after a front that was written makes a longer front
 pub front_grows : (c : Contents) (file : Num) (at done more : ℕ) (bytes : List ℕ) → 0 < more → done + more ≤ length bytes
     → at + length bytes ≤ length (file_in c file)
     → wrote (wrote_front c file at (take done bytes)) file (at + done) (take more (drop done bytes)) ≡ wrote_front c file at (take (done + more) bytes)

@@ -8,7 +8,7 @@ use Rattle.xc_host.specs.declared.errors.Fault.{Fault}
 use Rattle.xc_host.specs.declared.errors.HostErr.{HostErr}
 use Rattle.xc_host.specs.declared.errors.HostErr.TheVariants as host_err
 
--- the answer is a fault; want of memory is none
+-- the answer is a fault; lack of memory is none
 abbrev pub is_fault : {T : Type 0} → Result T HostErr → Bool
 is_fault (Ok x) = false
 is_fault (Err host_err.Fault) = true

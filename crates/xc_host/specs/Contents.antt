@@ -34,7 +34,7 @@ abbrev pub wrote_front : Contents → Num → ℕ → List ℕ → Contents
 wrote_front c file at [] = c
 wrote_front c file at (b ∷ bs) = wrote c file at (b ∷ bs)
 
--- bytes stand behind those of a file
+-- bytes stand after those of a file
 abbrev pub appended : Contents → Num → List ℕ → Contents
 appended c file bytes = record c { files = map.insert c.files file (file_in c file ++ bytes) }
 

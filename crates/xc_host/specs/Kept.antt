@@ -6,7 +6,7 @@ use Rattle.xc_data.specs.declared.object.Num.{Num}
 use Rattle.xc_host.specs.Contents.{Contents, contents_of, world_of}
 use Rattle.xc_world.specs.Run.{given_back}
 
--- these contents with kept data in front, each item before those behind it
+-- these contents with kept data in front, each item before those after it
 abbrev pub with_kept : Contents → List KeptItem → Contents
 with_kept contents items = contents_of (given_back (world_of contents) items)
 

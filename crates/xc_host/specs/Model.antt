@@ -38,7 +38,7 @@ pub record IsUsed {H : Type 0} (model : HostModel H) (made : List Kind) (step : 
   pub called : IsCalled made (model.calls step.old) (model.calls step.new)
   pub plan : model.plan step.new ≡ model.plan step.old
 
--- one call of a host. Over one that tells, its contents behind an answer are what the effect makes of those before, and where
+-- one call of a host. Over one that tells, its contents after an answer are what the effect makes of those before, and where
 -- the call failed they are as before. The count of faults rises exactly where it answers a fault
 pub record Answers {H T : Type 0} (model : HostModel H) (kind : Kind) (step : Step H) (answer : Result T HostErr)
     (effect : T → Contents → Contents) : Type 0 where

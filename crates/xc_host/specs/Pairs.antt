@@ -27,7 +27,7 @@ abbrev pub received_from : Contents → Num → ℕ → Contents
 received_from c num side =
     contents_of (with_pair (world_of c) num (with_waiting (pair_in c num) side (drop 1 (waiting (pair_in c num) side))))
 
--- a message of a side stands behind those that wait for the other one
+-- a message of a side stands after those that wait for the other one
 abbrev pub sent_from : Contents → Num → ℕ → List ℕ → Contents
 sent_from c num side bytes = contents_of (with_pair (world_of c) num (sent_to (pair_in c num) (other_side side) bytes))
 

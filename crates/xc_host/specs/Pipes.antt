@@ -1,5 +1,5 @@
 -- What the calls on pipes, and the one that shuts a pipe or a pair, do to what a host holds.
-use Rattle.std.specs.Prelude.{◌≡◌, ℕ, zero, suc, ◌≤◌, ◌<◌, Bool, true, false, is_some, List, [], ◌∷◌, length, take, drop, unwrap_or}
+use Rattle.std.specs.Prelude.{◌≡◌, ℕ, zero, suc, ◌≤◌, ◌<◌, Bool, true, false, is_some, List, [], ◌∷◌, length, take, drop}
 use Rattle.std.specs.FinMap as map
 use Rattle.xc_data.specs.declared.object.Num.{Num}
 use Rattle.xc_data.specs.declared.object.Object.{Object}
@@ -33,7 +33,7 @@ abbrev pub taken_front : Contents → Num → ℕ → Contents
 taken_front c num zero = c
 taken_front c num (suc n) = taken_from c num (suc n)
 
--- bytes stand behind those of a pipe
+-- bytes stand after those of a pipe
 abbrev pub put_into : Contents → Num → List ℕ → Contents
 put_into c num bytes = contents_of (with_put (world_of c) num bytes)
 

@@ -35,7 +35,7 @@ ReadsFor n (reply.Got bytes) count = MayMove n count × (count ≤ length bytes 
 ReadsFor n reply.End count = count ≡ 1
 ReadsFor n r count = MayMove n count
 
--- takes until so many bytes are there or one gives none, behind kept bytes: where these are enough there is no take, and a pipe
+-- takes until so many bytes are there or one gives none, after kept bytes: where these are enough there is no take, and a pipe
 -- that has none of either is asked once
 abbrev pub TakesFor : ℕ → Reply → ℕ → Type 0
 TakesFor n (reply.Got bytes) count = (count ≤ n) × (count ≤ length bytes + 1) × (length bytes < n → 1 ≤ count)
@@ -104,7 +104,7 @@ abbrev pub CallsOf : Option Reply → Call → Reply → List Kind → Type 0
 CallsOf (Some refused) c r made = made ≡ []
 CallsOf None c r made = CallsFor c r made
 
--- ---- where memory was wanting behind some of them
+-- ---- where memory ran out after some of them
 -- the kinds of calls that it makes, in the order in which it begins with them
 abbrev pub StopsFor : Call → List Kind → Type 0
 StopsFor (call.XOpen name) made = made ≡ kind.Lookup ∷ []
@@ -126,7 +126,7 @@ UnlinksFor late_end.Done made = made ≡ kind.Lookup ∷ kind.Unlink ∷ []
 UnlinksFor (late_end.Fault n) made = (made ≡ kind.Lookup ∷ []) ⊎ (made ≡ kind.Lookup ∷ kind.Unlink ∷ [])
 UnlinksFor end made = made ≡ kind.Lookup ∷ []
 
--- how often a write of n bytes to a pipe puts, behind the look at how it stands: until all that fits is put, or a put fails
+-- how often a write of n bytes to a pipe puts, after the look at how it stands: until all that fits is put, or a put fails
 abbrev pub PutsFor : ℕ → LateEnd → ℕ → Type 0
 PutsFor n late_end.Done count = MayMove n count
 PutsFor n (late_end.Full done) count = MayMove done count
@@ -136,7 +136,7 @@ PutsFor n (late_end.NoMemory zero) count = count ≡ 1
 PutsFor n (late_end.NoMemory (suc done)) count = (2 ≤ count) × (count ≤ done + 2)
 PutsFor n end count = count ≡ 0
 
--- what a message's sending makes that ended so: behind the look at what waits for the other side, one call
+-- what a message's sending makes that ended so: after the look at what waits for the other side, one call
 abbrev pub SendsFor : LateEnd → List Kind → Type 0
 SendsFor late_end.Done made = made ≡ kind.PairState ∷ kind.Send ∷ []
 SendsFor (late_end.Fault n) made = (made ≡ kind.PairState ∷ []) ⊎ (made ≡ kind.PairState ∷ kind.Send ∷ [])

@@ -21,11 +21,12 @@ use xc_data::{Chunk, Name, Num, Object, Prologue};
 /// What the calls of transactions go to. Only its own calls change it.
 ///
 /// A call that fails changes nothing. A count of faults rises by one exactly where a call answers a
-/// fault; a count of calls of each kind rises by one at each call behind the opening. Each host keeps
+/// fault; a count of calls of each kind rises by one at each call after the opening. Each host keeps
 /// its allocator. For a host that tells, every object that a call names is there.
 pub trait Host: Drop {
     ghost model: { HostModel Self };
 
+    /// How many calls have answered a fault. It never falls, and takes no memory.
     fn faults(&self) -> u64
         ensures { result ≡ model.fault_count self.now };
 
@@ -124,7 +125,7 @@ pub trait Host: Drop {
         ensures value { IsTrue model.tells → IfOk result (IsTakenOf (pipe_in (model.contents self.old) pipe)) }
         ensures answered { Answers model Kind.Take (record { old = self.old; new = self.new }) result (after_take pipe) };
 
-    /// Puts a front of the bytes behind a pipe's, and answers its length. A pipe holds at most 4,096 bytes.
+    /// Puts a front of the bytes after a pipe's, and answers its length. A pipe holds at most 4,096 bytes.
     fn put(&mut self, pipe: Num, bytes: &[u8]) -> Result<u32, HostErr>
         requires there { IsTrue model.tells → has_pipe (model.contents self.old) pipe ≡ true }
         requires unshut { IsTrue model.tells → (pipe_in (model.contents self.old) pipe).shut ≡ false }
@@ -157,7 +158,7 @@ pub trait Host: Drop {
         ensures value { IsTrue model.tells → IfOk result (IsReceivedOf (pair_in (model.contents self.old) pair) side) }
         ensures answered { Answers model Kind.Recv (record { old = self.old; new = self.new }) result (after_receipt pair side) };
 
-    /// Puts a side's message behind those that wait for the other side. At most 8 wait there.
+    /// Puts a side's message after those that wait for the other side. At most 8 wait there.
     fn send(&mut self, pair: Num, side: u8, bytes: &[u8]) -> Result<(), HostErr>
         requires there { IsTrue model.tells → has_pair (model.contents self.old) pair ≡ true }
         requires side { side < 2 }

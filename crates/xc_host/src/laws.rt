@@ -7,7 +7,7 @@ ghost use Rattle.xc_host.specs.Pipes.{pipe_in, has_pipe, taken_from, taken_front
 
 use crate::Host;
 
-/// A write behind a front that was written makes a longer front.
+/// A write after a front that was written makes a longer front.
 pub fn a_front_grows()
     ensures { (c : Contents) (file : Num) (at done more : ℕ) (bytes : List ℕ) → 0 < more → done + more ≤ length bytes
         → at + length bytes ≤ length (file_in c file)
@@ -27,19 +27,19 @@ pub fn a_used_host_is_used_on<H: Host>()
         → IsUsed H.model more (record { old = b; new = c }) → IsUsed H.model (made ++ more) (record { old = a; new = c }) }
 {}
 
-/// A put behind a front that was put makes a longer front.
+/// A put after a front that was put makes a longer front.
 pub fn a_longer_front_is_put()
     ensures { (c : Contents) (pipe : Num) (done more : ℕ) (bytes : List ℕ) → 0 < more → done + more ≤ length bytes
         → put_into (put_front c pipe (take done bytes)) pipe (take more (drop done bytes)) ≡ put_front c pipe (take (done + more) bytes) }
 {}
 
-/// A put leaves a pipe that is there as it was, but for the bytes behind those that it held.
+/// A put leaves a pipe that is there as it was, but for the bytes after those that it held.
 pub fn a_put_leaves_the_pipe()
     ensures { (c : Contents) (pipe : Num) (bytes : List ℕ) → has_pipe c pipe ≡ true → (has_pipe (put_front c pipe bytes) pipe ≡ true)
         × (pipe_in (put_front c pipe bytes) pipe ≡ record (pipe_in c pipe) { held = (pipe_in c pipe).held ++ bytes }) }
 {}
 
-/// A take behind a front that was taken takes a longer front.
+/// A take after a front that was taken takes a longer front.
 pub fn a_longer_front_is_taken()
     ensures { (c : Contents) (pipe : Num) (done more : ℕ) → 0 < more
         → taken_from (taken_front c pipe done) pipe more ≡ taken_front c pipe (done + more) }

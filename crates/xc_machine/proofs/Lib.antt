@@ -1,4 +1,3 @@
 pub mod MachineMaps
-pub mod MachineFits
 pub mod MachineCounts
 pub mod MachineRun

@@ -5,7 +5,7 @@ use Rattle.xc_data.specs.declared.call.Answer.TheVariants as answer
 use Rattle.xc_data.specs.declared.private.Private.{Private}
 use Rattle.xc_world.specs.World.{World}
 use Rattle.xc_world.specs.Act.{act}
-use Rattle.xc_data.specs.declared.call.Asked.{Asked}
+use Rattle.xc_data.specs.declared.call.CallWithAnswer.{CallWithAnswer}
 use Rattle.xc_world.specs.Run.{body_fits}
 use Rattle.xc_world.specs.Fits.{fits}
 use Rattle.std.specs.Prelude.{◌&&◌, IsTrue}
@@ -20,9 +20,10 @@ behind_test true b e = e
 behind_test false b e = cc
 
 -- a host that does its part in each call fits every body
-pub fine_fits : (w : World) (me : Private) (tx : ℕ) (asked : List Asked) → All (λ (c : Asked). c.answer ≡ answer.Fine) asked → IsTrue (body_fits w me tx asked)
+pub fine_fits : (w : World) (me : Private) (tx : ℕ) (asked : List CallWithAnswer) → All (λ (c : CallWithAnswer). c.answer ≡ answer.Fine) asked
+    → IsTrue (body_fits w me tx asked)
 fine_fits w me tx [] fine = refl
 fine_fits w me tx (c ∷ asked) fine =
-    let P : Asked → Type 0 = λ c. c.answer ≡ answer.Fine in
+    let P : CallWithAnswer → Type 0 = λ c. c.answer ≡ answer.Fine in
     let s = act w me tx c.call c.answer in
     ap₂ (λ x y. x && y) (ap (fits w me tx c.call) (All-head P c asked fine)) (fine_fits s.world s.me tx asked (All-tail P c asked fine))

@@ -10,7 +10,9 @@ ghost use Rattle.xc_world.specs.Run.{body, body_fits, taken_by};
 
 use crate::{World, hold, taken_by};
 use std::alloc::Global;
-use xc_data::{Asked, Claim, Items, KeptList, LateCall, NoMemory, Private, Reply, ReplyList};
+use xc_data::{
+    CallWithAnswer, Claim, Items, KeptList, LateCall, NoMemory, Private, Reply, ReplyList,
+};
 use xc_world::touched;
 
 /// What a body gave on its way, in the order of its calls: their replies, its late calls and what it
@@ -55,7 +57,7 @@ impl Replied {
     }
 
     // What a call with this reply took is taken.
-    fn take(&mut self, asked: &Asked, me: &Private, reply: &Reply) -> Result<(), NoMemory>
+    fn take(&mut self, asked: &CallWithAnswer, me: &Private, reply: &Reply) -> Result<(), NoMemory>
         ensures replies { OnOk result (self.new.replies ≡ self.old.replies) }
         ensures late { OnOk result (self.new.late ≡ self.old.late) }
         ensures taken { OnOk result (self.new.taken ≡ self.old.taken ++ taken_by asked.now.call me.now reply.now) }
@@ -72,7 +74,7 @@ impl Replied {
         world: &mut World,
         me: &mut Private,
         tx: u32,
-        asked: &Asked,
+        asked: &CallWithAnswer,
     ) -> Result<(), NoMemory>
         requires sound { IsSound world.old me.old tx }
         requires fits { IsTrue (fits world.old me.old tx asked.now.call asked.now.answer) }
@@ -106,7 +108,7 @@ pub fn run_body(
     world: &mut World,
     me: &mut Private,
     tx: u32,
-    asked: &[Asked],
+    asked: &[CallWithAnswer],
 ) -> Result<Replied, NoMemory>
     requires sound { IsSound world.old me.old tx }
     requires fits { IsTrue (body_fits world.old me.old tx asked.now) }

@@ -24,7 +24,7 @@ abbrev pub Changes : {K X : Type 0} → (K → K → Ordering) → K → Option 
 Changes {K = K} R k w es fs = (q : K) → lookup (is_at (R q)) fs ≡ cond (is_at (R k) q) w (lookup (is_at (R q)) es)
 
 module _ {K X : Type 0} {R : K → K → Ordering} (o : IsTotalOrder R) (same : CmpEqualImpliesEq R) where
-  -- what two lists, one behind the other, have at a key
+  -- what two lists, one after the other, have at a key
   abbrev pub at : List (K × X) → List (K × X) → K → Option X
   at es tree q = lookup (is_at (R q)) (es ++ tree)
 
@@ -43,7 +43,7 @@ module _ {K X : Type 0} {R : K → K → Ordering} (o : IsTotalOrder R) (same : 
   passed false true w y u v h e = refl
   passed false false w y u v h e = e
 
-  -- a change at one key stands behind an entry of another
+  -- a change at one key stands after an entry of another
   step : (k q : K) (e : K × X) (w u v : Option X) → is_at (R k) e.0 ≡ false → u ≡ cond (is_at (R k) q) w v
       → cond (is_at (R q) e.0) (Some e.1) u ≡ cond (is_at (R k) q) w (cond (is_at (R q) e.0) (Some e.1) v)
   step k q e w u v other is =
@@ -108,7 +108,7 @@ module _ {K X : Type 0} {R : K → K → Ordering} (o : IsTotalOrder R) (same : 
   none_either true r e = refl
   none_either false r e = e
 
-  -- behind an entry that was taken out
+  -- after an entry that was taken out
   pub fresh_cut : (es tree : List (K × X)) (i : ℕ) (k : K) (x : X) → AreNew R es tree → slice_get es i ≡ Some (k, x)
       → AreNew R (list.remove es i) tree
   fresh_cut [] tree i k x h is = absurd (cc)

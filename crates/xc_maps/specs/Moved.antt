@@ -5,7 +5,7 @@ use Rattle.std.specs.BTreeMap.{is_at}
 use Rattle.std.specs.Map.{lookup}
 
 module _ {K X : Type 0} (R : K → K → Ordering) where
-  -- no entry's key stands behind it, nor in the tree
+  -- no entry's key stands after it, nor in the tree
   abbrev pub AreNew : List (K × X) → List (K × X) → Type 0
   AreNew [] tree = Unit {0}
   AreNew (e ∷ es) tree = (lookup (is_at (R e.0)) (es ++ tree) ≡ None) × AreNew es tree

@@ -58,6 +58,7 @@ pub(crate) fn take<V>(
 }
 
 // Makes room for one entry more, if the name is new. Whether there is room.
+// No clause of the tree says that an insertion after a removal finds room, so a renamed entry waits outside.
 pub(crate) fn make_room<V>(
     moved: &mut Vec<(Name, V)>,
     entries: &BTreeMap<Name, V>,

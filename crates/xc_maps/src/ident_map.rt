@@ -1,4 +1,4 @@
-ghost use Rattle.std.specs.Prelude.{◌≡◌, IfOk, OnOk, OnErr, None, is_some};
+ghost use Rattle.std.specs.Prelude.{◌≡◌, IfOk, OnOk, OnErr, None};
 ghost use Rattle.std.specs.Option.{option_copied};
 ghost use Rattle.std.specs.FinMap as map;
 ghost use Rattle.xc_maps.specs.Keys.{name_cmp};
@@ -26,6 +26,7 @@ impl<V> Model for IdentMap<V> {
 }
 
 impl<V> IdentMap<V> {
+    /// An empty map. It takes no memory.
     pub fn new(alloc: Global) -> Self
         ensures { result ≡ map.empty }
     {
@@ -34,6 +35,7 @@ impl<V> IdentMap<V> {
         }
     }
 
+    /// The value of an identifier, if it has one.
     pub fn get(&self, ident: Ident) -> Option<&V>
         ensures { option_copied result ≡ map.get self.now ident }
     {
@@ -42,7 +44,7 @@ impl<V> IdentMap<V> {
 }
 
 impl<V: Drop> IdentMap<V> {
-    /// Sets an identifier's value. Only a new identifier can want memory.
+    /// Sets an identifier's value. Only a new identifier can run out of memory.
     pub fn insert(&mut self, ident: Ident, value: V) -> Result<(), NoMemory>
         ensures ok { OnOk result (self.new ≡ map.insert self.old ident value) }
         ensures err { OnErr result (self.new ≡ self.old) }
@@ -54,6 +56,7 @@ impl<V: Drop> IdentMap<V> {
         }
     }
 
+    /// Takes an identifier's value out, if it has one. It takes no memory.
     pub fn remove(&mut self, ident: Ident) -> Option<V>
         ensures value { result ≡ map.get self.old ident }
         ensures removed { self.new ≡ map.remove self.old ident }

@@ -1,4 +1,4 @@
-ghost use Rattle.std.specs.Prelude.{◌≡◌, ◌≤◌, IfOk, OnOk, OnErr, None, Some, is_some, true};
+ghost use Rattle.std.specs.Prelude.{◌≡◌, OnOk, OnErr, None, Some, is_some, true};
 ghost use Rattle.std.specs.Option.{option_copied};
 ghost use Rattle.std.specs.FinMap as map;
 ghost use Rattle.xc_maps.specs.Keys.{name_cmp};
@@ -34,6 +34,7 @@ impl<V> Model for NameMap<V> {
 }
 
 impl<V> NameMap<V> {
+    /// An empty map. It takes no memory.
     pub fn new(alloc: Global) -> Self
         ensures { result ≡ map.empty }
     {
@@ -43,6 +44,7 @@ impl<V> NameMap<V> {
         }
     }
 
+    /// The value of a name, if it has one.
     pub fn get(&self, name: Name) -> Option<&V>
         ensures { option_copied result ≡ map.get self.now name }
     {
@@ -54,7 +56,7 @@ impl<V> NameMap<V> {
 }
 
 impl<V: Drop> NameMap<V> {
-    /// Sets a name's value. Only a new name can want memory.
+    /// Sets a name's value. Only a new name can run out of memory.
     pub fn insert(&mut self, name: Name, value: V) -> Result<(), NoMemory>
         ensures ok { OnOk result (self.new ≡ map.insert self.old name value) }
         ensures err { OnErr result (self.new ≡ self.old) }
@@ -73,6 +75,7 @@ impl<V: Drop> NameMap<V> {
         }
     }
 
+    /// Takes a name's value out, if it has one. It takes no memory.
     pub fn remove(&mut self, name: Name) -> Option<V>
         ensures value { result ≡ map.get self.old name }
         ensures removed { self.new ≡ map.remove self.old name }

@@ -1,4 +1,4 @@
-ghost use Rattle.std.specs.Prelude.{◌≡◌, IfOk, OnOk, OnErr, None, is_some, true};
+ghost use Rattle.std.specs.Prelude.{◌≡◌, OnOk, OnErr, None, is_some, true};
 ghost use Rattle.std.specs.Option.{option_copied};
 ghost use Rattle.std.specs.FinMap as map;
 ghost use Rattle.xc_maps.specs.Keys.{num_cmp};
@@ -26,6 +26,7 @@ impl<V> Model for NumMap<V> {
 }
 
 impl<V> NumMap<V> {
+    /// An empty map. It takes no memory.
     pub fn new(alloc: Global) -> Self
         ensures { result ≡ map.empty }
     {
@@ -34,6 +35,7 @@ impl<V> NumMap<V> {
         }
     }
 
+    /// The value of a number, if it has one.
     pub fn get(&self, num: Num) -> Option<&V>
         ensures { option_copied result ≡ map.get self.now num }
     {
@@ -42,7 +44,7 @@ impl<V> NumMap<V> {
 }
 
 impl<V: Drop> NumMap<V> {
-    /// Sets a number's value. Only a new number can want memory.
+    /// Sets a number's value. Only a new number can run out of memory.
     pub fn insert(&mut self, num: Num, value: V) -> Result<(), NoMemory>
         ensures ok { OnOk result (self.new ≡ map.insert self.old num value) }
         ensures err { OnErr result (self.new ≡ self.old) }
@@ -66,6 +68,7 @@ impl<V: Drop> NumMap<V> {
         }
     }
 
+    /// Takes a number's value out, if it has one. It takes no memory.
     pub fn remove(&mut self, num: Num) -> Option<V>
         ensures value { result ≡ map.get self.old num }
         ensures removed { self.new ≡ map.remove self.old num }

@@ -8,10 +8,10 @@ use Rattle.xc_data.specs.declared.script.Kind.TheVariants.{Any}
 use Rattle.xc_data.specs.Counts.{counted}
 use Rattle.xc_data.specs.Kinds.{is_kind}
 use Rattle.xc_host.specs.Counting.{next_of, with_call}
-use Rattle.xc_memhost.specs.State.{HostState}
+use Rattle.xc_memhost.specs.State.{MemState}
 
 -- the state with a call of this kind counted
-abbrev pub called : Kind → HostState → HostState
+abbrev pub called : Kind → MemState → MemState
 called kind s = record s { calls = with_call kind s.calls }
 
 -- ---- a fault
@@ -32,11 +32,11 @@ abbrev pub lists : Kind → ℕ → ℕ → FaultLine → Bool
 lists kind n a line = is_line_of kind n line || is_line_of Any a line
 
 -- a line lists the next call, if it is of this kind
-abbrev pub is_listed : Kind → HostState → Bool
+abbrev pub is_listed : Kind → MemState → Bool
 is_listed kind s = list_any (lists kind (next_of kind s.calls) (next_of Any s.calls)) s.lines
 
 -- the state with a call of this kind counted, and its fault
-abbrev pub begun : Kind → HostState → HostState
+abbrev pub begun : Kind → MemState → MemState
 begun kind s = record (called kind s) { fault_count = if is_listed kind s then counted s.fault_count else s.fault_count }
 
 -- ---- the grain

@@ -4,4 +4,4 @@ pub mod Spans
 pub mod Pipes
 pub mod Pairs
 pub mod Machine
-pub mod Told
+pub mod Telling

@@ -13,7 +13,7 @@ use Rattle.xc_memhost.specs.declared.calls.HostCall.{HostCall}
 use Rattle.xc_memhost.specs.declared.calls.HostCall.TheVariants as call
 use Rattle.xc_memhost.specs.declared.calls.HostAnswer.{HostAnswer}
 use Rattle.xc_memhost.specs.declared.calls.HostAnswer.TheVariants.{Found, Number, Got, Stands, Taken, Done, Fault}
-use Rattle.xc_memhost.specs.State.{HostState}
+use Rattle.xc_memhost.specs.State.{MemState}
 use Rattle.xc_memhost.specs.Faults.{is_listed, begun, grained}
 use Rattle.xc_memhost.specs.Pipes.{took_of, MayTake, MayPut, MayShut}
 use Rattle.xc_memhost.specs.Pairs.{received_of, MayAsk, MaySend}
@@ -47,35 +47,35 @@ kind_of (call.DropPair num) = kind.DropPair
 
 -- ---- a call that doesn't fail
 -- of n bytes from `at`, those that are there and that one call reads
-abbrev pub front_of : HostState → Num → ℕ → ℕ → List ℕ
+abbrev pub front_of : MemState → Num → ℕ → ℕ → List ℕ
 front_of s file at n = take (grained s.grain n) (drop at (file_in s.contents file))
 
 -- as many of the bytes as one call writes
-abbrev pub written_of : HostState → List ℕ → ℕ
+abbrev pub written_of : MemState → List ℕ → ℕ
 written_of s bytes = grained s.grain (length bytes)
 
 -- the contents with those bytes in a file
-abbrev pub written : HostState → Num → ℕ → List ℕ → Contents
+abbrev pub written : MemState → Num → ℕ → List ℕ → Contents
 written s file at bytes = wrote s.contents file at (take (written_of s bytes) bytes)
 
--- the contents with those bytes behind a file's
-abbrev pub lengthened : HostState → Num → List ℕ → Contents
+-- the contents with those bytes after a file's
+abbrev pub lengthened : MemState → Num → List ℕ → Contents
 lengthened s file bytes = appended s.contents file (take (written_of s bytes) bytes)
 
 -- what it takes of a pipe
-abbrev pub taken : HostState → Num → ℕ → Took
+abbrev pub taken : MemState → Num → ℕ → Took
 taken s pipe n = took_of s.grain (pipe_in s.contents pipe) n
 
--- the contents with as many of the bytes as one call puts behind a pipe's
-abbrev pub filled : HostState → Num → List ℕ → Contents
+-- the contents with as many of the bytes as one call puts after a pipe's
+abbrev pub filled : MemState → Num → List ℕ → Contents
 filled s pipe bytes = put_into s.contents pipe (take (written_of s bytes) bytes)
 
 -- what it takes of the messages that wait for a side of a pair
-abbrev pub received : HostState → Num → ℕ → Took
+abbrev pub received : MemState → Num → ℕ → Took
 received s pair side = received_of (pair_in s.contents pair) side
 
 -- its answer
-abbrev pub done : HostState → HostCall → HostAnswer
+abbrev pub done : MemState → HostCall → HostAnswer
 done s (call.Lookup name) = Found (map.get s.contents.names name)
 done s (call.Create name num) = Done
 done s (call.Len file) = Number (length (file_in s.contents file))
@@ -102,7 +102,7 @@ done s (call.DropPipe num) = Done
 done s (call.DropPair num) = Done
 
 -- the contents after it
-abbrev pub changed : HostState → HostCall → Contents
+abbrev pub changed : MemState → HostCall → Contents
 changed s (call.Create name num) = created s.contents name num
 changed s (call.WriteAt file at bytes) = written s file at bytes
 changed s (call.Append file bytes) = lengthened s file bytes
@@ -130,30 +130,30 @@ changed s (call.PairState pair side) = s.contents
 
 -- ---- any call: a listed one fails and changes nothing but the counts
 -- its answer
-abbrev pub answer : HostState → HostCall → HostAnswer
+abbrev pub answer : MemState → HostCall → HostAnswer
 answer s c = if is_listed (kind_of c) s then Fault else done s c
 
 -- the state after it
-abbrev pub after : HostState → HostCall → HostState
+abbrev pub after : MemState → HostCall → MemState
 after s c = record (begun (kind_of c) s) { contents = if is_listed (kind_of c) s then s.contents else changed s c }
 
 -- ---- calls one after another
 -- what each answers
-abbrev pub answers : HostState → List HostCall → List HostAnswer
+abbrev pub answers : MemState → List HostCall → List HostAnswer
 answers s [] = []
 answers s (c ∷ cs) = answer s c ∷ answers (after s c) cs
 
 -- the state after all of them
-abbrev pub after_all : HostState → List HostCall → HostState
+abbrev pub after_all : MemState → List HostCall → MemState
 after_all s [] = s
 after_all s (c ∷ cs) = after_all (after s c) cs
 
--- want of memory stops at a call: it was made, or only counted
-abbrev pub StopsAt : HostState → HostCall → HostState → Type 0
+-- lack of memory stops at a call: it was made, or only counted
+abbrev pub StopsAt : MemState → HostCall → MemState → Type 0
 StopsAt s c now = (now ≡ after s c) ⊎ (now ≡ begun (kind_of c) s)
 
--- want of memory stops at one of the calls, behind those before it
-abbrev pub Stops : HostState → List HostCall → HostState → Type 0
+-- lack of memory stops at one of the calls, after those before it
+abbrev pub Stops : MemState → List HostCall → MemState → Type 0
 Stops s [] now = ⊥
 Stops s (c ∷ cs) now = StopsAt s c now ⊎ Stops (after s c) cs now
 
@@ -218,6 +218,6 @@ IsAllowed c (call.DropPipe num) = has_pipe c num ≡ true
 IsAllowed c (call.DropPair num) = has_pair c num ≡ true
 
 -- each call may ask what it asks, in the state that those before it leave
-abbrev pub AreAllowed : HostState → List HostCall → Type 0
+abbrev pub AreAllowed : MemState → List HostCall → Type 0
 AreAllowed s [] = Unit {0}
 AreAllowed s (c ∷ cs) = IsAllowed s.contents c × AreAllowed (after s c) cs

@@ -15,7 +15,7 @@ use Rattle.xc_host.specs.Model.{HostModel}
 
 -- the contents, the lines that say which calls fail, the most bytes of one call, how many calls there
 -- were of each kind, and how many of them failed
-pub record HostState : Type 0 where
+pub record MemState : Type 0 where
   pub contents : Contents
   pub lines : List FaultLine
   pub grain : Option ℕ
@@ -23,16 +23,16 @@ pub record HostState : Type 0 where
   pub fault_count : ℕ
 
 -- holds nothing, and nothing fails
-abbrev pub empty_state : HostState
+abbrev pub empty_state : MemState
 empty_state = record { contents = nothing; lines = []; grain = None; calls = no_calls; fault_count = 0 }
 
 -- opened with a prologue, after so many faults
-abbrev pub opened_state : Prologue → ℕ → HostState
+abbrev pub opened_state : Prologue → ℕ → MemState
 opened_state prologue n = record
     { contents = opened prologue.objects; lines = prologue.faults; grain = prologue.grain; calls = no_calls; fault_count = n }
 
 -- what contracts see of it
-abbrev pub mem_host_model : HostModel HostState
+abbrev pub mem_host_model : HostModel MemState
 mem_host_model = record {
   tells = true;
   takes_scripts = true;
@@ -59,7 +59,7 @@ abbrev pub coded_line : Coded FaultLine
 coded_line = fault_line.the_row.coded
 
 -- a whole state
-abbrev pub coded_state : Coded HostState
+abbrev pub coded_state : Coded MemState
 coded_state =
     code_by
     (Contents × (List FaultLine × (Option ℕ × (List ℕ × ℕ))))

@@ -1,6 +1,6 @@
 ghost use Rattle.std.specs.Prelude.{◌≡◌, IfOk, OnOk, OnErr, MatchResult};
 ghost use Rattle.xc_memhost.specs.Faults.{begun};
-ghost use Rattle.xc_memhost.specs.Told.{Tells};
+ghost use Rattle.xc_memhost.specs.Telling.{Tells};
 ghost use Rattle.xc_memhost.specs.Machine.{kind_of, answer, after, answers, after_all, Stops, IsAllowed, AreAllowed};
 
 use crate::MemHost;
@@ -50,6 +50,7 @@ pub enum HostAnswer {
     Fault,
 }
 
+/// The answers to a list of host calls, one for each.
 pub type AnswerList = Items<HostAnswer>;
 
 // A fault, or the value.
@@ -92,7 +93,7 @@ fn got(told: Result<Chunk, HostErr>) -> Result<HostAnswer, NoMemory>
     }
 }
 
-fn stands(told: Result<HostState, HostErr>) -> Result<HostAnswer, NoMemory>
+fn state_answer(told: Result<HostState, HostErr>) -> Result<HostAnswer, NoMemory>
     ensures { Tells told result HostAnswer.Stands }
 {
     match told {
@@ -141,11 +142,13 @@ fn ask(host: &mut MemHost, call: &HostCall) -> Result<HostAnswer, NoMemory>
         HostCall::Unlink(name) => done(without_memory(host.unlink(name))),
         HostCall::Sync(file) => done(without_memory(host.sync(*file))),
         HostCall::NewPipe(num) => done(host.new_pipe(*num)),
-        HostCall::PipeState(pipe) => stands(without_memory(host.pipe_state(*pipe))),
+        HostCall::PipeState(pipe) => state_answer(without_memory(host.pipe_state(*pipe))),
         HostCall::Take { pipe, n } => taken(host.take(*pipe, *n)),
         HostCall::Put { pipe, bytes } => number(host.put(*pipe, bytes.as_slice())),
         HostCall::NewPair(num) => done(host.new_pair(*num)),
-        HostCall::PairState { pair, side } => stands(without_memory(host.pair_state(*pair, *side))),
+        HostCall::PairState { pair, side } => state_answer(without_memory(host.pair_state(
+            *pair, *side,
+        ))),
         HostCall::Recv { pair, side } => taken(host.recv(*pair, *side)),
         HostCall::Send { pair, side, bytes } => done(host.send(*pair, *side, bytes.as_slice())),
         HostCall::Shut(object) => done(without_memory(host.shut(object))),
@@ -161,7 +164,7 @@ fn ask(host: &mut MemHost, call: &HostCall) -> Result<HostAnswer, NoMemory>
 }
 
 /// Makes the calls one after another. Their answers and the state afterwards are the plain machine's.
-/// Want of memory stops at one of them, which was made or only counted.
+/// lack of memory stops at one of them, which was made or only counted.
 pub fn run_calls(
     alloc: Global,
     host: &mut MemHost,

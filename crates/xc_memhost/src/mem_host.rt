@@ -31,9 +31,9 @@ pub struct MemHost {
 
 impl Model for MemHost {
     ghost use Rattle.xc_data.specs.Limits.{IsGrain};
-    ghost use Rattle.xc_memhost.specs.State.{HostState, coded_state};
+    ghost use Rattle.xc_memhost.specs.State.{MemState, coded_state};
 
-    ghost Value = { HostState };
+    ghost Value = { MemState };
 
     ghost coded = { coded_state };
 

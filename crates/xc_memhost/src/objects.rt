@@ -303,7 +303,7 @@ impl Objects {
         took
     }
 
-    // Puts a message of a side behind those that wait for the other side.
+    // Puts a message of a side after those that wait for the other side.
     pub(crate) fn send(&mut self, pair: Num, side: u8, message: Chunk) -> Result<(), NoMemory>
         requires there { has_pair self.old pair ≡ true }
         requires fits { length (waiting (pair_in self.old pair) (other_side side)) < 8 }

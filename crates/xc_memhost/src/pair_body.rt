@@ -70,7 +70,7 @@ impl PairBody {
         }
     }
 
-    // Puts a message of a side behind those that wait for the other side.
+    // Puts a message of a side after those that wait for the other side.
     pub(crate) fn send(&mut self, side: u8, message: Chunk) -> Result<(), NoMemory>
         requires few { length (waiting self.old (other_side side)) < 8 }
         requires small { IsSmall message }

@@ -1,5 +1,5 @@
 ghost use Rattle.std.specs.Prelude.{◌≡◌, ◌&&◌, ◌==◌, ℕ, IfOk};
-ghost use Rattle.std.specs.List.{list_any, filter};
+ghost use Rattle.std.specs.List.{filter};
 ghost use Rattle.xc_memhost.specs.Faults.{any_within};
 ghost use Rattle.xc_memhost.specs.Spans.{is_at_place, IsRising, AreApart};
 
@@ -17,7 +17,6 @@ pub(crate) struct Spans {
 impl Model for Spans {
     ghost use Rattle.std.specs.Prelude.{List};
     ghost use Rattle.xc_data.specs.declared.script.FaultLine.{FaultLine};
-    ghost use Rattle.xc_memhost.specs.State.{coded_line};
     ghost use Rattle.xc_memhost.specs.Spans.{AreApart};
 
     ghost Value = { List FaultLine };

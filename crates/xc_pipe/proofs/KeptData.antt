@@ -17,13 +17,13 @@ use Rattle.xc_host.proofs.DataKept.{keeps_itself, keeps_new, keeps_taken}
 pub keeps_same : (c d : Contents) → d ≡ c → KeepsData c d
 keeps_same c d same = subst (KeepsData c) (sym same) (keeps_itself c)
 
--- behind a take
+-- after a take
 pub keeps_take : (pipe : Num) (found : Took) (c d : Contents) → d ≡ after_take pipe found c → KeepsData c d
 keeps_take pipe (took.Bytes bytes) c d did = subst (KeepsData c) (sym did) (keeps_taken c pipe (length bytes))
 keeps_take pipe took.Empty c d did = keeps_same c d did
 keeps_take pipe took.End c d did = keeps_same c d did
 
--- behind the making of a pipe, whether it is made or not
+-- after the making of a pipe, whether it is made or not
 pub keeps_making : {H : Type 0} (model : HostModel H) (num : Num) (step : Step H) (answer : Result (Unit {0}) HostErr)
     → Answers model kind.NewPipe step answer (λ _ c. with_new_pipe c num) → IsTrue model.tells
     → KeepsData (model.contents step.old) (model.contents step.new)

@@ -30,9 +30,9 @@ use Rattle.xc_host.specs.Fronted.{before, fronted}
 use Rattle.xc_host.specs.Kept.{with_kept}
 use Rattle.xc_host.specs.Model.{HostModel}
 use Rattle.xc_host.specs.Pipes.{with_new_pipe}
-use Rattle.xc_file.specs.Calls.{Acts, IsMePassed}
+use Rattle.xc_file.specs.Calls.{ActsAsPlain, IsMePassed}
 use Rattle.xc_file.specs.Passing.{IsAsBefore}
-use Rattle.xc_file.proofs.FileCalls.{moment}
+use Rattle.xc_file.proofs.FileCalls.{call_view_at}
 use Rattle.xc_file.proofs.NameCalls.{much, much_none}
 use Rattle.xc_pipe.specs.Making.{IsMadeAt, Makes, with_made, made_record}
 
@@ -50,12 +50,12 @@ new_there w c d num items none did =
 
 pipe_acts : (c d : Contents) (items : List KeptItem) (number : ℕ) (me : Private) (h : ℕ) (r : Reply) → me.made < 16 → lowest_vacant me.places ≡ Some h
     → kept_bytes (next_num me number) items ≡ [] → Makes (record { old = c; new = d }) (next_num me number) h r
-    → Acts XPipe (moment (with_kept c items) number me) (moment (with_kept d items) number (with_made me h (next_num me number) r)) r
+    → ActsAsPlain XPipe (call_view_at (with_kept c items) number me) (call_view_at (with_kept d items) number (with_made me h (next_num me number) r)) r
 pipe_acts c d items number me h (reply.Made k) few vacant none (at, did) =
     let num = next_num me number in
     let next = with_made me h num (reply.Made h) in
     let free = much_none (has_made_all me) (lowest_vacant me.places) h (lt-leb 16 me.made few) vacant in
-    subst (λ j. Acts XPipe (moment (with_kept c items) number me) (moment (with_kept d items) number next) (reply.Made j)) (sym at)
+    subst (λ j. ActsAsPlain XPipe (call_view_at (with_kept c items) number me) (call_view_at (with_kept d items) number next) (reply.Made j)) (sym at)
     (record {
       step = λ w.
           let x = with_contents w (with_kept c items) in
@@ -65,7 +65,7 @@ pipe_acts c d items number me h (reply.Made k) few vacant none (at, did) =
     })
 pipe_acts c d items number me h (reply.Fault n) few vacant none (zero, same) =
     let free = much_none (has_made_all me) (lowest_vacant me.places) h (lt-leb 16 me.made few) vacant in
-    subst (λ m. Acts XPipe (moment (with_kept c items) number me) (moment (with_kept d items) number me) (reply.Fault m)) (sym zero)
+    subst (λ m. ActsAsPlain XPipe (call_view_at (with_kept c items) number me) (call_view_at (with_kept d items) number me) (reply.Fault m)) (sym zero)
     (record {
       step = λ w.
           passes (with_contents w (with_kept c items)) me number (answer.Fault 0) free
@@ -79,9 +79,9 @@ pub made_acts : (c d : Contents) (items : List KeptItem) (number : ℕ) (me next
     → lowest_vacant me.places ≡ Some h → kept_bytes (next_num me number) items ≡ []
     → IfOk result (λ r. next ≡ with_made me h (next_num me number) r)
     → IfOk result (Makes (record { old = c; new = d }) (next_num me number) h)
-    → IfOk result (Acts XPipe (moment (with_kept c items) number me) (moment (with_kept d items) number next))
+    → IfOk result (ActsAsPlain XPipe (call_view_at (with_kept c items) number me) (call_view_at (with_kept d items) number next))
 made_acts c d items number me next h (Ok r) few vacant none same told =
-    subst (λ m. Acts XPipe (moment (with_kept c items) number me) (moment (with_kept d items) number m) r) (sym same)
+    subst (λ m. ActsAsPlain XPipe (call_view_at (with_kept c items) number me) (call_view_at (with_kept d items) number m) r) (sym same)
     (pipe_acts c d items number me h r few vacant none told)
 made_acts c d items number me next h (Err e) few vacant none same told = tt
 

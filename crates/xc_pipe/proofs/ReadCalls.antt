@@ -27,9 +27,9 @@ use Rattle.xc_host.specs.Fronted.{before, fronted}
 use Rattle.xc_host.specs.Kept.{with_kept}
 use Rattle.xc_host.specs.Model.{HostModel}
 use Rattle.xc_host.specs.Uses.{Uses}
-use Rattle.xc_file.specs.Calls.{Acts, IsMePassed, replies_fault}
+use Rattle.xc_file.specs.Calls.{ActsAsPlain, IsMePassed, replies_fault}
 use Rattle.xc_file.specs.Passing.{IsAsBefore, Passes}
-use Rattle.xc_file.proofs.FileCalls.{moment}
+use Rattle.xc_file.proofs.FileCalls.{call_view_at}
 use Rattle.xc_file.proofs.Refusals.{passed_checks}
 use Rattle.xc_pipe.specs.Reading.{IsReadReply, Leads, Reads, ReadsBy, Sides, world_at}
 use Rattle.xc_pipe.proofs.ReadSteps.{fault_step, got_step, none_step}
@@ -54,7 +54,7 @@ module _ (h n : ℕ) (pipe : Num) (me : Private) (number : ℕ) (at : place_of m
 
   -- a read is the plain machine's
   pub read_acts : (r : Reply) → IsReadReply n r → Reads pipe n (record { old = old; new = new }) r
-      → Acts (XReadPipe h n) (moment (logical old) number me) (moment (logical new) number (storing_reply r me)) r
+      → ActsAsPlain (XReadPipe h n) (call_view_at (logical old) number me) (call_view_at (logical new) number (storing_reply r me)) r
   read_acts (reply.Got bytes) (more, most) finds = record {
     step = lifted answer.Fine (storing me (length bytes)) (reply.Got bytes) (got_step h n pipe me number at free some old new bytes more most finds);
     fits = λ w. refl;
@@ -72,7 +72,7 @@ module _ (h n : ℕ) (pipe : Num) (me : Private) (number : ℕ) (at : place_of m
     fits = λ w. refl;
   }
   read_acts (reply.Fault k) zero leads =
-      subst (λ m. Acts (XReadPipe h n) (moment (logical old) number me) (moment (logical new) number me) (reply.Fault m)) (sym zero)
+      subst (λ m. ActsAsPlain (XReadPipe h n) (call_view_at (logical old) number me) (call_view_at (logical new) number me) (reply.Fault m)) (sym zero)
       (record {
         step = lifted (answer.Fault 0) me (reply.Fault 0) (fault_step h n pipe me number at free some old new leads);
         fits = λ w. ap (λ b. not b && nat_le 1 n) (passed_checks me (XReadPipe h n) (length w.words) free) ∙ le-leb 1 n some;
@@ -124,7 +124,8 @@ module _ {H : Type 0} (model : HostModel H) (old new : ReadState H) where
     reply = passed_reply h n r is;
     uses = uses_both uses;
     after = subst (λ m. IsMePassed number (XReadPipe h n) old.me m r) (sym me) (me_passed h n number old.me r is);
-    acts = λ t. subst (λ m. Acts (XReadPipe h n) (moment (logical (sides model old)) number old.me) (moment (logical (sides model new)) number m) r) (sym me)
+    acts = λ t. subst (λ m. ActsAsPlain (XReadPipe h n) (call_view_at (logical (sides model old)) number old.me)
+        (call_view_at (logical (sides model new)) number m) r) (sym me)
         (read_acts h n pipe old.me number at free some (sides model old) (sides model new) r is (reads t));
     err = tt;
     cause = cause;
@@ -138,14 +139,14 @@ module _ {H : Type 0} (model : HostModel H) (old new : ReadState H) where
     cause = cause;
   }
 
--- where memory was wanting what is there is as before
+-- where memory ran out what is there is as before
 pub err_logical : {H : Type 0} (model : HostModel H) (old new : ReadState H) (pipe : Num) (result : Result Reply NoMemory)
     → OnErr result (Leads pipe [] [] (record { old = sides model old; new = sides model new }))
     → OnErr result (with_kept (model.contents new.host) new.items ≡ with_kept (model.contents old.host) old.items)
 err_logical model old new pipe (Ok r) leads = tt
 err_logical model old new pipe (Err e) leads = sym (same_logical pipe (sides model old) (sides model new) leads)
 
--- where memory was wanting all is as before
+-- where memory ran out all is as before
 pub err_before : {H : Type 0} (model : HostModel H) (old new : ReadState H) (pipe : Num) (undo : Records) (result : Result Reply NoMemory)
     → (IsTrue model.tells → OnErr result (Leads pipe [] [] (record { old = sides model old; new = sides model new })))
     → OnErr result (IsAsBefore (fronted model) (record {

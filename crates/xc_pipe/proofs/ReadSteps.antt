@@ -33,7 +33,7 @@ use Rattle.xc_pipe.specs.Reading.{Finds, IsDrained, Leads, Sides, world_at}
 use Rattle.xc_pipe.proofs.Takings.{back_some}
 
 -- ---- the checks
--- where none of the first three refuses, a step is the one behind them
+-- where none of the first three refuses, a step is the one after them
 pub first_none : (bad big much : Bool) (w : World) (me : Private) (other : Stepped)
     → (if bad then Some reply.BadHandle else if big then Some reply.TooBig else if much then Some reply.TooMuch else None) ≡ None
     → (if bad then step_to w me reply.BadHandle else if big then step_to w me reply.TooBig else if much then step_to w me reply.TooMuch else other) ≡ other

@@ -10,10 +10,10 @@ use Rattle.xc_host.specs.declared.errors.HostErr.{HostErr}
 use Rattle.xc_host.specs.declared.errors.HostErr.TheVariants as host_err
 use Rattle.xc_host.specs.declared.pipes.Took.{Took}
 use Rattle.xc_host.specs.declared.pipes.Took.TheVariants as took
-use Rattle.xc_host.proofs.Called.{unused, used_again}
+use Rattle.xc_host.proofs.Called.{used_again}
 use Rattle.xc_pipe.specs.Reading.{TakenBy, TakesUntil, found_of}
 
--- takes that each took some, behind a front of this length
+-- takes that each took some, after a front of this length
 abbrev pub TakesSome : ℕ → ℕ → List Kind → Type 0
 TakesSome front now made = (count : ℕ) × (count + front ≤ now) × (made ≡ replicate count Take)
 
@@ -22,10 +22,6 @@ pub found_some : (x : ℕ) (bytes : List ℕ) (none : Took) → found_of (x ∷ 
 found_some x bytes none = ap (λ (e : Bool). if e then none else took.Bytes (x ∷ bytes)) (eqb-suc-zero (length bytes))
 
 module _ {H : Type 0} (model : HostModel H) where
-  -- none yet
-  pub takes_none : (front : ℕ) (a : H) → Uses model (record { old = a; new = a }) (TakesSome front front)
-  takes_none front a = record { made = []; named = (0, omega arith, refl); used = unused model a }
-
   once_more : (front now : ℕ) (a b c : H) (so_far : Uses model (record { old = a; new = b }) (TakesSome front now))
       → IsUsed model (Take ∷ []) (record { old = b; new = c })
       → IsUsed model (replicate (so_far.named.0 + 1) Take) (record { old = a; new = c })
@@ -41,7 +37,7 @@ module _ {H : Type 0} (model : HostModel H) where
     used = once_more front now a b c so_far last;
   }
 
-  -- the last one failed, or memory was wanting behind it
+  -- the last one failed, or memory ran out after it
   pub takes_fail : (n front now : ℕ) (e : HostErr) (a b c : H) → now < n → Uses model (record { old = a; new = b }) (TakesSome front now)
       → IsUsed model (Take ∷ []) (record { old = b; new = c }) → Uses model (record { old = a; new = c }) (TakesUntil n front (Err e))
   takes_fail n front now e a b c less so_far last = record {

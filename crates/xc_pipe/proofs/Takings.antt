@@ -33,7 +33,7 @@ pub back_some : (pipe : Num) (bytes : List ℕ) → 1 ≤ length bytes → back 
 back_some pipe [] some = absurd (omega (arith, some))
 back_some pipe (b ∷ bs) some = back_cons pipe b bs
 
--- two fronts are given back one behind another, the second first
+-- two fronts are given back one after another, the second first
 pub joined_back : (x : World) (pipe : Num) (a b : List ℕ) → given_back x (back pipe (a ++ b)) ≡ given_back (given_back x (back pipe b)) (back pipe a)
 joined_back x pipe [] b = refl
 joined_back x pipe (a ∷ more) [] = ap (λ bytes. given_back x (back pipe (a ∷ bytes))) (append-nil more)
@@ -112,13 +112,13 @@ pub fails_back : (pipe : Num) (front so_far : List ℕ) (was c d : Contents) (ol
 fails_back pipe front so_far was c d old items new leads same given w =
     leads w ∙ sym (given (with_contents w c)) ∙ ap (λ x. given_back (with_contents w x) new) (sym same)
 
--- the pipe is there behind a take
+-- the pipe is there after a take
 pub taken_there : (c d : Contents) (pipe : Num) (m : ℕ) → d ≡ taken_from c pipe m → has_pipe d pipe ≡ true
 taken_there c d pipe m did =
     let p = pipe_in c pipe in
     ap (λ x. has_pipe x pipe) did ∙ ap is_some (get-insert_same num_total num_exact c.pipes pipe (record p { held = drop m p.held }))
 
--- ---- kept bytes, and what the host has behind them
+-- ---- kept bytes, and what the host has after them
 module _ (c d : Contents) (was kept new : List KeptItem) (pipe : Num) (front : List ℕ)
     (taken : (w : World) → given_back w was ≡ given_back (given_back w kept) (back pipe front)) where
   abbrev from_kept : Step Sides
@@ -127,7 +127,7 @@ module _ (c d : Contents) (was kept new : List KeptItem) (pipe : Num) (front : L
   abbrev from_all : Step Sides
   from_all = record { old = record { contents = c; items = was }; new = record { contents = d; items = new } }
 
-  -- what the takes behind kept bytes lead to is what all lead to
+  -- what the takes after kept bytes lead to is what all lead to
   pub all_leads : (bytes : List ℕ) → Leads pipe front bytes from_kept → Leads pipe [] bytes from_all
   all_leads bytes leads w = taken (with_contents w c) ∙ leads w
 

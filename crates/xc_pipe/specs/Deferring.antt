@@ -21,7 +21,7 @@ shuttable_at (place.File num at) = None
 shuttable_at place.Vacant = None
 
 -- a call that is kept for the commit reaches no host: it replies as the plain machine does in every world, with this private
--- state, and what it leaves stands behind the older late calls
+-- state, and what it leaves stands after the older late calls
 pub record IsKeptWith (call : Call) (me : Step Private) (late : Step Queue) (reply : Reply) : Type 0 where
   pub alone : StepsAlone call me.old me.new reply
   pub left : late.new ≡ record late.old { calls = late.old.calls ++ kept_call call me.old reply }

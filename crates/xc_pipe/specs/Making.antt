@@ -45,7 +45,7 @@ with_made me h num (Made k) = making (with_place me h (Pipe num))
 -- with any other reply nothing was made
 with_made me h num _ = me
 
--- a pipe of this number is made for this handle: what it replies, does and records; where memory was wanting, all is as before
+-- a pipe of this number is made for this handle: what it replies, does and records; where memory ran out, all is as before
 pub record IsMaking {H : Type 0} (model : HostModel H) (num : Num) (h : ℕ) (step : Step (AtHost H)) (result : Result Reply NoMemory)
     : Type 0 where
   pub made : IfOk result (IsMadeAt h)

@@ -37,7 +37,7 @@ world_at w s = given_back (with_contents w s.contents) s.items
 abbrev pub back : Num → List ℕ → List KeptItem
 back pipe bytes = bytes_taken (Pipe pipe) bytes
 
--- these bytes were taken from the front of a pipe before, and those are taken behind: either given back, the world is the same
+-- these bytes were taken from the front of a pipe before, and those are taken after: either given back, the world is the same
 abbrev pub Leads : Num → List ℕ → List ℕ → Step Sides → Type 0
 Leads pipe front bytes s = (w : World) → given_back (world_at w s.old) (back pipe front) ≡ given_back (world_at w s.new) (back pipe bytes)
 
@@ -61,7 +61,7 @@ Finds pipe n front s took.End = Leads pipe front [] s × IsDrained pipe s.new ×
 abbrev pub found_of : List ℕ → Took → Took
 found_of bytes none = if length bytes == 0 then none else took.Bytes bytes
 
--- the takes that ended so, behind kept bytes of this many
+-- the takes that ended so, after kept bytes of this many
 abbrev pub TakesUntil : ℕ → ℕ → Result Took HostErr → List Kind → Type 0
 TakesUntil n front (Ok (took.Bytes bytes)) made =
     (count : ℕ) × (count + front ≤ length bytes + 1) × (count + front ≤ n) × (length bytes < n → 1 ≤ count)
@@ -69,14 +69,14 @@ TakesUntil n front (Ok (took.Bytes bytes)) made =
 TakesUntil n front (Ok found) made = made ≡ kind.Take ∷ []
 TakesUntil n front (Err e) made = (count : ℕ) × (1 ≤ count) × (count + front ≤ n) × (made ≡ replicate count kind.Take)
 
--- the takes that ended so, behind kept bytes or none
+-- the takes that ended so, after kept bytes or none
 abbrev pub TakenBy : ℕ → Result Took HostErr → List Kind → Type 0
 TakenBy n (Ok (took.Bytes bytes)) made = (count : ℕ) × TakesFor n (Got bytes) count × (made ≡ replicate count kind.Take)
 TakenBy n (Ok found) made = made ≡ kind.Take ∷ []
 TakenBy n (Err host_err.Fault) made = (count : ℕ) × MayMove n count × (made ≡ replicate count kind.Take)
 TakenBy n (Err host_err.NoMemory) made = (count : ℕ) × (count ≤ n) × (made ≡ replicate count kind.Take)
 
--- the takes of a read of n bytes with this reply; where memory was wanting, the first of them
+-- the takes of a read of n bytes with this reply; where memory ran out, the first of them
 abbrev pub ReadsBy : ℕ → Result Reply NoMemory → List Kind → Type 0
 ReadsBy n (Ok reply) made = (count : ℕ) × TakesFor n reply count × (made ≡ replicate count kind.Take)
 ReadsBy n (Err e) made = (count : ℕ) × (count ≤ n) × (made ≡ replicate count kind.Take)
@@ -105,12 +105,12 @@ taken_of pipe (Got bytes) = back pipe bytes
 -- no other reply took anything
 taken_of pipe _ = []
 
--- a read notes what its reply took, and nothing where memory was wanting
+-- a read notes what its reply took, and nothing where memory ran out
 abbrev pub NotesOf : Num → List KeptItem → List KeptItem → Result Reply NoMemory → Type 0
 NotesOf pipe old new (Ok reply) = new ≡ old ++ taken_of pipe reply
 NotesOf pipe old new (Err e) = new ≡ old
 
--- a call notes what the plain machine's takes with its reply, and nothing where memory was wanting
+-- a call notes what the plain machine's takes with its reply, and nothing where memory ran out
 abbrev pub Notes : Call → Private → Step (List KeptItem) → Result Reply NoMemory → Type 0
 Notes call me notes (Ok reply) = notes.new ≡ notes.old ++ taken_by call me reply
 Notes call me notes (Err e) = notes.new ≡ notes.old

@@ -1,7 +1,7 @@
-ghost use Rattle.std.specs.Prelude.{◌≡◌, ◌≤◌, ◌+◌, List, ℕ, Option, IfOk, OnErr, length};
+ghost use Rattle.std.specs.Prelude.{◌≡◌, ◌≤◌, ◌+◌, List, ℕ, Option, IfOk, OnErr};
 ghost use Rattle.xc_data.specs.declared.call.Call.TheVariants.{XShutdown, XWritePipe};
 ghost use Rattle.xc_data.specs.Private.{place_of};
-ghost use Rattle.xc_file.specs.Kept.{IsKept};
+ghost use Rattle.xc_file.specs.Deferred.{IsDeferred};
 ghost use Rattle.xc_pipe.specs.Deferring.{IsKeptWith, shuttable_at};
 
 use crate::checks::open_pipe;
@@ -44,7 +44,7 @@ fn object_at(me: &Private, h: u16) -> Option<Object>
 
 /// Keeps the shutting of an open pipe or pair for the commit. It is of this object, whatever happens to the handle until then.
 pub fn x_shutdown(late: &mut Late, me: &Private, h: u16) -> Result<Reply, NoMemory>
-    ensures call { (slot : Option (List ℕ)) → IfOk result (IsKept (XShutdown h slot) me.now late.old late.new) }
+    ensures call { (slot : Option (List ℕ)) → IfOk result (IsDeferred (XShutdown h slot) me.now late.old late.new) }
     ensures err { OnErr result (late.new ≡ late.old) }
 {
     let Some(object) = object_at(me, h) else {

@@ -18,7 +18,7 @@ fn joined(alloc: Global, front: &Chunk, more: &Chunk) -> Result<Chunk, NoMemory>
     Chunk::from_vec(bytes)
 }
 
-/// Joins what was taken from a pipe. Where memory is wanting, all of it is given back. The first piece is copied nowhere.
+/// Joins what was taken from a pipe. Where memory runs out, all of it is given back. The first piece is copied nowhere.
 pub(crate) fn join(
     alloc: Global,
     kept: &mut Kept,
@@ -48,7 +48,7 @@ pub(crate) fn join(
     }
 }
 
-/// Takes the first n bytes that are kept of a pipe, or all where those are fewer. Where memory is wanting, all is given back.
+/// Takes the first n bytes that are kept of a pipe, or all where those are fewer. Where memory runs out, all is given back.
 pub(crate) fn take_kept(
     alloc: Global,
     kept: &mut Kept,

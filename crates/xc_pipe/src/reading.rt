@@ -37,7 +37,7 @@ fn found(front: Chunk, none: Took) -> Took
     }
 }
 
-// Takes from a pipe of the host, behind kept bytes, until n bytes are there or a take gives none. Where a take fails or memory
+// Takes from a pipe of the host, after kept bytes, until n bytes are there or a take gives none. Where a take fails or memory
 // is wanting, all is given back.
 fn take_rest<H: Host>(
     alloc: Global,
@@ -86,7 +86,7 @@ fn take_rest<H: Host>(
     Ok(Took::Bytes(front))
 }
 
-// Takes at most n bytes from a pipe, the kept ones first. Where a take fails or memory is wanting, all is given back.
+// Takes at most n bytes from a pipe, the kept ones first. Where a take fails or memory runs out, all is given back.
 fn take_all<H: Host>(
     alloc: Global,
     host: &mut H,
@@ -222,7 +222,7 @@ fn read_open<H: Host>(
 }
 
 /// Reads the next bytes of an open pipe, the kept ones first: n, or all that are there where those are fewer. What was read is
-/// noted. Where the host fails or memory is wanting behind some bytes, these are kept, in front of all others.
+/// noted. Where the host fails or memory runs out after some bytes, these are kept, in front of all others.
 pub fn x_read_pipe<H: Host>(
     alloc: Global,
     host: &mut H,

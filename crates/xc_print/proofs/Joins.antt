@@ -13,28 +13,28 @@ use Rattle.xc_print.specs.Kept.{is_same, join, joined, kept_line, kept_lines, op
 abbrev lines_of : List KeptItem → List ℕ
 lines_of items = flat_map kept_line items
 
--- these bytes end the open line, and these lines come behind it
+-- these bytes end the open line, and these lines come after it
 abbrev ended : List ℕ → List ℕ → List ℕ
 ended bytes lines = escaped bytes ++ (codes "\"\n" ++ lines)
 
--- what joined items print behind the open line of a pipe
+-- what joined items print after the open line of a pipe
 abbrev behind_open : Num → List KeptItem → List ℕ
 behind_open pipe [] = ended [] []
 behind_open pipe (Bytes next more ∷ items) =
     if is_same pipe next then ended more (lines_of items) else ended [] (lines_of (Bytes next more ∷ items))
 behind_open pipe (Message pair side bytes ∷ items) = ended [] (lines_of (Message pair side bytes ∷ items))
 
--- what items print behind what is open
+-- what items print after what is open
 abbrev pub left_lines : Option Num → List KeptItem → List ℕ
 left_lines None items = kept_lines items
 left_lines (Some pipe) items = behind_open pipe (joined items)
 
--- bytes behind bytes are printed behind them
+-- bytes after bytes are printed after them
 escaped_append : (a b : List ℕ) → escaped (a ++ b) ≡ escaped a ++ escaped b
 escaped_append [] b = refl
 escaped_append (x ∷ a) b = ap (λ bs. escaped_byte x ++ bs) (escaped_append a b) ∙ sym (append_assoc (escaped_byte x) (escaped a) (escaped b))
 
--- the same, with what comes behind
+-- the same, with what comes after
 ended_append : (a b lines : List ℕ) → ended (a ++ b) lines ≡ escaped a ++ ended b lines
 ended_append a b lines =
     ap (λ bs. bs ++ (codes "\"\n" ++ lines)) (escaped_append a b) ∙ append_assoc (escaped a) (escaped b) (codes "\"\n" ++ lines)
@@ -92,7 +92,7 @@ closes before pipe bytes (Bytes next more ∷ items) other = by_same (is_same pi
         let rest = Bytes next more ∷ items in
         ap (λ b. if b then ended bytes (lines_of rest) else ended [] (lines_of (Bytes pipe bytes ∷ rest))) other
 
--- bytes of a pipe, behind what is open
+-- bytes of a pipe, after what is open
 piece_begins : (opened : Option Num) (pipe : Num) (bytes : List ℕ) (items : List KeptItem)
     → left_lines opened (Bytes pipe bytes ∷ items) ≡ turned_to opened pipe ++ escaped bytes ++ left_lines (Some pipe) items
 piece_begins None pipe bytes items =
@@ -108,7 +108,7 @@ piece_begins (Some before) pipe bytes items = by_same (is_same before pipe) refl
         ∙ ap (λ bs. codes "\"\n" ++ bs)
         (opens pipe bytes (joined items) ∙ sym (append_assoc (opening_text pipe) (escaped bytes) (behind_open pipe (joined items))))
 
--- a message, behind what is open
+-- a message, after what is open
 message_begins : (opened : Option Num) (pair : Num) (side : ℕ) (bytes : List ℕ) (items : List KeptItem)
     → left_lines opened (Message pair side bytes ∷ items)
     ≡ closing_text opened ++ kept_line (Message pair side bytes) ++ left_lines None items
@@ -121,12 +121,12 @@ items_begin : (opened : Option Num) (item : KeptItem) (items : List KeptItem)
 items_begin opened (Bytes pipe bytes) items = piece_begins opened pipe bytes items
 items_begin opened (Message pair side bytes) items = message_begins opened pair side bytes items
 
--- behind the last one the open line ends
+-- after the last one the open line ends
 pub none_left : (opened : Option Num) → left_lines opened [] ≡ closing_text opened
 none_left None = refl
 none_left (Some before) = refl
 
--- behind an item what is printed and what is left are as before it
+-- after an item what is printed and what is left are as before it
 pub goes_by : (out new : List ℕ) (opened behind : Option Num) (item : KeptItem) (items rest : List KeptItem) → new ≡ out ++ item_text opened item
     → behind ≡ opened_by item → items ≡ item ∷ rest → new ++ left_lines behind rest ≡ out ++ left_lines opened items
 goes_by out new opened behind item items rest printed by split =

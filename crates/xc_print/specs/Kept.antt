@@ -53,12 +53,12 @@ is_open (Some before) pipe = is_same before pipe
 abbrev pub turned_to : Option Num → Num → List ℕ
 turned_to opened pipe = if is_open opened pipe then [] else closing_text opened ++ opening_text pipe
 
--- what is printed for an item behind the line that is open
+-- what is printed for an item after the line that is open
 abbrev pub item_text : Option Num → KeptItem → List ℕ
 item_text opened (Bytes pipe bytes) = turned_to opened pipe ++ escaped bytes
 item_text opened (Message pair side bytes) = closing_text opened ++ kept_line (Message pair side bytes)
 
--- the pipe whose line is open behind an item
+-- the pipe whose line is open after an item
 abbrev pub opened_by : KeptItem → Option Num
 opened_by (Bytes pipe bytes) = Some pipe
 opened_by (Message pair side bytes) = None

@@ -25,7 +25,7 @@ object_text (Pipe num) = codes "pipe " ++ num_text num
 object_text (Pair num) = codes "pair " ++ num_text num
 object_text Jobs = codes "jobs"
 
--- what stands behind a held object
+-- what stands after a held object
 abbrev pub mode_text : Mode → List ℕ
 mode_text Shared = codes " shared"
 mode_text Exclusive = []

@@ -2,7 +2,7 @@
 use Rattle.std.specs.Prelude.{ℕ, ◌+◌, List, [], ◌∷◌, ◌++◌, codes, take, drop, Option}
 use Rattle.std.specs.declared.option.Option.TheVariants.{None, Some}
 use Rattle.std.specs.Fmt.{decimal}
-use Rattle.xc_data.specs.Standing.{stands_from}
+use Rattle.xc_data.specs.Remaining.{remains_from}
 use Rattle.xc_data.specs.declared.object.Num.{Num}
 use Rattle.xc_data.specs.declared.undo.Undo.{Undo}
 use Rattle.xc_data.specs.declared.undo.Undo.TheVariants.{Bytes, Tail, Made, Moved, NewPipe, NewPair}
@@ -62,11 +62,11 @@ effect_text (NewPipe num) k = codes "pipe " ++ num_text num
 effect_text (NewPair num) k = codes "pair " ++ num_text num
 
 -- the line of an effect that stands from a place on, none where it doesn't stand
-abbrev pub standing_line : Undo → Option ℕ → List ℕ
-standing_line undo None = []
-standing_line undo (Some k) = codes "  remains " ++ effect_text undo k ++ codes "\n"
+abbrev pub remaining_line : Undo → Option ℕ → List ℕ
+remaining_line undo None = []
+remaining_line undo (Some k) = codes "  remains " ++ effect_text undo k ++ codes "\n"
 
 -- the lines of the standing effects in the order of the calls
 abbrev pub remains_lines : List (Undo × UndoEnd) → List ℕ
 remains_lines [] = []
-remains_lines ((undo, end) ∷ records) = standing_line undo (stands_from undo end) ++ remains_lines records
+remains_lines ((undo, end) ∷ records) = remaining_line undo (remains_from undo end) ++ remains_lines records

@@ -5,7 +5,7 @@ use Rattle.xc_data.specs.Faults.{is_commit, entry_faults}
 use Rattle.xc_data.specs.declared.entry.Entry.{Entry}
 use Rattle.xc_data.specs.declared.entry.Outcome.{Outcome}
 use Rattle.xc_data.specs.declared.entry.Outcome.TheVariants.{Committed, Aborted}
-use Rattle.xc_failure.specs.Effects.{stands}
+use Rattle.xc_failure.specs.Effects.{effect_remains}
 use Rattle.xc_print.specs.declared.totals.Totals.{Totals}
 
 -- whether an entry is a commit
@@ -16,10 +16,10 @@ is_committed entry = is_commit entry.outcome
 abbrev pub is_aborted : Entry → Bool
 is_aborted entry = not (is_commit entry.outcome)
 
--- how many effects stand behind an outcome
+-- how many effects stand after an outcome
 abbrev pub outcome_remains : Outcome → ℕ
 outcome_remains (Committed late) = 0
-outcome_remains (Aborted report) = count_by stands report.records
+outcome_remains (Aborted report) = count_by effect_remains report.records
 
 -- how many effects of an entry stand
 abbrev pub entry_remains : Entry → ℕ

@@ -1,4 +1,4 @@
-ghost use Rattle.std.specs.Prelude.{◌≡◌, ◌++◌, List, ℕ, OnOk, codes};
+ghost use Rattle.std.specs.Prelude.{◌≡◌, ◌++◌, OnOk, codes};
 ghost use Rattle.std.specs.Fmt.{decimal};
 ghost use Rattle.xc_print.specs.Bytes.{bytes_text};
 ghost use Rattle.xc_print.specs.Objects.{handle_text};
@@ -84,6 +84,7 @@ fn push_written_late(
     push_slot(out, slot)
 }
 
+/// A call as its script word and its values, without the reply.
 pub fn push_call(out: &mut Page, call: &Call) -> Result<(), NoMemory>
     ensures { OnOk result (out.new ≡ out.old ++ call_text call.now) }
 {

@@ -128,6 +128,7 @@ fn push_entry(out: &mut Page, entry: &Entry) -> Result<(), NoMemory>
     push_held(out, entry.held.as_slice())
 }
 
+/// All entries, each with its lines.
 pub fn push_journal(out: &mut Page, journal: &[Entry]) -> Result<(), NoMemory>
     ensures { OnOk result (out.new ≡ out.old ++ journal_text journal.now) }
 {

@@ -1,7 +1,6 @@
 ghost use Rattle.std.specs.Prelude.{◌≡◌, ◌++◌, OnOk};
 ghost use Rattle.xc_data.specs.declared.entry.KeptItem.TheVariants.{Message};
-ghost use Rattle.xc_print.specs.Bytes.{bytes_text};
-ghost use Rattle.xc_print.specs.Kept.{is_same, is_open, opening_text, closing_text, turned_to, item_text, opened_by, kept_line, kept_lines};
+ghost use Rattle.xc_print.specs.Kept.{is_open, opening_text, closing_text, turned_to, item_text, opened_by, kept_line, kept_lines};
 
 use crate::bytes::{push_bytes, push_escaped};
 use crate::objects::push_labelled;
@@ -70,7 +69,7 @@ fn push_item(out: &mut Page, opened: Option<Num>, item: &KeptItem) -> Result<(),
     }
 }
 
-// The pipe whose line is open behind an item.
+// The pipe whose line is open after an item.
 fn opened_by(item: &KeptItem) -> Option<Num>
     ensures { result ≡ opened_by item.now }
 {
@@ -81,6 +80,7 @@ fn opened_by(item: &KeptItem) -> Option<Num>
 }
 
 /// A line for each pipe, however many items its bytes are in, and one for each message. No bytes are copied but to the page.
+/// A pipe's line stays open until an item of another object comes, or none.
 #[tactic(auto, using(crate::proofs::Joins::none_left))]
 pub fn push_kept(out: &mut Page, items: &[KeptItem]) -> Result<(), NoMemory>
     ensures { OnOk result (out.new ≡ out.old ++ kept_lines items.now) }

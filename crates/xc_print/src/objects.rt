@@ -4,6 +4,7 @@ ghost use Rattle.xc_print.specs.Objects.{handle_text, num_text, object_text, mod
 use crate::page::Page;
 use xc_data::{Claim, Mode, NoMemory, Num, Object};
 
+/// `h` and the number; `h-` for handle 65,535, at which nothing is ever open.
 pub fn push_handle(out: &mut Page, h: u16) -> Result<(), NoMemory>
     ensures { OnOk result (out.new ≡ out.old ++ handle_text h) }
 {
@@ -20,7 +21,7 @@ fn push_num(out: &mut Page, num: Num) -> Result<(), NoMemory>
     write!(out, "{tx}.{k}")
 }
 
-/// A number behind its label.
+/// A number after its label.
 pub fn push_labelled(out: &mut Page, label: &str, num: Num) -> Result<(), NoMemory>
     ensures { OnOk result (out.new ≡ out.old ++ (label.now ++ num_text num)) }
 {
@@ -28,6 +29,7 @@ pub fn push_labelled(out: &mut Page, label: &str, num: Num) -> Result<(), NoMemo
     push_num(out, num)
 }
 
+/// The kind of an object and its number or name.
 pub fn push_object(out: &mut Page, object: &Object) -> Result<(), NoMemory>
     ensures { OnOk result (out.new ≡ out.old ++ object_text object.now) }
 {
@@ -70,6 +72,7 @@ fn push_further(out: &mut Page, claims: &[Claim]) -> Result<(), NoMemory>
     Ok(())
 }
 
+/// The line `held`, with its objects in the order of their claims; nothing if none is held.
 pub fn push_held(out: &mut Page, held: &[Claim]) -> Result<(), NoMemory>
     ensures { OnOk result (out.new ≡ out.old ++ held_line held.now) }
 {

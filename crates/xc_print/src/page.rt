@@ -22,6 +22,7 @@ impl Model for Page {
 }
 
 impl Page {
+    /// An empty page. It takes no memory.
     pub fn new(alloc: Global) -> Page
         ensures { result ≡ [] }
     {
@@ -30,20 +31,22 @@ impl Page {
         }
     }
 
-    /// It takes no memory.
+    /// The page as a text, without a copy. It takes no memory.
     pub fn into_text(self) -> Text
         ensures { result ≡ self }
     {
         Text::from_vec(self.bytes)
     }
 
+    /// These bytes, at the end of the page.
     pub fn push(&mut self, bytes: &[u8]) -> Result<(), NoMemory>
         ensures { OnOk result (self.new ≡ self.old ++ bytes.now) }
     {
         Ok(self.bytes.extend_from_slice(bytes)?)
     }
 
-    // What `write!` calls. A vector refuses bytes for want of memory alone.
+    // What `write!` calls. A vector refuses bytes for lack of memory alone.
+    /// What `write!` formats, at the end of the page.
     pub fn write_fmt<D: Display + Drop>(&mut self, text: D) -> Result<(), NoMemory>
         ensures { OnOk result (AppendsText self.old self.new (D.output text)) }
     {

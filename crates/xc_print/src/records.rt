@@ -1,12 +1,12 @@
 ghost use Rattle.std.specs.Prelude.{◌≡◌, ◌++◌, take, drop, OnOk};
 ghost use Rattle.xc_print.specs.Records.{kind_text, undo_end_text, undo_line, undo_lines};
-ghost use Rattle.xc_print.specs.Records.{overwrite_text, tail_text, made_text, moved_text, effect_text, standing_line, remains_lines};
+ghost use Rattle.xc_print.specs.Records.{overwrite_text, tail_text, made_text, moved_text, effect_text, remaining_line, remains_lines};
 
 use crate::bytes::push_bytes;
 use crate::objects::push_labelled;
 use crate::page::Page;
 use xc_data::{Chunk, Name, NoMemory, Num, Undo, UndoEnd};
-use xc_failure::standing;
+use xc_failure::remaining_from;
 
 fn push_kind(out: &mut Page, undo: &Undo) -> Result<(), NoMemory>
     ensures { OnOk result (out.new ≡ out.old ++ kind_text undo.now) }
@@ -69,7 +69,7 @@ fn covered(after: &Chunk, n: u32) -> &[u8]
     }
 }
 
-fn standing_bytes(after: &Chunk, n: u32, k: u32) -> &[u8]
+fn remaining_bytes(after: &Chunk, n: u32, k: u32) -> &[u8]
     ensures { result.now ≡ drop k (take n after.now) }
 {
     let bytes = covered(after, n);
@@ -125,7 +125,7 @@ fn push_effect(out: &mut Page, undo: &Undo, k: u32) -> Result<(), NoMemory>
             ..
         } => {
             let from = *at as u64 + k as u64;
-            push_overwrite(out, *file, from, standing_bytes(after, *n, k))
+            push_overwrite(out, *file, from, remaining_bytes(after, *n, k))
         }
         Undo::Tail {
             file,
@@ -140,8 +140,8 @@ fn push_effect(out: &mut Page, undo: &Undo, k: u32) -> Result<(), NoMemory>
     }
 }
 
-fn push_standing(out: &mut Page, undo: &Undo, from: Option<u32>) -> Result<(), NoMemory>
-    ensures { OnOk result (out.new ≡ out.old ++ standing_line undo.now from) }
+fn push_remaining(out: &mut Page, undo: &Undo, from: Option<u32>) -> Result<(), NoMemory>
+    ensures { OnOk result (out.new ≡ out.old ++ remaining_line undo.now from) }
 {
     match from {
         None => Ok(()),
@@ -158,7 +158,7 @@ pub fn push_remains(out: &mut Page, records: &[(Undo, UndoEnd)]) -> Result<(), N
     ensures { OnOk result (out.new ≡ out.old ++ remains_lines records.now) }
 {
     for (undo, end) in records {
-        push_standing(out, undo, standing(undo, end))?;
+        push_remaining(out, undo, remaining_from(undo, end))?;
     }
     Ok(())
 }

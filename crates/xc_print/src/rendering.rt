@@ -1,6 +1,6 @@
 ghost use Rattle.std.specs.Prelude.{◌≡◌, ◌++◌, ◌≤◌, length, IfOk, OnOk};
 ghost use Rattle.xc_print.specs.Text.{job_end_text, job_line, job_lines, word_line, word_lines, rendered};
-ghost use Rattle.xc_print.specs.Totals.{totals_line, totals_of};
+ghost use Rattle.xc_print.specs.Totals.{totals_line};
 
 use crate::Totals;
 use crate::entries::push_journal;

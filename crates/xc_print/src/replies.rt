@@ -6,6 +6,7 @@ use crate::objects::push_handle;
 use crate::page::Page;
 use xc_data::{LateEnd, NoMemory, Reply};
 
+/// A reply as a journal prints it after ` = `.
 pub fn push_reply(out: &mut Page, reply: &Reply) -> Result<(), NoMemory>
     ensures { OnOk result (out.new ≡ out.old ++ reply_text reply.now) }
 {
@@ -33,6 +34,7 @@ pub fn push_reply(out: &mut Page, reply: &Reply) -> Result<(), NoMemory>
     }
 }
 
+/// The end of a late call as a journal prints it.
 pub fn push_late_end(out: &mut Page, end: LateEnd) -> Result<(), NoMemory>
     ensures { OnOk result (out.new ≡ out.old ++ late_end_text end) }
 {

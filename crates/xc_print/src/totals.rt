@@ -1,12 +1,14 @@
-ghost use Rattle.std.specs.Prelude.{◌≡◌, ◌≤◌, ◌<◌, ◌^◌, length, count_by, sum_by};
+ghost use Rattle.std.specs.Prelude.{◌≡◌, ◌≤◌, ◌^◌, length, count_by, sum_by};
 ghost use Rattle.xc_data.specs.Faults.{is_fault_reply, is_fault_end, undo_faults, outcome_faults, entry_faults};
-ghost use Rattle.xc_failure.specs.Effects.{stands};
-ghost use Rattle.xc_print.specs.Totals.{is_committed, is_aborted, outcome_remains, entry_remains, totals_of};
+ghost use Rattle.xc_failure.specs.Effects.{effect_remains};
+ghost use Rattle.xc_print.specs.Totals.{is_committed, is_aborted, entry_remains, totals_of};
 
 use xc_data::{Entry, LateEnd, Outcome, Reply, Undo, UndoEnd};
-use xc_failure::standing;
+use xc_failure::remaining_from;
 
 /// What the last line of a text counts.
+///
+/// The counts are 128 bits wide, so no sum wraps; a journal has at most 10,000 entries.
 #[derive(Clone, Copy)]
 pub struct Totals {
     pub committed: usize,
@@ -107,18 +109,18 @@ fn entry_faults_of(entry: &Entry) -> u128
     count_fault_replies(entry.replies.as_slice()) as u128 + outcome_faults_of(&entry.outcome)
 }
 
-fn is_standing(ended: &(Undo, UndoEnd)) -> bool
-    ensures { result ≡ stands ended.now }
+fn effect_remains(ended: &(Undo, UndoEnd)) -> bool
+    ensures { result ≡ effect_remains ended.now }
 {
-    standing(&ended.0, &ended.1).is_some()
+    remaining_from(&ended.0, &ended.1).is_some()
 }
 
-fn count_standing(records: &[(Undo, UndoEnd)]) -> usize
-    ensures { result ≡ count_by stands records.now }
+fn count_remaining(records: &[(Undo, UndoEnd)]) -> usize
+    ensures { result ≡ count_by effect_remains records.now }
 {
     let mut count = 0;
     for ended in records {
-        if is_standing(ended) {
+        if effect_remains(ended) {
             count += 1;
         }
     }
@@ -130,7 +132,7 @@ fn entry_remains_of(entry: &Entry) -> usize
 {
     match &entry.outcome {
         Outcome::Committed { .. } => 0,
-        Outcome::Aborted(report) => count_standing(report.records.as_slice()),
+        Outcome::Aborted(report) => count_remaining(report.records.as_slice()),
     }
 }
 
@@ -157,6 +159,7 @@ fn journal_remains(journal: &[Entry]) -> u128
 }
 
 impl Totals {
+    /// The totals of a journal: what its last line counts.
     pub fn of(journal: &[Entry]) -> Totals
         requires few { length journal.now ≤ 10000 }
         ensures { result ≡ totals_of journal.now }

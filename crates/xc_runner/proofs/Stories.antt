@@ -1,7 +1,6 @@
 -- The events of a worker, one after another.
-use Rattle.std.proofs.Common.{◌≡◌, ℕ, Bool, List, [], ◌∷◌, ◌++◌, Option, refl, sym, ap, ◌∙◌, arith, append_assoc}
+use Rattle.std.proofs.Common.{◌≡◌, ℕ, Bool, List, [], ◌∷◌, ◌++◌, Option, refl, ap, ◌∙◌, arith, append_assoc}
 use Rattle.std.proofs.Common.{length-append, if◌then◌else◌, eq-eqb}
-use Rattle.std.proofs.lemmas.List.{append-nil}
 use Rattle.xc_data.specs.declared.entry.Event.{Event}
 use Rattle.xc_data.specs.declared.entry.Event.TheVariants.{Turned, Picked}
 use Rattle.xc_data.specs.declared.entry.Turn.{Turn}
@@ -9,15 +8,11 @@ use Rattle.xc_turnstile.specs.Insides.{GainsEvent}
 use Rattle.xc_turnstile.specs.Known.{Known}
 use Rattle.xc_runner.specs.Walks.{Stage, Leads, is_last, picked, picking, turning, walk, walk_all}
 
--- no event leads nowhere
-pub leads_nowhere : (s : Stage) (pass : Known) → Leads s pass pass s
-leads_nowhere s pass = record { gained = []; events = sym (append-nil pass.view.events); won = omega arith; leads = refl }
-
 walk_more : (s : Stage) (es fs : List Event) → walk_all s (es ++ fs) ≡ walk_all (walk_all s es) fs
 walk_more s [] fs = refl
 walk_more s (e ∷ es) fs = walk_more (walk s e) es fs
 
--- one way behind another
+-- one way after another
 pub leads_further : (r s t : Stage) (old mid new : Known) → Leads r old mid s → Leads s mid new t → Leads r old new t
 leads_further r s t old mid new p q =
     record {

@@ -22,7 +22,7 @@ is_last (Some (turn.Busy object holder)) = false
 is_last (Some turn.NoMemory) = false
 is_last (Some (turn.Ended end)) = true
 
--- behind a pick a worker takes turns of the job that it got, or is done
+-- after a pick a worker takes turns of the job that it got, or is done
 abbrev pub picked : Option ℕ → Stage
 picked None = over
 picked (Some job) = turning job
@@ -33,7 +33,7 @@ from_picking (Picked job) = picked job
 from_picking (Turned job answer) = astray
 from_picking (Looked length) = astray
 
--- where an event leads a worker that takes turns of this job: nothing but a turn of the job is right, and it picks behind the last
+-- where an event leads a worker that takes turns of this job: nothing but a turn of the job is right, and it picks after the last
 abbrev pub from_turning : ℕ → Event → Stage
 from_turning job (Turned other answer) = if job == other then (if is_last answer then picking else turning job) else astray
 from_turning job (Picked next) = astray

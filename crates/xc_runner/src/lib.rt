@@ -1,4 +1,4 @@
-//! Workers: threads that take turns of one station behind a turnstile, each with a pass of its own.
+//! Workers: threads that take turns of one station after a turnstile, each with a pass of its own.
 #![tactic(auto)]
 
 mod pace;

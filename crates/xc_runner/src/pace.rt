@@ -3,7 +3,7 @@ use std::thread;
 
 /// What a worker does between two turns. Nothing is promised of it.
 pub trait Pace {
-    /// Called behind each turn of a job, while the worker doesn't hold the station. `turn` counts the job's turns, from 1.
+    /// Called after each turn of a job, while the worker doesn't hold the station. `turn` counts the job's turns, from 1.
     fn between(&self, job: u32, turn: u64);
 }
 
@@ -14,8 +14,9 @@ impl Pace for NoPace {
     fn between(&self, _job: u32, _turn: u64) {}
 }
 
-/// Keeps jobs 1 and 2 in step over their first `meets` turns: behind each of these turns it holds the job until the other has
+/// Keeps jobs 1 and 2 in step over their first `meets` turns: after each of these turns it holds the job until the other has
 /// taken as many, for at most `limit` looks in all.
+/// It counts looks, since nothing here reads a clock.
 #[derive(Drop)]
 pub struct HoldPace {
     meets: u64,
@@ -31,6 +32,7 @@ pub struct HoldPace {
 }
 
 impl HoldPace {
+    /// Two jobs are to meet so many times; each waits for the other for at most `limit` looks.
     pub fn new(meets: u64, limit: u64) -> HoldPace {
         HoldPace {
             meets,
@@ -50,7 +52,7 @@ impl HoldPace {
         }
     }
 
-    // Holds a job behind its turn until the other has taken as many, or no look is left.
+    // Holds a job after its turn until the other has taken as many, or no look is left.
     fn hold(&self, mine: &AtomicU64, other: &AtomicU64, turn: u64) {
         mine.fetch_max(turn, Ordering::SeqCst);
         for _ in 0..self.limit {

@@ -58,7 +58,7 @@ pub fn turn<H: Host, R: Wait>(
     (turnstile.leave(station, hold), answer)
 }
 
-// Whether a job takes no further turn behind this answer.
+// Whether a job takes no further turn after this answer.
 fn ends(answer: &Option<Turn>) -> bool
     ensures { result ≡ is_last answer.now }
 {
@@ -68,7 +68,7 @@ fn ends(answer: &Option<Turn>) -> bool
     }
 }
 
-/// Takes a job's turns to its end, one entering for each, and calls the pace behind each. It may wait.
+/// Takes a job's turns to its end, one entering for each, and calls the pace after each. It may wait.
 pub fn work_job<H: Host, P: Pace, R: Wait>(
     rt: &R,
     turnstile: &Turnstile<Station<H>>,
@@ -104,7 +104,7 @@ pub fn work<H: Host + Send, P: Pace, R: Wait>(
     requires { pass.table ≡ turnstile.now.table.shared.table_id }
     ensures goes { PassGoesOn pass result }
 
-    // Each entering is one event. The first that it gains is a Picked; behind each job that is picked come turns of that job
+    // Each entering is one event. The first that it gains is a Picked; after each job that is picked come turns of that job
     // alone, up to its end; the last one, and no other, is a Picked with no job.
     ensures story { Leads picking pass result over }
 {

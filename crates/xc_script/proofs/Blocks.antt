@@ -1,19 +1,11 @@
 -- Blocks by their places.
-use Rattle.std.proofs.Common.{◌≡◌, ℕ, zero, suc, ◌+◌, ◌<◌, Bool, true, false, ◌||◌, List, [], ◌∷◌, ◌++◌, Some, None, cond, length, arith}
+use Rattle.std.proofs.Common.{◌≡◌, ℕ, zero, suc, ◌+◌, Bool, true, false, ◌||◌, List, [], ◌∷◌, Some, None, cond, arith}
 use Rattle.std.proofs.Common.{refl, ap, sym, ◌∙◌, subst}
-use Rattle.std.specs.Prelude.{nat_eq, nat_lt, not, unwrap_or, slice_get}
+use Rattle.std.specs.Prelude.{nat_eq, not, slice_get}
 use Rattle.std.specs.Cmp.Lexicographic.{pointwise, nat_list_eq_equiv, same_text}
 use Rattle.std.specs.List.{IsDistinct, AllByRecursion, list_any, position_or_len}
-use Rattle.std.proofs.lemmas.Bool.{lt-ltb}
-use Rattle.std.proofs.lemmas.List.{length-map}
-use Rattle.std.proofs.lemmas.List.Folds.{list_any-append}
-use Rattle.std.proofs.lemmas.List.Sorted.{list_any-IsPermutation}
-use Rattle.std.proofs.lemmas.Map.Keys.{any_passes_from_place}
-use Rattle.std.proofs.lemmas.Option.{slice_get_within}
 use Rattle.xc_text.specs.declared.script.Block.{Block}
-use Rattle.xc_text.specs.declared.script.Script.{Script}
-use Rattle.xc_text.specs.Scripts.{IsScript, names_of}
-use Rattle.xc_script.specs.Ask.{block_place}
+use Rattle.xc_text.specs.Scripts.{names_of}
 
 -- a name apart from all of a list is apart from the one at a place
 apart_at : (name other : List ℕ) (names : List (List ℕ)) (at : ℕ) → AllByRecursion (λ n. pointwise nat_eq name n ≡ false) names →
@@ -40,17 +32,6 @@ first_there (b ∷ blocks) (suc at) name distinct is =
     let behind = first_there blocks at name distinct.1 is in
     omega (arith, passed, behind)
 
-place_within : (n len at : ℕ) → n ≡ at → at < len → unwrap_or (cond (nat_lt n len) (Some n) None) 0 ≡ at
-place_within n len at same within =
-    ap (λ b. unwrap_or (cond b (Some n) None) 0) (lt-ltb n len (subst (λ m. m < len) (sym same) within)) ∙ same
-
--- in a script that was read the block of a name stands where the name does
-pub block_there : (script : Script) (at : ℕ) (name : List ℕ) → IsScript script → slice_get (names_of script.blocks) at ≡ Some name →
-    block_place script name ≡ at
-block_there script at name is there =
-    let within : at < length (names_of script.blocks) = slice_get_within (names_of script.blocks) at name there in
-    place_within _ (length script.blocks) at (first_there script.blocks at name is.distinct there) (rw length-map at within)
-
 first_or_behind : (b : Block) (blocks : List Block) (name : List ℕ) (t : Bool) → pointwise nat_eq b.name name ≡ t →
     (t ≡ false → slice_get (names_of blocks) (position_or_len (named name) blocks) ≡ Some name) →
     slice_get (b.name ∷ names_of blocks) (cond (not t) (1 + position_or_len (named name) blocks) 0) ≡ Some name
@@ -66,26 +47,3 @@ first_has [] name some = cc
 first_has (b ∷ blocks) name some =
     first_or_behind b blocks name (pointwise nat_eq b.name name) refl
     (λ other. first_has blocks name (sym (ap (λ t. t || list_any (λ n. pointwise nat_eq n name) (names_of blocks)) other) ∙ some))
-
--- in a script that was read a name among those of the jobs and the bodies is that of its block
-pub block_named : (script : Script) (name : List ℕ) → IsScript script →
-    list_any (λ n. pointwise nat_eq n name) (script.outline.jobs ++ script.outline.bodies) ≡ true →
-    slice_get (names_of script.blocks) (block_place script name) ≡ Some name
-block_named script name is known =
-    let test : List ℕ → Bool = λ n. pointwise nat_eq n name in
-    let same = list_any-IsPermutation test (script.outline.jobs ++ script.outline.bodies) (names_of script.blocks) is.named in
-    let at = position_or_len (named name) script.blocks in
-    let there : slice_get (names_of script.blocks) at ≡ Some name = first_has script.blocks name (sym same ∙ known) in
-    let within : at < length (names_of script.blocks) = slice_get_within (names_of script.blocks) at name there in
-    let place : block_place script name ≡ at = place_within at (length script.blocks) at refl (rw length-map at within) in
-    subst (λ n. slice_get (names_of script.blocks) n ≡ Some name) (sym place) there
-
--- and so is that of each job
-pub job_named : (script : Script) (at : ℕ) (name : List ℕ) → IsScript script → slice_get script.outline.jobs at ≡ Some name →
-    slice_get (names_of script.blocks) (block_place script name) ≡ Some name
-job_named script at name is there =
-    let test : List ℕ → Bool = λ n. pointwise nat_eq n name in
-    let among : list_any test script.outline.jobs ≡ true =
-    any_passes_from_place test script.outline.jobs at name there (nat_list_eq_equiv.refl name) in
-    block_named script name is
-    (list_any-append test script.outline.jobs script.outline.bodies ∙ ap (λ t. t || list_any test script.outline.bodies) among)

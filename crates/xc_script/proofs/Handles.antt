@@ -1,9 +1,10 @@
--- What the variables hold behind the handles of a prologue.
+-- What the variables hold after the handles of a prologue.
 use Rattle.std.proofs.Common.{◌≡◌, ℕ, zero, suc, ◌+◌, ◌<◌, List, [], ◌∷◌, Option, Some, None, length, replicate, refl, ap, sym, ◌∙◌, subst, arith}
 use Rattle.std.specs.Prelude.{slice_get, slice_set, get_or}
 use Rattle.std.proofs.lemmas.List.{length-replicate}
 use Rattle.std.proofs.lemmas.Option.{slice_get_within, get_or_from_slice_get}
-use Rattle.xc_script.specs.Ask.{Values, value_there, value_at, with_handles, opening_variables}
+use Rattle.xc_script.specs.Values.{Values, value_there, value_at}
+use Rattle.xc_script.specs.Ask.{with_handles, opening_variables}
 use Rattle.xc_script.specs.Handles.{IsIn, IsLastIn}
 use Rattle.xc_script.specs.declared.value.Value.{Value}
 use Rattle.xc_script.specs.declared.value.Value.TheVariants as value

@@ -13,7 +13,11 @@ use Rattle.xc_script.specs.declared.ask.Ask.{Ask}
 use Rattle.xc_script.specs.declared.ask.Ask.TheVariants as ask
 use Rattle.xc_script.specs.declared.value.Value.{Value}
 use Rattle.xc_script.specs.declared.value.Value.TheVariants as value
-use Rattle.xc_script.specs.Ask.{Variables, Values, Walk, Job, settled, asks, next_body, target_of}
+use Rattle.xc_script.specs.Values.{Variables, Values}
+use Rattle.xc_script.specs.Walks.{Walk, past_silent}
+use Rattle.xc_script.specs.Ask.{Job, next_body}
+use Rattle.xc_script.specs.Asking.{asks}
+use Rattle.xc_script.specs.Answers.{target_of}
 
 -- the block, the transaction and the statement in it; what the transaction has stored, and whether its last
 -- call was refused; the variables there, and those at the transaction's begin
@@ -27,10 +31,10 @@ pub record Position : Type 0 where
   pub begun : Variables
 
 -- ---- codes of values and of places
-abbrev pub parts_of : Value → ℕ ⊎ (List ℕ ⊎ ℕ)
-parts_of (value.Number n) = inl n
-parts_of (value.Bytes bytes) = inr (inl bytes)
-parts_of (value.Handle h) = inr (inr h)
+abbrev pub value_parts : Value → ℕ ⊎ (List ℕ ⊎ ℕ)
+value_parts (value.Number n) = inl n
+value_parts (value.Bytes bytes) = inr (inl bytes)
+value_parts (value.Handle h) = inr (inr h)
 
 -- the value of these parts
 abbrev pub of_parts : ℕ ⊎ (List ℕ ⊎ ℕ) → Value
@@ -39,14 +43,14 @@ of_parts (inr (inl bytes)) = value.Bytes bytes
 of_parts (inr (inr h)) = value.Handle h
 
 -- a value is that of its parts
-abbrev pub same_parts : (v : Value) → of_parts (parts_of v) ≡ v
+abbrev pub same_parts : (v : Value) → of_parts (value_parts v) ≡ v
 same_parts (value.Number n) = refl
 same_parts (value.Bytes bytes) = refl
 same_parts (value.Handle h) = refl
 
 -- a value's code, that of its parts
 abbrev pub coded_value : Coded Value
-coded_value = code_by (ℕ ⊎ (List ℕ ⊎ ℕ)) (coded⊎ coded_ℕ (coded⊎ coded_name coded_ℕ)) parts_of of_parts same_parts
+coded_value = code_by (ℕ ⊎ (List ℕ ⊎ ℕ)) (coded⊎ coded_ℕ (coded⊎ coded_name coded_ℕ)) value_parts of_parts same_parts
 
 -- the variables' code, that of their values and their slots
 abbrev pub coded_variables : Coded Variables
@@ -82,10 +86,10 @@ left_at script place = drop place.at (unwrap_or (next_body script (job_of place)
 
 -- the transaction on its way there
 abbrev pub walk_of : Script → Position → Walk
-walk_of script place = settled place.variables place.stored place.refused (left_at script place)
+walk_of script place = past_silent place.variables place.stored place.refused (left_at script place)
 
 -- the place is where its walk is: no silent statement comes first
-pub record IsSettled (script : Script) (place : Position) : Type 0 where
+pub record IsPastSilent (script : Script) (place : Position) : Type 0 where
   pub variables : place.variables ≡ (walk_of script place).variables
   pub left : left_at script place ≡ (walk_of script place).left
 

@@ -6,7 +6,7 @@ use Rattle.xc_data.specs.declared.call.Reply.{Reply}
 use Rattle.xc_data.specs.declared.call.LateEnd.{LateEnd}
 use Rattle.xc_failure.specs.Slots.{with_slot}
 use Rattle.xc_data.specs.Calls.{is_late, slot_of}
-use Rattle.xc_script.specs.Ask.{Variables}
+use Rattle.xc_script.specs.Values.{Variables}
 
 -- the calls that were kept for the commit, by their recorded replies
 abbrev pub kept_of : List Call → List Reply → List Call

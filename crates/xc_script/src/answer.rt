@@ -1,6 +1,7 @@
 ghost use Rattle.std.specs.Prelude.{◌≡◌, ◌≤◌, ◌+◌, ◌<◌, ◌^◌, length, IfOk, OnOk, OnErr, IsOk, None};
-ghost use Rattle.xc_script.specs.Ask.{bytes_got, fails_check, stored_after, value_in, one_target, two_targets, form_target, target_of};
-ghost use Rattle.xc_script.specs.Ask.{handles_in, bound_both, bound, refuses};
+ghost use Rattle.xc_script.specs.Walks.{bytes_got, fails_check, stored_after};
+ghost use Rattle.xc_script.specs.Answers.{value_in, one_target, two_targets, form_target, target_of};
+ghost use Rattle.xc_script.specs.Answers.{handles_in, bound_both, bound, refuses};
 ghost use Rattle.xc_script.specs.declared.answer.Target.TheVariants.{Nowhere};
 
 use crate::value::{Value, Variables};
@@ -93,6 +94,7 @@ pub fn target_of(statement: &Statement<Place>) -> Target
 }
 
 // Two variables take the handles of a pair, the second one last, or lose their own. It takes no memory.
+// So a pair that was made is never put back for lack of memory.
 fn bind_both(variables: &mut Variables, first: Place, second: Place, reply: &Reply)
     ensures { variables.new ≡ bound_both variables.old first second (handles_in reply.now) }
 {
@@ -165,7 +167,7 @@ fn got(reply: &Reply) -> usize
     }
 }
 
-/// How many bytes are stored behind the reply to a call that carried so many.
+/// How many bytes are stored after the reply to a call that carried so many.
 pub fn stored_after(stored: u128, carried: usize, reply: &Reply) -> u128
     requires carried { carried ≤ 1024 }
     requires room { stored + 2 ^ 64 < 2 ^ 128 }

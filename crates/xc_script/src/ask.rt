@@ -1,8 +1,11 @@
 ghost use Rattle.std.specs.Prelude.{◌≡◌, ◌≤◌, length, IfOk, Some, None, if◌then◌else◌};
 ghost use Rattle.xc_data.specs.declared.call.Call.TheVariants.{Store, XClose, XRead, XSeek, XSync, XUnlink, XWriteOvr, XWriteSeq};
 ghost use Rattle.xc_data.specs.declared.call.Call.TheVariants.{XReadPipe, XSendmsg, XShutdown, XThreadCreate, XWritePipe};
-ghost use Rattle.xc_script.specs.Ask.{is_over, unless_over, data_of, handle_value, term_value, expression_value};
-ghost use Rattle.xc_script.specs.Ask.{name_of_slot, form_ask, ask_of, carried_by};
+ghost use Rattle.xc_script.specs.Walks.{is_over};
+ghost use Rattle.xc_script.specs.Asking.{unless_over};
+ghost use Rattle.xc_script.specs.Values.{data_of, handle_value, term_value, expression_value};
+ghost use Rattle.xc_script.specs.Asking.{name_of_slot, form_ask, ask_of};
+ghost use Rattle.xc_script.specs.Walks.{carried_by};
 
 use crate::data::{data_in, data_len};
 use crate::terms::{expression_of, handle_in, value_of};
@@ -23,6 +26,7 @@ pub enum Ask {
 }
 
 // The length of a write's data, where the transaction may store so many bytes more.
+// It is counted before the bytes are joined, in 128 bits, so no sum of lengths wraps.
 fn room_for(variables: &Variables, stored: u128, items: &Data<Place>) -> Option<usize>
     ensures { let n = length (data_of variables.now items.now) in result ≡ (if is_over stored n then None else Some n) }
 {
@@ -247,7 +251,7 @@ fn start(
     })
 }
 
-// What a line that is a call asks, behind so many stored bytes.
+// What a line that is a call asks, after so many stored bytes.
 fn form_ask(
     alloc: Global,
     variables: &Variables,
@@ -300,7 +304,7 @@ fn form_ask(
     }
 }
 
-/// What a statement asks that isn't silent, behind so many stored bytes. A `let` is always silent.
+/// What a statement asks that isn't silent, after so many stored bytes. A `let` is always silent.
 pub fn ask_of(
     alloc: Global,
     variables: &Variables,

@@ -1,6 +1,6 @@
 ghost use Rattle.std.specs.Prelude.{◌≡◌, ◌≤◌, ◌<◌, ◌++◌, length, IfSome, IfNone, IfOk, OnOk};
 ghost use Rattle.std.specs.Fmt.{decimal};
-ghost use Rattle.xc_script.specs.Ask.{item_value, data_of};
+ghost use Rattle.xc_script.specs.Values.{item_value, data_of};
 
 use crate::terms::{bytes_in, value_of};
 use crate::value::Variables;

@@ -1,10 +1,10 @@
-ghost use Rattle.std.specs.Prelude.{◌≡◌, ◌≤◌, ◌<◌, is_some, ◌+◌, ◌^◌, nat_eq, position, slice_get, None, IfOk, IsOk, OnOk, OnErr};
+ghost use Rattle.std.specs.Prelude.{◌≡◌, ◌≤◌, ◌<◌, is_some, ◌+◌, ◌^◌, slice_get, None, IfOk, IsOk, OnOk, OnErr};
 ghost use Rattle.std.specs.Option.{option_copied};
-ghost use Rattle.std.specs.Cmp.Lexicographic.{pointwise};
 ghost use Rattle.xc_text.specs.Scripts.{IsScript};
-ghost use Rattle.xc_script.specs.Ask.{asks_from, answered, next_body, transactions_at, fresh_job, handed_on, value_in};
+ghost use Rattle.xc_script.specs.Ask.{asks_from, next_body, transactions_at, fresh_job, handed_on};
+ghost use Rattle.xc_script.specs.Answers.{answered, value_in};
 ghost use Rattle.xc_script.specs.Slots.{kept_of, with_ends};
-ghost use Rattle.xc_script.specs.Position.{Position, job_of, walk_of, at_begin, nothing_kept, IsSettled, IsAskedCall, target_at};
+ghost use Rattle.xc_script.specs.Position.{Position, job_of, walk_of, at_begin, nothing_kept, IsPastSilent, IsAskedCall, target_at};
 ghost use Rattle.xc_script.specs.declared.answer.Target.TheVariants.{Nowhere};
 
 use crate::Ask;
@@ -19,7 +19,7 @@ use std::marker::Model;
 use xc_data::{Call, LateEnd, NoMemory, Reply};
 use xc_text::{Place, Script, Statement};
 
-/// A job's place in its block, and its variables. What each call reads stands behind what only a begin and an end do.
+/// A job's place in its block, and its variables. What each call reads stands after what only a begin and an end do.
 #[derive(Drop)]
 pub struct JobState {
     alloc: Global,
@@ -129,14 +129,14 @@ impl JobState {
     pub fn ask(&mut self, script: &Script) -> Result<Ask, NoMemory>
         ensures value { IfOk result (λ ask. ask ≡ asks_from (next_body script.now (job_of self.old)) (walk_of script.now self.old)) }
         ensures walk { walk_of script.now self.new ≡ walk_of script.now self.old }
-        ensures settled { OnOk result (IsSettled script.now self.new) }
+        ensures settled { OnOk result (IsPastSilent script.now self.new) }
         ensures same { (self.new.block ≡ self.old.block) × (self.new.next ≡ self.old.next) }
         ensures begun { self.new.begun ≡ self.old.begun }
         ensures noted { (self.new.stored ≡ self.old.stored) × (self.new.refused ≡ self.old.refused) }
         ensures at { self.old.at ≤ self.new.at }
 
         // Where it has passed the silent ones already it changes nothing.
-        ensures stays { IsSettled script.now self.old → self.new ≡ self.old }
+        ensures stays { IsPastSilent script.now self.old → self.new ≡ self.old }
     {
         let Some(body) = body_at(script, self.block, self.next) else {
             return Ok(Ask::End);
@@ -148,17 +148,17 @@ impl JobState {
         }
     }
 
-    /// Goes on behind the reply to the call that was asked.
+    /// Goes on after the reply to the call that was asked.
     pub fn answer(&mut self, script: &Script, reply: &Reply) -> Result<(), NoMemory>
         requires asked { IsAskedCall script.now self.old }
-        requires settled { IsSettled script.now self.old }
+        requires settled { IsPastSilent script.now self.old }
         ensures ok { OnOk result (walk_of script.now self.new ≡ answered (walk_of script.now self.old) reply.now) }
         ensures same { (self.new.block ≡ self.old.block) × (self.new.next ≡ self.old.next) }
         ensures begun { self.new.begun ≡ self.old.begun }
         ensures at { OnOk result (self.new.at ≡ self.old.at + 1) }
         ensures err { OnErr result (self.new ≡ self.old) }
 
-        // Only a variable that takes what the reply brings can want memory.
+        // Only a variable that takes what the reply brings can run out of memory.
         ensures sure { target_at script.now self.old ≡ Nowhere → IsOk result }
         ensures lasting { value_in reply.now ≡ None → IsOk result }
     {

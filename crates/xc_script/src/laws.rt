@@ -1,7 +1,8 @@
 //! What the variables hold at the opening. Each function does nothing: its contract is the law.
 
 ghost use Rattle.std.specs.Prelude.{◌≡◌, ℕ, Some, None, length};
-ghost use Rattle.xc_script.specs.Ask.{opening_variables, value_at};
+ghost use Rattle.xc_script.specs.Ask.{opening_variables};
+ghost use Rattle.xc_script.specs.Values.{value_at};
 ghost use Rattle.xc_script.specs.Handles.{IsIn, IsLastIn};
 ghost use Rattle.xc_script.specs.declared.value.Value.TheVariants.{Handle};
 ghost use Rattle.xc_text.specs.Scripts.{IsScript};

@@ -1,5 +1,5 @@
 ghost use Rattle.std.specs.Prelude.{◌≡◌, ◌≤◌, ℕ, true, drop};
-ghost use Rattle.xc_script.specs.Ask.{holds, is_silent, set_by, settled, stands};
+ghost use Rattle.xc_script.specs.Walks.{holds, is_silent, set_by, past_silent, none_silent_first};
 
 use crate::terms::{expression_of, value_of};
 use crate::value::{Value, Variables};
@@ -52,12 +52,13 @@ fn set(variables: &mut Variables, statement: &Statement<Place>)
 
 /// Passes the silent statements that come next. It takes no memory.
 pub fn settle(variables: &mut Variables, at: &mut usize, refused: bool, body: &[Statement<Place>])
-    ensures walk { (stored : ℕ) → settled variables.new stored refused (drop at.new body.now)
-        ≡ settled variables.old stored refused (drop at.old body.now) }
+    ensures walk { (stored : ℕ) → past_silent variables.new stored refused (drop at.new body.now)
+        ≡ past_silent variables.old stored refused (drop at.old body.now) }
     ensures slots { variables.new.slots ≡ variables.old.slots }
-    ensures settled { stands variables.new refused (drop at.new body.now) ≡ true }
+    ensures past_silent { none_silent_first variables.new refused (drop at.new body.now) ≡ true }
     ensures at { at.old ≤ at.new }
-    ensures stays { stands variables.old refused (drop at.old body.now) ≡ true → (variables.new ≡ variables.old) × (at.new ≡ at.old) }
+    ensures stays { none_silent_first variables.old refused (drop at.old body.now) ≡ true → (variables.new ≡ variables.old)
+        × (at.new ≡ at.old) }
 {
     while let Some(statement) = body.get(*at) {
         if !is_silent(variables, refused, statement) {

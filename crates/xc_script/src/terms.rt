@@ -1,5 +1,5 @@
 ghost use Rattle.std.specs.Prelude.{◌≡◌};
-ghost use Rattle.xc_script.specs.Ask.{bytes_value, handle_value, term_value, expression_value};
+ghost use Rattle.xc_script.specs.Values.{bytes_value, handle_value, term_value, expression_value};
 
 use crate::value::{Value, Variables};
 use xc_text::{Expression, Place, Term};
@@ -38,6 +38,7 @@ pub fn value_of(variables: &Variables, term: Term<Place>) -> u64
     }
 }
 
+/// Sums and differences are taken modulo 2^64.
 pub fn expression_of(variables: &Variables, expression: Expression<Place>) -> u64
     ensures { result ≡ expression_value variables.now expression }
 {

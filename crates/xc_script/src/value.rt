@@ -1,7 +1,10 @@
 ghost use Rattle.std.specs.Prelude.{◌≡◌, ◌≤◌, ◌^◌, IfOk, None, length, replicate};
 ghost use Rattle.std.specs.Option.{option_copied};
 ghost use Rattle.xc_failure.specs.Slots.{slot_number, unset};
-ghost use Rattle.xc_script.specs.Ask.{name_of_slot, set_to, value_at, with_handles};
+ghost use Rattle.xc_script.specs.Asking.{name_of_slot};
+ghost use Rattle.xc_script.specs.Walks.{set_to};
+ghost use Rattle.xc_script.specs.Values.{value_at};
+ghost use Rattle.xc_script.specs.Ask.{with_handles};
 ghost use Rattle.xc_script.specs.Position.{nothing_kept};
 ghost use Rattle.xc_script.specs.Slots.{with_end};
 
@@ -28,7 +31,7 @@ pub struct Variables {
 }
 
 impl Model for Variables {
-    ghost use Rattle.xc_script.specs.Ask.{Variables as PlainVariables};
+    ghost use Rattle.xc_script.specs.Values.{Variables as PlainVariables};
     ghost use Rattle.xc_script.specs.Position.{coded_variables};
 
     ghost Value = { PlainVariables };

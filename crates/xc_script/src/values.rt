@@ -1,6 +1,7 @@
 ghost use Rattle.std.specs.Prelude.{◌≡◌, ◌≤◌, ◌^◌, IfOk, [], None, length, replicate, slice_set};
 ghost use Rattle.std.specs.Option.{option_copied};
-ghost use Rattle.xc_script.specs.Ask.{value_at, with_handles};
+ghost use Rattle.xc_script.specs.Values.{value_at};
+ghost use Rattle.xc_script.specs.Ask.{with_handles};
 
 use crate::value::Value;
 use std::alloc::Global;
@@ -16,7 +17,7 @@ pub struct Values {
 
 impl Model for Values {
     ghost use Rattle.std.specs.Coded.{coded_list, coded_option};
-    ghost use Rattle.xc_script.specs.Ask.{Values as PlainValues};
+    ghost use Rattle.xc_script.specs.Values.{Values as PlainValues};
     ghost use Rattle.xc_script.specs.Position.{coded_value};
 
     ghost Value = { PlainValues };
@@ -45,6 +46,7 @@ impl Values {
         })
     }
 
+    /// What the variable at a place holds, if it holds anything.
     pub fn get(&self, at: Place) -> Option<&Value>
         ensures { option_copied result ≡ value_at self.now at }
     {
@@ -54,7 +56,7 @@ impl Values {
         }
     }
 
-    /// It takes no memory.
+    /// A variable takes a value, or loses its own. It takes no memory.
     pub fn set(&mut self, at: Place, value: Option<Value>)
         ensures { self.new ≡ slice_set self.old at value }
     {

@@ -3,7 +3,7 @@ use Rattle.std.specs.Prelude.{◌≡◌, ℕ, ◌<◌, Bool, true, false, All, L
 use Rattle.xc_data.specs.declared.claim.Claim.{Claim}
 use Rattle.xc_data.specs.declared.object.Object.{Object}
 use Rattle.xc_data.specs.Step.{Step}
-use Rattle.xc_wordlocks.specs.Table.{KeepsOthers, claimed, mode_of}
+use Rattle.xc_wordlocks.specs.Table.{KeepsOthers, claimed, held_mode}
 use Rattle.xc_wordlocks.specs.Met.{IsFirstMet, IsNotMet}
 use Rattle.xc_data.specs.declared.entry.Mark.{Mark}
 use Rattle.xc_sentinel.specs.declared.seat.Seat.{Seat}
@@ -18,7 +18,7 @@ abbrev pub mark_behind : Bool → Option Mark → Mark → Option Mark
 mark_behind true None new = Some new
 mark_behind running kept new = kept
 
--- the seat behind it
+-- the seat after it
 abbrev pub marked_seat : Seat → Mark → Seat
 marked_seat seat new = record seat { mark = mark_behind seat.running seat.mark new }
 
@@ -31,7 +31,7 @@ mark_of (Some seat) = seat.mark
 abbrev pub settled : Seat → Seat
 settled seat = record seat { running = false }
 
--- one seat behind a change, where there is one
+-- one seat after a change, where there is one
 abbrev pub changed : (Seat → Seat) → Option Seat → Option Seat
 changed f None = None
 changed f (Some seat) = Some (f seat)
@@ -52,7 +52,7 @@ pub record Claiming : Type 0 where
 -- no claim is met, and all is claimed
 pub record AreGranted (step : Step Sentinels) (tx : ℕ) (claims : List Claim) : Type 0 where
   pub free : All (IsNotMet step.old.claims tx) claims
-  pub held : (o : Object) → mode_of step.new.claims tx o ≡ claimed (mode_of step.old.claims tx o) claims o
+  pub held : (o : Object) → held_mode step.new.claims tx o ≡ claimed (held_mode step.old.claims tx o) claims o
   pub others : KeepsOthers tx step.old.claims step.new.claims
   pub seats : KeepsSeats step.old.seats step.new.seats
 

@@ -26,6 +26,7 @@ impl Model for Keys {
 }
 
 impl Keys {
+    /// No key yet. It takes no memory.
     pub fn new(alloc: Global) -> Keys
         ensures { result ≡ map.empty }
     {
@@ -34,12 +35,14 @@ impl Keys {
         }
     }
 
+    /// The key of a transaction's seat in the slab.
     pub fn get(&self, tx: u32) -> Option<usize>
         ensures { result ≡ map.get self.now tx }
     {
         self.entries.get(&tx).copied()
     }
 
+    /// Notes the key of a new transaction's seat.
     pub fn insert(&mut self, tx: u32, key: usize) -> Result<(), NoMemory>
         ensures ok { OnOk result (self.new ≡ map.insert self.old tx key) }
         ensures err { OnErr result (self.new ≡ self.old) }

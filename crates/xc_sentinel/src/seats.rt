@@ -29,6 +29,7 @@ impl Seats {
     ghost use Rattle.std.specs.Prelude.{◌≡◌, ℕ, Some, None, OnOk, OnErr, IsSome, true};
     ghost use Rattle.xc_sentinel.specs.Seating.{KeepsSeats, SetsSeat, seat_in};
 
+    /// No active transaction. It takes no memory.
     pub fn new(alloc: Global) -> Seats
         ensures { (n : ℕ) → seat_in result n ≡ None }
     {
@@ -38,6 +39,7 @@ impl Seats {
         }
     }
 
+    /// The seat of an active transaction; `None` if it isn't active.
     pub fn get(&self, tx: u32) -> Option<Seat>
         ensures { result ≡ seat_in self.now tx }
     {

@@ -1,6 +1,6 @@
 ghost use Rattle.std.specs.Prelude.{◌≡◌, ◌≤◌, ◌+◌, ℕ, length, Some, None, OnOk, OnErr, is_some, true};
 ghost use Rattle.xc_data.specs.declared.object.Object.{Object};
-ghost use Rattle.xc_wordlocks.specs.Table.{Holds, KeepsOthers, mode_of};
+ghost use Rattle.xc_wordlocks.specs.Table.{Holds, KeepsOthers, held_mode};
 
 use crate::seat::{Seat, Verdict};
 use crate::seats::Seats;
@@ -11,7 +11,7 @@ use xc_wordlocks::{ClaimErr, Claims, Holding, Steps};
 
 /// Claims, and the active transactions that make them: who runs, and who was told by an older one to give way.
 ///
-/// Contracts see the claims by `mode_of`, and an active transaction by its number (`seat_in`). Whether what is held is held by active
+/// Contracts see the claims by `held_mode`, and an active transaction by its number (`seat_in`). Whether what is held is held by active
 /// ones is the caller's to keep: who has no seat is no younger than anybody, and is never waited for.
 #[derive(Drop)]
 pub struct Sentinels {
@@ -25,7 +25,7 @@ impl Sentinels {
 
     /// Nothing is held, and nobody is active. It takes no memory.
     pub fn new(alloc: Global) -> Sentinels
-        ensures nothing { (n : ℕ) (o : Object) → mode_of result.claims n o ≡ None }
+        ensures nothing { (n : ℕ) (o : Object) → held_mode result.claims n o ≡ None }
         ensures nobody { (n : ℕ) → seat_in result.seats n ≡ None }
     {
         Sentinels {
@@ -144,7 +144,7 @@ impl Sentinels {
     /// The transaction's claims go, which are those of the list, and its activity. Gives what it held. It takes no memory.
     pub fn end(&mut self, tx: u32, held: Holding) -> HeldList
         requires { Holds self.old.claims tx held.items }
-        ensures released { (o : Object) → mode_of self.new.claims tx o ≡ None }
+        ensures released { (o : Object) → held_mode self.new.claims tx o ≡ None }
         ensures held { result ≡ held.items }
         ensures others { KeepsOthers tx self.old.claims self.new.claims }
         ensures seats { SetsSeat self.old.seats self.new.seats tx None }
@@ -161,7 +161,7 @@ impl Sentinels {
         steps: &mut Steps<L>,
     ) -> HeldList
         requires { Holds self.old.claims tx held.items }
-        ensures released { (o : Object) → mode_of self.new.claims tx o ≡ None }
+        ensures released { (o : Object) → held_mode self.new.claims tx o ≡ None }
         ensures held { result ≡ held.items }
         ensures others { KeepsOthers tx self.old.claims self.new.claims }
         ensures seats { SetsSeat self.old.seats self.new.seats tx None }

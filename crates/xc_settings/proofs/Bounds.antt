@@ -7,7 +7,7 @@ use Rattle.std.proofs.lemmas.Bool.Decides.{nat_tests}
 use Rattle.std.proofs.lemmas.List.Elements.{All-nil, All-cons}
 use Rattle.std.proofs.lemmas.List.Splits.{length-slice_split}
 use Rattle.xc_tokens.specs.Numbers.{number_of}
-use Rattle.xc_settings.specs.Options.{within, number_in, in_front, numbers_in, parts_of, job_numbers, schedule_in, IsUpTo, AreJobs}
+use Rattle.xc_settings.specs.Options.{within, number_in, in_front, numbers_in, comma_parts, job_numbers, schedule_in, IsUpTo, AreJobs}
 
 -- a number that counts is within its bounds
 within-bounds : (most n m : ℕ) → within most n ≡ Some m → IsUpTo most m
@@ -36,12 +36,12 @@ numbers-bounds most [] ns e = let same : [] ≡ ns = cc in subst (AreUpTo most [
 numbers-bounds most (word ∷ words) ns e =
     front-bounds most words word (number_in most word) (numbers_in most words) ns (number-bounds most (number_of word)) (numbers-bounds most words) e
 
-parts-bounds : (text : List ℕ) (jobs : List ℕ) (t : Bool) → t ≡ nat_le (length (parts_of text)) 10000
-    → (if t then numbers_in 1000 (parts_of text) else None) ≡ Some jobs → AreJobs jobs
+parts-bounds : (text : List ℕ) (jobs : List ℕ) (t : Bool) → t ≡ nat_le (length (comma_parts text)) 10000
+    → (if t then numbers_in 1000 (comma_parts text) else None) ≡ Some jobs → AreJobs jobs
 parts-bounds text jobs true few e =
-    let read = numbers-bounds 1000 (parts_of text) jobs e in
+    let read = numbers-bounds 1000 (comma_parts text) jobs e in
     let some = length-slice_split (λ b. b == 44) text in
-    let most : length (parts_of text) ≤ 10000 = leb-true _ _ (sym few) in
+    let most : length (comma_parts text) ≤ 10000 = leb-true _ _ (sym few) in
     record { count = (omega (arith, read.1, some), omega (arith, read.1, most)); each = read.0 }
 parts-bounds text jobs false few e = absurd (cc)
 

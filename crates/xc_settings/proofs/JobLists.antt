@@ -2,7 +2,7 @@
 use Rattle.std.proofs.Common.{◌≡◌, ℕ, ◌<◌, ◌≤◌, zero, suc, List, [], ◌∷◌, ◌++◌, length, get_or, map, Bor, Option, None, Some, refl, ap, sym, ◌∙◌, arith}
 use Rattle.std.proofs.lemmas.Bool.Decides.{nat_tests}
 use Rattle.std.proofs.lemmas.List.{map-append}
-use Rattle.xc_settings.specs.Options.{number_in, numbers_in, in_front, parts_of, job_numbers}
+use Rattle.xc_settings.specs.Options.{number_in, numbers_in, in_front, comma_parts, job_numbers}
 
 front_push : (o : Option ℕ) (rest more : Option (List ℕ)) (ns : List ℕ) (n : ℕ) → in_front o rest ≡ Some ns
     → ((ms : List ℕ) → rest ≡ Some ms → more ≡ Some (ms ++ n ∷ [])) → in_front o more ≡ Some (ns ++ n ∷ [])
@@ -39,16 +39,16 @@ numbers_in-refused most (first ∷ parts) (suc at) part inside is bad =
     ap (in_front (number_in most first)) (numbers_in-refused most parts at part (omega arith) is bad) ∙ no_rest (number_in most first)
 
 -- a text with such a part is no list
-pub job_numbers-refused : (text : List ℕ) → numbers_in 1000 (parts_of text) ≡ None → job_numbers text ≡ None
+pub job_numbers-refused : (text : List ℕ) → numbers_in 1000 (comma_parts text) ≡ None → job_numbers text ≡ None
 job_numbers-refused text bad = grind (arith, nat_tests)
 
 -- nor is one with too many parts
-pub job_numbers-many : (text : List ℕ) → 10000 < length (parts_of text) → job_numbers text ≡ None
+pub job_numbers-many : (text : List ℕ) → 10000 < length (comma_parts text) → job_numbers text ≡ None
 job_numbers-many text many = grind (arith, nat_tests)
 
 -- all parts are read
-pub job_numbers-read : (text : List ℕ) (jobs : List ℕ) (parts : List (List ℕ)) → parts ≡ parts_of text
-    → numbers_in 1000 parts ≡ Some jobs → length (parts_of text) ≤ 10000 → job_numbers text ≡ Some jobs
+pub job_numbers-read : (text : List ℕ) (jobs : List ℕ) (parts : List (List ℕ)) → parts ≡ comma_parts text
+    → numbers_in 1000 parts ≡ Some jobs → length (comma_parts text) ≤ 10000 → job_numbers text ≡ Some jobs
 job_numbers-read text jobs parts all read few =
-    let every : numbers_in 1000 (parts_of text) ≡ Some jobs = ap (numbers_in 1000) (sym all) ∙ read in
+    let every : numbers_in 1000 (comma_parts text) ≡ Some jobs = ap (numbers_in 1000) (sym all) ∙ read in
     grind (arith, nat_tests)

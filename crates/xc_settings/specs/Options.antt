@@ -9,7 +9,7 @@ use Rattle.clap.specs.Simple.{App, matches_of, new_app, new_rule, on_top, with_r
 use Rattle.clap.specs.Walk.{Row, Rule, Text, first_of, is_empty}
 use Rattle.clap.specs.declared.builder.action.ArgAction.TheVariants.{Set}
 use Rattle.clap.specs.declared.builder.value_parser.ValueParser.TheVariants.{Unsigned}
-use Rattle.xc_story.specs.declared.rules.Rules.{Rules}
+use Rattle.xc_model.specs.declared.rules.Rules.{Rules}
 use Rattle.xc_tokens.specs.Numbers.{number_of}
 use Rattle.xc_settings.specs.declared.chosen.Chosen.{Chosen}
 
@@ -22,7 +22,7 @@ number_rule id least most = record (new_rule id) { long = Some id; action = Some
 abbrev pub text_rule : Text → Rule
 text_rule id = record (new_rule id) { long = Some id; action = Some Set }
 
--- a command without a help or a version flag, which is given the words behind its name
+-- a command without a help or a version flag, which is given the words after its name
 abbrev pub bare_command : App
 bare_command =
     on_top (λ top. record top { no_binary_name = true; disable_help_flag = true; disable_version_flag = true }) (new_app (codes "xcalls"))
@@ -72,13 +72,13 @@ abbrev pub numbers_in : ℕ → List (List ℕ) → Option (List ℕ)
 numbers_in most [] = Some []
 numbers_in most (word ∷ words) = in_front (number_in most word) (numbers_in most words)
 
--- what stands before, between and behind the commas of a word: one part more than there are commas
-abbrev pub parts_of : List ℕ → List (List ℕ)
-parts_of word = slice_split (λ b. b == 44) word
+-- what stands before, between and after the commas of a word: one part more than there are commas
+abbrev pub comma_parts : List ℕ → List (List ℕ)
+comma_parts word = slice_split (λ b. b == 44) word
 
 -- 1 to 10,000 numbers of jobs, each from 1 to 1,000, joined by single commas
 abbrev pub job_numbers : List ℕ → Option (List ℕ)
-job_numbers word = if nat_le (length (parts_of word)) 10000 then numbers_in 1000 (parts_of word) else None
+job_numbers word = if nat_le (length (comma_parts word)) 10000 then numbers_in 1000 (comma_parts word) else None
 
 -- ---- what is chosen
 -- the number that an option's text spells, in digits that a plus may lead, or its default

@@ -1,6 +1,6 @@
 use thiserror::Error;
 use xc_data::{JobNumbers, NoMemory};
-use xc_story::Rules;
+use xc_model::Rules;
 
 /// What the words of a command line chose.
 #[derive(Debug, Drop, PartialEq, Eq)]

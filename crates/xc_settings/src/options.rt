@@ -10,7 +10,7 @@ use clap::error::ErrorKind;
 use clap::{Arg, ArgAction, ArgMatches, Command};
 use std::alloc::{AllocError, Global};
 use xc_data::JobNumbers;
-use xc_story::Rules;
+use xc_model::Rules;
 
 const DEFAULT_WORKERS: u32 = 4;
 
@@ -108,7 +108,7 @@ fn schedule(alloc: Global, matches: &ArgMatches<'_>) -> Result<Option<JobNumbers
     }
 }
 
-/// What the words behind the program's name choose.
+/// What the words after the program's name choose.
 pub fn settings(alloc: Global, words: &[String]) -> Result<Chosen, SettingsErr>
     ensures ok { IfOk result (λ chosen. settings_of (map string_bytes words.now) ≡ Some chosen) }
     ensures usage { IsErrOf result SettingsErr.Usage → settings_of (map string_bytes words.now) ≡ None }

@@ -31,7 +31,7 @@ keeps_put_pair : (c d : Contents) (at : Num) (pair : Pair) → d ≡ record c { 
 keeps_put_pair c d at pair did =
     subst (KeepsData c) (sym did) (record { pipes = λ num is. is; pairs = λ num is. still_there c.pairs at num pair is })
 
--- behind a receipt
+-- after a receipt
 pub keeps_receipt : (pair : Num) (side : ℕ) (found : Took) (c d : Contents) → d ≡ after_receipt pair side found c → KeepsData c d
 keeps_receipt pair side (took.Bytes message) c d did =
     let q = pair_in c pair in
@@ -47,7 +47,7 @@ keeps_received model pair side step (Ok found) answered tells =
     keeps_receipt pair side found (model.contents step.old) (model.contents step.new) (answered.done tells)
 keeps_received model pair side step (Err e) answered tells = keeps_same (model.contents step.old) (model.contents step.new) (answered.refused tells)
 
--- behind the making of a pair, whether it is made or not
+-- after the making of a pair, whether it is made or not
 pub keeps_made : {H : Type 0} (model : HostModel H) (num : Num) (step : Step H) (answer : Result (Unit {0}) HostErr)
     → Answers model kind.NewPair step answer (λ _ c. with_new_pair c num) → IsTrue model.tells
     → KeepsData (model.contents step.old) (model.contents step.new)

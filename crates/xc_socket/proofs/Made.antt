@@ -28,8 +28,8 @@ use Rattle.xc_deferred.proofs.Lifted.{world_with}
 use Rattle.xc_host.specs.Contents.{Contents, with_contents}
 use Rattle.xc_host.specs.Kept.{with_kept}
 use Rattle.xc_host.specs.Pairs.{with_new_pair}
-use Rattle.xc_file.specs.Calls.{Acts, IsMePassed}
-use Rattle.xc_file.proofs.FileCalls.{moment}
+use Rattle.xc_file.specs.Calls.{ActsAsPlain, IsMePassed}
+use Rattle.xc_file.proofs.FileCalls.{call_view_at}
 use Rattle.xc_file.proofs.Refusals.{by_much}
 use Rattle.xc_socket.specs.Making.{AreVacant, IsMadeAt, Makes, with_made, made_record}
 
@@ -61,17 +61,17 @@ new_there w c d num items none did =
     ∙ sym (world_with w (with_new_pair c num) items) ∙ ap (λ x. with_contents w (with_kept x items)) (sym did)
 
 module _ (number : ℕ) (me : Private) (at : ℕ × ℕ) (vacant : AreVacant me (next_num me number) at) where
-  -- the private state behind it
+  -- the private state after it
   abbrev next : Reply → Private
   next r = with_made me at (next_num me number) r
 
   pair_acts : (c d : Contents) (items : List KeptItem) (r : Reply) → is_too_much XPair me ≡ false → keeps_pair (next_num me number) items ≡ false
       → Makes (record { old = c; new = d }) (next_num me number) at r
-      → Acts XPair (moment (with_kept c items) number me) (moment (with_kept d items) number (next r)) r
+      → ActsAsPlain XPair (call_view_at (with_kept c items) number me) (call_view_at (with_kept d items) number (next r)) r
   pair_acts c d items (reply.MadePair h g) free none (same, did) =
       let num = next_num me number in
       let one = with_place me at.0 (Pair num 0) in
-      subst (λ (p : ℕ × ℕ). Acts XPair (moment (with_kept c items) number me) (moment (with_kept d items) number (next (reply.MadePair h g)))
+      subst (λ (p : ℕ × ℕ). ActsAsPlain XPair (call_view_at (with_kept c items) number me) (call_view_at (with_kept d items) number (next (reply.MadePair h g)))
       (reply.MadePair p.0 p.1)) (sym same)
       (record {
         step = λ w.
@@ -82,7 +82,7 @@ module _ (number : ℕ) (me : Private) (at : ℕ × ℕ) (vacant : AreVacant me 
         fits = λ w. refl;
       })
   pair_acts c d items (reply.Fault n) free none (zero, same) =
-      subst (λ m. Acts XPair (moment (with_kept c items) number me) (moment (with_kept d items) number me) (reply.Fault m)) (sym zero)
+      subst (λ m. ActsAsPlain XPair (call_view_at (with_kept c items) number me) (call_view_at (with_kept d items) number me) (reply.Fault m)) (sym zero)
       (record {
         step = λ w.
             passes (with_contents w (with_kept c items)) me number (answer.Fault 0) free
@@ -95,9 +95,9 @@ module _ (number : ℕ) (me : Private) (at : ℕ × ℕ) (vacant : AreVacant me 
   pub made_acts : (c d : Contents) (items : List KeptItem) (new : Private) (result : Result Reply NoMemory) → is_too_much XPair me ≡ false
       → keeps_pair (next_num me number) items ≡ false → IfOk result (λ r. new ≡ next r)
       → IfOk result (Makes (record { old = c; new = d }) (next_num me number) at)
-      → IfOk result (Acts XPair (moment (with_kept c items) number me) (moment (with_kept d items) number new))
+      → IfOk result (ActsAsPlain XPair (call_view_at (with_kept c items) number me) (call_view_at (with_kept d items) number new))
   made_acts c d items new (Ok r) free none same told =
-      subst (λ m. Acts XPair (moment (with_kept c items) number me) (moment (with_kept d items) number m) r) (sym same)
+      subst (λ m. ActsAsPlain XPair (call_view_at (with_kept c items) number me) (call_view_at (with_kept d items) number m) r) (sym same)
       (pair_acts c d items r free none told)
   made_acts c d items new (Err e) free none same told = tt
 

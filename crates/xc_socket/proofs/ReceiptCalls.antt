@@ -20,9 +20,9 @@ use Rattle.xc_host.specs.Contents.{with_contents}
 use Rattle.xc_host.specs.Fronted.{before, fronted}
 use Rattle.xc_host.specs.Model.{HostModel}
 use Rattle.xc_host.specs.Uses.{Uses}
-use Rattle.xc_file.specs.Calls.{Acts, IsMePassed, replies_fault}
+use Rattle.xc_file.specs.Calls.{ActsAsPlain, IsMePassed, replies_fault}
 use Rattle.xc_file.specs.Passing.{Passes}
-use Rattle.xc_file.proofs.FileCalls.{moment}
+use Rattle.xc_file.proofs.FileCalls.{call_view_at}
 use Rattle.xc_file.proofs.Refusals.{passed_checks}
 use Rattle.xc_pipe.specs.Reading.{Sides, world_at}
 use Rattle.xc_pipe.proofs.ReadCalls.{ReadState, logical, sides, uses_both}
@@ -41,7 +41,7 @@ module _ (h : ℕ) (pair : Num) (side : ℕ) (me : Private) (number : ℕ) (at :
 
   -- a receipt is the plain machine's
   pub receipt_acts : (r : Reply) → IsReceiptReply r → Receives pair side (record { old = old; new = new }) r
-      → Acts (XRecvmsg h) (moment (logical old) number me) (moment (logical new) number (storing_reply r me)) r
+      → ActsAsPlain (XRecvmsg h) (call_view_at (logical old) number me) (call_view_at (logical new) number (storing_reply r me)) r
   receipt_acts (reply.Got message) is leaves = record {
     step = lifted answer.Fine (storing me (length message)) (reply.Got message) (got_step h pair side me number at free old new message leaves);
     fits = λ w. refl;
@@ -55,7 +55,7 @@ module _ (h : ℕ) (pair : Num) (side : ℕ) (me : Private) (number : ℕ) (at :
     fits = λ w. refl;
   }
   receipt_acts (reply.Fault k) zero same =
-      subst (λ m. Acts (XRecvmsg h) (moment (logical old) number me) (moment (logical new) number me) (reply.Fault m)) (sym zero)
+      subst (λ m. ActsAsPlain (XRecvmsg h) (call_view_at (logical old) number me) (call_view_at (logical new) number me) (reply.Fault m)) (sym zero)
       (record {
         step = lifted (answer.Fault 0) me (reply.Fault 0) (fault_step h pair side me number at free old new same);
         fits = λ w. ap (λ b. not b && true) (passed_checks me (XRecvmsg h) (length w.words) free);
@@ -91,7 +91,8 @@ module _ {H : Type 0} (model : HostModel H) (old new : ReadState H) where
     reply = passed_reply h r is;
     uses = uses_both model old new uses;
     after = subst (λ m. IsMePassed number (XRecvmsg h) old.me m r) (sym me) (me_passed h number old.me r is);
-    acts = λ t. subst (λ m. Acts (XRecvmsg h) (moment (logical (sides model old)) number old.me) (moment (logical (sides model new)) number m) r) (sym me)
+    acts = λ t. subst (λ m. ActsAsPlain (XRecvmsg h) (call_view_at (logical (sides model old)) number old.me)
+        (call_view_at (logical (sides model new)) number m) r) (sym me)
         (receipt_acts h pair side old.me number at free (sides model old) (sides model new) r is (receives t));
     err = tt;
     cause = cause;

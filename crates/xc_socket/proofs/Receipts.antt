@@ -45,7 +45,7 @@ module _ (c : Contents) (pair : Num) (side : ℕ) where
   less_there : (w : World) → pair_of (with_contents w (received_from c pair side)) pair ≡ less
   less_there w = ap (λ o. unwrap_or o empty_pair) (get-insert_same num_total num_exact c.pairs pair less)
 
-  -- the pair is there behind it
+  -- the pair is there after it
   pub received_there : has_pair (received_from c pair side) pair ≡ true
   received_there = ap is_some (get-insert_same num_total num_exact c.pairs pair less)
 
@@ -68,7 +68,7 @@ module _ (items : List KeptItem) (pair : Num) (side : ℕ) (fit : All (λ t. is_
   waits_there : (x : World) → waiting (pair_of (given_back x items) pair) side ≡ waiting (pair_of x pair) side
   waits_there x = side_front x items pair side fit lt ∙ ap (λ ms. ms ++ waiting (pair_of x pair) side) none
 
-  -- a message for it may be given back before or behind them
+  -- a message for it may be given back before or after them
   gives_there : (x : World) (message : List ℕ) → given_back (gives x (Message pair side message)) items ≡ gives (given_back x items) (Message pair side message)
   gives_there x message =
       side_put x items pair side (message ∷ waiting (pair_of x pair) side) fit lt (no_message_items items pair side none)

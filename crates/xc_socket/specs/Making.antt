@@ -50,7 +50,7 @@ with_made me at num (MadePair h g) = making (with_place (with_place me at.0 (Pai
 -- with any other reply nothing was made
 with_made me at num _ = me
 
--- a pair of this number is made for these handles: what it replies, does and records; where memory was wanting, all is as before
+-- a pair of this number is made for these handles: what it replies, does and records; where memory ran out, all is as before
 pub record IsMaking {H : Type 0} (model : HostModel H) (num : Num) (at : ℕ × ℕ) (step : Step (AtHost H))
     (result : Result Reply NoMemory) : Type 0 where
   pub made : IfOk result (IsMadeAt at)

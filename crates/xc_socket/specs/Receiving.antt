@@ -45,7 +45,7 @@ AskedBy (Ok took.Empty) made = made ≡ kind.Recv ∷ []
 AskedBy (Ok took.End) made = made ≡ kind.Recv ∷ []
 AskedBy (Err e) made = made ≡ kind.Recv ∷ []
 
--- the host's calls of a receipt with this reply; where memory was wanting, one or none
+-- the host's calls of a receipt with this reply; where memory ran out, one or none
 abbrev pub ReceivesBy : Result Reply NoMemory → List Kind → Type 0
 ReceivesBy (Ok reply) made = ReceiptsFor reply made
 ReceivesBy (Err e) made = (made ≡ []) ⊎ (made ≡ kind.Recv ∷ [])
@@ -74,7 +74,7 @@ received_of pair side (Got message) = Message pair side message ∷ []
 -- no other reply took anything
 received_of pair side _ = []
 
--- a receipt notes what its reply took, and nothing where memory was wanting
+-- a receipt notes what its reply took, and nothing where memory ran out
 abbrev pub NotesOf : Num → ℕ → Step (List KeptItem) → Result Reply NoMemory → Type 0
 NotesOf pair side notes (Ok reply) = notes.new ≡ notes.old ++ received_of pair side reply
 NotesOf pair side notes (Err e) = notes.new ≡ notes.old

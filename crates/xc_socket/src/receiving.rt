@@ -53,7 +53,7 @@ fn take_next<H: Host>(host: &mut H, kept: &mut Kept, at: OpenSide) -> Result<Too
     }
 }
 
-// Receives the first message of a side that the checks let pass. Where memory is wanting, it is given back.
+// Receives the first message of a side that the checks let pass. Where memory runs out, it is given back.
 fn receive_next<H: Host>(
     host: &mut H,
     kept: &mut Kept,
@@ -153,7 +153,7 @@ fn receive_open<H: Host>(
 }
 
 /// Receives the first message that waits for a handle's side, a kept one first. What was received is noted. A message may have no
-/// bytes, and is noted all the same. Where memory is wanting behind it, it is given back, in front of all others.
+/// bytes, and is noted all the same. Where memory runs out after it, it is given back, in front of all others.
 pub fn x_recvmsg<H: Host>(
     host: &mut H,
     kept: &mut Kept,

@@ -1,4 +1,4 @@
--- How far no job lives behind a number.
+-- How far no job lives after a number.
 use Rattle.std.proofs.Common.{◌≡◌, inl, inr, ◌+◌, ◌-◌, ◌<◌, ◌≤◌, ℕ, zero, suc, true, false, List, [], ◌∷◌, ◌++◌, length, ap, refl, sym, subst, ◌∙◌, arith}
 use Rattle.std.proofs.Math.Decide.{dec_le}
 use Rattle.std.proofs.lemmas.List.{append-nil, length-append}
@@ -9,9 +9,9 @@ use mathlib.Core.Logic.{dite}
 use native.Mathlib.Decide.{ℕ_discrete}
 use Rattle.xc_turns.proofs.Lists.{get_cases, get_inside}
 use Rattle.xc_station.specs.declared.job.Job.{Job}
-use Rattle.xc_station.specs.Jobs.{doing_of, goes_on, seen_job, seen_jobs, stage_of}
+use Rattle.xc_station.specs.Jobs.{doing_of, goes_on, job_view, job_views, stage_of}
 use Rattle.xc_station.specs.Stations.{AreAhead, IsAhead, live_at, lives}
-use Rattle.xc_station.proofs.Placed.{get_other, get_set, length_set, map_set}
+use Rattle.xc_data.proofs.Lists.{get_set_other, get_set_same, length_set, map_set}
 use Rattle.xc_station.proofs.Runs.{by_place, other_lives}
 
 -- ---- a turn of a job that lives
@@ -20,9 +20,9 @@ still_ended : (jobs : List Job) (at : ℕ) (was job : Job) → slice_get jobs at
 still_ended jobs at was job stands live other low ended =
     dite (ℕ_discrete other (at + 1))
     (λ same. let both : true ≡ false = sym live ∙ ap lives (sym stands) ∙ sym (by_place jobs at) ∙ ap (live_at jobs) (sym same) ∙ ended in cc both)
-    (λ away. other_lives jobs (slice_set jobs at job) (at + 1) (seen_job job) [] (omega arith)
-    (map_set seen_job jobs at job ∙ ap (λ (n : ℕ). slice_set (seen_jobs jobs) n (seen_job job)) (let e : at ≡ at + 1 - 1 = omega arith in e)
-    ∙ sym (append-nil (slice_set (seen_jobs jobs) (at + 1 - 1) (seen_job job)))) other away low
+    (λ away. other_lives jobs (slice_set jobs at job) (at + 1) (job_view job) [] (omega arith)
+    (map_set job_view jobs at job ∙ ap (λ (n : ℕ). slice_set (job_views jobs) n (job_view job)) (let e : at ≡ at + 1 - 1 = omega arith in e)
+    ∙ sym (append-nil (slice_set (job_views jobs) (at + 1 - 1) (job_view job)))) other away low
     ∙ ended)
 
 -- no other job lives again
@@ -45,7 +45,7 @@ pub taken_kept : (jobs : List Job) (at : ℕ) (job : Job) (taken : ℕ) → take
 taken_kept jobs at job taken few = subst (λ n. taken ≤ n) (sym (length_set jobs at job)) few
 
 -- ---- further on
--- behind a number and one that has ended
+-- after a number and one that has ended
 pub further_ahead : (jobs : List Job) (number next after : ℕ) → IsAhead jobs number next → live_at jobs next ≡ false → IsAhead jobs next after
     → IsAhead jobs number after
 further_ahead jobs number next after far ended more =
@@ -66,11 +66,11 @@ ahead_set jobs ahead number next low are far =
     record {
       count = length_set ahead number next ∙ are.count;
       each = λ other after is. dite (ℕ_discrete other number)
-          (λ same. let this = get_set ahead number (get_or ahead number 0) next (slice_get-get_or ahead number 0 low) in
+          (λ same. let this = get_set_same ahead number (get_or ahead number 0) next (slice_get-get_or ahead number 0 low) in
           let one : Some after ≡ Some next = sym is ∙ ap (slice_get (slice_set ahead number next)) same ∙ this in
           let value : next ≡ after = cc one in
           subst (λ n. IsAhead jobs n after) (sym same) (subst (IsAhead jobs number) value far))
-          (λ away. are.each other after (sym (get_other ahead number other next away) ∙ is));
+          (λ away. are.each other after (sym (get_set_other ahead number other next away) ∙ is));
     }
 
 -- what is kept for a number
@@ -89,7 +89,7 @@ inside_lives jobs more (suc at) low =
     ap (live_at (jobs ++ more)) same ∙ by_place (jobs ++ more) at ∙ ap lives (get_inside jobs more at (omega (arith, low))) ∙ sym (by_place jobs at)
     ∙ sym (ap (live_at jobs) same)
 
--- behind the others, with a number for it
+-- after the others, with a number for it
 pub ahead_joined : (jobs : List Job) (job : Job) (ahead : List ℕ) (end : ℕ) → end ≡ length jobs + 2 → AreAhead jobs ahead
     → AreAhead (jobs ++ job ∷ []) (ahead ++ end ∷ [])
 ahead_joined jobs job ahead end is are =

@@ -7,7 +7,7 @@ use native.Mathlib.Decide.{ℕ_discrete}
 use Rattle.std.specs.FinMap as map
 use Rattle.std.proofs.lemmas.List.Elements.{All-nil, All-cons, All-head, All-tail, All-weaker, All-contains, All-contains_itself}
 use Rattle.xc_maps.specs.Keys.{name_cmp, num_cmp}
-use Rattle.xc_data.specs.Standing.{objects_of}
+use Rattle.xc_data.specs.Remaining.{objects_of}
 use Rattle.xc_data.specs.declared.call.Call.{Call}
 use Rattle.xc_data.specs.declared.call.Reply.{Reply}
 use Rattle.xc_data.specs.declared.entry.KeptItem.{KeptItem}
@@ -32,7 +32,7 @@ use Rattle.xc_deferred.specs.Does.{IsThereFor}
 use Rattle.xc_maps.proofs.Laws.{tied}
 use Rattle.xc_maps.proofs.Maps.{num_exact, num_total}
 use Rattle.xc_world.specs.Sound.{is_there}
-use Rattle.xc_file.specs.Calls.{Acts, DidPart, IsOpenIn, Moment}
+use Rattle.xc_file.specs.Calls.{ActsAsPlain, DidPart, IsOpenIn, CallView}
 use Rattle.xc_host.specs.Contents.{Contents, contents_of, world_of}
 use Rattle.xc_host.specs.Kept.{KeepsData, with_kept}
 use Rattle.xc_world.specs.Act.{act}
@@ -48,12 +48,13 @@ use Rattle.xc_world.proofs.GivenBack.{given_away}
 use Rattle.xc_world.proofs.Local.{act_alike}
 use Rattle.xc_world.proofs.LocalParts.{agree_itself}
 use Rattle.xc_world.proofs.Records.{undone_to_alike}
-use Rattle.xc_story.specs.Seen.{SeenTx, active_of}
-use Rattle.xc_story.specs.Rows.{IsActiveAt}
+use Rattle.xc_model.specs.Moment.{TxView, active_of}
+use Rattle.xc_model.specs.Movers.{IsActiveAt}
 use Rattle.xc_station.specs.declared.job.Job.{Job}
-use Rattle.xc_station.specs.Jobs.{seen_job, seen_jobs}
+use Rattle.xc_station.specs.Jobs.{job_view, job_views}
 use Rattle.xc_station.specs.Lent.{AreBacked, IsBacked}
-use Rattle.xc_station.proofs.Placed.{active_before, active_is, get_map, map_set}
+use Rattle.xc_station.proofs.Placed.{active_before, active_is}
+use Rattle.xc_data.proofs.Lists.{get_map, map_set}
 use Rattle.xc_station.proofs.Lent.{kept_files, kept_names, world_kept}
 
 -- ---- steps that speak of no pipe and no pair keep them all
@@ -76,12 +77,12 @@ keeps_by objects w x none changes =
 agrees : (objects : List Object) (w : World) → All (AgreeAt w w) objects
 agrees objects w = All-weaker (Contains objects) (AgreeAt w w) (λ o at. agree_itself w o) objects (All-contains_itself objects)
 
-module _ (call : Call) (was : Moment) (off : is_on_data call ≡ false) where
+module _ (call : Call) (was : CallView) (off : is_on_data call ≡ false) where
   abbrev there : World
   there = world_of was.contents
 
   -- so a call keeps them that is done
-  pub keeps_called : (is : Moment) (reply : Reply) → Acts call was is reply → KeepsData was.contents is.contents
+  pub keeps_called : (is : CallView) (reply : Reply) → ActsAsPlain call was is reply → KeepsData was.contents is.contents
   keeps_called is reply acts =
       let objects = spoken_of call was.me was.number (length there.words) in
       let alike = act_alike there there was.me was.number call (answer_of reply) refl (agrees objects there) in
@@ -216,23 +217,23 @@ late_below c items backed (late_call.Send num side bytes) is = there_below c ite
 late_below c items backed (late_call.Shutdown o) is =
     there_below c items backed o (subst (λ w. is_there w o ≡ true) (world_kept c items) is)
 
--- ---- behind a compensation
+-- ---- after a compensation
 -- all is backed as before, where nothing is kept, and nobody has taken, of what it speaks of
 pub backed_undone : (c : Contents) (kept : List KeptItem) (jobs : List Job) (at : ℕ) (was job : Job) (u : Undo) (end : UndoEnd) → slice_get jobs at ≡ Some was
-    → AreElsewhere (objects_of u) kept → ((j : ℕ) (tx : SeenTx) → IsActiveAt (seen_jobs jobs) j tx → AreElsewhere (objects_of u) tx.taken)
-    → ((tx : SeenTx) → active_of (seen_job job) ≡ Some tx → (before : SeenTx) × IsActiveAt (seen_jobs jobs) at before × (before.taken ≡ tx.taken))
-    → AreBacked c kept (seen_jobs jobs) → AreBacked (contents_of (undone_to (world_of c) u end)) kept (seen_jobs (slice_set jobs at job))
+    → AreElsewhere (objects_of u) kept → ((j : ℕ) (tx : TxView) → IsActiveAt (job_views jobs) j tx → AreElsewhere (objects_of u) tx.taken)
+    → ((tx : TxView) → active_of (job_view job) ≡ Some tx → (before : TxView) × IsActiveAt (job_views jobs) at before × (before.taken ≡ tx.taken))
+    → AreBacked c kept (job_views jobs) → AreBacked (contents_of (undone_to (world_of c) u end)) kept (job_views (slice_set jobs at job))
 backed_undone c kept jobs at was job u end stands away took mine are =
     let d = contents_of (undone_to (world_of c) u end) in
-    subst (AreBacked d kept) (sym (map_set seen_job jobs at job)) (record {
+    subst (AreBacked d kept) (sym (map_set job_view jobs at job)) (record {
       kept = backed_beside c u end kept away are.kept;
       taken = λ j tx a. dite (ℕ_discrete j at)
           (λ (q : j ≡ at).
-          let before = mine tx (active_is (seen_jobs jobs) at (seen_job was) (get_map seen_job jobs at was stands) (seen_job job) tx
-          (subst (λ k. IsActiveAt (slice_set (seen_jobs jobs) at (seen_job job)) k tx) q a)) in
+          let before = mine tx (active_is (job_views jobs) at (job_view was) (get_map job_view jobs at was stands) (job_view job) tx
+          (subst (λ k. IsActiveAt (slice_set (job_views jobs) at (job_view job)) k tx) q a)) in
           subst (All (IsBacked d)) before.2
           (backed_beside c u end (before.0).taken (took at before.0 before.1) (are.taken at before.0 before.1)))
           (λ (ne : j ≢ at).
-          let before = active_before (seen_jobs jobs) at j (seen_job job) tx ne a in
+          let before = active_before (job_views jobs) at j (job_view job) tx ne a in
           backed_beside c u end tx.taken (took j tx before) (are.taken j tx before));
     })

@@ -14,9 +14,10 @@ use Rattle.xc_data.specs.declared.entry.Turn.{Turn}
 use Rattle.xc_data.specs.declared.entry.Turn.TheVariants as turn
 use Rattle.xc_data.specs.declared.private.Private.{Private}
 use Rattle.xc_script.specs.Position.{Position}
-use Rattle.xc_story.specs.Setting.{Setting}
-use Rattle.xc_story.specs.Seen.{SeenTx, SeenJob, Active, Ended, Now, begun_count, failures, rank_of, waiting, with_job}
-use Rattle.xc_story.specs.Rows.{IdleTurn, IsEnding, IsFree, IsWaiting, NamesLast, body_at, beginning_job, new_tx, mover}
+use Rattle.xc_model.specs.Setting.{Setting}
+use Rattle.xc_model.specs.Moment.{TxView, JobView, Active, Ended, Moment, begun_count, failures, rank_of, waiting, with_job}
+use Rattle.xc_model.specs.IdleRows.{IdleTurn, IsEnding, IsFree, IsWaiting, NamesLast, beginning_job, new_tx}
+use Rattle.xc_model.specs.Movers.{body_at, mover}
 use Rattle.xc_station.specs.declared.begin.Halt.{Halt}
 use Rattle.xc_station.specs.declared.begin.Halt.TheVariants.{End, Wait}
 use Rattle.xc_station.specs.Beginning.{IsDone, IsHalted, IsSeatBehind, IsStopped}
@@ -33,7 +34,7 @@ where_err (Ok x) is p = cc
 where_err (Err e) is p = p
 
 -- the job ends, and the marks stay
-pub ends : (s : Setting) (at : ℕ) (now : Now) (job new : SeenJob) (answer : Turn) (end : JobEnd) (marks : ℕ → Option Mark) → now.marks ≡ marks
+pub ends : (s : Setting) (at : ℕ) (now : Moment) (job new : JobView) (answer : Turn) (end : JobEnd) (marks : ℕ → Option Mark) → now.marks ≡ marks
     → IsEnding s now job end → new ≡ record job { doing = Ended end } → answer ≡ turn.Ended end
     → IdleTurn (mover s at now job) answer (record (with_job now at new) { marks = marks })
 ends s at now job new answer end marks same ending is given =
@@ -41,7 +42,7 @@ ends s at now job new answer end marks same ending is given =
     (ending, λ i. record (with_job now at (is i)) { marks = sym same i })
 
 -- or waits
-pub waits_on : (s : Setting) (at : ℕ) (now : Now) (job new : SeenJob) (answer : Turn) (object : Object) (number : ℕ) (marks : ℕ → Option Mark)
+pub waits_on : (s : Setting) (at : ℕ) (now : Moment) (job new : JobView) (answer : Turn) (object : Object) (number : ℕ) (marks : ℕ → Option Mark)
     → now.marks ≡ marks → IsWaiting s now job object number → new ≡ waiting job → answer ≡ turn.Busy object number
     → IdleTurn (mover s at now job) answer (record (with_job now at new) { marks = marks })
 waits_on s at now job new answer object number marks same waits is given =
@@ -49,19 +50,19 @@ waits_on s at now job new answer object number marks same waits is given =
     (waits, λ i. record (with_job now at (is i)) { marks = sym same i })
 
 -- by what keeps it from its next transaction
-pub stopped : (s : Setting) (at : ℕ) (now : Now) (job new : SeenJob) (halt : Halt) (answer : Turn) (marks : ℕ → Option Mark) → now.marks ≡ marks
+pub stopped : (s : Setting) (at : ℕ) (now : Moment) (job new : JobView) (halt : Halt) (answer : Turn) (marks : ℕ → Option Mark) → now.marks ≡ marks
     → IsHalted s now job halt → IsStopped job new halt answer → IdleTurn (mover s at now job) answer (record (with_job now at new) { marks = marks })
 stopped s at now job new (End end) answer marks same halted is = ends s at now job new answer end marks same halted is.0 is.1
 stopped s at now job new (Wait object holder) answer marks same halted is = waits_on s at now job new answer object holder marks same halted is.0 is.1
 
 -- who stops or waits before a begin takes no seat
-pub stopped_seats : (number rank : ℕ) (seats : Seats) (job new : SeenJob) (halt : Halt) (answer : Turn) → IsStopped job new halt answer
+pub stopped_seats : (number rank : ℕ) (seats : Seats) (job new : JobView) (halt : Halt) (answer : Turn) → IsStopped job new halt answer
     → IsSeatBehind number rank seats seats answer
 stopped_seats number rank seats job new (End end) answer is = subst (IsSeatBehind number rank seats seats) (sym is.1) (λ n. refl)
 stopped_seats number rank seats job new (Wait object holder) answer is = subst (IsSeatBehind number rank seats seats) (sym is.1) (λ n. refl)
 
 -- nor does it go on
-pub stopped_there : (job new : SeenJob) (halt : Halt) (answer : Turn) → IsStopped job new halt answer → answer ≡ turn.Went → ⊥
+pub stopped_there : (job new : JobView) (halt : Halt) (answer : Turn) → IsStopped job new halt answer → answer ≡ turn.Went → ⊥
 stopped_there job new (End end) answer is went = let bad : turn.Ended end ≡ turn.Went = sym is.1 ∙ went in cc bad
 stopped_there job new (Wait object holder) answer is went = let bad : turn.Busy object holder ≡ turn.Went = sym is.1 ∙ went in cc bad
 
@@ -71,11 +72,11 @@ pub ended_seats : (number rank : ℕ) (old new : Seats) (end : JobEnd) (answer :
 ended_seats number rank old new end answer is kept = subst (IsSeatBehind number rank old new) (sym is) kept
 
 -- so many transactions have begun
-pub all_begun : (now : Now) (entered entries active : ℕ) → HasBegun now entries active → entered ≡ entries → begun_count now ≡ entered + active
+pub all_begun : (now : Moment) (entered entries active : ℕ) → HasBegun now entries active → entered ≡ entries → begun_count now ≡ entered + active
 all_begun now entered entries active k len = λ i. (k.entered ∙ sym len) i + k.active i
 
 -- its next transaction begins
-pub begins : (now : Now) (job : SeenJob) (me : Private) (place : Position) (tx : SeenTx) (entered entries active rank : ℕ) → me ≡ job.me
+pub begins : (now : Moment) (job : JobView) (me : Private) (place : Position) (tx : TxView) (entered entries active rank : ℕ) → me ≡ job.me
     → HasBegun now entries active → entered ≡ entries
     → place ≡ record job.place { begun = job.place.variables } → rank ≡ rank_of job.attempts (entered + active + 1)
     → tx ≡ new_tx (entered + active + 1) rank entered job.me → record job { me = me; place = place; busy = 0; doing = Active tx } ≡ beginning_job now job
@@ -88,7 +89,7 @@ begins now job me place tx entered entries active rank kept k len placed ranked 
     λ i. record job { me = kept i; place = placed i; busy = 0; doing = Active (tx' i) }
 
 -- ---- a job that may begin
-module _ (s : Setting) (now : Now) (job : SeenJob) (seats : Seats) (sat : AreSeats seats now.jobs) (left : IsSome (body_at s job.place))
+module _ (s : Setting) (now : Moment) (job : JobView) (seats : Seats) (sat : AreSeats seats now.jobs) (left : IsSome (body_at s job.place))
     (attempts : failures job.attempts < s.rules.attempts) where
   seated : (o : Option Seat) (rank : ℕ) (running : Bool) → seated_as o ≡ Some (rank, running) → is_some o ≡ true
   seated None rank running is = cc is

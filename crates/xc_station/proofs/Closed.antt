@@ -1,4 +1,4 @@
--- A transaction that ends, and its job behind it.
+-- A transaction that ends, and its job after it.
 use Rattle.std.proofs.Common.{◌≡◌, ◌+◌, ℕ, ap, refl, sym, ◌∙◌}
 use Rattle.std.specs.Prelude.{Option}
 use Rattle.std.specs.declared.option.Option.TheVariants.{None}
@@ -14,23 +14,24 @@ use Rattle.xc_deferred.specs.Queue.{Queue}
 use Rattle.xc_script.specs.Position.{Position, at_begin}
 use Rattle.xc_script.specs.Slots.{kept_of, with_ends}
 use Rattle.xc_world.specs.World.{beginning}
-use Rattle.xc_story.specs.declared.phase.Attempts.{Attempts}
-use Rattle.xc_story.specs.declared.phase.Phase.{Phase}
-use Rattle.xc_story.specs.declared.phase.Phase.TheVariants.{Committing, Undoing}
-use Rattle.xc_story.specs.Seen.{SeenTx, SeenJob, Doing, Idle, Active, with_queue}
-use Rattle.xc_story.specs.Rows.{behind_abort, behind_commit, entry_of, with_tx}
+use Rattle.xc_model.specs.declared.phase.Attempts.{Attempts}
+use Rattle.xc_model.specs.declared.phase.Phase.{Phase}
+use Rattle.xc_model.specs.declared.phase.Phase.TheVariants.{Committing, Undoing}
+use Rattle.xc_model.specs.Moment.{TxView, JobView, Doing, Idle, Active, with_queue}
+use Rattle.xc_model.specs.Entering.{behind_abort, behind_commit, entry_of}
+use Rattle.xc_model.specs.Movers.{with_tx}
 use Rattle.xc_station.specs.declared.job.Activity.{Activity}
 use Rattle.xc_station.specs.declared.job.Activity.TheVariants as activity
 use Rattle.xc_station.specs.declared.job.Job.{Job}
 use Rattle.xc_station.specs.declared.tx.Tx.{Tx}
-use Rattle.xc_station.specs.Jobs.{begun_of, doing_of, outcome_in, seen_doing, seen_job, seen_tx}
+use Rattle.xc_station.specs.Jobs.{begun_of, doing_of, outcome_in, doing_view, job_view, tx_view}
 
-active_or : SeenTx → Doing → SeenTx
+active_or : TxView → Doing → TxView
 active_or none (Active tx) = tx
 active_or none _ = none
 
 -- a job has one active transaction at most
-pub same_active : (t u : SeenTx) → Active t ≡ Active u → t ≡ u
+pub same_active : (t u : TxView) → Active t ≡ Active u → t ≡ u
 unfolding active_or
 same_active t u is = ap (active_or t) is
 
@@ -44,82 +45,82 @@ unfolding cause_or
 same_cause c d is = ap (cause_or c) is
 
 -- the active transaction of a job is the one that lies in it
-its_tx : (t : Tx) (a : Activity) (tx : SeenTx) → seen_doing t a ≡ Active tx → seen_tx t ≡ tx
-its_tx t activity.Active tx is = same_active (seen_tx t) tx is
+its_tx : (t : Tx) (a : Activity) (tx : TxView) → doing_view t a ≡ Active tx → tx_view t ≡ tx
+its_tx t activity.Active tx is = same_active (tx_view t) tx is
 its_tx t activity.Idle tx is = cc
 its_tx t activity.Starved tx is = cc
 its_tx t (activity.Ended end) tx is = cc
 
 -- it is the active one again, whatever changed in it
-pub active_again : (t u : Tx) (a : Activity) (tx : SeenTx) → seen_doing t a ≡ Active tx → seen_doing u a ≡ Active (seen_tx u)
+pub active_again : (t u : Tx) (a : Activity) (tx : TxView) → doing_view t a ≡ Active tx → doing_view u a ≡ Active (tx_view u)
 active_again t u activity.Active tx is = refl
 active_again t u activity.Idle tx is = cc
 active_again t u activity.Starved tx is = cc
 active_again t u (activity.Ended end) tx is = cc
 
 -- of a whole job
-pub its_active : (job : Job) (tx : SeenTx) → doing_of job ≡ Active tx → seen_tx job.tx ≡ tx
+pub its_active : (job : Job) (tx : TxView) → doing_of job ≡ Active tx → tx_view job.tx ≡ tx
 its_active job tx is = its_tx job.tx job.activity tx is
 
 -- so the job is active with it
-pub is_active : (job : Job) (tx : SeenTx) → doing_of job ≡ Active tx → doing_of job ≡ Active (seen_tx job.tx)
+pub is_active : (job : Job) (tx : TxView) → doing_of job ≡ Active tx → doing_of job ≡ Active (tx_view job.tx)
 is_active job tx is = active_again job.tx job.tx job.activity tx is
 
 -- a job that stands elsewhere, with its transaction further on
-pub moves_on : (job : Job) (tx : SeenTx) (place : Position) (now : Tx) → doing_of job ≡ Active tx → begun_of now ≡ begun_of job.tx
-    → with_tx (seen_job job) place (seen_tx now) ≡ seen_job (record job { place = place; tx = now })
+pub moves_on : (job : Job) (tx : TxView) (place : Position) (now : Tx) → doing_of job ≡ Active tx → begun_of now ≡ begun_of job.tx
+    → with_tx (job_view job) place (tx_view now) ≡ job_view (record job { place = place; tx = now })
 moves_on job tx place now is kept =
     let doing = sym (active_again job.tx now job.activity tx is) in
-    λ i. record (seen_job job) { me = sym kept i; place = place; doing = doing i }
+    λ i. record (job_view job) { me = sym kept i; place = place; doing = doing i }
 
 -- a job that counts a wait does what it did
-pub counted_doing : (answer : Turn) (job : SeenJob) → (counted answer job).doing ≡ job.doing
+pub counted_doing : (answer : Turn) (job : JobView) → (counted answer job).doing ≡ job.doing
 counted_doing (turn.Busy object holder) job = refl
 counted_doing turn.Went job = refl
 counted_doing turn.NoMemory job = refl
 counted_doing (turn.Ended end) job = refl
 
 -- a job whose transaction's records changed
-pub undo_behind : (job : Job) (tx : SeenTx) (undo : Records) → doing_of job ≡ Active tx
-    → seen_job (record job { tx = record job.tx { undo = undo } }) ≡ with_tx (seen_job job) job.place (record tx { undo = undo })
+pub undo_behind : (job : Job) (tx : TxView) (undo : Records) → doing_of job ≡ Active tx
+    → job_view (record job { tx = record job.tx { undo = undo } }) ≡ with_tx (job_view job) job.place (record tx { undo = undo })
 undo_behind job tx undo is =
     sym (moves_on job tx job.place (record job.tx { undo = undo }) is refl)
-    ∙ ap (λ (t : SeenTx). with_tx (seen_job job) job.place (record t { undo = undo })) (its_active job tx is)
+    ∙ ap (λ (t : TxView). with_tx (job_view job) job.place (record t { undo = undo })) (its_active job tx is)
 
 -- a job whose late calls went on
-pub late_behind : (job : Job) (tx : SeenTx) (queue : Queue) → doing_of job ≡ Active tx
-    → seen_job (record job { tx = record job.tx { late = queue } }) ≡ with_tx (seen_job job) job.place (with_queue tx queue)
+pub late_behind : (job : Job) (tx : TxView) (queue : Queue) → doing_of job ≡ Active tx
+    → job_view (record job { tx = record job.tx { late = queue } }) ≡ with_tx (job_view job) job.place (with_queue tx queue)
 late_behind job tx queue is =
     sym (moves_on job tx job.place (record job.tx { late = queue }) is refl)
-    ∙ ap (λ (t : SeenTx). with_tx (seen_job job) job.place (with_queue t queue)) (its_active job tx is)
+    ∙ ap (λ (t : TxView). with_tx (job_view job) job.place (with_queue t queue)) (its_active job tx is)
 
-idle_abort : (job : SeenJob) (tx : SeenTx) (c : Cause) → behind_abort (record job { busy = 0; doing = Idle }) tx c ≡ behind_abort job tx c
+idle_abort : (job : JobView) (tx : TxView) (c : Cause) → behind_abort (record job { busy = 0; doing = Idle }) tx c ≡ behind_abort job tx c
 idle_abort job tx cause.Asked = refl
 idle_abort job tx cause.NoMemory = refl
 idle_abort job tx _ = refl
 
--- a job behind an abort, without its transaction before
-pub abort_behind : (old between new : SeenJob) (tx : SeenTx) (b c : Cause) → between ≡ record old { busy = 0; doing = Idle } → b ≡ c
+-- a job after an abort, without its transaction before
+pub abort_behind : (old between new : JobView) (tx : TxView) (b c : Cause) → between ≡ record old { busy = 0; doing = Idle } → b ≡ c
     → new ≡ behind_abort between tx b → new ≡ behind_abort old tx c
 abort_behind old between new tx b c taken cause gone =
-    gone ∙ ap (λ (job : SeenJob). behind_abort job tx b) taken ∙ idle_abort old tx b ∙ ap (behind_abort old tx) cause
+    gone ∙ ap (λ (job : JobView). behind_abort job tx b) taken ∙ idle_abort old tx b ∙ ap (behind_abort old tx) cause
 
 -- its entry
-pub abort_entry : (t tx : SeenTx) (at : ℕ) (c : Cause) → t ≡ tx → tx.phase ≡ Undoing c
+pub abort_entry : (t tx : TxView) (at : ℕ) (c : Cause) → t ≡ tx → tx.phase ≡ Undoing c
     → entry_of t at (outcome_in t.phase t.undo.ended t.ends) ≡ entry_of tx at (Aborted (record { cause = c; records = tx.undo.ended }))
 abort_entry t tx at c same phase =
-    ap (λ (u : SeenTx). entry_of u at (outcome_in u.phase u.undo.ended u.ends)) same
+    ap (λ (u : TxView). entry_of u at (outcome_in u.phase u.undo.ended u.ends)) same
     ∙ ap (λ (p : Phase). entry_of tx at (outcome_in p tx.undo.ended tx.ends)) phase
 
 -- and that of a commit
-pub commit_entry : (t tx : SeenTx) (at : ℕ) → t ≡ tx → tx.phase ≡ Committing
+pub commit_entry : (t tx : TxView) (at : ℕ) → t ≡ tx → tx.phase ≡ Committing
     → entry_of t at (outcome_in t.phase t.undo.ended t.ends) ≡ entry_of tx at (Committed tx.ends)
 commit_entry t tx at same phase =
-    ap (λ (u : SeenTx). entry_of u at (outcome_in u.phase u.undo.ended u.ends)) same
+    ap (λ (u : TxView). entry_of u at (outcome_in u.phase u.undo.ended u.ends)) same
     ∙ ap (λ (p : Phase). entry_of tx at (outcome_in p tx.undo.ended tx.ends)) phase
 
--- a job behind a commit
-pub commit_behind : (old : SeenJob) (t tx : SeenTx) (me : Private) (place : Position) (attempts : Option Attempts) → t ≡ tx → me ≡ beginning t.me.places
+-- a job after a commit
+pub commit_behind : (old : JobView) (t tx : TxView) (me : Private) (place : Position) (attempts : Option Attempts) → t ≡ tx → me ≡ beginning t.me.places
     → place ≡ at_begin (record {
       block = old.place.block;
       next = old.place.next + 1;
@@ -127,8 +128,8 @@ pub commit_behind : (old : SeenJob) (t tx : SeenTx) (me : Private) (place : Posi
     })
     → attempts ≡ None → record old { me = me; place = place; attempts = attempts; busy = 0; doing = Idle } ≡ behind_commit old tx
 commit_behind old t tx me place attempts same renewed passed none =
-    let renewed' : me ≡ beginning tx.me.places = renewed ∙ ap (λ (u : SeenTx). beginning u.me.places) same in
-    let passed' = passed ∙ ap (λ (u : SeenTx). at_begin (record {
+    let renewed' : me ≡ beginning tx.me.places = renewed ∙ ap (λ (u : TxView). beginning u.me.places) same in
+    let passed' = passed ∙ ap (λ (u : TxView). at_begin (record {
       block = old.place.block;
       next = old.place.next + 1;
       variables = with_ends old.place.variables (kept_of u.calls u.replies) u.ends;

@@ -9,7 +9,7 @@ use Rattle.xc_buffers.specs.declared.source.Source.TheVariants as source
 use Rattle.xc_buffers.proofs.Fronts.{fit_side}
 use Rattle.xc_buffers.proofs.Held.{no_items, no_message_items, pipe_front, side_front}
 use Rattle.xc_buffers.proofs.Orders.{own}
-use Rattle.xc_data.specs.Standing.{objects_of}
+use Rattle.xc_data.specs.Remaining.{objects_of}
 use Rattle.xc_data.specs.declared.entry.KeptItem.{KeptItem}
 use Rattle.xc_data.specs.declared.entry.KeptItem.TheVariants.{Bytes, Message}
 use Rattle.xc_data.specs.declared.object.Num.{Num}
@@ -19,7 +19,7 @@ use Rattle.xc_data.specs.declared.undo.Undo.{Undo}
 use Rattle.xc_data.specs.declared.undo.Undo.TheVariants as undo
 use Rattle.xc_host.specs.Contents.{Contents, world_of}
 use Rattle.xc_host.specs.Kept.{with_kept}
-use Rattle.xc_played.specs.Flying.{IsEmptyNew}
+use Rattle.xc_refines.specs.InFlight.{IsEmptyNew}
 use Rattle.xc_world.specs.Beside.{AreElsewhere}
 use Rattle.xc_world.specs.Run.{given_back, item_object}
 use Rattle.xc_world.specs.World.{Pipe, World, pair_of, pipe_of, waiting}

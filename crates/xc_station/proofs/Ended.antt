@@ -6,16 +6,16 @@ use Rattle.std.specs.declared.option.Option.TheVariants.{Some}
 use Rattle.xc_data.specs.Counts.{RisesBy}
 use Rattle.xc_data.specs.Faults.{entry_faults}
 use Rattle.xc_data.specs.declared.entry.JobLine.{JobLine}
-use Rattle.xc_story.specs.Setting.{Setting}
-use Rattle.xc_story.specs.Seen.{SeenJob, Doing, Idle, Active, Starved, Ended, Now, actives}
-use Rattle.xc_story.specs.Kept.{AreLinesOf, IsLineOf}
-use Rattle.xc_story.specs.Counted.{tx_faults}
-use Rattle.xc_story.specs.Ending.{IsTrueEnd}
+use Rattle.xc_model.specs.Setting.{Setting}
+use Rattle.xc_model.specs.Moment.{JobView, Doing, Idle, Active, Starved, Ended, Moment, actives}
+use Rattle.xc_model.specs.Consistent.{AreLinesOf, IsLineOf}
+use Rattle.xc_model.specs.Counted.{tx_faults}
+use Rattle.xc_model.specs.Ending.{IsTrueEnd}
 use Rattle.xc_turns.proofs.Closings.{ends_told, journal_true, words_left}
 use Rattle.xc_turns.proofs.Completions.{complete}
-use Rattle.xc_played.proofs.AtRest.{at_rest}
+use Rattle.xc_refines.proofs.AtRest.{at_rest}
 use Rattle.xc_station.specs.declared.job.Job.{Job}
-use Rattle.xc_station.specs.Jobs.{is_live, seen_job}
+use Rattle.xc_station.specs.Jobs.{is_live, job_view}
 use Rattle.xc_station.specs.Stations.{IsSteady, NobodyLives, live_at, lives}
 
 there : (jobs : List Job) (k : ℕ) (d : Job) → k < length jobs → slice_get jobs k ≡ Some (slice_index_or jobs k d)
@@ -31,15 +31,15 @@ by_place jobs at =
     λ i. if some i then false else lives (slice_get jobs (same i))
 
 -- each job has ended where nobody lives
-pub each_ended : (jobs : List Job) → NobodyLives jobs → (k : ℕ) (d : Job) → k < length jobs → is_live (seen_job (slice_index_or jobs k d)) ≡ false
+pub each_ended : (jobs : List Job) → NobodyLives jobs → (k : ℕ) (d : Job) → k < length jobs → is_live (job_view (slice_index_or jobs k d)) ≡ false
 each_ended jobs nobody k d low = sym (ap lives (there jobs k d low)) ∙ (sym (by_place jobs k) ∙ nobody (k + 1))
 
 -- then no transaction is active
-pub none_left : (jobs : List SeenJob) (lines : List JobLine) → AreLinesOf jobs lines → actives jobs ≡ []
+pub none_left : (jobs : List JobView) (lines : List JobLine) → AreLinesOf jobs lines → actives jobs ≡ []
 none_left [] lines h = refl
 none_left (job ∷ jobs) [] h = absurd h
 none_left (job ∷ jobs) (line ∷ lines) h = passes job.doing job refl line jobs lines h.0 (none_left jobs lines h.1) where
-  passes : (doing : Doing) (job : SeenJob) → job.doing ≡ doing → (line : JobLine) (jobs : List SeenJob) (lines : List JobLine) → IsLineOf line job job.doing
+  passes : (doing : Doing) (job : JobView) → job.doing ≡ doing → (line : JobLine) (jobs : List JobView) (lines : List JobLine) → IsLineOf line job job.doing
       → actives jobs ≡ [] → actives (job ∷ jobs) ≡ []
   passes Idle job is line jobs lines own rest = absurd (subst (IsLineOf line job) is own)
   passes (Active tx) job is line jobs lines own rest = absurd (subst (IsLineOf line job) is own)
@@ -47,7 +47,7 @@ none_left (job ∷ jobs) (line ∷ lines) h = passes job.doing job refl line job
   passes (Ended end) job is line jobs lines own rest = ap (λ d. actives (record job { doing = d } ∷ jobs)) is ∙ rest
 
 -- the journal is true, and leads to all that is left
-pub true_end : (s : Setting) (faults : ℕ) (now : Now) (lines : List JobLine) → IsSteady s faults now → AreLinesOf now.jobs lines
+pub true_end : (s : Setting) (faults : ℕ) (now : Moment) (lines : List JobLine) → IsSteady s faults now → AreLinesOf now.jobs lines
     → IsTrueEnd s now.journal (record { words = now.words; contents = now.contents; lines = lines })
 true_end s faults now lines steady over =
     let told = steady.kept.told in
@@ -64,7 +64,7 @@ true_end s faults now lines steady over =
     }
 
 -- the host's count rose by the faults of the entries alone
-pub counted_end : (s : Setting) (faults : ℕ) (now : Now) (lines : List JobLine) → IsSteady s faults now → AreLinesOf now.jobs lines
+pub counted_end : (s : Setting) (faults : ℕ) (now : Moment) (lines : List JobLine) → IsSteady s faults now → AreLinesOf now.jobs lines
     → RisesBy (sum_by entry_faults now.journal) faults now.faults
 counted_end s faults now lines steady over =
     let none : sum_by entry_faults now.journal + sum_by tx_faults (actives now.jobs) ≡ sum_by entry_faults now.journal =

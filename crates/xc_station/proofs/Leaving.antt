@@ -1,4 +1,4 @@
--- What every turn leaves: another job in one place, jobs that are live behind the others, and a journal that goes on.
+-- What every turn leaves: another job in one place, jobs that are live after the others, and a journal that goes on.
 use Rattle.std.proofs.Common.{◌≡◌, inl, inr, ℕ, List, [], ◌∷◌, ◌++◌, refl, ap, sym, ◌∙◌}
 use Rattle.std.proofs.lemmas.List.{append-nil}
 use Rattle.std.specs.Prelude.{Option, slice_set}
@@ -15,17 +15,24 @@ use Rattle.xc_data.specs.declared.entry.Turn.TheVariants as turn
 use Rattle.xc_data.specs.declared.undo.Undo.{Undo}
 use Rattle.xc_script.specs.declared.ask.Ask.{Ask}
 use Rattle.xc_script.specs.declared.ask.Ask.TheVariants as ask
-use Rattle.xc_story.specs.declared.phase.Phase.{Phase}
-use Rattle.xc_story.specs.declared.phase.Phase.TheVariants.{Running, Committing, Undoing}
-use Rattle.xc_story.specs.Setting.{Setting}
-use Rattle.xc_story.specs.Seen.{SeenTx, SeenJob, Doing, Idle, Active, Starved, Ended, Now, late_left, waiting}
-use Rattle.xc_story.specs.Rows.{IsTurn, TurnOf, IdleTurn, ActiveTurn, MarkedTurn, RunningTurn, AskedTurn, CommittingTurn, LateTurn, NextLate}
-use Rattle.xc_story.specs.Rows.{UndoingTurn, BackTurn, StarvedTurn, asked_at, behind_abort, behind_commit, beginning_job, entry_of, mover}
-use Rattle.xc_story.specs.Rows.{started_jobs}
+use Rattle.xc_model.specs.declared.phase.Phase.{Phase}
+use Rattle.xc_model.specs.declared.phase.Phase.TheVariants.{Running, Committing, Undoing}
+use Rattle.xc_model.specs.Setting.{Setting}
+use Rattle.xc_model.specs.Moment.{TxView, JobView, Doing, Idle, Active, Starved, Ended, Moment, late_left, waiting}
+use Rattle.xc_model.specs.Rows.{IsTurn, TurnOf, ActiveTurn}
+use Rattle.xc_model.specs.IdleRows.{IdleTurn}
+use Rattle.xc_model.specs.RunningRows.{MarkedTurn, RunningTurn, AskedTurn}
+use Rattle.xc_model.specs.CommittingRows.{CommittingTurn, LateTurn, NextLate}
+use Rattle.xc_model.specs.UndoingRows.{UndoingTurn, BackTurn}
+use Rattle.xc_model.specs.Rows.{StarvedTurn}
+use Rattle.xc_model.specs.Movers.{asked_at, mover}
+use Rattle.xc_model.specs.Entering.{behind_abort, behind_commit, entry_of}
+use Rattle.xc_model.specs.IdleRows.{beginning_job}
+use Rattle.xc_model.specs.Entering.{started_jobs}
 use Rattle.xc_station.specs.Stations.{ChangesOne}
 
-module _ (s : Setting) (at : ℕ) (old : Now) (job : SeenJob) (new : Now) where
-  still : (behind : SeenJob) → new.jobs ≡ slice_set old.jobs at behind → new.journal ≡ old.journal → ChangesOne at old new
+module _ (s : Setting) (at : ℕ) (old : Moment) (job : JobView) (new : Moment) where
+  still : (behind : JobView) → new.jobs ≡ slice_set old.jobs at behind → new.journal ≡ old.journal → ChangesOne at old new
   still behind jobs journal =
       record {
         behind = behind;
@@ -35,10 +42,10 @@ module _ (s : Setting) (at : ℕ) (old : Now) (job : SeenJob) (new : Now) where
       }
 
   -- a moment that is known whole: another job in this place, and the journal is as before
-  alone : (behind : SeenJob) (now : Now) → new ≡ now → now.jobs ≡ slice_set old.jobs at behind → now.journal ≡ old.journal → ChangesOne at old new
-  alone behind now is jobs journal = still behind (ap (λ (n : Now). n.jobs) is ∙ jobs) (ap (λ (n : Now). n.journal) is ∙ journal)
+  alone : (behind : JobView) (now : Moment) → new ≡ now → now.jobs ≡ slice_set old.jobs at behind → now.journal ≡ old.journal → ChangesOne at old new
+  alone behind now is jobs journal = still behind (ap (λ (n : Moment). n.jobs) is ∙ jobs) (ap (λ (n : Moment). n.journal) is ∙ journal)
 
-  enters : (behind : SeenJob) (started : List SeenJob) (entry : Entry) → new.jobs ≡ slice_set old.jobs at behind ++ started
+  enters : (behind : JobView) (started : List JobView) (entry : Entry) → new.jobs ≡ slice_set old.jobs at behind ++ started
       → new.journal ≡ old.journal ++ entry ∷ [] → ChangesOne at old new
   enters behind started entry jobs journal = record { behind = behind; started = started; jobs = jobs; front = (entry ∷ [], journal) }
 
@@ -52,7 +59,7 @@ module _ (s : Setting) (at : ℕ) (old : Now) (job : SeenJob) (new : Now) where
   starved_leaves (turn.Ended job_end.NoMemory) row = alone (record job { doing = Ended job_end.NoMemory }) _ row refl refl
   starved_leaves _ row = absurd row
 
-  module _ (tx : SeenTx) where
+  module _ (tx : TxView) where
     asked_leaves : (asked : Ask) → AskedTurn (mover s at old job) tx asked new → ChangesOne at old new
     asked_leaves (ask.Call call) (inl row) = alone _ _ row.behind refl refl
     asked_leaves (ask.Call call) (inr row) = alone _ _ row.behind refl refl
@@ -83,8 +90,8 @@ module _ (s : Setting) (at : ℕ) (old : Now) (job : SeenJob) (new : Now) where
 
     late_leaves : (late : List LateCall) → LateTurn (mover s at old job) tx late new → ChangesOne at old new
     late_leaves [] row =
-        enters (behind_commit job tx) (started_jobs s.script job tx) (entry_of tx at (Committed tx.ends)) (ap (λ (n : Now). n.jobs) row.0)
-        (ap (λ (n : Now). n.journal) row.0)
+        enters (behind_commit job tx) (started_jobs s.script job tx) (entry_of tx at (Committed tx.ends)) (ap (λ (n : Moment). n.jobs) row.0)
+        (ap (λ (n : Moment). n.journal) row.0)
     late_leaves (call ∷ late) row = next_leaves call row
 
     committing_leaves : (answer : Turn) → CommittingTurn (mover s at old job) tx answer new → ChangesOne at old new
@@ -94,7 +101,7 @@ module _ (s : Setting) (at : ℕ) (old : Now) (job : SeenJob) (new : Now) where
     back_leaves : (c : Cause) (pending : List Undo) → BackTurn (mover s at old job) tx c pending new → ChangesOne at old new
     back_leaves c [] row =
         enters (behind_abort job tx c) [] (entry_of tx at (Aborted (record { cause = c; records = tx.undo.ended })))
-        (ap (λ (n : Now). n.jobs) row.behind ∙ sym (append-nil (slice_set old.jobs at (behind_abort job tx c)))) (ap (λ (n : Now). n.journal) row.behind)
+        (ap (λ (n : Moment). n.jobs) row.behind ∙ sym (append-nil (slice_set old.jobs at (behind_abort job tx c)))) (ap (λ (n : Moment). n.journal) row.behind)
     back_leaves c (u ∷ pending) row = alone _ _ row.behind refl refl
 
     undoing_leaves : (c : Cause) (answer : Turn) → UndoingTurn (mover s at old job) tx c answer new → ChangesOne at old new
@@ -113,5 +120,5 @@ module _ (s : Setting) (at : ℕ) (old : Now) (job : SeenJob) (new : Now) where
   doing_leaves (Ended end) answer row = absurd row
 
 -- each turn does
-pub turn_leaves : (s : Setting) (at : ℕ) (old new : Now) (answer : Turn) → IsTurn s at old answer new → ChangesOne at old new
+pub turn_leaves : (s : Setting) (at : ℕ) (old new : Moment) (answer : Turn) → IsTurn s at old answer new → ChangesOne at old new
 turn_leaves s at old new answer t = doing_leaves s at old t.job new t.job.doing answer t.row

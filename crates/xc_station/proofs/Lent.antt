@@ -7,8 +7,8 @@ use Rattle.xc_data.specs.declared.entry.KeptItem.{KeptItem}
 use Rattle.xc_data.specs.declared.entry.KeptItem.TheVariants.{Bytes, Message}
 use Rattle.xc_data.specs.declared.undo.Undo.{Undo}
 use Rattle.xc_data.specs.declared.undo.UndoEnd.{UndoEnd}
-use Rattle.xc_data.specs.Standing.{objects_of}
-use Rattle.xc_file.specs.Calls.{Acts, AreRecorded, DidPart, Moment}
+use Rattle.xc_data.specs.Remaining.{objects_of}
+use Rattle.xc_file.specs.Calls.{ActsAsPlain, AreRecorded, DidPart, CallView}
 use Rattle.xc_host.specs.Contents.{Contents, contents_of, with_contents, world_of}
 use Rattle.xc_host.specs.Kept.{with_kept}
 use Rattle.xc_world.specs.Act.{act}
@@ -59,10 +59,10 @@ kept_again c kept behind taken given =
 
 -- ---- a call that is on no pipe and no pair
 -- a moment with what is kept in front of its contents
-abbrev pub moment_with : Moment → List KeptItem → Moment
-moment_with m items = record m { contents = with_kept m.contents items }
+abbrev pub call_view_with : CallView → List KeptItem → CallView
+call_view_with m items = record m { contents = with_kept m.contents items }
 
-module _ (call : Call) (was : Moment) (items : List KeptItem) (off : is_on_data call ≡ false) where
+module _ (call : Call) (was : CallView) (items : List KeptItem) (off : is_on_data call ≡ false) where
   elsewhere : (w : World) → AreElsewhere (spoken_of call was.me was.number (length w.words)) items
   elsewhere w = data_elsewhere was.me (length w.words) was.number call items off
 
@@ -88,7 +88,7 @@ module _ (call : Call) (was : Moment) (items : List KeptItem) (off : is_on_data 
       ∙ ap (λ x. recorded x was.me was.number call reply) (sym (kept_world w was.contents items))
 
   -- so what it does at the host it does there
-  pub acts_kept : (is : Moment) (reply : Reply) → Acts call was is reply → Acts call (moment_with was items) (moment_with is items) reply
+  pub acts_kept : (is : CallView) (reply : Reply) → ActsAsPlain call was is reply → ActsAsPlain call (call_view_with was items) (call_view_with is items) reply
   acts_kept is reply acts =
       record {
         step = λ w.
@@ -98,8 +98,8 @@ module _ (call : Call) (was : Moment) (items : List KeptItem) (off : is_on_data 
       }
 
   -- and leaves the same records
-  pub recorded_there : (is : Moment) (made : List Undo) (reply : Reply) → Acts call was is reply → AreRecorded call was made reply
-      → AreRecorded call (moment_with was items) made reply
+  pub recorded_there : (is : CallView) (made : List Undo) (reply : Reply) → ActsAsPlain call was is reply → AreRecorded call was made reply
+      → AreRecorded call (call_view_with was items) made reply
   recorded_there is made reply acts are w =
       let gives : (act (with_contents w was.contents) was.me was.number call (answer_of reply)).reply ≡ reply = ap (λ (s : Stepped). s.reply) (acts.step w) in
       are w
@@ -107,7 +107,7 @@ module _ (call : Call) (was : Moment) (items : List KeptItem) (off : is_on_data 
       ≡ recorded (with_contents w (with_kept was.contents items)) was.me was.number call r) gives (recorded_kept w (answer_of reply))
 
   -- the same of a part that it did
-  pub part_kept : (is : Contents) (made : List Undo) → DidPart call was is made → DidPart call (moment_with was items) (with_kept is items) made
+  pub part_kept : (is : Contents) (made : List Undo) → DidPart call was is made → DidPart call (call_view_with was items) (with_kept is items) made
   part_kept is made did =
       record {
         answer = did.answer;

@@ -4,6 +4,10 @@ pub mod Begun
 pub mod Children
 pub mod Closed
 pub mod Doings
+pub mod DoingsLate
+pub mod DoingsStarved
+pub mod DoingsTaking
+pub mod DoingsWords
 pub mod Elsewhere
 pub mod Ended
 pub mod Giving

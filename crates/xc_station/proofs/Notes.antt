@@ -9,17 +9,18 @@ use native.Mathlib.Decide.{ℕ_discrete}
 use Rattle.xc_data.specs.declared.entry.KeptItem.{KeptItem}
 use Rattle.xc_data.specs.declared.entry.KeptItem.TheVariants.{Bytes, Message}
 use Rattle.xc_host.specs.Contents.{Contents}
-use Rattle.xc_story.specs.Seen.{SeenTx, SeenJob, active_of}
-use Rattle.xc_story.specs.Rows.{IsActiveAt}
+use Rattle.xc_model.specs.Moment.{TxView, JobView, active_of}
+use Rattle.xc_model.specs.Movers.{IsActiveAt}
 use Rattle.xc_host.specs.Kept.{KeepsData}
 use Rattle.xc_station.specs.Lent.{AreBacked, IsBacked, notes_in, notes_in_all, notes_of}
 use Rattle.xc_station.specs.declared.job.Job.{Job}
-use Rattle.xc_station.specs.Jobs.{seen_job, seen_jobs}
-use Rattle.xc_station.proofs.Placed.{active_before, active_is, get_map, map_set}
+use Rattle.xc_station.specs.Jobs.{job_view, job_views}
+use Rattle.xc_station.proofs.Placed.{active_before, active_is}
+use Rattle.xc_data.proofs.Lists.{get_map, map_set}
 
 -- ---- how much is noted
 -- the notes of one job go, and those of another come
-pub notes_set : (jobs : List SeenJob) (at : ℕ) (job' job : SeenJob) → slice_get jobs at ≡ Some job
+pub notes_set : (jobs : List JobView) (at : ℕ) (job' job : JobView) → slice_get jobs at ≡ Some job
     → notes_in_all (slice_set jobs at job') + notes_of job ≡ notes_in_all jobs + notes_of job'
 notes_set [] at job' job stands = cc stands
 notes_set (j ∷ jobs) zero job' job stands =
@@ -34,7 +35,7 @@ notes_set (j ∷ jobs) (suc at) job' job stands =
     omega (arith, more, a, b)
 
 -- those of one job are among all
-pub notes_within : (jobs : List SeenJob) (at : ℕ) (job : SeenJob) → slice_get jobs at ≡ Some job → notes_of job ≤ notes_in_all jobs
+pub notes_within : (jobs : List JobView) (at : ℕ) (job : JobView) → slice_get jobs at ≡ Some job → notes_of job ≤ notes_in_all jobs
 notes_within [] at job stands = cc stands
 notes_within (j ∷ jobs) zero job stands =
     let same : notes_of j ≡ notes_of job = (let one : j ≡ job = cc stands in ap notes_of one) in
@@ -46,7 +47,7 @@ notes_within (j ∷ jobs) (suc at) job stands =
     omega (arith, more, a)
 
 -- a job without an active transaction has none
-pub no_notes : (job : SeenJob) → active_of job ≡ None → notes_of job ≡ 0
+pub no_notes : (job : JobView) → active_of job ≡ None → notes_of job ≡ 0
 no_notes job none = ap notes_in none
 
 -- ---- what the host has of it
@@ -63,8 +64,8 @@ pub keeps_itself : (c : Contents) → KeepsData c c
 keeps_itself c = record { pipes = λ num is. is; pairs = λ num is. is }
 
 -- with another job in one place, whose active transaction took what the host has
-pub backed_set : (c d : Contents) (kept kept' : List KeptItem) (jobs : List SeenJob) (at : ℕ) (job job' : SeenJob) → slice_get jobs at ≡ Some job
-    → KeepsData c d → All (IsBacked d) kept' → ((tx : SeenTx) → active_of job' ≡ Some tx → All (IsBacked d) tx.taken) → AreBacked c kept jobs
+pub backed_set : (c d : Contents) (kept kept' : List KeptItem) (jobs : List JobView) (at : ℕ) (job job' : JobView) → slice_get jobs at ≡ Some job
+    → KeepsData c d → All (IsBacked d) kept' → ((tx : TxView) → active_of job' ≡ Some tx → All (IsBacked d) tx.taken) → AreBacked c kept jobs
     → AreBacked d kept' (slice_set jobs at job')
 backed_set c d kept kept' jobs at job job' stands keeps backed mine are =
     record {
@@ -76,14 +77,14 @@ backed_set c d kept kept' jobs at job job' stands keeps backed mine are =
 
 -- the same of the jobs of a station
 pub backed_jobs : (c d : Contents) (kept kept' : List KeptItem) (jobs : List Job) (at : ℕ) (was job : Job) → slice_get jobs at ≡ Some was
-    → KeepsData c d → All (IsBacked d) kept' → ((tx : SeenTx) → active_of (seen_job job) ≡ Some tx → All (IsBacked d) tx.taken)
-    → AreBacked c kept (seen_jobs jobs) → AreBacked d kept' (seen_jobs (slice_set jobs at job))
+    → KeepsData c d → All (IsBacked d) kept' → ((tx : TxView) → active_of (job_view job) ≡ Some tx → All (IsBacked d) tx.taken)
+    → AreBacked c kept (job_views jobs) → AreBacked d kept' (job_views (slice_set jobs at job))
 backed_jobs c d kept kept' jobs at was job stands keeps backed mine are =
-    subst (AreBacked d kept') (sym (map_set seen_job jobs at job))
-    (backed_set c d kept kept' (seen_jobs jobs) at (seen_job was) (seen_job job) (get_map seen_job jobs at was stands) keeps backed mine are)
+    subst (AreBacked d kept') (sym (map_set job_view jobs at job))
+    (backed_set c d kept kept' (job_views jobs) at (job_view was) (job_view job) (get_map job_view jobs at was stands) keeps backed mine are)
 
 -- of a job that has no active transaction then
 pub backed_without : (c : Contents) (kept kept' : List KeptItem) (jobs : List Job) (at : ℕ) (was job : Job) → slice_get jobs at ≡ Some was
-    → All (IsBacked c) kept' → active_of (seen_job job) ≡ None → AreBacked c kept (seen_jobs jobs) → AreBacked c kept' (seen_jobs (slice_set jobs at job))
+    → All (IsBacked c) kept' → active_of (job_view job) ≡ None → AreBacked c kept (job_views jobs) → AreBacked c kept' (job_views (slice_set jobs at job))
 backed_without c kept kept' jobs at was job stands backed none are =
     backed_jobs c c kept kept' jobs at was job stands (keeps_itself c) backed (λ tx is. let lacks : None ≡ Some tx = sym none ∙ is in cc lacks) are

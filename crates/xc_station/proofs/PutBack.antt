@@ -12,7 +12,7 @@ use Rattle.xc_data.specs.declared.call.Reply.TheVariants as reply
 use Rattle.xc_data.specs.declared.private.Place.{Place}
 use Rattle.xc_data.specs.declared.private.Place.TheVariants.{Vacant, File, Pipe, Pair}
 use Rattle.xc_data.specs.declared.private.Private.{Private}
-use Rattle.xc_script.specs.Ask.{value_in}
+use Rattle.xc_script.specs.Answers.{value_in}
 use Rattle.xc_world.specs.After.{ArePlaces, IsAppendedAt, IsMeAfter, further}
 use Rattle.xc_world.specs.Trail.{done_of}
 use Rattle.xc_station.specs.PutBack.{changed_at, place_before, put_at}
@@ -27,7 +27,7 @@ put_same [] h = refl
 put_same (x ∷ xs) zero = refl
 put_same (x ∷ xs) (suc h) = ap (λ ys. x ∷ ys) (put_same xs h)
 
--- behind places that are as they were, or that changed at the handle
+-- after places that are as they were, or that changed at the handle
 back_same : (xs is : List Place) (h : ℕ) → is ≡ xs → slice_set is h (place_of xs h) ≡ xs
 back_same xs is h same = ap (λ ys. slice_set ys h (place_of xs h)) same ∙ put_same xs h
 
@@ -55,7 +55,7 @@ given xs is h p lowest set =
     none_there (place_of xs h) (ap is_vacant (unwrap_or-slice_get xs h Vacant) ∙ (position-Some is_vacant xs h Vacant lowest).1) in
     ap (λ q. slice_set is h q) (sym vacant) ∙ back_set xs is h p set
 
--- the places behind a call, with the one before it where it may have changed one, are those before it
+-- the places after a call, with the one before it where it may have changed one, are those before it
 pub places_back : (tx : ℕ) (c : Call) (me : Private) (r : Reply) (is : List Place) → ArePlaces tx c me r is → (value_in r ≡ None → ⊥)
     → put_at (changed_at c r) (place_before c me.places) is ≡ me.places
 places_back tx (call.XOpen name) me (reply.Made h) is (lowest, num, set) brings = given me.places is h (File num 0) lowest set

@@ -30,13 +30,15 @@ use Rattle.xc_world.specs.Modes.{mode_of}
 use Rattle.xc_world.specs.Sound.{IsKnown}
 use Rattle.xc_world.specs.Touch.{object_at, touch}
 use Rattle.xc_world.proofs.Calls.{objects_of_claims}
-use Rattle.xc_story.specs.declared.phase.Phase.TheVariants.{Running}
-use Rattle.xc_story.specs.Rows.{HasNoRival, IsActiveAt, claims_at}
-use Rattle.xc_story.specs.Seen.{SeenTx, Now}
-use Rattle.xc_story.specs.Setting.{Setting}
-use Rattle.xc_played.specs.Flying.{AreFlying}
-use Rattle.xc_played.proofs.ClaimedThere.{claimed_there}
-use Rattle.xc_played.proofs.NewNumbers.{free_now}
+use Rattle.xc_model.specs.declared.phase.Phase.TheVariants.{Running}
+use Rattle.xc_model.specs.Rivals.{HasNoRival}
+use Rattle.xc_model.specs.Movers.{IsActiveAt}
+use Rattle.xc_model.specs.PlainSteps.{claims_at}
+use Rattle.xc_model.specs.Moment.{TxView, Moment}
+use Rattle.xc_model.specs.Setting.{Setting}
+use Rattle.xc_refines.specs.InFlight.{AreInFlight}
+use Rattle.xc_refines.proofs.ClaimedThere.{claimed_there}
+use Rattle.xc_refines.proofs.NewNumbers.{free_now}
 use Rattle.xc_station.specs.Acting.{IsFreeFor, IsLentFor, IsSourceIn}
 use Rattle.xc_station.specs.Lent.{IsBacked}
 use Rattle.xc_station.proofs.Backed.{there_below}
@@ -64,8 +66,8 @@ unfiltered p (x ∷ xs) none =
 none_kept : (num : Num) (items : List KeptItem) → keeps_from (source.Pipe num) items ≡ false → kept_bytes num items ≡ []
 none_kept num items none = ap (flat_map item_bytes) (unfiltered (is_from (source.Pipe num)) items none)
 
-module _ (s : Setting) (now : Now) (at : ℕ) (tx : SeenTx) (c : Contents) (kept : List KeptItem) (told : now.contents ≡ with_kept c kept)
-    (flying : AreFlying s now) (active : IsActiveAt now.jobs at tx) (runs : tx.phase ≡ Running) (backed : All (IsBacked c) kept) where
+module _ (s : Setting) (now : Moment) (at : ℕ) (tx : TxView) (c : Contents) (kept : List KeptItem) (told : now.contents ≡ with_kept c kept)
+    (flying : AreInFlight s now) (active : IsActiveAt now.jobs at tx) (runs : tx.phase ≡ Running) (backed : All (IsBacked c) kept) where
   pipe_below : (p : Place) → IsKnown (world_of now.contents) p → IsPipeIn c p
   pipe_below (place.Pipe num) known =
       there_below c kept backed (object.Pipe num) (subst (λ (k : Contents). is_some (map.get k.pipes num) ≡ true) told known)

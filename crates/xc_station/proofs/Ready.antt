@@ -15,49 +15,49 @@ use Rattle.xc_data.specs.declared.entry.Outcome.TheVariants.{Committed, Aborted}
 use Rattle.xc_data.specs.declared.entry.JobLine.{JobLine}
 use Rattle.xc_compensate.specs.Records.{NextIsCovered}
 use Rattle.xc_host.specs.Model.{HostModel}
-use Rattle.xc_journal.specs.Room.{Roomy}
+use Rattle.xc_roomy.specs.Room.{Roomy}
 use Rattle.xc_txmem.specs.Overlay.{AreWithin}
 use Rattle.xc_text.specs.declared.script.Block.{Block}
 use Rattle.xc_text.specs.declared.script.Script.{Script}
 use Rattle.xc_text.specs.Scripts.{IsBlock}
 use Rattle.xc_script.specs.Ask.{transactions_of, transactions_at}
-use Rattle.xc_story.specs.declared.phase.Attempts.{Attempts}
-use Rattle.xc_story.specs.declared.rules.Rules.{Rules}
-use Rattle.xc_story.specs.Setting.{Setting, setting}
-use Rattle.xc_story.specs.WordCalls.{words_after, words_behind}
-use Rattle.xc_story.specs.Progress.{Following, Progress, after_entry, opening_progress, progress_of, words_left}
-use Rattle.xc_story.specs.Seen.{SeenTx, SeenJob, Active, Now, active_in, actives, failures, late_left, Doing, Idle, Starved, Ended}
-use Rattle.xc_story.specs.Told.{AreAttempts, IsDoing, IsInPhase, IsUnderway}
-use Rattle.xc_story.specs.Rows.{IsActiveAt}
+use Rattle.xc_model.specs.declared.phase.Attempts.{Attempts}
+use Rattle.xc_model.specs.declared.rules.Rules.{Rules}
+use Rattle.xc_model.specs.Setting.{Setting, setting}
+use Rattle.xc_model.specs.WordCalls.{words_after, words_behind}
+use Rattle.xc_model.specs.Progress.{Following, Progress, after_entry, opening_progress, progress_of, words_left}
+use Rattle.xc_model.specs.Moment.{TxView, JobView, Active, Moment, active_in, actives, failures, late_left}
+use Rattle.xc_model.specs.Stories.{AreAttempts, IsDoing, IsInPhase, IsUnderway}
+use Rattle.xc_model.specs.Movers.{IsActiveAt}
 use Rattle.xc_turns.proofs.GivenNumbers.{given_by_now, given_once}
 use Rattle.xc_sentinel.specs.declared.seat.Seat.{Seat}
 use Rattle.xc_sentinel.specs.Seating.{seat_in}
 use Rattle.xc_station.proofs.Tracked.{nobody}
 use Rattle.xc_data.specs.Private.{place_of}
-use Rattle.xc_data.specs.Standing.{objects_of}
+use Rattle.xc_data.specs.Remaining.{objects_of}
 use Rattle.xc_data.specs.declared.undo.Undo.{Undo}
 use Rattle.xc_maps.specs.Keys.{num_cmp}
 use Rattle.xc_world.specs.Act.Names.{next_num}
 use Rattle.xc_world.specs.Beside.{AreElsewhere}
 use Rattle.xc_world.specs.Modes.{claims_of}
 use Rattle.xc_world.specs.Run.{item_object}
-use Rattle.xc_played.proofs.NewEmpty.{made_empty, not_taken_from}
-use Rattle.xc_played.proofs.NewNumbers.{absent_now}
-use Rattle.xc_played.proofs.NextLate.{late_there}
-use Rattle.xc_played.proofs.NextRecord.{covered_now}
-use Rattle.xc_played.proofs.OpenFiles.{open_files}
+use Rattle.xc_refines.proofs.NewEmpty.{made_empty, not_taken_from}
+use Rattle.xc_refines.proofs.NewNumbers.{absent_now}
+use Rattle.xc_refines.proofs.NextLate.{late_there}
+use Rattle.xc_refines.proofs.NextRecord.{covered_now}
+use Rattle.xc_refines.proofs.OpenFiles.{open_files}
 use Rattle.xc_station.specs.declared.calls.Shared.{Shared}
 use Rattle.xc_station.specs.declared.job.Job.{Job}
 use Rattle.xc_station.specs.declared.job.Stage.{Stage}
 use Rattle.xc_station.specs.declared.job.Stage.TheVariants as stage
-use Rattle.xc_station.specs.Jobs.{doing_of, seen_job, seen_jobs}
+use Rattle.xc_station.specs.Jobs.{doing_of, job_view, job_views}
 use Rattle.xc_station.specs.Lent.{AreBacked, notes_in, notes_of}
 use Rattle.xc_station.proofs.Backed.{covered_below, late_below, open_below}
 use Rattle.xc_station.proofs.Elsewhere.{nothing_kept_of}
 use Rattle.xc_station.proofs.Lent.{kept_files}
 use Rattle.xc_station.specs.Moments.{AreSingle, CanRun, IsAt, marks_of, runs, seated_as}
 use Rattle.xc_station.specs.Stations.{HasRooms, IsSteady, moment}
-use Rattle.xc_station.proofs.Placed.{get_map, length_set}
+use Rattle.xc_data.proofs.Lists.{get_map, length_set}
 use Rattle.xc_station.proofs.Notes.{notes_within}
 use Rattle.xc_station.proofs.Reaching.{lent_for}
 use Rattle.xc_station.proofs.Rivals.{none_met}
@@ -73,12 +73,12 @@ get_beside (a ∷ xs) (b ∷ ys) zero y e h = (a, refl)
 get_beside (a ∷ xs) (b ∷ ys) (suc i) y e h = get_beside xs ys i y (omega (arith, e)) h
 
 -- an active transaction with what the journal tells of its job
-pub record IsTelling (s : Setting) (job : SeenJob) (tx : SeenTx) : Type 0 where
+pub record IsTelling (s : Setting) (job : JobView) (tx : TxView) : Type 0 where
   pub following : Following
   pub attempts : AreAttempts following job.attempts
   pub underway : IsUnderway s following job.place tx
 
-module _ (s : Setting) (faults : ℕ) (now : Now) (steady : IsSteady s faults now) (at : ℕ) (job : SeenJob) (tx : SeenTx)
+module _ (s : Setting) (faults : ℕ) (now : Moment) (steady : IsSteady s faults now) (at : ℕ) (job : JobView) (tx : TxView)
     (stands : slice_get now.jobs at ≡ Some job) (does : job.doing ≡ Active tx) where
   -- it has one
   pub telling : IsTelling s job tx
@@ -91,12 +91,6 @@ module _ (s : Setting) (faults : ℕ) (now : Now) (steady : IsSteady s faults no
         attempts = tells.attempts;
         underway = subst (IsDoing s (length now.journal + length (actives now.jobs)) beside.0 job) does tells.doing;
       }
-
-active_does : (d : Doing) (tx : SeenTx) → active_in d ≡ Some tx → d ≡ Active tx
-active_does (Active t) tx is = let same : t ≡ tx = cc is in ap Active same
-active_does Idle tx is = cc is
-active_does Starved tx is = cc is
-active_does (Ended end) tx is = cc is
 
 -- ---- its transaction is one of a few
 few_there : (blocks : List Block) (i : ℕ) → All IsBlock blocks → length (transactions_of (slice_get blocks i)) ≤ 1000
@@ -131,7 +125,7 @@ count_told script p [] = refl
 count_told script p (e ∷ journal) = count_told script (after_entry script p e) journal ∙ count_left p.words e.calls e.outcome
 
 -- so they are few
-pub few_words : (s : Setting) (faults : ℕ) (now : Now) → IsSteady s faults now → length now.words ≤ 4096
+pub few_words : (s : Setting) (faults : ℕ) (now : Moment) → IsSteady s faults now → length now.words ≤ 4096
 few_words s faults now steady =
     let same = steady.kept.spoken.count in
     let told = count_told s.script (opening_progress s.script) now.journal in
@@ -143,7 +137,7 @@ failed_so : (f : Following) (attempts : Option Attempts) → AreAttempts f attem
 failed_so f None are = ap length (sym are.1)
 failed_so f (Some a) are = sym are.1
 
-module _ (s : Setting) (faults : ℕ) (now : Now) (steady : IsSteady s faults now) (at : ℕ) (job : SeenJob) (tx : SeenTx)
+module _ (s : Setting) (faults : ℕ) (now : Moment) (steady : IsSteady s faults now) (at : ℕ) (job : JobView) (tx : TxView)
     (stands : slice_get now.jobs at ≡ Some job) (does : job.doing ≡ Active tx) where
   -- the place of its transaction among its block's
   pub few_next : job.place.next < 2 ^ 32
@@ -172,20 +166,20 @@ module _ {H : Type 0} (model : HostModel H) (shared : Shared H) (journal : List 
     (script : Script) (rules : Rules) (faults active spare : ℕ) (lines : Roomy JobLine)
     (steady : IsSteady (setting script rules model.tells) faults (moment model shared journal jobs))
     (rooms : HasRooms shared active spare (moment model shared journal jobs) lines) where
-  single : AreSingle (seen_jobs jobs)
+  single : AreSingle (job_views jobs)
   single =
-      given_once (setting script rules model.tells) (length shared.words) (marks_of shared.sentinels.seats) journal (seen_jobs jobs) steady.kept.told
+      given_once (setting script rules model.tells) (length shared.words) (marks_of shared.sentinels.seats) journal (job_views jobs) steady.kept.told
 
   -- a running job may go on
-  pub may_run : (IsTrue model.tells → AreBacked (model.contents shared.host) shared.buffers.kept (seen_jobs jobs)) → IsThere jobs at stage.Running was
-      → CanRun script model shared (seen_job was)
+  pub may_run : (IsTrue model.tells → AreBacked (model.contents shared.host) shared.buffers.kept (job_views jobs)) → IsThere jobs at stage.Running was
+      → CanRun script model shared (job_view was)
   may_run backed is =
       let s = setting script rules model.tells in
       let now = moment model shared journal jobs in
-      let there = get_map seen_job jobs at was is.stands in
+      let there = get_map job_view jobs at was is.there in
       let runs = running_stage (doing_of was) is.stage in
-      let t = telling s faults now steady at (seen_job was) runs.tx there runs.doing in
-      let active : IsActiveAt now.jobs at runs.tx = (seen_job was, there, ap active_in runs.doing) in
+      let t = telling s faults now steady at (job_view was) runs.tx there runs.doing in
+      let active : IsActiveAt now.jobs at runs.tx = (job_view was, there, ap active_in runs.doing) in
       let spoken = steady.kept.spoken.each at runs.tx active in
       let block : t.following.job.block ≡ was.place.block = sym t.underway.standing.block in
       let next : t.following.job.next ≡ was.place.next = sym t.underway.standing.next in
@@ -208,30 +202,30 @@ module _ {H : Type 0} (model : HostModel H) (shared : Shared H) (journal : List 
             (none_met now.jobs at runs.tx shared.sentinels.claims rooms.claims single steady.kept.apart active
             (claims_of call runs.tx.me (length shared.words)) free);
         noted =
-            let within = notes_within now.jobs at (seen_job was) there in
-            let mine : notes_of (seen_job was) ≡ length runs.tx.taken = ap notes_in (ap active_in runs.doing) in
+            let within = notes_within now.jobs at (job_view was) there in
+            let mine : notes_of (job_view was) ≡ length runs.tx.taken = ap notes_in (ap active_in runs.doing) in
             let all = rooms.noted in
             omega (arith, within, mine, all);
         ready = λ tells.
             let flying = steady.flying tells in
             record {
               files = λ h. open_below (model.contents shared.host) shared.buffers.kept (place_of runs.tx.me.places h)
-                  (open_files s now flying at (seen_job was) runs.tx there (ap active_in runs.doing) runs.phase h);
+                  (open_files s now flying at (job_view was) runs.tx there (ap active_in runs.doing) runs.phase h);
               new = ap (λ (files : map.FinMap num_cmp (List ℕ)). is_some (map.get files (next_num runs.tx.me runs.tx.number)))
                   (sym (kept_files (model.contents shared.host) shared.buffers.kept))
-                  ∙ absent_now s now flying at (seen_job was) runs.tx there (ap active_in runs.doing) runs.phase runs.tx.me.made (omega arith);
+                  ∙ absent_now s now flying at (job_view was) runs.tx there (ap active_in runs.doing) runs.phase runs.tx.me.made (omega arith);
             };
       }
 
   -- so it stands at this moment
-  pub stands_now : (s : Stage) → IsThere jobs at s was → IsAt model shared (moment model shared journal jobs) at (seen_job was)
+  pub stands_now : (s : Stage) → IsThere jobs at s was → IsAt model shared (moment model shared journal jobs) at (job_view was)
   stands_now s is =
       record {
         words = refl;
         contents = refl;
         faults = refl;
         calls = refl;
-        stands = get_map seen_job jobs at was is.stands;
+        there = get_map job_view jobs at was is.there;
         marks = refl;
         table = rooms.claims;
         seats = rooms.seats;
@@ -240,7 +234,7 @@ module _ {H : Type 0} (model : HostModel H) (shared : Shared H) (journal : List 
       }
 
   -- the newest record without an end: nothing is kept of what it speaks of, and nobody has taken from there
-  module _ (backed : IsTrue model.tells → AreBacked (model.contents shared.host) shared.buffers.kept (seen_jobs jobs))
+  module _ (backed : IsTrue model.tells → AreBacked (model.contents shared.host) shared.buffers.kept (job_views jobs))
       (is : IsThere jobs at stage.Undoing was) (older : List Undo) (u : Undo)
       (pending : (undoing_stage (doing_of was) is.stage).tx.undo.pending ≡ older ++ u ∷ []) where
     pub undo_elsewhere : IsTrue model.tells → AreElsewhere (objects_of u) shared.buffers.kept
@@ -248,51 +242,51 @@ module _ {H : Type 0} (model : HostModel H) (shared : Shared H) (journal : List 
         let s = setting script rules model.tells in
         let back = undoing_stage (doing_of was) is.stage in
         nothing_kept_of (model.contents shared.host) shared.buffers.kept ((backed tells).kept) u
-        (made_empty s (moment model shared journal jobs) (steady.flying tells) at (seen_job was) back.tx back.cause older u
-        (get_map seen_job jobs at was is.stands) (ap active_in back.doing) back.phase pending)
+        (made_empty s (moment model shared journal jobs) (steady.flying tells) at (job_view was) back.tx back.cause older u
+        (get_map job_view jobs at was is.there) (ap active_in back.doing) back.phase pending)
 
-    pub took_elsewhere : IsTrue model.tells → (j : ℕ) (other : SeenTx) → IsActiveAt (seen_jobs jobs) j other → AreElsewhere (objects_of u) other.taken
+    pub took_elsewhere : IsTrue model.tells → (j : ℕ) (other : TxView) → IsActiveAt (job_views jobs) j other → AreElsewhere (objects_of u) other.taken
     took_elsewhere tells j other active =
         let s = setting script rules model.tells in
         let back = undoing_stage (doing_of was) is.stage in
         All-weaker (Contains other.taken) (λ item. Contains (objects_of u) (item_object item) → ⊥)
-        (λ item took. not_taken_from s (moment model shared journal jobs) (steady.flying tells) at (seen_job was) back.tx back.cause older u
-        (get_map seen_job jobs at was is.stands) (ap active_in back.doing) back.phase pending j active.0 other item active.1 active.2 took)
+        (λ item took. not_taken_from s (moment model shared journal jobs) (steady.flying tells) at (job_view was) back.tx back.cause older u
+        (get_map job_view jobs at was is.there) (ap active_in back.doing) back.phase pending j active.0 other item active.1 active.2 took)
         other.taken (All-contains_itself other.taken)
 
   -- a record without an end may be tried
-  pub may_undo : (IsTrue model.tells → AreBacked (model.contents shared.host) shared.buffers.kept (seen_jobs jobs)) → IsThere jobs at stage.Undoing was
-      → (tx : SeenTx) × ((seen_job was).doing ≡ Active tx) × (tx.undo.pending ≢ [])
+  pub may_undo : (IsTrue model.tells → AreBacked (model.contents shared.host) shared.buffers.kept (job_views jobs)) → IsThere jobs at stage.Undoing was
+      → (tx : TxView) × ((job_view was).doing ≡ Active tx) × (tx.undo.pending ≢ [])
       × (IsTrue model.tells → NextIsCovered (model.contents shared.host) tx.undo)
   may_undo backed is =
       let s = setting script rules model.tells in
       let now = moment model shared journal jobs in
-      let there = get_map seen_job jobs at was is.stands in
+      let there = get_map job_view jobs at was is.there in
       let back = undoing_stage (doing_of was) is.stage in (
         back.tx,
         back.doing,
         λ none. let lacks : back.newest ∷ back.older ≡ [] = sym back.pending ∙ none in cc lacks,
         λ tells older u pending way.
             covered_below (model.contents shared.host) shared.buffers.kept u (undo_elsewhere backed is older u pending tells)
-            (covered_now s now (steady.flying tells) at (seen_job was) back.tx back.cause older u there (ap active_in back.doing) back.phase pending
+            (covered_now s now (steady.flying tells) at (job_view was) back.tx back.cause older u there (ap active_in back.doing) back.phase pending
             way),
       )
 
   -- the next late call of a committing one finds its object
-  pub may_end_late : (IsTrue model.tells → AreBacked (model.contents shared.host) shared.buffers.kept (seen_jobs jobs))
-      → IsThere jobs at stage.Committing was → (tx : SeenTx) × ((seen_job was).doing ≡ Active tx) × (0 < length (late_left tx))
+  pub may_end_late : (IsTrue model.tells → AreBacked (model.contents shared.host) shared.buffers.kept (job_views jobs))
+      → IsThere jobs at stage.Committing was → (tx : TxView) × ((job_view was).doing ≡ Active tx) × (0 < length (late_left tx))
       × (IsTrue model.tells → (call : LateCall) (calls : List LateCall) → late_left tx ≡ call ∷ calls → IsThereFor (model.contents shared.host) call)
   may_end_late backed is =
       let s = setting script rules model.tells in
       let now = moment model shared journal jobs in
-      let there = get_map seen_job jobs at was is.stands in
+      let there = get_map job_view jobs at was is.there in
       let mine = committing_stage (doing_of was) is.stage in (
         mine.tx,
         mine.doing,
         omega (arith, ap length mine.left),
         λ tells call calls left.
             late_below (model.contents shared.host) shared.buffers.kept ((backed tells).kept) call
-            (late_there s now (steady.flying tells) at (seen_job was) mine.tx call calls there (ap active_in mine.doing) mine.phase left),
+            (late_there s now (steady.flying tells) at (job_view was) mine.tx call calls there (ap active_in mine.doing) mine.phase left),
       )
 
   -- the next transaction has no seat yet
@@ -300,24 +294,24 @@ module _ {H : Type 0} (model : HostModel H) (shared : Shared H) (journal : List 
   next_unseated =
       let counted = rooms.count in
       unseated (seat_in shared.sentinels.seats (length journal + active + 1))
-      (nobody (λ n. seated_as (seat_in shared.sentinels.seats n)) (λ (t : SeenTx). Some (t.rank, runs t.phase)) (seen_jobs jobs) rooms.seats
+      (nobody (λ n. seated_as (seat_in shared.sentinels.seats n)) (λ (t : TxView). Some (t.rank, runs t.phase)) (job_views jobs) rooms.seats
       (length journal + active + 1)
-      (λ j t a. let few = (given_by_now (setting script rules model.tells) (length shared.words) (marks_of shared.sentinels.seats) journal (seen_jobs jobs)
+      (λ j t a. let few = (given_by_now (setting script rules model.tells) (length shared.words) (marks_of shared.sentinels.seats) journal (job_views jobs)
       steady.kept.told j t a).1 in omega (arith, few, counted)))
 
   -- numbers that fit, of a job with an active transaction
-  pub fits_next : (s : Stage) (tx : SeenTx) → IsThere jobs at s was → doing_of was ≡ Active tx → was.place.next < 2 ^ 32
-  fits_next s tx is does = few_next (setting script rules model.tells) faults (moment model shared journal jobs) steady at (seen_job was) tx
-      (get_map seen_job jobs at was is.stands) does
+  pub fits_next : (s : Stage) (tx : TxView) → IsThere jobs at s was → doing_of was ≡ Active tx → was.place.next < 2 ^ 32
+  fits_next s tx is does = few_next (setting script rules model.tells) faults (moment model shared journal jobs) steady at (job_view was) tx
+      (get_map job_view jobs at was is.there) does
 
   -- and attempts
-  pub fits_failures : (s : Stage) (tx : SeenTx) → IsThere jobs at s was → doing_of was ≡ Active tx → rules.attempts < 2 ^ 32
+  pub fits_failures : (s : Stage) (tx : TxView) → IsThere jobs at s was → doing_of was ≡ Active tx → rules.attempts < 2 ^ 32
       → failures was.attempts + 1 < 2 ^ 32
   fits_failures s tx is does fits =
-      let few = few_failures (setting script rules model.tells) faults (moment model shared journal jobs) steady at (seen_job was) tx
-      (get_map seen_job jobs at was is.stands) does in omega (arith, few, fits)
+      let few = few_failures (setting script rules model.tells) faults (moment model shared journal jobs) steady at (job_view was) tx
+      (get_map job_view jobs at was is.there) does in omega (arith, few, fits)
 
   -- each active one has its room
-  pub has_room : (s : Stage) (tx : SeenTx) → IsThere jobs at s was → doing_of was ≡ Active tx → (1 ≤ active) × (1 ≤ spare)
-  has_room s tx is does = one_active shared active spare (moment model shared journal jobs) lines at (seen_job was) tx
-      (get_map seen_job jobs at was is.stands) (ap active_in does) rooms
+  pub has_room : (s : Stage) (tx : TxView) → IsThere jobs at s was → doing_of was ≡ Active tx → (1 ≤ active) × (1 ≤ spare)
+  has_room s tx is does = one_active shared active spare (moment model shared journal jobs) lines at (job_view was) tx
+      (get_map job_view jobs at was is.there) (ap active_in does) rooms

@@ -8,17 +8,18 @@ use Rattle.xc_data.specs.declared.claim.Claim.{Claim}
 use Rattle.xc_data.specs.declared.claim.Mode.{Mode}
 use Rattle.xc_data.specs.declared.claim.Mode.TheVariants.{Shared, Exclusive}
 use Rattle.xc_data.specs.declared.object.Object.{Object}
-use Rattle.xc_wordlocks.specs.Table.{Table, mode_in, mode_of}
+use Rattle.xc_wordlocks.specs.Table.{Table, mode_in, held_mode}
 use Rattle.xc_wordlocks.specs.Met.{Meets, IsMet, IsNotMet}
 use Rattle.xc_wordlocks.specs.Met as met
 use Rattle.xc_wordlocks.proofs.Held.{member, once_member}
-use Rattle.xc_story.specs.Seen.{SeenTx, SeenJob, active_of}
-use Rattle.xc_story.specs.Rows.{IsActiveAt, HoldsAgainst, HasNoRival, IsRival, IsFirstMet}
-use Rattle.xc_story.specs.Holding.{AreApart}
+use Rattle.xc_model.specs.Moment.{TxView, JobView, active_of}
+use Rattle.xc_model.specs.Movers.{IsActiveAt}
+use Rattle.xc_model.specs.Rivals.{HoldsAgainst, HasNoRival, IsRival, IsFirstRival}
+use Rattle.xc_model.specs.Holding.{AreApart}
 use Rattle.xc_station.specs.Moments.{IsTable, AreSingle}
 
 -- ---- one place
-one_active : (jobs : List SeenJob) (at : ℕ) (t u : SeenTx) → IsActiveAt jobs at t → IsActiveAt jobs at u → t ≡ u
+one_active : (jobs : List JobView) (at : ℕ) (t u : TxView) → IsActiveAt jobs at t → IsActiveAt jobs at u → t ≡ u
 one_active jobs at t u a b =
     let both : Some a.0 ≡ Some b.0 = sym a.1 ∙ b.1 in
     let job : a.0 ≡ b.0 = cc in
@@ -32,16 +33,16 @@ either_way Exclusive Shared = refl
 either_way Exclusive Exclusive = refl
 
 -- ---- who is met is a rival
-module _ (jobs : List SeenJob) (at : ℕ) (tx : SeenTx) (table : Table) (all : IsTable table jobs) (lone : AreSingle jobs) (off : AreApart jobs)
+module _ (jobs : List JobView) (at : ℕ) (tx : TxView) (table : Table) (all : IsTable table jobs) (lone : AreSingle jobs) (off : AreApart jobs)
     (here : IsActiveAt jobs at tx) where
-  against_meets : (c : Claim) (j : ℕ) (u : SeenTx) → j ≢ at → IsActiveAt jobs j u → HoldsAgainst u c → Meets table c tx.number u.number
+  against_meets : (c : Claim) (j : ℕ) (u : TxView) → j ≢ at → IsActiveAt jobs j u → HoldsAgainst u c → Meets table c tx.number u.number
   against_meets c j u ne active against =
       record {
         other = λ e. ne (lone j at u tx active here e);
         held_as = against.0.mode;
-        holds = (all c.object).held j u active ∙ ap (mode_in u.held) (sym against.2)
+        holds = (all c.object).held j u active ∙ ap (mode_in u.held) (sym against.2.0)
             ∙ once_member u.held against.0 (off.once j u active) against.1;
-        apart = either_way against.0.mode c.mode ∙ against.3;
+        clash = (refl, against.2.1);
       }
 
   -- who isn't met has no rival
@@ -52,9 +53,9 @@ module _ (jobs : List SeenJob) (at : ℕ) (tx : SeenTx) (table : Table) (all : I
   pub none_met : (claims : List Claim) → All (IsNotMet table tx.number) claims → All (HasNoRival jobs at) claims
   none_met claims free = All-weaker (IsNotMet table tx.number) (HasNoRival jobs at) not_met claims free
 
-  mine_not_met : (c : Claim) (n : ℕ) (u : SeenTx) → Meets table c tx.number n → IsActiveAt jobs at u → u.number ≡ n → ⊥
+  mine_not_met : (c : Claim) (n : ℕ) (u : TxView) → Meets table c tx.number n → IsActiveAt jobs at u → u.number ≡ n → ⊥
   mine_not_met c n u meets active numbered =
-      meets.other (sym numbered ∙ ap (λ (t : SeenTx). t.number) (one_active jobs at u tx active here))
+      meets.other (sym numbered ∙ ap (λ (t : TxView). t.number) (one_active jobs at u tx active here))
 
   -- the smallest that is met is the rival with the smallest number
   pub is_rival : (c : Claim) (n : ℕ) → IsMet table c tx.number n → IsRival jobs at c n
@@ -62,20 +63,20 @@ module _ (jobs : List SeenJob) (at : ℕ) (tx : SeenTx) (table : Table) (all : I
       let o = c.object in
       let k = (all o).known n m.meets.held_as m.meets.holds in
       let mode : mode_in k.1.held o ≡ Some m.meets.held_as =
-      sym ((all o).held k.0 k.1 k.2) ∙ ap (λ x. mode_of table x o) k.3 ∙ m.meets.holds in
+      sym ((all o).held k.0 k.1 k.2) ∙ ap (λ x. held_mode table x o) k.3 ∙ m.meets.holds in
       record {
         place = k.0;
         other = λ e. mine_not_met c n k.1 m.meets (subst (λ j. IsActiveAt jobs j k.1) e k.2) k.3;
         rival = k.1;
         active = k.2;
-        holds = (claim m.meets.held_as o, member k.1.held o m.meets.held_as mode, refl, either_way c.mode m.meets.held_as ∙ m.meets.apart);
+        holds = (claim m.meets.held_as o, member k.1.held o m.meets.held_as mode, (refl, m.meets.clash.1));
         numbered = k.3;
         smallest = λ j u ne active against. m.smallest u.number (against_meets c j u ne active against);
       }
 
   -- and so the first met claim of the table is that of the jobs
   pub first_rival : (claims : List Claim) (object : Object) (holder : ℕ) → met.IsFirstMet table claims tx.number object holder
-      → IsFirstMet jobs at claims object holder
+      → IsFirstRival jobs at claims object holder
   first_rival claims object holder m =
       record {
         front = m.before;

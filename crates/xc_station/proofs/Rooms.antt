@@ -3,18 +3,19 @@ use Rattle.std.proofs.Common.{◌≡◌, ℕ, ◌+◌, ◌≤◌, length, [], ap
 use Rattle.std.specs.Prelude.{slice_get, slice_set}
 use Rattle.std.specs.declared.option.Option.TheVariants.{Some}
 use Rattle.xc_data.specs.declared.entry.JobLine.{JobLine}
-use Rattle.xc_journal.specs.Room.{Roomy}
-use Rattle.xc_story.specs.Seen.{SeenTx, SeenJob, Now, Idle, active_of, actives}
+use Rattle.xc_roomy.specs.Room.{Roomy}
+use Rattle.xc_model.specs.Moment.{TxView, JobView, Moment, Idle, active_of, actives}
 use Rattle.xc_station.specs.declared.calls.Shared.{Shared}
 use Rattle.xc_station.specs.Lent.{notes_in_all, notes_of}
 use Rattle.xc_station.specs.Moments.{AreSeats, IsTable}
 use Rattle.xc_station.specs.Stations.{HasRooms}
 use Rattle.xc_station.proofs.Notes.{notes_set}
-use Rattle.xc_station.proofs.Placed.{ones, picked_set, length_set}
+use Rattle.xc_data.proofs.Lists.{ones, picked_set, length_set}
 
 -- ---- all
 -- with another job in one place
-pub rooms_set : {H : Type 0} (shared shared' : Shared H) (active active' spare spare' : ℕ) (old new : Now) (lines : Roomy JobLine) (at : ℕ) (job job' : SeenJob)
+pub rooms_set : {H : Type 0} (shared shared' : Shared H) (active active' spare spare' : ℕ) (old new : Moment) (lines : Roomy JobLine) (at : ℕ)
+    (job job' : JobView)
     → slice_get old.jobs at ≡ Some job → new.jobs ≡ slice_set old.jobs at job'
     → IsTable shared'.sentinels.claims (slice_set old.jobs at job') → AreSeats shared'.sentinels.seats (slice_set old.jobs at job')
     → shared'.buffers.noted + notes_of job ≡ shared.buffers.noted + notes_of job'
@@ -35,7 +36,7 @@ rooms_set shared shared' active active' spare spare' old new lines at job job' t
     }
 
 -- with other room for lines
-pub rooms_relined : {H : Type 0} (shared : Shared H) (active spare : ℕ) (now : Now) (lines lines' : Roomy JobLine) → lines'.items ≡ []
+pub rooms_relined : {H : Type 0} (shared : Shared H) (active spare : ℕ) (now : Moment) (lines lines' : Roomy JobLine) → lines'.items ≡ []
     → HasRooms shared active spare now lines → HasRooms shared active spare now lines'
 rooms_relined shared active spare now lines lines' none has =
     record {
@@ -49,11 +50,11 @@ rooms_relined shared active spare now lines lines' none has =
     }
 
 -- a job with an active transaction is one of those that are counted
-pub one_active : {H : Type 0} (shared : Shared H) (active spare : ℕ) (now : Now) (lines : Roomy JobLine) (at : ℕ) (job : SeenJob) (tx : SeenTx)
+pub one_active : {H : Type 0} (shared : Shared H) (active spare : ℕ) (now : Moment) (lines : Roomy JobLine) (at : ℕ) (job : JobView) (tx : TxView)
     → slice_get now.jobs at ≡ Some job
     → active_of job ≡ Some tx → HasRooms shared active spare now lines → (1 ≤ active) × (1 ≤ spare)
 one_active shared active spare now lines at job tx there is has =
-    let none : SeenJob = record job { doing = Idle } in
+    let none : JobView = record job { doing = Idle } in
     let picked = picked_set active_of now.jobs at none job there in
     let one : ones (active_of job) ≡ 1 = ap ones is in
     let was = has.count in

@@ -1,4 +1,4 @@
--- Rows of the turn of a job whose transaction runs, of a call whose claims are granted: it is done, or memory is wanting.
+-- Rows of the turn of a job whose transaction runs, of a call whose claims are granted: it is done, or memory runs out.
 use Rattle.std.proofs.Common.{◌≡◌, ◌⊎◌, inl, inr, ℕ, ◌<◌, List, [], ◌∷◌, ◌++◌, length, IsTrue, refl, ap, sym, ◌∙◌, subst, arith}
 use Rattle.std.specs.Prelude.{All}
 use Rattle.xc_data.specs.Claims.{holding}
@@ -17,7 +17,8 @@ use Rattle.xc_host.specs.Cause.{IsCalled}
 use Rattle.xc_host.specs.Model.{HostModel}
 use Rattle.xc_host.specs.Uses.{CallsOf, Uses}
 use Rattle.xc_script.specs.declared.ask.Ask.TheVariants as ask
-use Rattle.xc_script.specs.Ask.{asks, answered}
+use Rattle.xc_script.specs.Asking.{asks}
+use Rattle.xc_script.specs.Answers.{answered}
 use Rattle.xc_script.specs.Position.{Position, walk_of}
 use Rattle.xc_txmem.specs.Overlay.{overlaid}
 use Rattle.xc_world.specs.After.{IsMeAfter}
@@ -25,45 +26,50 @@ use Rattle.xc_world.specs.Checks.{IsChecked, refusal_of}
 use Rattle.xc_world.specs.Modes.{claims_of}
 use Rattle.xc_world.specs.Trail.{recorded}
 use Rattle.xc_world.specs.World.{World}
-use Rattle.xc_wordlocks.specs.Table.{claimed, mode_in, mode_of}
+use Rattle.xc_wordlocks.specs.Table.{claimed, mode_in, held_mode}
 use Rattle.xc_wordlocks.proofs.Held.{claimed-holding}
-use Rattle.xc_story.specs.declared.phase.Phase.TheVariants.{Undoing}
-use Rattle.xc_story.specs.Setting.{Setting}
-use Rattle.xc_story.specs.Seen.{SeenTx, SeenJob, Active, Now, active_in, with_job}
-use Rattle.xc_story.specs.WordCalls.{IsWordStep}
-use Rattle.xc_story.specs.Rows.{Calls, DoesIn, DoesPartIn, HasCalled, HasNoRival, HoldsWanting, IsActiveAt, IsLeft, IsSameBegin, mover}
-use Rattle.xc_story.specs.Rows.{IsSamePosition, IsReplyInTime, Parts, RunningTurn, StopsAt, noting, parts_of, stored_by, wanting, with_tx}
+use Rattle.xc_model.specs.declared.phase.Phase.TheVariants.{Undoing}
+use Rattle.xc_model.specs.Setting.{Setting}
+use Rattle.xc_model.specs.Moment.{TxView, JobView, Active, Moment, active_in, with_job}
+use Rattle.xc_model.specs.WordCalls.{IsWordStep}
+use Rattle.xc_model.specs.RunningRows.{Calls, HoldsWanting}
+use Rattle.xc_model.specs.PlainSteps.{StepsAsPlainIn, LeavesAsPlainIn, IsLeft}
+use Rattle.xc_model.specs.Movers.{HasCalled, IsActiveAt, IsSameBegin, mover}
+use Rattle.xc_model.specs.Rivals.{HasNoRival}
+use Rattle.xc_model.specs.Movers.{IsSamePosition, with_tx}
+use Rattle.xc_model.specs.PlainSteps.{IsReplyInTime, Parts, StopsAt, noting, tx_parts, stored_by, wanting}
+use Rattle.xc_model.specs.RunningRows.{RunningTurn}
 use Rattle.xc_station.specs.declared.calls.Shared.{Shared}
 use Rattle.xc_station.specs.declared.tx.Tx.{Tx}
-use Rattle.xc_station.specs.Acting.{HasDone, LeavesOff, acting, leaving, with_parts}
-use Rattle.xc_station.specs.Jobs.{seen_tx}
+use Rattle.xc_station.specs.Acting.{HasDoneAsPlain, LeavesOff, acting, leaving, with_parts}
+use Rattle.xc_station.specs.Jobs.{tx_view}
 use Rattle.xc_station.specs.Moments.{HasTx, IsAt, IsGranted, IsRow, Front, counted, front_of, marks_of, moved, told_by, told_front}
 use Rattle.xc_station.proofs.RowsRun.{asked_before, asked_row}
 use Rattle.xc_station.proofs.Rivals.{none_met}
 use Rattle.xc_station.proofs.Seated.{marks_kept}
 use Rattle.xc_station.proofs.Tracked.{tracked_on}
 
--- the job stands behind the reply
+-- the job stands after the reply
 pub record IsBehind (s : Setting) (old new : Position) (reply : Reply) : Type 0 where
   pub begin : IsSameBegin old new
   pub walk : walk_of s.script new ≡ answered (walk_of s.script old) reply
   pub nearer : old.at < new.at
 
--- ---- behind granted claims
-module _ {H : Type 0} (model : HostModel H) (s : Setting) (shared : Shared H) (now : Now) (at : ℕ) (job : SeenJob) (place : Position) (old : Tx)
-    (here : IsAt model shared now at job) (has : HasTx s job place (seen_tx old)) (behind : Shared H) (mid : Tx) (call : Call)
+-- ---- after granted claims
+module _ {H : Type 0} (model : HostModel H) (s : Setting) (shared : Shared H) (now : Moment) (at : ℕ) (job : JobView) (place : Position) (old : Tx)
+    (here : IsAt model shared now at job) (has : HasTx s job place (tx_view old)) (behind : Shared H) (mid : Tx) (call : Call)
     (words : behind.words ≡ shared.words) (asked : asks (walk_of s.script place) ≡ ask.Call call)
     (g : IsGranted (record { old = shared.sentinels; new = behind.sentinels }) (record { old = old; new = mid })
     (claims_of call old.me.value (length shared.words))) where
-  active : IsActiveAt now.jobs at (seen_tx old)
-  active = (job, here.stands, ap active_in has.doing)
+  active : IsActiveAt now.jobs at (tx_view old)
+  active = (job, here.there, ap active_in has.doing)
 
   claims_now : claims_of call old.me.value (length shared.words) ≡ claims_of call old.me.value (length now.words)
   claims_now = ap (λ n. claims_of call old.me.value n) (sym (ap length here.words))
 
   granted_free : All (HasNoRival now.jobs at) (claims_of call old.me.value (length now.words))
   granted_free =
-      subst (All (HasNoRival now.jobs at)) claims_now (none_met now.jobs at (seen_tx old) shared.sentinels.claims here.table here.single here.apart active
+      subst (All (HasNoRival now.jobs at)) claims_now (none_met now.jobs at (tx_view old) shared.sentinels.claims here.table here.single here.apart active
       (claims_of call old.me.value (length shared.words)) g.granted.free)
 
   words_now : behind.words ≡ now.words
@@ -77,7 +83,7 @@ module _ {H : Type 0} (model : HostModel H) (s : Setting) (shared : Shared H) (n
   told_now from host = ap (told_front model) host ∙ sym here.contents
 
   -- the host may have changed, and the job
-  touched : (job' : SeenJob) → moved model behind job' now at
+  touched : (job' : JobView) → moved model behind job' now at
       ≡ record (with_job now at job') {
         contents = told_by model behind;
         faults = model.fault_count behind.host;
@@ -92,7 +98,7 @@ module _ {H : Type 0} (model : HostModel H) (s : Setting) (shared : Shared H) (n
   }
 
   -- the host was called so
-  called_so : (IsMade : List Kind → Type 0) (from : Front H) (job' : SeenJob) → from ≡ front_of shared
+  called_so : (IsMade : List Kind → Type 0) (from : Front H) (job' : JobView) → from ≡ front_of shared
       → Uses model (record { old = from.host; new = behind.host }) IsMade → HasCalled IsMade now (moved model behind job' now at)
   called_so IsMade from job' host uses = (
     uses.made,
@@ -101,108 +107,108 @@ module _ {H : Type 0} (model : HostModel H) (s : Setting) (shared : Shared H) (n
         ∙ sym here.calls) uses.used.called,
   )
 
-  row_granted : (job' : SeenJob) (tx : SeenTx) (answer : Turn) → job'.doing ≡ Active tx → tx.number ≡ old.number
+  row_granted : (job' : JobView) (tx : TxView) (answer : Turn) → job'.doing ≡ Active tx → tx.number ≡ old.number
       → tx.held ≡ holding old.held.items (claims_of call old.me.value (length shared.words))
-      → RunningTurn (mover s at now job) (seen_tx old) answer (moved model behind job' now at)
+      → RunningTurn (mover s at now job) (tx_view old) answer (moved model behind job' now at)
       → IsRow (mover s at now job) (moved model behind job' now at) answer behind.sentinels.claims
   row_granted job' tx answer doing number held row =
       let claims = claims_of call old.me.value (length shared.words) in
       record {
-        tx = seen_tx old;
+        tx = tx_view old;
         doing = has.doing;
         row = row;
-        table = λ o. tracked_on (λ n. mode_of shared.sentinels.claims n o) (λ (t : SeenTx). mode_in t.held o) now.jobs (here.table o)
-            (λ n. mode_of behind.sentinels.claims n o) at job job' here.stands here.single (seen_tx old) (ap active_in has.doing)
+        table = λ o. tracked_on (λ n. held_mode shared.sentinels.claims n o) (λ (t : TxView). mode_in t.held o) now.jobs (here.table o)
+            (λ n. held_mode behind.sentinels.claims n o) at job job' here.there here.single (tx_view old) (ap active_in has.doing)
             (λ n ne. g.granted.others n o ne) tx (ap active_in doing) number
-            (g.granted.held o ∙ ap (λ m. claimed m claims o) ((here.table o).held at (seen_tx old) active)
+            (g.granted.held o ∙ ap (λ m. claimed m claims o) ((here.table o).held at (tx_view old) active)
             ∙ claimed-holding old.held.items claims o ∙ ap (λ (h : List Claim). mode_in h o) (sym held));
       }
 
-  -- memory is wanting behind them: what the call left stays, and what it claimed is held
+  -- memory runs out after them: what the call left stays, and what it claimed is held
   module _ (telling : IsTrue s.tells → IsTrue model.tells) (place' : Position) (from : Front H) (done new : Tx) (same : place' ≡ place)
       (host : from ≡ front_of shared)
       (l : LeavesOff model call (acting from.host from.lent.kept behind.words mid) (acting behind.host behind.buffers.kept behind.words done))
-      (is : seen_tx new ≡ record (seen_tx done) { phase = Undoing cause.NoMemory }) where
-    left_as : seen_tx new ≡ wanting (seen_tx old) l.left (holding old.held.items (claims_of call old.me.value (length now.words)))
-    left_as = is ∙ ap (λ (t : SeenTx). record t { phase = Undoing cause.NoMemory }) l.tx
-        ∙ ap (λ (t : SeenTx). record (leaving t l.left) { phase = Undoing cause.NoMemory }) g.held
-        ∙ ap (λ claims. wanting (seen_tx old) l.left (holding old.held.items claims)) claims_now
+      (is : tx_view new ≡ record (tx_view done) { phase = Undoing cause.NoMemory }) where
+    left_as : tx_view new ≡ wanting (tx_view old) l.left (holding old.held.items (claims_of call old.me.value (length now.words)))
+    left_as = is ∙ ap (λ (t : TxView). record t { phase = Undoing cause.NoMemory }) l.tx
+        ∙ ap (λ (t : TxView). record (leaving t l.left) { phase = Undoing cause.NoMemory }) g.held
+        ∙ ap (λ claims. wanting (tx_view old) l.left (holding old.held.items claims)) claims_now
 
-    left_now : IsTrue s.tells → IsLeft now (moved model behind (with_tx job place' (seen_tx new)) now at) (parts_of (seen_tx old)) (ask.Call call) l.left
+    left_now : IsTrue s.tells → IsLeft now (moved model behind (with_tx job place' (tx_view new)) now at) (tx_parts (tx_view old)) (ask.Call call) l.left
     left_now tells =
         let to = told_by model behind in
         let Left : List ℕ → Contents → Parts → Type 0 = λ ws was parts. ((l.left ≡ []) × (to ≡ was))
-        ⊎ ((answer : Answer) × DoesPartIn ws (record { old = was; new = to }) parts (record { call = call; answer = answer }) l.left) in
-        subst (λ p. Left now.words now.contents p) (ap parts_of g.held)
-        (subst (λ c. Left now.words c (parts_of (seen_tx mid))) (told_now from host)
-        (subst (λ ws. Left ws (told_front model from) (parts_of (seen_tx mid))) words_now (l.contents (telling tells))))
+        ⊎ ((answer : Answer) × LeavesAsPlainIn ws (record { old = was; new = to }) parts (record { call = call; answer = answer }) l.left) in
+        subst (λ p. Left now.words now.contents p) (ap tx_parts g.held)
+        (subst (λ c. Left now.words c (tx_parts (tx_view mid))) (told_now from host)
+        (subst (λ ws. Left ws (told_front model from) (tx_parts (tx_view mid))) words_now (l.contents (telling tells))))
 
     pub starved : (answer : Turn) → answer ≡ turn.NoMemory
-        → IsRow (mover s at now job) (moved model behind (counted answer (with_tx job place' (seen_tx new))) now at) answer behind.sentinels.claims
+        → IsRow (mover s at now job) (moved model behind (counted answer (with_tx job place' (tx_view new))) now at) answer behind.sentinels.claims
     starved answer gives =
-        let next = asked_before s job place (seen_tx old) (ask.Call call) has asked in
+        let next = asked_before s job place (tx_view old) (ask.Call call) has asked in
         let held = holding old.held.items (claims_of call old.me.value (length now.words)) in
-        let moment = moved model behind (with_tx job place' (seen_tx new)) now at in
-        subst (λ a. IsRow (mover s at now job) (moved model behind (counted a (with_tx job place' (seen_tx new))) now at) a behind.sentinels.claims) (sym gives)
-        (row_granted (with_tx job place' (seen_tx new)) (seen_tx new) turn.NoMemory refl (ap (λ (t : SeenTx). t.number) left_as)
-        (ap (λ (t : SeenTx). t.held) left_as ∙ ap (holding old.held.items) (sym claims_now))
+        let moment = moved model behind (with_tx job place' (tx_view new)) now at in
+        subst (λ a. IsRow (mover s at now job) (moved model behind (counted a (with_tx job place' (tx_view new))) now at) a behind.sentinels.claims) (sym gives)
+        (row_granted (with_tx job place' (tx_view new)) (tx_view new) turn.NoMemory refl (ap (λ (t : TxView). t.number) left_as)
+        (ap (λ (t : TxView). t.held) left_as ∙ ap (holding old.held.items) (sym claims_now))
         (record {
           place = place';
           same = subst (IsSamePosition s job.place) (sym same) has.same;
           left = l.left;
           one = l.one;
           held = held;
-          holds = subst (λ a. HoldsWanting (mover s at now job) (seen_tx old) a l.left held) (sym next) (inr (granted_free, refl));
-          behind = touched (with_tx job place' (seen_tx new))
+          holds = subst (λ a. HoldsWanting (mover s at now job) (tx_view old) a l.left held) (sym next) (inr (granted_free, refl));
+          behind = touched (with_tx job place' (tx_view new))
               ∙ (λ i. record (with_job now at (with_tx job place' (left_as i))) {
                 contents = told_by model behind;
                 faults = (l.faults ∙ ap (λ (f : Front H). model.fault_count f.host) host ∙ sym here.faults) i;
                 calls = model.calls behind.host;
               });
           uses = subst (λ a. HasCalled (StopsAt a) now moment) (sym next)
-              (called_so (StopsAt (ask.Call call)) from (with_tx job place' (seen_tx new)) host l.uses);
-          contents = λ tells. subst (λ a. IsLeft now moment (parts_of (seen_tx old)) a l.left) (sym next) (left_now tells);
+              (called_so (StopsAt (ask.Call call)) from (with_tx job place' (tx_view new)) host l.uses);
+          contents = λ tells. subst (λ a. IsLeft now moment (tx_parts (tx_view old)) a l.left) (sym next) (left_now tells);
         }))
 
   -- the call is done and noted
   module _ (telling : IsTrue s.tells → IsTrue model.tells) (place' : Position) (from : Front H) (done new : Tx) (reply : Reply)
       (stands : IsBehind s place place' reply) (host : from ≡ front_of shared)
-      (d : HasDone model call (acting from.host from.lent.kept behind.words mid) (acting behind.host behind.buffers.kept behind.words done) reply)
-      (noted : seen_tx new ≡ record (seen_tx done) { calls = done.calls.items ++ call ∷ []; replies = done.replies.items ++ reply ∷ [] }) where
-    done_as : seen_tx done ≡ with_parts (record (seen_tx old) { held = holding old.held.items (claims_of call old.me.value (length now.words)) })
-        call reply (parts_of (seen_tx done))
-    done_as = d.tx ∙ ap (λ (t : SeenTx). with_parts t call reply (parts_of (seen_tx done))) g.held
-        ∙ ap (λ claims. with_parts (record (seen_tx old) { held = holding old.held.items claims }) call reply (parts_of (seen_tx done))) claims_now
+      (d : HasDoneAsPlain model call (acting from.host from.lent.kept behind.words mid) (acting behind.host behind.buffers.kept behind.words done) reply)
+      (noted : tx_view new ≡ record (tx_view done) { calls = done.calls.items ++ call ∷ []; replies = done.replies.items ++ reply ∷ [] }) where
+    done_as : tx_view done ≡ with_parts (record (tx_view old) { held = holding old.held.items (claims_of call old.me.value (length now.words)) })
+        call reply (tx_parts (tx_view done))
+    done_as = d.tx ∙ ap (λ (t : TxView). with_parts t call reply (tx_parts (tx_view done))) g.held
+        ∙ ap (λ claims. with_parts (record (tx_view old) { held = holding old.held.items claims }) call reply (tx_parts (tx_view done))) claims_now
 
-    noted_as : seen_tx new ≡ noting (seen_tx old) call reply (claims_of call old.me.value (length now.words)) (parts_of (seen_tx done))
-    noted_as = noted ∙ ap (λ (t : SeenTx). record t { calls = t.calls ++ call ∷ []; replies = t.replies ++ reply ∷ [] }) done_as
+    noted_as : tx_view new ≡ noting (tx_view old) call reply (claims_of call old.me.value (length now.words)) (tx_parts (tx_view done))
+    noted_as = noted ∙ ap (λ (t : TxView). record t { calls = t.calls ++ call ∷ []; replies = t.replies ++ reply ∷ [] }) done_as
 
     writes_old : mid.writes ≡ old.writes
-    writes_old = ap (λ (t : SeenTx). t.writes) g.held
+    writes_old = ap (λ (t : TxView). t.writes) g.held
 
     spoken_now : IsWordStep (overlaid now.words old.writes) (overlaid now.words done.writes) call reply
     spoken_now = subst (λ ws. IsWordStep (overlaid now.words ws) (overlaid now.words done.writes) call reply) writes_old
         (subst (λ ws. IsWordStep (overlaid ws mid.writes) (overlaid ws done.writes) call reply) words_now d.spoken)
 
-    does_now : IsTrue s.tells → DoesIn now.words (record { old = now.contents; new = told_by model behind })
-        (record { old = parts_of (seen_tx old); new = parts_of (seen_tx done) }) call reply
+    does_now : IsTrue s.tells → StepsAsPlainIn now.words (record { old = now.contents; new = told_by model behind })
+        (record { old = tx_parts (tx_view old); new = tx_parts (tx_view done) }) call reply
     does_now tells =
         let to = told_by model behind in
         let Does : List ℕ → Contents → Parts → Type 0 =
-        λ ws was parts. DoesIn ws (record { old = was; new = to }) (record { old = parts; new = parts_of (seen_tx done) }) call reply in
-        subst (λ p. Does now.words now.contents p) (ap parts_of g.held)
-        (subst (λ c. Does now.words c (parts_of (seen_tx mid))) (told_now from host)
-        (subst (λ ws. Does ws (told_front model from) (parts_of (seen_tx mid))) words_now (d.does (telling tells))))
+        λ ws was parts. StepsAsPlainIn ws (record { old = was; new = to }) (record { old = parts; new = tx_parts (tx_view done) }) call reply in
+        subst (λ p. Does now.words now.contents p) (ap tx_parts g.held)
+        (subst (λ c. Does now.words c (tx_parts (tx_view mid))) (told_now from host)
+        (subst (λ ws. Does ws (told_front model from) (tx_parts (tx_view mid))) words_now (d.does (telling tells))))
 
-    calls_now : Calls (mover s at now job) (seen_tx old) call (moved model behind (with_tx job place' (seen_tx new)) now at)
+    calls_now : Calls (mover s at now job) (tx_view old) call (moved model behind (with_tx job place' (tx_view new)) now at)
     calls_now =
         record {
           free = granted_free;
           reply = reply;
           place = place';
-          parts = parts_of (seen_tx done);
-          behind = touched (with_tx job place' (seen_tx new))
-              ∙ ap (λ (t : SeenTx). record (with_job now at (with_tx job place' t)) {
+          parts = tx_parts (tx_view done);
+          behind = touched (with_tx job place' (tx_view new))
+              ∙ ap (λ (t : TxView). record (with_job now at (with_tx job place' t)) {
                 contents = told_by model behind;
                 faults = model.fault_count behind.host;
                 calls = model.calls behind.host;
@@ -214,15 +220,15 @@ module _ {H : Type 0} (model : HostModel H) (s : Setting) (shared : Shared H) (n
           };
           walk = stands.walk ∙ ap (λ w. answered w reply) has.same.walk;
           nearer = (let far = stands.nearer in let near = has.same.at in omega arith);
-          in_time = subst (λ (t : SeenTx). IsReplyInTime t.me t.number call reply) g.held d.in_time;
-          checked = subst (λ (t : SeenTx). IsChecked (refusal_of call t.me) call reply) g.held d.checked;
-          after = subst (λ (t : SeenTx). IsMeAfter t.number call reply t.me done.me.value) g.held d.after;
-          uses = called_so (CallsOf (refusal_of call old.me.value) call reply) from (with_tx job place' (seen_tx new)) host
-              (subst (λ (t : SeenTx). Uses model (record { old = from.host; new = behind.host }) (CallsOf (refusal_of call t.me) call reply)) g.held d.uses);
+          in_time = subst (λ (t : TxView). IsReplyInTime t.me t.number call reply) g.held d.in_time;
+          checked = subst (λ (t : TxView). IsChecked (refusal_of call t.me) call reply) g.held d.checked;
+          after = subst (λ (t : TxView). IsMeAfter t.number call reply t.me done.me.value) g.held d.after;
+          uses = called_so (CallsOf (refusal_of call old.me.value) call reply) from (with_tx job place' (tx_view new)) host
+              (subst (λ (t : TxView). Uses model (record { old = from.host; new = behind.host }) (CallsOf (refusal_of call t.me) call reply)) g.held d.uses);
           made = d.made;
           one = d.one;
-          count = subst (λ (t : SeenTx). (w : World) → length d.made ≡ length (recorded w t.me t.number call reply)) g.held d.count;
-          undo = d.undo ∙ ap (λ (t : SeenTx). record t.undo { pending = t.undo.pending ++ d.made }) g.held;
+          count = subst (λ (t : TxView). (w : World) → length d.made ≡ length (recorded w t.me t.number call reply)) g.held d.count;
+          undo = d.undo ∙ ap (λ (t : TxView). record t.undo { pending = t.undo.pending ++ d.made }) g.held;
           stored = d.stored;
           stores = d.stores ∙ ap (λ ws. ws ++ stored_by (length behind.words) call) writes_old
               ∙ ap (λ n. old.writes ++ stored_by n call) (ap length words_now);
@@ -233,7 +239,7 @@ module _ {H : Type 0} (model : HostModel H) (s : Setting) (shared : Shared H) (n
         }
 
     -- so its turn is that of a call
-    pub called : IsRow (mover s at now job) (moved model behind (with_tx job place' (seen_tx new)) now at) turn.Went behind.sentinels.claims
-    called = row_granted (with_tx job place' (seen_tx new)) (seen_tx new) turn.Went refl (ap (λ (t : SeenTx). t.number) noted_as)
-        (ap (λ (t : SeenTx). t.held) noted_as ∙ ap (holding old.held.items) (sym claims_now))
-        (asked_row s at now (moved model behind (with_tx job place' (seen_tx new)) now at) job place (seen_tx old) (ask.Call call) has asked (inl calls_now))
+    pub called : IsRow (mover s at now job) (moved model behind (with_tx job place' (tx_view new)) now at) turn.Went behind.sentinels.claims
+    called = row_granted (with_tx job place' (tx_view new)) (tx_view new) turn.Went refl (ap (λ (t : TxView). t.number) noted_as)
+        (ap (λ (t : TxView). t.held) noted_as ∙ ap (holding old.held.items) (sym claims_now))
+        (asked_row s at now (moved model behind (with_tx job place' (tx_view new)) now at) job place (tx_view old) (ask.Call call) has asked (inl calls_now))

@@ -8,31 +8,32 @@ use Rattle.xc_data.specs.declared.entry.Turn.TheVariants as turn
 use Rattle.xc_host.specs.Model.{HostModel}
 use Rattle.xc_sentinel.specs.Seated.{Seats}
 use Rattle.xc_sentinel.specs.Seating.{seat_in}
-use Rattle.xc_wordlocks.specs.Table.{Table, mode_in, mode_of}
-use Rattle.xc_story.specs.declared.phase.Phase.TheVariants.{Undoing}
-use Rattle.xc_story.specs.Setting.{Setting}
-use Rattle.xc_story.specs.Seen.{SeenTx, SeenJob, Active, Now, active_in, revoked}
-use Rattle.xc_story.specs.Rows.{IsActiveAt, MarkedTurn, RunningTurn, with_tx, mover}
+use Rattle.xc_wordlocks.specs.Table.{Table, mode_in, held_mode}
+use Rattle.xc_model.specs.declared.phase.Phase.TheVariants.{Undoing}
+use Rattle.xc_model.specs.Setting.{Setting}
+use Rattle.xc_model.specs.Moment.{TxView, JobView, Active, Moment, active_in, revoked}
+use Rattle.xc_model.specs.Movers.{IsActiveAt, with_tx, mover}
+use Rattle.xc_model.specs.RunningRows.{MarkedTurn, RunningTurn}
 use Rattle.xc_station.specs.declared.calls.Shared.{Shared}
 use Rattle.xc_station.specs.Moments.{Front, front_of, told_front}
 use Rattle.xc_station.specs.Moments.{AreSeats, KeepsSeated, IsAt, IsRow, IsRunningRow, IsTable, marks_of, moved, runs, seated_as}
 use Rattle.xc_station.proofs.Closed.{same_active}
-use Rattle.xc_station.proofs.Placed.{get_set}
+use Rattle.xc_data.proofs.Lists.{get_set_same}
 use Rattle.xc_station.proofs.RoomsKept.{goes_on}
 use Rattle.xc_station.proofs.Tracked.{tracked_on}
 
-module _ {H : Type 0} (model : HostModel H) (s : Setting) (shared : Shared H) (now : Now) (at : ℕ) (job : SeenJob) (tx : SeenTx)
+module _ {H : Type 0} (model : HostModel H) (s : Setting) (shared : Shared H) (now : Moment) (at : ℕ) (job : JobView) (tx : TxView)
     (here : IsAt model shared now at job) (doing : job.doing ≡ Active tx) where
   active : IsActiveAt now.jobs at tx
-  active = (job, here.stands, ap active_in doing)
+  active = (job, here.there, ap active_in doing)
 
-  -- what the sentinels keep of it, behind a turn
-  seats_on : (seats : Seats) (job' : SeenJob) (tx' : SeenTx) → job'.doing ≡ Active tx' → tx'.number ≡ tx.number
+  -- what the sentinels keep of it, after a turn
+  seats_on : (seats : Seats) (job' : JobView) (tx' : TxView) → job'.doing ≡ Active tx' → tx'.number ≡ tx.number
       → ((n : ℕ) → n ≢ tx.number → seated_as (seat_in seats n) ≡ seated_as (seat_in shared.sentinels.seats n))
       → seated_as (seat_in seats tx.number) ≡ Some (tx'.rank, runs tx'.phase) → AreSeats seats (slice_set now.jobs at job')
   seats_on seats job' tx' doing' number others mine =
-      tracked_on (λ n. seated_as (seat_in shared.sentinels.seats n)) (λ (t : SeenTx). Some (t.rank, runs t.phase)) now.jobs here.seats
-      (λ n. seated_as (seat_in seats n)) at job job' here.stands here.single tx (ap active_in doing) others tx' (ap active_in doing') number mine
+      tracked_on (λ n. seated_as (seat_in shared.sentinels.seats n)) (λ (t : TxView). Some (t.rank, runs t.phase)) now.jobs here.seats
+      (λ n. seated_as (seat_in seats n)) at job job' here.there here.single tx (ap active_in doing) others tx' (ap active_in doing') number mine
 
   -- its mark
   marked_as : (mark : Option Mark) → mark ≡ marks_of shared.sentinels.seats tx.number → now.marks tx.number ≡ mark
@@ -42,18 +43,18 @@ module _ {H : Type 0} (model : HostModel H) (s : Setting) (shared : Shared H) (n
   pub its_rank : runs tx.phase ≡ true → seated_as (seat_in shared.sentinels.seats tx.number) ≡ Some (tx.rank, true)
   its_rank running = here.seats.held at tx active ∙ ap (λ (b : Bool). Some (tx.rank, b)) running
 
-  module _ (shared' : Shared H) (job' : SeenJob)
+  module _ (shared' : Shared H) (job' : JobView)
       (others : (n : ℕ) → n ≢ tx.number → seated_as (seat_in shared'.sentinels.seats n) ≡ seated_as (seat_in shared.sentinels.seats n)) where
     -- it is revoked
     pub revoked_row : (m : Mark) → Some m ≡ marks_of shared.sentinels.seats tx.number → front_of shared' ≡ front_of shared → shared'.words ≡ shared.words
         → shared'.sentinels.claims ≡ shared.sentinels.claims → marks_of shared'.sentinels.seats ≡ marks_of shared.sentinels.seats
-        → (tx' : SeenTx) → tx' ≡ record tx { phase = Undoing (revoked m) } → job' ≡ with_tx job job.place tx'
+        → (tx' : TxView) → tx' ≡ record tx { phase = Undoing (revoked m) } → job' ≡ with_tx job job.place tx'
         → seated_as (seat_in shared'.sentinels.seats tx.number) ≡ Some (tx.rank, runs tx'.phase)
         → IsRunningRow (mover s at now job) (moved model shared' job' now at) turn.Went shared'.sentinels
     revoked_row m is host words claims marks tx' undoes behind mine =
-        let number : tx'.number ≡ tx.number = ap (λ (t : SeenTx). t.number) undoes in
-        let doing' : job'.doing ≡ Active tx' = ap (λ (j : SeenJob). j.doing) behind in
-        let rank : tx'.rank ≡ tx.rank = ap (λ (t : SeenTx). t.rank) undoes in
+        let number : tx'.number ≡ tx.number = ap (λ (t : TxView). t.number) undoes in
+        let doing' : job'.doing ≡ Active tx' = ap (λ (j : JobView). j.doing) behind in
+        let rank : tx'.rank ≡ tx.rank = ap (λ (t : TxView). t.rank) undoes in
         let job_is : job' ≡ with_tx job job.place (record tx { phase = Undoing (revoked m) }) = behind ∙ ap (with_tx job job.place) undoes in
         record {
           tx = tx;
@@ -68,21 +69,21 @@ module _ {H : Type 0} (model : HostModel H) (s : Setting) (shared : Shared H) (n
                 jobs = slice_set now.jobs at (job_is i);
                 marks = (marks ∙ sym here.marks) i;
               });
-          table = λ o. tracked_on (λ n. mode_of shared.sentinels.claims n o) (λ (t : SeenTx). mode_in t.held o) now.jobs (here.table o)
-              (λ n. mode_of shared'.sentinels.claims n o) at job job' here.stands here.single tx (ap active_in doing)
-              (λ n ne. ap (λ (t : Table). mode_of t n o) claims) tx' (ap active_in doing') number
-              (ap (λ (t : Table). mode_of t tx.number o) claims ∙ (here.table o).held at tx active
-              ∙ ap (λ (t : SeenTx). mode_in t.held o) (sym undoes));
+          table = λ o. tracked_on (λ n. held_mode shared.sentinels.claims n o) (λ (t : TxView). mode_in t.held o) now.jobs (here.table o)
+              (λ n. held_mode shared'.sentinels.claims n o) at job job' here.there here.single tx (ap active_in doing)
+              (λ n ne. ap (λ (t : Table). held_mode t n o) claims) tx' (ap active_in doing') number
+              (ap (λ (t : Table). held_mode t tx.number o) claims ∙ (here.table o).held at tx active
+              ∙ ap (λ (t : TxView). mode_in t.held o) (sym undoes));
           seats = seats_on shared'.sentinels.seats job' tx' doing' number others (mine ∙ ap (λ r. Some (r, runs tx'.phase)) (sym rank));
         }
 
   -- it does what is asked; then it is known whether it still runs
-  pub gone_row : (shared' mid : Shared H) (job' : SeenJob) (answer : Turn) → None ≡ marks_of shared.sentinels.seats tx.number
+  pub gone_row : (shared' mid : Shared H) (job' : JobView) (answer : Turn) → None ≡ marks_of shared.sentinels.seats tx.number
       → IsRow (mover s at now job) (moved model mid job' now at) answer mid.sentinels.claims
       → front_of shared' ≡ front_of mid → shared'.words ≡ mid.words → shared'.sentinels.claims ≡ mid.sentinels.claims
       → marks_of shared'.sentinels.seats ≡ marks_of mid.sentinels.seats
       → KeepsSeated shared.sentinels.seats mid.sentinels.seats → runs tx.phase ≡ true
-      → (tx' : SeenTx) → job'.doing ≡ Active tx'
+      → (tx' : TxView) → job'.doing ≡ Active tx'
       → ((n : ℕ) → n ≢ tx'.number → seated_as (seat_in shared'.sentinels.seats n) ≡ seated_as (seat_in mid.sentinels.seats n))
       → ((rank : ℕ) → seated_as (seat_in mid.sentinels.seats tx'.number) ≡ Some (rank, true)
       → seated_as (seat_in shared'.sentinels.seats tx'.number) ≡ Some (rank, runs tx'.phase))
@@ -97,15 +98,15 @@ module _ {H : Type 0} (model : HostModel H) (s : Setting) (shared : Shared H) (n
         marks = sym marks i;
       } in
       let row : RunningTurn (mover s at now job) tx answer (moved model mid job' now at) =
-      subst (λ (t : SeenTx). RunningTurn (mover s at now job) t answer (moved model mid job' now at)) (same_active r.tx tx (sym r.doing ∙ doing)) r.row in
+      subst (λ (t : TxView). RunningTurn (mover s at now job) t answer (moved model mid job' now at)) (same_active r.tx tx (sym r.doing ∙ doing)) r.row in
       let on = goes_on s at now job tx answer (moved model mid job' now at) row in
-      let here' = get_set now.jobs at job job' here.stands in
-      let also = get_set now.jobs at job on.behind here.stands in
+      let here' = get_set_same now.jobs at job job' here.there in
+      let also = get_set_same now.jobs at job on.behind here.there in
       let both = ap (λ js. slice_get js at) on.jobs in
       let one : job' ≡ on.behind = cc (here', also, both) in
-      let tx_is : on.tx' ≡ tx' = same_active on.tx' tx' (sym on.doing ∙ ap (λ (j : SeenJob). j.doing) (sym one) ∙ doing') in
-      let number : tx'.number ≡ tx.number = ap (λ (t : SeenTx). t.number) (sym tx_is) ∙ on.number in
-      let rank : tx'.rank ≡ tx.rank = ap (λ (t : SeenTx). t.rank) (sym tx_is) ∙ on.rank in
+      let tx_is : on.tx' ≡ tx' = same_active on.tx' tx' (sym on.doing ∙ ap (λ (j : JobView). j.doing) (sym one) ∙ doing') in
+      let number : tx'.number ≡ tx.number = ap (λ (t : TxView). t.number) (sym tx_is) ∙ on.number in
+      let rank : tx'.rank ≡ tx.rank = ap (λ (t : TxView). t.rank) (sym tx_is) ∙ on.rank in
       let mine : seated_as (seat_in shared'.sentinels.seats tx.number) ≡ Some (tx.rank, runs tx'.phase) =
       subst (λ n. seated_as (seat_in mid.sentinels.seats n) ≡ Some (tx.rank, true)
       → seated_as (seat_in shared'.sentinels.seats n) ≡ Some (tx.rank, runs tx'.phase)) number (own tx.rank) (kept tx.number ∙ its_rank running) in

@@ -18,24 +18,30 @@ use Rattle.xc_script.specs.declared.ask.Ask.{Ask}
 use Rattle.xc_script.specs.declared.ask.Ask.TheVariants as ask
 use Rattle.xc_text.specs.declared.script.Script.{Script}
 use Rattle.xc_text.specs.Stated.{Statement}
-use Rattle.xc_script.specs.Ask.{Walk, asks, asks_from, next_body}
-use Rattle.xc_script.specs.Position.{Position, job_of, walk_of, IsSettled}
+use Rattle.xc_script.specs.Walks.{Walk}
+use Rattle.xc_script.specs.Asking.{asks}
+use Rattle.xc_script.specs.Ask.{asks_from, next_body}
+use Rattle.xc_script.specs.Position.{Position, job_of, walk_of, IsPastSilent}
 use Rattle.xc_sentinel.specs.declared.seat.Seat.{Seat}
 use Rattle.xc_sentinel.specs.declared.sentinels.Sentinels.{Sentinels}
 use Rattle.xc_sentinel.specs.Seating.{KeepsSeats, seat_in}
 use Rattle.xc_sentinel.specs.Asking.{IsYounger}
 use Rattle.xc_txmem.specs.Overlay.{overlaid}
 use Rattle.xc_world.specs.Modes.{claims_of}
-use Rattle.xc_wordlocks.specs.Table.{Table, mode_in, mode_of}
+use Rattle.xc_wordlocks.specs.Table.{Table, mode_in, held_mode}
 use Rattle.xc_wordlocks.specs.Met as met
-use Rattle.xc_story.specs.declared.phase.Phase.TheVariants.{Committing, Undoing}
-use Rattle.xc_story.specs.Setting.{Setting}
-use Rattle.xc_story.specs.Seen.{SeenTx, SeenJob, Now, Active, active_in, waiting, with_job}
-use Rattle.xc_story.specs.Rows.{AskedTurn, HoldsWanting, IsActiveAt, IsFirstMet, IsSamePosition}
-use Rattle.xc_story.specs.Rows.{Mover, RunningTurn, StopsAt, marked, mover, wanting, with_tx}
+use Rattle.xc_model.specs.declared.phase.Phase.TheVariants.{Committing, Undoing}
+use Rattle.xc_model.specs.Setting.{Setting}
+use Rattle.xc_model.specs.Moment.{TxView, JobView, Moment, Active, active_in, waiting, with_job}
+use Rattle.xc_model.specs.RunningRows.{AskedTurn, HoldsWanting}
+use Rattle.xc_model.specs.Movers.{IsActiveAt, IsSamePosition}
+use Rattle.xc_model.specs.Rivals.{IsFirstRival}
+use Rattle.xc_model.specs.Movers.{Mover, mover, with_tx}
+use Rattle.xc_model.specs.RunningRows.{RunningTurn, marked}
+use Rattle.xc_model.specs.PlainSteps.{StopsAt, wanting}
 use Rattle.xc_station.specs.declared.calls.Shared.{Shared}
 use Rattle.xc_station.specs.declared.tx.Tx.{Tx}
-use Rattle.xc_station.specs.Jobs.{seen_tx}
+use Rattle.xc_station.specs.Jobs.{tx_view}
 use Rattle.xc_station.specs.Moments.{Front, front_of, told_by, told_front}
 use Rattle.xc_station.specs.Moments.{AreTerms, HasClaimed, HasTx, IsAt, IsRefused, IsRow, IsToldToWait, counted, marks_of, moved, runs, seated_as}
 use Rattle.xc_station.proofs.Rivals.{first_rival}
@@ -44,7 +50,7 @@ use Rattle.xc_station.proofs.Tracked.{tracked_on}
 use Rattle.xc_station.proofs.WordActs.{append_nil}
 
 -- with words and host as before, and these marks, a moment differs in one job alone
-moved_same : {H : Type 0} (model : HostModel H) (behind : Shared H) (now : Now) (at : ℕ) (job : SeenJob) → behind.words ≡ now.words
+moved_same : {H : Type 0} (model : HostModel H) (behind : Shared H) (now : Moment) (at : ℕ) (job : JobView) → behind.words ≡ now.words
     → told_by model behind ≡ now.contents → model.fault_count behind.host ≡ now.faults → model.calls behind.host ≡ now.calls
     → (marks : ℕ → Option Mark)
     → marks_of behind.sentinels.seats ≡ marks → moved model behind job now at ≡ record (with_job now at job) { marks = marks }
@@ -52,7 +58,7 @@ moved_same model behind now at job words contents faults calls marks same i =
     record (with_job now at job) { words = words i; contents = contents i; faults = faults i; calls = calls i; marks = same i }
 
 -- what is held stays
-as_before : (m : Mover) (tx : SeenTx) (a : Ask) → HoldsWanting m tx a [] tx.held
+as_before : (m : Mover) (tx : TxView) (a : Ask) → HoldsWanting m tx a [] tx.held
 as_before m tx (ask.Call call) = inl (refl, refl)
 as_before m tx ask.Commit = (refl, refl)
 as_before m tx ask.Abort = (refl, refl)
@@ -67,12 +73,12 @@ no_calls ask.End = refl
 
 -- ---- what is asked
 -- silent statements lead to what is asked
-pub asked_before : (s : Setting) (job : SeenJob) (place : Position) (tx : SeenTx) (a : Ask) → HasTx s job place tx → asks (walk_of s.script place) ≡ a
+pub asked_before : (s : Setting) (job : JobView) (place : Position) (tx : TxView) (a : Ask) → HasTx s job place tx → asks (walk_of s.script place) ≡ a
     → asks (walk_of s.script job.place) ≡ a
 asked_before s job place tx a has asked = ap asks (sym has.same.walk) ∙ asked
 
 -- so the turn is that of what is asked
-pub asked_row : (s : Setting) (at : ℕ) (now new : Now) (job : SeenJob) (place : Position) (tx : SeenTx) (a : Ask) → HasTx s job place tx
+pub asked_row : (s : Setting) (at : ℕ) (now new : Moment) (job : JobView) (place : Position) (tx : TxView) (a : Ask) → HasTx s job place tx
     → asks (walk_of s.script place) ≡ a → AskedTurn (mover s at now job) tx a new → RunningTurn (mover s at now job) tx turn.Went new
 asked_row s at now new job place tx a has asked row =
     subst (λ b. AskedTurn (mover s at now job) tx b new) (sym (asked_before s job place tx a has asked)) row
@@ -83,49 +89,50 @@ stopped n m busy patience true is never = dite (dec_le m n) (λ (le : m ≤ n). 
 stopped n m busy patience false is never = inr (ltb-false busy patience is)
 
 -- ---- rows
-module _ {H : Type 0} (model : HostModel H) (s : Setting) (shared : Shared H) (now : Now) (at : ℕ) (job : SeenJob) (place : Position) (old : Tx)
-    (here : IsAt model shared now at job) (has : HasTx s job place (seen_tx old)) where
-  active : IsActiveAt now.jobs at (seen_tx old)
-  active = (job, here.stands, ap active_in has.doing)
+module _ {H : Type 0} (model : HostModel H) (s : Setting) (shared : Shared H) (now : Moment) (at : ℕ) (job : JobView) (place : Position) (old : Tx)
+    (here : IsAt model shared now at job) (has : HasTx s job place (tx_view old)) where
+  active : IsActiveAt now.jobs at (tx_view old)
+  active = (job, here.there, ap active_in has.doing)
 
   -- a turn in which nothing is held more
-  row_same : (behind : Shared H) (job' : SeenJob) (tx : SeenTx) (answer : Turn) → behind.sentinels.claims ≡ shared.sentinels.claims → job'.doing ≡ Active tx
-      → tx.number ≡ old.number → tx.held ≡ old.held.items → RunningTurn (mover s at now job) (seen_tx old) answer (moved model behind job' now at)
+  row_same : (behind : Shared H) (job' : JobView) (tx : TxView) (answer : Turn) → behind.sentinels.claims ≡ shared.sentinels.claims → job'.doing ≡ Active tx
+      → tx.number ≡ old.number → tx.held ≡ old.held.items → RunningTurn (mover s at now job) (tx_view old) answer (moved model behind job' now at)
       → IsRow (mover s at now job) (moved model behind job' now at) answer behind.sentinels.claims
   row_same behind job' tx answer claims doing number held row =
       record {
-        tx = seen_tx old;
+        tx = tx_view old;
         doing = has.doing;
         row = row;
-        table = λ o. tracked_on (λ n. mode_of shared.sentinels.claims n o) (λ (t : SeenTx). mode_in t.held o) now.jobs (here.table o)
-            (λ n. mode_of behind.sentinels.claims n o) at job job' here.stands here.single (seen_tx old) (ap active_in has.doing)
-            (λ n ne. ap (λ (t : Table). mode_of t n o) claims) tx (ap active_in doing) number
-            (ap (λ (t : Table). mode_of t old.number o) claims ∙ (here.table o).held at (seen_tx old) active ∙ ap (λ (h : List Claim). mode_in h o) (sym held));
+        table = λ o. tracked_on (λ n. held_mode shared.sentinels.claims n o) (λ (t : TxView). mode_in t.held o) now.jobs (here.table o)
+            (λ n. held_mode behind.sentinels.claims n o) at job job' here.there here.single (tx_view old) (ap active_in has.doing)
+            (λ n ne. ap (λ (t : Table). held_mode t n o) claims) tx (ap active_in doing) number
+            (ap (λ (t : Table). held_mode t old.number o) claims ∙ (here.table o).held at (tx_view old) active
+            ∙ ap (λ (h : List Claim). mode_in h o) (sym held));
       }
 
   -- ---- a claim is met
-  met_now : (call : Call) (object : Object) (holder : ℕ) → IsFirstMet now.jobs at (claims_of call old.me.value (length shared.words)) object holder
-      → IsFirstMet now.jobs at (claims_of call old.me.value (length now.words)) object holder
+  met_now : (call : Call) (object : Object) (holder : ℕ) → IsFirstRival now.jobs at (claims_of call old.me.value (length shared.words)) object holder
+      → IsFirstRival now.jobs at (claims_of call old.me.value (length now.words)) object holder
   met_now call object holder met =
-      subst (λ n. IsFirstMet now.jobs at (claims_of call old.me.value n) object holder) (sym (ap length here.words)) met
+      subst (λ n. IsFirstRival now.jobs at (claims_of call old.me.value n) object holder) (sym (ap length here.words)) met
 
-  same_moment : (behind : Shared H) (job' : SeenJob) → front_of behind ≡ front_of shared → behind.words ≡ shared.words → (marks : ℕ → Option Mark)
+  same_moment : (behind : Shared H) (job' : JobView) → front_of behind ≡ front_of shared → behind.words ≡ shared.words → (marks : ℕ → Option Mark)
       → marks_of behind.sentinels.seats ≡ marks → moved model behind job' now at ≡ record (with_job now at job') { marks = marks }
   same_moment behind job' host words marks same = moved_same model behind now at job' (words ∙ sym here.words) (ap (told_front model) host ∙ sym here.contents)
       (ap (λ (f : Front H). model.fault_count f.host) host ∙ sym here.faults) (ap (λ (f : Front H). model.calls f.host) host ∙ sym here.calls) marks same
 
   -- the seats stay, so nobody is marked
-  unmarked_moment : (behind : Shared H) (job' : SeenJob) → front_of behind ≡ front_of shared → behind.words ≡ shared.words
+  unmarked_moment : (behind : Shared H) (job' : JobView) → front_of behind ≡ front_of shared → behind.words ≡ shared.words
       → KeepsSeats shared.sentinels.seats behind.sentinels.seats → moved model behind job' now at ≡ with_job now at job'
   unmarked_moment behind job' host words kept = same_moment behind job' host words now.marks
       (marks_kept shared.sentinels.seats behind.sentinels.seats kept ∙ sym here.marks)
 
   -- whoever has a number has its seat
-  module _ (j : ℕ) (u : SeenTx) (there : IsActiveAt now.jobs j u) where
+  module _ (j : ℕ) (u : TxView) (there : IsActiveAt now.jobs j u) where
     its_seat : seated_as (seat_in shared.sentinels.seats u.number) ≡ Some (u.rank, runs u.phase)
     its_seat = here.seats.held j u there
 
-  younger_as : (mine its : Option Seat) (t u : SeenTx) → seated_as mine ≡ Some (t.rank, runs t.phase) → seated_as its ≡ Some (u.rank, runs u.phase)
+  younger_as : (mine its : Option Seat) (t u : TxView) → seated_as mine ≡ Some (t.rank, runs t.phase) → seated_as its ≡ Some (u.rank, runs u.phase)
       → (IsYounger mine its → t.rank < u.rank) × (t.rank < u.rank → IsYounger mine its)
   younger_as None its t u a b = absurd (let bad : ⊥ = cc a in bad)
   younger_as (Some m) None t u a b = absurd (let bad : ⊥ = cc b in bad)
@@ -137,20 +144,20 @@ module _ {H : Type 0} (model : HostModel H) (s : Setting) (shared : Shared H) (n
       )
 
   -- a rival is younger exactly where its seat is
-  younger : (claims : List Claim) (object : Object) (holder : ℕ) (met : IsFirstMet now.jobs at claims object holder)
+  younger : (claims : List Claim) (object : Object) (holder : ℕ) (met : IsFirstRival now.jobs at claims object holder)
       → (IsYounger (seat_in shared.sentinels.seats old.number) (seat_in shared.sentinels.seats holder) → old.rank < met.rival.rival.rank)
       × (old.rank < met.rival.rival.rank → IsYounger (seat_in shared.sentinels.seats old.number) (seat_in shared.sentinels.seats holder))
   younger claims object holder met =
       let rival = met.rival in
-      younger_as (seat_in shared.sentinels.seats old.number) (seat_in shared.sentinels.seats holder) (seen_tx old) rival.rival
-      (its_seat at (seen_tx old) active)
+      younger_as (seat_in shared.sentinels.seats old.number) (seat_in shared.sentinels.seats holder) (tx_view old) rival.rival
+      (its_seat at (tx_view old) active)
       (ap (λ n. seated_as (seat_in shared.sentinels.seats n)) (sym rival.numbered) ∙ its_seat rival.place rival.rival rival.active)
 
   rival_now : (call : Call) (object : Object) (holder : ℕ)
       → met.IsFirstMet shared.sentinels.claims (claims_of call old.me.value (length shared.words)) old.number object holder
-      → IsFirstMet now.jobs at (claims_of call old.me.value (length now.words)) object holder
+      → IsFirstRival now.jobs at (claims_of call old.me.value (length now.words)) object holder
   rival_now call object holder first =
-      met_now call object holder (first_rival now.jobs at (seen_tx old) shared.sentinels.claims here.table here.single here.apart active
+      met_now call object holder (first_rival now.jobs at (tx_view old) shared.sentinels.claims here.table here.single here.apart active
       (claims_of call old.me.value (length shared.words)) object holder first)
 
   -- another holds something against it
@@ -158,15 +165,15 @@ module _ {H : Type 0} (model : HostModel H) (s : Setting) (shared : Shared H) (n
       → asks (walk_of s.script place) ≡ ask.Call call → AreTerms s.rules now job patient entered
       → IsRefused (record { old = shared.sentinels; new = behind.sentinels }) (record { old = old; new = new })
       (record { claims = claims_of call old.me.value (length shared.words); patient = patient; at = entered })
-      → IsRow (mover s at now job) (moved model behind (with_tx job place (seen_tx new)) now at) turn.Went behind.sentinels.claims
+      → IsRow (mover s at now job) (moved model behind (with_tx job place (tx_view new)) now at) turn.Went behind.sentinels.claims
   refused behind new call patient entered host words asked terms r =
-      let undoing = λ (n : ℕ). record (seen_tx old) { phase = Undoing (cause.Conflict r.object r.holder n) } in
-      let is : seen_tx new ≡ undoing (length now.journal) = r.undoes ∙ ap undoing (sym terms.entered) in
+      let undoing = λ (n : ℕ). record (tx_view old) { phase = Undoing (cause.Conflict r.object r.holder n) } in
+      let is : tx_view new ≡ undoing (length now.journal) = r.undoes ∙ ap undoing (sym terms.entered) in
       let met = rival_now call r.object r.holder r.conflict.met in
       let kept : KeepsSeats shared.sentinels.seats behind.sentinels.seats = λ n. ap (λ (t : Sentinels). seat_in t.seats n) r.conflict.same in
-      row_same behind (with_tx job place (seen_tx new)) (seen_tx new) turn.Went (ap (λ (t : Sentinels). t.claims) r.conflict.same) refl
-      (ap (λ (t : SeenTx). t.number) r.undoes) (ap (λ (t : SeenTx). t.held) r.undoes)
-      (asked_row s at now (moved model behind (with_tx job place (seen_tx new)) now at) job place (seen_tx old) (ask.Call call) has asked (inr (record {
+      row_same behind (with_tx job place (tx_view new)) (tx_view new) turn.Went (ap (λ (t : Sentinels). t.claims) r.conflict.same) refl
+      (ap (λ (t : TxView). t.number) r.undoes) (ap (λ (t : TxView). t.held) r.undoes)
+      (asked_row s at now (moved model behind (with_tx job place (tx_view new)) now at) job place (tx_view old) (ask.Call call) has asked (inr (record {
         object = r.object;
         holder = r.holder;
         met = met;
@@ -174,8 +181,8 @@ module _ {H : Type 0} (model : HostModel H) (s : Setting) (shared : Shared H) (n
             r.conflict.stops (terms.patience ∙ patient') ((younger _ r.object r.holder met).1 less));
         place = place;
         same = has.same;
-        behind = unmarked_moment behind (with_tx job place (seen_tx new)) host words kept
-            ∙ ap (λ (t : SeenTx). with_job now at (with_tx job place t)) is;
+        behind = unmarked_moment behind (with_tx job place (tx_view new)) host words kept
+            ∙ ap (λ (t : TxView). with_job now at (with_tx job place t)) is;
       })))
 
   -- a younger one does, and is waited for
@@ -184,7 +191,7 @@ module _ {H : Type 0} (model : HostModel H) (s : Setting) (shared : Shared H) (n
       → behind.words ≡ shared.words → asks (walk_of s.script place) ≡ ask.Call call → AreTerms s.rules now job patient entered
       → IsToldToWait (record { old = shared.sentinels; new = behind.sentinels }) (record { old = old; new = new })
       (record { claims = claims_of call old.me.value (length shared.words); patient = patient; at = entered }) object holder
-      → IsRow (mover s at now job) (moved model behind (waiting (with_tx job place (seen_tx new))) now at) (turn.Busy object holder) behind.sentinels.claims
+      → IsRow (mover s at now job) (moved model behind (waiting (with_tx job place (tx_view new))) now at) (turn.Busy object holder) behind.sentinels.claims
   told_to_wait behind new call patient entered object holder host words asked terms w =
       let met = rival_now call object holder w.busy.met in
       let rival = met.rival in
@@ -193,47 +200,47 @@ module _ {H : Type 0} (model : HostModel H) (s : Setting) (shared : Shared H) (n
       marks_marked shared.sentinels.seats behind.sentinels.seats holder (mark entered) w.busy.mark rival.rival rival.numbered
       (ap (λ n. seated_as (seat_in shared.sentinels.seats n)) (sym rival.numbered) ∙ its_seat rival.place rival.rival rival.active)
       ∙ ap (λ ms. marked ms rival.rival (mark entered)) (sym here.marks) ∙ ap (λ n. marked now.marks rival.rival (mark n)) (sym terms.entered) in
-      row_same behind (waiting (with_tx job place (seen_tx new))) (seen_tx new) (turn.Busy object holder) (ap (λ (t : Table). t) w.busy.table) refl
-      (ap (λ (t : SeenTx). t.number) w.still) (ap (λ (t : SeenTx). t.held) w.still)
+      row_same behind (waiting (with_tx job place (tx_view new))) (tx_view new) (turn.Busy object holder) (ap (λ (t : Table). t) w.busy.table) refl
+      (ap (λ (t : TxView). t.number) w.still) (ap (λ (t : TxView). t.held) w.still)
       (record {
         call = call;
-        asked = asked_before s job place (seen_tx old) (ask.Call call) has asked;
+        asked = asked_before s job place (tx_view old) (ask.Call call) has asked;
         met = met;
         younger = (younger _ object holder met).0 w.busy.younger;
         patient = ltb-true job.busy s.rules.patience (sym terms.patience ∙ w.busy.patience);
         place = place;
         same = has.same;
-        behind = same_moment behind (waiting (with_tx job place (seen_tx new))) host words (marked now.marks rival.rival (mark (length now.journal))) marks'
-            ∙ ap (λ (t : SeenTx). record (with_job now at (waiting (with_tx job place t))) { marks = marked now.marks rival.rival (mark (length now.journal)) })
+        behind = same_moment behind (waiting (with_tx job place (tx_view new))) host words (marked now.marks rival.rival (mark (length now.journal))) marks'
+            ∙ ap (λ (t : TxView). record (with_job now at (waiting (with_tx job place t))) { marks = marked now.marks rival.rival (mark (length now.journal)) })
             w.still;
       })
 
   -- ---- no claim is granted
   -- no record is left
-  without_record : record (seen_tx old) { phase = Undoing cause.NoMemory } ≡ wanting (seen_tx old) [] old.held.items
-  without_record = ap (λ us. record (seen_tx old) { phase = Undoing cause.NoMemory; undo = record old.undo { pending = us } })
+  without_record : record (tx_view old) { phase = Undoing cause.NoMemory } ≡ wanting (tx_view old) [] old.held.items
+  without_record = ap (λ us. record (tx_view old) { phase = Undoing cause.NoMemory; undo = record old.undo { pending = us } })
       (sym (append_nil old.undo.pending))
 
-  -- memory is wanting before the claims
+  -- memory runs out before the claims
   pub wants : (behind : Shared H) (new : Tx) (answer : Turn) → front_of behind ≡ front_of shared → behind.words ≡ shared.words
       → behind.sentinels ≡ shared.sentinels
-      → seen_tx new ≡ record (seen_tx old) { phase = Undoing cause.NoMemory } → answer ≡ turn.NoMemory
-      → IsRow (mover s at now job) (moved model behind (counted answer (with_tx job place (seen_tx new))) now at) answer behind.sentinels.claims
+      → tx_view new ≡ record (tx_view old) { phase = Undoing cause.NoMemory } → answer ≡ turn.NoMemory
+      → IsRow (mover s at now job) (moved model behind (counted answer (with_tx job place (tx_view new))) now at) answer behind.sentinels.claims
   wants behind new answer host words same is gives =
       let kept : KeepsSeats shared.sentinels.seats behind.sentinels.seats = λ n. ap (λ (t : Sentinels). seat_in t.seats n) same in
-      subst (λ a. IsRow (mover s at now job) (moved model behind (counted a (with_tx job place (seen_tx new))) now at) a behind.sentinels.claims) (sym gives)
-      (row_same behind (with_tx job place (seen_tx new)) (seen_tx new) turn.NoMemory (ap (λ (t : Sentinels). t.claims) same) refl
-      (ap (λ (t : SeenTx). t.number) is) (ap (λ (t : SeenTx). t.held) is)
+      subst (λ a. IsRow (mover s at now job) (moved model behind (counted a (with_tx job place (tx_view new))) now at) a behind.sentinels.claims) (sym gives)
+      (row_same behind (with_tx job place (tx_view new)) (tx_view new) turn.NoMemory (ap (λ (t : Sentinels). t.claims) same) refl
+      (ap (λ (t : TxView). t.number) is) (ap (λ (t : TxView). t.held) is)
       (record {
         place = place;
         same = has.same;
         left = [];
         one = omega arith;
         held = old.held.items;
-        holds = as_before (mover s at now job) (seen_tx old) (asks (walk_of s.script job.place));
-        behind = unmarked_moment behind (with_tx job place (seen_tx new)) host words kept
-            ∙ ap (λ (t : SeenTx). with_job now at (with_tx job place t)) (is ∙ without_record)
-            ∙ (λ i. record (with_job now at (with_tx job place (wanting (seen_tx old) [] old.held.items))) {
+        holds = as_before (mover s at now job) (tx_view old) (asks (walk_of s.script job.place));
+        behind = unmarked_moment behind (with_tx job place (tx_view new)) host words kept
+            ∙ ap (λ (t : TxView). with_job now at (with_tx job place t)) (is ∙ without_record)
+            ∙ (λ i. record (with_job now at (with_tx job place (wanting (tx_view old) [] old.held.items))) {
               contents = (here.contents ∙ sym (ap (told_front model) host)) i;
               calls = (here.calls ∙ sym (ap (λ (f : Front H). model.calls f.host) host)) i;
             });
@@ -249,12 +256,12 @@ module _ {H : Type 0} (model : HostModel H) (s : Setting) (shared : Shared H) (n
   -- its stores are written
   pub commits : (behind : Shared H) (new : Tx) → front_of behind ≡ front_of shared → behind.words ≡ overlaid shared.words old.writes
       → behind.sentinels ≡ shared.sentinels
-      → seen_tx new ≡ record (seen_tx old) { phase = Committing } → asks (walk_of s.script place) ≡ ask.Commit → IsSettled s.script place
-      → IsRow (mover s at now job) (moved model behind (with_tx job place (seen_tx new)) now at) turn.Went behind.sentinels.claims
+      → tx_view new ≡ record (tx_view old) { phase = Committing } → asks (walk_of s.script place) ≡ ask.Commit → IsPastSilent s.script place
+      → IsRow (mover s at now job) (moved model behind (with_tx job place (tx_view new)) now at) turn.Went behind.sentinels.claims
   commits behind new host words same is asked settled =
-      row_same behind (with_tx job place (seen_tx new)) (seen_tx new) turn.Went (ap (λ (t : Sentinels). t.claims) same) refl
-      (ap (λ (t : SeenTx). t.number) is) (ap (λ (t : SeenTx). t.held) is)
-      (asked_row s at now (moved model behind (with_tx job place (seen_tx new)) now at) job place (seen_tx old) ask.Commit has asked (record {
+      row_same behind (with_tx job place (tx_view new)) (tx_view new) turn.Went (ap (λ (t : Sentinels). t.claims) same) refl
+      (ap (λ (t : TxView). t.number) is) (ap (λ (t : TxView). t.held) is)
+      (asked_row s at now (moved model behind (with_tx job place (tx_view new)) now at) job place (tx_view old) ask.Commit has asked (record {
         place = place;
         same = has.same;
         settled = settled;
@@ -270,16 +277,16 @@ module _ {H : Type 0} (model : HostModel H) (s : Setting) (shared : Shared H) (n
 
   -- the script asks its abort
   pub turns_back : (behind : Shared H) (new : Tx) → front_of behind ≡ front_of shared → behind.words ≡ shared.words → behind.sentinels ≡ shared.sentinels
-      → seen_tx new ≡ record (seen_tx old) { phase = Undoing cause.Asked } → asks (walk_of s.script place) ≡ ask.Abort
-      → IsRow (mover s at now job) (moved model behind (with_tx job place (seen_tx new)) now at) turn.Went behind.sentinels.claims
+      → tx_view new ≡ record (tx_view old) { phase = Undoing cause.Asked } → asks (walk_of s.script place) ≡ ask.Abort
+      → IsRow (mover s at now job) (moved model behind (with_tx job place (tx_view new)) now at) turn.Went behind.sentinels.claims
   turns_back behind new host words same is asked =
-      row_same behind (with_tx job place (seen_tx new)) (seen_tx new) turn.Went (ap (λ (t : Sentinels). t.claims) same) refl
-      (ap (λ (t : SeenTx). t.number) is) (ap (λ (t : SeenTx). t.held) is)
-      (asked_row s at now (moved model behind (with_tx job place (seen_tx new)) now at) job place (seen_tx old) ask.Abort has asked (record {
+      row_same behind (with_tx job place (tx_view new)) (tx_view new) turn.Went (ap (λ (t : Sentinels). t.claims) same) refl
+      (ap (λ (t : TxView). t.number) is) (ap (λ (t : TxView). t.held) is)
+      (asked_row s at now (moved model behind (with_tx job place (tx_view new)) now at) job place (tx_view old) ask.Abort has asked (record {
         place = place;
         same = has.same;
-        behind = unmarked_moment behind (with_tx job place (seen_tx new)) host words (λ n. ap (λ (t : Sentinels). seat_in t.seats n) same)
-            ∙ ap (λ (t : SeenTx). with_job now at (with_tx job place t)) is;
+        behind = unmarked_moment behind (with_tx job place (tx_view new)) host words (λ n. ap (λ (t : Sentinels). seat_in t.seats n) same)
+            ∙ ap (λ (t : TxView). with_job now at (with_tx job place t)) is;
       }))
 
   -- the claims failed
@@ -287,7 +294,7 @@ module _ {H : Type 0} (model : HostModel H) (s : Setting) (shared : Shared H) (n
       → behind.words ≡ shared.words → asks (walk_of s.script place) ≡ ask.Call call → AreTerms s.rules now job patient entered
       → HasClaimed (record { old = shared.sentinels; new = behind.sentinels }) (record { old = old; new = new })
       (record { claims = claims_of call old.me.value (length shared.words); patient = patient; at = entered }) (Err answer)
-      → IsRow (mover s at now job) (moved model behind (counted answer (with_tx job place (seen_tx new))) now at) answer behind.sentinels.claims
+      → IsRow (mover s at now job) (moved model behind (counted answer (with_tx job place (tx_view new))) now at) answer behind.sentinels.claims
   unclaimed behind new call patient entered turn.Went host words asked terms r = refused behind new call patient entered host words asked terms r
   unclaimed behind new call patient entered (turn.Busy object holder) host words asked terms w =
       told_to_wait behind new call patient entered object holder host words asked terms w
@@ -296,7 +303,7 @@ module _ {H : Type 0} (model : HostModel H) (s : Setting) (shared : Shared H) (n
 
 -- ---- what is asked
 -- a transaction at a place that silent statements lead to
-pub has_tx : (s : Setting) (job : SeenJob) (was place : Position) (tx : SeenTx) → job.doing ≡ Active tx → job.place ≡ was → IsSamePosition s was place
+pub has_tx : (s : Setting) (job : JobView) (was place : Position) (tx : TxView) → job.doing ≡ Active tx → job.place ≡ was → IsSamePosition s was place
     → HasTx s job place tx
 has_tx s job was place tx doing stands same = record { doing = doing; same = subst (λ p. IsSamePosition s p place) (sym stands) same }
 

@@ -14,22 +14,25 @@ use Rattle.xc_data.specs.declared.entry.Event.{Event}
 use Rattle.xc_data.specs.declared.entry.Turn.{Turn}
 use Rattle.xc_data.specs.declared.undo.Undo.{Undo}
 use Rattle.xc_host.specs.Model.{HostModel}
-use Rattle.xc_story.specs.declared.phase.Phase.{Phase}
-use Rattle.xc_story.specs.declared.phase.Phase.TheVariants.{Running, Committing, Undoing}
-use Rattle.xc_story.specs.Alone.{AreAlone}
+use Rattle.xc_model.specs.declared.phase.Phase.{Phase}
+use Rattle.xc_model.specs.declared.phase.Phase.TheVariants.{Running, Committing, Undoing}
+use Rattle.xc_model.specs.Alone.{AreAlone}
 use Rattle.xc_data.specs.declared.call.LateCall.{LateCall}
-use Rattle.xc_story.specs.Seen.{SeenTx, SeenJob, Doing, Active, Now, active_in, late_left}
-use Rattle.xc_story.specs.Rows.{IsTurn, IsActiveAt}
+use Rattle.xc_model.specs.Moment.{TxView, JobView, Doing, Active, Moment, active_in, late_left}
+use Rattle.xc_model.specs.Rows.{IsTurn}
+use Rattle.xc_model.specs.Movers.{IsActiveAt}
 use Rattle.xc_turns.proofs.Lists.{get_inside}
 use Rattle.xc_turns.proofs.Orders.{alone_turned, alone_later}
 use Rattle.xc_station.specs.declared.job.Job.{Job}
-use Rattle.xc_station.specs.Jobs.{back_stage, goes_on, is_live, late_stage, phase_stage, seen_job, seen_jobs, stage_of}
-use Rattle.xc_station.specs.Stations.{ChangesOne, GoesOn, IsEvent, IsFrontOf, IsNextOf, IsStepOf, IsTried, KeepsEvents, KeepsOpening, KeepsOrigin}
-use Rattle.xc_station.proofs.Placed.{get_other}
-use Rattle.xc_station.specs.Stations.{Seen, TakeTurns, WorksOn, live_at, lives, noted, now_of, numbers, setting_of, turns_of}
+use Rattle.xc_station.specs.Jobs.{back_stage, goes_on, is_live, late_stage, phase_stage, job_view, job_views, stage_of}
+use Rattle.xc_station.specs.Stations.{ChangesOne, GoesOn, IsFrontOf, IsNextOf, IsStepOf, KeepsEvents, KeepsOpening, KeepsOrigin}
+use Rattle.xc_station.specs.Events.{IsEvent, IsTried}
+use Rattle.xc_data.proofs.Lists.{get_set_other}
+use Rattle.xc_station.specs.Stations.{StationView, TakeTurns, WorksOn, live_at, lives, now_of, numbers, setting_of, turns_of}
+use Rattle.xc_station.specs.Events.{noted}
 
--- one run behind another
-pub goes_further : {H : Type 0} (a b c : Seen H) → GoesOn a b → GoesOn b c → GoesOn a c
+-- one run after another
+pub goes_further : {H : Type 0} (a b c : StationView H) → GoesOn a b → GoesOn b c → GoesOn a c
 goes_further a b c h k =
     record {
       origin = record { opening = k.origin.opening ∙ h.origin.opening; rules = k.origin.rules ∙ h.origin.rules };
@@ -40,8 +43,8 @@ goes_further a b c h k =
       count = let first = h.count in let more = k.count in omega (arith, first, more);
     }
 
--- one run of turns of a job behind another
-pub works_further : {H : Type 0} (model : HostModel H) (job : ℕ) (a b c : Seen H) → length a.jobs ≤ length b.jobs → WorksOn model job a b
+-- one run of turns of a job after another
+pub works_further : {H : Type 0} (model : HostModel H) (job : ℕ) (a b c : StationView H) → length a.jobs ≤ length b.jobs → WorksOn model job a b
     → WorksOn model job b c → WorksOn model job a c
 works_further model job a b c rises h k =
     record {
@@ -50,8 +53,8 @@ works_further model job a b c rises h k =
       alone = λ alone. k.alone (h.alone alone);
     }
 
--- one event behind what it tells of
-pub event_noted : {H : Type 0} (a b c : Seen H) (e : Event) → GoesOn a b → KeepsEvents a b → length b.journal ≤ 10000 → c ≡ noted b e → IsEvent a c e
+-- one event after what it tells of
+pub event_noted : {H : Type 0} (a b c : StationView H) (e : Event) → GoesOn a b → KeepsEvents a b → length b.journal ≤ 10000 → c ≡ noted b e → IsEvent a c e
 event_noted a b c e goes quiet few is =
     subst (λ s. IsEvent a s e) (sym is)
     (record {
@@ -63,36 +66,36 @@ event_noted a b c e goes quiet few is =
     })
 
 -- ---- a turn
-seen_live : Option SeenJob → Bool
+seen_live : Option JobView → Bool
 seen_live None = false
 seen_live (Some job) = is_live job
 
-live_seen : (o : Option Job) → lives o ≡ seen_live (option_map seen_job o)
+live_seen : (o : Option Job) → lives o ≡ seen_live (option_map job_view o)
 unfolding seen_live
 live_seen None = refl
 live_seen (Some job) = refl
 
 -- whether a job lives is seen
-lives_as : (jobs : List Job) (at : ℕ) → lives (slice_get jobs at) ≡ seen_live (slice_get (seen_jobs jobs) at)
-lives_as jobs at = live_seen (slice_get jobs at) ∙ ap seen_live (sym (slice_get-map seen_job jobs at))
+lives_as : (jobs : List Job) (at : ℕ) → lives (slice_get jobs at) ≡ seen_live (slice_get (job_views jobs) at)
+lives_as jobs at = live_seen (slice_get jobs at) ∙ ap seen_live (sym (slice_get-map job_view jobs at))
 
 -- a live job has a number
 pub numbered : (jobs : List Job) (job : ℕ) → live_at jobs job ≡ true → 1 ≤ job
 numbered jobs zero live = cc
 numbered jobs (suc n) live = omega arith
 
-others_live : (old new : List Job) (at : ℕ) (behind : SeenJob) (more : List SeenJob) → seen_jobs new ≡ slice_set (seen_jobs old) at behind ++ more
+others_live : (old new : List Job) (at : ℕ) (behind : JobView) (more : List JobView) → job_views new ≡ slice_set (job_views old) at behind ++ more
     → (other : ℕ) → other ≢ at → other < length old → lives (slice_get new other) ≡ lives (slice_get old other)
 others_live old new at behind more jobs other away low =
-    let count = length-set (seen_jobs old) at behind in let as_many = length-map old seen_job in
+    let count = length-set (job_views old) at behind in let as_many = length-map old job_view in
     lives_as new other ∙ ap (λ js. seen_live (slice_get js other)) jobs
-    ∙ ap seen_live (get_inside (slice_set (seen_jobs old) at behind) more other (omega (arith, low, count, as_many))
-    ∙ get_other (seen_jobs old) at other behind away)
+    ∙ ap seen_live (get_inside (slice_set (job_views old) at behind) more other (omega (arith, low, count, as_many))
+    ∙ get_set_other (job_views old) at other behind away)
     ∙ sym (lives_as old other)
 
 -- a turn of one job leaves whether another lives that was there
-pub other_lives : (old new : List Job) (job : ℕ) (behind : SeenJob) (more : List SeenJob) → 1 ≤ job
-    → seen_jobs new ≡ slice_set (seen_jobs old) (job - 1) behind ++ more → (other : ℕ) → other ≢ job → other ≤ length old
+pub other_lives : (old new : List Job) (job : ℕ) (behind : JobView) (more : List JobView) → 1 ≤ job
+    → job_views new ≡ slice_set (job_views old) (job - 1) behind ++ more → (other : ℕ) → other ≢ job → other ≤ length old
     → live_at new other ≡ live_at old other
 other_lives old new job behind more positive jobs other away low =
     dite (ℕ_discrete other 0)
@@ -100,7 +103,7 @@ other_lives old new job behind more positive jobs other away low =
     (λ some. ap (λ (b : Bool). if other == 0 then false else b)
     (others_live old new (job - 1) behind more jobs (other - 1) (λ same. away (omega arith)) (omega (arith, low, some))))
 
-module _ {H : Type 0} (model : HostModel H) (job : ℕ) (old new : Seen H) (answer : Turn) (kept : KeepsOpening old new)
+module _ {H : Type 0} (model : HostModel H) (job : ℕ) (old new : StationView H) (answer : Turn) (kept : KeepsOpening old new)
     (row : IsTurn (setting_of model old) (job - 1) (now_of model old) answer (now_of model new))
     (left : ChangesOne (job - 1) (now_of model old) (now_of model new)) where
   pub turn_goes : GoesOn old new
@@ -109,9 +112,9 @@ module _ {H : Type 0} (model : HostModel H) (job : ℕ) (old new : Seen H) (answ
         origin = record { opening = kept.opening; rules = kept.rules };
         front = left.front;
         count =
-            let behind = ap length left.jobs ∙ length-append (slice_set (seen_jobs old.jobs) (job - 1) left.behind) left.started in
-            let set = length-set (seen_jobs old.jobs) (job - 1) left.behind in
-            let news = length-map new.jobs seen_job in let olds = length-map old.jobs seen_job in
+            let behind = ap length left.jobs ∙ length-append (slice_set (job_views old.jobs) (job - 1) left.behind) left.started in
+            let set = length-set (job_views old.jobs) (job - 1) left.behind in
+            let news = length-map new.jobs job_view in let olds = length-map old.jobs job_view in
             omega (arith, behind, set, news, olds);
       }
 
@@ -123,7 +126,7 @@ module _ {H : Type 0} (model : HostModel H) (job : ℕ) (old new : Seen H) (answ
         alone = alone_turned _ _ _ _ _ row;
       }
 
--- ---- one job behind another
+-- ---- one job after another
 late_goes : (late : List LateCall) → goes_on (late_stage late) ≡ true
 late_goes [] = refl
 late_goes (c ∷ late) = refl
@@ -132,12 +135,12 @@ back_goes : (pending : List Undo) → goes_on (back_stage pending) ≡ true
 back_goes [] = refl
 back_goes (u ∷ pending) = refl
 
-phase_goes : (tx : SeenTx) (phase : Phase) → goes_on (phase_stage tx phase) ≡ true
+phase_goes : (tx : TxView) (phase : Phase) → goes_on (phase_stage tx phase) ≡ true
 phase_goes tx Running = refl
 phase_goes tx Committing = late_goes (late_left tx)
 phase_goes tx (Undoing c) = back_goes tx.undo.pending
 
-active_goes : (d : Doing) (tx : SeenTx) → active_in d ≡ Some tx → goes_on (stage_of d) ≡ true
+active_goes : (d : Doing) (tx : TxView) → active_in d ≡ Some tx → goes_on (stage_of d) ≡ true
 active_goes (Active t) tx active = phase_goes t t.phase
 active_goes _ tx active = cc
 
@@ -149,11 +152,11 @@ by_place jobs at =
     λ i. if some i then false else lives (slice_get jobs (same i))
 
 -- a job that has ended has no active transaction
-ended_rests : (jobs : List Job) (at : ℕ) → live_at jobs (at + 1) ≡ false → (tx : SeenTx) → IsActiveAt (seen_jobs jobs) at tx → ⊥
+ended_rests : (jobs : List Job) (at : ℕ) → live_at jobs (at + 1) ≡ false → (tx : TxView) → IsActiveAt (job_views jobs) at tx → ⊥
 unfolding seen_live
 ended_rests jobs at ended tx (job, stands, active) =
-    let live : seen_live (slice_get (seen_jobs jobs) at) ≡ true = ap seen_live stands ∙ active_goes job.doing tx active in
-    let not : seen_live (slice_get (seen_jobs jobs) at) ≡ false = sym (lives_as jobs at) ∙ sym (by_place jobs at) ∙ ended in
+    let live : seen_live (slice_get (job_views jobs) at) ≡ true = ap seen_live stands ∙ active_goes job.doing tx active in
+    let not : seen_live (slice_get (job_views jobs) at) ≡ false = sym (lives_as jobs at) ∙ sym (by_place jobs at) ∙ ended in
     let no : true ≡ false = sym live ∙ not in cc
 
 none_there : (b : Bool) → (if b then false else lives None) ≡ false
@@ -173,7 +176,7 @@ live_within jobs number live =
     (λ high. let both : true ≡ false = sym live ∙ none_past jobs number (omega (arith, high)) in cc both)
 
 -- a worker takes the next job, and takes it to its end
-module _ {H : Type 0} (model : HostModel H) (job : ℕ) (old taking new : Seen H) (is : taking.jobs ≡ old.jobs) (at : taking.taken ≡ job)
+module _ {H : Type 0} (model : HostModel H) (job : ℕ) (old taking new : StationView H) (is : taking.jobs ≡ old.jobs) (at : taking.taken ≡ job)
     (now : now_of model taking ≡ now_of model old) (next : IsNextOf old.jobs old.taken job)
     (works : WorksOn model job taking new) where
   pub next_goes : taking.opening ≡ old.opening → taking.rules ≡ old.rules → GoesOn taking new → GoesOn old new
@@ -181,7 +184,7 @@ module _ {H : Type 0} (model : HostModel H) (job : ℕ) (old taking new : Seen H
       goes_further old taking new
       (record {
         origin = record { opening = opening; rules = rules };
-        front = ([], ap (λ (n : Now). n.journal) now ∙ sym (append-nil old.journal));
+        front = ([], ap (λ (n : Moment). n.journal) now ∙ sym (append-nil old.journal));
         count = let same = ap length is in omega (arith, same);
       }) goes
 
@@ -214,7 +217,7 @@ module _ {H : Type 0} (model : HostModel H) (job : ℕ) (old taking new : Seen H
       (λ same. subst (AreAlone (now_of model old)) same alone)
       (λ away. alone_later (now_of model old) (old.taken - 1) (job - 1) alone
       (ended_rests old.jobs (old.taken - 1) (before 0 ended (old.taken - 1 + 1) (omega arith) (omega (arith, above, away)))) (omega (arith, above))) in
-      subst (λ n. AreAlone (now_of model new) (n - 1)) (sym last) (works.alone (subst (λ (n : Now). AreAlone n (job - 1)) (sym now) later))
+      subst (λ n. AreAlone (now_of model new) (n - 1)) (sym last) (works.alone (subst (λ (n : Moment). AreAlone n (job - 1)) (sym now) later))
 
 -- where the last was taken none above lives
 pub none_above : (jobs : List Job) (from taken : ℕ) → ((other : ℕ) → from < other → other ≤ taken → live_at jobs other ≡ false)
@@ -226,7 +229,7 @@ pub nobody_left : (jobs : List Job) → ((other : ℕ) → 0 < other → live_at
 nobody_left jobs ended number = dite (ℕ_discrete number 0) (λ none. ap (live_at jobs) none) (λ some. ended number (omega (arith, some)))
 
 -- ---- a list of turns
-taken_at : {H : Type 0} (model : HostModel H) (jobs : List ℕ) (k : ℕ) (now next end : Seen H) → k < length jobs
+taken_at : {H : Type 0} (model : HostModel H) (jobs : List ℕ) (k : ℕ) (now next end : StationView H) → k < length jobs
     → IsStepOf model (slice_index jobs k) (record { old = now; new = next }) (live_at now.jobs (slice_index jobs k))
     → TakeTurns model (drop (suc k) jobs) next end
     → TakeTurns model (drop k jobs) now end
@@ -235,7 +238,7 @@ taken_at model (job ∷ jobs) zero now next end low step rest = (next, step, res
 taken_at model (job ∷ jobs) (suc k) now next end low step rest = taken_at model jobs k now next end (omega arith) step rest
 
 -- one turn more of those that are left is taken
-pub taken_next : {H : Type 0} (model : HostModel H) (jobs : List ℕ) (k after : ℕ) (now next end : Seen H) → after ≡ suc k → k < length jobs
+pub taken_next : {H : Type 0} (model : HostModel H) (jobs : List ℕ) (k after : ℕ) (now next end : StationView H) → after ≡ suc k → k < length jobs
     → IsStepOf model (slice_index jobs k) (record { old = now; new = next }) (live_at now.jobs (slice_index jobs k))
     → TakeTurns model (drop after jobs) next end
     → TakeTurns model (drop k jobs) now end
@@ -243,19 +246,19 @@ taken_next model jobs k after now next end one low step rest =
     taken_at model jobs k now next end low step (subst (λ n. TakeTurns model (drop n jobs) next end) one rest)
 
 -- a turn that was tried is a step of its job
-pub tried_steps : {H : Type 0} (model : HostModel H) (job : ℕ) (old new : Seen H) (live : Bool) (answer : Option Turn)
+pub tried_steps : {H : Type 0} (model : HostModel H) (job : ℕ) (old new : StationView H) (live : Bool) (answer : Option Turn)
     → IsTried model job (record { old = old; new = new }) live answer → IsStepOf model job (record { old = old; new = new }) live
 tried_steps model job old new true (Some answer) tried = (answer, tried)
 tried_steps model job old new true None row = absurd row
 tried_steps model job old new false (Some answer) row = absurd row
 tried_steps model job old new false None same = subst (λ s. s ≡ record old { events = s.events; last = s.last }) (sym same) refl
 
--- an event behind others: the origin stays, and the journal goes on
-pub origin_further : {H : Type 0} (old mid new : Seen H) (e : Event) → KeepsOrigin old mid → IsEvent mid new e → KeepsOrigin old new
+-- an event after others: the origin stays, and the journal goes on
+pub origin_further : {H : Type 0} (old mid new : StationView H) (e : Event) → KeepsOrigin old mid → IsEvent mid new e → KeepsOrigin old new
 origin_further old mid new e was is = record { opening = is.origin.opening ∙ was.opening; rules = is.origin.rules ∙ was.rules }
 
 -- the journal of one event more has the old one in front
-pub front_further : {H : Type 0} (old mid new : Seen H) (e : Event) → IsFrontOf old.journal mid.journal → IsEvent mid new e
+pub front_further : {H : Type 0} (old mid new : StationView H) (e : Event) → IsFrontOf old.journal mid.journal → IsEvent mid new e
     → IsFrontOf old.journal new.journal
 front_further old mid new e was is =
     (was.0 ++ is.front.0, is.front.1 ∙ ap (λ es. es ++ is.front.0) was.1 ∙ append_assoc old.journal was.0 is.front.0)
@@ -265,15 +268,15 @@ pub counts_further : (old mid new k : ℕ) → mid % 2 ^ 64 ≡ (old + k) % 2 ^ 
 counts_further old mid new k was is = omega arith
 
 -- ---- rounds
--- one turn more behind a list of them
-pub taken_more : {H : Type 0} (model : HostModel H) (jobs : List ℕ) (job : ℕ) (old mid new : Seen H) → TakeTurns model jobs old mid
+-- one turn more after a list of them
+pub taken_more : {H : Type 0} (model : HostModel H) (jobs : List ℕ) (job : ℕ) (old mid new : StationView H) → TakeTurns model jobs old mid
     → IsStepOf model job (record { old = mid; new = new }) (live_at mid.jobs job) → TakeTurns model (jobs ++ job ∷ []) old new
 taken_more {H = H} model [] job old mid new same step =
-    (new, subst (λ (s : Seen H). IsStepOf model job (record { old = s; new = new }) (live_at s.jobs job)) same step, refl)
+    (new, subst (λ (s : StationView H). IsStepOf model job (record { old = s; new = new }) (live_at s.jobs job)) same step, refl)
 taken_more model (j ∷ jobs) job old mid new (next, first, rest) step = (next, first, taken_more model jobs job next mid new rest step)
 
 -- those that don't live are passed over
-pub passed_over : {H : Type 0} (model : HostModel H) (at more : ℕ) (old mid : Seen H) → TakeTurns model (numbers at) old mid
+pub passed_over : {H : Type 0} (model : HostModel H) (at more : ℕ) (old mid : StationView H) → TakeTurns model (numbers at) old mid
     → ((number : ℕ) → at < number → number ≤ at + more → live_at mid.jobs number ≡ false) → TakeTurns model (numbers (at + more)) old mid
 passed_over model at zero old mid turns ended = subst (λ n. TakeTurns model (numbers n) old mid) (let e : at ≡ at + zero = omega arith in e) turns
 passed_over model at (suc more) old mid turns ended =
@@ -285,7 +288,7 @@ passed_over model at (suc more) old mid turns ended =
     (subst (IsStepOf model (suc (at + more)) (record { old = mid; new = mid })) (sym last) refl))
 
 -- and the next live one takes its turn
-pub next_turned : {H : Type 0} (model : HostModel H) (at job : ℕ) (old mid new : Seen H) → IsNextOf mid.jobs at job
+pub next_turned : {H : Type 0} (model : HostModel H) (at job : ℕ) (old mid new : StationView H) → IsNextOf mid.jobs at job
     → TakeTurns model (numbers at) old mid → IsStepOf model job (record { old = mid; new = new }) (live_at mid.jobs job) → TakeTurns model (numbers job) old new
 next_turned model at job old mid new next turns step =
     let above = next.above in
@@ -296,14 +299,14 @@ next_turned model at job old mid new next turns step =
     (subst (λ n. TakeTurns model (numbers (at + between) ++ n ∷ []) old new) (sym last) (taken_more model (numbers (at + between)) job old mid new before step))
 
 -- so a round ends where none lives any more
-pub round_over : {H : Type 0} (model : HostModel H) (at : ℕ) (old new : Seen H) → at ≤ length new.jobs → TakeTurns model (numbers at) old new
+pub round_over : {H : Type 0} (model : HostModel H) (at : ℕ) (old new : StationView H) → at ≤ length new.jobs → TakeTurns model (numbers at) old new
     → ((number : ℕ) → at < number → live_at new.jobs number ≡ false) → TakeTurns model (numbers (length new.jobs)) old new
 round_over model at old new low turns ended =
     subst (λ n. TakeTurns model (numbers n) old new) (let e : at + (length new.jobs - at) ≡ length new.jobs = omega (arith, low) in e)
     (passed_over model at (length new.jobs - at) old new turns (λ number more most. ended number more))
 
--- a turn behind others leaves fewer
-pub falls_further : {H : Type 0} (model : HostModel H) (at : ℕ) (old mid new : Seen H) → (0 < at → turns_of model mid < turns_of model old)
+-- a turn after others leaves fewer
+pub falls_further : {H : Type 0} (model : HostModel H) (at : ℕ) (old mid new : StationView H) → (0 < at → turns_of model mid < turns_of model old)
     → (at ≡ 0 → mid ≡ old) → turns_of model new < turns_of model mid → turns_of model new < turns_of model old
 falls_further model zero old mid new falls same fell = subst (λ s. turns_of model new < turns_of model s) (same refl) fell
 falls_further model (suc at) old mid new falls same fell = let before = falls (omega arith) in omega (arith, fell, before)

@@ -1,4 +1,4 @@
--- Seats and marks behind a turn.
+-- Seats and marks after a turn.
 use Rattle.std.proofs.Common.{◌≡◌, ◌≢◌, ℕ, Bool, true, false, Some, None, refl, ap, sym, ◌∙◌}
 use Rattle.std.specs.Prelude.{nat_eq, Option, if◌then◌else◌}
 use borrow.Author.Tests.{eq-eqb, ne_eqb}
@@ -8,13 +8,13 @@ use Rattle.xc_data.specs.declared.entry.Mark.{Mark}
 use Rattle.xc_sentinel.specs.declared.seat.Seat.{Seat}
 use Rattle.xc_sentinel.specs.Seated.{Seats}
 use Rattle.xc_sentinel.specs.Seating.{KeepsSeats, SetsSeat, seat_in}
-use Rattle.xc_sentinel.specs.Asking.{changed, mark_of, marked_seat, settled}
+use Rattle.xc_sentinel.specs.Asking.{changed, mark_of, marked_seat}
 use Rattle.xc_sentinel.specs.Asking as asking
-use Rattle.xc_story.specs.declared.phase.Phase.{Phase}
-use Rattle.xc_story.specs.declared.phase.Phase.TheVariants.{Running, Committing, Undoing}
-use Rattle.xc_story.specs.Seen.{SeenTx, unmarked}
-use Rattle.xc_story.specs.Rows.{mark_behind, marked}
-use Rattle.xc_station.specs.Moments.{KeepsSeated, marks_of, runs, seated_as}
+use Rattle.xc_model.specs.declared.phase.Phase.{Phase}
+use Rattle.xc_model.specs.declared.phase.Phase.TheVariants.{Running, Committing, Undoing}
+use Rattle.xc_model.specs.Moment.{TxView, unmarked}
+use Rattle.xc_model.specs.RunningRows.{mark_behind, marked}
+use Rattle.xc_station.specs.Moments.{marks_of, runs, seated_as}
 
 -- ---- one seat changes
 module _ (old new : Seats) (number : ℕ) (seat : Option Seat) (sets : SetsSeat old new number seat) where
@@ -41,44 +41,7 @@ module _ (old new : Seats) (number : ℕ) (seat : Option Seat) (sets : SetsSeat 
 pub marks_kept : (old new : Seats) → KeepsSeats old new → marks_of new ≡ marks_of old
 marks_kept old new kept = λ i n. mark_of (kept n i)
 
--- seats that are the same say the same rank and whether one runs
-pub seated_kept : (old new : Seats) → KeepsSeats old new → KeepsSeated old new
-seated_kept old new kept n = ap seated_as (kept n)
-
--- ---- a transaction that no longer runs
-mark_settled : (o : Option Seat) → mark_of (changed settled o) ≡ mark_of o
-mark_settled None = refl
-mark_settled (Some seat) = refl
-
--- its mark stays
-pub marks_settled : (old new : Seats) (number : ℕ) → SetsSeat old new number (changed settled (seat_in old number)) → marks_of new ≡ marks_of old
-marks_settled old new number sets = λ i n. at_number n i
-  where
-    at_number : (n : ℕ) → marks_of new n ≡ marks_of old n
-    at_number n = dite (ℕ_discrete n number)
-        (λ (here : n ≡ number). ap (marks_of new) here ∙ ap mark_of (seat_there old new number (changed settled (seat_in old number)) sets)
-        ∙ mark_settled (seat_in old number) ∙ ap (marks_of old) (sym here))
-        (λ (ne : n ≢ number). ap mark_of (seat_elsewhere old new number (changed settled (seat_in old number)) sets n ne))
-
--- and it is seated as one that doesn't run
-pub settled_as : (o : Option Seat) (rank : ℕ) (running : Bool) → seated_as o ≡ Some (rank, running) → seated_as (changed settled o) ≡ Some (rank, false)
-settled_as None rank running is = absurd (let bad : ⊥ = cc is in bad)
-settled_as (Some seat) rank running is =
-    let both : ◌≡◌ {A = ℕ × Bool} (seat.rank, seat.running) (rank, running) = cc is in ap (λ (p : ℕ × Bool). Some (p.0, false)) both
-
--- its seat, and those of the others
-module _ (old new : Seats) (number : ℕ) (sets : SetsSeat old new number (changed settled (seat_in old number))) where
-  pub settled_others : (n : ℕ) → n ≢ number → seated_as (seat_in new n) ≡ seated_as (seat_in old n)
-  settled_others n ne = ap seated_as (seat_elsewhere old new number (changed settled (seat_in old number)) sets n ne)
-
-  pub settled_own : (rank : ℕ) → seated_as (seat_in old number) ≡ Some (rank, true) → seated_as (seat_in new number) ≡ Some (rank, false)
-  settled_own rank is =
-      ap seated_as (seat_there old new number (changed settled (seat_in old number)) sets) ∙ settled_as (seat_in old number) rank true is
-
 -- ---- a transaction that is marked
-seated_marked : (m : Mark) (o : Option Seat) → seated_as (changed (λ seat. marked_seat seat m) o) ≡ seated_as o
-seated_marked m None = refl
-seated_marked m (Some seat) = refl
 
 same_rule : (phase : Phase) (running : Bool) → running ≡ runs phase → (kept : Option Mark) (m : Mark)
     → asking.mark_behind running kept m ≡ mark_behind phase kept m
@@ -92,7 +55,7 @@ same_rule phase running is kept m = ap (λ (b : Bool). asking.mark_behind b kept
     by_phase (Undoing c) None = refl
     by_phase (Undoing c) (Some k) = refl
 
-mark_there : (m : Mark) (o : Option Seat) (tx : SeenTx) → seated_as o ≡ Some (tx.rank, runs tx.phase)
+mark_there : (m : Mark) (o : Option Seat) (tx : TxView) → seated_as o ≡ Some (tx.rank, runs tx.phase)
     → mark_of (changed (λ seat. marked_seat seat m) o) ≡ mark_behind tx.phase (mark_of o) m
 mark_there m None tx is = absurd (let bad : ⊥ = cc is in bad)
 mark_there m (Some seat) tx is =
@@ -100,16 +63,8 @@ mark_there m (Some seat) tx is =
     same_rule tx.phase seat.running (ap (λ (p : ℕ × Bool). p.1) both) seat.mark m
 
 module _ (old new : Seats) (holder : ℕ) (m : Mark) (sets : SetsSeat old new holder (changed (λ seat. marked_seat seat m) (seat_in old holder))) where
-  -- each is seated as before
-  pub seated_but_marked : KeepsSeated old new
-  seated_but_marked n = dite (ℕ_discrete n holder)
-      (λ (here : n ≡ holder). ap (λ k. seated_as (seat_in new k)) here
-      ∙ ap seated_as (seat_there old new holder (changed (λ seat. marked_seat seat m) (seat_in old holder)) sets)
-      ∙ seated_marked m (seat_in old holder) ∙ ap (λ k. seated_as (seat_in old k)) (sym here))
-      (λ (ne : n ≢ holder). ap seated_as (seat_elsewhere old new holder (changed (λ seat. marked_seat seat m) (seat_in old holder)) sets n ne))
-
   -- the marks are as before but for the holder's, which takes this one if it runs and has none
-  pub marks_marked : (tx : SeenTx) → tx.number ≡ holder → seated_as (seat_in old holder) ≡ Some (tx.rank, runs tx.phase)
+  pub marks_marked : (tx : TxView) → tx.number ≡ holder → seated_as (seat_in old holder) ≡ Some (tx.rank, runs tx.phase)
       → marks_of new ≡ marked (marks_of old) tx m
   marks_marked tx number seated = λ i n. at_number n i
     where

@@ -6,9 +6,9 @@ use Rattle.std.specs.declared.option.Option.TheVariants.{None, Some}
 use Rattle.xc_data.specs.declared.call.LateCall.{LateCall}
 use Rattle.xc_data.specs.declared.entry.Cause.{Cause}
 use Rattle.xc_data.specs.declared.undo.Undo.{Undo}
-use Rattle.xc_story.specs.declared.phase.Phase.{Phase}
-use Rattle.xc_story.specs.declared.phase.Phase.TheVariants as phase
-use Rattle.xc_story.specs.Seen.{SeenTx, Doing, Idle, Active, Starved, Ended, late_left}
+use Rattle.xc_model.specs.declared.phase.Phase.{Phase}
+use Rattle.xc_model.specs.declared.phase.Phase.TheVariants as phase
+use Rattle.xc_model.specs.Moment.{TxView, Doing, Idle, Active, Starved, Ended, late_left}
 use Rattle.xc_station.specs.declared.job.Job.{Job}
 use Rattle.xc_station.specs.declared.job.Stage.{Stage}
 use Rattle.xc_station.specs.declared.job.Stage.TheVariants as stage
@@ -17,14 +17,14 @@ use Rattle.xc_station.specs.Stations.{live_at, lives}
 
 -- ---- the job there
 pub record IsThere (jobs : List Job) (at : ℕ) (s : Stage) (job : Job) : Type 0 where
-  pub stands : slice_get jobs at ≡ Some job
+  pub there : slice_get jobs at ≡ Some job
   pub stage : stage_of (doing_of job) ≡ s
 
 -- it is the one that is lent there
 pub lent : (jobs : List Job) (at : ℕ) (s : Stage) (job : Job) → IsStage jobs at s → job ≡ get_or jobs at job → IsThere jobs at s job
 lent jobs at s job is value =
     let same : is.0 ≡ job = sym (get_or_from_slice_get jobs at is.0 job is.1) ∙ sym value in
-    subst (IsThere jobs at s) same (record { stands = is.1; stage = is.2 })
+    subst (IsThere jobs at s) same (record { there = is.1; stage = is.2 })
 
 -- ---- stages by phases
 abbrev is_late_stage : Stage → Bool
@@ -52,13 +52,13 @@ late_active : (late : List LateCall) → is_active (late_stage late) ≡ true
 late_active [] = refl
 late_active (c ∷ cs) = refl
 
-phase_active : (tx : SeenTx) (p : Phase) → is_active (phase_stage tx p) ≡ true
+phase_active : (tx : TxView) (p : Phase) → is_active (phase_stage tx p) ≡ true
 phase_active tx phase.Running = refl
 phase_active tx phase.Committing = late_active (late_left tx)
 phase_active tx (phase.Undoing c) = back_active tx.undo.pending
 
 -- its stage is none of the others
-not_active : (tx : SeenTx) (s : Stage) → is_active s ≡ false → stage_of (Active tx) ≡ s → ⊥
+not_active : (tx : TxView) (s : Stage) → is_active s ≡ false → stage_of (Active tx) ≡ s → ⊥
 not_active tx s is e = let no : true ≡ false = sym (phase_active tx tx.phase) ∙ ap is_active e ∙ is in cc no
 
 -- ---- the stages
@@ -77,7 +77,7 @@ starved_stage (Ended end) e = cc e
 
 -- it has an active transaction in this phase
 pub record IsInPhase (d : Doing) (p : Phase) : Type 0 where
-  pub tx : SeenTx
+  pub tx : TxView
   pub doing : d ≡ Active tx
   pub phase : tx.phase ≡ p
 
@@ -90,7 +90,7 @@ back_not : (pending : List Undo) (t : Stage) → is_back_stage t ≡ false → b
 back_not [] t other e = let both : true ≡ false = ap is_back_stage e ∙ other in cc both
 back_not (u ∷ us) t other e = let both : true ≡ false = ap is_back_stage e ∙ other in cc both
 
-running_phase : (tx : SeenTx) (p : Phase) → phase_stage tx p ≡ stage.Running → p ≡ phase.Running
+running_phase : (tx : TxView) (p : Phase) → phase_stage tx p ≡ stage.Running → p ≡ phase.Running
 running_phase tx phase.Running e = refl
 running_phase tx phase.Committing e = absurd (late_not (late_left tx) stage.Running refl e)
 running_phase tx (phase.Undoing c) e = absurd (back_not tx.undo.pending stage.Running refl e)
@@ -104,19 +104,19 @@ running_stage (Ended end) e = cc e
 
 -- it commits, and a late call has no end
 pub record IsLating (d : Doing) : Type 0 where
-  pub tx : SeenTx
+  pub tx : TxView
   pub doing : d ≡ Active tx
   pub phase : tx.phase ≡ phase.Committing
   pub next : LateCall
   pub later : List LateCall
   pub left : late_left tx ≡ next ∷ later
 
-committing_left : (tx : SeenTx) (late : List LateCall) → tx.phase ≡ phase.Committing → late_left tx ≡ late → late_stage late ≡ stage.Committing
+committing_left : (tx : TxView) (late : List LateCall) → tx.phase ≡ phase.Committing → late_left tx ≡ late → late_stage late ≡ stage.Committing
     → IsLating (Active tx)
 committing_left tx [] commits left e = cc e
 committing_left tx (c ∷ cs) commits left e = record { tx = tx; doing = refl; phase = commits; next = c; later = cs; left = left }
 
-committing_phase : (tx : SeenTx) (p : Phase) → tx.phase ≡ p → phase_stage tx p ≡ stage.Committing → IsLating (Active tx)
+committing_phase : (tx : TxView) (p : Phase) → tx.phase ≡ p → phase_stage tx p ≡ stage.Committing → IsLating (Active tx)
 committing_phase tx phase.Running in' e = cc e
 committing_phase tx phase.Committing in' e = committing_left tx (late_left tx) in' refl e
 committing_phase tx (phase.Undoing c) in' e = absurd (back_not tx.undo.pending stage.Committing refl e)
@@ -130,17 +130,17 @@ committing_stage (Ended end) e = cc e
 
 -- it commits, and each late call has its end
 pub record IsCommitted (d : Doing) : Type 0 where
-  pub tx : SeenTx
+  pub tx : TxView
   pub doing : d ≡ Active tx
   pub phase : tx.phase ≡ phase.Committing
   pub left : late_left tx ≡ []
 
-committed_left : (tx : SeenTx) (late : List LateCall) → tx.phase ≡ phase.Committing → late_left tx ≡ late → late_stage late ≡ stage.Committed
+committed_left : (tx : TxView) (late : List LateCall) → tx.phase ≡ phase.Committing → late_left tx ≡ late → late_stage late ≡ stage.Committed
     → IsCommitted (Active tx)
 committed_left tx [] commits left e = record { tx = tx; doing = refl; phase = commits; left = left }
 committed_left tx (c ∷ cs) commits left e = cc e
 
-committed_phase : (tx : SeenTx) (p : Phase) → tx.phase ≡ p → phase_stage tx p ≡ stage.Committed → IsCommitted (Active tx)
+committed_phase : (tx : TxView) (p : Phase) → tx.phase ≡ p → phase_stage tx p ≡ stage.Committed → IsCommitted (Active tx)
 committed_phase tx phase.Running in' e = cc e
 committed_phase tx phase.Committing in' e = committed_left tx (late_left tx) in' refl e
 committed_phase tx (phase.Undoing c) in' e = absurd (back_not tx.undo.pending stage.Committed refl e)
@@ -154,7 +154,7 @@ committed_stage (Ended end) e = cc e
 
 -- it undoes, and a record has no end
 pub record IsBack (d : Doing) : Type 0 where
-  pub tx : SeenTx
+  pub tx : TxView
   pub cause : Cause
   pub doing : d ≡ Active tx
   pub phase : tx.phase ≡ phase.Undoing cause
@@ -162,12 +162,12 @@ pub record IsBack (d : Doing) : Type 0 where
   pub older : List Undo
   pub pending : tx.undo.pending ≡ newest ∷ older
 
-undoing_left : (tx : SeenTx) (c : Cause) (pending : List Undo) → tx.phase ≡ phase.Undoing c → tx.undo.pending ≡ pending
+undoing_left : (tx : TxView) (c : Cause) (pending : List Undo) → tx.phase ≡ phase.Undoing c → tx.undo.pending ≡ pending
     → back_stage pending ≡ stage.Undoing → IsBack (Active tx)
 undoing_left tx c [] in' left e = cc e
 undoing_left tx c (u ∷ us) in' left e = record { tx = tx; cause = c; doing = refl; phase = in'; newest = u; older = us; pending = left }
 
-undoing_phase : (tx : SeenTx) (p : Phase) → tx.phase ≡ p → phase_stage tx p ≡ stage.Undoing → IsBack (Active tx)
+undoing_phase : (tx : TxView) (p : Phase) → tx.phase ≡ p → phase_stage tx p ≡ stage.Undoing → IsBack (Active tx)
 undoing_phase tx phase.Running in' e = cc e
 undoing_phase tx phase.Committing in' e = absurd (late_not (late_left tx) stage.Undoing refl e)
 undoing_phase tx (phase.Undoing c) in' e = undoing_left tx c tx.undo.pending in' refl e
@@ -181,18 +181,18 @@ undoing_stage (Ended end) e = cc e
 
 -- it undoes, and each record has its end
 pub record IsUndone (d : Doing) : Type 0 where
-  pub tx : SeenTx
+  pub tx : TxView
   pub cause : Cause
   pub doing : d ≡ Active tx
   pub phase : tx.phase ≡ phase.Undoing cause
   pub pending : tx.undo.pending ≡ []
 
-undone_left : (tx : SeenTx) (c : Cause) (pending : List Undo) → tx.phase ≡ phase.Undoing c → tx.undo.pending ≡ pending
+undone_left : (tx : TxView) (c : Cause) (pending : List Undo) → tx.phase ≡ phase.Undoing c → tx.undo.pending ≡ pending
     → back_stage pending ≡ stage.Undone → IsUndone (Active tx)
 undone_left tx c [] in' left e = record { tx = tx; cause = c; doing = refl; phase = in'; pending = left }
 undone_left tx c (u ∷ us) in' left e = cc e
 
-undone_phase : (tx : SeenTx) (p : Phase) → tx.phase ≡ p → phase_stage tx p ≡ stage.Undone → IsUndone (Active tx)
+undone_phase : (tx : TxView) (p : Phase) → tx.phase ≡ p → phase_stage tx p ≡ stage.Undone → IsUndone (Active tx)
 undone_phase tx phase.Running in' e = cc e
 undone_phase tx phase.Committing in' e = absurd (late_not (late_left tx) stage.Undone refl e)
 undone_phase tx (phase.Undoing c) in' e = undone_left tx c tx.undo.pending in' refl e
@@ -217,7 +217,7 @@ live_at_some jobs number false is = is
 
 -- it is there, and hasn't ended
 pub record IsLive (jobs : List Job) (at : ℕ) (job : Job) : Type 0 where
-  pub stands : slice_get jobs at ≡ Some job
+  pub there : slice_get jobs at ≡ Some job
   pub lives : goes_on (stage_of (doing_of job)) ≡ true
 
 -- the one of this number
@@ -226,4 +226,4 @@ live_shown jobs number job is value =
     let at = number - 1 in
     let found = live_there jobs at (slice_get jobs at) refl (live_at_some jobs number (number == 0) is) in
     let same : found.0 ≡ job = sym (get_or_from_slice_get jobs at found.0 job found.1) ∙ sym value in
-    subst (IsLive jobs at) same (record { stands = found.1; lives = found.2 })
+    subst (IsLive jobs at) same (record { there = found.1; lives = found.2 })

@@ -10,21 +10,21 @@ use Rattle.xc_data.specs.declared.object.Object.{Object}
 use Rattle.xc_data.specs.declared.entry.JobLine.{JobLine}
 use Rattle.xc_data.specs.declared.entry.KeptItem.{KeptItem}
 use Rattle.xc_host.specs.Contents.{Contents, opened}
-use Rattle.xc_journal.specs.Room.{Roomy}
+use Rattle.xc_roomy.specs.Room.{Roomy}
 use Rattle.xc_text.specs.declared.script.Script.{Script}
 use Rattle.xc_text.specs.Scripts.{IsScript}
 use Rattle.xc_text.proofs.Keeping.{block_count}
 use Rattle.xc_sentinel.specs.Seating.{seat_in}
-use Rattle.xc_wordlocks.specs.Table.{mode_of}
-use Rattle.xc_story.specs.Setting.{Setting}
-use Rattle.xc_story.specs.Seen.{SeenTx, SeenJob, Now, active_of, actives}
-use Rattle.xc_story.specs.Opened.{IsOpening, opened_job}
-use Rattle.xc_story.specs.Kept.{IsSet, IsKept}
+use Rattle.xc_wordlocks.specs.Table.{held_mode}
+use Rattle.xc_model.specs.Setting.{Setting}
+use Rattle.xc_model.specs.Moment.{TxView, JobView, Moment, active_of, actives}
+use Rattle.xc_model.specs.Opened.{IsOpening, opened_job}
+use Rattle.xc_model.specs.Consistent.{IsSet, IsConsistent}
 use Rattle.xc_turns.proofs.StoryStart.{start_kept}
-use Rattle.xc_played.proofs.TurnStart.{start_flies}
+use Rattle.xc_refines.proofs.TurnStart.{start_flies}
 use Rattle.xc_station.specs.declared.calls.Shared.{Shared}
 use Rattle.xc_station.specs.declared.job.Job.{Job}
-use Rattle.xc_station.specs.Jobs.{HasChildren, seen_child, seen_job, seen_jobs, started_in}
+use Rattle.xc_station.specs.Jobs.{HasChildren, child_view, job_view, job_views, started_in}
 use Rattle.xc_station.specs.Lent.{AreBacked, IsBacked, notes_in_all, notes_of}
 use Rattle.xc_station.specs.Moments.{seated_as}
 use Rattle.xc_station.specs.Stations.{IsSteady, HasRooms}
@@ -34,7 +34,7 @@ none_begun : (script : Script) (blocks : List (List ℕ)) → actives (map (open
 none_begun script [] = refl
 none_begun script (b ∷ blocks) = none_begun script blocks
 
-none_there : (script : Script) (blocks : List (List ℕ)) (j : ℕ) (tx : SeenTx) (job : SeenJob) → slice_get (map (opened_job script) blocks) j ≡ Some job
+none_there : (script : Script) (blocks : List (List ℕ)) (j : ℕ) (tx : TxView) (job : JobView) → slice_get (map (opened_job script) blocks) j ≡ Some job
     → active_of job ≡ Some tx → ⊥
 none_there script [] j tx job at is = cc
 none_there script (b ∷ blocks) zero tx job at is =
@@ -44,28 +44,28 @@ none_there script (b ∷ blocks) zero tx job at is =
 none_there script (b ∷ blocks) (suc j) tx job at is = none_there script blocks j tx job at is
 
 -- nothing waits with them
-pub each_opened : (script : Script) (blocks : List (List ℕ)) (jobs : List Job) → seen_jobs jobs ≡ map (opened_job script) blocks
+pub each_opened : (script : Script) (blocks : List (List ℕ)) (jobs : List Job) → job_views jobs ≡ map (opened_job script) blocks
     → All (λ (job : Job). job.children.items ≡ []) jobs → (at : ℕ) (job : Job) → slice_get jobs at ≡ Some job → HasChildren script job
 each_opened script blocks [] are none at job is = cc is
 each_opened script [] (x ∷ jobs) are none at job is = cc are
 each_opened script (b ∷ blocks) (x ∷ jobs) are none zero job is =
-    let first : seen_job x ≡ opened_job script b = cc are in
+    let first : job_view x ≡ opened_job script b = cc are in
     let one : x ≡ job = cc is in
     subst (HasChildren script) one
-    (ap (map seen_child) (All-head (λ (j : Job). j.children.items ≡ []) x jobs none)
-    ∙ sym (ap (λ (j : SeenJob). started_in script (seen_job x) j.doing) first))
+    (ap (map child_view) (All-head (λ (j : Job). j.children.items ≡ []) x jobs none)
+    ∙ sym (ap (λ (j : JobView). started_in script (job_view x) j.doing) first))
 each_opened script (b ∷ blocks) (x ∷ jobs) are none (suc at) job is =
-    let rest : seen_jobs jobs ≡ map (opened_job script) blocks = cc are in
+    let rest : job_views jobs ≡ map (opened_job script) blocks = cc are in
     each_opened script blocks jobs rest (All-tail (λ (j : Job). j.children.items ≡ []) x jobs none) at job is
 
 -- what is true of it
-pub started : (s : Setting) (faults : ℕ) (now : Now) → IsSet s → KeepsLimits s.script.outline → IsOpening s.script now → now.faults ≡ faults
+pub started : (s : Setting) (faults : ℕ) (now : Moment) → IsSet s → KeepsLimits s.script.outline → IsOpening s.script now → now.faults ≡ faults
     → (IsTrue s.tells → now.contents ≡ opened s.script.outline.prologue.objects) → IsSteady s faults now
 started s faults now set limits opening counted told =
     let blocks = limits.blocks in
     let few : length s.script.outline.jobs ≤ 1000 = omega (arith, blocks) in record {
       set = set;
-      kept = subst (λ n. IsKept s n now) counted (start_kept s now few opening);
+      kept = subst (λ n. IsConsistent s n now) counted (start_kept s now few opening);
       flying = λ tells. start_flies s now set limits opening (told tells);
     }
 
@@ -78,8 +78,8 @@ none_noted script (b ∷ blocks) =
     omega (arith, first, more)
 
 -- and its rooms
-pub roomy : {H : Type 0} (script : Script) (shared : Shared H) (spare : ℕ) (now : Now) (lines : Roomy JobLine) → IsScript script → IsOpening script now
-    → ((n : ℕ) (o : Object) → mode_of shared.sentinels.claims n o ≡ None) → ((n : ℕ) → seat_in shared.sentinels.seats n ≡ None)
+pub roomy : {H : Type 0} (script : Script) (shared : Shared H) (spare : ℕ) (now : Moment) (lines : Roomy JobLine) → IsScript script → IsOpening script now
+    → ((n : ℕ) (o : Object) → held_mode shared.sentinels.claims n o ≡ None) → ((n : ℕ) → seat_in shared.sentinels.seats n ≡ None)
     → lines.items ≡ [] → shared.buffers.noted ≡ 0 → HasRooms shared 0 spare now lines
 roomy script shared spare now lines read opening empty nobody none unlent =
     let blocks = script.outline.jobs in
@@ -101,7 +101,7 @@ roomy script shared spare now lines read opening empty nobody none unlent =
     }
 
 -- and nothing is kept, or taken
-pub backed_at_start : (script : Script) (c : Contents) (kept : List KeptItem) (jobs : List SeenJob) → jobs ≡ map (opened_job script) script.outline.jobs
+pub backed_at_start : (script : Script) (c : Contents) (kept : List KeptItem) (jobs : List JobView) → jobs ≡ map (opened_job script) script.outline.jobs
     → kept ≡ [] → AreBacked c kept jobs
 backed_at_start script c kept jobs opened none =
     record {

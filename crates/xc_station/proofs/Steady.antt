@@ -3,30 +3,31 @@ use Rattle.std.proofs.Common.{◌≡◌, ◌<◌, ℕ, length, subst, sym}
 use Rattle.std.specs.Prelude.{IsTrue}
 use Rattle.xc_data.specs.declared.entry.Turn.{Turn}
 use Rattle.xc_host.specs.Model.{HostModel}
-use Rattle.xc_story.specs.Measure.{turns_left}
-use Rattle.xc_story.specs.Setting.{Setting, setting}
-use Rattle.xc_story.specs.Progress.{progress_of}
-use Rattle.xc_story.specs.Played.{IsPlayedSoFar}
-use Rattle.xc_story.specs.Seen.{SeenTx, Now}
-use Rattle.xc_story.specs.Rows.{IsActiveAt, IsTurn}
+use Rattle.xc_model.specs.Measure.{turns_left}
+use Rattle.xc_model.specs.Setting.{Setting, setting}
+use Rattle.xc_model.specs.Progress.{progress_of}
+use Rattle.xc_model.specs.Played.{IsPlayedSoFar}
+use Rattle.xc_model.specs.Moment.{TxView, Moment}
+use Rattle.xc_model.specs.Movers.{IsActiveAt}
+use Rattle.xc_model.specs.Rows.{IsTurn}
 use Rattle.xc_turns.proofs.Apart.{apart_kept}
 use Rattle.xc_turns.proofs.Attempts.{turn_leaves_attempts}
 use Rattle.xc_turns.proofs.CountedTurns.{turn_keeps_count}
 use Rattle.xc_turns.proofs.Grounding.{grounds_kept}
 use Rattle.xc_turns.proofs.Lefts.{measured}
 use Rattle.xc_turns.proofs.StartedTurns.{turn_keeps_started}
-use Rattle.xc_turns.proofs.SpokenTurns.{turn_keeps_words}
+use Rattle.xc_turns.proofs.WordTurns.{turn_keeps_words}
 use Rattle.xc_turns.proofs.StoryTurns.{a_turn_keeps_the_stories_but}
-use Rattle.xc_played.proofs.Noted.{played_there}
-use Rattle.xc_played.proofs.TurnTable.{turn_flies}
-use Rattle.xc_station.specs.Stations.{IsSteady, KeepsOpening, Seen, now_of, setting_of}
+use Rattle.xc_refines.proofs.Noted.{played_there}
+use Rattle.xc_refines.proofs.TurnTable.{turn_flies}
+use Rattle.xc_station.specs.Stations.{IsSteady, KeepsOpening, StationView, now_of, setting_of}
 
 -- a turn keeps it
-pub steady_kept : (s : Setting) (faults at : ℕ) (old new : Now) (answer : Turn) → IsSteady s faults old → IsTurn s at old answer new
+pub steady_kept : (s : Setting) (faults at : ℕ) (old new : Moment) (answer : Turn) → IsSteady s faults old → IsTurn s at old answer new
     → IsSteady s faults new
 steady_kept s faults at old new answer steady turned =
     let told = steady.kept.told in
-    let played : IsTrue s.tells → (tx : SeenTx) → IsActiveAt old.jobs at tx → IsPlayedSoFar s (length old.words) (progress_of s.script old.journal) at tx =
+    let played : IsTrue s.tells → (tx : TxView) → IsActiveAt old.jobs at tx → IsPlayedSoFar s (length old.words) (progress_of s.script old.journal) at tx =
     λ tells tx active. played_there s old told (steady.flying tells) at active.0 tx active.1 active.2 in
     record {
       set = steady.set;
@@ -43,8 +44,8 @@ steady_kept s faults at old new answer steady turned =
     }
 
 -- ---- turns that are left
--- of a station that keeps what it was started with, fewer are left behind a turn
-pub fewer_left : {H : Type 0} (model : HostModel H) (old new : Seen H) (at : ℕ) (answer : Turn) → KeepsOpening old new
+-- of a station that keeps what it was started with, fewer are left after a turn
+pub fewer_left : {H : Type 0} (model : HostModel H) (old new : StationView H) (at : ℕ) (answer : Turn) → KeepsOpening old new
     → IsTurn (setting_of model old) at (now_of model old) answer (now_of model new)
     → turns_left (setting_of model new) (now_of model new) < turns_left (setting_of model old) (now_of model old)
 fewer_left model old new at answer same row =

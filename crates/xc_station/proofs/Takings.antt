@@ -1,4 +1,4 @@
--- A call that takes from a pipe or a pair: what it took is of one that the host has, and so is what is kept behind it.
+-- A call that takes from a pipe or a pair: what it took is of one that the host has, and so is what is kept after it.
 use Rattle.std.proofs.Common.{◌≡◌, ℕ, Bool, true, false, Option, Some, None, is_some, List, [], ◌∷◌, ◌++◌, length, refl, ap, sym, ◌∙◌, subst, arith}
 use Rattle.std.proofs.lemmas.List.Elements.{All-nil, All-cons, All-head, All-tail, All-weaker}
 use Rattle.std.specs.Prelude.{All, IfOk, OnErr, IsTrue, ◌≤◌, Result, Ok, Err, not, ◌||◌, ◌==◌, if◌then◌else◌}
@@ -168,7 +168,7 @@ pair_above : (c : Contents) (items : List KeptItem) (num : Num) → is_some (map
     → is_some (map.get (with_kept c items).pairs num) ≡ true
 pair_above c items num is = pair_is_there (world_of c) items num ∙ or_right _ (has_pair (world_of c) num) is
 
--- a call of a transaction that takes, with its reply: the worlds and the private states before and behind it
+-- a call of a transaction that takes, with its reply: the worlds and the private states before and after it
 pub record Taking : Type 0 where
   pub world : Step World
   pub me : Step Private
@@ -219,7 +219,7 @@ module _ (taking : Taking) (c : Contents) (items : List KeptItem) (is : IsTaking
           ap (λ (s : Stepped). taken_by taking.call taking.me.old s.reply) same ∙ no_taken taking.call taking.me.old refused _ _ _ refuses in
           ap (given_back taking.world.new) none ∙ ap (λ (s : Stepped). s.world) same
 
--- ---- what is kept behind it
+-- ---- what is kept after it
 or_left : (a b : Bool) → a ≡ true → (a || b) ≡ true
 or_left true b is = refl
 or_left false b is = cc is
@@ -268,7 +268,7 @@ kept_backed taking c d kept kept' is told fit backed =
     })
     kept' fit placed
 
--- the same where memory was wanting, and what is there is as before
+-- the same where memory ran out, and what is there is as before
 pub kept_still : (c d : Contents) (kept kept' : List KeptItem) → with_kept d kept' ≡ with_kept c kept → All (λ t. is_fit t ≡ true) kept'
     → All (IsBacked c) kept → All (IsBacked c) kept'
 kept_still c d kept kept' same fit backed =

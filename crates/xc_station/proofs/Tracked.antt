@@ -4,20 +4,20 @@ use Rattle.std.specs.Prelude.{Option, slice_get, slice_set}
 use Rattle.std.specs.declared.option.Option.TheVariants.{None, Some}
 use mathlib.Core.Logic.{dite}
 use native.Mathlib.Decide.{ℕ_discrete}
-use Rattle.xc_story.specs.Seen.{SeenTx, SeenJob, active_of}
-use Rattle.xc_story.specs.Rows.{IsActiveAt}
+use Rattle.xc_model.specs.Moment.{TxView, JobView, active_of}
+use Rattle.xc_model.specs.Movers.{IsActiveAt}
 use Rattle.xc_station.specs.Moments.{AreSingle, AreTracked}
 use Rattle.xc_station.proofs.Placed.{active_was, active_is, active_here, active_before, active_after}
 
--- what is found behind a turn is the new job's, or was there before and wasn't the old one's
-abbrev pub IsKnown : {X : Type 0} → (ℕ → Option X) → SeenJob → SeenJob → ℕ → X → Type 0
+-- what is found after a turn is the new job's, or was there before and wasn't the old one's
+abbrev pub IsKnown : {X : Type 0} → (ℕ → Option X) → JobView → JobView → ℕ → X → Type 0
 IsKnown found job job' n x =
-    ((t : SeenTx) × (active_of job' ≡ Some t) × (t.number ≡ n))
-    ⊎ ((found n ≡ Some x) × ((t : SeenTx) → active_of job ≡ Some t → t.number ≢ n))
+    ((t : TxView) × (active_of job' ≡ Some t) × (t.number ≡ n))
+    ⊎ ((found n ≡ Some x) × ((t : TxView) → active_of job ≡ Some t → t.number ≢ n))
 
-module _ {X : Type 0} (found : ℕ → Option X) (has : SeenTx → Option X) (jobs : List SeenJob) (was : AreTracked found has jobs) where
+module _ {X : Type 0} (found : ℕ → Option X) (has : TxView → Option X) (jobs : List JobView) (was : AreTracked found has jobs) where
   -- at a number above those of all active transactions nothing is found
-  pub nobody : (n : ℕ) → ((j : ℕ) (t : SeenTx) → IsActiveAt jobs j t → t.number < n) → found n ≡ None
+  pub nobody : (n : ℕ) → ((j : ℕ) (t : TxView) → IsActiveAt jobs j t → t.number < n) → found n ≡ None
   nobody n above = by_value (found n) refl
     where
       by_value : (o : Option X) → found n ≡ o → found n ≡ None
@@ -28,9 +28,9 @@ module _ {X : Type 0} (found : ℕ → Option X) (has : SeenTx → Option X) (jo
           let num = k.3 in
           absurd (omega (arith, below, num))
 
-  module _ (found' : ℕ → Option X) (at : ℕ) (job job' : SeenJob) (stands : slice_get jobs at ≡ Some job) where
-    tracked_set : ((t : SeenTx) → active_of job' ≡ Some t → found' t.number ≡ has t)
-        → ((j : ℕ) (t : SeenTx) → j ≢ at → IsActiveAt jobs j t → found' t.number ≡ found t.number)
+  module _ (found' : ℕ → Option X) (at : ℕ) (job job' : JobView) (stands : slice_get jobs at ≡ Some job) where
+    tracked_set : ((t : TxView) → active_of job' ≡ Some t → found' t.number ≡ has t)
+        → ((j : ℕ) (t : TxView) → j ≢ at → IsActiveAt jobs j t → found' t.number ≡ found t.number)
         → ((n : ℕ) (x : X) → found' n ≡ Some x → IsKnown found job job' n x) → AreTracked found' has (slice_set jobs at job')
     tracked_set mine others known =
         record {
@@ -56,30 +56,30 @@ module _ {X : Type 0} (found : ℕ → Option X) (has : SeenTx → Option X) (jo
         (λ n x e. inr (sym (same n) ∙ e, λ t is. let lacks : None ≡ Some t = sym none ∙ is in cc lacks))
 
     -- its transaction has just begun, with a number above all others
-    pub tracked_begun : (tx : SeenTx) → active_of job ≡ None → active_of job' ≡ Some tx → found' tx.number ≡ has tx
-        → ((n : ℕ) → n ≢ tx.number → found' n ≡ found n) → ((j : ℕ) (t : SeenTx) → IsActiveAt jobs j t → t.number < tx.number)
+    pub tracked_begun : (tx : TxView) → active_of job ≡ None → active_of job' ≡ Some tx → found' tx.number ≡ has tx
+        → ((n : ℕ) → n ≢ tx.number → found' n ≡ found n) → ((j : ℕ) (t : TxView) → IsActiveAt jobs j t → t.number < tx.number)
         → AreTracked found' has (slice_set jobs at job')
     tracked_begun tx none is' mine others above =
         tracked_set
-        (λ t is. let one : tx ≡ t = cc (is', is) in subst (λ (u : SeenTx). found' u.number ≡ has u) one mine)
+        (λ t is. let one : tx ≡ t = cc (is', is) in subst (λ (u : TxView). found' u.number ≡ has u) one mine)
         (λ j t ne a. others t.number (λ e. let low = above j t a in omega (arith, low, e)))
         (λ n x e. dite (ℕ_discrete n tx.number)
         (λ (q : n ≡ tx.number). inl (tx, is', sym q))
         (λ (ne : n ≢ tx.number). inr (sym (others n ne) ∙ e, λ t is. let lacks : None ≡ Some t = sym none ∙ is in cc lacks)))
 
-    module _ (single : AreSingle jobs) (tx : SeenTx) (is : active_of job ≡ Some tx) (others : (n : ℕ) → n ≢ tx.number → found' n ≡ found n) where
-      elsewhere : (j : ℕ) (t : SeenTx) → j ≢ at → IsActiveAt jobs j t → found' t.number ≡ found t.number
+    module _ (single : AreSingle jobs) (tx : TxView) (is : active_of job ≡ Some tx) (others : (n : ℕ) → n ≢ tx.number → found' n ≡ found n) where
+      elsewhere : (j : ℕ) (t : TxView) → j ≢ at → IsActiveAt jobs j t → found' t.number ≡ found t.number
       elsewhere j t ne a = others t.number (λ num. ne (single j at t tx a (job, stands, is) num))
 
-      not_here : (n : ℕ) → n ≢ tx.number → (t : SeenTx) → active_of job ≡ Some t → t.number ≢ n
-      not_here n ne t there num = let one : tx ≡ t = cc (is, there) in ne (sym num ∙ ap (λ (u : SeenTx). u.number) (sym one))
+      not_here : (n : ℕ) → n ≢ tx.number → (t : TxView) → active_of job ≡ Some t → t.number ≢ n
+      not_here n ne t there num = let one : tx ≡ t = cc (is, there) in ne (sym num ∙ ap (λ (u : TxView). u.number) (sym one))
 
       -- its transaction goes on with the same number
-      pub tracked_on : (tx' : SeenTx) → active_of job' ≡ Some tx' → tx'.number ≡ tx.number → found' tx.number ≡ has tx'
+      pub tracked_on : (tx' : TxView) → active_of job' ≡ Some tx' → tx'.number ≡ tx.number → found' tx.number ≡ has tx'
           → AreTracked found' has (slice_set jobs at job')
       tracked_on tx' is' number mine =
           tracked_set
-          (λ t e. let one : tx' ≡ t = cc (is', e) in subst (λ (u : SeenTx). found' u.number ≡ has u) one (ap found' number ∙ mine))
+          (λ t e. let one : tx' ≡ t = cc (is', e) in subst (λ (u : TxView). found' u.number ≡ has u) one (ap found' number ∙ mine))
           elsewhere
           (λ n x e. dite (ℕ_discrete n tx.number)
           (λ (q : n ≡ tx.number). inl (tx', is', number ∙ sym q))

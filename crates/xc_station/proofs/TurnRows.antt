@@ -12,55 +12,61 @@ use Rattle.xc_data.specs.declared.entry.JobEnd.TheVariants as job_end
 use Rattle.xc_data.specs.declared.entry.Outcome.TheVariants.{Committed, Aborted}
 use Rattle.xc_data.specs.declared.entry.Turn.{Turn}
 use Rattle.xc_data.specs.declared.entry.Turn.TheVariants as turn
-use Rattle.xc_data.specs.Standing.{objects_of}
+use Rattle.xc_data.specs.Remaining.{objects_of}
 use Rattle.xc_data.specs.declared.undo.Undo.{Undo}
 use Rattle.xc_world.specs.Beside.{AreElsewhere}
 use Rattle.xc_compensate.specs.Records.{IsTried, Records}
-use Rattle.xc_deferred.specs.Does.{DoesLate, EndsNext}
+use Rattle.xc_deferred.specs.Does.{EndsAsPlain, EndsNext}
 use Rattle.xc_deferred.specs.Queue.{Queue, next_thread}
 use Rattle.xc_host.specs.Fronted.{before, fronted}
 use Rattle.xc_host.specs.Kept.{with_kept}
 use Rattle.xc_host.specs.Model.{HostModel}
-use Rattle.xc_journal.specs.Room.{Roomy}
+use Rattle.xc_roomy.specs.Room.{Roomy}
 use Rattle.xc_sentinel.specs.declared.sentinels.Sentinels.{Sentinels}
 use Rattle.xc_sentinel.specs.Seating.{SetsSeat}
-use Rattle.xc_story.specs.declared.phase.Phase.{Phase}
-use Rattle.xc_story.specs.declared.phase.Phase.TheVariants as phase
-use Rattle.xc_story.specs.declared.rules.Rules.{Rules}
+use Rattle.xc_model.specs.declared.phase.Phase.{Phase}
+use Rattle.xc_model.specs.declared.phase.Phase.TheVariants as phase
+use Rattle.xc_model.specs.declared.rules.Rules.{Rules}
 use Rattle.xc_data.specs.Calls.{thread_in}
-use Rattle.xc_story.specs.Setting.{Setting, setting}
-use Rattle.xc_story.specs.Seen.{SeenTx, SeenJob, Doing, Idle, Active, Starved, Ended, Now, late_left, queue_of, with_queue, with_job}
-use Rattle.xc_story.specs.Seen.{unmarked}
+use Rattle.xc_model.specs.Setting.{Setting, setting}
+use Rattle.xc_model.specs.Moment.{TxView, JobView, Doing, Idle, Active, Starved, Ended, Moment, late_left, queue_of, with_queue, with_job}
+use Rattle.xc_model.specs.Moment.{unmarked}
 use Rattle.xc_text.specs.declared.script.Script.{Script}
-use Rattle.xc_story.specs.Rows.{IsTurn, TurnOf, ActiveTurn, BackTurn, Compensates, EndsLate, EntersAborted, EntersCommitted, IdleTurn, LateTurn, NextLate}
-use Rattle.xc_story.specs.Rows.{IsStart, StarvedTurn, Starts, behind_abort, behind_commit, entry_of, mover, started_jobs, with_tx}
+use Rattle.xc_model.specs.Rows.{IsTurn, TurnOf, ActiveTurn}
+use Rattle.xc_model.specs.UndoingRows.{BackTurn, Compensates, EntersAborted}
+use Rattle.xc_model.specs.CommittingRows.{EndsLate, EntersCommitted, LateTurn, NextLate}
+use Rattle.xc_model.specs.IdleRows.{IdleTurn}
+use Rattle.xc_model.specs.CommittingRows.{IsStart, Starts}
+use Rattle.xc_model.specs.Rows.{StarvedTurn}
+use Rattle.xc_model.specs.Entering.{behind_abort, behind_commit, entry_of, started_jobs}
+use Rattle.xc_model.specs.Movers.{mover, with_tx}
 use Rattle.xc_station.specs.declared.calls.Shared.{Shared}
 use Rattle.xc_station.specs.declared.job.Job.{Job}
 use Rattle.xc_station.specs.declared.job.Stage.{Stage}
 use Rattle.xc_station.specs.declared.job.Stage.TheVariants as stage
-use Rattle.xc_station.specs.Jobs.{doing_of, seen_job, seen_jobs}
+use Rattle.xc_station.specs.Jobs.{doing_of, job_view, job_views}
 use Rattle.xc_station.specs.Lent.{Gives, Lent}
 use Rattle.xc_station.specs.Moments.{IsRunningRow, marks_of, moved, told_by}
 use Rattle.xc_station.specs.Stations.{moment}
 use Rattle.xc_station.proofs.Lent.{kept_again, undone_kept}
-use Rattle.xc_station.proofs.Placed.{get_map, length_set, map_set}
+use Rattle.xc_data.proofs.Lists.{get_map, length_set, map_set}
 use Rattle.xc_station.proofs.Seated.{marks_unmarked}
 use Rattle.xc_station.proofs.Stages.{IsThere, idle_stage, starved_stage, running_stage, committing_stage, committed_stage, undoing_stage, undone_stage}
 
 -- ---- a row of what the job in this place does
-pub row_turned : (s : Setting) (at : ℕ) (old new : Now) (job : SeenJob) (d : Doing) (answer : Turn) → slice_get old.jobs at ≡ Some job → job.doing ≡ d
+pub row_turned : (s : Setting) (at : ℕ) (old new : Moment) (job : JobView) (d : Doing) (answer : Turn) → slice_get old.jobs at ≡ Some job → job.doing ≡ d
     → TurnOf (mover s at old job) d answer new → IsTurn s at old answer new
 row_turned s at old new job d answer there does row =
-    record { job = job; stands = there; row = subst (λ e. TurnOf (mover s at old job) e answer new) (sym does) row }
+    record { job = job; there = there; row = subst (λ e. TurnOf (mover s at old job) e answer new) (sym does) row }
 
 -- and of its active transaction's phase
-pub phase_turned : (s : Setting) (at : ℕ) (old new : Now) (job : SeenJob) (tx : SeenTx) (p : Phase) (answer : Turn) → slice_get old.jobs at ≡ Some job
+pub phase_turned : (s : Setting) (at : ℕ) (old new : Moment) (job : JobView) (tx : TxView) (p : Phase) (answer : Turn) → slice_get old.jobs at ≡ Some job
     → job.doing ≡ Active tx → tx.phase ≡ p → ActiveTurn (mover s at old job) tx p answer new → IsTurn s at old answer new
 phase_turned s at old new job tx p answer there does in' row =
     row_turned s at old new job (Active tx) answer there does (subst (λ q. ActiveTurn (mover s at old job) tx q answer new) (sym in') row)
 
 -- a late call that starts no job ends as one at the host
-ended_late : (s : Setting) (at : ℕ) (old : Now) (job : SeenJob) (tx : SeenTx) (call : LateCall) (new : Now) → thread_in call ≡ None
+ended_late : (s : Setting) (at : ℕ) (old : Moment) (job : JobView) (tx : TxView) (call : LateCall) (new : Moment) → thread_in call ≡ None
     → EndsLate (mover s at old job) tx call new → NextLate (mover s at old job) tx call new
 ended_late s at old job tx (late_call.Thread block) new starts row = cc starts
 ended_late s at old job tx (late_call.Unlink name) new starts row = row
@@ -83,63 +89,63 @@ module _ {H : Type 0} (model : HostModel H) (shared : Shared H) (journal : List 
   -- a moment with another job, where the host, the words and the sentinels may have changed
   pub moment_set : (shared' : Shared H) (journal' : List Entry) (job : Job)
       → moment model shared' journal' (slice_set jobs at job)
-      ≡ record (moment model shared' journal' jobs) { jobs = slice_set (seen_jobs jobs) at (seen_job job) }
-  moment_set shared' journal' job = ap (λ js. record (moment model shared' journal' jobs) { jobs = js }) (map_set seen_job jobs at job)
+      ≡ record (moment model shared' journal' jobs) { jobs = slice_set (job_views jobs) at (job_view job) }
+  moment_set shared' journal' job = ap (λ js. record (moment model shared' journal' jobs) { jobs = js }) (map_set job_view jobs at job)
 
-  seen_there : (s : Stage) → IsThere jobs at s was → slice_get (seen_jobs jobs) at ≡ Some (seen_job was)
-  seen_there s is = get_map seen_job jobs at was is.stands
+  seen_there : (s : Stage) → IsThere jobs at s was → slice_get (job_views jobs) at ≡ Some (job_view was)
+  seen_there s is = get_map job_view jobs at was is.there
 
   -- an idle job's
   pub idle_turned : (s : Setting) (sentinels' : Sentinels) (journal' : List Entry) (job : Job) (answer : Turn) → IsThere jobs at stage.Idle was
       → journal' ≡ journal
-      → IdleTurn (mover s at (moment model shared journal jobs) (seen_job was)) answer
-      (record (with_job (moment model shared journal jobs) at (seen_job job)) { marks = marks_of sentinels'.seats })
+      → IdleTurn (mover s at (moment model shared journal jobs) (job_view was)) answer
+      (record (with_job (moment model shared journal jobs) at (job_view job)) { marks = marks_of sentinels'.seats })
       → IsTurn s at (moment model shared journal jobs) answer (moment model (record shared { sentinels = sentinels' }) journal' (slice_set jobs at job))
   idle_turned s sentinels' journal' job answer is same row =
       let old = moment model shared journal jobs in
       let shared' = record shared { sentinels = sentinels' } in
-      let new : record (with_job old at (seen_job job)) { marks = marks_of sentinels'.seats } ≡ moment model shared' journal' (slice_set jobs at job) =
+      let new : record (with_job old at (job_view job)) { marks = marks_of sentinels'.seats } ≡ moment model shared' journal' (slice_set jobs at job) =
       sym (moment_set shared' journal job)
       ∙ ap (λ j. moment model shared' j (slice_set jobs at job)) (sym same) in
       subst (λ n. IsTurn s at old answer n) new
-      (row_turned s at old (record (with_job old at (seen_job job)) { marks = marks_of sentinels'.seats }) (seen_job was) Idle answer
+      (row_turned s at old (record (with_job old at (job_view job)) { marks = marks_of sentinels'.seats }) (job_view was) Idle answer
       (seen_there stage.Idle is) (idle_stage (doing_of was) is.stage) row)
 
   -- a starved job's
   pub starved_turned : (s : Setting) (job : Job) (answer : Turn) → IsThere jobs at stage.Starved was
-      → (seen_job job ≡ record (seen_job was) { doing = Ended job_end.NoMemory }) × (answer ≡ turn.Ended job_end.NoMemory)
+      → (job_view job ≡ record (job_view was) { doing = Ended job_end.NoMemory }) × (answer ≡ turn.Ended job_end.NoMemory)
       → IsTurn s at (moment model shared journal jobs) answer (moment model shared journal (slice_set jobs at job))
   starved_turned s job answer is ends =
       let old = moment model shared journal jobs in
       let new = moment model shared journal (slice_set jobs at job) in
-      let row : StarvedTurn (mover s at old (seen_job was)) (turn.Ended job_end.NoMemory) new =
+      let row : StarvedTurn (mover s at old (job_view was)) (turn.Ended job_end.NoMemory) new =
       moment_set shared journal job ∙ ap (with_job old at) ends.0 in
-      row_turned s at old new (seen_job was) Starved answer (seen_there stage.Starved is) (starved_stage (doing_of was) is.stage)
-      (subst (λ a. StarvedTurn (mover s at old (seen_job was)) a new) (sym ends.1) row)
+      row_turned s at old new (job_view was) Starved answer (seen_there stage.Starved is) (starved_stage (doing_of was) is.stage)
+      (subst (λ a. StarvedTurn (mover s at old (job_view was)) a new) (sym ends.1) row)
 
   -- a running job's
   pub running_turned : (s : Setting) (shared' : Shared H) (job : Job) (answer : Turn) → IsThere jobs at stage.Running was
       → shared'.started ≡ shared.started
-      → IsRunningRow (mover s at (moment model shared journal jobs) (seen_job was))
-      (moved model shared' (seen_job job) (moment model shared journal jobs) at) answer
+      → IsRunningRow (mover s at (moment model shared journal jobs) (job_view was))
+      (moved model shared' (job_view job) (moment model shared journal jobs) at) answer
       shared'.sentinels
       → IsTurn s at (moment model shared journal jobs) answer (moment model shared' journal (slice_set jobs at job))
   running_turned s shared' job answer is started row =
       let old = moment model shared journal jobs in
-      let new : moved model shared' (seen_job job) old at ≡ moment model shared' journal (slice_set jobs at job) =
-      ap (λ blocks. record (moved model shared' (seen_job job) old at) { started = blocks }) (sym (ap (λ (r : Roomy (List ℕ)). r.items) started))
+      let new : moved model shared' (job_view job) old at ≡ moment model shared' journal (slice_set jobs at job) =
+      ap (λ blocks. record (moved model shared' (job_view job) old at) { started = blocks }) (sym (ap (λ (r : Roomy (List ℕ)). r.items) started))
       ∙ sym (moment_set shared' journal job) in
       let mine = running_stage (doing_of was) is.stage in
       let one : mine.tx ≡ row.tx = (let a = mine.doing in let b = row.doing in cc (a, b)) in
       subst (λ n. IsTurn s at old answer n) new
-      (phase_turned s at old (moved model shared' (seen_job job) old at) (seen_job was) row.tx phase.Running answer (seen_there stage.Running is) row.doing
-      (ap (λ (t : SeenTx). t.phase) (sym one) ∙ mine.phase) row.row)
+      (phase_turned s at old (moved model shared' (job_view job) old at) (job_view was) row.tx phase.Running answer (seen_there stage.Running is) row.doing
+      (ap (λ (t : TxView). t.phase) (sym one) ∙ mine.phase) row.row)
 
   -- a committing job's, where a late call has no end: it starts no job
   pub committing_turned : (s : Setting) (shared' : Shared H) (job : Job) → (IsTrue s.tells → IsTrue model.tells) → IsThere jobs at stage.Committing was
-      → ((tx : SeenTx) → (seen_job was).doing ≡ Active tx → next_thread (late_left tx) ≡ None)
-      → ((tx : SeenTx) (call : LateCall) (calls : List LateCall) → (seen_job was).doing ≡ Active tx → late_left tx ≡ call ∷ calls
-      → (queue : Queue) × (seen_job job ≡ with_tx (seen_job was) was.place (with_queue tx queue))
+      → ((tx : TxView) → (job_view was).doing ≡ Active tx → next_thread (late_left tx) ≡ None)
+      → ((tx : TxView) (call : LateCall) (calls : List LateCall) → (job_view was).doing ≡ Active tx → late_left tx ≡ call ∷ calls
+      → (queue : Queue) × (job_view job ≡ with_tx (job_view was) was.place (with_queue tx queue))
       × EndsNext (fronted model) call (record { host = before shared.host shared.buffers.kept; late = queue_of tx })
       (record { host = before shared'.host shared.buffers.kept; late = queue }))
       → (shared'.words ≡ shared.words) × (shared'.sentinels ≡ shared.sentinels) × (shared'.buffers ≡ shared.buffers) × (shared'.started ≡ shared.started)
@@ -150,36 +156,36 @@ module _ {H : Type 0} (model : HostModel H) (shared : Shared H) (journal : List 
       let mine = committing_stage (doing_of was) is.stage in
       let gave = gives mine.tx mine.next mine.later mine.doing mine.left in
       let ends = gave.2 in
-      let job' : seen_job job ≡ with_tx (seen_job was) was.place (record mine.tx { ends = mine.tx.ends ++ ends.end ∷ [] }) =
-      gave.1 ∙ ap (λ (queue : Queue). with_tx (seen_job was) was.place (with_queue mine.tx queue)) ends.noted in
-      let row : EndsLate (mover s at old (seen_job was)) mine.tx mine.next new = record {
+      let job' : job_view job ≡ with_tx (job_view was) was.place (record mine.tx { ends = mine.tx.ends ++ ends.end ∷ [] }) =
+      gave.1 ∙ ap (λ (queue : Queue). with_tx (job_view was) was.place (with_queue mine.tx queue)) ends.noted in
+      let row : EndsLate (mover s at old (job_view was)) mine.tx mine.next new = record {
         end = ends.end;
         behind = moment_set shared' journal job
             ∙ (λ i. record (moment model shared' journal jobs) {
               words = same.0 i;
-              jobs = slice_set (seen_jobs jobs) at (job' i);
+              jobs = slice_set (job_views jobs) at (job' i);
               marks = marks_of ((same.1 i).seats);
               started = (same.3 i).items;
             });
         uses = (ends.uses.made, ends.uses.named, ends.uses.used.called);
         cause = ends.cause;
         does = λ tells.
-            subst (λ (lent : Lent). DoesLate (told_by model shared) (with_kept (model.contents shared'.host) lent.kept) mine.next ends.end) (sym same.2)
+            subst (λ (lent : Lent). EndsAsPlain (told_by model shared) (with_kept (model.contents shared'.host) lent.kept) mine.next ends.end) (sym same.2)
             (ends.does (telling tells));
       } in
-      phase_turned s at old new (seen_job was) mine.tx phase.Committing turn.Went (seen_there stage.Committing is) mine.doing mine.phase
-      (subst (λ left. LateTurn (mover s at old (seen_job was)) mine.tx left new) (sym mine.left)
-      (ended_late s at old (seen_job was) mine.tx mine.next new (sym (ap next_thread mine.left) ∙ none mine.tx mine.doing) row))
+      phase_turned s at old new (job_view was) mine.tx phase.Committing turn.Went (seen_there stage.Committing is) mine.doing mine.phase
+      (subst (λ left. LateTurn (mover s at old (job_view was)) mine.tx left new) (sym mine.left)
+      (ended_late s at old (job_view was) mine.tx mine.next new (sym (ap next_thread mine.left) ∙ none mine.tx mine.doing) row))
 
-  -- a committing job's, where each has one: what it started is live behind it
+  -- a committing job's, where each has one: what it started is live after it
   pub committed_turned : (s : Setting) (shared' : Shared H) (journal' : List Entry) (entry : Entry) (job : Job) (more : List Job) (number : ℕ)
       → IsThere jobs at stage.Committed was
-      → ((tx : SeenTx) (at : ℕ) → (seen_job was).doing ≡ Active tx → number ≡ at + 1
-      → (seen_job job ≡ behind_commit (seen_job was) tx) × (entry ≡ entry_of tx at (Committed tx.ends)))
-      → ((tx : SeenTx) → (seen_job was).doing ≡ Active tx → SetsSeat shared.sentinels.seats shared'.sentinels.seats tx.number None)
+      → ((tx : TxView) (at : ℕ) → (job_view was).doing ≡ Active tx → number ≡ at + 1
+      → (job_view job ≡ behind_commit (job_view was) tx) × (entry ≡ entry_of tx at (Committed tx.ends)))
+      → ((tx : TxView) → (job_view was).doing ≡ Active tx → SetsSeat shared.sentinels.seats shared'.sentinels.seats tx.number None)
       → number ≡ at + 1 → (shared'.host ≡ shared.host) × (shared'.words ≡ shared.words) × (shared'.started ≡ shared.started)
       → shared'.buffers.kept ≡ shared.buffers.kept → journal' ≡ journal ++ entry ∷ []
-      → ((tx : SeenTx) → (seen_job was).doing ≡ Active tx → seen_jobs more ≡ started_jobs s.script (seen_job was) tx)
+      → ((tx : TxView) → (job_view was).doing ≡ Active tx → job_views more ≡ started_jobs s.script (job_view was) tx)
       → length jobs + length more ≤ 1000
       → IsTurn s at (moment model shared journal jobs) turn.Went (moment model shared' journal' (slice_set jobs at job ++ more))
   committed_turned s shared' journal' entry job more number is gives gone counts same kept entered starts few =
@@ -189,11 +195,11 @@ module _ {H : Type 0} (model : HostModel H) (shared : Shared H) (journal : List 
       let gave = gives mine.tx at mine.doing counts in
       let marks' : marks_of shared'.sentinels.seats ≡ unmarked (marks_of shared.sentinels.seats) mine.tx.number =
       marks_unmarked shared.sentinels.seats shared'.sentinels.seats mine.tx.number None (gone mine.tx mine.doing) refl in
-      let live : seen_jobs (slice_set jobs at job ++ more)
-      ≡ slice_set (seen_jobs jobs) at (behind_commit (seen_job was) mine.tx) ++ started_jobs s.script (seen_job was) mine.tx =
-      map-append seen_job (slice_set jobs at job) more
-      ∙ (λ i. (map_set seen_job jobs at job ∙ ap (slice_set (seen_jobs jobs) at) gave.0) i ++ starts mine.tx mine.doing i) in
-      let row : EntersCommitted (mover s at old (seen_job was)) mine.tx new = (
+      let live : job_views (slice_set jobs at job ++ more)
+      ≡ slice_set (job_views jobs) at (behind_commit (job_view was) mine.tx) ++ started_jobs s.script (job_view was) mine.tx =
+      map-append job_view (slice_set jobs at job) more
+      ∙ (λ i. (map_set job_view jobs at job ∙ ap (slice_set (job_views jobs) at) gave.0) i ++ starts mine.tx mine.doing i) in
+      let row : EntersCommitted (mover s at old (job_view was)) mine.tx new = (
         λ i. record {
           words = same.1 i;
           contents = with_kept (model.contents (same.0 i)) (kept i);
@@ -204,17 +210,17 @@ module _ {H : Type 0} (model : HostModel H) (shared : Shared H) (journal : List 
           started = (same.2 i).items;
           marks = marks' i;
         },
-        (let a = length-map (slice_set jobs at job ++ more) seen_job in let b = length_set jobs at job in
+        (let a = length-map (slice_set jobs at job ++ more) job_view in let b = length_set jobs at job in
             let c = length-append (slice_set jobs at job) more in omega (arith, a, b, c, few)),
       ) in
-      phase_turned s at old new (seen_job was) mine.tx phase.Committing turn.Went (seen_there stage.Committed is) mine.doing mine.phase
-      (subst (λ left. LateTurn (mover s at old (seen_job was)) mine.tx left new) (sym mine.left) row)
+      phase_turned s at old new (job_view was) mine.tx phase.Committing turn.Went (seen_there stage.Committed is) mine.doing mine.phase
+      (subst (λ left. LateTurn (mover s at old (job_view was)) mine.tx left new) (sym mine.left) row)
 
   -- a committing job's, whose next late call starts a job
   pub starting_turned : (s : Setting) (shared' : Shared H) (job : Job) (block : List ℕ) (end : LateEnd) → IsThere jobs at stage.Committing was
-      → ((tx : SeenTx) → (seen_job was).doing ≡ Active tx → next_thread (late_left tx) ≡ Some block)
-      → ((tx : SeenTx) → (seen_job was).doing ≡ Active tx
-      → seen_job job ≡ with_tx (seen_job was) was.place (record tx { ends = tx.ends ++ end ∷ [] }))
+      → ((tx : TxView) → (job_view was).doing ≡ Active tx → next_thread (late_left tx) ≡ Some block)
+      → ((tx : TxView) → (job_view was).doing ≡ Active tx
+      → job_view job ≡ with_tx (job_view was) was.place (record tx { ends = tx.ends ++ end ∷ [] }))
       → IsStart s.script shared.started.items block end shared'.started.items
       → shared' ≡ record shared { started = shared'.started }
       → IsTurn s at (moment model shared journal jobs) turn.Went (moment model shared' journal (slice_set jobs at job))
@@ -223,21 +229,21 @@ module _ {H : Type 0} (model : HostModel H) (shared : Shared H) (journal : List 
       let new = moment model shared' journal (slice_set jobs at job) in
       let mine = committing_stage (doing_of was) is.stage in
       let first : mine.next ≡ late_call.Thread block = starts_block mine.next block (sym (ap next_thread mine.left) ∙ thread mine.tx mine.doing) in
-      let row : Starts (mover s at old (seen_job was)) mine.tx block new = record {
+      let row : Starts (mover s at old (job_view was)) mine.tx block new = record {
         end = end;
         behind = moment_set shared' journal job
             ∙ (λ i. record (moment model (same i) journal jobs) {
-              jobs = slice_set (seen_jobs jobs) at (gives mine.tx mine.doing i);
+              jobs = slice_set (job_views jobs) at (gives mine.tx mine.doing i);
               started = shared'.started.items;
             });
         starts = starts;
       } in
-      phase_turned s at old new (seen_job was) mine.tx phase.Committing turn.Went (seen_there stage.Committing is) mine.doing mine.phase
-      (subst (λ left. LateTurn (mover s at old (seen_job was)) mine.tx left new) (sym (mine.left ∙ ap (λ c. c ∷ mine.later) first)) row)
+      phase_turned s at old new (job_view was) mine.tx phase.Committing turn.Went (seen_there stage.Committing is) mine.doing mine.phase
+      (subst (λ left. LateTurn (mover s at old (job_view was)) mine.tx left new) (sym (mine.left ∙ ap (λ c. c ∷ mine.later) first)) row)
 
   -- an undoing job's, where a record has no end
   pub undoing_turned : (script : Script) (rules : Rules) (shared' : Shared H) (job : Job) (is : IsThere jobs at stage.Undoing was)
-      → ((tx : SeenTx) → (seen_job was).doing ≡ Active tx → (undo : Records) × (seen_job job ≡ with_tx (seen_job was) was.place (record tx { undo = undo }))
+      → ((tx : TxView) → (job_view was).doing ≡ Active tx → (undo : Records) × (job_view job ≡ with_tx (job_view was) was.place (record tx { undo = undo }))
       × IsTried model rules.undo_tries (record { host = shared.host; undo = tx.undo }) (record { host = shared'.host; undo = undo }))
       → ((older : List Undo) (u : Undo) → (undoing_stage (doing_of was) is.stage).tx.undo.pending ≡ older ++ u ∷ [] → IsTrue model.tells
       → AreElsewhere (objects_of u) shared.buffers.kept)
@@ -250,7 +256,7 @@ module _ {H : Type 0} (model : HostModel H) (shared : Shared H) (journal : List 
       let back = undoing_stage (doing_of was) is.stage in
       let gave = gives back.tx back.doing in
       let tried = gave.2 in
-      let row : Compensates (mover s at old (seen_job was)) back.tx new = record {
+      let row : Compensates (mover s at old (job_view was)) back.tx new = record {
         older = tried.older;
         tried = tried.tried;
         end = tried.end;
@@ -265,20 +271,20 @@ module _ {H : Type 0} (model : HostModel H) (shared : Shared H) (journal : List 
             ∙ (λ i. record (moment model shared' journal jobs) {
               words = same.0 i;
               started = (same.3 i).items;
-              jobs = slice_set (seen_jobs jobs) at ((gave.1 ∙ ap (λ undo. with_tx (seen_job was) was.place (record back.tx { undo = undo })) tried.stack) i);
+              jobs = slice_set (job_views jobs) at ((gave.1 ∙ ap (λ undo. with_tx (job_view was) was.place (record back.tx { undo = undo })) tried.stack) i);
               marks = marks_of ((same.1 i).seats);
             });
       } in
-      phase_turned s at old new (seen_job was) back.tx (phase.Undoing back.cause) turn.Went (seen_there stage.Undoing is) back.doing back.phase
-      (subst (λ pending. BackTurn (mover s at old (seen_job was)) back.tx back.cause pending new) (sym back.pending) row)
+      phase_turned s at old new (job_view was) back.tx (phase.Undoing back.cause) turn.Went (seen_there stage.Undoing is) back.doing back.phase
+      (subst (λ pending. BackTurn (mover s at old (job_view was)) back.tx back.cause pending new) (sym back.pending) row)
 
   -- an undoing job's, where each has one: what it took is given back
   pub undone_turned : (s : Setting) (shared' : Shared H) (journal' : List Entry) (entry : Entry) (job : Job) (number : ℕ) → IsThere jobs at stage.Undone was
-      → ((tx : SeenTx) (c : Cause) (at : ℕ) → (seen_job was).doing ≡ Active tx → tx.phase ≡ phase.Undoing c → number ≡ at + 1
-      → (seen_job job ≡ behind_abort (seen_job was) tx c) × (entry ≡ entry_of tx at (Aborted (record { cause = c; records = tx.undo.ended }))))
-      → ((tx : SeenTx) → (seen_job was).doing ≡ Active tx → SetsSeat shared.sentinels.seats shared'.sentinels.seats tx.number None)
+      → ((tx : TxView) (c : Cause) (at : ℕ) → (job_view was).doing ≡ Active tx → tx.phase ≡ phase.Undoing c → number ≡ at + 1
+      → (job_view job ≡ behind_abort (job_view was) tx c) × (entry ≡ entry_of tx at (Aborted (record { cause = c; records = tx.undo.ended }))))
+      → ((tx : TxView) → (job_view was).doing ≡ Active tx → SetsSeat shared.sentinels.seats shared'.sentinels.seats tx.number None)
       → number ≡ at + 1 → (shared'.host ≡ shared.host) × (shared'.words ≡ shared.words) × (shared'.started ≡ shared.started)
-      → Gives shared.buffers shared'.buffers (seen_job was)
+      → Gives shared.buffers shared'.buffers (job_view was)
       → journal' ≡ journal ++ entry ∷ []
       → IsTurn s at (moment model shared journal jobs) turn.Went (moment model shared' journal' (slice_set jobs at job))
   undone_turned s shared' journal' entry job number is gives gone counts same given entered =
@@ -288,7 +294,7 @@ module _ {H : Type 0} (model : HostModel H) (shared : Shared H) (journal : List 
       let gave = gives back.tx back.cause at back.doing back.phase counts in
       let marks' : marks_of shared'.sentinels.seats ≡ unmarked (marks_of shared.sentinels.seats) back.tx.number =
       marks_unmarked shared.sentinels.seats shared'.sentinels.seats back.tx.number None (gone back.tx back.doing) refl in
-      let row : EntersAborted (mover s at old (seen_job was)) back.tx back.cause new = record {
+      let row : EntersAborted (mover s at old (job_view was)) back.tx back.cause new = record {
         behind = moment_set shared' journal' job
             ∙ (λ i. record {
               words = same.1 i;
@@ -296,12 +302,12 @@ module _ {H : Type 0} (model : HostModel H) (shared : Shared H) (journal : List 
               faults = model.fault_count (same.0 i);
               calls = model.calls (same.0 i);
               journal = (entered ∙ ap (λ e. journal ++ e ∷ []) gave.1) i;
-              jobs = slice_set (seen_jobs jobs) at (gave.0 i);
+              jobs = slice_set (job_views jobs) at (gave.0 i);
               started = (same.2 i).items;
               marks = marks' i;
             });
         returned = λ tells. ap (λ h. with_kept (model.contents h) shared'.buffers.kept) same.0
             ∙ kept_again (model.contents shared.host) shared.buffers.kept shared'.buffers.kept back.tx.taken (λ w. given.given w back.tx back.doing);
       } in
-      phase_turned s at old new (seen_job was) back.tx (phase.Undoing back.cause) turn.Went (seen_there stage.Undone is) back.doing back.phase
-      (subst (λ pending. BackTurn (mover s at old (seen_job was)) back.tx back.cause pending new) (sym back.pending) row)
+      phase_turned s at old new (job_view was) back.tx (phase.Undoing back.cause) turn.Went (seen_there stage.Undone is) back.doing back.phase
+      (subst (λ pending. BackTurn (mover s at old (job_view was)) back.tx back.cause pending new) (sym back.pending) row)

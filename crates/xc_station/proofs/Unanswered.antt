@@ -11,14 +11,15 @@ use Rattle.xc_data.specs.declared.private.Private.{Private}
 use Rattle.xc_data.specs.declared.call.Reply.{Reply}
 use Rattle.xc_data.specs.declared.entry.KeptItem.{KeptItem}
 use Rattle.xc_host.specs.Model.{HostModel}
-use Rattle.xc_script.specs.Ask.{value_in}
-use Rattle.xc_story.specs.Seen.{SeenTx}
+use Rattle.xc_script.specs.Answers.{value_in}
+use Rattle.xc_model.specs.Moment.{TxView}
 use Rattle.xc_world.specs.Effects.{takes_data}
 use Rattle.xc_world.specs.Run.{given_back, gives, taken_by}
 use Rattle.xc_world.specs.World.{World}
-use Rattle.xc_station.specs.Acting.{Acting, HasDone, IsLentFor, IsSidedFor, LeavesOff}
+use Rattle.xc_station.specs.Acting.{Acting, HasDoneAsPlain, IsLentFor, IsSidedFor, LeavesOff}
 use Rattle.xc_station.specs.Lent.{IsBacked, StaysBacked}
-use Rattle.xc_station.proofs.Doings.{none_taken, taking_undone, unanswered}
+use Rattle.xc_station.proofs.Doings.{none_taken}
+use Rattle.xc_station.proofs.DoingsStarved.{taking_undone, unanswered}
 use Rattle.xc_station.proofs.Giving.{given_last}
 use Rattle.xc_station.proofs.Takings.{one_taken}
 use Rattle.xc_turns.proofs.Sided.{sided_at}
@@ -44,13 +45,13 @@ none_of : (items : List KeptItem) → length items ≤ 0 → items ≡ []
 none_of [] none = refl
 none_of (item ∷ items) none = absurd (omega (arith, none))
 
-module _ {H : Type 0} (model : HostModel H) (c : Call) (old new : Acting H) (reply : Reply) (d : HasDone model c old new reply)
+module _ {H : Type 0} (model : HostModel H) (c : Call) (old new : Acting H) (reply : Reply) (d : HasDoneAsPlain model c old new reply)
     (sided : All IsSided old.tx.me.places) where
   abbrev took : List KeptItem
   took = taken_by c old.tx.me reply
 
   noted_behind : new.tx.taken ≡ old.tx.taken ++ took
-  noted_behind = ap (λ (t : SeenTx). t.taken) d.tx
+  noted_behind = ap (λ (t : TxView). t.taken) d.tx
 
   -- where there is more than before, the last is what it took
   last_taken : length old.tx.taken < length new.tx.taken → (item : KeptItem) × (took ≡ item ∷ [])

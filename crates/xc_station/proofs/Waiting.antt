@@ -13,18 +13,19 @@ use Rattle.xc_data.specs.declared.entry.Cause.{Cause}
 use Rattle.xc_data.specs.declared.entry.Entry.{Entry}
 use Rattle.xc_data.specs.declared.entry.Turn.{Turn}
 use Rattle.xc_host.specs.Model.{HostModel}
-use Rattle.xc_journal.specs.Room.{Roomy}
+use Rattle.xc_roomy.specs.Room.{Roomy}
 use Rattle.xc_text.specs.declared.script.Script.{Script}
-use Rattle.xc_story.specs.declared.phase.Phase.TheVariants as phase
+use Rattle.xc_model.specs.declared.phase.Phase.TheVariants as phase
 use Rattle.xc_script.specs.Ask.{block_place}
 use Rattle.xc_script.specs.Position.{at_begin}
 use Rattle.xc_script.specs.Slots.{kept_of}
-use Rattle.xc_story.specs.LateCalls.{started_late, started_with}
-use Rattle.xc_story.specs.Rows.{IsTurn, behind_commit, started_job, started_jobs}
-use Rattle.xc_story.specs.Seen.{SeenTx, SeenJob, Doing, Idle, Active, Starved, Ended, Now, active_in, active_of, actives, late_left}
-use Rattle.xc_story.specs.Setting.{Setting}
-use Rattle.xc_story.specs.Started.{starting, started_by}
-use Rattle.xc_story.specs.Told.{IsInPhase, IsRunning}
+use Rattle.xc_model.specs.LateCalls.{started_late, started_with}
+use Rattle.xc_model.specs.Rows.{IsTurn}
+use Rattle.xc_model.specs.Entering.{behind_commit, started_job, started_jobs}
+use Rattle.xc_model.specs.Moment.{TxView, JobView, Doing, Idle, Active, Starved, Ended, Moment, active_in, active_of, actives, late_left}
+use Rattle.xc_model.specs.Setting.{Setting}
+use Rattle.xc_model.specs.Started.{starting, started_by}
+use Rattle.xc_model.specs.Stories.{IsInPhase, IsRunning}
 use Rattle.xc_turns.proofs.CountedSums.{adds, sum_set}
 use Rattle.xc_turns.proofs.CountedTurns.{in_phase, none_late}
 use Rattle.xc_turns.proofs.StartedLists.{no_thread}
@@ -32,11 +33,11 @@ use Rattle.xc_turns.proofs.StartedTurns.{none_started, one_more, started_count}
 use Rattle.xc_world.specs.World.{beginning}
 use Rattle.xc_station.specs.declared.calls.Shared.{Shared}
 use Rattle.xc_station.specs.declared.job.Job.{Job}
-use Rattle.xc_station.specs.Jobs.{HasChildren, doing_of, seen_child, seen_job, started_in}
+use Rattle.xc_station.specs.Jobs.{HasChildren, doing_of, child_view, job_view, started_in}
 use Rattle.xc_station.specs.Starting.{StartsChild}
 use Rattle.xc_station.specs.Stations.{HasStarts, IsSteady, Room, moment}
 use Rattle.xc_station.proofs.Children.{handed_same}
-use Rattle.xc_station.proofs.Placed.{get_map, get_other, get_set, length_set, map_set}
+use Rattle.xc_data.proofs.Lists.{get_map, get_set_other, get_set_same, length_set, map_set}
 use Rattle.xc_station.proofs.Steady.{steady_kept}
 
 -- ---- how much a transaction has started
@@ -45,20 +46,20 @@ empty [] none = refl
 empty (x ∷ xs) none = absurd (omega arith)
 
 -- as many jobs as blocks
-pub as_many : (script : Script) (job : SeenJob) (d : Doing) → length (started_in script job d) ≡ adds starting (active_in d)
+pub as_many : (script : Script) (job : JobView) (d : Doing) → length (started_in script job d) ≡ adds starting (active_in d)
 as_many script job Idle = refl
 as_many script job (Active tx) = length-map (started_by tx) (started_job script (behind_commit job tx))
 as_many script job Starved = refl
 as_many script job (Ended end) = refl
 
 -- without ends none
-pub none_without : (script : Script) (job : SeenJob) (tx : SeenTx) → job.doing ≡ Active tx → tx.ends ≡ [] → started_in script job job.doing ≡ []
+pub none_without : (script : Script) (job : JobView) (tx : TxView) → job.doing ≡ Active tx → tx.ends ≡ [] → started_in script job job.doing ≡ []
 none_without script job tx is none =
     ap (started_in script job) is
     ∙ ap (map (started_job script (behind_commit job tx))) (ap (started_late tx.late) none ∙ none_started tx.late)
 
 -- what a job starts has the variables of the commit, whatever its late calls end in
-same_started : (script : Script) (job : SeenJob) (tx : SeenTx) (ends : List LateEnd) (block : List ℕ)
+same_started : (script : Script) (job : JobView) (tx : TxView) (ends : List LateEnd) (block : List ℕ)
     → started_job script (behind_commit job (record tx { ends = ends })) block ≡ started_job script (behind_commit job tx) block
 same_started script job tx ends block =
     let kept = kept_of tx.calls tx.replies in
@@ -73,7 +74,7 @@ same_started script job tx ends block =
     }
 
 -- with one end more, those are started that it tells of
-pub more_started : (script : Script) (job : SeenJob) (tx : SeenTx) (c : LateCall) (rest : List LateCall) (e : LateEnd) → late_left tx ≡ c ∷ rest
+pub more_started : (script : Script) (job : JobView) (tx : TxView) (c : LateCall) (rest : List LateCall) (e : LateEnd) → late_left tx ≡ c ∷ rest
     → started_jobs script job (record tx { ends = tx.ends ++ e ∷ [] })
     ≡ started_jobs script job tx ++ map (started_job script (behind_commit job tx)) (started_with (thread_in c) e)
 more_started script job tx c rest e left =
@@ -82,7 +83,7 @@ more_started script job tx c rest e left =
     ∙ map-append (started_job script (behind_commit job tx)) (started_by tx) (started_with (thread_in c) e)
 
 -- none, where the call starts no job
-pub hosted_same : (script : Script) (job : SeenJob) (tx : SeenTx) (c : LateCall) (rest : List LateCall) (e : LateEnd) → late_left tx ≡ c ∷ rest
+pub hosted_same : (script : Script) (job : JobView) (tx : TxView) (c : LateCall) (rest : List LateCall) (e : LateEnd) → late_left tx ≡ c ∷ rest
     → thread_in c ≡ None → started_jobs script job (record tx { ends = tx.ends ++ e ∷ [] }) ≡ started_jobs script job tx
 hosted_same script job tx c rest e left none =
     let f = started_job script (behind_commit job tx) in
@@ -91,25 +92,25 @@ hosted_same script job tx c rest e left none =
     ∙ append-nil (started_jobs script job tx)
 
 -- what a start leaves waits with its job
-pub start_waits : (script : Script) (was next : Job) (tx : SeenTx) (c : LateCall) (rest : List LateCall) (block : List ℕ) (e : LateEnd)
+pub start_waits : (script : Script) (was next : Job) (tx : TxView) (c : LateCall) (rest : List LateCall) (block : List ℕ) (e : LateEnd)
     → doing_of was ≡ Active tx → late_left tx ≡ c ∷ rest → thread_in c ≡ Some block → HasChildren script was
     → StartsChild script was block e next.children.items
-    → map seen_child next.children.items ≡ started_jobs script (seen_job was) (record tx { ends = tx.ends ++ e ∷ [] })
+    → map child_view next.children.items ≡ started_jobs script (job_view was) (record tx { ends = tx.ends ++ e ∷ [] })
 start_waits script was next tx c rest block e is left thread has starts =
     by_end e starts
-    ∙ ap (λ o. started_jobs script (seen_job was) tx ++ map (started_job script (behind_commit (seen_job was) tx)) (started_with o e)) (sym thread)
-    ∙ sym (more_started script (seen_job was) tx c rest e left)
+    ∙ ap (λ o. started_jobs script (job_view was) tx ++ map (started_job script (behind_commit (job_view was) tx)) (started_with o e)) (sym thread)
+    ∙ sym (more_started script (job_view was) tx c rest e left)
   where
-    before : map seen_child was.children.items ≡ started_jobs script (seen_job was) tx
-    before = has ∙ ap (started_in script (seen_job was)) is
+    before : map child_view was.children.items ≡ started_jobs script (job_view was) tx
+    before = has ∙ ap (started_in script (job_view was)) is
 
-    same : next.children.items ≡ was.children.items → map seen_child next.children.items ≡ started_jobs script (seen_job was) tx ++ []
-    same none = ap (map seen_child) none ∙ before ∙ sym (append-nil (started_jobs script (seen_job was) tx))
+    same : next.children.items ≡ was.children.items → map child_view next.children.items ≡ started_jobs script (job_view was) tx ++ []
+    same none = ap (map child_view) none ∙ before ∙ sym (append-nil (started_jobs script (job_view was) tx))
 
-    by_end : (d : LateEnd) → StartsChild script was block d next.children.items → map seen_child next.children.items
-        ≡ started_jobs script (seen_job was) tx ++ map (started_job script (behind_commit (seen_job was) tx)) (started_with (Some block) d)
+    by_end : (d : LateEnd) → StartsChild script was block d next.children.items → map child_view next.children.items
+        ≡ started_jobs script (job_view was) tx ++ map (started_job script (behind_commit (job_view was) tx)) (started_with (Some block) d)
     by_end end.Done (child, pushed, gives) =
-        ap (map seen_child) pushed ∙ map-append seen_child was.children.items (child ∷ []) ∙ (λ i. before i ++ gives tx is i ∷ [])
+        ap (map child_view) pushed ∙ map-append child_view was.children.items (child ∷ []) ∙ (λ i. before i ++ gives tx is i ∷ [])
     by_end end.NoScript none = same none
     by_end (end.Full n) none = same none
     by_end (end.NoMemory n) none = same none
@@ -118,7 +119,7 @@ start_waits script was next tx c rest block e is left thread has starts =
     by_end end.NoName none = same none
 
 -- so a running one has started none
-pub none_running : (s : Setting) (faults : ℕ) (now : Now) (at : ℕ) (job : SeenJob) (tx : SeenTx) → IsSteady s faults now
+pub none_running : (s : Setting) (faults : ℕ) (now : Moment) (at : ℕ) (job : JobView) (tx : TxView) → IsSteady s faults now
     → slice_get now.jobs at ≡ Some job → job.doing ≡ Active tx → tx.phase ≡ phase.Running → started_in s.script job job.doing ≡ []
 none_running s faults now at job tx steady stands is runs =
     let in' = in_phase s at now job tx stands is steady.kept.told in
@@ -126,13 +127,13 @@ none_running s faults now at job tx steady stands is runs =
     none_without s.script job tx is running.no_ends
 
 -- nor has one that undoes
-pub none_undoing : (s : Setting) (faults : ℕ) (now : Now) (at : ℕ) (job : SeenJob) (tx : SeenTx) (c : Cause) → IsSteady s faults now
+pub none_undoing : (s : Setting) (faults : ℕ) (now : Moment) (at : ℕ) (job : JobView) (tx : TxView) (c : Cause) → IsSteady s faults now
     → slice_get now.jobs at ≡ Some job → job.doing ≡ Active tx → tx.phase ≡ phase.Undoing c → started_in s.script job job.doing ≡ []
 none_undoing s faults now at job tx c steady stands is undoes =
     none_without s.script job tx is (none_late s at now job tx c stands is undoes steady.kept.told)
 
 -- where a turn starts none, a job that had started none has started none
-still_none : (s : Setting) (faults at : ℕ) (old new : Now) (answer : Turn) (was job : SeenJob) → IsSteady s faults old → IsTurn s at old answer new
+still_none : (s : Setting) (faults at : ℕ) (old new : Moment) (answer : Turn) (was job : JobView) → IsSteady s faults old → IsTurn s at old answer new
     → slice_get old.jobs at ≡ Some was → new.jobs ≡ slice_set old.jobs at job → new.started ≡ old.started
     → started_in s.script was was.doing ≡ [] → started_in s.script job job.doing ≡ []
 still_none s faults at old new answer was job steady turned stands jobs started none =
@@ -156,29 +157,29 @@ starts_set script started jobs room at was job stands has all =
     record {
       children = λ j other there. dite (ℕ_discrete j at)
           (λ same.
-          let here : Some job ≡ Some other = sym (get_set jobs at was job stands) ∙ ap (slice_get (slice_set jobs at job)) (sym same) ∙ there in
+          let here : Some job ≡ Some other = sym (get_set_same jobs at was job stands) ∙ ap (slice_get (slice_set jobs at job)) (sym same) ∙ there in
           let one : job ≡ other = cc here in
           subst (HasChildren script) one has)
-          (λ away. all.children j other (sym (get_other jobs at j job away) ∙ there));
+          (λ away. all.children j other (sym (get_set_other jobs at j job away) ∙ there));
       jobs_room = all.jobs_room;
       lines_room = all.lines_room;
       marks_room = all.marks_room;
     }
 
--- behind a turn that starts none, of a job that had started none
+-- after a turn that starts none, of a job that had started none
 pub starts_still : {H : Type 0} (model : HostModel H) (shared shared' : Shared H) (journal journal' : List Entry) (jobs : List Job) (at : ℕ)
     (was job : Job) (room : Room) (s : Setting) (faults : ℕ) (answer : Turn)
     → IsSteady s faults (moment model shared journal jobs) → slice_get jobs at ≡ Some was
     → IsTurn s at (moment model shared journal jobs) answer (moment model shared' journal' (slice_set jobs at job))
-    → shared'.started ≡ shared.started → started_in s.script (seen_job was) (doing_of was) ≡ [] → job.children.items ≡ was.children.items
+    → shared'.started ≡ shared.started → started_in s.script (job_view was) (doing_of was) ≡ [] → job.children.items ≡ was.children.items
     → HasStarts s.script shared.started.items jobs room
     → HasStarts s.script shared'.started.items (slice_set jobs at job) room
 starts_still model shared shared' journal journal' jobs at was job room s faults answer steady stands turned same none children all =
     let old = moment model shared journal jobs in
     let new = moment model shared' journal' (slice_set jobs at job) in
     let names : new.started ≡ old.started = ap (λ (r : Roomy (List ℕ)). r.items) same in
-    let none' = still_none s faults at old new answer (seen_job was) (seen_job job) steady turned (get_map seen_job jobs at was stands)
-    (map_set seen_job jobs at job) names none in
+    let none' = still_none s faults at old new answer (job_view was) (job_view job) steady turned (get_map job_view jobs at was stands)
+    (map_set job_view jobs at job) names none in
     subst (λ started. HasStarts s.script started (slice_set jobs at job) room) (sym names)
     (starts_set s.script shared.started.items jobs room at was job stands
-    (ap (map seen_child) children ∙ all.children at was stands ∙ none ∙ sym none') all)
+    (ap (map child_view) children ∙ all.children at was stands ∙ none ∙ sym none') all)

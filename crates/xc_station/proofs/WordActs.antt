@@ -17,11 +17,11 @@ use Rattle.xc_world.specs.Act.Step.{step_to}
 use Rattle.xc_world.specs.Fits.{answer_of}
 use Rattle.xc_world.specs.Trail.{recorded}
 use Rattle.xc_data.specs.Faults.{is_fault_reply}
-use Rattle.xc_script.specs.Ask.{value_in}
-use Rattle.xc_story.specs.Rows.{stored_by}
-use Rattle.xc_story.specs.WordCalls.{IsWordStep, is_word_call, word_reply, words_after}
+use Rattle.xc_script.specs.Answers.{value_in}
+use Rattle.xc_model.specs.PlainSteps.{stored_by}
+use Rattle.xc_model.specs.WordCalls.{IsWordStep, is_word_call, word_reply, words_after}
 
--- an empty list behind a list changes nothing
+-- an empty list after a list changes nothing
 pub append_nil : {A : Type 0} (xs : List A) → xs ++ [] ≡ xs
 append_nil [] = refl
 append_nil (x ∷ xs) = ap (λ ys. x ∷ ys) (append_nil xs)

@@ -35,12 +35,12 @@ use Rattle.xc_world.specs.Late.{kept_call}
 use Rattle.xc_world.specs.Run.{taken_by}
 use Rattle.xc_world.specs.Trail.{recorded}
 use Rattle.xc_world.specs.World.{World}
-use Rattle.xc_story.specs.declared.phase.Phase.TheVariants.{Running}
-use Rattle.xc_story.specs.Rows.{DoesIn, DoesPartIn, IsReplyInTime, Parts, StopsAt, parts_of, stored_by}
-use Rattle.xc_story.specs.Seen.{SeenTx}
-use Rattle.xc_story.specs.WordCalls.{IsWordStep}
+use Rattle.xc_model.specs.declared.phase.Phase.TheVariants.{Running}
+use Rattle.xc_model.specs.PlainSteps.{StepsAsPlainIn, LeavesAsPlainIn, IsReplyInTime, Parts, StopsAt, tx_parts, stored_by}
+use Rattle.xc_model.specs.Moment.{TxView}
+use Rattle.xc_model.specs.WordCalls.{IsWordStep}
 use Rattle.xc_station.specs.declared.tx.Tx.{Tx}
-use Rattle.xc_station.specs.Jobs.{seen_tx}
+use Rattle.xc_station.specs.Jobs.{tx_view}
 use Rattle.xc_station.specs.Lent.{IsBacked}
 
 -- ---- room
@@ -55,7 +55,7 @@ pub record HasRoom (tx : Tx) (claims : List Claim) : Type 0 where
   pub held : HasRoomFor tx.held claims
 
 -- ---- a transaction that may do its next call on so many words
-pub record MayGo (words : ℕ) (tx : SeenTx) : Type 0 where
+pub record MayGo (words : ℕ) (tx : TxView) : Type 0 where
   pub running : tx.phase ≡ Running
   pub within : AreWithin words tx.writes
   pub stored : tx.me.stored ≤ 16384
@@ -64,7 +64,7 @@ pub record MayGo (words : ℕ) (tx : SeenTx) : Type 0 where
 
 -- and what the contents of a host have for it: each open file is there, within its limit, and no file has the number of
 -- the next object that it makes
-pub record AreReadyFor (tx : SeenTx) (contents : Contents) : Type 0 where
+pub record AreReadyFor (tx : TxView) (contents : Contents) : Type 0 where
   pub files : (h : ℕ) → IsOpenIn contents (place_of tx.me.places h)
   pub new : IsNewIn contents tx.me tx.number
 
@@ -95,7 +95,7 @@ IsSidedFor me (call.XSendmsg h bytes slot) = IsSided (place_of me.places h)
 -- no other call is on a side, nor one yet to come
 IsSidedFor me _ = Unit {0}
 
--- a call that takes, and for which memory was wanting: it called the host for no more than the call, met no fault, and left the
+-- a call that takes, and for which memory ran out: it called the host for no more than the call, met no fault, and left the
 -- private state
 pub record StopsTaking {H : Type 0} (model : HostModel H) (call : Call) (host : Step H) (state : Step Private) : Type 0 where
   pub uses : Uses model host (StopsFor call)
@@ -108,15 +108,15 @@ pub record Acting (H : Type 0) : Type 0 where
   pub host : H
   pub kept : List KeptItem
   pub words : List ℕ
-  pub tx : SeenTx
+  pub tx : TxView
 
 -- the same of the code's transaction
 abbrev pub acting : {H : Type 0} → H → List KeptItem → List ℕ → Tx → Acting H
-acting host kept words tx = record { host = host; kept = kept; words = words; tx = seen_tx tx }
+acting host kept words tx = record { host = host; kept = kept; words = words; tx = tx_view tx }
 
--- the transaction with these parts, behind a call that got this reply: its late call is kept where that is late, and what it took
+-- the transaction with these parts, after a call that got this reply: its late call is kept where that is late, and what it took
 -- is noted
-abbrev pub with_parts : SeenTx → Call → Reply → Parts → SeenTx
+abbrev pub with_parts : TxView → Call → Reply → Parts → TxView
 with_parts tx call reply parts =
     record tx {
       me = parts.me;
@@ -126,15 +126,15 @@ with_parts tx call reply parts =
       late = tx.late ++ kept_call call tx.me reply;
     }
 
--- a transaction with these records behind its own
-abbrev pub leaving : SeenTx → List Undo → SeenTx
+-- a transaction with these records after its own
+abbrev pub leaving : TxView → List Undo → TxView
 leaving tx left = record tx { undo = record tx.undo { pending = tx.undo.pending ++ left } }
 
 -- what the host tells, with what is kept in front of it
 abbrev pub told_of : {H : Type 0} → HostModel H → Acting H → Contents
 told_of model a = with_kept (model.contents a.host) a.kept
 
--- the same before and behind
+-- the same before and after
 abbrev pub told_between : {H : Type 0} → HostModel H → Acting H → Acting H → Step Contents
 told_between model old new = record { old = told_of model old; new = told_of model new }
 
@@ -142,8 +142,8 @@ module _ {H : Type 0} (model : HostModel H) (call : Call) (old new : Acting H) w
   -- the call was done with this reply, as a row of calls says it: whether a check refused it, its private state, its stores, its
   -- records, its part on words, its calls of the host, its fault, whether it is kept for the commit, and over a host that tells
   -- the plain machine's step
-  pub record HasDone (reply : Reply) : Type 0 where
-    pub tx : new.tx ≡ with_parts old.tx call reply (parts_of new.tx)
+  pub record HasDoneAsPlain (reply : Reply) : Type 0 where
+    pub tx : new.tx ≡ with_parts old.tx call reply (tx_parts new.tx)
     pub checked : IsChecked (refusal_of call old.tx.me) call reply
     pub after : IsMeAfter old.tx.number call reply old.tx.me new.tx.me
     pub stores : new.tx.writes ≡ old.tx.writes ++ stored_by (length old.words) call
@@ -160,9 +160,9 @@ module _ {H : Type 0} (model : HostModel H) (call : Call) (old new : Acting H) w
     pub backed : IsTrue model.tells → All (IsBacked (model.contents old.host)) (taken_by call old.tx.me reply)
     pub keeps : IsTrue model.tells → KeepsData (model.contents old.host) (model.contents new.host)
     pub does : IsTrue model.tells
-        → DoesIn old.words (told_between model old new) (record { old = parts_of old.tx; new = parts_of new.tx }) call reply
+        → StepsAsPlainIn old.words (told_between model old new) (record { old = tx_parts old.tx; new = tx_parts new.tx }) call reply
 
-  -- memory was wanting: the transaction is as before but for what the call left, at most one record, and the host was called for
+  -- memory ran out: the transaction is as before but for what the call left, at most one record, and the host was called for
   -- no more than the call. Over a host that tells nothing was left and nothing is changed, or with some answer the call did its
   -- part
   pub record LeavesOff : Type 0 where
@@ -175,9 +175,9 @@ module _ {H : Type 0} (model : HostModel H) (call : Call) (old new : Acting H) w
     pub contents : IsTrue model.tells
         → ((left ≡ []) × (told_of model new ≡ told_of model old))
         ⊎ ((answer : Answer)
-        × DoesPartIn old.words (told_between model old new) (parts_of old.tx) (record { call = call; answer = answer }) left)
+        × LeavesAsPlainIn old.words (told_between model old new) (tx_parts old.tx) (record { call = call; answer = answer }) left)
 
   -- by what the call answers
-  abbrev pub HasActed : Result Reply NoMemory → Type 0
-  HasActed (Ok reply) = HasDone reply
-  HasActed (Err e) = LeavesOff
+  abbrev pub HasActedAsPlain : Result Reply NoMemory → Type 0
+  HasActedAsPlain (Ok reply) = HasDoneAsPlain reply
+  HasActedAsPlain (Err e) = LeavesOff

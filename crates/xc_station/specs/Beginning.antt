@@ -6,10 +6,10 @@ use Rattle.xc_data.specs.declared.entry.Turn.TheVariants as turn
 use Rattle.xc_data.specs.declared.object.Object.{Object}
 use Rattle.xc_sentinel.specs.Seated.{Seats}
 use Rattle.xc_sentinel.specs.Seating.{KeepsSeats, SetsSeat, seat_in}
-use Rattle.xc_story.specs.declared.phase.Attempts.{Attempts}
-use Rattle.xc_story.specs.Setting.{Setting}
-use Rattle.xc_story.specs.Seen.{SeenJob, Ended, Now, waiting}
-use Rattle.xc_story.specs.Rows.{IsEnding, IsWaiting, NamesLast}
+use Rattle.xc_model.specs.declared.phase.Attempts.{Attempts}
+use Rattle.xc_model.specs.Setting.{Setting}
+use Rattle.xc_model.specs.Moment.{JobView, Ended, Moment, waiting}
+use Rattle.xc_model.specs.IdleRows.{IsEnding, IsWaiting, NamesLast}
 use Rattle.xc_station.specs.declared.begin.Halt.{Halt}
 use Rattle.xc_station.specs.declared.begin.Halt.TheVariants.{End, Wait}
 
@@ -24,7 +24,7 @@ IsDone attempts patience busy seats = (object : Object) (number : ℕ) → Names
     → is_some (seat_in seats number) ≡ true → ⊥
 
 -- an idle job that doesn't begin ends, or waits for a transaction
-abbrev pub IsHalted : Setting → Now → SeenJob → Halt → Type 0
+abbrev pub IsHalted : Setting → Moment → JobView → Halt → Type 0
 IsHalted s now job (End end) = IsEnding s now job end
 IsHalted s now job (Wait object holder) = IsWaiting s now job object holder
 
@@ -33,12 +33,12 @@ abbrev pub WaitsOnly : ℕ → ℕ → Halt → Type 0
 WaitsOnly busy patience (End end) = Unit {0}
 WaitsOnly busy patience (Wait object holder) = busy < patience
 
--- the job behind that turn, and what it answers
-abbrev pub IsStopped : SeenJob → SeenJob → Halt → Turn → Type 0
+-- the job after that turn, and what it answers
+abbrev pub IsStopped : JobView → JobView → Halt → Turn → Type 0
 IsStopped was is (End end) answer = (is ≡ record was { doing = Ended end }) × (answer ≡ turn.Ended end)
 IsStopped was is (Wait object holder) answer = (is ≡ waiting was) × (answer ≡ turn.Busy object holder)
 
--- the seats behind it: a transaction of this number and rank has begun, or they are as before
+-- the seats after it: a transaction of this number and rank has begun, or they are as before
 abbrev pub IsSeatBehind : ℕ → ℕ → Seats → Seats → Turn → Type 0
 IsSeatBehind number rank old new turn.Went = SetsSeat old new number (Some (record { rank = rank; running = true; mark = None }))
 -- with any other answer no transaction began

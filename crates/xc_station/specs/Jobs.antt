@@ -9,10 +9,10 @@ use Rattle.xc_data.specs.declared.private.Private.{Private}
 use Rattle.xc_data.specs.declared.undo.Undo.{Undo}
 use Rattle.xc_text.specs.declared.script.Script.{Script}
 use Rattle.xc_world.specs.Ends.{Ending}
-use Rattle.xc_story.specs.Rows.{started_jobs}
-use Rattle.xc_story.specs.declared.phase.Phase.{Phase}
-use Rattle.xc_story.specs.declared.phase.Phase.TheVariants as phase
-use Rattle.xc_story.specs.Seen.{SeenTx, SeenJob, Doing, Idle, Active, Starved, Ended, late_left}
+use Rattle.xc_model.specs.Entering.{started_jobs}
+use Rattle.xc_model.specs.declared.phase.Phase.{Phase}
+use Rattle.xc_model.specs.declared.phase.Phase.TheVariants as phase
+use Rattle.xc_model.specs.Moment.{TxView, JobView, Doing, Idle, Active, Starved, Ended, late_left}
 use Rattle.xc_station.specs.declared.tx.Tx.{Tx}
 use Rattle.xc_station.specs.declared.job.Child.{Child}
 use Rattle.xc_station.specs.declared.job.Job.{Job}
@@ -21,9 +21,9 @@ use Rattle.xc_station.specs.declared.job.Activity.TheVariants as activity
 use Rattle.xc_station.specs.declared.job.Stage.{Stage}
 use Rattle.xc_station.specs.declared.job.Stage.TheVariants as stage
 
--- a transaction, without the room behind its lists
-abbrev pub seen_tx : Tx → SeenTx
-seen_tx tx =
+-- a transaction, without the room after its lists
+abbrev pub tx_view : Tx → TxView
+tx_view tx =
     record {
       number = tx.number;
       rank = tx.rank;
@@ -45,28 +45,28 @@ abbrev pub begun_of : Tx → Private
 begun_of tx = if tx.changed then tx.begun.value else tx.me.value
 
 -- what a job with this transaction does
-abbrev pub seen_doing : Tx → Activity → Doing
-seen_doing tx activity.Idle = Idle
-seen_doing tx activity.Active = Active (seen_tx tx)
-seen_doing tx activity.Starved = Starved
-seen_doing tx (activity.Ended end) = Ended end
+abbrev pub doing_view : Tx → Activity → Doing
+doing_view tx activity.Idle = Idle
+doing_view tx activity.Active = Active (tx_view tx)
+doing_view tx activity.Starved = Starved
+doing_view tx (activity.Ended end) = Ended end
 
 -- what a job does
 abbrev pub doing_of : Job → Doing
-doing_of job = seen_doing job.tx job.activity
+doing_of job = doing_view job.tx job.activity
 
 -- a job
-abbrev pub seen_job : Job → SeenJob
-seen_job job =
+abbrev pub job_view : Job → JobView
+job_view job =
     record { block = job.block; me = begun_of job.tx; place = job.place; attempts = job.attempts; busy = job.busy; doing = doing_of job }
 
 -- ---- what a committing transaction has started
 -- a child, as the job that it is from the entry on
-abbrev pub seen_child : Child → SeenJob
-seen_child child = record { block = child.block; me = begun_of child.tx; place = child.place; attempts = None; busy = 0; doing = Idle }
+abbrev pub child_view : Child → JobView
+child_view child = record { block = child.block; me = begun_of child.tx; place = child.place; attempts = None; busy = 0; doing = Idle }
 
 -- the jobs that this one's active transaction has started, as they are from its entry on
-abbrev pub started_in : Script → SeenJob → Doing → List SeenJob
+abbrev pub started_in : Script → JobView → Doing → List JobView
 started_in script job (Active tx) = started_jobs script job tx
 -- it has none
 started_in script job Idle = []
@@ -75,15 +75,11 @@ started_in script job (Ended end) = []
 
 -- they wait with the job
 abbrev pub HasChildren : Script → Job → Type 0
-HasChildren script job = map seen_child job.children.items ≡ started_in script (seen_job job) (doing_of job)
+HasChildren script job = map child_view job.children.items ≡ started_in script (job_view job) (doing_of job)
 
 -- all jobs
-abbrev pub seen_jobs : List Job → List SeenJob
-seen_jobs jobs = map seen_job jobs
-
--- their blocks
-abbrev pub blocks_of : List SeenJob → List (List ℕ)
-blocks_of jobs = map (λ job. job.block) jobs
+abbrev pub job_views : List Job → List JobView
+job_views jobs = map job_view jobs
 
 -- the outcome of a transaction that ends in this phase, with the ends of its records and of its late calls
 abbrev pub outcome_in : Phase → List Ending → List LateEnd → Outcome
@@ -103,7 +99,7 @@ late_stage [] = stage.Committed
 late_stage (c ∷ cs) = stage.Committing
 
 -- a transaction, by its phase
-abbrev pub phase_stage : SeenTx → Phase → Stage
+abbrev pub phase_stage : TxView → Phase → Stage
 phase_stage tx phase.Running = stage.Running
 phase_stage tx phase.Committing = late_stage (late_left tx)
 phase_stage tx (phase.Undoing c) = back_stage tx.undo.pending
@@ -121,7 +117,7 @@ goes_on stage.Ended = false
 goes_on _ = true
 
 -- the job hasn't ended
-abbrev pub is_live : SeenJob → Bool
+abbrev pub is_live : JobView → Bool
 is_live job = goes_on (stage_of job.doing)
 
 -- the job in this place is there, and its next turn goes by this

@@ -1,5 +1,6 @@
 pub mod Acting
 pub mod Beginning
+pub mod Events
 pub mod Jobs
 pub mod Lent
 pub mod Moments

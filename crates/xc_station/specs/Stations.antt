@@ -1,5 +1,5 @@
--- What contracts see of a station, and what is true of it between two turns.
-use Rattle.std.specs.Prelude.{◌≡◌, ◌≢◌, ℕ, zero, suc, ◌==◌, ◌+◌, ◌%◌, ◌-◌, ◌<◌, ◌≤◌, Bool, true, false, List, [], ◌∷◌, ◌++◌}
+-- A station between two turns, and what runs of turns keep.
+use Rattle.std.specs.Prelude.{◌≡◌, ◌≢◌, ℕ, zero, suc, ◌==◌, ◌+◌, ◌-◌, ◌<◌, ◌≤◌, Bool, true, false, List, [], ◌∷◌, ◌++◌}
 use Rattle.std.specs.Global.{Global}
 use Rattle.std.specs.Prelude.{Vec, length, slice_get, slice_set, vec_capacity}
 use Rattle.std.specs.Prelude.{if◌then◌else◌, IsTrue, Option}
@@ -7,33 +7,31 @@ use Rattle.std.specs.declared.option.Option.TheVariants.{None, Some}
 use Rattle.xc_data.specs.Step.{Step}
 use Rattle.xc_data.specs.declared.entry.Entry.{Entry}
 use Rattle.xc_data.specs.declared.entry.Event.{Event}
-use Rattle.xc_data.specs.declared.entry.Event.TheVariants.{Turned}
 use Rattle.xc_data.specs.declared.entry.Turn.{Turn}
-use Rattle.xc_turnstile.specs.Meanings.{Meaning}
 use Rattle.xc_data.specs.declared.entry.KeptItem.{KeptItem}
 use Rattle.xc_host.specs.Kept.{with_kept}
 use Rattle.xc_host.specs.Model.{HostModel}
-use Rattle.xc_journal.specs.Room.{Roomy}
+use Rattle.xc_roomy.specs.Room.{Roomy}
 use Rattle.xc_data.specs.declared.entry.JobLine.{JobLine}
 use Rattle.xc_sentinel.specs.Seated.{Seats}
 use Rattle.xc_text.specs.declared.script.Script.{Script}
-use Rattle.xc_story.specs.declared.rules.Rules.{Rules}
-use Rattle.xc_story.specs.Setting.{Setting, setting}
-use Rattle.xc_story.specs.Seen.{SeenJob, Now, actives}
-use Rattle.xc_story.specs.Alone.{AreAlone}
-use Rattle.xc_story.specs.Kept.{IsSet, IsKept}
-use Rattle.xc_story.specs.Rows.{IsTurn}
-use Rattle.xc_story.specs.Measure.{turns_left}
-use Rattle.xc_played.specs.Flying.{AreFlying}
+use Rattle.xc_model.specs.declared.rules.Rules.{Rules}
+use Rattle.xc_model.specs.Setting.{Setting, setting}
+use Rattle.xc_model.specs.Moment.{JobView, Moment, actives}
+use Rattle.xc_model.specs.Alone.{AreAlone}
+use Rattle.xc_model.specs.Consistent.{IsSet, IsConsistent}
+use Rattle.xc_model.specs.Rows.{IsTurn}
+use Rattle.xc_model.specs.Measure.{turns_left}
+use Rattle.xc_refines.specs.InFlight.{AreInFlight}
 use Rattle.xc_station.specs.declared.calls.Shared.{Shared}
 use Rattle.xc_station.specs.declared.job.Job.{Job}
 use Rattle.xc_station.specs.declared.start.Opening.{Opening}
-use Rattle.xc_station.specs.Jobs.{HasChildren, is_live, seen_job, seen_jobs}
+use Rattle.xc_station.specs.Jobs.{HasChildren, is_live, job_view, job_views}
 use Rattle.xc_station.specs.Lent.{notes_in_all}
 use Rattle.xc_station.specs.Moments.{AreSeats, IsTable, marks_of, told_by}
 
 -- what contracts see of a station
-pub record Seen (H : Type 0) : Type 0 where
+pub record StationView (H : Type 0) : Type 0 where
   pub opening : Opening
   pub rules : Rules
   pub host : H
@@ -52,7 +50,7 @@ pub record Seen (H : Type 0) : Type 0 where
   pub last : Option Event
 
 -- a moment of it
-abbrev pub now_of : {H : Type 0} → HostModel H → Seen H → Now
+abbrev pub now_of : {H : Type 0} → HostModel H → StationView H → Moment
 now_of model station =
     record {
       words = station.words;
@@ -60,26 +58,26 @@ now_of model station =
       faults = model.fault_count station.host;
       calls = model.calls station.host;
       journal = station.journal;
-      jobs = seen_jobs station.jobs;
+      jobs = job_views station.jobs;
       started = station.started;
       marks = marks_of station.seats;
     }
 
 -- what its journal is judged by
-abbrev pub setting_of : {H : Type 0} → HostModel H → Seen H → Setting
+abbrev pub setting_of : {H : Type 0} → HostModel H → StationView H → Setting
 setting_of model station = setting station.opening.script station.rules model.tells
 
 -- ---- between two turns
 -- what is true of its moment: of stories, words, claims and counts over every host; and over one that tells, each
 -- transaction flies over the plain machine's world
-pub record IsSteady (s : Setting) (faults : ℕ) (now : Now) : Type 0 where
+pub record IsSteady (s : Setting) (faults : ℕ) (now : Moment) : Type 0 where
   pub set : IsSet s
-  pub kept : IsKept s faults now
-  pub flying : IsTrue s.tells → AreFlying s now
+  pub kept : IsConsistent s faults now
+  pub flying : IsTrue s.tells → AreInFlight s now
 
 -- what it keeps beside: the table of claims and the seats, how much active transactions have taken, their number with room for
 -- their entries, and room for a line of each job
-pub record HasRooms {H : Type 0} (shared : Shared H) (active spare : ℕ) (now : Now) (lines : Roomy JobLine) : Type 0 where
+pub record HasRooms {H : Type 0} (shared : Shared H) (active spare : ℕ) (now : Moment) (lines : Roomy JobLine) : Type 0 where
   pub claims : IsTable shared.sentinels.claims now.jobs
   pub seats : AreSeats shared.sentinels.seats now.jobs
   pub noted : notes_in_all now.jobs ≡ shared.buffers.noted
@@ -106,13 +104,13 @@ pub record HasStarts (script : Script) (started : List (List ℕ)) (jobs : List 
   pub marks_room : length started + 1 ≤ room.marks
 
 -- ---- what a turn never changes
-pub record KeepsOpening {H : Type 0} (old new : Seen H) : Type 0 where
+pub record KeepsOpening {H : Type 0} (old new : StationView H) : Type 0 where
   pub opening : new.opening ≡ old.opening
   pub rules : new.rules ≡ old.rules
   pub taken : new.taken ≡ old.taken
 
--- and neither does what stands behind it
-pub record KeepsEvents {H : Type 0} (old new : Seen H) : Type 0 where
+-- and neither does what stands after it
+pub record KeepsEvents {H : Type 0} (old new : StationView H) : Type 0 where
   pub events : new.events ≡ old.events
   pub last : new.last ≡ old.last
 
@@ -120,7 +118,7 @@ pub record KeepsEvents {H : Type 0} (old new : Seen H) : Type 0 where
 -- the job of this number exists and hasn't ended
 abbrev pub lives : Option Job → Bool
 lives None = false
-lives (Some job) = is_live (seen_job job)
+lives (Some job) = is_live (job_view job)
 
 -- a job number is one of a job that exists and hasn't ended
 abbrev pub live_at : List Job → ℕ → Bool
@@ -132,7 +130,7 @@ NobodyLives jobs = (number : ℕ) → live_at jobs number ≡ false
 
 -- ---- runs of turns
 -- what a run of turns never changes
-pub record KeepsOrigin {H : Type 0} (old new : Seen H) : Type 0 where
+pub record KeepsOrigin {H : Type 0} (old new : StationView H) : Type 0 where
   pub opening : new.opening ≡ old.opening
   pub rules : new.rules ≡ old.rules
 
@@ -140,77 +138,47 @@ pub record KeepsOrigin {H : Type 0} (old new : Seen H) : Type 0 where
 abbrev pub IsFrontOf : List Entry → List Entry → Type 0
 IsFrontOf front whole = (more : List Entry) × (whole ≡ front ++ more)
 
--- a turn of the job in this place changes no other job; those that are live from then on are behind the others; and the journal
+-- a turn of the job in this place changes no other job; those that are live from then on are after the others; and the journal
 -- goes on
-pub record ChangesOne (at : ℕ) (old new : Now) : Type 0 where
-  pub behind : SeenJob
-  pub started : List SeenJob
+pub record ChangesOne (at : ℕ) (old new : Moment) : Type 0 where
+  pub behind : JobView
+  pub started : List JobView
   pub jobs : new.jobs ≡ slice_set old.jobs at behind ++ started
   pub front : IsFrontOf old.journal new.journal
 
 -- its jobs ran one after another
-abbrev pub RanAlone : {H : Type 0} → HostModel H → Seen H → Type 0
+abbrev pub RanAlone : {H : Type 0} → HostModel H → StationView H → Type 0
 RanAlone model station = (at : ℕ) × AreAlone (now_of model station) at
 
 -- all that a run of turns keeps: no job goes
-pub record GoesOn {H : Type 0} (old new : Seen H) : Type 0 where
+pub record GoesOn {H : Type 0} (old new : StationView H) : Type 0 where
   pub origin : KeepsOrigin old new
   pub front : IsFrontOf old.journal new.journal
   pub count : length old.jobs ≤ length new.jobs
 
 -- and what one of turns of this job keeps: whether the others that were there live, and that it works alone
-pub record WorksOn {H : Type 0} (model : HostModel H) (job : ℕ) (old new : Seen H) : Type 0 where
+pub record WorksOn {H : Type 0} (model : HostModel H) (job : ℕ) (old new : StationView H) : Type 0 where
   pub taken : new.taken ≡ old.taken
   pub others : (other : ℕ) → other ≢ job → other ≤ length old.jobs → live_at new.jobs other ≡ live_at old.jobs other
   pub alone : AreAlone (now_of model old) (job - 1) → AreAlone (now_of model new) (job - 1)
 
 -- ---- a list of turns
 -- the job takes its turn, a row of the table, and the opening and what is taken stays
-abbrev pub HasTurned : {H : Type 0} → HostModel H → ℕ → Step (Seen H) → Turn → Type 0
+abbrev pub HasTurned : {H : Type 0} → HostModel H → ℕ → Step (StationView H) → Turn → Type 0
 HasTurned model job station answer =
     IsTurn (setting_of model station.old) (job - 1) (now_of model station.old) answer (now_of model station.new)
     × KeepsOpening station.old station.new
 
 -- a job that goes on does; one that doesn't is passed over, and all but the events stays
-abbrev pub IsStepOf : {H : Type 0} → HostModel H → ℕ → Step (Seen H) → Bool → Type 0
+abbrev pub IsStepOf : {H : Type 0} → HostModel H → ℕ → Step (StationView H) → Bool → Type 0
 IsStepOf model job station true = (answer : Turn) × HasTurned model job station answer
 IsStepOf model job station false = station.new ≡ record station.old { events = station.new.events; last = station.new.last }
 
 -- the jobs of these numbers do so one after another
-abbrev pub TakeTurns : {H : Type 0} → HostModel H → List ℕ → Seen H → Seen H → Type 0
+abbrev pub TakeTurns : {H : Type 0} → HostModel H → List ℕ → StationView H → StationView H → Type 0
 TakeTurns model [] old new = new ≡ old
 TakeTurns {H = H} model (job ∷ jobs) old new =
-    (next : Seen H) × IsStepOf model job (record { old = old; new = next }) (live_at old.jobs job) × TakeTurns model jobs next new
-
--- ---- events
--- one event more
-abbrev pub noted : {H : Type 0} → Seen H → Event → Seen H
-noted station event = record station { events = (station.events + 1) % 18446744073709551616; last = Some event }
-
--- what holds of each event: the origin stays, the journal goes on, and it is the last event, one more than before
-pub record IsEvent {H : Type 0} (old new : Seen H) (event : Event) : Type 0 where
-  pub origin : KeepsOrigin old new
-  pub front : IsFrontOf old.journal new.journal
-  pub few : length new.journal ≤ 10000
-  pub count : new.events ≡ (old.events + 1) % 18446744073709551616
-  pub last : new.last ≡ Some event
-
--- a job that goes on takes its turn; for one that doesn't nothing is done
-abbrev pub IsTried : {H : Type 0} → HostModel H → ℕ → Step (Seen H) → Bool → Option Turn → Type 0
-IsTried model job station true (Some answer) = HasTurned model job station answer
-IsTried model job station false None = station.new ≡ noted station.old (Turned job None)
-IsTried model job station true None = ⊥
-IsTried model job station false (Some answer) = ⊥
-
--- what passes know of a station
-abbrev pub meaning_of : {H : Type 0} → Meaning (Seen H)
-meaning_of =
-    record {
-      journal = λ station. station.journal;
-      origin = λ station. record { script = station.opening.script; faults = station.opening.faults; rules = station.rules };
-      count = λ station. station.events;
-      last = λ station. station.last;
-    }
+    (next : StationView H) × IsStepOf model job (record { old = old; new = next }) (live_at old.jobs job) × TakeTurns model jobs next new
 
 -- ---- rounds
 -- the numbers from 1 up to this one
@@ -219,21 +187,21 @@ numbers zero = []
 numbers (suc n) = numbers n ++ suc n ∷ []
 
 -- one turn of each job that goes on, in rising number; a job that is started meanwhile is among them
-abbrev pub TakeRound : {H : Type 0} → HostModel H → Seen H → Seen H → Type 0
+abbrev pub TakeRound : {H : Type 0} → HostModel H → StationView H → StationView H → Type 0
 TakeRound model old new = TakeTurns model (numbers (length new.jobs)) old new
 
 -- so many rounds, one after another
-abbrev pub TakeRounds : {H : Type 0} → HostModel H → ℕ → Seen H → Seen H → Type 0
+abbrev pub TakeRounds : {H : Type 0} → HostModel H → ℕ → StationView H → StationView H → Type 0
 TakeRounds model zero old new = new ≡ old
-TakeRounds {H = H} model (suc rounds) old new = (last : Seen H) × TakeRounds model rounds old last × TakeRound model last new
+TakeRounds {H = H} model (suc rounds) old new = (last : StationView H) × TakeRounds model rounds old last × TakeRound model last new
 
 -- how many turns are left
-abbrev pub turns_of : {H : Type 0} → HostModel H → Seen H → ℕ
+abbrev pub turns_of : {H : Type 0} → HostModel H → StationView H → ℕ
 turns_of model station = turns_left (setting_of model station) (now_of model station)
 
 -- ---- as the code has it
 -- the moment of a station with this host, these words, this journal and these jobs
-abbrev pub moment : {H : Type 0} → HostModel H → Shared H → List Entry → List Job → Now
+abbrev pub moment : {H : Type 0} → HostModel H → Shared H → List Entry → List Job → Moment
 moment model shared journal jobs =
     record {
       words = shared.words;
@@ -241,7 +209,7 @@ moment model shared journal jobs =
       faults = model.fault_count shared.host;
       calls = model.calls shared.host;
       journal = journal;
-      jobs = seen_jobs jobs;
+      jobs = job_views jobs;
       started = shared.started.items;
       marks = marks_of shared.sentinels.seats;
     }

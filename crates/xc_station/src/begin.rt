@@ -1,21 +1,21 @@
 ghost use Rattle.std.specs.Prelude.{◌≡◌, ℕ, Bool, true, ◌≤◌, ◌<◌, ◌+◌, length, is_some, IfSome, IsSome, MatchOption, None, Some};
 ghost use Rattle.std.specs.Prelude.{OnOk, OnErr};
-ghost use Rattle.xc_data.specs.declared.entry.Turn.TheVariants as PlainTurn;
 ghost use Rattle.xc_sentinel.specs.Seating.{KeepsSeats, SetsSeat, seat_in};
-ghost use Rattle.xc_story.specs.Seen.{Now, Idle, begun_count, failures, rank_of, with_job};
-ghost use Rattle.xc_story.specs.Rows.{IdleTurn, IsReady, IsSpent, NamesLast, mover};
-ghost use Rattle.xc_story.specs.Setting.{Setting, setting};
+ghost use Rattle.xc_model.specs.Moment.{Moment, Idle, begun_count, failures, rank_of, with_job};
+ghost use Rattle.xc_model.specs.IdleRows.{IdleTurn, IsReady, IsSpent, NamesLast};
+ghost use Rattle.xc_model.specs.Movers.{mover};
+ghost use Rattle.xc_model.specs.Setting.{Setting, setting};
 ghost use Rattle.xc_station.specs.Beginning.{IsDone, IsHalted, IsNamedLast, IsSeatBehind, IsStopped, WaitsOnly};
-ghost use Rattle.xc_station.specs.Jobs.{seen_job};
+ghost use Rattle.xc_station.specs.Jobs.{job_view};
 ghost use Rattle.xc_station.specs.Moments.{AreSeats, HasBegun, marks_of};
 
 use crate::job::{Activity, Job};
 use std::alloc::Global;
 use xc_data::{Cause, JobEnd, NoMemory, Object, Turn};
 use xc_journal::Journal;
+use xc_model::{Attempts, Rules};
 use xc_script::JobState;
 use xc_sentinel::Sentinels;
-use xc_story::{Attempts, Rules};
 use xc_text::Script;
 
 /// The most entries that a journal has; each active transaction has its place among them.
@@ -81,9 +81,9 @@ fn why_halted(
 ) -> Option<Halt>
     requires attempts { 1 ≤ rules.now.attempts }
     ensures patient { IfSome result (WaitsOnly job.now.busy 4294967295) }
-    ensures halts { (tells : Bool) (now : Now) → begun_count now ≡ begun → AreSeats sentinels.now.seats now.jobs → MatchOption result
-        (IsReady (setting script.now rules.now tells) now (seen_job job.now))
-        (IsHalted (setting script.now rules.now tells) now (seen_job job.now)) }
+    ensures halts { (tells : Bool) (now : Moment) → begun_count now ≡ begun → AreSeats sentinels.now.seats now.jobs → MatchOption result
+        (IsReady (setting script.now rules.now tells) now (job_view job.now))
+        (IsHalted (setting script.now rules.now tells) now (job_view job.now)) }
 {
     if !job.place.has_next(script) {
         return Some(Halt::End(JobEnd::Done));
@@ -103,7 +103,7 @@ fn why_halted(
 // The turn of a job that doesn't begin.
 fn stop(job: &mut Job, halt: &Halt) -> Turn
     requires { WaitsOnly job.old.busy 4294967295 halt.now }
-    ensures stopped { IsStopped (seen_job job.old) (seen_job job.new) halt.now result }
+    ensures stopped { IsStopped (job_view job.old) (job_view job.new) halt.now result }
     ensures children { job.new.children.items ≡ job.old.children.items }
 {
     match halt {
@@ -170,7 +170,7 @@ pub fn begin(
     active: u32,
     job: &mut Job,
 ) -> Turn
-    requires idle { (seen_job job.old).doing ≡ Idle }
+    requires idle { (job_view job.old).doing ≡ Idle }
     requires few { length journal.old.items + active ≤ 10000 }
     requires attempts { 1 ≤ rules.now.attempts }
     requires new { seat_in sentinels.old.seats (length journal.old.items + active + 1) ≡ None }
@@ -179,11 +179,11 @@ pub fn begin(
     ensures claims { sentinels.new.claims ≡ sentinels.old.claims }
     ensures seats { IsSeatBehind (length journal.old.items + active + 1) (rank_of job.old.attempts (length journal.old.items + active + 1))
         sentinels.old.seats sentinels.new.seats result }
-    ensures row { (tells : Bool) (now : Now) (at : ℕ) → HasBegun now (length journal.old.items) active
+    ensures row { (tells : Bool) (now : Moment) (at : ℕ) → HasBegun now (length journal.old.items) active
         → AreSeats sentinels.old.seats now.jobs
         → now.marks ≡ marks_of sentinels.old.seats
-        → IdleTurn (mover (setting script.now rules.now tells) at now (seen_job job.old)) result
-        (record (with_job now at (seen_job job.new)) { marks = marks_of sentinels.new.seats }) }
+        → IdleTurn (mover (setting script.now rules.now tells) at now (job_view job.old)) result
+        (record (with_job now at (job_view job.new)) { marks = marks_of sentinels.new.seats }) }
     ensures children { job.new.children.items ≡ job.old.children.items }
 {
     let entered = journal.len();

@@ -1,16 +1,18 @@
 ghost use Rattle.std.specs.Prelude.{None, ◌≡◌, ◌≢◌, ◌<◌, ◌++◌, ℕ, ◌+◌, ◌≤◌, slice_set, true, false, length, IfOk, OnOk, OnErr, IsTrue};
 ghost use Rattle.xc_data.specs.declared.call.Call.TheVariants as PlainCall;
 ghost use Rattle.xc_script.specs.declared.ask.Ask.TheVariants.{Call as AskedCall};
-ghost use Rattle.xc_script.specs.Ask.{asks, answered, value_in};
-ghost use Rattle.xc_script.specs.Position.{walk_of, IsSettled};
+ghost use Rattle.xc_script.specs.Asking.{asks};
+ghost use Rattle.xc_script.specs.Answers.{answered, value_in};
+ghost use Rattle.xc_script.specs.Position.{walk_of, IsPastSilent};
 ghost use Rattle.xc_txmem.specs.Overlay.{overlaid, AreWithin};
 ghost use Rattle.xc_data.specs.declared.private.Private.{Private as PlainPrivate};
 ghost use Rattle.xc_world.specs.After.{IsMeAfter};
 ghost use Rattle.xc_data.specs.Calls.{is_late};
-ghost use Rattle.xc_story.specs.WordCalls.{is_word_call, word_reply, words_after};
-ghost use Rattle.xc_story.specs.Rows.{IsSameBegin, stored_by};
-ghost use Rattle.xc_station.specs.Acting.{AreReadyFor, HasActed, IsLentFor, MayGo, acting};
-ghost use Rattle.xc_station.specs.Jobs.{begun_of, seen_tx};
+ghost use Rattle.xc_model.specs.WordCalls.{is_word_call, word_reply, words_after};
+ghost use Rattle.xc_model.specs.Movers.{IsSameBegin};
+ghost use Rattle.xc_model.specs.PlainSteps.{stored_by};
+ghost use Rattle.xc_station.specs.Acting.{AreReadyFor, HasActedAsPlain, IsLentFor, MayGo, acting};
+ghost use Rattle.xc_station.specs.Jobs.{begun_of, tx_view};
 ghost use Rattle.xc_station.specs.Lent.{StaysBacked};
 ghost use Rattle.xc_station.specs.PutBack.{changed_at, handle_in, place_before};
 
@@ -23,8 +25,8 @@ use xc_file::{
     x_write_seq,
 };
 use xc_host::Host;
-use xc_journal::Roomy;
 use xc_pipe::{x_pipe, x_shutdown, x_write_pipe};
+use xc_roomy::Roomy;
 use xc_script::JobState;
 use xc_sentinel::Sentinels;
 use xc_socket::{x_pair, x_sendmsg};
@@ -72,7 +74,7 @@ fn store(words: &Words, writes: &mut WriteSet, at: u64, value: u64) -> Result<Re
     Ok(Reply::Done)
 }
 
-// Does a call. Where memory is wanting, a part that the call did at the host is among the records.
+// Does a call. Where memory runs out, a part that the call did at the host is among the records.
 fn act<H: Host>(
     alloc: Global,
     host: &mut H,
@@ -81,8 +83,8 @@ fn act<H: Host>(
     tx: &mut Tx,
     call: &Call,
 ) -> Result<Reply, NoMemory>
-    requires may { MayGo (length words.now) (seen_tx tx.old) }
-    requires ready { IsTrue H.model.tells → AreReadyFor (seen_tx tx.old) (H.model.contents host.old) }
+    requires may { MayGo (length words.now) (tx_view tx.old) }
+    requires ready { IsTrue H.model.tells → AreReadyFor (tx_view tx.old) (H.model.contents host.old) }
     requires lent { IsTrue H.model.tells → IsLentFor tx.old.me.value tx.old.number call.now (H.model.contents host.old) buffers.old.kept }
     requires noted { length tx.old.taken.items ≤ buffers.old.noted }
     ensures begun { (tx.new.changed ≡ tx.old.changed) × (tx.new.begun ≡ tx.old.begun) }
@@ -90,7 +92,7 @@ fn act<H: Host>(
     ensures words { is_word_call call.now ≡ true → (tx.new.me ≡ tx.old.me) × (buffers.new ≡ buffers.old) }
     ensures noted { buffers.new.noted + length tx.old.taken.items ≡ buffers.old.noted + length tx.new.taken.items }
     ensures backs { IsTrue H.model.tells → StaysBacked (H.model.contents host.old) buffers.old.kept buffers.new.kept }
-    ensures acted { HasActed H.model call.now (acting host.old buffers.old.kept words.now tx.old)
+    ensures acted { HasActedAsPlain H.model call.now (acting host.old buffers.old.kept words.now tx.old)
         (acting host.new buffers.new.kept words.now tx.new) result }
 {
     let Tx {
@@ -213,7 +215,7 @@ fn put_back(me: &mut Private, call: &Call, reply: &Reply, before: &Before)
     me.stored = before.stored;
 }
 
-// A call that may change the handles. They are put back where memory is wanting behind it, for the variable that takes the
+// A call that may change the handles. They are put back where memory runs out after it, for the variable that takes the
 // reply.
 fn do_host_call<H: Host>(
     alloc: Global,
@@ -226,9 +228,9 @@ fn do_host_call<H: Host>(
     call: &Call,
 ) -> Result<Reply, NoMemory>
     requires asked { asks (walk_of script.now place.old) ≡ AskedCall call.now }
-    requires settled { IsSettled script.now place.old }
-    requires may { MayGo (length words.now) (seen_tx tx.old) }
-    requires ready { IsTrue H.model.tells → AreReadyFor (seen_tx tx.old) (H.model.contents host.old) }
+    requires settled { IsPastSilent script.now place.old }
+    requires may { MayGo (length words.now) (tx_view tx.old) }
+    requires ready { IsTrue H.model.tells → AreReadyFor (tx_view tx.old) (H.model.contents host.old) }
     requires lent { IsTrue H.model.tells → IsLentFor tx.old.me.value tx.old.number call.now (H.model.contents host.old) buffers.old.kept }
     requires noted { length tx.old.taken.items ≤ buffers.old.noted }
     ensures begun { begun_of tx.new ≡ begun_of tx.old }
@@ -239,7 +241,7 @@ fn do_host_call<H: Host>(
     ensures err_place { OnErr result (place.new ≡ place.old) }
     ensures noted { buffers.new.noted + length tx.old.taken.items ≡ buffers.old.noted + length tx.new.taken.items }
     ensures backs { IsTrue H.model.tells → StaysBacked (H.model.contents host.old) buffers.old.kept buffers.new.kept }
-    ensures acted { HasActed H.model call.now (acting host.old buffers.old.kept words.now tx.old)
+    ensures acted { HasActedAsPlain H.model call.now (acting host.old buffers.old.kept words.now tx.old)
         (acting host.new buffers.new.kept words.now tx.new) result }
 {
     tx.keep();
@@ -256,8 +258,8 @@ fn do_host_call<H: Host>(
     Ok(reply)
 }
 
-/// Does the call that is asked, and goes on behind its reply. Without memory the place is as it was, and so are the
-/// handles, also where it is wanting behind the call, for the variable that takes the reply.
+/// Does the call that is asked, and goes on after its reply. Without memory the place is as it was, and so are the
+/// handles, also where it is wanting after the call, for the variable that takes the reply.
 pub fn do_call<H: Host>(
     alloc: Global,
     host: &mut H,
@@ -269,9 +271,9 @@ pub fn do_call<H: Host>(
     call: &Call,
 ) -> Result<Reply, NoMemory>
     requires asked { asks (walk_of script.now place.old) ≡ AskedCall call.now }
-    requires settled { IsSettled script.now place.old }
-    requires may { MayGo (length words.now) (seen_tx tx.old) }
-    requires ready { IsTrue H.model.tells → AreReadyFor (seen_tx tx.old) (H.model.contents host.old) }
+    requires settled { IsPastSilent script.now place.old }
+    requires may { MayGo (length words.now) (tx_view tx.old) }
+    requires ready { IsTrue H.model.tells → AreReadyFor (tx_view tx.old) (H.model.contents host.old) }
     requires lent { IsTrue H.model.tells → IsLentFor tx.old.me.value tx.old.number call.now (H.model.contents host.old) buffers.old.kept }
     requires noted { length tx.old.taken.items ≤ buffers.old.noted }
     ensures begun { begun_of tx.new ≡ begun_of tx.old }
@@ -282,7 +284,7 @@ pub fn do_call<H: Host>(
     ensures err_place { OnErr result (place.new ≡ place.old) }
     ensures noted { buffers.new.noted + length tx.old.taken.items ≡ buffers.old.noted + length tx.new.taken.items }
     ensures backs { IsTrue H.model.tells → StaysBacked (H.model.contents host.old) buffers.old.kept buffers.new.kept }
-    ensures acted { HasActed H.model call.now (acting host.old buffers.old.kept words.now tx.old)
+    ensures acted { HasActedAsPlain H.model call.now (acting host.old buffers.old.kept words.now tx.old)
         (acting host.new buffers.new.kept words.now tx.new) result }
 {
     if !is_on_words(call) {

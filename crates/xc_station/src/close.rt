@@ -8,10 +8,11 @@ ghost use Rattle.xc_host.specs.Kept.{KeepsData};
 ghost use Rattle.xc_deferred.specs.Queue.{Queue, next_thread};
 ghost use Rattle.xc_script.specs.Position.{at_begin};
 ghost use Rattle.xc_compensate.specs.Records.{IsTried, NextIsCovered, Records};
-ghost use Rattle.xc_story.specs.declared.phase.Phase.TheVariants as PlainPhase;
-ghost use Rattle.xc_story.specs.Seen.{SeenTx, Active, Idle, failures, late_left, queue_of, with_queue};
-ghost use Rattle.xc_story.specs.Rows.{behind_abort, behind_commit, entry_of, with_tx};
-ghost use Rattle.xc_station.specs.Jobs.{seen_job};
+ghost use Rattle.xc_model.specs.declared.phase.Phase.TheVariants as PlainPhase;
+ghost use Rattle.xc_model.specs.Moment.{TxView, Active, Idle, failures, late_left, queue_of, with_queue};
+ghost use Rattle.xc_model.specs.Entering.{behind_abort, behind_commit, entry_of};
+ghost use Rattle.xc_model.specs.Movers.{with_tx};
+ghost use Rattle.xc_station.specs.Jobs.{job_view};
 ghost use Rattle.xc_station.specs.Lent.{Gives, LetsGo, notes_of};
 ghost use Rattle.xc_station.specs.Moments.{GivesUpClaims, HoldsItsClaims};
 
@@ -23,8 +24,8 @@ use std::alloc::Global;
 use std::mem::replace;
 use xc_data::{Cause, Entry, LateEnd};
 use xc_host::Host;
+use xc_model::{Attempts, Phase};
 use xc_script::JobState;
-use xc_story::{Attempts, Phase};
 
 // Goes on to the next transaction, of which there was no attempt yet.
 fn go_on(place: &mut JobState, attempts: &mut Option<Attempts>)
@@ -36,15 +37,15 @@ fn go_on(place: &mut JobState, attempts: &mut Option<Attempts>)
     *attempts = None;
 }
 
-/// A committing job behind a turn in which its next late call was done.
+/// A committing job after a turn in which its next late call was done.
 pub fn end_late<H: Host>(host: &mut H, buffers: &Buffers, job: &mut Job)
-    requires committing { (tx : SeenTx) × ((seen_job job.old).doing ≡ Active tx) × (0 < length (late_left tx))
+    requires committing { (tx : TxView) × ((job_view job.old).doing ≡ Active tx) × (0 < length (late_left tx))
         × (next_thread (late_left tx) ≡ None)
         × (IsTrue H.model.tells → (call : PlainCall) (calls : List PlainCall) → late_left tx ≡ call ∷ calls
         → IsThereFor (H.model.contents host.old) call) }
-    ensures ends { (tx : SeenTx) (call : PlainCall) (calls : List PlainCall) → (seen_job job.old).doing ≡ Active tx
+    ensures ends { (tx : TxView) (call : PlainCall) (calls : List PlainCall) → (job_view job.old).doing ≡ Active tx
         → late_left tx ≡ call ∷ calls
-        → (queue : Queue) × (seen_job job.new ≡ with_tx (seen_job job.old) job.old.place (with_queue tx queue))
+        → (queue : Queue) × (job_view job.new ≡ with_tx (job_view job.old) job.old.place (with_queue tx queue))
         × EndsNext (fronted H.model) call (record { host = before host.old buffers.now.kept; late = queue_of tx })
         (record { host = before host.new buffers.now.kept; late = queue }) }
     ensures keeps { IsTrue H.model.tells → KeepsData (H.model.contents host.old) (H.model.contents host.new) }
@@ -53,11 +54,11 @@ pub fn end_late<H: Host>(host: &mut H, buffers: &Buffers, job: &mut Job)
     job.tx.late.do_one(host, buffers.kept());
 }
 
-/// A committing job behind a turn in which its next late call, which starts a job, ended so.
+/// A committing job after a turn in which its next late call, which starts a job, ended so.
 pub fn end_start(job: &mut Job, end: LateEnd)
-    requires committing { (tx : SeenTx) × ((seen_job job.old).doing ≡ Active tx) × (0 < length (late_left tx)) }
-    ensures ends { (tx : SeenTx) → (seen_job job.old).doing ≡ Active tx
-        → seen_job job.new ≡ with_tx (seen_job job.old) job.old.place (record tx { ends = tx.ends ++ end ∷ [] }) }
+    requires committing { (tx : TxView) × ((job_view job.old).doing ≡ Active tx) × (0 < length (late_left tx)) }
+    ensures ends { (tx : TxView) → (job_view job.old).doing ≡ Active tx
+        → job_view job.new ≡ with_tx (job_view job.old) job.old.place (record tx { ends = tx.ends ++ end ∷ [] }) }
     ensures children { job.new.children.items ≡ job.old.children.items }
 {
     job.tx.late.end_thread(end);
@@ -69,19 +70,19 @@ pub struct Closing {
     pub children: Vec<Child>,
 }
 
-/// A committed job behind its last turn, and what its transaction leaves: its slots have taken the ends of its late calls, and its
+/// A committed job after its last turn, and what its transaction leaves: its slots have taken the ends of its late calls, and its
 /// claims are given up. The job's number counts from 1.
 pub fn commit<H: Host>(alloc: Global, number: u32, job: &mut Job, shared: &mut Shared<H>) -> Closing
-    requires committing { (tx : SeenTx) × ((seen_job job.old).doing ≡ Active tx) × (tx.phase ≡ PlainPhase.Committing) }
+    requires committing { (tx : TxView) × ((job_view job.old).doing ≡ Active tx) × (tx.phase ≡ PlainPhase.Committing) }
     requires next { job.old.place.next < 2 ^ 32 }
-    requires table { HoldsItsClaims shared.old.sentinels.claims (seen_job job.old) }
-    requires noted { notes_of (seen_job job.old) ≤ shared.old.buffers.noted }
+    requires table { HoldsItsClaims shared.old.sentinels.claims (job_view job.old) }
+    requires noted { notes_of (job_view job.old) ≤ shared.old.buffers.noted }
     ensures same { (shared.new.host ≡ shared.old.host) × (shared.new.words ≡ shared.old.words) }
     ensures started { shared.new.started ≡ shared.old.started }
-    ensures gone { LetsGo shared.old.buffers shared.new.buffers (seen_job job.old) }
-    ensures entry { (tx : SeenTx) (at : ℕ) → (seen_job job.old).doing ≡ Active tx → number ≡ at + 1
-        → (seen_job job.new ≡ behind_commit (seen_job job.old) tx) × (result.entry ≡ entry_of tx at (Committed tx.ends)) }
-    ensures freed { GivesUpClaims shared.old.sentinels shared.new.sentinels (seen_job job.old) }
+    ensures gone { LetsGo shared.old.buffers shared.new.buffers (job_view job.old) }
+    ensures entry { (tx : TxView) (at : ℕ) → (job_view job.old).doing ≡ Active tx → number ≡ at + 1
+        → (job_view job.new ≡ behind_commit (job_view job.old) tx) × (result.entry ≡ entry_of tx at (Committed tx.ends)) }
+    ensures freed { GivesUpClaims shared.old.sentinels shared.new.sentinels (job_view job.old) }
     ensures children { (result.children.items ≡ job.old.children.items) × (job.new.children.items ≡ []) }
 {
     job.activity = Activity::Idle;
@@ -103,13 +104,13 @@ pub fn commit<H: Host>(alloc: Global, number: u32, job: &mut Job, shared: &mut S
     }
 }
 
-/// An undoing job behind a turn in which its newest record without an end was tried.
+/// An undoing job after a turn in which its newest record without an end was tried.
 pub fn undo<H: Host>(host: &mut H, tries: u32, job: &mut Job)
-    requires undoing { (tx : SeenTx) × ((seen_job job.old).doing ≡ Active tx) × (tx.undo.pending ≢ [])
+    requires undoing { (tx : TxView) × ((job_view job.old).doing ≡ Active tx) × (tx.undo.pending ≢ [])
         × (IsTrue H.model.tells → NextIsCovered (H.model.contents host.old) tx.undo) }
     requires tries { 1 ≤ tries }
-    ensures undone { (tx : SeenTx) → (seen_job job.old).doing ≡ Active tx → (undo : Records)
-        × (seen_job job.new ≡ with_tx (seen_job job.old) job.old.place (record tx { undo = undo }))
+    ensures undone { (tx : TxView) → (job_view job.old).doing ≡ Active tx → (undo : Records)
+        × (job_view job.new ≡ with_tx (job_view job.old) job.old.place (record tx { undo = undo }))
         × IsTried H.model tries (record { host = host.old; undo = tx.undo }) (record { host = host.new; undo = undo }) }
     ensures children { job.new.children.items ≡ job.old.children.items }
 {
@@ -144,12 +145,12 @@ fn one_more(attempts: &Option<Attempts>, rank: u32, last: Cause) -> Attempts
     }
 }
 
-// Goes to where a job stands behind an abort of a transaction of this rank.
+// Goes to where a job stands after an abort of a transaction of this rank.
 fn go_back(job: &mut Job, rank: u32, cause: Cause)
-    requires idle { ((seen_job job.old).doing ≡ Idle) × (job.old.busy ≡ 0) }
+    requires idle { ((job_view job.old).doing ≡ Idle) × (job.old.busy ≡ 0) }
     requires next { job.old.place.next < 2 ^ 32 }
     requires attempts { failures job.old.attempts + 1 < 2 ^ 32 }
-    ensures back { (tx : SeenTx) → tx.rank ≡ rank → seen_job job.new ≡ behind_abort (seen_job job.old) tx cause }
+    ensures back { (tx : TxView) → tx.rank ≡ rank → job_view job.new ≡ behind_abort (job_view job.old) tx cause }
     ensures children { job.new.children.items ≡ job.old.children.items }
 {
     match cause {
@@ -165,22 +166,22 @@ fn go_back(job: &mut Job, rank: u32, cause: Cause)
     }
 }
 
-/// An undoing job behind its last turn, and its entry: what it took is in front again, and its claims are given up. The job's
+/// An undoing job after its last turn, and its entry: what it took is in front again, and its claims are given up. The job's
 /// number counts from 1.
 pub fn abort<H: Host>(alloc: Global, number: u32, job: &mut Job, shared: &mut Shared<H>) -> Entry
-    requires undone { (tx : SeenTx) × (c : PlainCause) × ((seen_job job.old).doing ≡ Active tx) × (tx.phase ≡ PlainPhase.Undoing c)
+    requires undone { (tx : TxView) × (c : PlainCause) × ((job_view job.old).doing ≡ Active tx) × (tx.phase ≡ PlainPhase.Undoing c)
         × (tx.undo.pending ≡ []) }
     requires next { job.old.place.next < 2 ^ 32 }
     requires attempts { failures job.old.attempts + 1 < 2 ^ 32 }
-    requires table { HoldsItsClaims shared.old.sentinels.claims (seen_job job.old) }
-    requires noted { notes_of (seen_job job.old) ≤ shared.old.buffers.noted }
+    requires table { HoldsItsClaims shared.old.sentinels.claims (job_view job.old) }
+    requires noted { notes_of (job_view job.old) ≤ shared.old.buffers.noted }
     ensures same { (shared.new.host ≡ shared.old.host) × (shared.new.words ≡ shared.old.words) }
     ensures started { shared.new.started ≡ shared.old.started }
-    ensures given { Gives shared.old.buffers shared.new.buffers (seen_job job.old) }
-    ensures entry { (tx : SeenTx) (c : PlainCause) (at : ℕ) → (seen_job job.old).doing ≡ Active tx → tx.phase ≡ PlainPhase.Undoing c
-        → number ≡ at + 1 → (seen_job job.new ≡ behind_abort (seen_job job.old) tx c)
+    ensures given { Gives shared.old.buffers shared.new.buffers (job_view job.old) }
+    ensures entry { (tx : TxView) (c : PlainCause) (at : ℕ) → (job_view job.old).doing ≡ Active tx → tx.phase ≡ PlainPhase.Undoing c
+        → number ≡ at + 1 → (job_view job.new ≡ behind_abort (job_view job.old) tx c)
         × (result ≡ entry_of tx at (Aborted (record { cause = c; records = tx.undo.ended }))) }
-    ensures freed { GivesUpClaims shared.old.sentinels shared.new.sentinels (seen_job job.old) }
+    ensures freed { GivesUpClaims shared.old.sentinels shared.new.sentinels (job_view job.old) }
     ensures children { job.new.children.items ≡ job.old.children.items }
 {
     let cause = cause_of(&job.tx);

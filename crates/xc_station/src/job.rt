@@ -1,11 +1,11 @@
 ghost use Rattle.std.specs.Prelude.{◌≡◌, ◌+◌, ◌<◌, ◌^◌};
-ghost use Rattle.xc_story.specs.Seen.{Ended, waiting};
-ghost use Rattle.xc_station.specs.Jobs.{doing_of, is_live, phase_stage, seen_job, seen_tx, stage_of};
+ghost use Rattle.xc_model.specs.Moment.{Ended, waiting};
+ghost use Rattle.xc_station.specs.Jobs.{doing_of, is_live, phase_stage, job_view, tx_view, stage_of};
 
 use crate::tx::Tx;
 use xc_data::{Ident, JobEnd, Turn};
+use xc_model::{Attempts, Phase};
 use xc_script::JobState;
-use xc_story::{Attempts, Phase};
 
 /// What a job does between two turns.
 #[derive(Drop)]
@@ -13,7 +13,7 @@ pub enum Activity {
     /// It has no active transaction.
     Idle,
     Active,
-    /// Its last transaction was aborted for want of memory.
+    /// Its last transaction was aborted for lack of memory.
     Starved,
     Ended(JobEnd),
 }
@@ -60,7 +60,7 @@ pub enum Stage {
 }
 
 fn phase_now(tx: &Tx) -> Stage
-    ensures { result ≡ phase_stage (seen_tx tx.now) tx.now.phase }
+    ensures { result ≡ phase_stage (tx_view tx.now) tx.now.phase }
 {
     match tx.phase {
         Phase::Running => Stage::Running,
@@ -94,7 +94,7 @@ impl Job {
 
     /// Whether it goes on.
     pub fn is_live(&self) -> bool
-        ensures { result ≡ is_live (seen_job self.now) }
+        ensures { result ≡ is_live (job_view self.now) }
     {
         !matches!(self.activity, Activity::Ended(_))
     }
@@ -102,7 +102,7 @@ impl Job {
     /// It was told to wait once more.
     pub fn wait(&mut self)
         requires { self.old.busy + 1 < 2 ^ 32 }
-        ensures waits { seen_job self.new ≡ waiting (seen_job self.old) }
+        ensures waits { job_view self.new ≡ waiting (job_view self.old) }
         ensures children { self.new.children.items ≡ self.old.children.items }
     {
         self.busy += 1;
@@ -110,7 +110,7 @@ impl Job {
 
     /// It ends.
     pub fn end(&mut self, end: &JobEnd) -> Turn
-        ensures ended { (seen_job self.new ≡ record (seen_job self.old) { doing = Ended end.now }) × (result ≡ Turn.Ended end.now) }
+        ensures ended { (job_view self.new ≡ record (job_view self.old) { doing = Ended end.now }) × (result ≡ Turn.Ended end.now) }
         ensures children { self.new.children.items ≡ self.old.children.items }
     {
         self.activity = Activity::Ended(*end);

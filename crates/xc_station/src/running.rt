@@ -1,17 +1,18 @@
 ghost use Rattle.std.specs.Prelude.{◌≡◌, ◌≢◌, ◌+◌, ◌<◌, ◌≤◌, ◌^◌, ℕ, length, true, IsSome, IsTrue, Some};
 ghost use Rattle.xc_data.specs.declared.entry.Cause.TheVariants as PlainCause;
 ghost use Rattle.xc_script.specs.declared.ask.Ask.TheVariants.{Call as AskedCall};
-ghost use Rattle.xc_script.specs.Ask.{asks, next_body};
-ghost use Rattle.xc_script.specs.Position.{walk_of, job_of, IsSettled};
+ghost use Rattle.xc_script.specs.Asking.{asks};
+ghost use Rattle.xc_script.specs.Ask.{next_body};
+ghost use Rattle.xc_script.specs.Position.{walk_of, job_of, IsPastSilent};
 ghost use Rattle.xc_world.specs.Modes.{claims_of};
-ghost use Rattle.xc_story.specs.declared.phase.Phase.TheVariants as PlainPhase;
-ghost use Rattle.xc_story.specs.declared.rules.Rules.{Rules as PlainRules};
-ghost use Rattle.xc_story.specs.Seen.{SeenTx, SeenJob, Now, Active, revoked};
+ghost use Rattle.xc_model.specs.declared.phase.Phase.TheVariants as PlainPhase;
+ghost use Rattle.xc_model.specs.declared.rules.Rules.{Rules as PlainRules};
+ghost use Rattle.xc_model.specs.Moment.{TxView, JobView, Moment, Active, revoked};
 ghost use Rattle.xc_data.specs.declared.object.Object.{Object};
-ghost use Rattle.xc_story.specs.Setting.{setting};
-ghost use Rattle.xc_story.specs.Rows.{with_tx, mover};
+ghost use Rattle.xc_model.specs.Setting.{setting};
+ghost use Rattle.xc_model.specs.Movers.{with_tx, mover};
 ghost use Rattle.xc_station.specs.Acting.{AreReadyFor, MayGo};
-ghost use Rattle.xc_station.specs.Jobs.{begun_of, seen_job, seen_tx};
+ghost use Rattle.xc_station.specs.Jobs.{begun_of, job_view, tx_view};
 ghost use Rattle.xc_station.specs.Moments.{AreTerms, CanRun, HasClaimed, HasNeeds, HasTx, IsAt, IsRow, IsRunningRow, KeepsSeated, Lends};
 ghost use Rattle.xc_station.specs.Moments.{counted, front_of, marks_of, moved, runs, seated_as};
 ghost use Rattle.xc_sentinel.specs.Seating.{seat_in};
@@ -23,9 +24,9 @@ use smallvec::SmallVec;
 use std::alloc::Global;
 use xc_data::{Call, Cause, Claim, Mark, NoMemory, Turn};
 use xc_host::Host;
+use xc_model::{Phase, Rules};
 use xc_script::{Ask, JobState};
 use xc_sentinel::{Sentinels, Verdict};
-use xc_story::{Phase, Rules};
 use xc_text::Script;
 use xc_txmem::Words;
 use xc_world::touched;
@@ -38,9 +39,9 @@ fn touched_by(alloc: Global, words: &Words, tx: &Tx, call: &Call) -> SmallVec<Cl
     touched(alloc, call, &tx.me, words.count() as u32)
 }
 
-// The transaction undoes for want of memory.
-fn want(tx: &mut Tx) -> Turn
-    ensures tx { seen_tx tx.new ≡ record (seen_tx tx.old) { phase = PlainPhase.Undoing PlainCause.NoMemory } }
+// The transaction undoes for lack of memory.
+fn abort_for_memory(tx: &mut Tx) -> Turn
+    ensures tx { tx_view tx.new ≡ record (tx_view tx.old) { phase = PlainPhase.Undoing PlainCause.NoMemory } }
     ensures begun { begun_of tx.new ≡ begun_of tx.old }
     ensures answer { result ≡ Turn.NoMemory }
 {
@@ -58,7 +59,7 @@ struct Terms {
 }
 
 // Claims what a call touches, with room to note the call. Where another holds something against it the transaction waits, if that
-// one is younger, or undoes; it undoes for want of memory too.
+// one is younger, or undoes; it undoes for lack of memory too.
 fn claim<H: Host>(
     alloc: Global,
     shared: &mut Shared<H>,
@@ -77,7 +78,7 @@ fn claim<H: Host>(
     let touched = touched_by(alloc, &shared.words, tx, call);
     let claims = touched.as_slice();
     if tx.room(claims).is_err() {
-        return Err(want(tx));
+        return Err(abort_for_memory(tx));
     }
     match shared
         .sentinels
@@ -96,7 +97,7 @@ fn claim<H: Host>(
             });
             Err(Turn::Went)
         }
-        Verdict::NoMemory => Err(want(tx)),
+        Verdict::NoMemory => Err(abort_for_memory(tx)),
     }
 }
 
@@ -111,11 +112,11 @@ fn try_call<H: Host>(
     call: Call,
 ) -> Turn
     requires asked { asks (walk_of script.now place.old) ≡ AskedCall call }
-    requires settled { IsSettled script.now place.old }
-    requires may { MayGo (length shared.old.words) (seen_tx tx.old) }
+    requires settled { IsPastSilent script.now place.old }
+    requires may { MayGo (length shared.old.words) (tx_view tx.old) }
     requires count { length shared.old.words ≤ 4096 }
-    requires ready { IsTrue H.model.tells → AreReadyFor (seen_tx tx.old) (H.model.contents shared.old.host) }
-    requires needs { IsTrue H.model.tells → HasNeeds H.model shared.old (seen_tx tx.old) }
+    requires ready { IsTrue H.model.tells → AreReadyFor (tx_view tx.old) (H.model.contents shared.old.host) }
+    requires needs { IsTrue H.model.tells → HasNeeds H.model shared.old (tx_view tx.old) }
     requires noted { length tx.old.taken.items ≤ shared.old.buffers.noted }
     ensures words { shared.new.words ≡ shared.old.words }
     ensures started { shared.new.started ≡ shared.old.started }
@@ -123,11 +124,11 @@ fn try_call<H: Host>(
     ensures seats { KeepsSeated shared.old.sentinels.seats shared.new.sentinels.seats }
     ensures waits { (object : Object) (holder : ℕ) → result ≡ Turn.Busy object holder → terms.patient ≡ true }
     ensures lends { Lends H.model (record { old = front_of shared.old; new = front_of shared.new })
-        (record { old = seen_tx tx.old; new = seen_tx tx.new }) }
+        (record { old = tx_view tx.old; new = tx_view tx.new }) }
     ensures begun { begun_of tx.new ≡ begun_of tx.old }
-    ensures row { (rules : PlainRules) (now : Now) (at : ℕ) (job : SeenJob) → let s = setting script.now rules H.model.tells in
-        IsAt H.model shared.old now at job → HasTx s job place.old (seen_tx tx.old) → AreTerms rules now job terms.patient terms.at
-        → IsRow (mover s at now job) (moved H.model shared.new (counted result (with_tx job place.new (seen_tx tx.new))) now at) result
+    ensures row { (rules : PlainRules) (now : Moment) (at : ℕ) (job : JobView) → let s = setting script.now rules H.model.tells in
+        IsAt H.model shared.old now at job → HasTx s job place.old (tx_view tx.old) → AreTerms rules now job terms.patient terms.at
+        → IsRow (mover s at now job) (moved H.model shared.new (counted result (with_tx job place.new (tx_view tx.new))) now at) result
         shared.new.sentinels.claims }
 {
     if let Err(turn) = claim(alloc, shared, terms, tx, &call) {
@@ -144,13 +145,13 @@ fn try_call<H: Host>(
             tx.note(call, reply);
             Turn::Went
         }
-        Err(NoMemory) => want(tx),
+        Err(NoMemory) => abort_for_memory(tx),
     }
 }
 
 // What a running transaction does next: the call that is asked, or it enters its commit, which writes its
-// stores, or its way back.
-fn go<H: Host>(
+// stores, or its rollback.
+fn step_running<H: Host>(
     alloc: Global,
     shared: &mut Shared<H>,
     script: &Script,
@@ -159,10 +160,10 @@ fn go<H: Host>(
     tx: &mut Tx,
 ) -> Turn
     requires left { IsSome (next_body script.now (job_of place.old)) }
-    requires may { MayGo (length shared.old.words) (seen_tx tx.old) }
+    requires may { MayGo (length shared.old.words) (tx_view tx.old) }
     requires count { length shared.old.words ≤ 4096 }
-    requires ready { IsTrue H.model.tells → AreReadyFor (seen_tx tx.old) (H.model.contents shared.old.host) }
-    requires needs { IsTrue H.model.tells → HasNeeds H.model shared.old (seen_tx tx.old) }
+    requires ready { IsTrue H.model.tells → AreReadyFor (tx_view tx.old) (H.model.contents shared.old.host) }
+    requires needs { IsTrue H.model.tells → HasNeeds H.model shared.old (tx_view tx.old) }
     requires noted { length tx.old.taken.items ≤ shared.old.buffers.noted }
     ensures count { length shared.new.words ≡ length shared.old.words }
     ensures started { shared.new.started ≡ shared.old.started }
@@ -170,12 +171,12 @@ fn go<H: Host>(
     ensures seats { KeepsSeated shared.old.sentinels.seats shared.new.sentinels.seats }
     ensures waits { (object : Object) (holder : ℕ) → result ≡ Turn.Busy object holder → terms.patient ≡ true }
     ensures lends { Lends H.model (record { old = front_of shared.old; new = front_of shared.new })
-        (record { old = seen_tx tx.old; new = seen_tx tx.new }) }
+        (record { old = tx_view tx.old; new = tx_view tx.new }) }
     ensures begun { begun_of tx.new ≡ begun_of tx.old }
-    ensures row { (rules : PlainRules) (now : Now) (at : ℕ) (job : SeenJob) → let s = setting script.now rules H.model.tells in
-        IsAt H.model shared.old now at job → job.doing ≡ Active (seen_tx tx.old) → job.place ≡ place.old
+    ensures row { (rules : PlainRules) (now : Moment) (at : ℕ) (job : JobView) → let s = setting script.now rules H.model.tells in
+        IsAt H.model shared.old now at job → job.doing ≡ Active (tx_view tx.old) → job.place ≡ place.old
         → AreTerms rules now job terms.patient terms.at
-        → IsRow (mover s at now job) (moved H.model shared.new (counted result (with_tx job place.new (seen_tx tx.new))) now at) result
+        → IsRow (mover s at now job) (moved H.model shared.new (counted result (with_tx job place.new (tx_view tx.new))) now at) result
         shared.new.sentinels.claims }
 {
     match place.ask(script) {
@@ -190,7 +191,7 @@ fn go<H: Host>(
             Turn::Went
         }
         Ok(Ask::End) => unreachable!(),
-        Err(NoMemory) => want(tx),
+        Err(NoMemory) => abort_for_memory(tx),
     }
 }
 
@@ -210,7 +211,7 @@ fn settle(sentinels: &mut Sentinels, tx: &Tx)
 
 // The turn of a job whose transaction is marked: it undoes.
 fn revoke(tx: &mut Tx, mark: &Mark) -> Turn
-    ensures tx { seen_tx tx.new ≡ record (seen_tx tx.old) { phase = PlainPhase.Undoing (revoked mark.now) } }
+    ensures tx { tx_view tx.new ≡ record (tx_view tx.old) { phase = PlainPhase.Undoing (revoked mark.now) } }
     ensures begun { begun_of tx.new ≡ begun_of tx.old }
     ensures answer { result ≡ Turn.Went }
 {
@@ -225,7 +226,7 @@ fn revoke(tx: &mut Tx, mark: &Mark) -> Turn
 // A job that was told to wait counts it.
 fn count_wait(job: &mut Job, answer: &Turn)
     requires { (object : Object) (holder : ℕ) → answer.now ≡ Turn.Busy object holder → job.old.busy + 1 < 2 ^ 32 }
-    ensures counted { seen_job job.new ≡ counted answer.now (seen_job job.old) }
+    ensures counted { job_view job.new ≡ counted answer.now (job_view job.old) }
     ensures block { job.new.block ≡ job.old.block }
     ensures children { job.new.children.items ≡ job.old.children.items }
 {
@@ -236,7 +237,7 @@ fn count_wait(job: &mut Job, answer: &Turn)
 }
 
 /// The turn of a job whose transaction runs: its next call, the entering of its commit, which writes its stores, or that
-/// of its way back, as where it is marked. Where memory is wanting it keeps what it claimed, and the record of what its call had done at
+/// of its rollback, as where it is marked. Where memory runs out it keeps what it claimed, and the record of what its call had done at
 /// the host. The journal has so many entries.
 pub fn run<H: Host>(
     alloc: Global,
@@ -246,18 +247,18 @@ pub fn run<H: Host>(
     entered: u32,
     job: &mut Job,
 ) -> Turn
-    requires running { CanRun script.now H.model shared.old (seen_job job.old) }
+    requires running { CanRun script.now H.model shared.old (job_view job.old) }
     requires count { length shared.old.words ≤ 4096 }
     ensures count { length shared.new.words ≡ length shared.old.words }
     ensures started { shared.new.started ≡ shared.old.started }
     ensures plan { H.model.plan shared.new.host ≡ H.model.plan shared.old.host }
     ensures block { job.new.block ≡ job.old.block }
     ensures children { job.new.children.items ≡ job.old.children.items }
-    ensures lends { (tx : SeenTx) → (seen_job job.old).doing ≡ Active tx → (behind : SeenTx) × ((seen_job job.new).doing ≡ Active behind)
+    ensures lends { (tx : TxView) → (job_view job.old).doing ≡ Active tx → (behind : TxView) × ((job_view job.new).doing ≡ Active behind)
         × Lends H.model (record { old = front_of shared.old; new = front_of shared.new }) (record { old = tx; new = behind }) }
-    ensures row { (now : Now) (at : ℕ) → let s = setting script.now rules.now H.model.tells in
-        IsAt H.model shared.old now at (seen_job job.old) → length now.journal ≡ entered
-        → IsRunningRow (mover s at now (seen_job job.old)) (moved H.model shared.new (seen_job job.new) now at) result
+    ensures row { (now : Moment) (at : ℕ) → let s = setting script.now rules.now H.model.tells in
+        IsAt H.model shared.old now at (job_view job.old) → length now.journal ≡ entered
+        → IsRunningRow (mover s at now (job_view job.old)) (moved H.model shared.new (job_view job.new) now at) result
         shared.new.sentinels }
 {
     if let Some(mark) = shared.sentinels.doomed(job.tx.number) {
@@ -270,7 +271,7 @@ pub fn run<H: Host>(
         at: entered,
     };
     let Job { place, tx, .. } = job;
-    let answer = go(alloc, shared, script, terms, place, tx);
+    let answer = step_running(alloc, shared, script, terms, place, tx);
     settle(&mut shared.sentinels, &job.tx);
     count_wait(job, &answer);
     answer

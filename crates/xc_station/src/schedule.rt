@@ -1,6 +1,6 @@
 ghost use Rattle.std.specs.Prelude.{◌≡◌, ◌<◌, ◌≤◌, ◌+◌, ◌-◌, ◌%◌, ◌^◌, ℕ, true, false, length, slice_index, Option, Some};
 ghost use Rattle.xc_data.specs.declared.entry.Event.TheVariants.{Turned};
-ghost use Rattle.xc_story.specs.Alone.{AreAlone};
+ghost use Rattle.xc_model.specs.Alone.{AreAlone};
 ghost use Rattle.xc_station.specs.Stations.{GoesOn, IsStepOf, KeepsOrigin, IsFrontOf, NobodyLives, TakeRound, TakeRounds, TakeTurns};
 ghost use Rattle.xc_station.specs.Stations.{RanAlone, WorksOn};
 ghost use Rattle.xc_station.specs.Stations.{live_at, now_of, turns_of};

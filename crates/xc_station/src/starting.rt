@@ -1,20 +1,20 @@
-ghost use Rattle.std.specs.Prelude.{◌≡◌, ◌≤◌, ◌<◌, ◌+◌, ◌++◌, ◌∷◌, [], List, slice_get, slice_set, vec_capacity, length};
+ghost use Rattle.std.specs.Prelude.{◌≡◌, ◌≤◌, ◌<◌, ◌+◌, ◌++◌, [], List, slice_get, slice_set, vec_capacity, length};
 ghost use Rattle.std.specs.Prelude.{All, IfOk, MatchOption, OnOk, OnErr, Some, false, map, true};
 ghost use Rattle.xc_data.specs.declared.call.LateEnd.TheVariants as PlainEnds;
 ghost use Rattle.xc_script.specs.Ask.{block_place};
-ghost use Rattle.xc_station.specs.declared.job.Child.{Child as PlainChild};
 ghost use Rattle.xc_station.specs.declared.job.Job.{Job as PlainJob};
-ghost use Rattle.xc_station.specs.Jobs.{seen_child, seen_job, seen_jobs};
+ghost use Rattle.xc_station.specs.Jobs.{child_view, job_view, job_views};
 ghost use Rattle.xc_station.specs.Starting.{StartsChild};
 ghost use Rattle.xc_station.specs.Stations.{AreAhead};
-ghost use Rattle.xc_story.specs.Rows.{IsStart, behind_commit, is_block_in, started_job};
-ghost use Rattle.xc_story.specs.Seen.{SeenTx, Active};
+ghost use Rattle.xc_model.specs.CommittingRows.{IsStart, is_block_in};
+ghost use Rattle.xc_model.specs.Entering.{behind_commit, started_job};
+ghost use Rattle.xc_model.specs.Moment.{TxView, Active};
 
 use crate::job::{Activity, Child, Job};
 use crate::tx::Tx;
 use std::alloc::Global;
 use xc_data::{Ident, JobLine, LateEnd, NoMemory};
-use xc_journal::Roomy;
+use xc_roomy::Roomy;
 use xc_text::Script;
 
 /// The most jobs that are started in a run, those of the opening included.
@@ -29,8 +29,8 @@ fn child_of(
     job: &Job,
 ) -> Result<Child, NoMemory>
     requires { place ≡ block_place script.now block }
-    ensures { (tx : SeenTx) → (seen_job job.now).doing ≡ Active tx
-        → IfOk result (λ child. seen_child child ≡ started_job script.now (behind_commit (seen_job job.now) tx) block) }
+    ensures { (tx : TxView) → (job_view job.now).doing ≡ Active tx
+        → IfOk result (λ child. child_view child ≡ started_job script.now (behind_commit (job_view job.now) tx) block) }
 {
     let mut me = *job.tx.me;
     me.made = 0;
@@ -78,7 +78,7 @@ pub struct Start {
     pub place: Option<usize>,
 }
 
-// The child of a job, behind those that it has.
+// The child of a job, after those that it has.
 fn push_child(
     alloc: Global,
     script: &Script,
@@ -87,7 +87,7 @@ fn push_child(
     job: &mut Job,
 ) -> Result<(), NoMemory>
     requires { place ≡ block_place script.now block }
-    ensures same { seen_job job.new ≡ seen_job job.old }
+    ensures same { job_view job.new ≡ job_view job.old }
     ensures ok { OnOk result (StartsChild script.now job.old block PlainEnds.Done job.new.children.items) }
     ensures err { OnErr result (job.new.children.items ≡ job.old.children.items) }
 {
@@ -116,7 +116,7 @@ pub fn start_job(
     requires ahead { length ahead.old.items ≡ length jobs.old.items + 1 }
     ensures end { IsStart script.now started.old.items start.block result started.new.items }
     ensures jobs { (job : PlainJob) → slice_get jobs.old.items at ≡ Some job → (next : PlainJob)
-        × (jobs.new.items ≡ slice_set jobs.old.items at next) × (seen_job next ≡ seen_job job)
+        × (jobs.new.items ≡ slice_set jobs.old.items at next) × (job_view next ≡ job_view job)
         × StartsChild script.now job start.block result next.children.items }
     ensures same { (lines.new.items ≡ []) × (ahead.new.items ≡ ahead.old.items) }
     ensures jobs_room { length started.old.items ≤ vec_capacity jobs.old → length started.new.items ≤ vec_capacity jobs.new }
@@ -143,7 +143,7 @@ pub fn start_job(
 
 // A job that is live from now on.
 fn live(alloc: Global, child: Child) -> Job
-    ensures seen { seen_job result ≡ seen_child child }
+    ensures seen { job_view result ≡ child_view child }
     ensures alone { result.children.items ≡ [] }
 {
     Job {
@@ -157,14 +157,14 @@ fn live(alloc: Global, child: Child) -> Job
     }
 }
 
-/// Jobs that were started are live, behind the others. It takes no memory.
+/// Jobs that were started are live, after the others. It takes no memory.
 pub fn join(alloc: Global, jobs: &mut Vec<Job>, ahead: &mut Vec<u32>, children: Vec<Child>)
     requires jobs { length jobs.old.items + length children.items ≤ vec_capacity jobs.old }
     requires few { length jobs.old.items + length children.items ≤ 1000 }
     requires ahead { length ahead.old.items + length children.items ≤ vec_capacity ahead.old }
     requires marks { AreAhead jobs.old.items ahead.old.items }
     ensures jobs { (more : List PlainJob) × (jobs.new.items ≡ jobs.old.items ++ more)
-        × (seen_jobs more ≡ map seen_child children.items) × All (λ (job : PlainJob). job.children.items ≡ []) more }
+        × (job_views more ≡ map child_view children.items) × All (λ (job : PlainJob). job.children.items ≡ []) more }
     ensures marks { AreAhead jobs.new.items ahead.new.items }
     ensures rooms { (vec_capacity jobs.new ≡ vec_capacity jobs.old) × (vec_capacity ahead.new ≡ vec_capacity ahead.old) }
 {

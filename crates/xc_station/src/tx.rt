@@ -2,9 +2,10 @@ ghost use Rattle.std.specs.Prelude.{◌≡◌, ◌≤◌, ◌+◌, ◌∷◌, �
 ghost use Rattle.xc_data.specs.Claims.{holding};
 ghost use Rattle.xc_data.specs.declared.entry.Cause.{Cause as PlainCause};
 ghost use Rattle.xc_world.specs.World.{beginning};
-ghost use Rattle.xc_story.specs.declared.phase.Phase.TheVariants as PlainPhase;
-ghost use Rattle.xc_story.specs.Rows.{entry_of, new_tx};
-ghost use Rattle.xc_station.specs.Jobs.{begun_of, outcome_in, seen_tx};
+ghost use Rattle.xc_model.specs.declared.phase.Phase.TheVariants as PlainPhase;
+ghost use Rattle.xc_model.specs.Entering.{entry_of};
+ghost use Rattle.xc_model.specs.IdleRows.{new_tx};
+ghost use Rattle.xc_station.specs.Jobs.{begun_of, outcome_in, tx_view};
 ghost use Rattle.xc_wordlocks.specs.Table.{Holds};
 ghost use Rattle.xc_station.specs.Acting.{HasRoom, HasNoteRoom};
 ghost use Rattle.xc_station.specs.Moments.{Frees};
@@ -15,15 +16,17 @@ use xc_buffers::Taken;
 use xc_compensate::Stack;
 use xc_data::{Call, Claim, Entry, NoMemory, Outcome, Private, Reply, Report};
 use xc_deferred::Late;
-use xc_journal::Roomy;
+use xc_model::Phase;
+use xc_roomy::Roomy;
 use xc_sentinel::Sentinels;
-use xc_story::Phase;
 use xc_txmem::WriteSet;
 use xc_wordlocks::Holding;
 
 /// A job's transaction, with what its entry will say. It lies in its job for all of the job's transactions, and with it
 /// the job's handles: no begin and no end copies them. These have places of their
 /// own, and what a call on a word reads stands together, so that a turn finds little of many jobs in its way.
+///
+/// 256 handles are 4 KiB: inside the job they would keep what each turn reads of many jobs far apart.
 #[derive(Drop)]
 pub struct Tx {
     pub writes: WriteSet,
@@ -92,7 +95,7 @@ impl Tx {
     /// Begins the next transaction, with the handles of the last one's end: those of its begin, where it was aborted. It
     /// has done nothing yet. It takes no memory.
     pub fn begin(&mut self, alloc: Global, number: u32, rank: u32, began: u32)
-        ensures tx { seen_tx self.new ≡ new_tx number rank began (begun_of self.old) }
+        ensures tx { tx_view self.new ≡ new_tx number rank began (begun_of self.old) }
         ensures begun { begun_of self.new ≡ begun_of self.old }
     {
         self.number = number;
@@ -114,7 +117,7 @@ impl Tx {
 
     /// Keeps the handles of the begin, before a call changes one.
     pub fn keep(&mut self)
-        ensures tx { seen_tx self.new ≡ seen_tx self.old }
+        ensures tx { tx_view self.new ≡ tx_view self.old }
         ensures begun { begun_of self.new ≡ begun_of self.old }
         ensures changed { self.new.changed ≡ true }
         ensures notes { (self.new.calls ≡ self.old.calls) × (self.new.replies ≡ self.old.replies) }
@@ -138,7 +141,7 @@ impl Tx {
     pub fn room(&mut self, claims: &[Claim]) -> Result<(), NoMemory>
         requires { length claims.now ≤ 2 }
         ensures ok { OnOk result (HasRoom self.new claims.now) }
-        ensures same { seen_tx self.new ≡ seen_tx self.old }
+        ensures same { tx_view self.new ≡ tx_view self.old }
         ensures begun { begun_of self.new ≡ begun_of self.old }
     {
         self.calls.reserve(1)?;
@@ -149,7 +152,7 @@ impl Tx {
     /// Holds what is claimed, into the room for it. It takes no memory.
     pub fn hold(&mut self, claims: &[Claim])
         requires { HasRoom self.old claims.now }
-        ensures held { seen_tx self.new ≡ record (seen_tx self.old) { held = holding self.old.held.items claims.now } }
+        ensures held { tx_view self.new ≡ record (tx_view self.old) { held = holding self.old.held.items claims.now } }
         ensures room { HasNoteRoom self.new }
         ensures begun { begun_of self.new ≡ begun_of self.old }
     {
@@ -159,7 +162,7 @@ impl Tx {
     /// Notes a call with its reply, into the room for them. It takes no memory.
     pub fn note(&mut self, call: Call, reply: Reply)
         requires room { HasNoteRoom self.old }
-        ensures noted { seen_tx self.new ≡ record (seen_tx self.old) {
+        ensures noted { tx_view self.new ≡ record (tx_view self.old) {
           calls = self.old.calls.items ++ call ∷ [];
           replies = self.old.replies.items ++ reply ∷ [];
         } }
@@ -175,7 +178,7 @@ impl Tx {
         requires undone { (c : PlainCause) → self.old.phase ≡ PlainPhase.Undoing c → self.old.undo.pending ≡ [] }
         requires table { Holds sentinels.old.claims self.old.number self.old.held.items }
         ensures entry { (at : ℕ) → job ≡ at + 1
-            → result ≡ entry_of (seen_tx self.old) at (outcome_in self.old.phase self.old.undo.ended self.old.late.ends) }
+            → result ≡ entry_of (tx_view self.old) at (outcome_in self.old.phase self.old.undo.ended self.old.late.ends) }
         ensures begun { begun_of self.new ≡ begun_of self.old }
         ensures freed { Frees sentinels.old sentinels.new self.old.number }
     {

@@ -66,7 +66,7 @@ impl Pair {
         }
     }
 
-    // Puts a message of a side behind those that wait for the other side.
+    // Puts a message of a side after those that wait for the other side.
     fn send(&mut self, side: u8, message: Message) -> Result<(), NoMemory> {
         if side == 0 {
             Ok(self.second.push(message)?)

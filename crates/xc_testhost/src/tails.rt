@@ -1,7 +1,7 @@
 use std::alloc::Global;
 use xc_data::{NoMemory, Num};
 
-/// What stands behind the opening bytes of files.
+/// What stands after the opening bytes of files.
 #[derive(Drop)]
 pub(crate) struct Tails {
     alloc: Global,

@@ -37,7 +37,7 @@ impl Asked {
 }
 
 /// A host that tells nothing and takes no scripts. The files that it opens with, those of transaction
-/// 0, stand one behind another in the same bytes; the first is `a`. What is appended stands apart, and
+/// 0, stand one after another in the same bytes; the first is `a`. What is appended stands apart, and
 /// no read or write goes over into it.
 #[derive(Drop)]
 pub struct TestHost {
@@ -49,7 +49,7 @@ pub struct TestHost {
     pub grain: u32,
     /// The calls that fail, counted from 1.
     pub fails: [usize; 3],
-    /// Whether each look for a name wants memory.
+    /// Whether each look for a name runs out of memory.
     pub starves: bool,
     /// Each call that there was.
     pub log: Vec<Asked>,
@@ -80,6 +80,7 @@ fn part(bytes: &[u8], at: usize, n: usize) -> &[u8]
 }
 
 impl TestHost {
+    /// A host whose one file has these bytes, and which says that its length is `len`.
     pub fn new(alloc: Global, bytes: &[u8], len: u32) -> Result<TestHost, NoMemory>
         ensures { IfOk result (λ host. (host.bytes.items ≡ bytes.now) × (host.len ≡ len)) }
     {

@@ -8,7 +8,7 @@ use Rattle.std.specs.Ordering.{eq_by_cmp}
 use Rattle.std.proofs.lemmas.List.Folds.{list_any-append}
 use Rattle.std.proofs.lemmas.List.Sums.{sum_by_push}
 use Rattle.xc_data.specs.declared.script.Opened.{Opened}
-use Rattle.xc_data.specs.declared.script.Opened.TheVariants.{File, Pipe}
+use Rattle.xc_data.specs.declared.script.Opened.TheVariants.{File}
 use Rattle.xc_data.specs.Limits.{is_pipe_line, is_pair_line}
 use Rattle.xc_maps.specs.Keys.{name_cmp}
 use Rattle.xc_text.specs.Views.{NamesFiles}
@@ -33,24 +33,9 @@ one_name_more names objects name bytes is q =
     ∙ ap (λ b. list_any (is_file_of q) objects || (b || false)) (sym (texts_ties q name))
     ∙ sym (list_any-append (is_file_of q) objects (File name bytes ∷ []))
 
--- a pipe has no name
-pub no_name_more : (names : map.FinMap name_cmp (Unit {0})) (objects : List Opened) (bytes : List ℕ) → NamesFiles names objects →
-    NamesFiles names (objects ++ Pipe bytes ∷ [])
-no_name_more names objects bytes is q =
-    is q ∙ same (list_any (is_file_of q) objects) ∙ sym (list_any-append (is_file_of q) objects (Pipe bytes ∷ []))
-  where
-    same : (b : Bool) → b ≡ (b || (false || false))
-    same true = refl
-    same false = refl
-
 -- a file is no pipe
 pub pipes_stay : (objects : List Opened) (name bytes : List ℕ) → count_by is_pipe_line objects ≡ count_by is_pipe_line (objects ++ File name bytes ∷ [])
 pipes_stay objects name bytes = omega (arith, sum_by_push (λ o. cond (is_pipe_line o) 1 0) objects (File name bytes))
-
--- one pipe more
-pub one_pipe_more : (objects : List Opened) (bytes : List ℕ) (n : ℕ) → n ≡ count_by is_pipe_line objects →
-    n + 1 ≡ count_by is_pipe_line (objects ++ Pipe bytes ∷ [])
-one_pipe_more objects bytes n is = omega (arith, is, sum_by_push (λ o. cond (is_pipe_line o) 1 0) objects (Pipe bytes))
 
 -- a file is no pair
 pub pairs_stay : (objects : List Opened) (name bytes : List ℕ) → count_by is_pair_line objects ≡ count_by is_pair_line (objects ++ File name bytes ∷ [])

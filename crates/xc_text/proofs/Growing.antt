@@ -29,7 +29,7 @@ placed_within : (names : List (List ℕ)) (name : List ℕ) (found : Option ℕ)
 placed_within names name (Some at) within = (within, omega arith)
 placed_within names name None within = (rw length-append (omega arith), rw length-append (omega arith))
 
--- a variable has its place behind it
+-- a variable has its place after it
 pub has_place : (names : Names) (name : List ℕ) → (variable names name).1 < length (variable names name).0.variables
 has_place names name = (placed_within names.variables name (place_of names.variables name) (found_within names.variables name)).0
 
@@ -37,7 +37,7 @@ has_place names name = (placed_within names.variables name (place_of names.varia
 pub variable_grows : (names : Names) (name : List ℕ) → Grows names (variable names name).0
 variable_grows names name = (placed_within names.variables name (place_of names.variables name) (found_within names.variables name)).1
 
--- a part, and another one behind it
+-- a part, and another one after it
 two_grow : {A B : Type 0} (names : Names) (p : Placed A) (behind : Names → Placed B) → Grows names p.0
     → ((n : Names) → Grows n (behind n).0) → Grows names (behind p.0).0
 two_grow names p behind first second = let later = second p.0 in omega (arith, first, later)
@@ -61,7 +61,7 @@ target_grows names None = omega arith
 pub variables_grow : (names : Names) (v w : List ℕ) → Grows names (placed_two names v w).0
 variables_grow names v w = two_grow names (variable names v) (λ n. variable n w) (variable_grows names v) (λ n. variable_grows n w)
 
--- both have their places behind them
+-- both have their places after them
 pub have_places : (names : Names) (v w : List ℕ) → let p = placed_two names v w in
     (p.1.0 < length p.0.variables) × (p.1.1 < length p.0.variables)
 have_places names v w =
@@ -93,7 +93,7 @@ written_grows : (names : Names) (handle : List ℕ) (items : List named.Item) �
 written_grows names handle items =
     two_grow names (variable names handle) (λ n. placed_data n items) (variable_grows names handle) (λ n. data_grows n items)
 
--- through a handle, and then what stands behind it
+-- through a handle, and then what stands after it
 handled_grows : {B : Type 0} (names : Names) (handle : List ℕ) (behind : Names → Placed B) → ((n : Names) → Grows n (behind n).0)
     → Grows names (behind (variable names handle).0).0
 handled_grows names handle behind second = two_grow names (variable names handle) behind (variable_grows names handle) second

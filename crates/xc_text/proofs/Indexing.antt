@@ -48,7 +48,7 @@ distinct_more (k ∷ names) name new all =
     let parts = or_parts (pointwise nat_eq k name) (is_among name names) new in
     (apart_more k names name all.0 parts.0, distinct_more names name parts.1 all.1)
 
--- the names of blocks with that of a job more, which might as well stand behind all
+-- the names of blocks with that of a job more, which might as well stand after all
 job_moved : (jobs bodies : List (List ℕ)) (name : List ℕ) → IsPermutation ((jobs ++ bodies) ++ name ∷ []) ((jobs ++ name ∷ []) ++ bodies)
 job_moved jobs bodies name =
     let moved = IsPermutation-append_right jobs (bodies ++ name ∷ []) (name ∷ bodies) (IsPermutation-to_front bodies name) in

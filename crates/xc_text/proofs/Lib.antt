@@ -1,8 +1,12 @@
-pub mod Forms
 pub mod Checked
-pub mod Keeping
 pub mod FilesByName
-pub mod Indexing
 pub mod FirstLines
+pub mod FitLines
+pub mod Forms
 pub mod Growing
+pub mod Indexing
+pub mod Keeping
+pub mod KeepingBlocks
+pub mod KeepingPrologue
 pub mod Parted
+pub mod Sound

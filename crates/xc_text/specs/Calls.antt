@@ -1,4 +1,4 @@
--- Lines that are calls: the word that one begins with, and the shape of what stands behind it.
+-- Lines that are calls: the word that one begins with, and the shape of what stands after it.
 use Rattle.std.specs.Prelude.{ℕ, List, map, Option, Some, None, Result, Err}
 use Rattle.xc_text.specs.declared.calls.TheConstants.{CALL_KINDS}
 use Rattle.xc_text.specs.declared.calls.CallKind.{CallKind}
@@ -42,19 +42,19 @@ HandleTermInto = List ℕ × (Term × Option (List ℕ))
 abbrev pub HandleDataSlot : Type 0
 HandleDataSlot = List ℕ × (List Item × Option (List ℕ))
 
--- the call on a word that the tokens behind its word make: `T`, `T -> V` or `T E`
+-- the call on a word that the tokens after its word make: `T`, `T -> V` or `T E`
 abbrev pub word_form : WordCall → List Lexeme → Result CallForm Why
 word_form word.Load rest = seen (λ (p : Term × Option (List ℕ)). form.Load p.0 p.1) (led term target rest)
 word_form word.Store rest = seen (λ (p : Term × Expression). form.Store p.0 p.1) (led term expression_of rest)
 
--- the call on a name: `NAME`, behind it `-> V` or `slot S` where that is wanted, or `NAME NAME`
+-- the call on a name: `NAME`, after it `-> V` or `slot S` where that is wanted, or `NAME NAME`
 abbrev pub name_form : NameCall → List Lexeme → Result CallForm Why
 name_form named.Open rest = seen (λ (p : NameAnd). form.Open p.0 p.1) (led name target rest)
 name_form named.Create rest = seen (λ (p : NameAnd). form.Create p.0 p.1) (led name target rest)
 name_form named.Rename rest = seen (λ (p : List ℕ × List ℕ). form.Rename p.0 p.1) (led name (alone name) rest)
 name_form named.Unlink rest = seen (λ (p : NameAnd). form.Unlink p.0 p.1) (led name slot_ending rest)
 
--- the call through the handle of a file: `H`, `H T` or `H D`, and behind some of them `-> V` or `slot S` where that is wanted
+-- the call through the handle of a file: `H`, `H T` or `H D`, and after some of them `-> V` or `slot S` where that is wanted
 abbrev pub handle_form : HandleCall → List Lexeme → Result CallForm Why
 handle_form handled.Read rest = seen (λ (p : HandleTermInto). form.Read p.0 p.1.0 p.1.1) (led ident (led term target) rest)
 handle_form handled.Overwrite rest = seen (λ (p : List ℕ × List Item). form.Overwrite p.0 p.1) (led ident data_of rest)
@@ -64,24 +64,24 @@ handle_form handled.Length rest = seen (λ (p : NameAnd). form.Length p.0 p.1) (
 handle_form handled.Close rest = seen (λ (h : List ℕ). form.Close h) (alone ident rest)
 handle_form handled.Sync rest = seen (λ (p : NameAnd). form.Sync p.0 p.1) (led ident slot_ending rest)
 
--- the call on a pipe: nothing, `H T` or `H D`, and behind them `-> V` or `slot S` where that is wanted
+-- the call on a pipe: nothing, `H T` or `H D`, and after them `-> V` or `slot S` where that is wanted
 abbrev pub pipe_form : PipeCall → List Lexeme → Result CallForm Why
 pipe_form piped.Make rest = seen form.Pipe (target rest)
 pipe_form piped.Read rest = seen (λ (p : HandleTermInto). form.ReadPipe p.0 p.1.0 p.1.1) (led ident (led term target) rest)
 pipe_form piped.Write rest = seen (λ (p : HandleDataSlot). form.WritePipe p.0 p.1.0 p.1.1) (led ident (before_slot data_of) rest)
 pipe_form piped.Shutdown rest = seen (λ (p : NameAnd). form.Shutdown p.0 p.1) (led ident slot_ending rest)
 
--- the call on a pair: nothing, `H` or `H D`, and behind them `-> V W`, `-> V` or `slot S` where that is wanted
+-- the call on a pair: nothing, `H` or `H D`, and after them `-> V W`, `-> V` or `slot S` where that is wanted
 abbrev pub pair_form : PairCall → List Lexeme → Result CallForm Why
 pair_form paired.Make rest = seen form.Pair (two_targets rest)
 pair_form paired.Receive rest = seen (λ (p : NameAnd). form.Receive p.0 p.1) (led ident target rest)
 pair_form paired.Send rest = seen (λ (p : HandleDataSlot). form.Send p.0 p.1.0 p.1.1) (led ident (before_slot data_of) rest)
 
--- the call that starts a job: `BLOCK`, and behind it `slot S` where that is wanted. No block needs to have the name
+-- the call that starts a job: `BLOCK`, and after it `slot S` where that is wanted. No block needs to have the name
 abbrev pub thread_form : List Lexeme → Result CallForm Why
 thread_form rest = seen (λ (p : NameAnd). form.Start p.0 p.1) (led ident slot_ending rest)
 
--- the call of a kind that the tokens behind its word make
+-- the call of a kind that the tokens after its word make
 abbrev pub form_of : CallKind → List Lexeme → Result CallForm Why
 form_of (Word call) rest = word_form call rest
 form_of (Name call) rest = name_form call rest

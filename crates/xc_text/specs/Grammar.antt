@@ -76,7 +76,7 @@ prologue_line word rest =
     else if spells word (codes "body") then body_line rest
     else Err UnknownLine
 
--- a line behind a block
+-- a line after a block
 abbrev pub between_line : List ℕ → List Lexeme → Result Line Why
 between_line word rest =
     if spells word (codes "job") then job_line rest

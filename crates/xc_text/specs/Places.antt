@@ -40,7 +40,7 @@ slot names name = let p = taken names.slots name in (record names { slots = p.0 
 abbrev pub one : {A B : Type 0} → (A → B) → Placed A → Placed B
 one f p = (p.0, f p.1)
 
--- what is made of a part and of another one behind it
+-- what is made of a part and of another one after it
 abbrev pub two : {A B C : Type 0} → (A → B → C) → Placed A → (Names → Placed B) → Placed C
 two f p behind = ((behind p.0).0, f p.1 (behind p.0).1)
 

@@ -13,7 +13,7 @@ abbrev pub Fails : {B : Type 0} → ParseErr → Result B Refusal → Type 0
 Fails (parse_err.Refused line e) said = said ≡ Err (line, e)
 Fails parse_err.NoMemory said = Unit {0}
 
--- a script is read as the grammar says, but for want of memory
+-- a script is read as the grammar says, but for lack of memory
 abbrev pub Reads : {A : Type 0} → Result A ParseErr → Result A Refusal → Type 0
 Reads (Ok x) said = said ≡ Ok x
 Reads (Err e) said = Fails e said

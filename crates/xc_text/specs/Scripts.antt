@@ -46,11 +46,11 @@ script_of s = record {
   handles = s.handles;
 }
 
--- a script ends behind its prologue or behind a block
+-- a script ends after its prologue or after a block
 abbrev pub closed : Said → Result Script Why
 closed s = if is_outside s.section then Ok (script_of s) else Err Unclosed
 
--- the script of what n lines have said and of the lines behind them
+-- the script of what n lines have said and of the lines after them
 abbrev pub read_from : ℕ → Said → List (List ℕ) → Result Script Refusal
 read_from n s [] = at_line n (closed s)
 read_from n s (bytes ∷ lines) = and_then (at_line (n + 1) (after_bytes s bytes)) (λ (next : Said). read_from (n + 1) next lines)

@@ -1,4 +1,4 @@
--- The shapes of lines: what may stand behind a line's first word.
+-- The shapes of lines: what may stand after a line's first word.
 use Rattle.std.specs.Prelude.{ℕ, List, [], ◌∷◌, codes, Option, Some, None, Result, Ok, Err, if◌then◌else◌}
 use Rattle.xc_tokens.specs.declared.why.Why.{Why}
 use Rattle.xc_tokens.specs.declared.why.Why.TheVariants.{BadForm}
@@ -11,12 +11,12 @@ abbrev pub bare : List Lexeme → Result (Unit {0}) Why
 bare [] = Ok tt
 bare _ = Err BadForm
 
--- one token, and nothing behind it
+-- one token, and nothing after it
 abbrev pub alone : {A : Type 0} → (Lexeme → Result A Why) → List Lexeme → Result A Why
 alone read (t ∷ []) = read t
 alone read _ = Err BadForm
 
--- one token, and a shape behind it
+-- one token, and a shape after it
 abbrev pub led : {A B : Type 0} → (Lexeme → Result A Why) → (List Lexeme → Result B Why) → List Lexeme → Result (A × B) Why
 led first behind [] = Err BadForm
 led first behind (t ∷ ts) = both (first t) (behind ts)
@@ -46,6 +46,6 @@ parted (t ∷ []) = (t ∷ [], [])
 parted (word ∷ s ∷ []) = if is_sign word (codes "slot") then ([], word ∷ s ∷ []) else (word ∷ s ∷ [], [])
 parted (t ∷ u ∷ v ∷ ts) = let p = parted (u ∷ v ∷ ts) in (t ∷ p.0, p.1)
 
--- a shape, and behind it nothing or `slot S`
+-- a shape, and after it nothing or `slot S`
 abbrev pub before_slot : {A : Type 0} → (List Lexeme → Result A Why) → List Lexeme → Result (A × Option (List ℕ)) Why
 before_slot front tokens = let p = parted tokens in both (front p.0) (slot_ending p.1)

@@ -9,6 +9,7 @@ use xc_data::{Ident, IdentList, Items, NoMemory};
 use xc_maps::IdentMap;
 
 /// The names of blocks, those of jobs and those of bodies, in the order of their lines, and looked up by one index.
+/// The name of the block under way is among them from its first line on.
 #[derive(Drop)]
 pub struct BlockNames {
     jobs: IdentList,
@@ -28,7 +29,7 @@ impl Model for BlockNames {
     ghost invariant = { λ a. Indexes a.index (a.jobs ++ a.bodies) };
 }
 
-// A name that the index hasn't goes behind these names and into the index.
+// A name that the index hasn't goes after these names and into the index.
 fn add(index: &mut IdentMap<()>, names: &mut IdentList, name: Ident) -> Result<(), NoMemory>
     requires new { map.get index.old name ≡ None }
     ensures index { OnOk result (index.new ≡ map.insert index.old name tt) }
@@ -46,6 +47,7 @@ fn add(index: &mut IdentMap<()>, names: &mut IdentList, name: Ident) -> Result<(
 }
 
 impl BlockNames {
+    /// No block yet. It takes no memory.
     pub fn new(alloc: Global) -> Self
         ensures { result ≡ no_blocks }
     {
@@ -56,6 +58,7 @@ impl BlockNames {
         }
     }
 
+    /// The number of blocks, jobs and bodies together.
     pub fn len(&self) -> usize
         ensures { result ≡ length self.now.jobs + length self.now.bodies }
     {

@@ -251,7 +251,7 @@ fn thread_call<'a>(alloc: Global, rest: &[Token<'a>]) -> Result<CallForm<IdentWo
     Ok(CallForm::Start { block, slot })
 }
 
-// The call of a kind that the tokens behind its word make.
+// The call of a kind that the tokens after its word make.
 fn call_form<'a>(
     alloc: Global,
     kind: CallKind,

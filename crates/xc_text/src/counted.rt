@@ -37,6 +37,7 @@ fn is_call(statement: &Statement<Place>) -> bool
 }
 
 impl Counted {
+    /// No statement yet. It takes no memory.
     pub fn new(alloc: Global) -> Self
         ensures { result ≡ [] }
     {
@@ -56,6 +57,7 @@ impl Counted {
         self.calls <= MOST_CALLS
     }
 
+    /// One statement more; a call raises the count.
     pub fn push(&mut self, statement: Statement<Place>) -> Result<(), NoMemory>
         requires few { count_by is_call (self.old ++ statement ∷ []) ≤ 256 }
         ensures ok { OnOk result (self.new ≡ self.old ++ statement ∷ []) }

@@ -159,7 +159,7 @@ pub fn prologue_line<'a>(alloc: Global, word: &[u8], rest: &[Token<'a>]) -> Resu
     Err(Stop::Refused(Why::UnknownLine))
 }
 
-/// A line behind a block.
+/// A line after a block.
 pub fn between_line<'a>(word: &[u8], rest: &[Token<'a>]) -> Result<Line<'a>, Why>
     ensures { result ≡ between_said word.now (map lexeme rest.now) }
 {

@@ -10,7 +10,7 @@ use xc_tokens::IdentWord;
 pub enum Section {
     /// Before the first block.
     Prologue,
-    /// Behind a block.
+    /// After a block.
     Between,
     /// In the block of that name.
     Block(Ident),

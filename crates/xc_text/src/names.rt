@@ -26,6 +26,7 @@ impl Model for Names {
 }
 
 impl Names {
+    /// No name yet. It takes no memory.
     pub fn new(alloc: Global) -> Self
         ensures { result ≡ no_names }
     {

@@ -33,6 +33,7 @@ impl Model for Objects {
 }
 
 impl Objects {
+    /// No object yet. It takes no memory.
     pub fn new(alloc: Global) -> Self
         ensures { result ≡ [] }
     {
@@ -44,6 +45,7 @@ impl Objects {
         }
     }
 
+    /// The number of `file`, `pipe` and `pair` lines.
     pub fn len(&self) -> usize
         ensures { result ≡ length self.now }
     {
@@ -87,6 +89,7 @@ impl Objects {
         }
     }
 
+    /// One pipe more, with these bytes.
     pub fn push_pipe(&mut self, bytes: Chunk) -> Result<(), NoMemory>
         requires room { has_room_for_pipe self.old ≡ true }
         ensures ok { OnOk result (self.new ≡ self.old ++ Pipe bytes ∷ []) }
@@ -97,6 +100,7 @@ impl Objects {
         Ok(())
     }
 
+    /// One pair more, in which no message waits.
     pub fn push_pair(&mut self) -> Result<(), NoMemory>
         requires room { has_room_for_pair self.old ≡ true }
         ensures ok { OnOk result (self.new ≡ self.old ++ Pair ∷ []) }
@@ -107,7 +111,7 @@ impl Objects {
         Ok(())
     }
 
-    /// It takes no memory.
+    /// The objects, in the order of their lines. It takes no memory.
     pub fn into_objects(self) -> OpenedList
         ensures { result ≡ self }
     {

@@ -79,7 +79,7 @@ pub enum CallForm<N> {
         handle: N,
         data: Data<N>,
     },
-    /// Writes behind a file's bytes through the handle in a variable.
+    /// Writes after a file's bytes through the handle in a variable.
     Append {
         handle: N,
         data: Data<N>,
@@ -118,7 +118,7 @@ pub enum CallForm<N> {
         n: Term<N>,
         into: Option<N>,
     },
-    /// Puts bytes behind those of the pipe whose handle is in a variable, at the commit.
+    /// Puts bytes after those of the pipe whose handle is in a variable, at the commit.
     WritePipe {
         handle: N,
         data: Data<N>,

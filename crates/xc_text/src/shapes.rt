@@ -1,4 +1,4 @@
-//! The shapes of lines: what may stand behind a line's first word.
+//! The shapes of lines: what may stand after a line's first word.
 
 ghost use Rattle.std.specs.Prelude.{◌≡◌, ◌∷◌, [], map};
 ghost use Rattle.xc_text.specs.Pieces.{data_of};

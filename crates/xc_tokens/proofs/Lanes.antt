@@ -36,7 +36,7 @@ run_ends p n xs room short =
     let other : prefix_len p (take n xs) ≡ length (take n xs) → ⊥ = λ e. omega (arith, long) in
     sym (cond-false _ _ _ (ne_eqb _ _ other)) ∙ sym (prefix_len-append p (take n xs) (drop n xs)) ∙ ap (prefix_len p) (take-append-drop n xs)
 
--- and else it goes on behind them
+-- and else it goes on after them
 pub run_goes_on : (p : ℕ → Bool) (n : ℕ) (xs : List ℕ) → n ≤ length xs → n ≤ prefix_len p (take n xs) → n + prefix_len p (drop n xs) ≡ prefix_len p xs
 run_goes_on p n xs room all =
     let long : length (take n xs) ≡ n = search rules in

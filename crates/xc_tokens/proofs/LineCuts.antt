@@ -60,7 +60,7 @@ pub all_clean : (bs : List ℕ) → list_all is_line_byte (take (prefix_len is_l
 all_clean [] = refl
 all_clean (b ∷ bs) = one_clean is_line_byte b bs (is_line_byte b) refl (all_clean bs)
 
--- a clean line that its LF ends, and what stands behind it
+-- a clean line that its LF ends, and what stands after it
 pub clean_at_end : (n : ℕ) (bs : List ℕ) → n < length bs → NoEnd n bs → (get_or bs n 0 == 10) ≡ true →
     lines_of bs ≡ take n bs ∷ lines_of (take (length bs - (n + 1)) (drop (n + 1) bs))
 clean_at_end n bs lt none e =

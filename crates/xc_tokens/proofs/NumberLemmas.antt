@@ -2,7 +2,7 @@
 use Rattle.std.proofs.Common.{◌≡◌, ℕ, ◌+◌, ◌-◌, ◌*◌, ◌^◌, ◌<◌, ◌≤◌, suc, List, [], ◌∷◌, length, drop, get_or, None, ap, drop-cons, arith}
 use Rattle.xc_tokens.specs.Numbers.{value_from, number_of}
 
--- digits behind a number make none that is smaller
+-- digits after a number make none that is smaller
 grows : (acc : ℕ) (bs : List ℕ) → acc ≤ value_from acc bs
 grows acc [] = omega arith
 grows acc (b ∷ bs) = omega (arith, grows (acc * 10 + (b - 48)) bs)

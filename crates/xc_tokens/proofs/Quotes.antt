@@ -3,7 +3,7 @@ use Rattle.std.proofs.Common.{◌≡◌, ℕ, ◌-◌, ◌<◌, length, take, dr
 use Rattle.std.proofs.Common.{append_assoc}
 use Rattle.xc_tokens.specs.Quoted.{then_rest, literal_of}
 
--- what the rest of a literal means, behind what it meant so far
+-- what the rest of a literal means, after what it meant so far
 abbrev pub behind_bytes : List ℕ → Option (List ℕ × List ℕ) → Option (List ℕ × List ℕ)
 behind_bytes meant (Some (rest, behind)) = Some (meant ++ rest, behind)
 behind_bytes meant None = None

@@ -39,7 +39,7 @@ one_more n ts bs t rest all room is e =
     ∙ ap (λ k. seen (λ (us : List Lexeme). ts ++ us) (first_tokens k bs)) fewer
     ∙ e
 
--- tokens, and what stands behind them where one more was read
+-- tokens, and what stands after them where one more was read
 abbrev pub Next : Type 0
 Next = List Lexeme × Option (List ℕ)
 
@@ -89,7 +89,7 @@ stopped (stop.Refused why) ts n bs all few e bad = by_next (token_at (past_blank
         let same : other ≡ why = cc in
         sym e ∙ ap (seen (λ (us : List Lexeme). ts ++ us)) (one_bad n bs why few (is ∙ ap Err same))
 
--- no token is left behind these
+-- no token is left after these
 pub ended : (ts us : List Lexeme) (n : ℕ) (bs : List ℕ) (all : Result (List Lexeme) Why) →
     seen (λ (vs : List Lexeme). ts ++ vs) (first_tokens n bs) ≡ all → Ok (us, None) ≡ seen (with_next ts) (token_at (past_blanks bs)) → all ≡ Ok us
 ended ts us n bs all e made = by_next (token_at (past_blanks bs)) refl made

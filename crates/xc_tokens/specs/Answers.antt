@@ -44,7 +44,7 @@ abbrev pub Stops : {B : Type 0} → Stop → Result B Why → Type 0
 Stops (stop.Refused e) said = said ≡ Err e
 Stops stop.NoMemory said = Unit {0}
 
--- code answers what the grammar says, but for want of memory
+-- code answers what the grammar says, but for lack of memory
 abbrev pub Gives : {A B : Type 0} → (A → B) → Result A Stop → Result B Why → Type 0
 Gives view (Ok x) said = said ≡ Ok (view x)
 Gives view (Err e) said = Stops e said

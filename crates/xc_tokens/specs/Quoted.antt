@@ -40,7 +40,7 @@ then_rest b (Some (meant, behind)) = Some (b ∷ meant, behind)
 then_rest b None = None
 
 abbrev mutual
-  -- what a literal means whose opening quote stands before the bytes, and what stands behind its closing quote
+  -- what a literal means whose opening quote stands before the bytes, and what stands after its closing quote
   pub literal_of : List ℕ → Option (List ℕ × List ℕ)
   literal_of [] = None
   literal_of (b ∷ bs) =
@@ -48,7 +48,7 @@ abbrev mutual
       else if b == 92 then escape_of bs
       else then_rest b (literal_of bs)
 
-  -- the same behind a `\`
+  -- the same after a `\`
   pub escape_of : List ℕ → Option (List ℕ × List ℕ)
   escape_of [] = None
   escape_of (b ∷ bs) =
@@ -56,7 +56,7 @@ abbrev mutual
       else if b == 120 then hex_of bs
       else None
 
-  -- the same behind `\x`
+  -- the same after `\x`
   pub hex_of : List ℕ → Option (List ℕ × List ℕ)
   hex_of (first ∷ second ∷ bs) =
       if is_hex first && is_hex second then then_rest (hex_byte first second) (literal_of bs)

@@ -10,7 +10,7 @@ abbrev pub lexeme : Token → Lexeme
 lexeme (token.Word bytes) = Word bytes.now
 lexeme (token.Literal bytes times) = Literal bytes.items times
 
--- a literal behind a piece of it: the byte that the piece means, and what stands behind it
+-- a literal after a piece of it: the byte that the piece means, and what stands after it
 abbrev pub behind_piece : Option (ℕ × List ℕ) → Option (List ℕ × List ℕ)
 behind_piece (Some (b, behind)) = then_rest b (literal_of behind)
 behind_piece None = None

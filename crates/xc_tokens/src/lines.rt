@@ -26,6 +26,7 @@ impl<'a> Model for TextLine<'a> {
 }
 
 impl<'a> TextLine<'a> {
+    /// The bytes of the line, without its LF.
     pub fn bytes(&self) -> &'a [u8]
         ensures { result.now ≡ self.now }
     {
@@ -50,6 +51,7 @@ fn is_line_byte_at(b: u8) -> bool
 }
 
 // How many bytes are looked at at once.
+// They are judged in the pass that looks for the end of the line; only a line with a bad byte is read again.
 const LANES: usize = 16;
 
 // The place of the lowest bit, and the number of lanes where no bit is set.
@@ -124,7 +126,7 @@ fn line_len(bytes: &[u8]) -> usize
     n
 }
 
-// The first line of any bytes, and what stands behind it.
+// The first line of any bytes, and what stands after it.
 fn any_line<'a>(bytes: &'a [u8]) -> (TextLine<'a>, &'a [u8])
     requires { 0 < length bytes.now }
     ensures cut { lines_of bytes.now ≡ result.0 ∷ lines_of result.1.now }
@@ -140,7 +142,7 @@ fn any_line<'a>(bytes: &'a [u8]) -> (TextLine<'a>, &'a [u8])
     (line, &bytes[n + 1..])
 }
 
-/// The first line, without its LF, and what stands behind it. Only a line that isn't clean is read twice.
+/// The first line, without its LF, and what stands after it. Only a line that isn't clean is read twice.
 pub fn first_line<'a>(bytes: &'a [u8]) -> (TextLine<'a>, &'a [u8])
     requires { 0 < length bytes.now }
     ensures cut { lines_of bytes.now ≡ result.0 ∷ lines_of result.1.now }

@@ -10,7 +10,7 @@ pub fn is_digit_byte(b: u8) -> bool
     b.is_ascii_digit()
 }
 
-// The number of some digits and one more behind them.
+// The number of some digits and one more after them.
 fn with_digit(value: u64, b: u8) -> Option<u64>
     requires { IsTrue (is_digit b) }
     ensures { SomeIff result (value * 10 + (b - 48) < 2 ^ 64) (value * 10 + (b - 48)) }

@@ -7,6 +7,8 @@ use std::marker::Model;
 use xc_data::Ident;
 
 /// A word that is an identifier, as it stands in its line.
+///
+/// It stays in its line until its name has a place, so a name that has one already isn't copied.
 #[derive(Drop)]
 pub struct IdentWord<'a> {
     bytes: &'a [u8],
@@ -58,6 +60,7 @@ fn is_spelled(bytes: &[u8]) -> bool
 }
 
 impl<'a> IdentWord<'a> {
+    /// The word, if it is spelled as an identifier is; `None` otherwise.
     pub fn new(word: &'a [u8]) -> Option<IdentWord<'a>>
         ensures exact { IsSome result ↔ IsTrue (is_ident word.now) }
         ensures value { IfSome result (λ ident. ident ≡ word.now) }

@@ -131,7 +131,7 @@ fn unquoted_run(bytes: &[u8]) -> Option<usize>
     Some(n)
 }
 
-// The byte that two hexadecimal digits mean, and what stands behind them.
+// The byte that two hexadecimal digits mean, and what stands after them.
 fn hex_piece(bytes: &[u8]) -> Option<(u8, &[u8])>
     ensures means { behind_piece (option_map (λ p. (p.0, p.1.now)) result) ≡ hex_of bytes.now }
     ensures fewer { IfSome result (λ p. length p.1.now ≤ length bytes.now) }
@@ -145,7 +145,7 @@ fn hex_piece(bytes: &[u8]) -> Option<(u8, &[u8])>
     Some((byte_of_digits(*first, *second), behind))
 }
 
-// The byte that an escape means whose `\` stands before the bytes, and what stands behind it.
+// The byte that an escape means whose `\` stands before the bytes, and what stands after it.
 fn escape_piece(bytes: &[u8]) -> Option<(u8, &[u8])>
     ensures means { behind_piece (option_map (λ p. (p.0, p.1.now)) result) ≡ escape_of bytes.now }
     ensures fewer { IfSome result (λ p. length p.1.now ≤ length bytes.now) }
@@ -162,7 +162,7 @@ fn escape_piece(bytes: &[u8]) -> Option<(u8, &[u8])>
     None
 }
 
-// The byte that the first piece of a literal means, and what stands behind the piece.
+// The byte that the first piece of a literal means, and what stands after the piece.
 fn piece(first: u8, behind: &[u8]) -> Option<(u8, &[u8])>
     requires inside { (first == 34) ≡ false }
     ensures means { behind_piece (option_map (λ p. (p.0, p.1.now)) result) ≡ literal_of (first ∷ behind.now) }
@@ -174,7 +174,7 @@ fn piece(first: u8, behind: &[u8]) -> Option<(u8, &[u8])>
     Some((first, behind))
 }
 
-// What the literal means whose opening quote stands before the bytes, and what stands behind its
+// What the literal means whose opening quote stands before the bytes, and what stands after its
 // closing quote.
 fn past_literal<'a>(alloc: Global, bytes: &'a [u8]) -> Result<(Vec<u8>, &'a [u8]), Stop>
     ensures means { Gives (λ p. (p.0.items, p.1.now)) result (ok_or (literal_of bytes.now) BadLiteral) }
@@ -206,7 +206,7 @@ fn repeat_count(bytes: &[u8]) -> Option<u32>
     }
 }
 
-// The repeat, and what stands behind it, where a literal was closed before the bytes.
+// The repeat, and what stands after it, where a literal was closed before the bytes.
 fn past_repeat(bytes: &[u8]) -> Option<(u32, &[u8])>
     ensures value { option_map (λ p. (p.0, p.1.now)) result ≡ repeat_from bytes.now }
     ensures fewer { IfSome result (λ p. length p.1.now ≤ length bytes.now) }
@@ -225,7 +225,7 @@ fn past_repeat(bytes: &[u8]) -> Option<(u32, &[u8])>
     Some((repeat, &behind[n..]))
 }
 
-// A literal whose opening quote stands before the bytes, and what stands behind it.
+// A literal whose opening quote stands before the bytes, and what stands after it.
 fn literal<'a>(alloc: Global, bytes: &'a [u8]) -> Result<(Token<'a>, &'a [u8]), Stop>
     ensures value { Gives (λ p. (lexeme p.0, p.1.now)) result (literal_from bytes.now) }
     ensures fewer { IfOk result (λ p. length p.1.now ≤ length bytes.now) }
@@ -251,8 +251,8 @@ fn word_len(bytes: &[u8]) -> Option<usize>
     Some(n + 1)
 }
 
-// Reads the literal whose opening quote stands before the bytes, behind the tokens so far, and gives what stands
-// behind it.
+// Reads the literal whose opening quote stands before the bytes, after the tokens so far, and gives what stands
+// after it.
 fn push_literal<'a>(
     alloc: Global,
     tokens: &mut Vec<Token<'a>>,
@@ -267,7 +267,7 @@ fn push_literal<'a>(
     Ok(Some(behind))
 }
 
-// Reads the first token behind the tokens so far, and gives what stands behind it; none where no token is left.
+// Reads the first token after the tokens so far, and gives what stands after it; none where no token is left.
 fn push_token<'a>(
     alloc: Global,
     tokens: &mut Vec<Token<'a>>,

@@ -15,12 +15,12 @@ use Rattle.xc_world.specs.Fits.{late_answer_of}
 use Rattle.xc_world.specs.Late.{late}
 use Rattle.xc_world.specs.Run.{lates, late_asked_of}
 use Rattle.xc_world.specs.World.{World}
-use Rattle.xc_story.specs.Accounted.{Account, AreAccounted, AreLateEnds, HasCause, IsAccounted, IsLateEnd, account_of, own_part, own_scene, progress_before}
-use Rattle.xc_story.specs.Grounds.{IsGrounded}
-use Rattle.xc_story.specs.Progress.{Progress, after_entry, body_of, opening_progress}
-use Rattle.xc_story.specs.Setting.{Setting}
-use Rattle.xc_story.specs.Truth.{AreTrue, IsAskedFor, IsCauseOf, IsPlayedOutcome, IsTrueEntry, IsTrueJournal, asked_behind, cause_in, next_of}
-use Rattle.xc_story.specs.Truth.{part_of, parts_from}
+use Rattle.xc_model.specs.Accounted.{Account, AreAccounted, AreLateEnds, HasCause, IsAccounted, IsLateEnd, account_of, own_part, own_scene, progress_before}
+use Rattle.xc_model.specs.Grounds.{IsGrounded}
+use Rattle.xc_model.specs.Progress.{Progress, after_entry, body_of, opening_progress}
+use Rattle.xc_model.specs.Setting.{Setting}
+use Rattle.xc_model.specs.Truth.{AreTrue, IsAskedFor, IsCauseOf, IsPlayedOutcome, IsTrueEntry, IsTrueJournal, asked_behind, cause_in, next_of}
+use Rattle.xc_model.specs.Truth.{part_of, parts_from}
 
 -- ---- late calls
 end_is : (w : World) (call : LateCall) (end : LateEnd) → (late w call (late_answer_of end)).end ≡ end → IsLateEnd w call end

@@ -10,35 +10,35 @@ use Rattle.xc_data.specs.declared.entry.Cause.TheVariants as cause
 use Rattle.xc_data.specs.declared.entry.Entry.{Entry}
 use Rattle.xc_data.specs.declared.entry.JobLine.{JobLine}
 use Rattle.xc_data.specs.declared.entry.Mark.{Mark}
-use Rattle.xc_story.specs.Setting.{Setting}
-use Rattle.xc_story.specs.Grounds.{Part, Stands, Other, IsGrounded, AreGrounded, scene_of}
-use Rattle.xc_story.specs.Progress.{Following, progress_of}
-use Rattle.xc_story.specs.Truth.{IsTrueJournal, counting, numbers_of, parts_of}
-use Rattle.xc_story.specs.Ending.{AreEnds, IsEnd}
-use Rattle.xc_story.specs.Seen.{SeenTx, SeenJob, Doing, Idle, Active, Starved, Ended, active_in, active_of, actives}
-use Rattle.xc_story.specs.Rows.{IsActiveAt}
-use Rattle.xc_story.specs.Told.{AreTold, AreBegins, IsJobTold, IsDoing, active_begin, active_part, active_parts, begins_of, entry_begin, reading}
-use Rattle.xc_story.specs.Spoken.{AreSpoken}
-use Rattle.xc_story.specs.Kept.{AreLinesOf, IsLineOf}
+use Rattle.xc_model.specs.Setting.{Setting}
+use Rattle.xc_model.specs.Grounds.{Part, IsPresent, Other, IsGrounded, AreGrounded, scene_of}
+use Rattle.xc_model.specs.Progress.{Following, progress_of}
+use Rattle.xc_model.specs.Truth.{IsTrueJournal, counting, numbers_of, entry_parts}
+use Rattle.xc_model.specs.Ending.{AreEnds, IsEnd}
+use Rattle.xc_model.specs.Moment.{TxView, JobView, Doing, Idle, Active, Starved, Ended, active_in, active_of, actives}
+use Rattle.xc_model.specs.Movers.{IsActiveAt}
+use Rattle.xc_model.specs.Stories.{StoriesHold, AreBegins, StoryHolds, IsDoing, active_begin, active_part, active_parts, begins_of, entry_begin, reading}
+use Rattle.xc_model.specs.Words.{WordsAgree}
+use Rattle.xc_model.specs.Consistent.{AreLinesOf, IsLineOf}
 use Rattle.xc_turns.proofs.Jobs.{none_active}
 
 -- ---- no transaction is active
-line_none : (line : JobLine) (job : SeenJob) (d : Doing) → IsLineOf line job d → active_in d ≡ None
+line_none : (line : JobLine) (job : JobView) (d : Doing) → IsLineOf line job d → active_in d ≡ None
 line_none line job Idle of = absurd of
 line_none line job (Active tx) of = absurd of
 line_none line job Starved of = absurd of
 line_none line job (Ended end) of = refl
 
-none_there : (jobs : List SeenJob) (lines : List JobLine) → AreLinesOf jobs lines → (j : ℕ) (tx : SeenTx) → IsActiveAt jobs j tx → ⊥
-none_there [] lines are j tx (job, there, has) = let h : ◌≡◌ {A = Option SeenJob} None (Some job) = there in cc
+none_there : (jobs : List JobView) (lines : List JobLine) → AreLinesOf jobs lines → (j : ℕ) (tx : TxView) → IsActiveAt jobs j tx → ⊥
+none_there [] lines are j tx (job, there, has) = let h : ◌≡◌ {A = Option JobView} None (Some job) = there in cc
 none_there (job ∷ jobs) [] are j tx active = absurd are
 none_there (job ∷ jobs) (line ∷ lines) are zero tx (at, there, has) =
     let same : job ≡ at = cc in
-    let h : ◌≡◌ {A = Option SeenTx} None (Some tx) = sym (line_none line job job.doing are.0) ∙ ap active_of same ∙ has in cc
+    let h : ◌≡◌ {A = Option TxView} None (Some tx) = sym (line_none line job job.doing are.0) ∙ ap active_of same ∙ has in cc
 none_there (job ∷ jobs) (line ∷ lines) are (suc j) tx (at, there, has) = none_there jobs lines are.1 j tx (at, there, has)
 
 -- ---- numbers and begins
-begins_there : (journal : List Entry) (jobs : List SeenJob) → actives jobs ≡ [] → begins_of journal jobs ≡ map entry_begin journal
+begins_there : (journal : List Entry) (jobs : List JobView) → actives jobs ≡ [] → begins_of journal jobs ≡ map entry_begin journal
 begins_there journal jobs none = ap (λ txs. map entry_begin journal ++ map active_begin txs) none ∙ append-nil (map entry_begin journal)
 
 numbers_there : (journal : List Entry) → map (λ (b : ℕ × ℕ). b.0) (map entry_begin journal) ≡ numbers_of journal
@@ -54,7 +54,7 @@ entry_there journal i e at =
     )
 
 -- ---- conflicts
-parts_none : (s : Setting) (words : ℕ) (marks : ℕ → Option Mark) (number : ℕ) (followings : List Following) (jobs : List SeenJob) (lines : List JobLine)
+parts_none : (s : Setting) (words : ℕ) (marks : ℕ → Option Mark) (number : ℕ) (followings : List Following) (jobs : List JobView) (lines : List JobLine)
     → AreLinesOf jobs lines
     → (j : ℕ) → get_or (active_parts (reading s words marks) number followings jobs) j None ≡ None
 parts_none s words marks number [] [] lines are zero = refl
@@ -74,7 +74,7 @@ abbrev AreNone : List (Option Part) → Type 0
 AreNone active = (j : ℕ) → get_or active j None ≡ None
 
 stands_logged : (tells : Bool) (log : List Part) (active : List (Option Part)) (at : ℕ) (who : Part) → AreNone active
-    → Stands (scene_of tells log active) at who → Stands (scene_of tells log []) at who
+    → IsPresent (scene_of tells log active) at who → IsPresent (scene_of tells log []) at who
 stands_logged tells log active at who none (inl there) = inl there
 stands_logged tells log active at who none (inr (j, there)) = absurd (let h : ◌≡◌ {A = Option Part} None (Some who) = sym (none j) ∙ there in cc)
 
@@ -83,7 +83,7 @@ other_logged : (tells : Bool) (log : List Part) (active : List (Option Part)) (n
 other_logged tells log active number at job none n =
     record {
       who = n.who;
-      stands = stands_logged tells log active at n.who none n.stands;
+      present = stands_logged tells log active at n.who none n.present;
       numbered = n.numbered;
       other = n.other;
       began = n.began;
@@ -123,8 +123,8 @@ all_logged tells log active none g =
 
 -- ---- the journal
 -- where each job has ended the journal is true
-pub journal_true : (s : Setting) (words : ℕ) (marks : ℕ → Option Mark) (journal : List Entry) (jobs : List SeenJob) (lines : List JobLine)
-    → AreTold s words marks journal jobs
+pub journal_true : (s : Setting) (words : ℕ) (marks : ℕ → Option Mark) (journal : List Entry) (jobs : List JobView) (lines : List JobLine)
+    → StoriesHold s words marks journal jobs
     → AreLinesOf jobs lines → IsTrueJournal s journal
 journal_true s words marks journal jobs lines told are =
     let begins : AreBegins journal (map entry_begin journal) =
@@ -135,20 +135,20 @@ journal_true s words marks journal jobs lines told are =
       numbers = subst (λ n. IsPermutation (numbers_of journal) (counting 1 n)) many
           (subst (λ ns. IsPermutation ns (counting 1 (length (map entry_begin journal)))) (numbers_there journal) begins.numbers);
       begins = λ i j a b ea eb less. begins.order (entry_begin a) (entry_begin b) (entry_there journal i a ea) (entry_there journal j b eb) less;
-      grounded = all_logged s.tells (parts_of s journal) (active_parts (reading s words marks) 1 (progress_of s.script journal).jobs jobs)
+      grounded = all_logged s.tells (entry_parts s journal) (active_parts (reading s words marks) 1 (progress_of s.script journal).jobs jobs)
           (parts_none s words marks 1 (progress_of s.script journal).jobs jobs lines are) told.grounded;
     }
 
 -- ---- the ends
-line_ends : (s : Setting) (begun : ℕ) (f : Following) (job : SeenJob) (line : JobLine) (d : Doing) → IsLineOf line job d → IsDoing s begun f job d
+line_ends : (s : Setting) (begun : ℕ) (f : Following) (job : JobView) (line : JobLine) (d : Doing) → IsLineOf line job d → IsDoing s begun f job d
     → (line.block ≡ job.block) × IsEnd s begun f line.end
 line_ends s begun f job line Idle of h = absurd of
 line_ends s begun f job line (Active tx) of h = absurd of
 line_ends s begun f job line Starved of h = absurd of
 line_ends s begun f job line (Ended end) of h = (of.0, subst (IsEnd s begun f) (sym of.1) h)
 
-ends_are : (s : Setting) (begun entered : ℕ) (fs : List Following) (jobs : List SeenJob) (lines : List JobLine) → length fs ≡ length jobs
-    → ((at : ℕ) (f : Following) (job : SeenJob) → slice_get fs at ≡ Some f → slice_get jobs at ≡ Some job → IsJobTold s begun entered f job)
+ends_are : (s : Setting) (begun entered : ℕ) (fs : List Following) (jobs : List JobView) (lines : List JobLine) → length fs ≡ length jobs
+    → ((at : ℕ) (f : Following) (job : JobView) → slice_get fs at ≡ Some f → slice_get jobs at ≡ Some job → StoryHolds s begun entered f job)
     → AreLinesOf jobs lines → AreEnds s begun fs lines
 ends_are s begun entered [] [] lines count told are = are
 ends_are s begun entered [] (job ∷ jobs) lines count told are = absurd (omega arith)
@@ -162,8 +162,8 @@ ends_are s begun entered (f ∷ fs) (job ∷ jobs) (line ∷ lines) count told a
     )
 
 -- where each job has ended it has the end of its story
-pub ends_told : (s : Setting) (words : ℕ) (marks : ℕ → Option Mark) (journal : List Entry) (jobs : List SeenJob) (lines : List JobLine)
-    → AreTold s words marks journal jobs
+pub ends_told : (s : Setting) (words : ℕ) (marks : ℕ → Option Mark) (journal : List Entry) (jobs : List JobView) (lines : List JobLine)
+    → StoriesHold s words marks journal jobs
     → AreLinesOf jobs lines → AreEnds s (length journal) (progress_of s.script journal).jobs lines
 ends_told s words marks journal jobs lines told are =
     let fs = (progress_of s.script journal).jobs in
@@ -173,7 +173,7 @@ ends_told s words marks journal jobs lines told are =
 
 -- ---- the words
 -- where each job has ended the words are those that the journal left
-pub words_left : (before words : List ℕ) (jobs : List SeenJob) (lines : List JobLine) → AreSpoken before words jobs → AreLinesOf jobs lines
+pub words_left : (before words : List ℕ) (jobs : List JobView) (lines : List JobLine) → WordsAgree before words jobs → AreLinesOf jobs lines
     → words ≡ before
 words_left before words jobs lines spoken are =
     ext_get_or 0 words before spoken.count

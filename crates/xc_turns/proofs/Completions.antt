@@ -16,12 +16,13 @@ use Rattle.xc_data.specs.declared.entry.Outcome.{Outcome}
 use Rattle.xc_data.specs.declared.entry.Outcome.TheVariants.{Committed, Aborted}
 use Rattle.xc_text.specs.declared.script.Script.{Script}
 use Rattle.xc_script.specs.Ask.{Job, fresh_job, block_place, next_body, transactions_at}
-use Rattle.xc_story.specs.Setting.{Setting}
+use Rattle.xc_model.specs.Setting.{Setting}
 use Rattle.xc_script.specs.Slots.{kept_of}
-use Rattle.xc_story.specs.Progress.{Following, Progress, untried, opening_progress, progress_of, started_blocks, started_job, following_abort, committed_job}
-use Rattle.xc_story.specs.Progress.{after_entry, after_following, after_outcome, following_of, with_job}
-use Rattle.xc_story.specs.Truth.{AreTrue, is_asked, is_settled, is_tried_again}
-use Rattle.xc_story.specs.Ending.{AreEnds, IsEnd, IsComplete, all_done, is_done, is_settled_or_tried_again, transactions_of_jobs}
+use Rattle.xc_model.specs.Progress.{Following, Progress, untried, opening_progress, progress_of, started_blocks, started_job, following_abort, committed_job}
+use Rattle.xc_model.specs.Progress.{after_entry, after_following, after_outcome, following_of, with_job}
+use Rattle.xc_model.specs.Truth.{AreTrue, is_tried_again}
+use Rattle.xc_model.specs.Serial.{is_asked, is_final}
+use Rattle.xc_model.specs.Ending.{AreEnds, IsEnd, IsComplete, all_done, is_done, is_final_or_tried_again, transactions_of_jobs}
 use Rattle.xc_turns.proofs.Lists.{sum_set_place}
 
 -- ---- what holds of each
@@ -86,7 +87,7 @@ cause_passes p f e (cause.Revoked object by at) started =
     omega (arith, passed_set p.jobs (e.job - 1) f (following_abort p.entered f e (cause.Revoked object by at)) started)
 
 outcome_passes : (script : Script) (p : Progress) (f : Following) (e : Entry) (o : Outcome) → following_of p e ≡ Some f
-    → passed_by (after_outcome script p f e o).jobs ≡ passed_by p.jobs + one_if (is_settled o)
+    → passed_by (after_outcome script p f e o).jobs ≡ passed_by p.jobs + one_if (is_final o)
 outcome_passes script p f e (Committed late) started =
     let job : Job = committed_job script f.job e.calls e.replies late in
     let mine : Following = untried f.block job (p.entered + 1) in
@@ -96,17 +97,17 @@ outcome_passes script p f e (Committed late) started =
 outcome_passes script p f e (Aborted r) started = cause_passes p f e r.cause started
 
 entry_passes : (script : Script) (p : Progress) (f : Following) (e : Entry) → following_of p e ≡ Some f
-    → passed_by (after_entry script p e).jobs ≡ passed_by p.jobs + one_if (is_settled e.outcome)
+    → passed_by (after_entry script p e).jobs ≡ passed_by p.jobs + one_if (is_final e.outcome)
 entry_passes script p f e started =
     ap (λ o. passed_by (after_following script p e o).jobs) started ∙ outcome_passes script p f e e.outcome started
 
 all_pass : (s : Setting) (p : Progress) (journal : List Entry) → AreTrue s p journal
-    → passed_by (fold (after_entry s.script) p journal).jobs ≡ passed_by p.jobs + count_by (λ (e : Entry). is_settled e.outcome) journal
+    → passed_by (fold (after_entry s.script) p journal).jobs ≡ passed_by p.jobs + count_by (λ (e : Entry). is_final e.outcome) journal
 all_pass s p [] are = omega arith
 all_pass s p (e ∷ journal) are =
     let here = entry_passes s.script p are.0.following e are.0.started in
     let rest = all_pass s (after_entry s.script p e) journal are.1 in
-    omega (arith, here, rest, sum_by-cons (λ (x : Entry). one_if (is_settled x.outcome)) e journal)
+    omega (arith, here, rest, sum_by-cons (λ (x : Entry). one_if (is_final x.outcome)) e journal)
 
 -- ---- no job passes more than its block has
 abbrev IsWithin : Script → Following → Type 0
@@ -167,7 +168,7 @@ cause_goes p f e (cause.Revoked object by at) started goes each =
     (each_unset GoesOn p.jobs (e.job - 1) f (following_abort p.entered f e (cause.Revoked object by at)) started goes each, refl)
 
 outcome_goes : (script : Script) (p : Progress) (f : Following) (e : Entry) (o : Outcome) → following_of p e ≡ Some f → GoesOn f
-    → AllByRecursion GoesOn (after_outcome script p f e o).jobs → AllByRecursion GoesOn p.jobs × (is_settled_or_tried_again o ≡ true)
+    → AllByRecursion GoesOn (after_outcome script p f e o).jobs → AllByRecursion GoesOn p.jobs × (is_final_or_tried_again o ≡ true)
 outcome_goes script p f e (Committed late) started goes each =
     let job : Job = committed_job script f.job e.calls e.replies late in
     let mine : Following = untried f.block job (p.entered + 1) in
@@ -181,7 +182,7 @@ outcome_goes script p f e (Aborted r) started goes each = cause_goes p f e r.cau
 -- of all entries
 pub all_go : (s : Setting) (p : Progress) (journal : List Entry) → AreTrue s p journal
     → AllByRecursion GoesOn (fold (after_entry s.script) p journal).jobs
-    → AllByRecursion GoesOn p.jobs × (list_all (λ (e : Entry). is_settled_or_tried_again e.outcome) journal ≡ true)
+    → AllByRecursion GoesOn p.jobs × (list_all (λ (e : Entry). is_final_or_tried_again e.outcome) journal ≡ true)
 all_go s p [] are each = (each, refl)
 all_go s p (e ∷ journal) are each =
     let t = are.0 in
@@ -189,7 +190,7 @@ all_go s p (e ∷ journal) are each =
     let next : AllByRecursion GoesOn (after_outcome s.script p t.following e e.outcome).jobs =
     subst (λ o. AllByRecursion GoesOn (after_following s.script p e o).jobs) t.started rest.0 in
     let here = outcome_goes s.script p t.following e e.outcome t.started t.entry.story.goes_on next in
-    (here.0, and_from (is_settled_or_tried_again e.outcome) (list_all (λ (x : Entry). is_settled_or_tried_again x.outcome) journal) here.1 rest.1)
+    (here.0, and_from (is_final_or_tried_again e.outcome) (list_all (λ (x : Entry). is_final_or_tried_again x.outcome) journal) here.1 rest.1)
 
 -- ---- the end
 past_all : {A : Type 0} (xs : List A) (n : ℕ) → slice_get xs n ≡ None → length xs ≤ n

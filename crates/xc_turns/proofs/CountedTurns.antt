@@ -20,28 +20,39 @@ use Rattle.xc_script.specs.declared.ask.Ask.TheVariants as ask
 use Rattle.xc_host.specs.Contents.{Contents}
 use Rattle.xc_host.proofs.Called.{rises_sum}
 use Rattle.xc_data.specs.declared.entry.Mark.{Mark}
-use Rattle.xc_story.specs.declared.phase.Phase.{Phase}
-use Rattle.xc_story.specs.declared.phase.Phase.TheVariants.{Running, Committing, Undoing}
-use Rattle.xc_story.specs.Setting.{Setting}
-use Rattle.xc_story.specs.Progress.{Following, progress_of}
-use Rattle.xc_story.specs.Seen.{SeenTx, SeenJob, Doing, Idle, Active, Starved, Ended, Now, active_in, active_of, actives, late_left, revoked, waiting}
-use Rattle.xc_story.specs.Seen.{with_job, entering}
-use Rattle.xc_story.specs.Rows.{asked_at, beginning_job, claims_at, noting, wanting, with_tx, entry_of, behind_commit, behind_abort}
-use Rattle.xc_story.specs.Rows.{Calls, LateTurn, Compensates, started_jobs, mover}
-use Rattle.xc_story.specs.Rows.{IdleTurn, AskedTurn, MarkedTurn, RunningTurn, CommittingTurn, BackTurn, UndoingTurn, StarvedTurn, ActiveTurn, TurnOf, IsTurn}
-use Rattle.xc_story.specs.Told.{IsCommitting, IsInPhase, IsUndoing, IsDoing, AreTold}
-use Rattle.xc_story.specs.Counted.{tx_faults, recorded_faults, AreCounted}
+use Rattle.xc_model.specs.declared.phase.Phase.{Phase}
+use Rattle.xc_model.specs.declared.phase.Phase.TheVariants.{Running, Committing, Undoing}
+use Rattle.xc_model.specs.Setting.{Setting}
+use Rattle.xc_model.specs.Progress.{Following, progress_of}
+use Rattle.xc_model.specs.Moment.{TxView, JobView, Doing, Idle, Active, Starved, Ended, Moment, active_in, active_of, actives, late_left, revoked, waiting}
+use Rattle.xc_model.specs.Moment.{with_job, entering}
+use Rattle.xc_model.specs.Movers.{asked_at, with_tx}
+use Rattle.xc_model.specs.IdleRows.{beginning_job}
+use Rattle.xc_model.specs.PlainSteps.{claims_at, noting, wanting}
+use Rattle.xc_model.specs.Entering.{entry_of, behind_commit, behind_abort}
+use Rattle.xc_model.specs.RunningRows.{Calls}
+use Rattle.xc_model.specs.CommittingRows.{LateTurn}
+use Rattle.xc_model.specs.UndoingRows.{Compensates}
+use Rattle.xc_model.specs.Entering.{started_jobs}
+use Rattle.xc_model.specs.Movers.{mover}
+use Rattle.xc_model.specs.IdleRows.{IdleTurn}
+use Rattle.xc_model.specs.RunningRows.{AskedTurn, MarkedTurn, RunningTurn}
+use Rattle.xc_model.specs.CommittingRows.{CommittingTurn}
+use Rattle.xc_model.specs.UndoingRows.{BackTurn, UndoingTurn}
+use Rattle.xc_model.specs.Rows.{StarvedTurn, ActiveTurn, TurnOf, IsTurn}
+use Rattle.xc_model.specs.Stories.{IsCommitting, IsInPhase, IsUndoing, IsDoing, StoriesHold}
+use Rattle.xc_model.specs.Counted.{tx_faults, recorded_faults, AreCounted}
 use Rattle.xc_turns.proofs.Lists.{get_beside}
 use Rattle.xc_turns.proofs.Jobs.{behind_abort_none}
-use Rattle.xc_story.specs.LateCalls.{started_late}
+use Rattle.xc_model.specs.LateCalls.{started_late}
 use Rattle.xc_turns.proofs.Grown.{grown_actives, started_idle}
 use Rattle.xc_turns.proofs.LateEnds.{Ends, next_ends}
 use Rattle.xc_turns.proofs.CountedSums.{adds, sum_set, fault_as_count}
 
 -- ---- by its phase a transaction has ended records or late ends
 -- the job's story, with what its phase says
-pub in_phase : (s : Setting) (at : ℕ) (now : Now) (job : SeenJob) (tx : SeenTx) → slice_get now.jobs at ≡ Some job → job.doing ≡ Active tx
-    → AreTold s (length now.words) now.marks now.journal now.jobs → (f : Following) × IsInPhase s f job.place tx tx.phase
+pub in_phase : (s : Setting) (at : ℕ) (now : Moment) (job : JobView) (tx : TxView) → slice_get now.jobs at ≡ Some job → job.doing ≡ Active tx
+    → StoriesHold s (length now.words) now.marks now.journal now.jobs → (f : Following) × IsInPhase s f job.place tx tx.phase
 in_phase s at now job tx stands is told =
     let f = get_beside (progress_of s.script now.journal).jobs now.jobs at job told.count stands in
     let j = told.jobs_told at f.0 job f.1 stands in
@@ -49,16 +60,16 @@ in_phase s at now job tx stands is told =
     (f.0, doing.phase)
 
 -- a committing one has no ended record
-none_ended : (s : Setting) (at : ℕ) (now : Now) (job : SeenJob) (tx : SeenTx) → slice_get now.jobs at ≡ Some job → job.doing ≡ Active tx
-    → tx.phase ≡ Committing → AreTold s (length now.words) now.marks now.journal now.jobs → tx.undo.ended ≡ []
+none_ended : (s : Setting) (at : ℕ) (now : Moment) (job : JobView) (tx : TxView) → slice_get now.jobs at ≡ Some job → job.doing ≡ Active tx
+    → tx.phase ≡ Committing → StoriesHold s (length now.words) now.marks now.journal now.jobs → tx.undo.ended ≡ []
 none_ended s at now job tx stands is commits told =
     let phase = in_phase s at now job tx stands is told in
     let committing : IsCommitting s phase.0 job.place tx = subst (IsInPhase s phase.0 job.place tx) commits phase.1 in
     committing.none
 
 -- an undoing one has no end of a late call
-pub none_late : (s : Setting) (at : ℕ) (now : Now) (job : SeenJob) (tx : SeenTx) (c : Cause) → slice_get now.jobs at ≡ Some job → job.doing ≡ Active tx
-    → tx.phase ≡ Undoing c → AreTold s (length now.words) now.marks now.journal now.jobs → tx.ends ≡ []
+pub none_late : (s : Setting) (at : ℕ) (now : Moment) (job : JobView) (tx : TxView) (c : Cause) → slice_get now.jobs at ≡ Some job → job.doing ≡ Active tx
+    → tx.phase ≡ Undoing c → StoriesHold s (length now.words) now.marks now.journal now.jobs → tx.ends ≡ []
 none_late s at now job tx c stands is undoes told =
     let phase = in_phase s at now job tx stands is told in
     let undoing : IsUndoing s phase.0 tx c = subst (IsInPhase s phase.0 job.place tx) undoes phase.1 in
@@ -68,14 +79,14 @@ none_late s at now job tx c stands is undoes told =
 moved : (a b x y n m k : ℕ) → b + x ≡ a + y → m + y ≡ n + x + k → n + a + k ≡ m + b
 moved a b x y n m k sums parts = omega arith
 
-module _ (s : Setting) (at from : ℕ) (old : Now) (job : SeenJob) (new : Now) (stands : slice_get old.jobs at ≡ Some job)
-    (told : AreTold s (length old.words) old.marks old.journal old.jobs) (h : AreCounted from old) where
+module _ (s : Setting) (at from : ℕ) (old : Moment) (job : JobView) (new : Moment) (stands : slice_get old.jobs at ≡ Some job)
+    (told : StoriesHold s (length old.words) old.marks old.journal old.jobs) (h : AreCounted from old) where
   -- what a job's transaction has recorded
-  abbrev part : SeenJob → ℕ
+  abbrev part : JobView → ℕ
   part x = adds tx_faults (active_of x)
 
   -- so many faults more, in the journal and in this job
-  more_counted : (job' : SeenJob) (k : ℕ) → actives new.jobs ≡ actives (slice_set old.jobs at job')
+  more_counted : (job' : JobView) (k : ℕ) → actives new.jobs ≡ actives (slice_set old.jobs at job')
       → sum_by entry_faults new.journal + part job' ≡ sum_by entry_faults old.journal + part job + k → RisesBy k old.faults new.faults
       → AreCounted from new
   more_counted job' k jobs parts cause =
@@ -86,30 +97,30 @@ module _ (s : Setting) (at from : ℕ) (old : Now) (job : SeenJob) (new : Now) (
       subst (λ n. RisesBy n from new.faults) total (rises_sum (recorded_faults old) k from old.faults new.faults h cause)
 
   -- as many as before
-  still_counted : (job' : SeenJob) → new.jobs ≡ slice_set old.jobs at job' → new.journal ≡ old.journal → new.faults ≡ old.faults → part job' ≡ part job
+  still_counted : (job' : JobView) → new.jobs ≡ slice_set old.jobs at job' → new.journal ≡ old.journal → new.faults ≡ old.faults → part job' ≡ part job
       → AreCounted from new
   still_counted job' jobs journal faults same =
       let sums : sum_by entry_faults new.journal ≡ sum_by entry_faults old.journal = ap (sum_by entry_faults) journal in
       more_counted job' 0 (ap actives jobs) (omega (arith, sums, same)) faults
 
   -- only a job changed
-  with_counted : (job' : SeenJob) → new ≡ with_job old at job' → part job' ≡ part job → AreCounted from new
-  with_counted job' is same = still_counted job' (ap (λ (n : Now). n.jobs) is) (ap (λ (n : Now). n.journal) is) (ap (λ (n : Now). n.faults) is) same
+  with_counted : (job' : JobView) → new ≡ with_job old at job' → part job' ≡ part job → AreCounted from new
+  with_counted job' is same = still_counted job' (ap (λ (n : Moment). n.jobs) is) (ap (λ (n : Moment). n.journal) is) (ap (λ (n : Moment). n.faults) is) same
 
   -- an entry takes over what its transaction recorded
-  entered_counted : (job' : SeenJob) (e : Entry) (contents : Contents) (jobs : List SeenJob)
+  entered_counted : (job' : JobView) (e : Entry) (contents : Contents) (jobs : List JobView)
       → new ≡ record (entering old at job' e) { contents = contents; jobs = jobs } → actives jobs ≡ actives (slice_set old.jobs at job') → part job' ≡ 0
       → entry_faults e ≡ part job → AreCounted from new
   entered_counted job' e contents jobs is put none same =
       let sums : sum_by entry_faults new.journal ≡ sum_by entry_faults old.journal + entry_faults e =
-      ap (λ (n : Now). sum_by entry_faults n.journal) is ∙ sum_by_push entry_faults old.journal e in
-      more_counted job' 0 (ap (λ (n : Now). actives n.jobs) is ∙ put) (omega (arith, sums, none, same)) (ap (λ (n : Now). n.faults) is)
+      ap (λ (n : Moment). sum_by entry_faults n.journal) is ∙ sum_by_push entry_faults old.journal e in
+      more_counted job' 0 (ap (λ (n : Moment). actives n.jobs) is ∙ put) (omega (arith, sums, none, same)) (ap (λ (n : Moment). n.faults) is)
 
   -- ---- no active transaction
   by_idle : job.doing ≡ Idle → (answer : Turn) → IdleTurn (mover s at old job) answer new → AreCounted from new
   by_idle is (turn.Ended end) row = with_counted (record job { doing = Ended end }) row.1 (ap (λ d. adds tx_faults (active_in d)) (sym is))
   by_idle is turn.Went row =
-      still_counted (beginning_job old job) (ap (λ (n : Now). n.jobs) row.1) (ap (λ (n : Now). n.journal) row.1) (ap (λ (n : Now). n.faults) row.1)
+      still_counted (beginning_job old job) (ap (λ (n : Moment). n.jobs) row.1) (ap (λ (n : Moment). n.journal) row.1) (ap (λ (n : Moment). n.faults) row.1)
       (ap (λ d. adds tx_faults (active_in d)) (sym is))
   by_idle is (turn.Busy object number) row = with_counted (waiting job) row.1 refl
   by_idle is turn.NoMemory row = absurd row
@@ -124,7 +135,7 @@ module _ (s : Setting) (at from : ℕ) (old : Now) (job : SeenJob) (new : Now) (
   by_starved is (turn.Busy object holder) row = absurd row
   by_starved is turn.NoMemory row = absurd row
 
-  module _ (tx : SeenTx) (is : job.doing ≡ Active tx) where
+  module _ (tx : TxView) (is : job.doing ≡ Active tx) where
     recorded : tx_faults tx ≡ part job
     recorded = ap (λ d. adds tx_faults (active_in d)) (sym is)
 
@@ -136,9 +147,9 @@ module _ (s : Setting) (at from : ℕ) (old : Now) (job : SeenJob) (new : Now) (
         let replies : count_by is_fault_reply (tx.replies ++ row.reply ∷ []) ≡ count_by is_fault_reply tx.replies + one =
         sum_by_push (λ r. cond (is_fault_reply r) 1 0) tx.replies row.reply in
         let ended : sum_by undo_faults row.parts.undo.ended ≡ sum_by undo_faults tx.undo.ended = ap (λ (u : Records). sum_by undo_faults u.ended) row.undo in
-        let sums : sum_by entry_faults new.journal ≡ sum_by entry_faults old.journal = ap (λ (n : Now). sum_by entry_faults n.journal) row.behind in
+        let sums : sum_by entry_faults new.journal ≡ sum_by entry_faults old.journal = ap (λ (n : Moment). sum_by entry_faults n.journal) row.behind in
         let was = recorded in
-        more_counted (with_tx job row.place tx') one (ap (λ (n : Now). actives n.jobs) row.behind) (omega (arith, replies, ended, sums, was))
+        more_counted (with_tx job row.place tx') one (ap (λ (n : Moment). actives n.jobs) row.behind) (omega (arith, replies, ended, sums, was))
         (fault_as_count (is_fault_reply row.reply) old.faults new.faults row.cause)
 
     by_ask : (a : Ask) → AskedTurn (mover s at old job) tx a new → AreCounted from new
@@ -147,19 +158,20 @@ module _ (s : Setting) (at from : ℕ) (old : Now) (job : SeenJob) (new : Now) (
         with_counted (with_tx job row.place (record tx { phase = Undoing (cause.Conflict row.object row.holder (length old.journal)) })) row.behind recorded
     by_ask ask.Commit row =
         let is = row.behind in
-        still_counted (with_tx job row.place (record tx { phase = Committing })) (ap (λ (n : Now). n.jobs) is) (ap (λ (n : Now). n.journal) is)
-        (ap (λ (n : Now). n.faults) is) recorded
+        still_counted (with_tx job row.place (record tx { phase = Committing })) (ap (λ (n : Moment). n.jobs) is) (ap (λ (n : Moment). n.journal) is)
+        (ap (λ (n : Moment). n.faults) is) recorded
     by_ask ask.Abort row = with_counted (with_tx job row.place (record tx { phase = Undoing cause.Asked })) row.behind recorded
     by_ask ask.End row = absurd row
 
     by_running : (answer : Turn) → RunningTurn (mover s at old job) tx answer new → AreCounted from new
     by_running turn.Went row = by_ask (asked_at s job.place) row
     by_running turn.NoMemory row =
-        still_counted (with_tx job row.place (wanting tx row.left row.held)) (ap (λ (n : Now). n.jobs) row.behind) (ap (λ (n : Now). n.journal) row.behind)
-        (ap (λ (n : Now). n.faults) row.behind) recorded
+        still_counted (with_tx job row.place (wanting tx row.left row.held)) (ap (λ (n : Moment). n.jobs) row.behind)
+        (ap (λ (n : Moment). n.journal) row.behind)
+        (ap (λ (n : Moment). n.faults) row.behind) recorded
     by_running (turn.Busy object holder) row =
-        still_counted (waiting (with_tx job row.place tx)) (ap (λ (n : Now). n.jobs) row.behind) (ap (λ (n : Now). n.journal) row.behind)
-        (ap (λ (n : Now). n.faults) row.behind) recorded
+        still_counted (waiting (with_tx job row.place tx)) (ap (λ (n : Moment). n.jobs) row.behind) (ap (λ (n : Moment). n.journal) row.behind)
+        (ap (λ (n : Moment). n.faults) row.behind) recorded
     by_running (turn.Ended end) row = absurd row
 
     by_mark : (m : Option Mark) (answer : Turn) → MarkedTurn (mover s at old job) tx m answer new → AreCounted from new
@@ -193,15 +205,15 @@ module _ (s : Setting) (at from : ℕ) (old : Now) (job : SeenJob) (new : Now) (
     by_committing commits turn.NoMemory row = absurd row
     by_committing commits (turn.Ended end) row = absurd row
 
-    -- ---- one on its way back
+    -- ---- one rolling back
     tried_counted : Compensates (mover s at old job) tx new → AreCounted from new
     tried_counted row =
         let undo : Records = record { pending = row.older; ended = (row.tried, row.end) ∷ tx.undo.ended } in
         let ended : sum_by undo_faults ((row.tried, row.end) ∷ tx.undo.ended) ≡ end_faults row.end + sum_by undo_faults tx.undo.ended =
         sum_by-cons undo_faults (row.tried, row.end) tx.undo.ended in
-        let sums : sum_by entry_faults new.journal ≡ sum_by entry_faults old.journal = ap (λ (n : Now). sum_by entry_faults n.journal) row.behind in
+        let sums : sum_by entry_faults new.journal ≡ sum_by entry_faults old.journal = ap (λ (n : Moment). sum_by entry_faults n.journal) row.behind in
         let was = recorded in
-        more_counted (with_tx job job.place (record tx { undo = undo })) (end_faults row.end) (ap (λ (n : Now). actives n.jobs) row.behind)
+        more_counted (with_tx job job.place (record tx { undo = undo })) (end_faults row.end) (ap (λ (n : Moment). actives n.jobs) row.behind)
         (omega (arith, ended, sums, was)) row.faults
 
     by_records : (c : Cause) → tx.phase ≡ Undoing c → (pending : List Undo) → BackTurn (mover s at old job) tx c pending new → AreCounted from new
@@ -230,6 +242,6 @@ module _ (s : Setting) (at from : ℕ) (old : Now) (job : SeenJob) (new : Now) (
   by_doing (Ended end) is answer row = absurd row
 
 -- a turn keeps the count
-pub turn_keeps_count : (s : Setting) (at from : ℕ) (old new : Now) (answer : Turn) → IsTurn s at old answer new
-    → AreTold s (length old.words) old.marks old.journal old.jobs → AreCounted from old → AreCounted from new
-turn_keeps_count s at from old new answer t told h = by_doing s at from old t.job new t.stands told h t.job.doing refl answer t.row
+pub turn_keeps_count : (s : Setting) (at from : ℕ) (old new : Moment) (answer : Turn) → IsTurn s at old answer new
+    → StoriesHold s (length old.words) old.marks old.journal old.jobs → AreCounted from old → AreCounted from new
+turn_keeps_count s at from old new answer t told h = by_doing s at from old t.job new t.there told h t.job.doing refl answer t.row

@@ -9,11 +9,11 @@ use Rattle.std.proofs.lemmas.List.Sorted.{Contains-permutation, IsPermutation-sy
 use Rattle.std.proofs.lemmas.Map.Keys.{IsDistinct-head, IsDistinct-tail, IsDistinct-cons, IsDistinct-IsPermutation}
 use Rattle.xc_data.specs.declared.entry.Entry.{Entry}
 use Rattle.xc_data.specs.declared.entry.Mark.{Mark}
-use Rattle.xc_story.specs.Setting.{Setting}
-use Rattle.xc_story.specs.Truth.{counting}
-use Rattle.xc_story.specs.Seen.{SeenTx, SeenJob, active_of, actives}
-use Rattle.xc_story.specs.Told.{AreBegins, AreTold, active_begin, begins_of, entry_begin}
-use Rattle.xc_story.specs.Rows.{IsActiveAt}
+use Rattle.xc_model.specs.Setting.{Setting}
+use Rattle.xc_model.specs.Truth.{counting}
+use Rattle.xc_model.specs.Moment.{TxView, JobView, active_of, actives}
+use Rattle.xc_model.specs.Stories.{AreBegins, StoriesHold, active_begin, begins_of, entry_begin}
+use Rattle.xc_model.specs.Movers.{IsActiveAt}
 use Rattle.xc_turns.proofs.Lists.{contains_cons, contains_map}
 use Rattle.xc_turns.proofs.Jobs.{active_listed}
 use Rattle.xc_turns.proofs.StoryBegins.{active_begun, begins_count, number_below}
@@ -62,29 +62,29 @@ counting_above from (suc n) k at =
 abbrev firsts : List (ℕ × ℕ) → List ℕ
 firsts begins = map (λ (b : ℕ × ℕ). b.0) begins
 
-abbrev numbers_in : List SeenTx → List ℕ
+abbrev numbers_in : List TxView → List ℕ
 numbers_in txs = firsts (map active_begin txs)
 
-number_in : (jobs : List SeenJob) (i : ℕ) (t : SeenTx) → IsActiveAt jobs i t → Contains (numbers_in (actives jobs)) t.number
+number_in : (jobs : List JobView) (i : ℕ) (t : TxView) → IsActiveAt jobs i t → Contains (numbers_in (actives jobs)) t.number
 number_in jobs i t active = contains_map (λ (b : ℕ × ℕ). b.0) (map active_begin (actives jobs)) (active_begin t)
     (contains_map active_begin (actives jobs) t (active_listed jobs i t active))
 
-head_apart : (o : Option SeenTx) (txs : List SeenTx) (t u : SeenTx) → o ≡ Some t → IsDistinct nat_eq (numbers_in (cons_option o txs))
+head_apart : (o : Option TxView) (txs : List TxView) (t u : TxView) → o ≡ Some t → IsDistinct nat_eq (numbers_in (cons_option o txs))
     → Contains (numbers_in txs) u.number → t.number ≡ u.number → ⊥
 head_apart None txs t u e differ at same = cc e
 head_apart (Some v) txs t u e differ at same =
     let is : v ≡ t = cc e in
     apart_from v.number (numbers_in txs) u.number (IsDistinct-head nat_eq v.number (numbers_in txs) differ) at
-    (ap (λ (x : SeenTx). x.number) is ∙ same)
+    (ap (λ (x : TxView). x.number) is ∙ same)
 
-tail_differs : (o : Option SeenTx) (txs : List SeenTx) → IsDistinct nat_eq (numbers_in (cons_option o txs)) → IsDistinct nat_eq (numbers_in txs)
+tail_differs : (o : Option TxView) (txs : List TxView) → IsDistinct nat_eq (numbers_in (cons_option o txs)) → IsDistinct nat_eq (numbers_in txs)
 tail_differs None txs differ = differ
 tail_differs (Some v) txs differ = IsDistinct-tail nat_eq v.number (numbers_in txs) differ
 
-first_active : (job : SeenJob) (jobs : List SeenJob) (t : SeenTx) → IsActiveAt (job ∷ jobs) 0 t → active_of job ≡ Some t
+first_active : (job : JobView) (jobs : List JobView) (t : TxView) → IsActiveAt (job ∷ jobs) 0 t → active_of job ≡ Some t
 first_active job jobs t (other, there, has) = let same : job ≡ other = cc there in ap active_of same ∙ has
 
-one_place : (jobs : List SeenJob) (i j : ℕ) (t u : SeenTx) → IsDistinct nat_eq (numbers_in (actives jobs)) → IsActiveAt jobs i t → IsActiveAt jobs j u
+one_place : (jobs : List JobView) (i j : ℕ) (t u : TxView) → IsDistinct nat_eq (numbers_in (actives jobs)) → IsActiveAt jobs i t → IsActiveAt jobs j u
     → t.number ≡ u.number → i ≡ j
 one_place [] i j t u differ (job, there, has) b same = cc there
 one_place (job ∷ jobs) zero zero t u differ a b same = refl
@@ -96,7 +96,7 @@ one_place (job ∷ jobs) (suc i) (suc j) t u differ a b same =
     ap suc (one_place jobs i j t u (tail_differs (active_of job) (actives jobs) differ) a b same)
 
 -- numbers that are the first ones in some order differ, those of the active transactions too
-numbers_differ : (journal : List Entry) (jobs : List SeenJob) → AreBegins journal (begins_of journal jobs)
+numbers_differ : (journal : List Entry) (jobs : List JobView) → AreBegins journal (begins_of journal jobs)
     → IsDistinct nat_eq (numbers_in (actives jobs))
 numbers_differ journal jobs are =
     let begins = begins_of journal jobs in
@@ -109,14 +109,14 @@ numbers_differ journal jobs are =
     (subst (IsDistinct nat_eq) (map-append (λ (b : ℕ × ℕ). b.0) entered (map active_begin (actives jobs))) all)
 
 -- two active transactions of one number stand in one place
-pub given_once : (s : Setting) (words : ℕ) (marks : ℕ → Option Mark) (journal : List Entry) (jobs : List SeenJob) → AreTold s words marks journal jobs
-    → (i j : ℕ) (t u : SeenTx)
+pub given_once : (s : Setting) (words : ℕ) (marks : ℕ → Option Mark) (journal : List Entry) (jobs : List JobView) → StoriesHold s words marks journal jobs
+    → (i j : ℕ) (t u : TxView)
     → IsActiveAt jobs i t → IsActiveAt jobs j u → t.number ≡ u.number → i ≡ j
 given_once s words marks journal jobs told i j t u = one_place jobs i j t u (numbers_differ journal jobs told.begins)
 
 -- an active transaction's number is one of as many as have begun
-pub given_by_now : (s : Setting) (words : ℕ) (marks : ℕ → Option Mark) (journal : List Entry) (jobs : List SeenJob) → AreTold s words marks journal jobs
-    → (i : ℕ) (t : SeenTx)
+pub given_by_now : (s : Setting) (words : ℕ) (marks : ℕ → Option Mark) (journal : List Entry) (jobs : List JobView) → StoriesHold s words marks journal jobs
+    → (i : ℕ) (t : TxView)
     → IsActiveAt jobs i t → (1 ≤ t.number) × (t.number ≤ length journal + length (actives jobs))
 given_by_now s words marks journal jobs told i t active =
     let begins = begins_of journal jobs in

@@ -11,7 +11,7 @@ use Rattle.xc_data.specs.declared.claim.Claim.{Claim}
 use Rattle.xc_data.specs.declared.object.Object.{Object}
 use Rattle.xc_data.specs.declared.entry.Cause.{Cause}
 use Rattle.xc_data.specs.declared.entry.Cause.TheVariants.{Conflict, Revoked}
-use Rattle.xc_story.specs.Grounds.{Part, Stands, Other, Holds, Clashes, IsGrounded, AreGrounded, scene_of}
+use Rattle.xc_model.specs.Grounds.{Part, IsPresent, Other, Holds, Clashes, IsGrounded, AreGrounded, scene_of}
 use Rattle.xc_turns.proofs.Lists.{get_front, get_last, get_cases, not_both}
 use Rattle.xc_turns.proofs.HeldClaims.{IsCovered, AreCovered, covered_same, either_way}
 
@@ -44,8 +44,8 @@ module _ (tells : Bool) (log log' : List Part) (active active' : List (Option Pa
 
   -- where each one that stands is followed by one that does
   record StandOn : Type 0 where
-    each : (at : ℕ) (who : Part) → at ≤ length log → Stands (scene_of tells log active) at who
-        → (next : Part) × Follows tells who next × Stands (scene_of tells log' active') at next
+    each : (at : ℕ) (who : Part) → at ≤ length log → IsPresent (scene_of tells log active) at who
+        → (next : Part) × Follows tells who next × IsPresent (scene_of tells log' active') at next
 
   others_on : StandOn → OthersGoOn
   others_on on = record { each = each }
@@ -53,12 +53,12 @@ module _ (tells : Bool) (log log' : List Part) (active active' : List (Option Pa
       each : (number at job : ℕ) → at ≤ length log → (h : Other (scene_of tells log active) number at job)
           → (k : Other (scene_of tells log' active') number at job) × Follows tells h.who k.who
       each number at job le h =
-          let next = on.each at h.who le h.stands in
+          let next = on.each at h.who le h.present in
           let follows = next.1 in
           let began = h.began in (
             record {
               who = next.0;
-              stands = next.2;
+              present = next.2;
               numbered = follows.number ∙ h.numbered;
               other = λ e. h.other (sym follows.job ∙ e);
               began = omega (arith, follows.began);
@@ -92,11 +92,10 @@ clash_on wanted wanted' c d more covers clash =
     let w = clash.0 in
     let next = more.each w clash.1 in
     let is = next.2 in
-    let first : compatible w.mode d.mode ≡ false = covers.mode w.mode clash.3 in (
+    let first : compatible w.mode d.mode ≡ false = covers.mode w.mode clash.2.1 in (
       next.0,
       next.1,
-      is.object ∙ clash.2 ∙ sym covers.object,
-      either_way next.0.mode d.mode ∙ is.mode d.mode (either_way d.mode w.mode ∙ first),
+      (sym (is.object ∙ sym clash.2.0 ∙ sym covers.object), either_way next.0.mode d.mode ∙ is.mode d.mode (either_way d.mode w.mode ∙ first)),
     )
 
 -- where those that are named go on, each ground stays
@@ -115,7 +114,7 @@ module _ (tells : Bool) (log log' : List Part) (active active' : List (Option Pa
         within = omega arith;
         named = record {
           who = named.who;
-          stands = named.stands;
+          present = named.present;
           numbered = named.numbered;
           other = λ e. named.other (e ∙ judged.job);
           began = named.began;
@@ -136,7 +135,7 @@ module _ (tells : Bool) (log log' : List Part) (active active' : List (Option Pa
         within = omega arith;
         named = record {
           who = named.who;
-          stands = named.stands;
+          present = named.present;
           numbered = named.numbered;
           other = λ e. named.other (e ∙ judged.job);
           began = named.began;
@@ -163,8 +162,8 @@ module _ (tells : Bool) (log : List Part) (active active' : List (Option Part)) 
     pub kept : (j : ℕ) (a : Part) → get_or active j None ≡ Some a → (b : Part) × Follows tells a b × (get_or active' j None ≡ Some b)
     pub fresh : (j : ℕ) (b : Part) → get_or active' j None ≡ Some b → IsGrounded (scene_of tells log active) (length log) b b.cause
 
-  stands_on : GoOn → (at : ℕ) (who : Part) → Stands (scene_of tells log active) at who
-      → (next : Part) × Follows tells who next × Stands (scene_of tells log active') at next
+  stands_on : GoOn → (at : ℕ) (who : Part) → IsPresent (scene_of tells log active) at who
+      → (next : Part) × Follows tells who next × IsPresent (scene_of tells log active') at next
   stands_on on at who (inl entry) = (who, follows_itself tells who, inl entry)
   stands_on on at who (inr one) = let next = on.kept one.0 who one.1 in (next.0, next.1, inr (one.0, next.2))
 
@@ -201,8 +200,8 @@ module _ (tells : Bool) (log : List Part) (active active' : List (Option Part)) 
       let same : Some a ≡ Some who = sym m.before ∙ ap (λ (k : ℕ). get_or active k None) (sym here) ∙ got in
       cc
 
-  stands_enter : Enter → (from : ℕ) (who : Part) → from ≤ length log → Stands (scene_of tells log active) from who
-      → (next : Part) × Follows tells who next × Stands (scene_of tells (log ++ e ∷ []) active') from next
+  stands_enter : Enter → (from : ℕ) (who : Part) → from ≤ length log → IsPresent (scene_of tells log active) from who
+      → (next : Part) × Follows tells who next × IsPresent (scene_of tells (log ++ e ∷ []) active') from next
   stands_enter m from who le (inl entry) = (who, follows_itself tells who, inl (entry.0, get_front log (e ∷ []) entry.0 who entry.1, entry.2))
   stands_enter m from who le (inr one) = dite (ℕ_discrete one.0 at)
       (λ (here : one.0 ≡ at).

@@ -19,21 +19,27 @@ use Rattle.xc_data.specs.declared.entry.Turn.{Turn}
 use Rattle.xc_data.specs.declared.call.Call.{Call}
 use Rattle.xc_script.specs.declared.ask.Ask.{Ask}
 use Rattle.xc_script.specs.declared.ask.Ask.TheVariants as ask
-use Rattle.xc_script.specs.Ask.{asks}
+use Rattle.xc_script.specs.Asking.{asks}
 use Rattle.xc_script.specs.Position.{Position}
 use Rattle.xc_data.specs.declared.entry.Mark.{Mark}
-use Rattle.xc_story.specs.declared.phase.Phase.{Phase}
-use Rattle.xc_story.specs.declared.phase.Phase.TheVariants.{Running, Committing, Undoing}
-use Rattle.xc_story.specs.Setting.{Setting}
-use Rattle.xc_story.specs.Seen.{SeenTx, SeenJob, Doing, Idle, Active, Starved, Ended, Now, active_in, active_of, revoked, unmarked}
-use Rattle.xc_story.specs.Rows.{IsTurn, IsActiveAt, IsFirstMet, IsRival, asked_at, claims_at, entry_of, mark_behind, marked, mover}
-use Rattle.xc_story.specs.Grounds.{Part, Other, Holds, Ground, IsGrounded, AreGrounded, scene_of}
-use Rattle.xc_story.specs.Progress.{Following, Progress, progress_of, following_of, after_entry}
-use Rattle.xc_story.specs.Truth.{next_of, part_of, parts_of}
-use Rattle.xc_story.specs.Played.{IsPlayedSoFar, ran_behind}
-use Rattle.xc_story.specs.Told.{AreTold, IsDoing, IsUnderway, IsInPhase, IsRunning, active_begin, active_part, active_parts, part_under_way}
-use Rattle.xc_story.specs.Told.{asked_of_tx, cause_of_phase, wanted_by, reading, scene_at}
-use Rattle.xc_turns.proofs.Lists.{contains_first, get_beside, get_front, get_inside, get_set_same, get_set_other, not_both}
+use Rattle.xc_model.specs.declared.phase.Phase.{Phase}
+use Rattle.xc_model.specs.declared.phase.Phase.TheVariants.{Running, Committing, Undoing}
+use Rattle.xc_model.specs.Setting.{Setting}
+use Rattle.xc_model.specs.Moment.{TxView, JobView, Doing, Idle, Active, Starved, Ended, Moment, active_in, active_of, revoked, unmarked}
+use Rattle.xc_model.specs.Rows.{IsTurn}
+use Rattle.xc_model.specs.Movers.{IsActiveAt, asked_at, mover}
+use Rattle.xc_model.specs.Rivals.{IsFirstRival, IsRival}
+use Rattle.xc_model.specs.PlainSteps.{claims_at}
+use Rattle.xc_model.specs.Entering.{entry_of}
+use Rattle.xc_model.specs.RunningRows.{mark_behind, marked}
+use Rattle.xc_model.specs.Grounds.{Part, Other, Holds, Ground, IsGrounded, AreGrounded, scene_of}
+use Rattle.xc_model.specs.Progress.{Following, Progress, progress_of, following_of, after_entry}
+use Rattle.xc_model.specs.Truth.{next_of, part_of, entry_parts}
+use Rattle.xc_model.specs.Played.{IsPlayedSoFar, ran_behind}
+use Rattle.xc_model.specs.Stories.{StoriesHold, IsDoing, IsUnderway, IsInPhase, IsRunning, active_begin, active_part, active_parts, part_under_way}
+use Rattle.xc_model.specs.Stories.{asked_of_tx, cause_of_phase, wanted_by, reading, scene_at}
+use Rattle.xc_turns.proofs.Lists.{contains_first, get_beside, get_front, get_inside, not_both}
+use Rattle.xc_data.proofs.Lists.{get_set_same, get_set_other}
 use Rattle.xc_turns.proofs.Progressing.{parts_length, parts_more, progress-more}
 use Rattle.xc_turns.proofs.StoryBegins.{active_begun}
 use Rattle.xc_turns.proofs.HeldClaims.{AreCovered, covered_same, covered_all, claims_covered, covered_parts, covered_front, covered_back}
@@ -41,12 +47,14 @@ use Rattle.xc_turns.proofs.GroundSteps.{Follows, follows_itself, ground_as, grou
 use Rattle.xc_turns.proofs.GivenNumbers.{given_once, given_by_now}
 use Rattle.xc_turns.proofs.Jobs.{active_same, active_was, active_is, active_here, active_before, active_after}
 use Rattle.xc_turns.proofs.GroundReads.{part_read, part_there, part_elsewhere, jobs_elsewhere, wanted_same}
-use Rattle.xc_turns.proofs.TurnKinds.{AsksOn, HoldsOn, IsNoConflict, Meets, CauseOn, same, free, meets, cause_on, undoing_is}
+use Rattle.xc_turns.proofs.KindsOfTurns.{AsksOn, HoldsOn, IsNoConflict, MeetsRival, CauseOn, same, free, meets, cause_on}
+use Rattle.xc_turns.proofs.TurnKinds.{undoing_is}
 use Rattle.xc_turns.proofs.Grown.{grown_active}
-use Rattle.xc_turns.proofs.TurnKinds.{Rests, Begins, Moves, Stays, Enters, Kind, rests, begins, moves, stays, enters, kind_of}
+use Rattle.xc_turns.proofs.KindsOfTurns.{Rests, Begins, Moves, Stays, Enters, Kind, rests, begins, moves, stays, enters}
+use Rattle.xc_turns.proofs.TurnKinds.{kind_of}
 
 -- all conflicts and revocations of these entries and jobs are grounded
-abbrev AreAllGrounded : Setting → ℕ → (ℕ → Option Mark) → List Entry → List SeenJob → Type 0
+abbrev AreAllGrounded : Setting → ℕ → (ℕ → Option Mark) → List Entry → List JobView → Type 0
 AreAllGrounded s words marks journal jobs =
     AreGrounded (scene_at (reading s words marks) journal jobs)
 
@@ -57,10 +65,10 @@ unmarked_other marks number n ne = ap (λ (b : Bool). if b then None else marks 
 unmarked_itself : (marks : ℕ → Option Mark) (number : ℕ) → unmarked marks number number ≡ None
 unmarked_itself marks number = ap (λ (b : Bool). if b then None else marks number) (eq-eqb number number refl)
 
-marked_other : (marks : ℕ → Option Mark) (tx : SeenTx) (new : Mark) (n : ℕ) → (n ≡ tx.number → ⊥) → marked marks tx new n ≡ marks n
+marked_other : (marks : ℕ → Option Mark) (tx : TxView) (new : Mark) (n : ℕ) → (n ≡ tx.number → ⊥) → marked marks tx new n ≡ marks n
 marked_other marks tx new n ne = ap (λ (b : Bool). if b then mark_behind tx.phase (marks n) new else marks n) (ne_eqb n tx.number ne)
 
-marked_itself : (marks : ℕ → Option Mark) (tx : SeenTx) (new : Mark) (n : ℕ) → n ≡ tx.number → marked marks tx new n ≡ mark_behind tx.phase (marks n) new
+marked_itself : (marks : ℕ → Option Mark) (tx : TxView) (new : Mark) (n : ℕ) → n ≡ tx.number → marked marks tx new n ≡ mark_behind tx.phase (marks n) new
 marked_itself marks tx new n e = ap (λ (b : Bool). if b then mark_behind tx.phase (marks n) new else marks n) (eq-eqb n tx.number e)
 
 -- a mark stays, or a running transaction takes the new one
@@ -72,7 +80,7 @@ mark_cases Committing kept new = inl refl
 mark_cases (Undoing c) kept new = inl refl
 
 -- ---- what is told of an active transaction
-underway : (s : Setting) (begun : ℕ) (f : Following) (job : SeenJob) (was : SeenTx) (d : Doing) → active_in d ≡ Some was → IsDoing s begun f job d
+underway : (s : Setting) (begun : ℕ) (f : Following) (job : JobView) (was : TxView) (d : Doing) → active_in d ≡ Some was → IsDoing s begun f job d
     → IsUnderway s f job.place was
 underway s begun f job was Idle e told = cc
 underway s begun f job was (Active tx) e told = let is : tx ≡ was = cc in subst (IsUnderway s f job.place) is told
@@ -80,7 +88,7 @@ underway s begun f job was Starved e told = cc
 underway s begun f job was (Ended end) e told = cc
 
 -- what a running one is asked, its job asks where it stands
-asked_there : (s : Setting) (f : Following) (place : Position) (was : SeenTx) → IsUnderway s f place was → was.phase ≡ Running
+asked_there : (s : Setting) (f : Following) (place : Position) (was : TxView) → IsUnderway s f place was → was.phase ≡ Running
     → next_of s.script f was.replies ≡ asked_at s place
 asked_there s f place was told running =
     let at : IsRunning s f place was = subst (IsInPhase s f place was) running told.phase in
@@ -91,8 +99,8 @@ none_or None none = refl
 none_or (Some a) none = absurd (none a refl)
 
 -- ---- a turn of the job in this place
-module _ (s : Setting) (at : ℕ) (old new : Now) (job : SeenJob) (stands : slice_get old.jobs at ≡ Some job)
-    (told : AreTold s (length old.words) old.marks old.journal old.jobs) where
+module _ (s : Setting) (at : ℕ) (old new : Moment) (job : JobView) (stands : slice_get old.jobs at ≡ Some job)
+    (told : StoriesHold s (length old.words) old.marks old.journal old.jobs) where
   abbrev words : ℕ
   words = length old.words
 
@@ -107,26 +115,26 @@ module _ (s : Setting) (at : ℕ) (old new : Now) (job : SeenJob) (stands : slic
   following = get_beside led.jobs old.jobs at job told.count stands
 
   -- an active one began by now
-  by_now : (j : ℕ) (tx : SeenTx) → IsActiveAt old.jobs j tx → tx.began ≤ length old.journal
+  by_now : (j : ℕ) (tx : TxView) → IsActiveAt old.jobs j tx → tx.began ≤ length old.journal
   by_now j tx a = told.begins.by_now (active_begin tx) (active_begun old.journal old.jobs j tx a)
 
   -- ---- what its conflict is judged by
   abbrev log : List Part
-  log = parts_of s old.journal
+  log = entry_parts s old.journal
 
   abbrev before : List (Option Part)
   before = active_parts (reading s words old.marks) 1 led.jobs old.jobs
 
-  abbrev behind_of : (ℕ → Option Mark) → SeenJob → List (Option Part)
+  abbrev behind_of : (ℕ → Option Mark) → JobView → List (Option Part)
   behind_of marks behind = active_parts (reading s words marks) 1 led.jobs (slice_set old.jobs at behind)
 
-  abbrev part_here : (ℕ → Option Mark) → SeenTx → Part
+  abbrev part_here : (ℕ → Option Mark) → TxView → Part
   part_here marks tx = part_under_way (reading s words marks) led_here (at + 1) tx
 
-  here_before : (o : Option SeenTx) → active_of job ≡ o → get_or before at None ≡ active_part (reading s words old.marks) led_here (at + 1) o
+  here_before : (o : Option TxView) → active_of job ≡ o → get_or before at None ≡ active_part (reading s words old.marks) led_here (at + 1) o
   here_before o e = part_read s words old.marks led.jobs old.jobs at job o stands e
 
-  here_after : (marks : ℕ → Option Mark) (behind : SeenJob) (o : Option SeenTx) → active_of behind ≡ o
+  here_after : (marks : ℕ → Option Mark) (behind : JobView) (o : Option TxView) → active_of behind ≡ o
       → get_or (behind_of marks behind) at None ≡ active_part (reading s words marks) led_here (at + 1) o
   here_after marks behind o e =
       part_read s words marks led.jobs (slice_set old.jobs at behind) at behind o (get_set_same old.jobs at job behind stands) e
@@ -136,10 +144,10 @@ module _ (s : Setting) (at : ℕ) (old new : Now) (job : SeenJob) (stands : slic
 
   -- the marks of the others stay
   abbrev MarksElsewhere : (ℕ → Option Mark) → Type 0
-  MarksElsewhere marks = (j : ℕ) (tx : SeenTx) → j ≢ at → IsActiveAt old.jobs j tx → marks tx.number ≡ old.marks tx.number
+  MarksElsewhere marks = (j : ℕ) (tx : TxView) → j ≢ at → IsActiveAt old.jobs j tx → marks tx.number ≡ old.marks tx.number
 
   -- ---- no transaction enters
-  go_at : (marks : ℕ → Option Mark) (behind : SeenJob) → MarksElsewhere marks
+  go_at : (marks : ℕ → Option Mark) (behind : JobView) → MarksElsewhere marks
       → ((a : Part) → get_or before at None ≡ Some a → (b : Part) × Follows s.tells a b × (get_or (behind_of marks behind) at None ≡ Some b))
       → ((b : Part) → get_or (behind_of marks behind) at None ≡ Some b → IsGrounded (scene_of s.tells log before) (length log) b b.cause)
       → AreGrounded (scene_of s.tells log (behind_of marks behind))
@@ -193,7 +201,7 @@ module _ (s : Setting) (at : ℕ) (old new : Now) (job : SeenJob) (stands : slic
 
   -- ---- an active one goes on
   -- what it is asked next depends on its private state and its replies alone
-  wanted_on : (o : Option Following) (was tx : SeenTx) → tx.me ≡ was.me → tx.replies ≡ was.replies
+  wanted_on : (o : Option Following) (was tx : TxView) → tx.me ≡ was.me → tx.replies ≡ was.replies
       → wanted_by words tx (asked_of_tx s o tx) ≡ wanted_by words was (asked_of_tx s o was)
   wanted_on o was tx me replies = by_me (asked_of_tx s o tx) ∙ ap (wanted_by words was) (by_replies o)
     where
@@ -213,13 +221,13 @@ module _ (s : Setting) (at : ℕ) (old new : Now) (job : SeenJob) (stands : slic
   no_conflict e _ none = tt
 
   -- the one that it meets is another
-  rival_named : (j number : ℕ) (rival : SeenTx) → IsActiveAt old.jobs j rival → rival.number ≡ number → j ≢ at
+  rival_named : (j number : ℕ) (rival : TxView) → IsActiveAt old.jobs j rival → rival.number ≡ number → j ≢ at
       → Other (scene_of s.tells log before) number (length old.journal) (at + 1)
   rival_named j number rival active numbered other =
       let there = active in
       record {
         who = part_under_way (reading s words old.marks) (slice_get led.jobs j) (j + 1) rival;
-        stands = inr (j, part_read s words old.marks led.jobs old.jobs j there.0 (Some rival) there.1 there.2);
+        present = inr (j, part_read s words old.marks led.jobs old.jobs j there.0 (Some rival) there.1 there.2);
         numbered = numbered;
         other = λ (e : j + 1 ≡ at + 1). other (omega arith);
         began = by_now j rival active;
@@ -229,10 +237,10 @@ module _ (s : Setting) (at : ℕ) (old new : Now) (job : SeenJob) (stands : slic
   rival_holds : (c : Claim) (object : Object) (holder : ℕ) → c.object ≡ object → (r : IsRival old.jobs at c holder) → Holds r.rival.held object
   rival_holds c object holder names r =
       let holds = r.holds in
-      record { claim = holds.0; names = holds.2 ∙ names; among = holds.1 }
+      record { claim = holds.0; names = holds.2.0 ∙ names; among = holds.1 }
 
   -- what it is asked next claims the object
-  asked_wants : (was tx : SeenTx) → active_of job ≡ Some was → tx.me ≡ was.me → tx.replies ≡ was.replies → (call : Call)
+  asked_wants : (was tx : TxView) → active_of job ≡ Some was → tx.me ≡ was.me → tx.replies ≡ was.replies → (call : Call)
       → asked_at s job.place ≡ ask.Call call → was.phase ≡ Running → wanted_by words tx (asked_of_tx s led_here tx) ≡ claims_at old was call
   asked_wants was tx active me replies call asked running =
       let f = following in
@@ -243,13 +251,13 @@ module _ (s : Setting) (at : ℕ) (old new : Now) (job : SeenJob) (stands : slic
       ∙ ap (wanted_by words was) (asked_there s f.0 job.place was going running ∙ asked)
 
   -- the claim that meets is one of those
-  met_listed : (claims : List Claim) (object : Object) (holder : ℕ) → (met : IsFirstMet old.jobs at claims object holder) → Contains claims met.met
+  met_listed : (claims : List Claim) (object : Object) (holder : ℕ) → (met : IsFirstRival old.jobs at claims object holder) → Contains claims met.met
   met_listed claims object holder met =
       subst (λ (cs : List Claim). Contains cs met.met) (sym met.split)
       (Contains-append_right met.front (met.met ∷ met.rest) met.met (contains_first met.met met.rest))
 
   -- so the conflict is grounded
-  met_grounded : (was tx : SeenTx) → active_of job ≡ Some was → tx.began ≡ was.began → (m : Meets (mover s at old job) was tx)
+  met_grounded : (was tx : TxView) → active_of job ≡ Some was → tx.began ≡ was.began → (m : MeetsRival (mover s at old job) was tx)
       → Ground (scene_of s.tells log before) (length log) (part_here old.marks tx)
       (record { object = m.object; number = m.holder; at = length old.journal })
   unfolding rival_named rival_holds
@@ -268,13 +276,12 @@ module _ (s : Setting) (at : ℕ) (old new : Now) (job : SeenJob) (stands : slic
         clash = λ t. (
           met.met,
           subst (λ (cs : List Claim). Contains cs met.met) claimed (met_listed (claims_at old was m.call) m.object m.holder met),
-          sym holds.2,
-          holds.3,
+          holds.2,
         );
       }
 
   -- its cause is the old one, none that names another, or this
-  why_grounded : (was tx : SeenTx) → active_of job ≡ Some was → tx.rank ≡ was.rank → tx.began ≡ was.began → AreCovered was.held tx.held
+  why_grounded : (was tx : TxView) → active_of job ≡ Some was → tx.rank ≡ was.rank → tx.began ≡ was.began → AreCovered was.held tx.held
       → CauseOn (mover s at old job) was tx → IsGrounded (scene_of s.tells log before) (length log) (part_here old.marks tx) (cause_on old tx)
   why_grounded was tx active rank began held (same k) =
       subst (IsGrounded (scene_of s.tells log before) (length log) (part_here old.marks tx)) (sym k.cause)
@@ -291,7 +298,7 @@ module _ (s : Setting) (at : ℕ) (old new : Now) (job : SeenJob) (stands : slic
   covered_on was held (inr more) = subst (AreCovered was) (sym more.2) (covered_all was more.0)
 
   -- what it holds or wants it goes on to hold or want
-  reach_on : (was tx : SeenTx) → active_of job ≡ Some was → AreCovered was.held tx.held → AsksOn s old job was tx
+  reach_on : (was tx : TxView) → active_of job ≡ Some was → AreCovered was.held tx.held → AsksOn s old job was tx
       → AreCovered ((part_here old.marks was).held ++ (part_here old.marks was).wanted) ((part_here old.marks tx).held ++ (part_here old.marks tx).wanted)
   reach_on was tx active held (inl stays_asked) =
       let a = part_here old.marks was in
@@ -340,7 +347,7 @@ module _ (s : Setting) (at : ℕ) (old new : Now) (job : SeenJob) (stands : slic
 
   -- ---- one waits, and another is marked
   module _ (k : Stays s at old job new) where
-    abbrev rival : SeenTx
+    abbrev rival : TxView
     rival = k.waits.met.rival.rival
 
     abbrev its_mark : Mark
@@ -350,14 +357,14 @@ module _ (s : Setting) (at : ℕ) (old new : Now) (job : SeenJob) (stands : slic
     marks_behind = marked old.marks rival its_mark
 
     -- all transactions are as before
-    active_still : (j : ℕ) (tx : SeenTx) → IsActiveAt (slice_set old.jobs at k.behind) j tx → IsActiveAt old.jobs j tx
+    active_still : (j : ℕ) (tx : TxView) → IsActiveAt (slice_set old.jobs at k.behind) j tx → IsActiveAt old.jobs j tx
     active_still j tx a = dite (ℕ_discrete j at)
         (λ (here : j ≡ at).
         let is = active_is old.jobs at job stands k.behind tx (subst (λ n. IsActiveAt (slice_set old.jobs at k.behind) n tx) here a) in
         subst (λ n. IsActiveAt old.jobs n tx) (sym here) (job, stands, k.before ∙ sym k.after ∙ is))
         (λ (away : j ≢ at). active_before old.jobs at j k.behind tx away a)
 
-    active_again : (j : ℕ) (tx : SeenTx) → IsActiveAt old.jobs j tx → IsActiveAt (slice_set old.jobs at k.behind) j tx
+    active_again : (j : ℕ) (tx : TxView) → IsActiveAt old.jobs j tx → IsActiveAt (slice_set old.jobs at k.behind) j tx
     active_again j tx a = dite (ℕ_discrete j at)
         (λ (here : j ≡ at).
         let was = active_was old.jobs at job stands tx (subst (λ n. IsActiveAt old.jobs n tx) here a) in
@@ -365,13 +372,13 @@ module _ (s : Setting) (at : ℕ) (old new : Now) (job : SeenJob) (stands : slic
         (active_here old.jobs at job stands k.behind tx (k.after ∙ sym k.before ∙ was)))
         (λ (away : j ≢ at). active_after old.jobs at j k.behind tx away a)
 
-    abbrev part_at : (ℕ → Option Mark) → ℕ → SeenTx → Part
+    abbrev part_at : (ℕ → Option Mark) → ℕ → TxView → Part
     part_at marks j tx = part_under_way (reading s words marks) (slice_get led.jobs j) (j + 1) tx
 
-    old_part : (j : ℕ) (tx : SeenTx) → IsActiveAt old.jobs j tx → get_or before j None ≡ Some (part_at old.marks j tx)
+    old_part : (j : ℕ) (tx : TxView) → IsActiveAt old.jobs j tx → get_or before j None ≡ Some (part_at old.marks j tx)
     old_part j tx a = let there = a in part_read s words old.marks led.jobs old.jobs j there.0 (Some tx) there.1 there.2
 
-    new_part : (j : ℕ) (tx : SeenTx) → IsActiveAt old.jobs j tx → get_or (behind_of marks_behind k.behind) j None ≡ Some (part_at marks_behind j tx)
+    new_part : (j : ℕ) (tx : TxView) → IsActiveAt old.jobs j tx → get_or (behind_of marks_behind k.behind) j None ≡ Some (part_at marks_behind j tx)
     new_part j tx a =
         let there = active_again j tx a in
         part_read s words marks_behind led.jobs (slice_set old.jobs at k.behind) j there.0 (Some tx) there.1 there.2
@@ -396,25 +403,25 @@ module _ (s : Setting) (at : ℕ) (old new : Now) (job : SeenJob) (stands : slic
           within = omega arith;
           named = record {
             who = own;
-            stands = inr (at, here_before (Some k.tx) k.before);
+            present = inr (at, here_before (Some k.tx) k.before);
             numbered = refl;
             other = λ (e : at + 1 ≡ r.place + 1). other (let h : r.place ≡ at = omega arith in h);
             began = by_now at k.tx (job, stands, k.before);
           };
           older = k.waits.younger;
           holds = rival_holds met.met k.object k.holder met.names r;
-          clash = λ t. (met.met, Contains-append_right own.held own.wanted met.met listed, sym holds.2, holds.3);
+          clash = λ t. (met.met, Contains-append_right own.held own.wanted met.met listed, holds.2);
         }
 
-    marked_grounded : (j : ℕ) (tx : SeenTx) → j ≡ k.waits.met.rival.place → tx ≡ rival
+    marked_grounded : (j : ℕ) (tx : TxView) → j ≡ k.waits.met.rival.place → tx ≡ rival
         → IsGrounded (scene_of s.tells log before) (length log) (part_at marks_behind j tx) (Some (revoked its_mark))
     marked_grounded j tx one is =
-        subst (λ (x : SeenTx). IsGrounded (scene_of s.tells log before) (length log) (part_at marks_behind j x) (Some (revoked its_mark))) (sym is)
+        subst (λ (x : TxView). IsGrounded (scene_of s.tells log before) (length log) (part_at marks_behind j x) (Some (revoked its_mark))) (sym is)
         (subst (λ (n : ℕ). IsGrounded (scene_of s.tells log before) (length log) (part_at marks_behind n rival) (Some (revoked its_mark))) (sym one)
         rival_grounded)
 
     -- all others are as before
-    unmarked_grounded : (j : ℕ) (tx : SeenTx) → IsActiveAt old.jobs j tx → marks_behind tx.number ≡ old.marks tx.number
+    unmarked_grounded : (j : ℕ) (tx : TxView) → IsActiveAt old.jobs j tx → marks_behind tx.number ≡ old.marks tx.number
         → IsGrounded (scene_of s.tells log before) (length log) (part_at marks_behind j tx) (cause_of_phase (marks_behind tx.number) tx.phase)
     unmarked_grounded j tx active kept_mark =
         subst (λ m. IsGrounded (scene_of s.tells log before) (length log) (part_at marks_behind j tx) (cause_of_phase m tx.phase)) (sym kept_mark)
@@ -442,7 +449,7 @@ module _ (s : Setting) (at : ℕ) (old new : Now) (job : SeenJob) (stands : slic
               new_part j tx active,
             )
 
-        by_number : (j : ℕ) (tx : SeenTx) → IsActiveAt old.jobs j tx
+        by_number : (j : ℕ) (tx : TxView) → IsActiveAt old.jobs j tx
             → IsGrounded (scene_of s.tells log before) (length log) (part_at marks_behind j tx) (cause_of_phase (marks_behind tx.number) tx.phase)
         by_number j tx active = dite (ℕ_discrete tx.number rival.number)
             (λ (here : tx.number ≡ rival.number).
@@ -453,7 +460,7 @@ module _ (s : Setting) (at : ℕ) (old new : Now) (job : SeenJob) (stands : slic
                   let r = k.waits.met.rival in
                   let one : j ≡ r.place = given_once s words old.marks old.journal old.jobs told j r.place tx rival active r.active here in
                   let its : tx ≡ rival = active_same old.jobs r.place tx rival (subst (λ n. IsActiveAt old.jobs n tx) one active) r.active in
-                  let runs : tx.phase ≡ Running = ap (λ (x : SeenTx). x.phase) its ∙ new_mark.0 in
+                  let runs : tx.phase ≡ Running = ap (λ (x : TxView). x.phase) its ∙ new_mark.0 in
                   let why : cause_of_phase (marks_behind tx.number) tx.phase ≡ Some (revoked its_mark) =
                   ap (λ m. cause_of_phase m tx.phase) (is ∙ new_mark.1) ∙ ap (cause_of_phase (Some its_mark)) runs in
                   subst (IsGrounded (scene_of s.tells log before) (length log) (part_at marks_behind j tx)) (sym why) (marked_grounded j tx one its)
@@ -467,14 +474,14 @@ module _ (s : Setting) (at : ℕ) (old new : Now) (job : SeenJob) (stands : slic
 
   -- ---- an active one enters
   module _ (k : Enters at old job new)
-      (played : IsTrue s.tells → (tx : SeenTx) → IsActiveAt old.jobs at tx → IsPlayedSoFar s words led at tx) where
+      (played : IsTrue s.tells → (tx : TxView) → IsActiveAt old.jobs at tx → IsPlayedSoFar s words led at tx) where
     abbrev entry : Entry
     entry = entry_of k.tx at k.outcome
 
     abbrev led_on : Progress
     led_on = after_entry s.script led entry
 
-    abbrev jobs_on : List SeenJob
+    abbrev jobs_on : List JobView
     jobs_on = slice_set old.jobs at k.behind ++ k.more
 
     abbrev behind_entry : List (Option Part)
@@ -485,13 +492,13 @@ module _ (s : Setting) (at : ℕ) (old new : Now) (job : SeenJob) (stands : slic
         part_read s words (unmarked old.marks k.tx.number) led_on.jobs jobs_on at k.behind None
         (get_front (slice_set old.jobs at k.behind) k.more at k.behind (get_set_same old.jobs at job k.behind stands)) k.after
 
-    was_active : (j : ℕ) (tx : SeenTx) → j ≢ at → IsActiveAt jobs_on j tx → IsActiveAt old.jobs j tx
+    was_active : (j : ℕ) (tx : TxView) → j ≢ at → IsActiveAt jobs_on j tx → IsActiveAt old.jobs j tx
     was_active j tx away active = active_before old.jobs at j k.behind tx away (grown_active (slice_set old.jobs at k.behind) k.more k.idle j tx active)
 
     elsewhere : (j : ℕ) → j ≢ at → get_or behind_entry j None ≡ get_or before j None
     elsewhere j away = by_cases (slice_get_cases old.jobs j).1
       where
-        by_cases : ((x : SeenJob) × (j < length old.jobs) × (slice_get old.jobs j ≡ Some x) × (get_or old.jobs j x ≡ x))
+        by_cases : ((x : JobView) × (j < length old.jobs) × (slice_get old.jobs j ≡ Some x) × (get_or old.jobs j x ≡ x))
             ⊎ ((length old.jobs ≤ j) × (slice_get old.jobs j ≡ None))
             → get_or behind_entry j None ≡ get_or before j None
         by_cases (inl there) =
@@ -509,7 +516,7 @@ module _ (s : Setting) (at : ℕ) (old new : Now) (job : SeenJob) (stands : slic
             ∙ sym (none_or (get_or before j None)
             (λ a got. let (tx, active, is) = part_there s words old.marks led.jobs old.jobs j a got in not_there tx active))
           where
-            not_there : (tx : SeenTx) → IsActiveAt old.jobs j tx → ⊥
+            not_there : (tx : TxView) → IsActiveAt old.jobs j tx → ⊥
             not_there tx (x, there, has) = let none = past.1 in cc (none, there)
 
     -- where the host tells, the entry wants what the transaction did
@@ -550,18 +557,18 @@ module _ (s : Setting) (at : ℕ) (old new : Now) (job : SeenJob) (stands : slic
         (sym (progress-more s.script old.journal entry)) entry_grounded)
 
 -- ---- each kind of turn
-restated : (s : Setting) (words words' : ℕ) (marks marks' : ℕ → Option Mark) (journal journal' : List Entry) (jobs jobs' : List SeenJob)
+restated : (s : Setting) (words words' : ℕ) (marks marks' : ℕ → Option Mark) (journal journal' : List Entry) (jobs jobs' : List JobView)
     → words' ≡ words → marks' ≡ marks → journal' ≡ journal → jobs' ≡ jobs
     → AreAllGrounded s words marks journal jobs → AreAllGrounded s words' marks' journal' jobs'
 restated s words words' marks marks' journal journal' jobs jobs' e m f g all =
     subst (λ (n : ℕ). AreAllGrounded s n marks' journal' jobs') (sym e)
     (subst (λ (ms : ℕ → Option Mark). AreAllGrounded s words ms journal' jobs') (sym m)
     (subst (λ (es : List Entry). AreAllGrounded s words marks es jobs') (sym f)
-    (subst (λ (js : List SeenJob). AreAllGrounded s words marks journal js) (sym g) all)))
+    (subst (λ (js : List JobView). AreAllGrounded s words marks journal js) (sym g) all)))
 
-kind_grounded : (s : Setting) (at : ℕ) (old new : Now) (job : SeenJob) → slice_get old.jobs at ≡ Some job
-    → (IsTrue s.tells → (tx : SeenTx) → IsActiveAt old.jobs at tx → IsPlayedSoFar s (length old.words) (progress_of s.script old.journal) at tx)
-    → AreTold s (length old.words) old.marks old.journal old.jobs → Kind s at old job new
+kind_grounded : (s : Setting) (at : ℕ) (old new : Moment) (job : JobView) → slice_get old.jobs at ≡ Some job
+    → (IsTrue s.tells → (tx : TxView) → IsActiveAt old.jobs at tx → IsPlayedSoFar s (length old.words) (progress_of s.script old.journal) at tx)
+    → StoriesHold s (length old.words) old.marks old.journal old.jobs → Kind s at old job new
     → AreAllGrounded s (length new.words) new.marks new.journal new.jobs
 kind_grounded s at old new job stands played told (rests k) =
     restated s _ _ _ _ _ _ _ _ k.sets.words k.marks k.journal k.sets.jobs (rests_grounded s at old new job stands told k)
@@ -570,15 +577,15 @@ kind_grounded s at old new job stands played told (begins k) =
 kind_grounded s at old new job stands played told (moves k) =
     restated s _ _ _ _ _ _ _ _ k.sets.words k.marks k.journal k.sets.jobs (moves_grounded s at old new job stands told k)
 kind_grounded s at old new job stands played told (stays k) =
-    restated s _ _ _ _ _ _ _ _ k.sets.words (ap (λ (n : Now). n.marks) k.waits.behind) k.journal k.sets.jobs
+    restated s _ _ _ _ _ _ _ _ k.sets.words (ap (λ (n : Moment). n.marks) k.waits.behind) k.journal k.sets.jobs
     (stays_grounded s at old new job stands told k)
 kind_grounded s at old new job stands played told (enters k) =
     restated s _ _ _ _ _ _ _ _ k.words k.marks k.journal k.jobs (enters_grounded s at old new job stands told k played)
 
--- behind a turn each conflict names a holder, and each revocation an older transaction
-pub grounds_kept : (s : Setting) (at : ℕ) (old new : Now) (answer : Turn) → IsTurn s at old answer new
-    → (IsTrue s.tells → (tx : SeenTx) → IsActiveAt old.jobs at tx → IsPlayedSoFar s (length old.words) (progress_of s.script old.journal) at tx)
-    → AreTold s (length old.words) old.marks old.journal old.jobs
+-- after a turn each conflict names a holder, and each revocation an older transaction
+pub grounds_kept : (s : Setting) (at : ℕ) (old new : Moment) (answer : Turn) → IsTurn s at old answer new
+    → (IsTrue s.tells → (tx : TxView) → IsActiveAt old.jobs at tx → IsPlayedSoFar s (length old.words) (progress_of s.script old.journal) at tx)
+    → StoriesHold s (length old.words) old.marks old.journal old.jobs
     → AreGrounded (scene_at (reading s (length new.words) new.marks) new.journal new.jobs)
 grounds_kept s at old new answer t played told =
-    kind_grounded s at old new t.job t.stands played told (kind_of s at old new answer t)
+    kind_grounded s at old new t.job t.there played told (kind_of s at old new answer t)

@@ -1,4 +1,4 @@
--- What is held behind more claims: nothing twice, nothing weaker, and nothing but what was held or claimed.
+-- What is held after more claims: nothing twice, nothing weaker, and nothing but what was held or claimed.
 use Rattle.std.proofs.Common.{◌≡◌, ◌+◌, ◌≤◌, ◌||◌, inl, inr, Bool, true, false, cond, List, [], ◌∷◌, ◌++◌, refl, ap, ap₂, sym, ◌∙◌, subst, arith}
 use Rattle.std.specs.Prelude.{All, Contains, map, count_by, if◌then◌else◌}
 use Rattle.std.proofs.lemmas.Bool.{or_parts}
@@ -12,7 +12,7 @@ use Rattle.xc_data.specs.declared.claim.Claim.{Claim}
 use Rattle.xc_data.specs.Claims.{is_object, objects, compatible, stronger, merged, holding_one, holding, AreOnceAtMost}
 use Rattle.xc_world.proofs.Bodies.{objects_append}
 use Rattle.xc_world.proofs.Holding.{has}
-use Rattle.xc_world.proofs.Objects.{same_object}
+use Rattle.xc_data.proofs.Objects.{same_object}
 use Rattle.xc_turns.proofs.Lists.{contains_first, contains_later, contains_cons, contains_map}
 
 -- ---- modes
@@ -81,7 +81,7 @@ covered_both a b c f g = record { each = each }
         let more = g.each one.0 one.1 in
         (more.0, more.1, covered_then x one.0 more.0 one.2 more.2)
 
--- behind more claims nothing that is held is weaker
+-- after more claims nothing that is held is weaker
 pub covered_all : (held claims : List Claim) → AreCovered held (holding held claims)
 covered_all held [] = covered_same held held refl
 covered_all held (new ∷ claims) =
@@ -117,7 +117,7 @@ covered_new held new = by_test (has (objects held) new.object) refl
     by_test true e = new_among new held e
     by_test false e = (new, Contains-append_right held (new ∷ []) new (contains_first new []), covered_itself new)
 
--- behind more claims each of them is held
+-- after more claims each of them is held
 pub claims_covered : (held claims : List Claim) → AreCovered claims (holding held claims)
 claims_covered held claims = record { each = each held claims }
   where
@@ -173,7 +173,7 @@ goes_one others held new all goes = by_test (has (objects held) new.object)
         (All-weaker (GoesWith others) (λ h. GoesWith others (merged new h)) (goes_merged others new goes) held all)
     by_test false = All-append (GoesWith others) held (new ∷ []) all (All-cons (GoesWith others) new [] goes (All-nil (GoesWith others)))
 
--- what goes together with all that was held and all that is claimed goes together with what is held behind that
+-- what goes together with all that was held and all that is claimed goes together with what is held after that
 pub goes_all : (others held claims : List Claim) → All (GoesWith others) held → All (GoesWith others) claims → All (GoesWith others) (holding held claims)
 goes_all others held [] all goes = all
 goes_all others held (c ∷ claims) all goes =
@@ -210,7 +210,7 @@ once_one held new once = by_test (has (objects held) new.object) refl
     by_test true e = subst AreOnceAtMost (sym (objects_merged new held)) once
     by_test false e = subst AreOnceAtMost (sym (objects_append held (new ∷ []))) (once_more (objects held) new.object e once)
 
--- behind more claims each object is held once, where it was before
+-- after more claims each object is held once, where it was before
 pub once_all : (held claims : List Claim) → AreOnceAtMost (objects held) → AreOnceAtMost (objects (holding held claims))
 once_all held [] once = once
 once_all held (c ∷ claims) once = once_all (holding_one held c) claims (once_one held c once)

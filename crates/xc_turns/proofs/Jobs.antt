@@ -6,30 +6,32 @@ use Rattle.std.specs.declared.option.Option.TheVariants.{None, Some}
 use Rattle.xc_data.specs.declared.entry.Cause.{Cause}
 use Rattle.xc_data.specs.declared.entry.Cause.TheVariants as cause
 use Rattle.xc_text.specs.declared.script.Script.{Script}
-use Rattle.xc_story.specs.Seen.{SeenTx, SeenJob, active_of, actives}
-use Rattle.xc_story.specs.Rows.{IsActiveAt, behind_abort}
-use Rattle.xc_story.specs.Opened.{opened_job}
-use Rattle.xc_turns.proofs.Lists.{contains_picked, get_set_same, get_set_other, not_both}
+use Rattle.xc_model.specs.Moment.{TxView, JobView, active_of, actives}
+use Rattle.xc_model.specs.Movers.{IsActiveAt}
+use Rattle.xc_model.specs.Entering.{behind_abort}
+use Rattle.xc_model.specs.Opened.{opened_job}
+use Rattle.xc_turns.proofs.Lists.{contains_picked, not_both}
+use Rattle.xc_data.proofs.Lists.{get_set_same, get_set_other}
 
 -- ---- one place of the jobs is set
-module _ (jobs : List SeenJob) (at : ℕ) (job : SeenJob) (stands : slice_get jobs at ≡ Some job) where
+module _ (jobs : List JobView) (at : ℕ) (job : JobView) (stands : slice_get jobs at ≡ Some job) where
   -- the active transaction there is the job's
-  pub active_was : (t : SeenTx) → IsActiveAt jobs at t → active_of job ≡ Some t
+  pub active_was : (t : TxView) → IsActiveAt jobs at t → active_of job ≡ Some t
   active_was t a = let there = a.1 in let same : job ≡ a.0 = cc (stands, there) in ap active_of same ∙ a.2
 
   -- and then the other job's
-  pub active_is : (job' : SeenJob) (t : SeenTx) → IsActiveAt (slice_set jobs at job') at t → active_of job' ≡ Some t
+  pub active_is : (job' : JobView) (t : TxView) → IsActiveAt (slice_set jobs at job') at t → active_of job' ≡ Some t
   active_is job' t a =
       let there = a.1 in
       let here = get_set_same jobs at job job' stands in
       let same : job' ≡ a.0 = cc (here, there) in ap active_of same ∙ a.2
 
   -- the other job's is active there
-  pub active_here : (job' : SeenJob) (t : SeenTx) → active_of job' ≡ Some t → IsActiveAt (slice_set jobs at job') at t
+  pub active_here : (job' : JobView) (t : TxView) → active_of job' ≡ Some t → IsActiveAt (slice_set jobs at job') at t
   active_here job' t is = (job', get_set_same jobs at job job' stands, is)
 
 -- in one place there is one
-pub active_same : (jobs : List SeenJob) (j : ℕ) (t u : SeenTx) → IsActiveAt jobs j t → IsActiveAt jobs j u → t ≡ u
+pub active_same : (jobs : List JobView) (j : ℕ) (t u : TxView) → IsActiveAt jobs j t → IsActiveAt jobs j u → t ≡ u
 active_same jobs j t u a b =
     let there = a.1 in
     let here = b.1 in
@@ -38,39 +40,39 @@ active_same jobs j t u a b =
     cc both
 
 -- elsewhere those that are active were so
-pub active_before : (jobs : List SeenJob) (at j : ℕ) (job' : SeenJob) (t : SeenTx) → j ≢ at → IsActiveAt (slice_set jobs at job') j t → IsActiveAt jobs j t
+pub active_before : (jobs : List JobView) (at j : ℕ) (job' : JobView) (t : TxView) → j ≢ at → IsActiveAt (slice_set jobs at job') j t → IsActiveAt jobs j t
 active_before jobs at j job' t ne a = (a.0, sym (get_set_other jobs at j job' ne) ∙ a.1, a.2)
 
 -- and those that were still are
-pub active_after : (jobs : List SeenJob) (at j : ℕ) (job' : SeenJob) (t : SeenTx) → j ≢ at → IsActiveAt jobs j t → IsActiveAt (slice_set jobs at job') j t
+pub active_after : (jobs : List JobView) (at j : ℕ) (job' : JobView) (t : TxView) → j ≢ at → IsActiveAt jobs j t → IsActiveAt (slice_set jobs at job') j t
 active_after jobs at j job' t ne a = (a.0, get_set_other jobs at j job' ne ∙ a.1, a.2)
 
 -- ---- all active ones
 -- an active one is among them
-pub active_listed : (jobs : List SeenJob) (j : ℕ) (t : SeenTx) → IsActiveAt jobs j t → Contains (actives jobs) t
+pub active_listed : (jobs : List JobView) (j : ℕ) (t : TxView) → IsActiveAt jobs j t → Contains (actives jobs) t
 active_listed jobs j t (job, there, has) = contains_picked active_of jobs j job t there has
 
-none_first : (o : Option SeenTx) (rest : List SeenTx) → ((tx : SeenTx) → o ≡ Some tx → ⊥) → cons_option o rest ≡ rest
+none_first : (o : Option TxView) (rest : List TxView) → ((tx : TxView) → o ≡ Some tx → ⊥) → cons_option o rest ≡ rest
 none_first None rest none = refl
 none_first (Some tx) rest none = absurd (none tx refl)
 
 -- where no job has an active one there is none
-pub none_active : (jobs : List SeenJob) → ((j : ℕ) (tx : SeenTx) → IsActiveAt jobs j tx → ⊥) → actives jobs ≡ []
+pub none_active : (jobs : List JobView) → ((j : ℕ) (tx : TxView) → IsActiveAt jobs j tx → ⊥) → actives jobs ≡ []
 none_active [] none = refl
 none_active (job ∷ jobs) none =
     none_first (active_of job) (actives jobs) (λ tx e. none 0 tx (job, refl, e))
     ∙ none_active jobs (λ j tx (there, at, has). none (suc j) tx (there, at, has))
 
 -- no job of a script has one before its first turn
-pub opened_rests : (script : Script) (names : List (List ℕ)) (j : ℕ) (tx : SeenTx) → IsActiveAt (map (opened_job script) names) j tx → ⊥
+pub opened_rests : (script : Script) (names : List (List ℕ)) (j : ℕ) (tx : TxView) → IsActiveAt (map (opened_job script) names) j tx → ⊥
 opened_rests script [] j tx (job, there, has) = cc
 opened_rests script (name ∷ names) zero tx (job, there, has) =
     let same : opened_job script name ≡ job = cc in
     not_both (active_of job) tx (ap active_of (sym same)) has
 opened_rests script (name ∷ names) (suc j) tx (job, there, has) = opened_rests script names j tx (job, there, has)
 
--- and none has one behind an abort
-pub behind_abort_none : (job : SeenJob) (tx : SeenTx) (c : Cause) → active_of (behind_abort job tx c) ≡ None
+-- and none has one after an abort
+pub behind_abort_none : (job : JobView) (tx : TxView) (c : Cause) → active_of (behind_abort job tx c) ≡ None
 behind_abort_none job tx cause.Asked = refl
 behind_abort_none job tx cause.NoMemory = refl
 behind_abort_none job tx (cause.Conflict object holder at) = refl

@@ -21,7 +21,7 @@ use Rattle.xc_world.specs.Act.Step.{Stepped, step_to}
 use Rattle.xc_world.specs.Late.{kept_call}
 use Rattle.xc_data.specs.Calls.{is_late, late_call, sync_of, write_pipe_of, shutdown_of, send_of, is_kept, thread_asked, thread_in}
 use Rattle.xc_script.specs.Slots.{kept_of}
-use Rattle.xc_story.specs.Rows.{IsReplyInTime}
+use Rattle.xc_model.specs.PlainSteps.{IsReplyInTime}
 
 -- ---- one late call for each, which starts the same block
 sync_one : (p : Place) → not (is_file p) ≡ false → map thread_in (sync_of p) ≡ None ∷ []

@@ -8,12 +8,13 @@ use Rattle.xc_data.specs.declared.call.LateCall.TheVariants.{Thread}
 use Rattle.xc_data.specs.declared.call.LateEnd.{LateEnd}
 use Rattle.xc_data.specs.declared.call.LateEnd.TheVariants as end
 use Rattle.xc_text.specs.declared.script.Script.{Script}
-use Rattle.xc_story.specs.Setting.{Setting}
-use Rattle.xc_story.specs.Seen.{SeenTx, SeenJob, Now}
-use Rattle.xc_story.specs.Rows.{EndsLate, IsStart, NextLate, Starts, with_tx, mover}
+use Rattle.xc_model.specs.Setting.{Setting}
+use Rattle.xc_model.specs.Moment.{TxView, JobView, Moment}
+use Rattle.xc_model.specs.CommittingRows.{EndsLate, IsStart, NextLate, Starts}
+use Rattle.xc_model.specs.Movers.{with_tx, mover}
 
 -- it has one end more, and nothing else changes but what the host tells and counts, and which jobs are started
-pub record Ends (at : ℕ) (old : Now) (job : SeenJob) (tx : SeenTx) (new : Now) : Type 0 where
+pub record Ends (at : ℕ) (old : Moment) (job : JobView) (tx : TxView) (new : Moment) : Type 0 where
   pub end : LateEnd
   pub jobs : new.jobs ≡ slice_set old.jobs at (with_tx job job.place (record tx { ends = tx.ends ++ end ∷ [] }))
   pub words : new.words ≡ old.words
@@ -32,15 +33,15 @@ start_faults script was block (end.Fault k) is n m same h = absurd h
 start_faults script was block end.Shut is n m same h = absurd h
 start_faults script was block end.NoName is n m same h = absurd h
 
-module _ (s : Setting) (at : ℕ) (old : Now) (job : SeenJob) (tx : SeenTx) (new : Now) where
+module _ (s : Setting) (at : ℕ) (old : Moment) (job : JobView) (tx : TxView) (new : Moment) where
   host_ends : (call : LateCall) → EndsLate (mover s at old job) tx call new → Ends at old job tx new
   host_ends call row =
       record {
         end = row.end;
-        jobs = ap (λ (n : Now). n.jobs) row.behind;
-        words = ap (λ (n : Now). n.words) row.behind;
-        journal = ap (λ (n : Now). n.journal) row.behind;
-        marks = ap (λ (n : Now). n.marks) row.behind;
+        jobs = ap (λ (n : Moment). n.jobs) row.behind;
+        words = ap (λ (n : Moment). n.words) row.behind;
+        journal = ap (λ (n : Moment). n.journal) row.behind;
+        marks = ap (λ (n : Moment). n.marks) row.behind;
         cause = row.cause;
       }
 
@@ -48,11 +49,11 @@ module _ (s : Setting) (at : ℕ) (old : Now) (job : SeenJob) (tx : SeenTx) (new
   start_ends block row =
       record {
         end = row.end;
-        jobs = ap (λ (n : Now). n.jobs) row.behind;
-        words = ap (λ (n : Now). n.words) row.behind;
-        journal = ap (λ (n : Now). n.journal) row.behind;
-        marks = ap (λ (n : Now). n.marks) row.behind;
-        cause = start_faults s.script old.started block row.end new.started old.faults new.faults (ap (λ (n : Now). n.faults) row.behind) row.starts;
+        jobs = ap (λ (n : Moment). n.jobs) row.behind;
+        words = ap (λ (n : Moment). n.words) row.behind;
+        journal = ap (λ (n : Moment). n.journal) row.behind;
+        marks = ap (λ (n : Moment). n.marks) row.behind;
+        cause = start_faults s.script old.started block row.end new.started old.faults new.faults (ap (λ (n : Moment). n.faults) row.behind) row.starts;
       }
 
   -- by the call

@@ -1,4 +1,4 @@
--- What is left of one job, by what it does, and that it is less behind each kind of turn.
+-- What is left of one job, by what it does, and that it is less after each kind of turn.
 use Rattle.std.proofs.Common.{◌≡◌, ℕ, ◌+◌, ◌*◌, ◌-◌, ◌<◌, ◌≤◌, List, [], ◌∷◌, ◌++◌, length, drop, zero, suc}
 use Rattle.std.proofs.Common.{refl, ap, sym, ◌∙◌, subst, arith, length-append}
 use Rattle.std.proofs.lemmas.List.Sums.{sum_by-cons}
@@ -8,12 +8,12 @@ use Rattle.xc_data.specs.declared.entry.JobEnd.{JobEnd}
 use Rattle.xc_data.specs.declared.private.Private.{Private}
 use Rattle.xc_data.specs.declared.undo.Undo.{Undo}
 use Rattle.xc_text.specs.Stated.{Statement}
-use Rattle.xc_story.specs.declared.phase.Phase.{Phase}
-use Rattle.xc_story.specs.declared.phase.Phase.TheVariants.{Running, Committing, Undoing}
-use Rattle.xc_story.specs.Setting.{Setting}
-use Rattle.xc_story.specs.Seen.{SeenTx, Idle, Active, Starved, Ended, late_left}
-use Rattle.xc_story.specs.Rows.{new_tx}
-use Rattle.xc_story.specs.Measure.{attempt_turns, phase_turns, bodies_turns, doing_turns}
+use Rattle.xc_model.specs.declared.phase.Phase.{Phase}
+use Rattle.xc_model.specs.declared.phase.Phase.TheVariants.{Running, Committing, Undoing}
+use Rattle.xc_model.specs.Setting.{Setting}
+use Rattle.xc_model.specs.Moment.{TxView, Idle, Active, Starved, Ended, late_left}
+use Rattle.xc_model.specs.IdleRows.{new_tx}
+use Rattle.xc_model.specs.Measure.{attempt_turns, phase_turns, bodies_turns, doing_turns}
 
 -- ---- the bodies that are left
 -- the next one
@@ -21,7 +21,7 @@ abbrev pub first_of : List (List Statement) → List Statement
 first_of [] = []
 first_of (body ∷ bodies) = body
 
--- those behind it
+-- those after it
 abbrev pub rest_of : List (List Statement) → List (List Statement)
 rest_of [] = []
 rest_of (body ∷ bodies) = bodies
@@ -32,7 +32,7 @@ rest_past [] (suc n) = refl
 rest_past (body ∷ bodies) zero = refl
 rest_past (body ∷ bodies) (suc n) = rest_past bodies n
 
--- the bodies behind the next one
+-- the bodies after the next one
 pub rest_there : (bodies : List (List Statement)) (n : ℕ) → drop (n + 1) bodies ≡ rest_of (drop n bodies)
 rest_there bodies n = ap (λ k. drop k bodies) (let h : n + 1 ≡ suc n = omega arith in h) ∙ rest_past bodies n
 
@@ -50,7 +50,7 @@ some_there (body ∷ bodies) zero some e = cc
 some_there (body ∷ bodies) (suc n) some e = some_there bodies n some e
 
 -- ---- what is left of a job, by what it does
-two_left : (n at : ℕ) (tx : SeenTx) (p : Phase) → 2 ≤ phase_turns n at tx p
+two_left : (n at : ℕ) (tx : TxView) (p : Phase) → 2 ≤ phase_turns n at tx p
 two_left n at tx Running = omega arith
 two_left n at tx Committing = omega arith
 two_left n at tx (Undoing c) = omega arith
@@ -85,7 +85,7 @@ idle_some s failed at [] = omega arith
 idle_some s failed at (body ∷ bodies) = omega arith
 
 -- of one with an active transaction more
-pub active_some : (s : Setting) (failed at : ℕ) (bodies : List (List Statement)) (tx : SeenTx)
+pub active_some : (s : Setting) (failed at : ℕ) (bodies : List (List Statement)) (tx : TxView)
     → (s.rules.patience - 0) + 1 < doing_turns s failed at bodies (Active tx)
 active_some s failed at [] tx = omega (arith, two_left 0 at tx tx.phase)
 active_some s failed at (body ∷ bodies) tx = omega (arith, two_left (length body) at tx tx.phase)
@@ -99,24 +99,24 @@ begun_falls s failed at [] number rank began me few some = absurd (some refl)
 begun_falls s failed at (body ∷ bodies) number rank began me few some = omega (arith, one_more s.rules.attempts failed (attempt_turns s body) few)
 
 -- the transaction is passed
-pub passed_falls : (s : Setting) (failed at : ℕ) (bodies : List (List Statement)) (tx : SeenTx)
+pub passed_falls : (s : Setting) (failed at : ℕ) (bodies : List (List Statement)) (tx : TxView)
     → (s.rules.patience - 0) + doing_turns s 0 0 (rest_of bodies) Idle < doing_turns s failed at bodies (Active tx)
 passed_falls s failed at [] tx = omega (arith, two_left 0 at tx tx.phase)
 passed_falls s failed at (body ∷ bodies) tx = omega (arith, idle_is s 0 bodies, two_left (length body) at tx tx.phase)
 
 -- it is tried again
-pub again_falls : (s : Setting) (failed at : ℕ) (bodies : List (List Statement)) (tx : SeenTx)
+pub again_falls : (s : Setting) (failed at : ℕ) (bodies : List (List Statement)) (tx : TxView)
     → (s.rules.patience - 0) + doing_turns s (failed + 1) 0 bodies Idle < doing_turns s failed at bodies (Active tx)
 again_falls s failed at [] tx = omega (arith, two_left 0 at tx tx.phase)
 again_falls s failed at (body ∷ bodies) tx = omega (arith, two_left (length body) at tx tx.phase)
 
-stays_below : (n at later : ℕ) (tx : SeenTx) (p : Phase) → p ≡ Running → at ≤ later → phase_turns n later tx p ≤ phase_turns n at tx p
+stays_below : (n at later : ℕ) (tx : TxView) (p : Phase) → p ≡ Running → at ≤ later → phase_turns n later tx p ≤ phase_turns n at tx p
 stays_below n at later tx Running runs after = omega arith
 stays_below n at later tx Committing runs after = cc
 stays_below n at later tx (Undoing c) runs after = cc
 
 -- it goes on
-pub on_falls : (s : Setting) (failed at later : ℕ) (bodies : List (List Statement)) (tx next : SeenTx)
+pub on_falls : (s : Setting) (failed at later : ℕ) (bodies : List (List Statement)) (tx next : TxView)
     → ((n : ℕ) → n ≡ length (first_of bodies)
     → phase_turns n later next next.phase < phase_turns n at tx tx.phase)
     → doing_turns s failed later bodies (Active next) < doing_turns s failed at bodies (Active tx)
@@ -124,14 +124,14 @@ on_falls s failed at later [] tx next falls = omega (arith, falls 0 refl)
 on_falls s failed at later (body ∷ bodies) tx next falls = omega (arith, falls (length body) refl)
 
 -- it passes silent statements at most
-pub on_stays : (s : Setting) (failed at later : ℕ) (bodies : List (List Statement)) (tx : SeenTx) → tx.phase ≡ Running → at ≤ later
+pub on_stays : (s : Setting) (failed at later : ℕ) (bodies : List (List Statement)) (tx : TxView) → tx.phase ≡ Running → at ≤ later
     → doing_turns s failed later bodies (Active tx) ≤ doing_turns s failed at bodies (Active tx)
 on_stays s failed at later [] tx runs after = let less = stays_below 0 at later tx tx.phase runs after in omega arith
 on_stays s failed at later (body ∷ bodies) tx runs after = let less = stays_below (length body) at later tx tx.phase runs after in omega arith
 
 -- ---- an active transaction
 -- with one record and one late call more at most
-pub called_less : (n at later : ℕ) (tx next : SeenTx) → tx.phase ≡ Running → next.phase ≡ tx.phase → at < later → at < n
+pub called_less : (n at later : ℕ) (tx next : TxView) → tx.phase ≡ Running → next.phase ≡ tx.phase → at < later → at < n
     → length next.undo.pending ≤ length tx.undo.pending + 1 → length (late_left next) ≤ length (late_left tx) + 1
     → phase_turns n later next next.phase < phase_turns n at tx tx.phase
 called_less n at later tx next runs same nearer within records kept =
@@ -139,7 +139,7 @@ called_less n at later tx next runs same nearer within records kept =
     (subst (λ q. phase_turns n later next Running < phase_turns n at tx q) (sym runs) (omega arith))
 
 -- it leaves its running
-pub turned_less : (n at later : ℕ) (tx next : SeenTx) (p q : Phase) → p ≡ Running → (q ≡ Running → ⊥)
+pub turned_less : (n at later : ℕ) (tx next : TxView) (p q : Phase) → p ≡ Running → (q ≡ Running → ⊥)
     → length next.undo.pending ≡ length tx.undo.pending → length (late_left next) ≡ length (late_left tx)
     → phase_turns n later next q < phase_turns n at tx p
 turned_less n at later tx next p Running runs other records kept = absurd (other refl)
@@ -148,17 +148,17 @@ turned_less n at later tx next p Committing runs other records kept =
 turned_less n at later tx next p (Undoing c) runs other records kept =
     subst (λ r. length next.undo.pending + 2 < phase_turns n at tx r) (sym runs) (omega arith)
 
--- it does for want of memory, with so many records more
-pub wanting_less : (n at left : ℕ) (tx : SeenTx) (p : Phase) → p ≡ Running → left ≤ n - at → length tx.undo.pending + left + 2 < phase_turns n at tx p
+-- it does for lack of memory, with so many records more
+pub wanting_less : (n at left : ℕ) (tx : TxView) (p : Phase) → p ≡ Running → left ≤ n - at → length tx.undo.pending + left + 2 < phase_turns n at tx p
 wanting_less n at left tx p runs before = subst (λ q. length tx.undo.pending + left + 2 < phase_turns n at tx q) (sym runs) (omega arith)
 
 -- a late call is done
-pub late_less : (n at : ℕ) (tx next : SeenTx) (p : Phase) → p ≡ Committing → length (late_left next) < length (late_left tx)
+pub late_less : (n at : ℕ) (tx next : TxView) (p : Phase) → p ≡ Committing → length (late_left next) < length (late_left tx)
     → phase_turns n at next p < phase_turns n at tx p
 late_less n at tx next p commits less = subst (λ q. phase_turns n at next q < phase_turns n at tx q) (sym commits) (omega arith)
 
 -- one of its records is tried
-pub tried_less : (n at : ℕ) (c : Cause) (tx next : SeenTx) (u : Undo) (p : Phase) → p ≡ Undoing c → tx.undo.pending ≡ next.undo.pending ++ u ∷ []
+pub tried_less : (n at : ℕ) (c : Cause) (tx next : TxView) (u : Undo) (p : Phase) → p ≡ Undoing c → tx.undo.pending ≡ next.undo.pending ++ u ∷ []
     → phase_turns n at next p < phase_turns n at tx p
 tried_less n at c tx next u p undoes same =
     let count : length tx.undo.pending ≡ length next.undo.pending + 1 = ap length same ∙ length-append next.undo.pending (u ∷ []) in

@@ -25,15 +25,24 @@ use Rattle.xc_script.specs.Position.{Position}
 use Rattle.xc_world.specs.Late.{kept_call}
 use Rattle.xc_host.specs.Contents.{Contents}
 use Rattle.xc_data.specs.declared.entry.Mark.{Mark}
-use Rattle.xc_story.specs.declared.phase.Phase.{Phase}
-use Rattle.xc_story.specs.declared.phase.Phase.TheVariants.{Running, Committing, Undoing}
-use Rattle.xc_story.specs.Setting.{Setting}
-use Rattle.xc_story.specs.Seen.{SeenTx, SeenJob, Doing, Idle, Active, Starved, Ended, Now, failures, begun_count, late_left, rank_of, entering}
-use Rattle.xc_story.specs.Seen.{revoked, waiting}
-use Rattle.xc_story.specs.Rows.{IsTurn, TurnOf, IdleTurn, ActiveTurn, MarkedTurn, RunningTurn, AskedTurn, CommittingTurn, UndoingTurn, BackTurn, StarvedTurn}
-use Rattle.xc_story.specs.Rows.{Calls, HoldsWanting, IsSameBegin, LateTurn, asked_at, body_at}
-use Rattle.xc_story.specs.Rows.{IsSamePosition, entry_of, noting, wanting, claims_at, with_tx, beginning_job, behind_commit, behind_abort}
-use Rattle.xc_story.specs.Measure.{attempt_turns, bodies_turns, phase_turns, doing_turns, job_turns, most_turns, turns_left}
+use Rattle.xc_model.specs.declared.phase.Phase.{Phase}
+use Rattle.xc_model.specs.declared.phase.Phase.TheVariants.{Running, Committing, Undoing}
+use Rattle.xc_model.specs.Setting.{Setting}
+use Rattle.xc_model.specs.Moment.{TxView, JobView, Doing, Idle, Active, Starved, Ended, Moment, failures, begun_count, late_left, rank_of, entering}
+use Rattle.xc_model.specs.Moment.{revoked, waiting}
+use Rattle.xc_model.specs.Rows.{IsTurn, TurnOf, ActiveTurn, StarvedTurn}
+use Rattle.xc_model.specs.IdleRows.{IdleTurn}
+use Rattle.xc_model.specs.RunningRows.{MarkedTurn, RunningTurn, AskedTurn}
+use Rattle.xc_model.specs.CommittingRows.{CommittingTurn}
+use Rattle.xc_model.specs.UndoingRows.{UndoingTurn, BackTurn}
+use Rattle.xc_model.specs.RunningRows.{Calls, HoldsWanting}
+use Rattle.xc_model.specs.Movers.{IsSameBegin, asked_at, body_at}
+use Rattle.xc_model.specs.CommittingRows.{LateTurn}
+use Rattle.xc_model.specs.Movers.{IsSamePosition, with_tx}
+use Rattle.xc_model.specs.Entering.{entry_of, behind_commit, behind_abort}
+use Rattle.xc_model.specs.PlainSteps.{noting, wanting, claims_at}
+use Rattle.xc_model.specs.IdleRows.{beginning_job}
+use Rattle.xc_model.specs.Measure.{attempt_turns, bodies_turns, phase_turns, doing_turns, job_turns, most_turns, turns_left}
 use Rattle.xc_turns.proofs.Lists.{sum_set_place}
 use Rattle.xc_turns.proofs.LateCounts.{kept_few, left_less, left_more, left_some}
 use Rattle.xc_turns.proofs.LeftParts.{active_some, ended_is, first_of, first_there, idle_some, rest_there, some_there, starved_is}
@@ -43,18 +52,19 @@ use Rattle.std.proofs.lemmas.List.Sums.{sum_by-append, sum_by-cons, sum_by-le}
 use Rattle.std.proofs.lemmas.List.Elements.{All-nil, All-cons}
 use Rattle.std.specs.Prelude.{All}
 use Rattle.xc_text.specs.declared.script.Block.{Block}
-use Rattle.xc_story.specs.LateCalls.{started_late}
-use Rattle.xc_story.specs.Rows.{started_job, started_jobs, Mover, mover}
+use Rattle.xc_model.specs.LateCalls.{started_late}
+use Rattle.xc_model.specs.Entering.{started_job, started_jobs}
+use Rattle.xc_model.specs.Movers.{Mover, mover}
 use Rattle.xc_turns.proofs.LateEnds.{next_ends}
 use Rattle.xc_turns.proofs.LeftParts.{again_falls, begun_falls, called_less, late_less, on_falls, on_stays, passed_falls, tried_less, turned_less, wanting_less}
 
 -- ---- one job of all
-one_falls : (f : SeenJob → ℕ) (jobs : List SeenJob) (at : ℕ) (was is : SeenJob) → slice_get jobs at ≡ Some was → f is < f was
+one_falls : (f : JobView → ℕ) (jobs : List JobView) (at : ℕ) (was is : JobView) → slice_get jobs at ≡ Some was → f is < f was
     → sum_by f (slice_set jobs at is) < sum_by f jobs
 one_falls f jobs at was is e less = let parts = sum_set_place f jobs at was is e in omega arith
 
 -- the turns of those that may still be started
-abbrev still_started : Setting → List SeenJob → ℕ
+abbrev still_started : Setting → List JobView → ℕ
 still_started s jobs = (1000 - length jobs) * most_turns s
 
 sum_less : (a b c d : ℕ) → a < b → c ≡ d → a + c < b + d
@@ -63,7 +73,7 @@ sum_less a b c d less same = omega arith
 sums_less : (all old put more still was much : ℕ) → put < old → all ≡ put + more → more ≤ much → was ≡ still + much → all + still < old + was
 sums_less all old put more still was much less sum few split = omega arith
 
-falls_by : (s : Setting) (at : ℕ) (old new : Now) (was is : SeenJob) → slice_get old.jobs at ≡ Some was → new.jobs ≡ slice_set old.jobs at is
+falls_by : (s : Setting) (at : ℕ) (old new : Moment) (was is : JobView) → slice_get old.jobs at ≡ Some was → new.jobs ≡ slice_set old.jobs at is
     → job_turns s is < job_turns s was → turns_left s new < turns_left s old
 falls_by s at old new was is e same less =
     subst (λ jobs. sum_by (job_turns s) jobs + still_started s jobs < turns_left s old) (sym same)
@@ -71,7 +81,7 @@ falls_by s at old new was is e same less =
     (still_started s old.jobs) (one_falls (job_turns s) old.jobs at was is e less) (ap (λ n. (1000 - n) * most_turns s) (length-set old.jobs at is)))
 
 -- and as many jobs more are live that might have been started
-joins_by : (s : Setting) (at : ℕ) (old new : Now) (was is : SeenJob) (more : List SeenJob) → slice_get old.jobs at ≡ Some was
+joins_by : (s : Setting) (at : ℕ) (old new : Moment) (was is : JobView) (more : List JobView) → slice_get old.jobs at ≡ Some was
     → new.jobs ≡ slice_set old.jobs at is ++ more → length new.jobs ≤ 1000 → All (λ x. job_turns s x ≤ most_turns s) more
     → job_turns s is < job_turns s was → turns_left s new < turns_left s old
 joins_by s at old new was is more e same few small less =
@@ -102,7 +112,7 @@ block_few s [] k = omega arith
 block_few s (b ∷ blocks) zero = omega (arith, sum_by-cons (λ (b : Block). bodies_turns s b.transactions) b blocks)
 block_few s (b ∷ blocks) (suc k) = omega (arith, sum_by-cons (λ (b : Block). bodies_turns s b.transactions) b blocks, block_few s blocks k)
 
-started_few : (s : Setting) (starter : SeenJob) (blocks : List (List ℕ)) → All (λ x. job_turns s x ≤ most_turns s) (map (started_job s.script starter) blocks)
+started_few : (s : Setting) (starter : JobView) (blocks : List (List ℕ)) → All (λ x. job_turns s x ≤ most_turns s) (map (started_job s.script starter) blocks)
 started_few s starter [] = All-nil (λ x. job_turns s x ≤ most_turns s)
 started_few s starter (block ∷ blocks) =
     let mine = started_job s.script starter block in
@@ -115,44 +125,44 @@ abbrev bodies_at : Setting → Position → List (List Statement)
 bodies_at s place = drop place.next (transactions_at s.script place.block)
 
 -- fewer than what is left of what a job does
-below_doing : (s : Setting) (job : SeenJob) (d : Doing) (n : ℕ) → job.doing ≡ d
+below_doing : (s : Setting) (job : JobView) (d : Doing) (n : ℕ) → job.doing ≡ d
     → n < doing_turns s (failures job.attempts) job.place.at (bodies_at s job.place) d → n < job_turns s job
 below_doing s job d n is less =
     let lt = subst (λ e. n < doing_turns s (failures job.attempts) job.place.at (bodies_at s job.place) e) (sym is) less in omega arith
 
 -- the same with the patience that is left
-below_same : (s : Setting) (job : SeenJob) (d : Doing) (n : ℕ) → job.doing ≡ d
+below_same : (s : Setting) (job : JobView) (d : Doing) (n : ℕ) → job.doing ≡ d
     → n < doing_turns s (failures job.attempts) job.place.at (bodies_at s job.place) d → (s.rules.patience - job.busy) + n < job_turns s job
 below_same s job d n is less =
     let lt = subst (λ e. n < doing_turns s (failures job.attempts) job.place.at (bodies_at s job.place) e) (sym is) less in omega arith
 
 -- where it is told to wait less patience is left
-below_waiting : (s : Setting) (job : SeenJob) (d : Doing) (n : ℕ) → job.doing ≡ d → job.busy < s.rules.patience
+below_waiting : (s : Setting) (job : JobView) (d : Doing) (n : ℕ) → job.doing ≡ d → job.busy < s.rules.patience
     → n ≤ doing_turns s (failures job.attempts) job.place.at (bodies_at s job.place) d → (s.rules.patience - (job.busy + 1)) + n < job_turns s job
 below_waiting s job d n is patient less =
     let le = subst (λ e. n ≤ doing_turns s (failures job.attempts) job.place.at (bodies_at s job.place) e) (sym is) less in omega arith
 
 -- ---- an idle job
-idle_falls : (s : Setting) (at : ℕ) (old new : Now) (job : SeenJob) (answer : Turn) → slice_get old.jobs at ≡ Some job → job.doing ≡ Idle
+idle_falls : (s : Setting) (at : ℕ) (old new : Moment) (job : JobView) (answer : Turn) → slice_get old.jobs at ≡ Some job → job.doing ≡ Idle
     → IdleTurn (mover s at old job) answer new → turns_left s new < turns_left s old
 idle_falls s at old new job turn.Went stands is (ready, same) =
-    falls_by s at old new job (beginning_job old job) stands (ap (λ (n : Now). n.jobs) same)
+    falls_by s at old new job (beginning_job old job) stands (ap (λ (n : Moment). n.jobs) same)
     (below_doing s job Idle (job_turns s (beginning_job old job)) is
     (begun_falls s (failures job.attempts) job.place.at (bodies_at s job.place) (begun_count old + 1) (rank_of job.attempts (begun_count old + 1))
     (length old.journal) job.me ready.attempts (some_there (transactions_at s.script job.place.block) job.place.next ready.left)))
 idle_falls s at old new job (turn.Ended end) stands is (ending, same) =
     let bodies = bodies_at s job.place in
-    falls_by s at old new job (record job { doing = Ended end }) stands (ap (λ (n : Now). n.jobs) same)
+    falls_by s at old new job (record job { doing = Ended end }) stands (ap (λ (n : Moment). n.jobs) same)
     (subst (λ n. (s.rules.patience - job.busy) + n < job_turns s job) (sym (ended_is s (failures job.attempts) job.place.at bodies end))
     (below_same s job Idle 0 is (idle_some s (failures job.attempts) job.place.at bodies)))
 idle_falls s at old new job (turn.Busy object number) stands is (waits, same) =
     let now_left = doing_turns s (failures job.attempts) job.place.at (bodies_at s job.place) job.doing in
-    falls_by s at old new job (waiting job) stands (ap (λ (n : Now). n.jobs) same)
+    falls_by s at old new job (waiting job) stands (ap (λ (n : Moment). n.jobs) same)
     (below_waiting s job job.doing now_left refl waits.patient (omega arith))
 idle_falls s at old new job turn.NoMemory stands is h = absurd h
 
 -- ---- a job with an active transaction that goes on
-goes_on : (s : Setting) (at : ℕ) (old new : Now) (job : SeenJob) (place : Position) (tx next : SeenTx) → slice_get old.jobs at ≡ Some job
+goes_on : (s : Setting) (at : ℕ) (old new : Moment) (job : JobView) (place : Position) (tx next : TxView) → slice_get old.jobs at ≡ Some job
     → job.doing ≡ Active tx → new.jobs ≡ slice_set old.jobs at (with_tx job place next) → IsSameBegin job.place place
     → ((n : ℕ) → n ≡ length (first_of (bodies_at s job.place))
     → phase_turns n place.at next next.phase < phase_turns n job.place.at tx tx.phase)
@@ -179,20 +189,20 @@ asked_before s place call e =
     let within : length body ≤ place.at → ⊥ = λ le. let past = commits_past s place (drop_all place.at body le) in cc in
     omega arith
 
-call_falls : (s : Setting) (at : ℕ) (old new : Now) (job : SeenJob) (tx : SeenTx) (call : Call) → slice_get old.jobs at ≡ Some job
+call_falls : (s : Setting) (at : ℕ) (old new : Moment) (job : JobView) (tx : TxView) (call : Call) → slice_get old.jobs at ≡ Some job
     → job.doing ≡ Active tx → tx.phase ≡ Running → asked_at s job.place ≡ ask.Call call → Calls (mover s at old job) tx call new
     → turns_left s new < turns_left s old
 call_falls s at old new job tx call stands is runs asked c =
-    let noted : SeenTx = noting tx call c.reply (claims_at old tx call) c.parts in
+    let noted : TxView = noting tx call c.reply (claims_at old tx call) c.parts in
     let records : length c.parts.undo.pending ≡ length tx.undo.pending + length c.made =
     ap (λ (u : Records). length u.pending) c.undo ∙ length-append tx.undo.pending c.made in
     let one = c.one in
-    goes_on s at old new job c.place tx noted stands is (ap (λ (n : Now). n.jobs) c.behind) c.begin
+    goes_on s at old new job c.place tx noted stands is (ap (λ (n : Moment). n.jobs) c.behind) c.begin
     (λ n e. called_less n job.place.at c.place.at tx noted runs refl c.nearer (omega (arith, asked_before s job.place call asked)) (omega arith)
     (left_more tx.late (kept_call call tx.me c.reply) (length tx.ends) (kept_few (world_of old.contents) tx.me tx.number call c.reply c.in_time)))
 
 -- ---- a transaction that leaves its running
-turn_falls : (s : Setting) (at : ℕ) (old new : Now) (job : SeenJob) (place : Position) (tx next : SeenTx) → slice_get old.jobs at ≡ Some job
+turn_falls : (s : Setting) (at : ℕ) (old new : Moment) (job : JobView) (place : Position) (tx next : TxView) → slice_get old.jobs at ≡ Some job
     → job.doing ≡ Active tx → tx.phase ≡ Running → new.jobs ≡ slice_set old.jobs at (with_tx job place next) → IsSamePosition s job.place place
     → (next.phase ≡ Running → ⊥) → length next.undo.pending ≡ length tx.undo.pending → length (late_left next) ≡ length (late_left tx)
     → turns_left s new < turns_left s old
@@ -200,32 +210,32 @@ turn_falls s at old new job place tx next stands is runs jobs same other records
     goes_on s at old new job place tx next stands is jobs same.begin
     (λ n e. turned_less n job.place.at place.at tx next tx.phase next.phase runs other records kept)
 
-ask_falls : (s : Setting) (at : ℕ) (old new : Now) (job : SeenJob) (tx : SeenTx) (a : Ask) → slice_get old.jobs at ≡ Some job → job.doing ≡ Active tx
+ask_falls : (s : Setting) (at : ℕ) (old new : Moment) (job : JobView) (tx : TxView) (a : Ask) → slice_get old.jobs at ≡ Some job → job.doing ≡ Active tx
     → tx.phase ≡ Running → asked_at s job.place ≡ a → AskedTurn (mover s at old job) tx a new → turns_left s new < turns_left s old
 ask_falls s at old new job tx (ask.Call call) stands is runs asked (inl c) = call_falls s at old new job tx call stands is runs asked c
 ask_falls s at old new job tx (ask.Call call) stands is runs asked (inr c) =
     turn_falls s at old new job c.place tx (record tx { phase = Undoing (cause.Conflict c.object c.holder (length old.journal)) }) stands is runs
-    (ap (λ (n : Now). n.jobs) c.behind) c.same (λ e. cc) refl refl
+    (ap (λ (n : Moment). n.jobs) c.behind) c.same (λ e. cc) refl refl
 ask_falls s at old new job tx ask.Commit stands is runs asked c =
-    turn_falls s at old new job c.place tx (record tx { phase = Committing }) stands is runs (ap (λ (n : Now). n.jobs) c.behind) c.same (λ e. cc) refl refl
+    turn_falls s at old new job c.place tx (record tx { phase = Committing }) stands is runs (ap (λ (n : Moment). n.jobs) c.behind) c.same (λ e. cc) refl refl
 ask_falls s at old new job tx ask.Abort stands is runs asked c =
-    turn_falls s at old new job c.place tx (record tx { phase = Undoing cause.Asked }) stands is runs (ap (λ (n : Now). n.jobs) c.behind) c.same
+    turn_falls s at old new job c.place tx (record tx { phase = Undoing cause.Asked }) stands is runs (ap (λ (n : Moment). n.jobs) c.behind) c.same
     (λ e. cc) refl refl
 ask_falls s at old new job tx ask.End stands is runs asked c = absurd c
 
 -- what left a record is a call, whose statement is still to come
-left_before : (m : Mover) (tx : SeenTx) (a : Ask) (left : List Undo) (held : List Claim) → asked_at m.setting m.job.place ≡ a → length left ≤ 1
+left_before : (m : Mover) (tx : TxView) (a : Ask) (left : List Undo) (held : List Claim) → asked_at m.setting m.job.place ≡ a → length left ≤ 1
     → HoldsWanting m tx a left held → length left ≤ length (first_of (bodies_at m.setting m.job.place)) - m.job.place.at
 left_before m tx (ask.Call call) left held asked one holds = omega (arith, asked_before m.setting m.job.place call asked)
 left_before m tx ask.Commit left held asked one kept = let none = ap length kept.0 in omega arith
 left_before m tx ask.Abort left held asked one kept = let none = ap length kept.0 in omega arith
 left_before m tx ask.End left held asked one kept = let none = ap length kept.0 in omega arith
 
-running_falls : (s : Setting) (at : ℕ) (old new : Now) (job : SeenJob) (tx : SeenTx) (answer : Turn) → slice_get old.jobs at ≡ Some job
+running_falls : (s : Setting) (at : ℕ) (old new : Moment) (job : JobView) (tx : TxView) (answer : Turn) → slice_get old.jobs at ≡ Some job
     → job.doing ≡ Active tx → tx.phase ≡ Running → RunningTurn (mover s at old job) tx answer new → turns_left s new < turns_left s old
 running_falls s at old new job tx turn.Went stands is runs h = ask_falls s at old new job tx (asked_at s job.place) stands is runs refl h
 running_falls s at old new job tx turn.NoMemory stands is runs c =
-    goes_on s at old new job c.place tx (wanting tx c.left c.held) stands is (ap (λ (n : Now). n.jobs) c.behind) c.same.begin
+    goes_on s at old new job c.place tx (wanting tx c.left c.held) stands is (ap (λ (n : Moment). n.jobs) c.behind) c.same.begin
     (λ n e. subst (λ m. m + 2 < phase_turns n job.place.at tx tx.phase) (sym (length-append tx.undo.pending c.left))
     (wanting_less n job.place.at (length c.left) tx tx.phase runs
     (subst (λ m. length c.left ≤ m - job.place.at) (sym e) (left_before (mover s at old job) tx (asked_at s job.place) c.left c.held refl c.one c.holds))))
@@ -233,31 +243,31 @@ running_falls s at old new job tx (turn.Busy object holder) stands is runs w =
     let moved : doing_turns s (failures job.attempts) w.place.at (bodies_at s w.place) (Active tx)
     ≡ doing_turns s (failures job.attempts) w.place.at (bodies_at s job.place) (Active tx) =
     λ i. doing_turns s (failures job.attempts) w.place.at (drop (w.same.begin.next i) (transactions_at s.script (w.same.begin.block i))) (Active tx) in
-    falls_by s at old new job (waiting (with_tx job w.place tx)) stands (ap (λ (n : Now). n.jobs) w.behind)
+    falls_by s at old new job (waiting (with_tx job w.place tx)) stands (ap (λ (n : Moment). n.jobs) w.behind)
     (subst (λ n. (s.rules.patience - (job.busy + 1)) + n < job_turns s job) (sym moved)
     (below_waiting s job (Active tx) (doing_turns s (failures job.attempts) w.place.at (bodies_at s job.place) (Active tx)) is w.patient
     (on_stays s (failures job.attempts) job.place.at w.place.at (bodies_at s job.place) tx runs w.same.at)))
 running_falls s at old new job tx (turn.Ended end) stands is runs h = absurd h
 
 -- a marked one turns back
-marked_falls : (s : Setting) (at : ℕ) (old new : Now) (job : SeenJob) (tx : SeenTx) (m : Option Mark) (answer : Turn) → slice_get old.jobs at ≡ Some job
+marked_falls : (s : Setting) (at : ℕ) (old new : Moment) (job : JobView) (tx : TxView) (m : Option Mark) (answer : Turn) → slice_get old.jobs at ≡ Some job
     → job.doing ≡ Active tx → tx.phase ≡ Running → MarkedTurn (mover s at old job) tx m answer new → turns_left s new < turns_left s old
 marked_falls s at old new job tx None answer stands is runs h = running_falls s at old new job tx answer stands is runs h
 marked_falls s at old new job tx (Some m) turn.Went stands is runs same =
-    turn_falls s at old new job job.place tx (record tx { phase = Undoing (revoked m) }) stands is runs (ap (λ (n : Now). n.jobs) same)
+    turn_falls s at old new job job.place tx (record tx { phase = Undoing (revoked m) }) stands is runs (ap (λ (n : Moment). n.jobs) same)
     (record { begin = record { block = refl; next = refl; begun = refl }; walk = refl; at = omega arith }) (λ e. cc) refl refl
 marked_falls s at old new job tx (Some m) turn.NoMemory stands is runs h = absurd h
 marked_falls s at old new job tx (Some m) (turn.Busy object holder) stands is runs h = absurd h
 marked_falls s at old new job tx (Some m) (turn.Ended end) stands is runs h = absurd h
 
 -- ---- an entry
-enters : (s : Setting) (at : ℕ) (old new : Now) (job next : SeenJob) (tx : SeenTx) (entry : Entry) (contents : Contents) → slice_get old.jobs at ≡ Some job
+enters : (s : Setting) (at : ℕ) (old new : Moment) (job next : JobView) (tx : TxView) (entry : Entry) (contents : Contents) → slice_get old.jobs at ≡ Some job
     → job.doing ≡ Active tx → new ≡ record (entering old at next entry) { contents = contents }
     → job_turns s next < doing_turns s (failures job.attempts) job.place.at (bodies_at s job.place) (Active tx) → turns_left s new < turns_left s old
 enters s at old new job next tx entry contents stands is same less =
-    falls_by s at old new job next stands (ap (λ (n : Now). n.jobs) same) (below_doing s job (Active tx) (job_turns s next) is less)
+    falls_by s at old new job next stands (ap (λ (n : Moment). n.jobs) same) (below_doing s job (Active tx) (job_turns s next) is less)
 
-passes : (s : Setting) (job : SeenJob) (tx : SeenTx)
+passes : (s : Setting) (job : JobView) (tx : TxView)
     → (s.rules.patience - 0) + doing_turns s 0 0 (drop (job.place.next + 1) (transactions_at s.script job.place.block)) Idle
     < doing_turns s (failures job.attempts) job.place.at (bodies_at s job.place) (Active tx)
 passes s job tx =
@@ -265,26 +275,26 @@ passes s job tx =
     (sym (rest_there (transactions_at s.script job.place.block) job.place.next))
     (passed_falls s (failures job.attempts) job.place.at (bodies_at s job.place) tx)
 
-late_falls : (s : Setting) (at : ℕ) (old new : Now) (job : SeenJob) (tx : SeenTx) (calls : List LateCall) → slice_get old.jobs at ≡ Some job
+late_falls : (s : Setting) (at : ℕ) (old new : Moment) (job : JobView) (tx : TxView) (calls : List LateCall) → slice_get old.jobs at ≡ Some job
     → job.doing ≡ Active tx → tx.phase ≡ Committing → late_left tx ≡ calls → LateTurn (mover s at old job) tx calls new → turns_left s new < turns_left s old
 late_falls s at old new job tx [] stands is commits none same =
-    joins_by s at old new job (behind_commit job tx) (started_jobs s.script job tx) stands (ap (λ (n : Now). n.jobs) same.0) same.1
+    joins_by s at old new job (behind_commit job tx) (started_jobs s.script job tx) stands (ap (λ (n : Moment). n.jobs) same.0) same.1
     (started_few s (behind_commit job tx) (started_late tx.late tx.ends)) (below_doing s job (Active tx) (job_turns s (behind_commit job tx)) is
     (passes s job tx))
 late_falls s at old new job tx (call ∷ calls) stands is commits some row =
     let t = next_ends s at old job tx new call row in
-    let next : SeenTx = record tx { ends = tx.ends ++ t.end ∷ [] } in
+    let next : TxView = record tx { ends = tx.ends ++ t.end ∷ [] } in
     goes_on s at old new job job.place tx next stands is t.jobs (record { block = refl; next = refl; begun = refl })
     (λ n e. late_less n job.place.at tx next tx.phase commits (left_less tx.late tx.ends t.end (left_some tx.late tx.ends call calls some)))
 
-commit_falls : (s : Setting) (at : ℕ) (old new : Now) (job : SeenJob) (tx : SeenTx) (answer : Turn) → slice_get old.jobs at ≡ Some job
+commit_falls : (s : Setting) (at : ℕ) (old new : Moment) (job : JobView) (tx : TxView) (answer : Turn) → slice_get old.jobs at ≡ Some job
     → job.doing ≡ Active tx → tx.phase ≡ Committing → CommittingTurn (mover s at old job) tx answer new → turns_left s new < turns_left s old
 commit_falls s at old new job tx turn.Went stands is commits h = late_falls s at old new job tx (late_left tx) stands is commits refl h
 commit_falls s at old new job tx turn.NoMemory stands is commits h = absurd h
 commit_falls s at old new job tx (turn.Busy object holder) stands is commits h = absurd h
 commit_falls s at old new job tx (turn.Ended end) stands is commits h = absurd h
 
-abort_less : (s : Setting) (job : SeenJob) (tx : SeenTx) (c : Cause)
+abort_less : (s : Setting) (job : JobView) (tx : TxView) (c : Cause)
     → job_turns s (behind_abort job tx c) < doing_turns s (failures job.attempts) job.place.at (bodies_at s job.place) (Active tx)
 abort_less s job tx cause.Asked = passes s job tx
 abort_less s job tx cause.NoMemory =
@@ -295,19 +305,19 @@ abort_less s job tx cause.NoMemory =
 abort_less s job tx (cause.Conflict object holder at) = again_falls s (failures job.attempts) job.place.at (bodies_at s job.place) tx
 abort_less s job tx (cause.Revoked object by at) = again_falls s (failures job.attempts) job.place.at (bodies_at s job.place) tx
 
--- ---- the way back
-back_falls : (s : Setting) (at : ℕ) (old new : Now) (job : SeenJob) (tx : SeenTx) (c : Cause) (pending : List Undo) → slice_get old.jobs at ≡ Some job
+-- ---- the rollback
+back_falls : (s : Setting) (at : ℕ) (old new : Moment) (job : JobView) (tx : TxView) (c : Cause) (pending : List Undo) → slice_get old.jobs at ≡ Some job
     → job.doing ≡ Active tx → tx.phase ≡ Undoing c → BackTurn (mover s at old job) tx c pending new → turns_left s new < turns_left s old
 back_falls s at old new job tx c [] stands is undoes same =
     enters s at old new job (behind_abort job tx c) tx (entry_of tx at (Aborted (record { cause = c; records = tx.undo.ended }))) new.contents stands is
     same.behind
     (abort_less s job tx c)
 back_falls s at old new job tx c (u ∷ pending) stands is undoes t =
-    let next : SeenTx = record tx { undo = record { pending = t.older; ended = (t.tried, t.end) ∷ tx.undo.ended } } in
-    goes_on s at old new job job.place tx next stands is (ap (λ (n : Now). n.jobs) t.behind) (record { block = refl; next = refl; begun = refl })
+    let next : TxView = record tx { undo = record { pending = t.older; ended = (t.tried, t.end) ∷ tx.undo.ended } } in
+    goes_on s at old new job job.place tx next stands is (ap (λ (n : Moment). n.jobs) t.behind) (record { block = refl; next = refl; begun = refl })
     (λ n e. tried_less n job.place.at c tx next t.tried tx.phase undoes t.newest)
 
-undoing_falls : (s : Setting) (at : ℕ) (old new : Now) (job : SeenJob) (tx : SeenTx) (c : Cause) (answer : Turn) → slice_get old.jobs at ≡ Some job
+undoing_falls : (s : Setting) (at : ℕ) (old new : Moment) (job : JobView) (tx : TxView) (c : Cause) (answer : Turn) → slice_get old.jobs at ≡ Some job
     → job.doing ≡ Active tx → tx.phase ≡ Undoing c → UndoingTurn (mover s at old job) tx c answer new → turns_left s new < turns_left s old
 undoing_falls s at old new job tx c turn.Went stands is undoes h = back_falls s at old new job tx c tx.undo.pending stands is undoes h
 undoing_falls s at old new job tx c turn.NoMemory stands is undoes h = absurd h
@@ -315,19 +325,19 @@ undoing_falls s at old new job tx c (turn.Busy object holder) stands is undoes h
 undoing_falls s at old new job tx c (turn.Ended end) stands is undoes h = absurd h
 
 -- ---- all rows
-active_falls : (s : Setting) (at : ℕ) (old new : Now) (job : SeenJob) (tx : SeenTx) (p : Phase) (answer : Turn) → slice_get old.jobs at ≡ Some job
+active_falls : (s : Setting) (at : ℕ) (old new : Moment) (job : JobView) (tx : TxView) (p : Phase) (answer : Turn) → slice_get old.jobs at ≡ Some job
     → job.doing ≡ Active tx → tx.phase ≡ p → ActiveTurn (mover s at old job) tx p answer new → turns_left s new < turns_left s old
 active_falls s at old new job tx Running answer stands is phase h =
     marked_falls s at old new job tx (old.marks tx.number) answer stands is phase h
 active_falls s at old new job tx Committing answer stands is phase h = commit_falls s at old new job tx answer stands is phase h
 active_falls s at old new job tx (Undoing c) answer stands is phase h = undoing_falls s at old new job tx c answer stands is phase h
 
-starved_falls : (s : Setting) (at : ℕ) (old new : Now) (job : SeenJob) (answer : Turn) → slice_get old.jobs at ≡ Some job → job.doing ≡ Starved
+starved_falls : (s : Setting) (at : ℕ) (old new : Moment) (job : JobView) (answer : Turn) → slice_get old.jobs at ≡ Some job → job.doing ≡ Starved
     → StarvedTurn (mover s at old job) answer new → turns_left s new < turns_left s old
 starved_falls s at old new job (turn.Ended job_end.NoMemory) stands is same =
     let bodies = bodies_at s job.place in
     let failed = failures job.attempts in
-    falls_by s at old new job (record job { doing = Ended job_end.NoMemory }) stands (ap (λ (n : Now). n.jobs) same)
+    falls_by s at old new job (record job { doing = Ended job_end.NoMemory }) stands (ap (λ (n : Moment). n.jobs) same)
     (subst (λ n. (s.rules.patience - job.busy) + n < job_turns s job) (sym (ended_is s failed job.place.at bodies job_end.NoMemory))
     (below_same s job Starved 0 is (omega (arith, starved_is s failed job.place.at bodies))))
 starved_falls s at old new job (turn.Ended job_end.Done) stands is h = absurd h
@@ -337,7 +347,7 @@ starved_falls s at old new job turn.Went stands is h = absurd h
 starved_falls s at old new job turn.NoMemory stands is h = absurd h
 starved_falls s at old new job (turn.Busy object holder) stands is h = absurd h
 
-doing_falls : (s : Setting) (at : ℕ) (old new : Now) (job : SeenJob) (d : Doing) (answer : Turn) → slice_get old.jobs at ≡ Some job → job.doing ≡ d
+doing_falls : (s : Setting) (at : ℕ) (old new : Moment) (job : JobView) (d : Doing) (answer : Turn) → slice_get old.jobs at ≡ Some job → job.doing ≡ d
     → TurnOf (mover s at old job) d answer new → turns_left s new < turns_left s old
 doing_falls s at old new job Idle answer stands is h = idle_falls s at old new job answer stands is h
 doing_falls s at old new job (Active tx) answer stands is h = active_falls s at old new job tx tx.phase answer stands is refl h
@@ -345,5 +355,5 @@ doing_falls s at old new job Starved answer stands is h = starved_falls s at old
 doing_falls s at old new job (Ended end) answer stands is h = absurd h
 
 -- each turn leaves fewer
-pub measured : (s : Setting) (at : ℕ) (old new : Now) (answer : Turn) → IsTurn s at old answer new → turns_left s new < turns_left s old
-measured s at old new answer h = doing_falls s at old new h.job h.job.doing answer h.stands refl h.row
+pub measured : (s : Setting) (at : ℕ) (old new : Moment) (answer : Turn) → IsTurn s at old answer new → turns_left s new < turns_left s old
+measured s at old new answer h = doing_falls s at old new h.job h.job.doing answer h.there refl h.row

@@ -1,5 +1,5 @@
--- Lists: what stands in one place, one element in another's place, one more behind, and what is picked.
-use Rattle.std.proofs.Common.{◌≡◌, ◌≢◌, ◌⊎◌, inl, inr, ℕ, ◌+◌, ◌<◌, List, [], ◌∷◌, ◌++◌, length, zero, suc, refl, ap, ◌∙◌, arith}
+-- Lists: what stands in one place, one element in another's place, one more after, and what is picked.
+use Rattle.std.proofs.Common.{◌≡◌, ◌⊎◌, inl, inr, ℕ, ◌+◌, ◌<◌, List, [], ◌∷◌, ◌++◌, length, zero, suc, refl, ap, ◌∙◌, arith}
 use Rattle.std.specs.Prelude.{Contains, Option, map, slice_get, slice_set, sum_by}
 use Rattle.std.specs.List.{filter_map, cons_option}
 use Rattle.std.specs.declared.option.Option.TheVariants.{None, Some}
@@ -8,20 +8,6 @@ use Rattle.std.proofs.lemmas.List.Sums.{sum_by-set}
 use Rattle.std.proofs.lemmas.Option.{get_or_from_slice_get, slice_get_within}
 
 -- ---- one element in another's place
--- it stands there
-pub get_set_same : {A : Type 0} → (xs : List A) (i : ℕ) (x y : A) → slice_get xs i ≡ Some x → slice_get (slice_set xs i y) i ≡ Some y
-get_set_same [] i x y e = cc
-get_set_same (z ∷ xs) zero x y e = refl
-get_set_same (z ∷ xs) (suc i) x y e = get_set_same xs i x y e
-
--- and all others where they stood
-pub get_set_other : {A : Type 0} → (xs : List A) (i j : ℕ) (y : A) → j ≢ i → slice_get (slice_set xs i y) j ≡ slice_get xs j
-get_set_other [] i j y ne = refl
-get_set_other (z ∷ xs) zero zero y ne = absurd (ne refl)
-get_set_other (z ∷ xs) zero (suc j) y ne = refl
-get_set_other (z ∷ xs) (suc i) zero y ne = refl
-get_set_other (z ∷ xs) (suc i) (suc j) y ne = get_set_other xs i j y (λ e. ne (ap suc e))
-
 -- in a sum its part comes, and the other's goes
 pub sum_set_place : {A : Type 0} → (f : A → ℕ) (xs : List A) (i : ℕ) (x y : A) → slice_get xs i ≡ Some x
     → sum_by f (slice_set xs i y) + f x ≡ sum_by f xs + f y
@@ -36,7 +22,7 @@ get_beside [] (b ∷ ys) i y e h = absurd (omega arith)
 get_beside (a ∷ xs) (b ∷ ys) zero y e h = (a, refl)
 get_beside (a ∷ xs) (b ∷ ys) (suc i) y e h = get_beside xs ys i y (omega arith) h
 
--- ---- one list behind another
+-- ---- one list after another
 -- the front stays
 pub get_front : {A : Type 0} → (xs ys : List A) (k : ℕ) (x : A) → slice_get xs k ≡ Some x → slice_get (xs ++ ys) k ≡ Some x
 get_front [] ys k x e = cc
@@ -92,7 +78,7 @@ around h (z ∷ xs) (suc i) x e =
 pub contains_first : {A : Type 0} → (x : A) (xs : List A) → Contains (x ∷ xs) x
 contains_first x xs = (0, omega arith, refl)
 
--- what is behind it
+-- what is after it
 pub contains_later : {A : Type 0} → (x : A) (xs : List A) (y : A) → Contains xs y → Contains (x ∷ xs) y
 contains_later x xs y at = (suc at.0, omega (arith, at.1), at.2)
 

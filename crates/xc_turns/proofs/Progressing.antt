@@ -4,10 +4,10 @@ use Rattle.std.specs.List.{fold}
 use Rattle.std.proofs.lemmas.List.Sums.{fold_push}
 use Rattle.xc_data.specs.declared.entry.Entry.{Entry}
 use Rattle.xc_text.specs.declared.script.Script.{Script}
-use Rattle.xc_story.specs.Setting.{Setting}
-use Rattle.xc_story.specs.Grounds.{Part}
-use Rattle.xc_story.specs.Progress.{Progress, after_entry, opening_progress, progress_of}
-use Rattle.xc_story.specs.Truth.{AreTrue, IsTrueEntry, part_of, parts_from, parts_of}
+use Rattle.xc_model.specs.Setting.{Setting}
+use Rattle.xc_model.specs.Grounds.{Part}
+use Rattle.xc_model.specs.Progress.{Progress, after_entry, opening_progress, progress_of}
+use Rattle.xc_model.specs.Truth.{AreTrue, IsTrueEntry, part_of, parts_from, entry_parts}
 
 -- the entry leads on from where the journal led
 pub progress-more : (script : Script) (journal : List Entry) (e : Entry)
@@ -39,7 +39,7 @@ parts_length_from s p [] = refl
 parts_length_from s p (e ∷ journal) = ap suc (parts_length_from s (after_entry s.script p e) journal)
 
 -- one part for each entry
-pub parts_length : (s : Setting) (journal : List Entry) → length (parts_of s journal) ≡ length journal
+pub parts_length : (s : Setting) (journal : List Entry) → length (entry_parts s journal) ≡ length journal
 parts_length s journal = parts_length_from s (opening_progress s.script) journal
 
 parts_more_from : (s : Setting) (p : Progress) (journal : List Entry) (e : Entry)
@@ -49,5 +49,5 @@ parts_more_from s p (d ∷ journal) e = ap (λ (ps : List Part). part_of s p d �
 
 -- with one entry more there is its part more
 pub parts_more : (s : Setting) (journal : List Entry) (e : Entry)
-    → parts_of s (journal ++ e ∷ []) ≡ parts_of s journal ++ part_of s (progress_of s.script journal) e ∷ []
+    → entry_parts s (journal ++ e ∷ []) ≡ entry_parts s journal ++ part_of s (progress_of s.script journal) e ∷ []
 parts_more s journal e = parts_more_from s (opening_progress s.script) journal e

@@ -1,4 +1,4 @@
--- Each pair is open at one of its two sides, at the opening and behind each call.
+-- Each pair is open at one of its two sides, at the opening and after each call.
 use Rattle.std.proofs.Common.{◌≡◌, ℕ, zero, suc, ◌+◌, ◌-◌, ◌==◌, Bool, true, false, List, [], ◌∷◌, length, sym, subst, arith, if◌then◌else◌}
 use Rattle.std.proofs.lemmas.List.Elements.{All-nil, All-cons, All-head, All-tail, All-append, All-replicate, All-set}
 use Rattle.std.specs.Prelude.{All, slice_set}
@@ -54,7 +54,7 @@ appended_sided places is h (suc n) (end, set) all =
     set_sided places is h (at_position (place_of places h) (end + suc n)) set
     (sided_moved (place_of places h) (end + suc n) (sided_at places h all)) all
 
--- so they are behind a call
+-- so they are after a call
 pub sided_after : (tx : ℕ) (c : Call) (me : Private) (r : Reply) (is : List Place) → ArePlaces tx c me r is → All IsSided me.places → All IsSided is
 sided_after tx (call.XOpen name) me (reply.Made h) is (lowest, num, set) all = set_sided me.places is h (File num 0) set tt all
 sided_after tx (call.XOpen name) me r is same all = same_sided me.places is same all

@@ -9,14 +9,15 @@ use Rattle.xc_data.specs.declared.call.LateEnd.{LateEnd}
 use Rattle.xc_data.specs.declared.call.LateEnd.TheVariants as end
 use Rattle.xc_data.specs.Calls.{thread_in}
 use Rattle.xc_text.specs.declared.script.Script.{Script}
-use Rattle.xc_story.specs.LateCalls.{started_late, started_with}
-use Rattle.xc_story.specs.Rows.{IsActiveAt, started_job}
-use Rattle.xc_story.specs.Seen.{SeenTx, SeenJob, active_of, actives}
-use Rattle.xc_story.specs.Started.{blocks, is_start, keeps_start, started_by}
+use Rattle.xc_model.specs.LateCalls.{started_late, started_with}
+use Rattle.xc_model.specs.Movers.{IsActiveAt}
+use Rattle.xc_model.specs.Entering.{started_job}
+use Rattle.xc_model.specs.Moment.{TxView, JobView, active_of, actives}
+use Rattle.xc_model.specs.Started.{blocks, is_start, keeps_start, started_by}
 
 -- ---- of one transaction
 -- what it has started, where there is one
-abbrev pub started_in : Option SeenTx → List (List ℕ)
+abbrev pub started_in : Option TxView → List (List ℕ)
 started_in None = []
 started_in (Some tx) = started_by tx
 
@@ -42,11 +43,11 @@ none_kept (c ∷ late) (e ∷ ends) none =
     ap₂ (λ a b. a ++ b) (not_started (thread_in c) e parts.0) (none_kept late ends parts.1)
 
 -- one that keeps no start has started none
-pub keeps_none : (tx : SeenTx) → keeps_start tx ≡ false → started_by tx ≡ []
+pub keeps_none : (tx : TxView) → keeps_start tx ≡ false → started_by tx ≡ []
 keeps_none tx none = none_kept tx.late tx.ends none
 
 -- so one that has started some keeps one
-pub started_keeps : (tx : SeenTx) → started_by tx ≢ [] → keeps_start tx ≡ true
+pub started_keeps : (tx : TxView) → started_by tx ≢ [] → keeps_start tx ≡ true
 started_keeps tx some = by_test (keeps_start tx) refl
   where
     by_test : (b : Bool) → keeps_start tx ≡ b → keeps_start tx ≡ true
@@ -55,19 +56,19 @@ started_keeps tx some = by_test (keeps_start tx) refl
 
 -- ---- of all
 -- what active transactions have started
-abbrev pub all_started : List SeenJob → List (List ℕ)
+abbrev pub all_started : List JobView → List (List ℕ)
 all_started jobs = flat_map started_by (actives jobs)
 
-started_first : (o : Option SeenTx) (txs : List SeenTx) → flat_map started_by (cons_option o txs) ≡ started_in o ++ flat_map started_by txs
+started_first : (o : Option TxView) (txs : List TxView) → flat_map started_by (cons_option o txs) ≡ started_in o ++ flat_map started_by txs
 started_first None txs = refl
 started_first (Some tx) txs = refl
 
-none_in : (o : Option SeenTx) → ((tx : SeenTx) → o ≡ Some tx → started_by tx ≡ []) → started_in o ≡ []
+none_in : (o : Option TxView) → ((tx : TxView) → o ≡ Some tx → started_by tx ≡ []) → started_in o ≡ []
 none_in None none = refl
 none_in (Some tx) none = none tx refl
 
 -- where none has started any there are none
-pub nobody_started : (jobs : List SeenJob) → ((j : ℕ) (tx : SeenTx) → IsActiveAt jobs j tx → started_by tx ≡ []) → all_started jobs ≡ []
+pub nobody_started : (jobs : List JobView) → ((j : ℕ) (tx : TxView) → IsActiveAt jobs j tx → started_by tx ≡ []) → all_started jobs ≡ []
 nobody_started [] none = refl
 nobody_started (job ∷ jobs) none =
     started_first (active_of job) (actives jobs)
@@ -75,8 +76,8 @@ nobody_started (job ∷ jobs) none =
     (nobody_started jobs (λ j tx (there, at, has). none (suc j) tx (there, at, has)))
 
 -- where no other has, they are those of the job that is set
-pub only_here : (jobs : List SeenJob) (at : ℕ) (job job' : SeenJob) → slice_get jobs at ≡ Some job
-    → ((j : ℕ) (u : SeenTx) → j ≢ at → IsActiveAt jobs j u → started_by u ≡ []) → all_started (slice_set jobs at job') ≡ started_in (active_of job')
+pub only_here : (jobs : List JobView) (at : ℕ) (job job' : JobView) → slice_get jobs at ≡ Some job
+    → ((j : ℕ) (u : TxView) → j ≢ at → IsActiveAt jobs j u → started_by u ≡ []) → all_started (slice_set jobs at job') ≡ started_in (active_of job')
 only_here [] at job job' stands others = cc
 only_here (x ∷ jobs) zero job job' stands others =
     started_first (active_of job') (actives jobs)
@@ -89,24 +90,24 @@ only_here (x ∷ jobs) (suc at) job job' stands others =
     (only_here jobs at job job' stands (λ j u ne (there, is, has). others (suc j) u (λ e. ne (omega (arith, e))) (there, is, has)))
 
 -- nothing changes where the job stands already
-set_itself : (jobs : List SeenJob) (at : ℕ) (job : SeenJob) → slice_get jobs at ≡ Some job → slice_set jobs at job ≡ jobs
+set_itself : (jobs : List JobView) (at : ℕ) (job : JobView) → slice_get jobs at ≡ Some job → slice_set jobs at job ≡ jobs
 set_itself [] at job stands = refl
 set_itself (x ∷ jobs) zero job stands = let same : x ≡ job = cc in ap (λ y. y ∷ jobs) (sym same)
 set_itself (x ∷ jobs) (suc at) job stands = ap (λ ys. x ∷ ys) (set_itself jobs at job stands)
 
 -- and then they are those of the job there
-pub only_there : (jobs : List SeenJob) (at : ℕ) (job : SeenJob) → slice_get jobs at ≡ Some job
-    → ((j : ℕ) (u : SeenTx) → j ≢ at → IsActiveAt jobs j u → started_by u ≡ []) → all_started jobs ≡ started_in (active_of job)
+pub only_there : (jobs : List JobView) (at : ℕ) (job : JobView) → slice_get jobs at ≡ Some job
+    → ((j : ℕ) (u : TxView) → j ≢ at → IsActiveAt jobs j u → started_by u ≡ []) → all_started jobs ≡ started_in (active_of job)
 only_there jobs at job stands others = sym (ap all_started (set_itself jobs at job stands)) ∙ only_here jobs at job job stands others
 
 -- where the job that is set has started as the one before, they stay
-pub same_started : (jobs : List SeenJob) (at : ℕ) (job job' : SeenJob) → slice_get jobs at ≡ Some job
+pub same_started : (jobs : List JobView) (at : ℕ) (job job' : JobView) → slice_get jobs at ≡ Some job
     → started_in (active_of job') ≡ started_in (active_of job) → all_started (slice_set jobs at job') ≡ all_started jobs
 same_started [] at job job' stands same = cc
 same_started (x ∷ jobs) zero job job' stands same =
     let here : x ≡ job = cc in
     started_first (active_of job') (actives jobs)
-    ∙ ap (λ bs. bs ++ all_started jobs) (same ∙ sym (ap (λ (y : SeenJob). started_in (active_of y)) here))
+    ∙ ap (λ bs. bs ++ all_started jobs) (same ∙ sym (ap (λ (y : JobView). started_in (active_of y)) here))
     ∙ sym (started_first (active_of x) (actives jobs))
 same_started (x ∷ jobs) (suc at) job job' stands same =
     started_first (active_of x) (actives (slice_set jobs at job'))
@@ -115,14 +116,14 @@ same_started (x ∷ jobs) (suc at) job job' stands same =
 
 -- ---- blocks
 -- a job of the same block in another's place
-pub blocks_set : (jobs : List SeenJob) (at : ℕ) (job job' : SeenJob) → slice_get jobs at ≡ Some job → job'.block ≡ job.block
+pub blocks_set : (jobs : List JobView) (at : ℕ) (job job' : JobView) → slice_get jobs at ≡ Some job → job'.block ≡ job.block
     → blocks (slice_set jobs at job') ≡ blocks jobs
 blocks_set [] at job job' stands same = cc
 blocks_set (x ∷ jobs) zero job job' stands same =
-    let here : x ≡ job = cc in ap (λ b. b ∷ blocks jobs) (same ∙ sym (ap (λ (y : SeenJob). y.block) here))
+    let here : x ≡ job = cc in ap (λ b. b ∷ blocks jobs) (same ∙ sym (ap (λ (y : JobView). y.block) here))
 blocks_set (x ∷ jobs) (suc at) job job' stands same = ap (λ bs. x.block ∷ bs) (blocks_set jobs at job job' stands same)
 
 -- jobs of these blocks
-pub started_blocks : (script : Script) (starter : SeenJob) (names : List (List ℕ)) → blocks (map (started_job script starter) names) ≡ names
+pub started_blocks : (script : Script) (starter : JobView) (names : List (List ℕ)) → blocks (map (started_job script starter) names) ≡ names
 started_blocks script starter [] = refl
 started_blocks script starter (name ∷ names) = ap (λ bs. name ∷ bs) (started_blocks script starter names)

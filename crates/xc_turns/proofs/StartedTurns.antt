@@ -26,17 +26,26 @@ use Rattle.xc_script.specs.declared.ask.Ask.{Ask}
 use Rattle.xc_script.specs.declared.ask.Ask.TheVariants as ask
 use Rattle.xc_script.specs.Position.{Position}
 use Rattle.xc_data.specs.declared.entry.Mark.{Mark}
-use Rattle.xc_story.specs.declared.phase.Phase.{Phase}
-use Rattle.xc_story.specs.declared.phase.Phase.TheVariants.{Running, Committing, Undoing}
-use Rattle.xc_story.specs.Setting.{Setting}
-use Rattle.xc_story.specs.LateCalls.{started_late, started_with}
-use Rattle.xc_story.specs.Told.{AreTold, IsInPhase, IsRunning}
-use Rattle.xc_story.specs.Holding.{AreApart}
-use Rattle.xc_story.specs.Seen.{SeenTx, SeenJob, Doing, Idle, Active, Starved, Ended, Now, active_in, active_of, actives, late_left, waiting}
-use Rattle.xc_story.specs.Started.{AreStarted, blocks, is_start, keeps_start, started_by, starting}
-use Rattle.xc_story.specs.Rows.{IsActiveAt, Calls, EndsLate, IsStart, LateTurn, NextLate, HoldsWanting, noting, claims_at, with_tx, beginning_job}
-use Rattle.xc_story.specs.Rows.{asked_at, behind_abort, behind_commit, started_jobs, mover}
-use Rattle.xc_story.specs.Rows.{IdleTurn, AskedTurn, MarkedTurn, RunningTurn, CommittingTurn, BackTurn, UndoingTurn, StarvedTurn, ActiveTurn, TurnOf, IsTurn}
+use Rattle.xc_model.specs.declared.phase.Phase.{Phase}
+use Rattle.xc_model.specs.declared.phase.Phase.TheVariants.{Running, Committing, Undoing}
+use Rattle.xc_model.specs.Setting.{Setting}
+use Rattle.xc_model.specs.LateCalls.{started_late, started_with}
+use Rattle.xc_model.specs.Stories.{StoriesHold, IsInPhase, IsRunning}
+use Rattle.xc_model.specs.Holding.{AreApart}
+use Rattle.xc_model.specs.Moment.{TxView, JobView, Doing, Idle, Active, Starved, Ended, Moment, active_in, active_of, actives, late_left, waiting}
+use Rattle.xc_model.specs.Started.{AreStarted, blocks, is_start, keeps_start, started_by, starting}
+use Rattle.xc_model.specs.Movers.{IsActiveAt, with_tx}
+use Rattle.xc_model.specs.RunningRows.{Calls, HoldsWanting}
+use Rattle.xc_model.specs.CommittingRows.{EndsLate, IsStart, LateTurn, NextLate}
+use Rattle.xc_model.specs.PlainSteps.{noting, claims_at}
+use Rattle.xc_model.specs.IdleRows.{beginning_job}
+use Rattle.xc_model.specs.Movers.{asked_at, mover}
+use Rattle.xc_model.specs.Entering.{behind_abort, behind_commit, started_jobs}
+use Rattle.xc_model.specs.IdleRows.{IdleTurn}
+use Rattle.xc_model.specs.RunningRows.{AskedTurn, MarkedTurn, RunningTurn}
+use Rattle.xc_model.specs.CommittingRows.{CommittingTurn}
+use Rattle.xc_model.specs.UndoingRows.{BackTurn, UndoingTurn}
+use Rattle.xc_model.specs.Rows.{StarvedTurn, ActiveTurn, TurnOf, IsTurn}
 use Rattle.xc_turns.proofs.CountedSums.{adds, sum_set}
 use Rattle.xc_turns.proofs.CountedTurns.{in_phase, none_late}
 use Rattle.xc_turns.proofs.Grown.{AreIdle, grown_active, grown_actives, started_idle}
@@ -64,37 +73,37 @@ one_more (d ∷ late) (x ∷ ends) c rest e left =
     ∙ sym (append_assoc (started_with (thread_in d) x) (started_late late ends) (started_with (thread_in c) e))
 
 -- ---- a turn
--- a job behind an abort has its block
-abort_block : (job : SeenJob) (tx : SeenTx) (c : Cause) → (behind_abort job tx c).block ≡ job.block
+-- a job after an abort has its block
+abort_block : (job : JobView) (tx : TxView) (c : Cause) → (behind_abort job tx c).block ≡ job.block
 abort_block job tx cause.Asked = refl
 abort_block job tx cause.NoMemory = refl
 abort_block job tx (cause.Conflict object holder at) = refl
 abort_block job tx (cause.Revoked object by at) = refl
 
 -- a job without a transaction keeps no start
-none_holds : (job : SeenJob) → active_of job ≡ None → (t : SeenTx) → active_of job ≡ Some t → HoldsStart t
+none_holds : (job : JobView) → active_of job ≡ None → (t : TxView) → active_of job ≡ Some t → HoldsStart t
 none_holds job none t has = absurd (not_both (active_of job) t none has)
 
 -- and one of a transaction what that keeps
-one_holds : (tx t : SeenTx) → Some tx ≡ Some t → HoldsStart tx → HoldsStart t
+one_holds : (tx t : TxView) → Some tx ≡ Some t → HoldsStart tx → HoldsStart t
 one_holds tx t has holds = let same : tx ≡ t = cc in subst HoldsStart same holds
 
-module _ (s : Setting) (at : ℕ) (old : Now) (job : SeenJob) (new : Now) (stands : slice_get old.jobs at ≡ Some job)
-    (told : AreTold s (length old.words) old.marks old.journal old.jobs) (apart : AreApart old.jobs) (h : AreStarted old) where
+module _ (s : Setting) (at : ℕ) (old : Moment) (job : JobView) (new : Moment) (stands : slice_get old.jobs at ≡ Some job)
+    (told : StoriesHold s (length old.words) old.marks old.journal old.jobs) (apart : AreApart old.jobs) (h : AreStarted old) where
   -- whoever keeps a start where one job is set
-  set_holds : (job' : SeenJob) → ((t : SeenTx) → active_of job' ≡ Some t → HoldsStart t) → HoldStarts (slice_set old.jobs at job')
+  set_holds : (job' : JobView) → ((t : TxView) → active_of job' ≡ Some t → HoldsStart t) → HoldStarts (slice_set old.jobs at job')
   set_holds job' mine j t a = dite (ℕ_discrete j at)
       (λ (here : j ≡ at). mine t (active_is old.jobs at job stands job' t (subst (λ k. IsActiveAt (slice_set old.jobs at job') k t) here a)))
       (λ (away : j ≢ at). h.holds j t (active_before old.jobs at j job' t away a))
 
-  -- one job is set, and these are live behind the others
-  changed : (job' : SeenJob) (more : List SeenJob) → AreIdle more → new.jobs ≡ slice_set old.jobs at job' ++ more → job'.block ≡ job.block
+  -- one job is set, and these are live after the others
+  changed : (job' : JobView) (more : List JobView) → AreIdle more → new.jobs ≡ slice_set old.jobs at job' ++ more → job'.block ≡ job.block
       → new.started ≡ (blocks old.jobs ++ blocks more) ++ all_started (slice_set old.jobs at job') → length new.started ≤ 1000
-      → ((t : SeenTx) → active_of job' ≡ Some t → HoldsStart t) → AreStarted new
+      → ((t : TxView) → active_of job' ≡ Some t → HoldsStart t) → AreStarted new
   changed job' more idle jobs block started few mine =
       let set = slice_set old.jobs at job' in
       let names : blocks new.jobs ≡ blocks old.jobs ++ blocks more =
-      ap blocks jobs ∙ map-append (λ (x : SeenJob). x.block) set more ∙ ap (λ bs. bs ++ blocks more) (blocks_set old.jobs at job job' stands block) in
+      ap blocks jobs ∙ map-append (λ (x : JobView). x.block) set more ∙ ap (λ bs. bs ++ blocks more) (blocks_set old.jobs at job job' stands block) in
       let rest : all_started new.jobs ≡ all_started set = ap all_started jobs ∙ ap (flat_map started_by) (grown_actives set more idle) in
       let hold : HoldStarts (set ++ more) = λ j t a. set_holds job' mine j t (grown_active set more idle j t a) in
       record {
@@ -104,9 +113,9 @@ module _ (s : Setting) (at : ℕ) (old : Now) (job : SeenJob) (new : Now) (stand
       }
 
   -- only a job changed
-  only_changed : (job' : SeenJob) → new.jobs ≡ slice_set old.jobs at job' → job'.block ≡ job.block
+  only_changed : (job' : JobView) → new.jobs ≡ slice_set old.jobs at job' → job'.block ≡ job.block
       → new.started ≡ blocks old.jobs ++ all_started (slice_set old.jobs at job') → length new.started ≤ 1000
-      → ((t : SeenTx) → active_of job' ≡ Some t → HoldsStart t) → AreStarted new
+      → ((t : TxView) → active_of job' ≡ Some t → HoldsStart t) → AreStarted new
   only_changed job' jobs block started few mine =
       changed job' [] tt (jobs ∙ sym (append-nil (slice_set old.jobs at job'))) block
       (started ∙ ap (λ bs. bs ++ all_started (slice_set old.jobs at job')) (sym (append-nil (blocks old.jobs)))) few mine
@@ -115,26 +124,27 @@ module _ (s : Setting) (at : ℕ) (old : Now) (job : SeenJob) (new : Now) (stand
   few_as_before same = let few = h.few in let as_many = ap length same in omega (arith, as_many, few)
 
   -- and it has started the same
-  still_started : (job' : SeenJob) → new.jobs ≡ slice_set old.jobs at job' → new.started ≡ old.started → job'.block ≡ job.block
-      → started_in (active_of job') ≡ started_in (active_of job) → ((t : SeenTx) → active_of job' ≡ Some t → HoldsStart t) → AreStarted new
+  still_started : (job' : JobView) → new.jobs ≡ slice_set old.jobs at job' → new.started ≡ old.started → job'.block ≡ job.block
+      → started_in (active_of job') ≡ started_in (active_of job) → ((t : TxView) → active_of job' ≡ Some t → HoldsStart t) → AreStarted new
   still_started job' jobs started block same mine =
       only_changed job' jobs block
       (started ∙ h.order ∙ ap (λ bs. blocks old.jobs ++ bs) (sym (same_started old.jobs at job job' stands same))) (few_as_before started) mine
 
   by_idle : job.doing ≡ Idle → (answer : Turn) → IdleTurn (mover s at old job) answer new → AreStarted new
   by_idle is (turn.Ended end) row =
-      still_started (record job { doing = Ended end }) (ap (λ (n : Now). n.jobs) row.1) (ap (λ (n : Now). n.started) row.1) refl
+      still_started (record job { doing = Ended end }) (ap (λ (n : Moment). n.jobs) row.1) (ap (λ (n : Moment). n.started) row.1) refl
       (ap (λ d. started_in (active_in d)) (sym is)) (none_holds (record job { doing = Ended end }) refl)
   by_idle is turn.Went row =
-      still_started (beginning_job old job) (ap (λ (n : Now). n.jobs) row.1) (ap (λ (n : Now). n.started) row.1) refl
+      still_started (beginning_job old job) (ap (λ (n : Moment). n.jobs) row.1) (ap (λ (n : Moment). n.started) row.1) refl
       (ap (λ d. started_in (active_in d)) (sym is)) (λ t has. one_holds _ t has (λ keeps. cc keeps))
   by_idle is (turn.Busy object number) row =
-      still_started (waiting job) (ap (λ (n : Now). n.jobs) row.1) (ap (λ (n : Now). n.started) row.1) refl refl (none_holds (waiting job) (ap active_in is))
+      still_started (waiting job) (ap (λ (n : Moment). n.jobs) row.1) (ap (λ (n : Moment). n.started) row.1) refl refl
+      (none_holds (waiting job) (ap active_in is))
   by_idle is turn.NoMemory row = absurd row
 
   by_starved : job.doing ≡ Starved → (answer : Turn) → StarvedTurn (mover s at old job) answer new → AreStarted new
   by_starved is (turn.Ended job_end.NoMemory) row =
-      still_started (record job { doing = Ended job_end.NoMemory }) (ap (λ (n : Now). n.jobs) row) (ap (λ (n : Now). n.started) row) refl
+      still_started (record job { doing = Ended job_end.NoMemory }) (ap (λ (n : Moment). n.jobs) row) (ap (λ (n : Moment). n.started) row) refl
       (ap (λ d. started_in (active_in d)) (sym is)) (none_holds (record job { doing = Ended job_end.NoMemory }) refl)
   by_starved is (turn.Ended job_end.Done) row = absurd row
   by_starved is (turn.Ended (job_end.GaveUp c)) row = absurd row
@@ -143,7 +153,7 @@ module _ (s : Setting) (at : ℕ) (old : Now) (job : SeenJob) (new : Now) (stand
   by_starved is (turn.Busy object holder) row = absurd row
   by_starved is turn.NoMemory row = absurd row
 
-  module _ (tx : SeenTx) (is : job.doing ≡ Active tx) where
+  module _ (tx : TxView) (is : job.doing ≡ Active tx) where
     mine : started_by tx ≡ started_in (active_of job)
     mine = ap (λ d. started_in (active_in d)) (sym is)
 
@@ -155,11 +165,11 @@ module _ (s : Setting) (at : ℕ) (old : Now) (job : SeenJob) (new : Now) (stand
     holds_here = h.holds at tx here
 
     -- where it keeps a start no other has started any
-    others_none : keeps_start tx ≡ true → (j : ℕ) (u : SeenTx) → j ≢ at → IsActiveAt old.jobs j u → started_by u ≡ []
+    others_none : keeps_start tx ≡ true → (j : ℕ) (u : TxView) → j ≢ at → IsActiveAt old.jobs j u → started_by u ≡ []
     others_none keeps j u ne a = keeps_none u (others_keep_none old.jobs at tx apart h.holds here (holds_here keeps) j u ne a)
 
     -- it goes on, with the same late calls and ends, and owns what it owned
-    goes : (place : Position) (tx' : SeenTx) → tx'.late ≡ tx.late → tx'.ends ≡ tx.ends
+    goes : (place : Position) (tx' : TxView) → tx'.late ≡ tx.late → tx'.ends ≡ tx.ends
         → (Contains (owned tx.held) object.Jobs → Contains (owned tx'.held) object.Jobs) → new.jobs ≡ slice_set old.jobs at (with_tx job place tx')
         → new.started ≡ old.started → AreStarted new
     goes place tx' late ends owns jobs started =
@@ -174,26 +184,27 @@ module _ (s : Setting) (at : ℕ) (old : Now) (job : SeenJob) (new : Now) (stand
         running.no_ends
 
     -- without ends it has started none
-    no_ends : (t : SeenTx) → t.ends ≡ [] → started_by t ≡ []
+    no_ends : (t : TxView) → t.ends ≡ [] → started_by t ≡ []
     no_ends t none = ap (started_late t.late) none ∙ none_started t.late
 
     call_started : (call : Call) → tx.phase ≡ Running → Calls (mover s at old job) tx call new → AreStarted new
     call_started call runs row =
         let tx' = noting tx call row.reply (claims_at old tx call) row.parts in
         let none = runs_none runs in
-        still_started (with_tx job row.place tx') (ap (λ (n : Now). n.jobs) row.behind) (ap (λ (n : Now). n.started) row.behind) refl
+        still_started (with_tx job row.place tx') (ap (λ (n : Moment). n.jobs) row.behind) (ap (λ (n : Moment). n.started) row.behind) refl
         (no_ends tx' none ∙ sym (no_ends tx none) ∙ mine) (λ t has. one_holds tx' t has (noted_holds tx call row.reply (length old.words) holds_here))
 
     by_ask : tx.phase ≡ Running → (a : Ask) → AskedTurn (mover s at old job) tx a new → AreStarted new
     by_ask runs (ask.Call call) (inl row) = call_started call runs row
     by_ask runs (ask.Call call) (inr row) =
-        goes row.place _ refl refl (λ o. o) (ap (λ (n : Now). n.jobs) row.behind) (ap (λ (n : Now). n.started) row.behind)
+        goes row.place _ refl refl (λ o. o) (ap (λ (n : Moment). n.jobs) row.behind) (ap (λ (n : Moment). n.started) row.behind)
     by_ask runs ask.Commit row =
-        goes row.place (record tx { phase = Committing }) refl refl (λ o. o) (ap (λ (n : Now). n.jobs) row.behind) (ap (λ (n : Now). n.started) row.behind)
-    by_ask runs ask.Abort row = goes row.place _ refl refl (λ o. o) (ap (λ (n : Now). n.jobs) row.behind) (ap (λ (n : Now). n.started) row.behind)
+        goes row.place (record tx { phase = Committing }) refl refl (λ o. o) (ap (λ (n : Moment). n.jobs) row.behind)
+        (ap (λ (n : Moment). n.started) row.behind)
+    by_ask runs ask.Abort row = goes row.place _ refl refl (λ o. o) (ap (λ (n : Moment). n.jobs) row.behind) (ap (λ (n : Moment). n.started) row.behind)
     by_ask runs ask.End row = absurd row
 
-    -- what it owned it owns where memory was wanting
+    -- what it owned it owns where memory ran out
     wanting_owns : (a : Ask) (left : List Undo) (held : List Claim) → HoldsWanting (mover s at old job) tx a left held
         → Contains (owned tx.held) object.Jobs → Contains (owned held) object.Jobs
     wanting_owns (ask.Call call) left held (inl same) owns = subst (λ (l : List Claim). Contains (owned l) object.Jobs) (sym same.1) owns
@@ -206,20 +217,20 @@ module _ (s : Setting) (at : ℕ) (old : Now) (job : SeenJob) (new : Now) (stand
     by_running : tx.phase ≡ Running → (answer : Turn) → RunningTurn (mover s at old job) tx answer new → AreStarted new
     by_running runs turn.Went row = by_ask runs _ row
     by_running runs turn.NoMemory row =
-        goes row.place _ refl refl (wanting_owns (asked_at s job.place) row.left row.held row.holds) (ap (λ (n : Now). n.jobs) row.behind)
-        (ap (λ (n : Now). n.started) row.behind)
+        goes row.place _ refl refl (wanting_owns (asked_at s job.place) row.left row.held row.holds) (ap (λ (n : Moment). n.jobs) row.behind)
+        (ap (λ (n : Moment). n.started) row.behind)
     by_running runs (turn.Busy object holder) row =
-        still_started (waiting (with_tx job row.place tx)) (ap (λ (n : Now). n.jobs) row.behind) (ap (λ (n : Now). n.started) row.behind) refl mine
+        still_started (waiting (with_tx job row.place tx)) (ap (λ (n : Moment). n.jobs) row.behind) (ap (λ (n : Moment). n.started) row.behind) refl mine
         (λ t has. one_holds tx t has holds_here)
     by_running runs (turn.Ended end) row = absurd row
 
     by_mark : tx.phase ≡ Running → (m : Option Mark) (answer : Turn) → MarkedTurn (mover s at old job) tx m answer new → AreStarted new
     by_mark runs None answer row = by_running runs answer row
-    by_mark runs (Some m) turn.Went row = goes job.place _ refl refl (λ o. o) (ap (λ (n : Now). n.jobs) row) (ap (λ (n : Now). n.started) row)
+    by_mark runs (Some m) turn.Went row = goes job.place _ refl refl (λ o. o) (ap (λ (n : Moment). n.jobs) row) (ap (λ (n : Moment). n.started) row)
     by_mark runs (Some m) _ row = absurd row
 
     -- ---- one that commits
-    -- what it starts comes behind all
+    -- what it starts comes after all
     grows : (e : LateEnd) (c : LateCall) (rest : List LateCall) → late_left tx ≡ c ∷ rest → (b : Bool) → keeps_start tx ≡ b
         → all_started (slice_set old.jobs at (with_tx job job.place (record tx { ends = tx.ends ++ e ∷ [] })))
         ≡ all_started old.jobs ++ started_with (thread_in c) e
@@ -228,7 +239,7 @@ module _ (s : Setting) (at : ℕ) (old : Now) (job : SeenJob) (new : Now) (stand
         ∙ one_more tx.late tx.ends c rest e left
         ∙ ap (λ bs. bs ++ started_with (thread_in c) e) (mine ∙ sym (only_there old.jobs at job stands (others_none keeps)))
     grows e c rest left false keeps =
-        let tx' : SeenTx = record tx { ends = tx.ends ++ e ∷ [] } in
+        let tx' : TxView = record tx { ends = tx.ends ++ e ∷ [] } in
         let was = keeps_none tx keeps in
         let is_now = keeps_none tx' keeps in
         let no_more : started_with (thread_in c) e ≡ [] =
@@ -241,7 +252,7 @@ module _ (s : Setting) (at : ℕ) (old : Now) (job : SeenJob) (new : Now) (stand
         → new.jobs ≡ slice_set old.jobs at (with_tx job job.place (record tx { ends = tx.ends ++ e ∷ [] }))
         → new.started ≡ old.started ++ started_with (thread_in c) e → length new.started ≤ 1000 → AreStarted new
     ended e c rest left jobs more few =
-        let tx' : SeenTx = record tx { ends = tx.ends ++ e ∷ [] } in
+        let tx' : TxView = record tx { ends = tx.ends ++ e ∷ [] } in
         let w = started_with (thread_in c) e in
         only_changed (with_tx job job.place tx') jobs refl
         (more ∙ ap (λ bs. bs ++ w) h.order ∙ append_assoc (blocks old.jobs) (all_started old.jobs) w
@@ -250,9 +261,9 @@ module _ (s : Setting) (at : ℕ) (old : Now) (job : SeenJob) (new : Now) (stand
 
     at_host : (c : LateCall) (rest : List LateCall) → thread_in c ≡ None → late_left tx ≡ c ∷ rest → EndsLate (mover s at old job) tx c new → AreStarted new
     at_host c rest none left row =
-        let same : new.started ≡ old.started = ap (λ (n : Now). n.started) row.behind in
+        let same : new.started ≡ old.started = ap (λ (n : Moment). n.started) row.behind in
         let nothing : started_with (thread_in c) row.end ≡ [] = ap (λ o. started_with o row.end) none ∙ no_thread row.end in
-        ended row.end c rest left (ap (λ (n : Now). n.jobs) row.behind)
+        ended row.end c rest left (ap (λ (n : Moment). n.jobs) row.behind)
         (same ∙ sym (ap (λ bs. old.started ++ bs) nothing ∙ append-nil old.started)) (few_as_before same)
 
     -- what a start adds
@@ -275,7 +286,7 @@ module _ (s : Setting) (at : ℕ) (old : Now) (job : SeenJob) (new : Now) (stand
     by_next : (c : LateCall) (rest : List LateCall) → late_left tx ≡ c ∷ rest → NextLate (mover s at old job) tx c new → AreStarted new
     by_next (Thread block) rest left row =
         let one = adds_one block row.end new.started row.starts in
-        ended row.end (Thread block) rest left (ap (λ (n : Now). n.jobs) row.behind) one.0 one.1
+        ended row.end (Thread block) rest left (ap (λ (n : Moment). n.jobs) row.behind) one.0 one.1
     by_next (Unlink name) rest left row = at_host (Unlink name) rest refl left row
     by_next (Sync num) rest left row = at_host (Sync num) rest refl left row
     by_next (WritePipe num bytes) rest left row = at_host (WritePipe num bytes) rest refl left row
@@ -297,8 +308,8 @@ module _ (s : Setting) (at : ℕ) (old : Now) (job : SeenJob) (new : Now) (stand
         let job' = behind_commit job tx in
         let more = started_jobs s.script job tx in
         let rest = all_started (slice_set old.jobs at job') in
-        let jobs : new.jobs ≡ slice_set old.jobs at job' ++ more = ap (λ (n : Now). n.jobs) row.0 in
-        let same : new.started ≡ old.started = ap (λ (n : Now). n.started) row.0 in
+        let jobs : new.jobs ≡ slice_set old.jobs at job' ++ more = ap (λ (n : Moment). n.jobs) row.0 in
+        let same : new.started ≡ old.started = ap (λ (n : Moment). n.started) row.0 in
         let names : blocks more ≡ started_by tx = started_blocks s.script job' (started_by tx) in
         changed job' more (started_idle s.script job' (started_by tx)) jobs refl
         (same ∙ h.order ∙ ap (λ bs. blocks old.jobs ++ bs) (leads (keeps_start tx) refl) ∙ sym (append_assoc (blocks old.jobs) (started_by tx) rest)
@@ -311,14 +322,14 @@ module _ (s : Setting) (at : ℕ) (old : Now) (job : SeenJob) (new : Now) (stand
     by_committing (turn.Busy object holder) row = absurd row
     by_committing (turn.Ended end) row = absurd row
 
-    -- ---- one on its way back
+    -- ---- one rolling back
     by_records : (c : Cause) → tx.phase ≡ Undoing c → (pending : List Undo) → BackTurn (mover s at old job) tx c pending new → AreStarted new
     by_records c undoes [] row =
         let none : tx.ends ≡ [] = none_late s at old job tx c stands is undoes told in
-        still_started (behind_abort job tx c) (ap (λ (n : Now). n.jobs) row.behind) (ap (λ (n : Now). n.started) row.behind) (abort_block job tx c)
+        still_started (behind_abort job tx c) (ap (λ (n : Moment). n.jobs) row.behind) (ap (λ (n : Moment). n.started) row.behind) (abort_block job tx c)
         (ap started_in (behind_abort_none job tx c) ∙ sym (no_ends tx none) ∙ mine) (none_holds (behind_abort job tx c) (behind_abort_none job tx c))
     by_records c undoes (u ∷ pending) row =
-        goes job.place _ refl refl (λ o. o) (ap (λ (n : Now). n.jobs) row.behind) (ap (λ (n : Now). n.started) row.behind)
+        goes job.place _ refl refl (λ o. o) (ap (λ (n : Moment). n.jobs) row.behind) (ap (λ (n : Moment). n.started) row.behind)
 
     by_undoing : (c : Cause) → tx.phase ≡ Undoing c → (answer : Turn) → UndoingTurn (mover s at old job) tx c answer new → AreStarted new
     by_undoing c undoes turn.Went row = by_records c undoes tx.undo.pending row
@@ -338,23 +349,23 @@ module _ (s : Setting) (at : ℕ) (old : Now) (job : SeenJob) (new : Now) (stand
   by_doing (Ended end) e answer row = absurd row
 
 -- a turn keeps the order of the started jobs
-pub turn_keeps_started : (s : Setting) (at : ℕ) (old new : Now) (answer : Turn) → IsTurn s at old answer new
-    → AreTold s (length old.words) old.marks old.journal old.jobs → AreApart old.jobs → AreStarted old → AreStarted new
-turn_keeps_started s at old new answer t told apart h = by_doing s at old t.job new t.stands told apart h t.job.doing refl answer t.row
+pub turn_keeps_started : (s : Setting) (at : ℕ) (old new : Moment) (answer : Turn) → IsTurn s at old answer new
+    → StoriesHold s (length old.words) old.marks old.journal old.jobs → AreApart old.jobs → AreStarted old → AreStarted new
+turn_keeps_started s at old new answer t told apart h = by_doing s at old t.job new t.there told apart h t.job.doing refl answer t.row
 
 -- ---- what the order says
 -- as many are started as are live or have ended and as active transactions have started
-pub started_count : (now : Now) → AreStarted now → length now.started ≡ length now.jobs + sum_by starting (actives now.jobs)
+pub started_count : (now : Moment) → AreStarted now → length now.started ≡ length now.jobs + sum_by starting (actives now.jobs)
 started_count now h =
     let sum = ap length h.order ∙ length-append (blocks now.jobs) (all_started now.jobs) in
-    let first = length-map now.jobs (λ (job : SeenJob). job.block) in
+    let first = length-map now.jobs (λ (job : JobView). job.block) in
     let later = length-flat_map started_by (actives now.jobs) in
     omega (arith, sum, first, later)
 
 -- so there is room for the jobs that an entry makes live
-pub entry_room : (now : Now) (at : ℕ) (tx : SeenTx) → AreStarted now → IsActiveAt now.jobs at tx → length now.jobs + starting tx ≤ 1000
+pub entry_room : (now : Moment) (at : ℕ) (tx : TxView) → AreStarted now → IsActiveAt now.jobs at tx → length now.jobs + starting tx ≤ 1000
 entry_room now at tx h (job, there, has) =
-    let rests : SeenJob = record job { doing = Ended job_end.Done } in
+    let rests : JobView = record job { doing = Ended job_end.Done } in
     let sums = sum_set starting now.jobs at job rests there in
     let mine : adds starting (active_of job) ≡ starting tx = ap (adds starting) has in
     let was = started_count now h in

@@ -1,5 +1,5 @@
--- The started jobs, by who owns the jobs or keeps a start: what is behind the live and the ended ones is of that transaction alone.
-use Rattle.std.proofs.Common.{◌≡◌, ◌≢◌, ℕ, Bool, true, false, List, [], ◌∷◌, ◌++◌, drop, length, refl, ap, ◌∙◌, append-nil}
+-- The started jobs, by who owns the jobs or keeps a start: what is after the live and the ended ones is of that transaction alone.
+use Rattle.std.proofs.Common.{◌≡◌, ℕ, true, List, [], ◌∷◌, ◌++◌, drop, length, ap, ◌∙◌, append-nil}
 use Rattle.std.specs.Prelude.{Contains}
 use Rattle.std.specs.List.{list_any}
 use Rattle.std.proofs.lemmas.Bool.{or_left, or_right}
@@ -8,16 +8,16 @@ use Rattle.xc_data.specs.declared.call.LateCall.TheVariants.{Thread}
 use Rattle.xc_data.specs.declared.call.LateEnd.{LateEnd}
 use Rattle.xc_data.specs.declared.object.Object.TheVariants as object
 use Rattle.xc_data.specs.Claims.{owned}
-use Rattle.xc_story.specs.Holding.{AreApart}
-use Rattle.xc_story.specs.Rows.{IsActiveAt}
-use Rattle.xc_story.specs.Seen.{SeenTx, Now, late_left}
-use Rattle.xc_story.specs.Started.{AreStarted, blocks, is_start, keeps_start, started_by}
-use Rattle.xc_turns.proofs.StartedLists.{keeps_none, nobody_started, only_there, started_in, started_keeps}
+use Rattle.xc_model.specs.Holding.{AreApart}
+use Rattle.xc_model.specs.Movers.{IsActiveAt}
+use Rattle.xc_model.specs.Moment.{TxView, Moment, late_left}
+use Rattle.xc_model.specs.Started.{AreStarted, blocks, is_start, keeps_start, started_by}
+use Rattle.xc_turns.proofs.StartedLists.{keeps_none, nobody_started, only_there, started_in}
 use Rattle.xc_turns.proofs.StartsHeld.{others_keep_none}
 
 -- ---- one that owns the jobs
--- what it has started is behind the jobs, and nothing else
-pub owner_alone : (now : Now) (at : ℕ) (tx : SeenTx) → AreStarted now → AreApart now.jobs → IsActiveAt now.jobs at tx
+-- what it has started is after the jobs, and nothing else
+pub owner_alone : (now : Moment) (at : ℕ) (tx : TxView) → AreStarted now → AreApart now.jobs → IsActiveAt now.jobs at tx
     → Contains (owned tx.held) object.Jobs → now.started ≡ blocks now.jobs ++ started_by tx
 owner_alone now at tx h apart (job, there, has) owns =
     h.order
@@ -26,14 +26,9 @@ owner_alone now at tx h apart (job, there, has) owns =
     ∙ ap started_in has)
 
 -- and so where it keeps a start
-pub starter_alone : (now : Now) (at : ℕ) (tx : SeenTx) → AreStarted now → AreApart now.jobs → IsActiveAt now.jobs at tx → keeps_start tx ≡ true
+pub starter_alone : (now : Moment) (at : ℕ) (tx : TxView) → AreStarted now → AreApart now.jobs → IsActiveAt now.jobs at tx → keeps_start tx ≡ true
     → now.started ≡ blocks now.jobs ++ started_by tx
 starter_alone now at tx h apart a keeps = owner_alone now at tx h apart a (h.holds at tx a keeps)
-
--- and where it has started some
-pub starter_started : (now : Now) (at : ℕ) (tx : SeenTx) → AreStarted now → AreApart now.jobs → IsActiveAt now.jobs at tx → started_by tx ≢ []
-    → now.started ≡ blocks now.jobs ++ started_by tx
-starter_started now at tx h apart a some = starter_alone now at tx h apart a (started_keeps tx some)
 
 left_start : (late : List LateCall) (ends : List LateEnd) (block : List ℕ) (rest : List LateCall) → drop (length ends) late ≡ Thread block ∷ rest
     → list_any is_start late ≡ true
@@ -44,20 +39,11 @@ left_start (c ∷ late) [] block rest left =
 left_start (c ∷ late) (e ∷ ends) block rest left = or_right (is_start c) (list_any is_start late) (left_start late ends block rest left)
 
 -- one whose next late call starts a job keeps a start
-pub left_keeps : (tx : SeenTx) (block : List ℕ) (rest : List LateCall) → late_left tx ≡ Thread block ∷ rest → keeps_start tx ≡ true
+pub left_keeps : (tx : TxView) (block : List ℕ) (rest : List LateCall) → late_left tx ≡ Thread block ∷ rest → keeps_start tx ≡ true
 left_keeps tx block rest left = left_start tx.late tx.ends block rest left
 
 -- ---- nobody
 -- where none has started any, all are live or have ended
-pub none_waits : (now : Now) → AreStarted now → ((at : ℕ) (tx : SeenTx) → IsActiveAt now.jobs at tx → started_by tx ≡ [])
+pub none_waits : (now : Moment) → AreStarted now → ((at : ℕ) (tx : TxView) → IsActiveAt now.jobs at tx → started_by tx ≡ [])
     → now.started ≡ blocks now.jobs
 none_waits now h none = h.order ∙ ap (λ bs. blocks now.jobs ++ bs) (nobody_started now.jobs none) ∙ append-nil (blocks now.jobs)
-
--- and so where none owns the jobs
-pub unowned_none : (now : Now) → AreStarted now → ((at : ℕ) (tx : SeenTx) → IsActiveAt now.jobs at tx → Contains (owned tx.held) object.Jobs → ⊥)
-    → now.started ≡ blocks now.jobs
-unowned_none now h nobody = none_waits now h (λ at tx a. by_test at tx a (keeps_start tx) refl)
-  where
-    by_test : (at : ℕ) (tx : SeenTx) → IsActiveAt now.jobs at tx → (b : Bool) → keeps_start tx ≡ b → started_by tx ≡ []
-    by_test at tx a true e = absurd (nobody at tx a (h.holds at tx a e))
-    by_test at tx a false e = keeps_none tx e

@@ -20,20 +20,21 @@ use Rattle.xc_data.specs.Claims.{claim, compatible, holding, owned}
 use Rattle.xc_data.specs.Private.{place_of}
 use Rattle.xc_world.specs.Late.{kept_call}
 use Rattle.xc_world.specs.Modes.{claims_of}
-use Rattle.xc_world.proofs.Objects.{same_object, found}
-use Rattle.xc_story.specs.Holding.{AreApart}
-use Rattle.xc_story.specs.Rows.{IsActiveAt}
-use Rattle.xc_story.specs.Seen.{SeenTx, SeenJob}
-use Rattle.xc_story.specs.Started.{is_start, keeps_start}
-use Rattle.xc_turns.proofs.SpokenClaims.{alone_first, owned_one, owned_still, owner_of}
+use Rattle.xc_world.proofs.Objects.{found}
+use Rattle.xc_data.proofs.Objects.{same_object}
+use Rattle.xc_model.specs.Holding.{AreApart}
+use Rattle.xc_model.specs.Movers.{IsActiveAt}
+use Rattle.xc_model.specs.Moment.{TxView, JobView}
+use Rattle.xc_model.specs.Started.{is_start, keeps_start}
+use Rattle.xc_turns.proofs.WordClaims.{alone_first, owned_one, owned_still, owner_of}
 
 -- where it keeps a start, it owns the jobs
-abbrev pub HoldsStart : SeenTx → Type 0
+abbrev pub HoldsStart : TxView → Type 0
 HoldsStart tx = keeps_start tx ≡ true → Contains (owned tx.held) object.Jobs
 
 -- each active one does
-abbrev pub HoldStarts : List SeenJob → Type 0
-HoldStarts jobs = (j : ℕ) (tx : SeenTx) → IsActiveAt jobs j tx → HoldsStart tx
+abbrev pub HoldStarts : List JobView → Type 0
+HoldStarts jobs = (j : ℕ) (tx : TxView) → IsActiveAt jobs j tx → HoldsStart tx
 
 -- ---- claims
 -- what was owned still is with more claims
@@ -88,8 +89,8 @@ kept_claims : (c : Call) (me : Private) (r : Reply) (words : ℕ) (held : List C
 kept_claims c me reply.Late words held is = late_claims c me words held is
 kept_claims c me _ words held is = cc is
 
--- so behind a call whoever keeps a start owns the jobs
-pub noted_holds : (tx : SeenTx) (c : Call) (r : Reply) (words : ℕ) → HoldsStart tx → list_any is_start (tx.late ++ kept_call c tx.me r) ≡ true
+-- so after a call whoever keeps a start owns the jobs
+pub noted_holds : (tx : TxView) (c : Call) (r : Reply) (words : ℕ) → HoldsStart tx → list_any is_start (tx.late ++ kept_call c tx.me r) ≡ true
     → Contains (owned (holding tx.held (claims_of c tx.me words))) object.Jobs
 noted_holds tx c r words holds is = by_test (keeps_start tx) refl
   where
@@ -101,7 +102,7 @@ noted_holds tx c r words holds is = by_test (keeps_start tx) refl
 
 -- ---- nobody else
 -- two active ones don't own one object
-pub one_owner : (jobs : List SeenJob) (i j : ℕ) (t u : SeenTx) (o : Object) → AreApart jobs → i ≢ j → IsActiveAt jobs i t → IsActiveAt jobs j u
+pub one_owner : (jobs : List JobView) (i j : ℕ) (t u : TxView) (o : Object) → AreApart jobs → i ≢ j → IsActiveAt jobs i t → IsActiveAt jobs j u
     → Contains (owned t.held) o → Contains (owned u.held) o → ⊥
 one_owner jobs i j t u o apart ne a b has other =
     let c = owner_of t.held o (found (owned t.held) o has) in
@@ -110,8 +111,8 @@ one_owner jobs i j t u o apart ne a b has other =
     alone_first d.0.mode (subst (λ m. compatible m d.0.mode ≡ true) c.3 both)
 
 -- so where one owns the jobs no other keeps a start
-pub others_keep_none : (jobs : List SeenJob) (at : ℕ) (tx : SeenTx) → AreApart jobs → HoldStarts jobs → IsActiveAt jobs at tx
-    → Contains (owned tx.held) object.Jobs → (j : ℕ) (u : SeenTx) → j ≢ at → IsActiveAt jobs j u → keeps_start u ≡ false
+pub others_keep_none : (jobs : List JobView) (at : ℕ) (tx : TxView) → AreApart jobs → HoldStarts jobs → IsActiveAt jobs at tx
+    → Contains (owned tx.held) object.Jobs → (j : ℕ) (u : TxView) → j ≢ at → IsActiveAt jobs j u → keeps_start u ≡ false
 others_keep_none jobs at tx apart hold a owns j u ne b = by_test (keeps_start u) refl
   where
     by_test : (t : Bool) → keeps_start u ≡ t → keeps_start u ≡ false

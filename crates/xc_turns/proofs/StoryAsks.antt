@@ -3,9 +3,11 @@ use Rattle.std.proofs.Common.{◌≡◌, List, [], ◌∷◌, ◌++◌, length, 
 use Rattle.xc_data.specs.declared.call.Call.{Call}
 use Rattle.xc_data.specs.declared.call.Reply.{Reply}
 use Rattle.xc_script.specs.declared.ask.Ask.TheVariants as ask
-use Rattle.xc_script.specs.Ask.{Walk, asks, answered, all_answered}
-use Rattle.xc_story.specs.InTime.{AreInTime, RepliesInTime}
-use Rattle.xc_story.specs.Truth.{AsksEach}
+use Rattle.xc_script.specs.Walks.{Walk}
+use Rattle.xc_script.specs.Asking.{asks}
+use Rattle.xc_script.specs.Answers.{answered, all_answered}
+use Rattle.xc_model.specs.InTime.{AreInTime, RepliesInTime}
+use Rattle.xc_model.specs.Truth.{AsksEach}
 
 -- one more reply is answered last
 pub answered-more : (walk : Walk) (replies : List Reply) (r : Reply) → all_answered walk (replies ++ r ∷ []) ≡ answered (all_answered walk replies) r

@@ -11,10 +11,10 @@ use Rattle.std.proofs.lemmas.List.Sorted.{IsPermutation-map}
 use Rattle.std.proofs.lemmas.List.Sorted.{IsPermutation-to_front, length_permutation, Contains-permutation}
 use Rattle.std.proofs.Math.ListN.{length-map, length-append}
 use Rattle.xc_data.specs.declared.entry.Entry.{Entry}
-use Rattle.xc_story.specs.Truth.{counting}
-use Rattle.xc_story.specs.Seen.{SeenTx, SeenJob, active_of, actives}
-use Rattle.xc_story.specs.Told.{AreBegins, entry_begin, active_begin, begins_of}
-use Rattle.xc_story.specs.Rows.{IsActiveAt}
+use Rattle.xc_model.specs.Truth.{counting}
+use Rattle.xc_model.specs.Moment.{TxView, JobView, active_of, actives}
+use Rattle.xc_model.specs.Stories.{AreBegins, entry_begin, active_begin, begins_of}
+use Rattle.xc_model.specs.Movers.{IsActiveAt}
 use Rattle.xc_turns.proofs.Lists.{around, contains_cons, contains_map}
 use Rattle.xc_turns.proofs.Jobs.{active_listed}
 
@@ -37,7 +37,7 @@ number_below journal begins are a in_it =
     counting_below 1 (length begins) a.0
     (Contains-permutation (map (λ (b : ℕ × ℕ). b.0) begins) (counting 1 (length begins)) a.0 are.numbers (contains_map (λ (b : ℕ × ℕ). b.0) begins a in_it))
 
--- the same begins in another order, behind no fewer entries
+-- the same begins in another order, after no fewer entries
 pub begins_moved : (journal more : List Entry) (begins moved : List (ℕ × ℕ)) → IsPermutation begins moved → length journal ≤ length more
     → AreBegins journal begins → AreBegins more moved
 begins_moved journal more begins moved same longer are =
@@ -94,27 +94,27 @@ begins_with journal begins number began next now are =
     }
 
 -- an active transaction's begin is among them
-pub active_begun : (journal : List Entry) (jobs : List SeenJob) (j : ℕ) (tx : SeenTx) → IsActiveAt jobs j tx
+pub active_begun : (journal : List Entry) (jobs : List JobView) (j : ℕ) (tx : TxView) → IsActiveAt jobs j tx
     → Contains (begins_of journal jobs) (active_begin tx)
 active_begun journal jobs j tx active =
     Contains-append_right (map entry_begin journal) (map active_begin (actives jobs)) (active_begin tx)
     (contains_map active_begin (actives jobs) tx (active_listed jobs j tx active))
 
 -- ---- by what stands in one job's place
-abbrev begin_in : Option SeenTx → Option (ℕ × ℕ)
+abbrev begin_in : Option TxView → Option (ℕ × ℕ)
 begin_in o = option_map active_begin o
 
-map_option : (o : Option SeenTx) (back : List SeenTx) → map active_begin (cons_option o back) ≡ cons_option (begin_in o) (map active_begin back)
+map_option : (o : Option TxView) (back : List TxView) → map active_begin (cons_option o back) ≡ cons_option (begin_in o) (map active_begin back)
 map_option None back = refl
 map_option (Some tx) back = refl
 
 -- the begins around one place
-begins_at : (front back : List SeenTx) (o : Option SeenTx)
+begins_at : (front back : List TxView) (o : Option TxView)
     → map active_begin (front ++ cons_option o back) ≡ map active_begin front ++ cons_option (begin_in o) (map active_begin back)
 begins_at front back o = map-append active_begin front (cons_option o back) ∙ ap (λ ys. map active_begin front ++ ys) (map_option o back)
 
 -- a job that has the same number and begin as before changes none
-pub begins_stay : (jobs : List SeenJob) (at : ℕ) (job next : SeenJob) → slice_get jobs at ≡ Some job → begin_in (active_of next) ≡ begin_in (active_of job)
+pub begins_stay : (jobs : List JobView) (at : ℕ) (job next : JobView) → slice_get jobs at ≡ Some job → begin_in (active_of next) ≡ begin_in (active_of job)
     → map active_begin (actives (slice_set jobs at next)) ≡ map active_begin (actives jobs)
 begins_stay jobs at job next stands same =
     let here = around active_of jobs at job stands in
@@ -123,12 +123,12 @@ begins_stay jobs at job next stands same =
     ∙ ap (map active_begin) (sym here.was)
 
 -- as many are active
-pub count_stays : (jobs jobs' : List SeenJob) → map active_begin (actives jobs') ≡ map active_begin (actives jobs)
+pub count_stays : (jobs jobs' : List JobView) → map active_begin (actives jobs') ≡ map active_begin (actives jobs)
     → length (actives jobs') ≡ length (actives jobs)
 count_stays jobs jobs' same = sym (length-map (actives jobs') active_begin) ∙ ap length same ∙ length-map (actives jobs) active_begin
 
 -- so many have begun
-pub begins_count : (journal : List Entry) (jobs : List SeenJob) → length (begins_of journal jobs) ≡ length journal + length (actives jobs)
+pub begins_count : (journal : List Entry) (jobs : List JobView) → length (begins_of journal jobs) ≡ length journal + length (actives jobs)
 begins_count journal jobs =
     length-append (map entry_begin journal) (map active_begin (actives jobs))
     ∙ (let a = length-map journal entry_begin in let b = length-map (actives jobs) active_begin in let e : length (map entry_begin journal)
@@ -148,7 +148,7 @@ to_end es fs bs b =
     (IsPermutation-append_right es (fs ++ b ∷ bs) (b ∷ (fs ++ bs)) (IsPermutation-middle fs b bs))
 
 -- an active transaction comes into a place that had none
-pub begins_begun : (journal : List Entry) (jobs : List SeenJob) (at : ℕ) (job next : SeenJob) (tx : SeenTx) → slice_get jobs at ≡ Some job
+pub begins_begun : (journal : List Entry) (jobs : List JobView) (at : ℕ) (job next : JobView) (tx : TxView) → slice_get jobs at ≡ Some job
     → active_of job ≡ None → active_of next ≡ Some tx
     → IsPermutation (active_begin tx ∷ begins_of journal jobs) (begins_of journal (slice_set jobs at next))
 begins_begun journal jobs at job next tx stands none some =
@@ -163,8 +163,8 @@ begins_begun journal jobs at job next tx stands none some =
     subst (λ xs. IsPermutation (active_begin tx ∷ (es ++ xs)) (begins_of journal (slice_set jobs at next))) (sym was)
     (subst (λ xs. IsPermutation (active_begin tx ∷ (es ++ (fs ++ bs))) (es ++ xs)) (sym is) (to_front es fs bs (active_begin tx)))
 
--- one goes out of its place, and its entry comes behind the journal
-pub begins_entered : (journal : List Entry) (jobs : List SeenJob) (at : ℕ) (job next : SeenJob) (tx : SeenTx) (e : Entry) → slice_get jobs at ≡ Some job
+-- one goes out of its place, and its entry comes after the journal
+pub begins_entered : (journal : List Entry) (jobs : List JobView) (at : ℕ) (job next : JobView) (tx : TxView) (e : Entry) → slice_get jobs at ≡ Some job
     → active_of job ≡ Some tx → active_of next ≡ None → entry_begin e ≡ active_begin tx
     → IsPermutation (begins_of journal jobs) (begins_of (journal ++ e ∷ []) (slice_set jobs at next))
 begins_entered journal jobs at job next tx e stands some none same =

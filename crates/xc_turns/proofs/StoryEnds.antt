@@ -1,4 +1,4 @@
--- A transaction enters the journal, and its job goes on behind it.
+-- A transaction enters the journal, and its job goes on after it.
 use Rattle.std.proofs.Common.{◌≡◌, ℕ, ◌+◌, ◌≤◌, List, [], ◌∷◌, ◌++◌, length, zero, suc, refl, ap, ap₂, sym, ◌∙◌, subst, arith, length-append, length-set}
 use Rattle.std.specs.Prelude.{All, IsPermutation, Option, map, slice_get, slice_set, unwrap_or}
 use Rattle.std.specs.declared.option.Option.TheVariants.{None, Some}
@@ -8,35 +8,37 @@ use Rattle.xc_data.specs.declared.entry.Cause.TheVariants as cause
 use Rattle.xc_data.specs.declared.entry.Entry.{Entry}
 use Rattle.xc_data.specs.Private.{IsSided}
 use Rattle.xc_world.specs.World.{beginning}
-use Rattle.xc_script.specs.Ask.{Job, Variables, Walk}
+use Rattle.xc_script.specs.Ask.{Job}
+use Rattle.xc_script.specs.Values.{Variables}
+use Rattle.xc_script.specs.Walks.{Walk}
 use Rattle.xc_script.specs.Position.{at_begin}
 use Rattle.xc_script.specs.Slots.{kept_of, with_ends}
-use Rattle.xc_story.specs.declared.phase.Attempts.{Attempts}
-use Rattle.xc_story.specs.declared.phase.Phase.TheVariants.{Committing}
-use Rattle.xc_story.specs.Setting.{Setting}
-use Rattle.xc_story.specs.Progress.{Following, Progress, after_entry, following_abort, progress_of, started_from, started_job as progress_started}
-use Rattle.xc_story.specs.Truth.{IsTrueEntry}
-use Rattle.xc_story.specs.Seen.{SeenTx, SeenJob, Active, Idle, active_of}
-use Rattle.xc_story.specs.Rows.{attempts_with, behind_abort, behind_commit, entry_of, started_job}
-use Rattle.xc_story.specs.Told.{AreAttempts, IsCommitting, IsDoing, IsInPhase, IsJobTold, IsUnderway, active_begin, begins_of, entry_begin}
+use Rattle.xc_model.specs.declared.phase.Attempts.{Attempts}
+use Rattle.xc_model.specs.declared.phase.Phase.TheVariants.{Committing}
+use Rattle.xc_model.specs.Setting.{Setting}
+use Rattle.xc_model.specs.Progress.{Following, Progress, after_entry, following_abort, progress_of, started_from, started_job as progress_started}
+use Rattle.xc_model.specs.Truth.{IsTrueEntry}
+use Rattle.xc_model.specs.Moment.{TxView, JobView, Active, Idle, active_of}
+use Rattle.xc_model.specs.Entering.{attempts_with, behind_abort, behind_commit, entry_of, started_job}
+use Rattle.xc_model.specs.Stories.{AreAttempts, IsCommitting, IsDoing, IsInPhase, StoryHolds, IsUnderway, active_begin, begins_of, entry_begin}
 use Rattle.xc_turns.proofs.Grown.{AreIdle, grown_actives}
-use Rattle.xc_turns.proofs.Lists.{get_set_same, get_set_other}
+use Rattle.xc_data.proofs.Lists.{get_set_same, get_set_other}
 use Rattle.xc_turns.proofs.Progressing.{progress-more, true-more}
 use Rattle.xc_turns.proofs.StoryBegins.{begins_count, begins_entered, begins_moved}
-use Rattle.xc_turns.proofs.StoryJobs.{AreJobsTold, AreToldBut, begun_in, told_append, told_in_place}
+use Rattle.xc_turns.proofs.StoryJobs.{JobStoriesHold, StoriesHoldBut, begun_in, told_append, told_in_place}
 use Rattle.xc_turns.proofs.StoryRows.{attempts_count}
 use Rattle.xc_turns.proofs.StoryEntries.{aborted_by, gone_on}
 
--- ---- an entry behind the journal
--- all is told behind it, where its job is, and the jobs that it started
-pub enters : (s : Setting) (journal : List Entry) (jobs more : List SeenJob) (at : ℕ) (job next : SeenJob) (tx : SeenTx) (e : Entry) (f g : Following)
+-- ---- an entry after the journal
+-- all is told after it, where its job is, and the jobs that it started
+pub enters : (s : Setting) (journal : List Entry) (jobs more : List JobView) (at : ℕ) (job next : JobView) (tx : TxView) (e : Entry) (f g : Following)
     (gs : List Following)
     → slice_get jobs at ≡ Some job → active_of job ≡ Some tx → active_of next ≡ None → entry_begin e ≡ active_begin tx
     → slice_get (progress_of s.script journal).jobs at ≡ Some f
     → (after_entry s.script (progress_of s.script journal) e).jobs ≡ slice_set (progress_of s.script journal).jobs at g ++ gs
-    → length gs ≡ length more → AreIdle more → AreJobsTold s (begun_in journal jobs) (length journal + 1) gs more
-    → IsTrueEntry s (progress_of s.script journal) e → IsJobTold s (begun_in journal jobs) (length journal + 1) g next
-    → AreToldBut s journal jobs → AreToldBut s (journal ++ e ∷ []) (slice_set jobs at next ++ more)
+    → length gs ≡ length more → AreIdle more → JobStoriesHold s (begun_in journal jobs) (length journal + 1) gs more
+    → IsTrueEntry s (progress_of s.script journal) e → StoryHolds s (begun_in journal jobs) (length journal + 1) g next
+    → StoriesHoldBut s journal jobs → StoriesHoldBut s (journal ++ e ∷ []) (slice_set jobs at next ++ more)
 enters s journal jobs more_jobs at job next tx e f g gs stands some none same got leads even idle started one mine told =
     let p = progress_of s.script journal in
     let fs = p.jobs in
@@ -55,27 +57,27 @@ enters s journal jobs more_jobs at job next tx e f g gs stands some none same go
     let led : (progress_of s.script (journal ++ e ∷ [])).jobs ≡ slice_set fs at g ++ gs =
     ap (λ (q : Progress). q.jobs) (progress-more s.script journal e) ∙ leads in
     let set_count : length (slice_set fs at g) ≡ length set_jobs = length-set fs at g ∙ told.count ∙ sym (length-set jobs at next) in
-    let all : AreJobsTold s n (length journal + 1) (slice_set fs at g ++ gs) next_jobs =
+    let all : JobStoriesHold s n (length journal + 1) (slice_set fs at g ++ gs) next_jobs =
     told_append s n (length journal + 1) (slice_set fs at g) gs set_jobs more_jobs set_count
     (told_in_place s n n (length journal) (length journal + 1) fs (slice_set fs at g) jobs at job next g (omega arith) (omega arith) stands
     (get_set_same fs at f g got) (λ j ne. get_set_other fs at j g ne) mine told.jobs_told) started in
     record {
       entries = true-more s journal e told.entries one;
       count = ap length led ∙ length-append (slice_set fs at g) gs ∙ ap₂ (λ a b. a + b) set_count even ∙ sym (length-append set_jobs more_jobs);
-      jobs_told = subst (λ gs. AreJobsTold s (begun_in (journal ++ e ∷ []) next_jobs) (length (journal ++ e ∷ [])) gs next_jobs) (sym led)
-          (subst (λ k. AreJobsTold s k (length (journal ++ e ∷ [])) (slice_set fs at g ++ gs) next_jobs) (sym count)
-          (subst (λ k. AreJobsTold s n k (slice_set fs at g ++ gs) next_jobs) (sym length_is) all));
+      jobs_told = subst (λ gs. JobStoriesHold s (begun_in (journal ++ e ∷ []) next_jobs) (length (journal ++ e ∷ [])) gs next_jobs) (sym led)
+          (subst (λ k. JobStoriesHold s k (length (journal ++ e ∷ [])) (slice_set fs at g ++ gs) next_jobs) (sym count)
+          (subst (λ k. JobStoriesHold s n k (slice_set fs at g ++ gs) next_jobs) (sym length_is) all));
       begins = begins_moved journal (journal ++ e ∷ []) (begins_of journal jobs) (begins_of (journal ++ e ∷ []) next_jobs) more (omega arith) told.begins;
       few = subst (λ k. k ≤ 10000) (sym count) told.few;
     }
 
--- ---- its job behind it
+-- ---- its job after it
 same_job : (a b : Job) → a.block ≡ b.block → a.next ≡ b.next → a.variables ≡ b.variables → a ≡ b
 same_job a b block next variables = λ i. record { block = block i; next = next i; variables = variables i }
 
--- behind a commit
-pub committed_told : (s : Setting) (begun entered led : ℕ) (f : Following) (job : SeenJob) (tx : SeenTx) → job.doing ≡ Active tx → tx.phase ≡ Committing
-    → led ≡ entered → IsJobTold s begun entered f job → IsJobTold s begun (entered + 1) (gone_on s.script led f tx) (behind_commit job tx)
+-- after a commit
+pub committed_told : (s : Setting) (begun entered led : ℕ) (f : Following) (job : JobView) (tx : TxView) → job.doing ≡ Active tx → tx.phase ≡ Committing
+    → led ≡ entered → StoryHolds s begun entered f job → StoryHolds s begun (entered + 1) (gone_on s.script led f tx) (behind_commit job tx)
 committed_told s begun entered led f job tx active commits count told =
     let under : IsUnderway s f job.place tx = subst (IsDoing s begun f job) active told.doing in
     let committing : IsCommitting s f job.place tx = subst (IsInPhase s f job.place tx) commits under.phase in
@@ -95,16 +97,16 @@ committed_told s begun entered led f job tx active commits count told =
     }
 
 -- and the jobs that it started
-pub started_told : (s : Setting) (begun entered led : ℕ) (starter : Job) (behind : SeenJob) (blocks : List (List ℕ)) → led ≡ entered
+pub started_told : (s : Setting) (begun entered led : ℕ) (starter : Job) (behind : JobView) (blocks : List (List ℕ)) → led ≡ entered
     → behind.me ≡ beginning behind.me.places → All IsSided behind.me.places → behind.place.variables ≡ starter.variables
-    → AreJobsTold s begun (entered + 1) (map (progress_started s.script starter (led + 1)) blocks) (map (started_job s.script behind) blocks)
+    → JobStoriesHold s begun (entered + 1) (map (progress_started s.script starter (led + 1)) blocks) (map (started_job s.script behind) blocks)
 started_told s begun entered led starter behind [] count fresh sided same at f job got there = cc got
 started_told s begun entered led starter behind (block ∷ blocks) count fresh sided same zero f job got there =
     let g = progress_started s.script starter (led + 1) block in
     let mine = started_job s.script behind block in
     let is_f : g ≡ f = cc got in
     let is_job : mine ≡ job = cc there in
-    let told : IsJobTold s begun (entered + 1) g mine = record {
+    let told : StoryHolds s begun (entered + 1) g mine = record {
       block = refl;
       fresh = fresh;
       sided = sided;
@@ -113,7 +115,7 @@ started_told s begun entered led starter behind (block ∷ blocks) count fresh s
       few = omega arith;
       doing = (refl, ap (λ variables. at_begin (started_from s.script variables block)) same);
     } in
-    subst (λ h. IsJobTold s begun (entered + 1) h job) is_f (subst (IsJobTold s begun (entered + 1) g) is_job told)
+    subst (λ h. StoryHolds s begun (entered + 1) h job) is_f (subst (StoryHolds s begun (entered + 1) g) is_job told)
 started_told s begun entered led starter behind (block ∷ blocks) count fresh sided same (suc at) f job got there =
     started_told s begun entered led starter behind blocks count fresh sided same at f job got there
 
@@ -122,10 +124,10 @@ attempts_same : (f g : Following) (o : Option Attempts) → g.first ≡ f.first 
 attempts_same f g None first failed are = (first ∙ are.0, failed ∙ are.1)
 attempts_same f g (Some a) first failed are = (first ∙ are.0, ap length failed ∙ are.1, are.2, are.3, failed ∙ are.4)
 
--- behind an abort that the script asked
-asked_told : (s : Setting) (begun entered led : ℕ) (f : Following) (job : SeenJob) (tx : SeenTx) (e : Entry) → led ≡ entered
-    → IsUnderway s f job.place tx → IsJobTold s begun entered f job
-    → IsJobTold s begun (entered + 1) (following_abort led f e cause.Asked) (behind_abort job tx cause.Asked)
+-- after an abort that the script asked
+asked_told : (s : Setting) (begun entered led : ℕ) (f : Following) (job : JobView) (tx : TxView) (e : Entry) → led ≡ entered
+    → IsUnderway s f job.place tx → StoryHolds s begun entered f job
+    → StoryHolds s begun (entered + 1) (following_abort led f e cause.Asked) (behind_abort job tx cause.Asked)
 asked_told s begun entered led f job tx e count under told =
     let passed_job : Job = record { block = job.place.block; next = job.place.next + 1; variables = job.place.begun } in
     let next : Job = record f.job { next = f.job.next + 1 } in
@@ -140,10 +142,10 @@ asked_told s begun entered led f job tx e count under told =
       doing = (refl, ap at_begin same);
     }
 
--- behind one for want of memory
-wanted_told : (s : Setting) (begun entered led : ℕ) (f : Following) (job : SeenJob) (tx : SeenTx) (e : Entry) → led ≡ entered
-    → IsUnderway s f job.place tx → IsJobTold s begun entered f job
-    → IsJobTold s begun (entered + 1) (following_abort led f e cause.NoMemory) (behind_abort job tx cause.NoMemory)
+-- after one for lack of memory
+wanted_told : (s : Setting) (begun entered led : ℕ) (f : Following) (job : JobView) (tx : TxView) (e : Entry) → led ≡ entered
+    → IsUnderway s f job.place tx → StoryHolds s begun entered f job
+    → StoryHolds s begun (entered + 1) (following_abort led f e cause.NoMemory) (behind_abort job tx cause.NoMemory)
 wanted_told s begun entered led f job tx e count under told =
     let g = following_abort led f e cause.NoMemory in
     record {
@@ -160,7 +162,7 @@ wanted_told s begun entered led f job tx e count under told =
 abbrev tried_again : ℕ → Following → ℕ → Cause → Following
 tried_again led f number c = record f { first = Some (unwrap_or f.first number); failed = f.failed ++ c ∷ []; since = led + 1 }
 
-abbrev behind_attempt : SeenJob → SeenTx → Cause → SeenJob
+abbrev behind_attempt : JobView → TxView → Cause → JobView
 behind_attempt job tx c =
     record job {
       place = at_begin (record { block = job.place.block; next = job.place.next; variables = job.place.begun });
@@ -169,9 +171,9 @@ behind_attempt job tx c =
       doing = Idle;
     }
 
-tried_told : (s : Setting) (begun entered led : ℕ) (f : Following) (job : SeenJob) (tx : SeenTx) (c : Cause) → led ≡ entered
-    → IsUnderway s f job.place tx → IsJobTold s begun entered f job
-    → IsJobTold s begun (entered + 1) (tried_again led f tx.number c) (behind_attempt job tx c)
+tried_told : (s : Setting) (begun entered led : ℕ) (f : Following) (job : JobView) (tx : TxView) (c : Cause) → led ≡ entered
+    → IsUnderway s f job.place tx → StoryHolds s begun entered f job
+    → StoryHolds s begun (entered + 1) (tried_again led f tx.number c) (behind_attempt job tx c)
 tried_told s begun entered led f job tx c count under told =
     let stood : Job = record { block = job.place.block; next = job.place.next; variables = job.place.begun } in
     let same : stood ≡ f.job = same_job stood f.job under.standing.block under.standing.next under.standing.begun in
@@ -186,9 +188,9 @@ tried_told s begun entered led f job tx c count under told =
       doing = (under.goes_on, ap at_begin same);
     }
 
-aborted_under : (s : Setting) (begun entered led at : ℕ) (f : Following) (job : SeenJob) (tx : SeenTx) (c : Cause) → led ≡ entered
-    → IsUnderway s f job.place tx → IsJobTold s begun entered f job
-    → IsJobTold s begun (entered + 1) (following_abort led f (entry_of tx at (aborted_by c tx)) c) (behind_abort job tx c)
+aborted_under : (s : Setting) (begun entered led at : ℕ) (f : Following) (job : JobView) (tx : TxView) (c : Cause) → led ≡ entered
+    → IsUnderway s f job.place tx → StoryHolds s begun entered f job
+    → StoryHolds s begun (entered + 1) (following_abort led f (entry_of tx at (aborted_by c tx)) c) (behind_abort job tx c)
 aborted_under s begun entered led at f job tx cause.Asked count under told =
     asked_told s begun entered led f job tx (entry_of tx at (aborted_by cause.Asked tx)) count under told
 aborted_under s begun entered led at f job tx cause.NoMemory count under told =
@@ -198,9 +200,9 @@ aborted_under s begun entered led at f job tx (cause.Conflict object holder now)
 aborted_under s begun entered led at f job tx (cause.Revoked object by now) count under told =
     tried_told s begun entered led f job tx (cause.Revoked object by now) count under told
 
--- behind an abort
-pub aborted_told : (s : Setting) (begun entered led at : ℕ) (f : Following) (job : SeenJob) (tx : SeenTx) (c : Cause) → job.doing ≡ Active tx
-    → led ≡ entered → IsJobTold s begun entered f job
-    → IsJobTold s begun (entered + 1) (following_abort led f (entry_of tx at (aborted_by c tx)) c) (behind_abort job tx c)
+-- after an abort
+pub aborted_told : (s : Setting) (begun entered led at : ℕ) (f : Following) (job : JobView) (tx : TxView) (c : Cause) → job.doing ≡ Active tx
+    → led ≡ entered → StoryHolds s begun entered f job
+    → StoryHolds s begun (entered + 1) (following_abort led f (entry_of tx at (aborted_by c tx)) c) (behind_abort job tx c)
 aborted_told s begun entered led at f job tx c active count told =
     aborted_under s begun entered led at f job tx c count (subst (IsDoing s begun f job) active told.doing) told

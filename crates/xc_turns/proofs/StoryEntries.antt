@@ -1,4 +1,4 @@
--- The entry of a transaction that ends is true behind a true journal, and what the journal leads to with it.
+-- The entry of a transaction that ends is true after a true journal, and what the journal leads to with it.
 use Rattle.std.proofs.Common.{◌≡◌, ℕ, ◌+◌, ◌-◌, ◌<◌, ◌≤◌, Bool, true, false, IsTrue, List, [], ◌++◌, length, map, ap, sym, ◌∙◌, subst}
 use Rattle.std.proofs.Common.{arith}
 use Rattle.std.specs.Prelude.{slice_get, slice_set, take, if◌then◌else◌}
@@ -12,39 +12,39 @@ use Rattle.xc_data.specs.declared.entry.Outcome.TheVariants.{Committed, Aborted}
 use Rattle.xc_data.specs.declared.undo.Undo.{Undo}
 use Rattle.xc_text.specs.declared.script.Script.{Script}
 use Rattle.xc_script.specs.declared.ask.Ask.{Ask}
-use Rattle.xc_script.specs.Ask.{asks}
+use Rattle.xc_script.specs.Asking.{asks}
 use Rattle.xc_script.specs.Position.{Position}
 use Rattle.xc_script.specs.Slots.{kept_of}
 use Rattle.xc_world.specs.Ends.{AreLegal, Ending}
-use Rattle.xc_world.specs.Run.{Ran, late_asked_of, lates, lates_fit}
-use Rattle.xc_story.specs.declared.phase.Phase.{Phase}
-use Rattle.xc_story.specs.declared.phase.Phase.TheVariants.{Committing, Undoing}
-use Rattle.xc_story.specs.Setting.{Setting}
-use Rattle.xc_story.specs.WordCalls.{AreWordReplies}
-use Rattle.xc_story.specs.Progress.{Following, Progress, after_entry, after_following, following_abort, following_of}
-use Rattle.xc_story.specs.Progress.{committed_job, started_job, untried}
-use Rattle.xc_story.specs.Truth.{AreRecords, IsHeldAt, IsPlayed, IsTrueEntry, is_tried_again, next_of}
-use Rattle.xc_story.specs.Seen.{SeenTx, late_left}
-use Rattle.xc_story.specs.LateCalls.{started_late}
+use Rattle.xc_world.specs.Run.{BodyResult, late_asked_of, lates, lates_fit}
+use Rattle.xc_model.specs.declared.phase.Phase.{Phase}
+use Rattle.xc_model.specs.declared.phase.Phase.TheVariants.{Committing, Undoing}
+use Rattle.xc_model.specs.Setting.{Setting}
+use Rattle.xc_model.specs.WordCalls.{AreWordReplies}
+use Rattle.xc_model.specs.Progress.{Following, Progress, after_entry, after_following, following_abort, following_of}
+use Rattle.xc_model.specs.Progress.{committed_job, started_job, untried}
+use Rattle.xc_model.specs.Truth.{AreRecords, IsHeldAt, IsPlayed, IsTrueEntry, is_tried_again, next_of}
+use Rattle.xc_model.specs.Moment.{TxView, late_left}
+use Rattle.xc_model.specs.LateCalls.{started_late}
 use Rattle.xc_data.specs.Calls.{thread_asked, thread_in}
-use Rattle.xc_story.specs.Rows.{entry_of}
-use Rattle.xc_story.specs.Told.{IsCommitting, IsInPhase, IsUndoing, IsUnderway, asked_of_tx}
-use Rattle.xc_story.specs.Played.{HoldsFor, IsPlayedSoFar, RecordsFor, ran_behind}
-use Rattle.xc_story.proofs.StartedCalls.{started_same}
+use Rattle.xc_model.specs.Entering.{entry_of}
+use Rattle.xc_model.specs.Stories.{IsCommitting, IsInPhase, IsUndoing, IsUnderway, asked_of_tx}
+use Rattle.xc_model.specs.Played.{HoldsFor, IsPlayedSoFar, RecordsFor, ran_behind}
+use Rattle.xc_model.proofs.StartedCalls.{started_same}
 use Rattle.xc_turns.proofs.LateCounts.{as_many, left_none, take_all}
 
 -- ---- the entry of the job in one place
--- the number behind a place leads back to it
+-- the number after a place leads back to it
 pub place_of_number : (at : ℕ) → at + 1 - 1 ≡ at
 place_of_number at = omega arith
 
 -- its job is the one in that place
-pub entry_following : (p : Progress) (at : ℕ) (tx : SeenTx) (outcome : Outcome) (f : Following) → slice_get p.jobs at ≡ Some f
+pub entry_following : (p : Progress) (at : ℕ) (tx : TxView) (outcome : Outcome) (f : Following) → slice_get p.jobs at ≡ Some f
     → following_of p (entry_of tx at outcome) ≡ Some f
 entry_following p at tx outcome f got = ap (slice_get p.jobs) (place_of_number at) ∙ got
 
 -- ---- a commit
-commit_played : (s : Setting) (words : ℕ) (p : Progress) (at : ℕ) (tx : SeenTx) (next : Ask) → tx.phase ≡ Committing → length tx.ends ≡ length tx.late
+commit_played : (s : Setting) (words : ℕ) (p : Progress) (at : ℕ) (tx : TxView) (next : Ask) → tx.phase ≡ Committing → length tx.ends ≡ length tx.late
     → IsPlayedSoFar s words p at tx → IsPlayed p next (entry_of tx at (Committed tx.ends))
 commit_played s words p at tx next commits all so =
     let ran = ran_behind p at tx in
@@ -59,8 +59,8 @@ commit_played s words p at tx next commits all so =
       };
     }
 
--- the entry of a commit is true behind a true journal
-pub commit_true : (s : Setting) (words : ℕ) (p : Progress) (f : Following) (at : ℕ) (place : Position) (tx : SeenTx) → slice_get p.jobs at ≡ Some f
+-- the entry of a commit is true after a true journal
+pub commit_true : (s : Setting) (words : ℕ) (p : Progress) (f : Following) (at : ℕ) (place : Position) (tx : TxView) → slice_get p.jobs at ≡ Some f
     → tx.phase ≡ Committing → late_left tx ≡ [] → IsUnderway s f place tx → tx.began ≤ p.entered → AreWordReplies p.words tx.calls tx.replies
     → (IsTrue s.tells → IsPlayedSoFar s words p at tx) → IsTrueEntry s p (entry_of tx at (Committed tx.ends))
 commit_true s words p f at place tx got commits none under began said played =
@@ -87,17 +87,17 @@ commit_true s words p f at place tx got commits none under began said played =
       };
     }
 
--- the job behind its commit
-abbrev pub gone_on : Script → ℕ → Following → SeenTx → Following
+-- the job after its commit
+abbrev pub gone_on : Script → ℕ → Following → TxView → Following
 gone_on script entered f tx = untried f.block (committed_job script f.job tx.calls tx.replies tx.ends) (entered + 1)
 
 -- the jobs that it started
-abbrev pub started_on : Script → ℕ → Following → SeenTx → List Following
+abbrev pub started_on : Script → ℕ → Following → TxView → List Following
 started_on script entered f tx =
     map (started_job script (committed_job script f.job tx.calls tx.replies tx.ends) (entered + 1)) (started_late tx.late tx.ends)
 
--- it goes on in its place behind a commit, and those that it started stand behind
-pub commit_leads : (script : Script) (p : Progress) (f : Following) (at : ℕ) (tx : SeenTx) → slice_get p.jobs at ≡ Some f
+-- it goes on in its place after a commit, and those that it started stand after
+pub commit_leads : (script : Script) (p : Progress) (f : Following) (at : ℕ) (tx : TxView) → slice_get p.jobs at ≡ Some f
     → map thread_in tx.late ≡ map thread_asked (kept_of tx.calls tx.replies)
     → (after_entry script p (entry_of tx at (Committed tx.ends))).jobs
     ≡ slice_set p.jobs at (gone_on script p.entered f tx) ++ started_on script p.entered f tx
@@ -111,23 +111,23 @@ commit_leads script p f at tx got kept =
 
 -- ---- an abort
 -- its outcome
-abbrev pub aborted_by : Cause → SeenTx → Outcome
+abbrev pub aborted_by : Cause → TxView → Outcome
 aborted_by c tx = Aborted (record { cause = c; records = tx.undo.ended })
 
-held_back : (ran : Ran) (next : Ask) (c : Cause) (held : List Claim) → HoldsFor ran next (Undoing c) held → IsHeldAt ran next c held
+held_back : (ran : BodyResult) (next : Ask) (c : Cause) (held : List Claim) → HoldsFor ran next (Undoing c) held → IsHeldAt ran next c held
 held_back ran next cause.Asked held h = h
 held_back ran next (cause.Conflict object holder at) held h = h
 held_back ran next (cause.Revoked object by at) held h = h
 held_back ran next cause.NoMemory held h = h
 
-records_back : (ran : Ran) (tx : ℕ) (next : Ask) (c : Cause) (records : List Undo) → RecordsFor ran tx next (Undoing c) records
+records_back : (ran : BodyResult) (tx : ℕ) (next : Ask) (c : Cause) (records : List Undo) → RecordsFor ran tx next (Undoing c) records
     → AreRecords ran tx next c records
 records_back ran tx next cause.Asked records h = h
 records_back ran tx next (cause.Conflict object holder at) records h = h
 records_back ran tx next (cause.Revoked object by at) records h = h
 records_back ran tx next cause.NoMemory records h = h
 
-abort_played : (s : Setting) (words : ℕ) (p : Progress) (f : Following) (at : ℕ) (tx : SeenTx) (c : Cause) → slice_get p.jobs at ≡ Some f
+abort_played : (s : Setting) (words : ℕ) (p : Progress) (f : Following) (at : ℕ) (tx : TxView) (c : Cause) → slice_get p.jobs at ≡ Some f
     → tx.phase ≡ Undoing c → tx.undo.pending ≡ [] → IsPlayedSoFar s words p at tx
     → IsPlayed p (next_of s.script f tx.replies) (entry_of tx at (aborted_by c tx))
 abort_played s words p f at tx c got undoes none so =
@@ -149,8 +149,8 @@ few_tried : (b : Bool) (n m : ℕ) → n < m → (if b then n + 1 else n) ≤ m
 few_tried true n m lt = omega arith
 few_tried false n m lt = omega arith
 
--- the entry of an abort is true behind a true journal
-pub abort_true : (s : Setting) (words : ℕ) (p : Progress) (f : Following) (at : ℕ) (place : Position) (tx : SeenTx) (c : Cause) → slice_get p.jobs at ≡ Some f
+-- the entry of an abort is true after a true journal
+pub abort_true : (s : Setting) (words : ℕ) (p : Progress) (f : Following) (at : ℕ) (place : Position) (tx : TxView) (c : Cause) → slice_get p.jobs at ≡ Some f
     → tx.phase ≡ Undoing c → tx.undo.pending ≡ [] → IsUnderway s f place tx → tx.began ≤ p.entered → AreWordReplies p.words tx.calls tx.replies
     → (IsTrue s.tells → IsPlayedSoFar s words p at tx) → IsTrueEntry s p (entry_of tx at (aborted_by c tx))
 abort_true s words p f at place tx c got undoes none under began said played =
@@ -176,8 +176,8 @@ abort_true s words p f at place tx c got undoes none under began said played =
       };
     }
 
--- its job goes on in its place behind an abort
-pub abort_leads : (script : Script) (p : Progress) (f : Following) (at : ℕ) (tx : SeenTx) (c : Cause) → slice_get p.jobs at ≡ Some f
+-- its job goes on in its place after an abort
+pub abort_leads : (script : Script) (p : Progress) (f : Following) (at : ℕ) (tx : TxView) (c : Cause) → slice_get p.jobs at ≡ Some f
     → (after_entry script p (entry_of tx at (aborted_by c tx))).jobs
     ≡ slice_set p.jobs at (following_abort p.entered f (entry_of tx at (aborted_by c tx)) c)
 abort_leads script p f at tx c got =

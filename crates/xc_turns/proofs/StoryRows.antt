@@ -15,21 +15,28 @@ use Rattle.xc_data.specs.declared.undo.Undo.{Undo}
 use Rattle.xc_data.specs.declared.undo.UndoEnd.{UndoEnd}
 use Rattle.xc_compensate.specs.Records.{Records, way_of}
 use Rattle.xc_script.specs.declared.ask.Ask.TheVariants as ask
-use Rattle.xc_script.specs.Ask.{Walk, answered, all_answered, asks, walk_from}
-use Rattle.xc_script.specs.Position.{Position, at_begin, walk_of, IsSettled}
+use Rattle.xc_script.specs.Walks.{Walk}
+use Rattle.xc_script.specs.Answers.{answered, all_answered}
+use Rattle.xc_script.specs.Asking.{asks}
+use Rattle.xc_script.specs.Ask.{walk_from}
+use Rattle.xc_script.specs.Position.{Position, at_begin, walk_of, IsPastSilent}
 use Rattle.xc_world.specs.After.{IsMeAfter}
 use Rattle.xc_world.specs.World.{World, beginning}
 use Rattle.xc_world.specs.Ends.{AreLegal, IsLegalEnd}
-use Rattle.xc_story.specs.declared.phase.Attempts.{Attempts}
-use Rattle.xc_story.specs.declared.phase.Phase.TheVariants.{Running, Committing, Undoing}
-use Rattle.xc_story.specs.Setting.{Setting}
-use Rattle.xc_story.specs.Progress.{Following}
-use Rattle.xc_story.specs.Truth.{IsCauseOf, next_of}
-use Rattle.xc_story.specs.Ending.{IsEnd}
-use Rattle.xc_story.specs.Seen.{SeenTx, SeenJob, Doing, Idle, Active, Starved, Ended, Now, begun_count, failures, rank_of, waiting}
-use Rattle.xc_story.specs.Rows.{IsEnding, IsReady, IsReplyInTime, IsSameBegin, IsSamePosition, IsSpent, Parts, asked_at, beginning_job, body_at}
-use Rattle.xc_story.specs.Rows.{new_tx, noting, with_tx}
-use Rattle.xc_story.specs.Told.{AreAttempts, IsDoing, IsInPhase, IsCommitting, IsJobTold, IsRunning, IsStanding, IsUndoing, IsUnderway}
+use Rattle.xc_model.specs.declared.phase.Attempts.{Attempts}
+use Rattle.xc_model.specs.declared.phase.Phase.TheVariants.{Running, Committing, Undoing}
+use Rattle.xc_model.specs.Setting.{Setting}
+use Rattle.xc_model.specs.Progress.{Following}
+use Rattle.xc_model.specs.Truth.{IsCauseOf, next_of}
+use Rattle.xc_model.specs.Ending.{IsEnd}
+use Rattle.xc_model.specs.Moment.{TxView, JobView, Doing, Idle, Active, Starved, Ended, Moment, begun_count, failures, rank_of, waiting}
+use Rattle.xc_model.specs.IdleRows.{IsEnding, IsReady, IsSpent, beginning_job}
+use Rattle.xc_model.specs.PlainSteps.{IsReplyInTime, Parts}
+use Rattle.xc_model.specs.Movers.{IsSameBegin, IsSamePosition, asked_at, body_at}
+use Rattle.xc_model.specs.IdleRows.{new_tx}
+use Rattle.xc_model.specs.PlainSteps.{noting}
+use Rattle.xc_model.specs.Movers.{with_tx}
+use Rattle.xc_model.specs.Stories.{AreAttempts, IsDoing, IsInPhase, IsCommitting, StoryHolds, IsRunning, IsInNextTx, IsUndoing, IsUnderway}
 use Rattle.xc_turns.proofs.StoryAsks.{answered-more, asks-more, asks-count, in_time-more}
 use Rattle.xc_turns.proofs.LateCounts.{late-more}
 use Rattle.xc_turns.proofs.Sided.{sided_after}
@@ -53,7 +60,7 @@ given_up s f (Some a) c spent are =
     (lt, are.3, are.4 ∙ ap (λ (x : Cause). are.3 ++ x ∷ []) spent.1)
 
 -- it ends as its story does
-end_told : (s : Setting) (now : Now) (f : Following) (job : SeenJob) (end : JobEnd) → IsEnding s now job end → AreAttempts f job.attempts
+end_told : (s : Setting) (now : Moment) (f : Following) (job : JobView) (end : JobEnd) → IsEnding s now job end → AreAttempts f job.attempts
     → f.starved ≡ false → job.place ≡ at_begin f.job → IsEnd s (begun_count now) f end
 end_told s now f job job_end.Done ending are goes place = (goes, ap (λ (p : Position). body_at s p) (sym place) ∙ ending)
 end_told s now f job (job_end.GaveUp c) ending are goes place =
@@ -64,8 +71,8 @@ end_told s now f job job_end.JournalFull ending are goes place =
 end_told s now f job job_end.NoMemory ending are goes place = subst (λ (p : Position). IsSome (body_at s p)) place ending
 
 -- an idle job that ends
-pub ended_told : (s : Setting) (now : Now) (entered : ℕ) (f : Following) (job : SeenJob) (end : JobEnd) → job.doing ≡ Idle → IsEnding s now job end
-    → IsJobTold s (begun_count now) entered f job → IsJobTold s (begun_count now) entered f (record job { doing = Ended end })
+pub ended_told : (s : Setting) (now : Moment) (entered : ℕ) (f : Following) (job : JobView) (end : JobEnd) → job.doing ≡ Idle → IsEnding s now job end
+    → StoryHolds s (begun_count now) entered f job → StoryHolds s (begun_count now) entered f (record job { doing = Ended end })
 ended_told s now entered f job end idle ending told =
     let (goes, place) = subst (IsDoing s (begun_count now) f job) idle told.doing in
     record {
@@ -79,8 +86,8 @@ ended_told s now entered f job end idle ending told =
     }
 
 -- a job that is told to wait
-pub waiting_told : (s : Setting) (begun entered : ℕ) (f : Following) (job : SeenJob) → IsJobTold s begun entered f job
-    → IsJobTold s begun entered f (waiting job)
+pub waiting_told : (s : Setting) (begun entered : ℕ) (f : Following) (job : JobView) → StoryHolds s begun entered f job
+    → StoryHolds s begun entered f (waiting job)
 waiting_told s begun entered f job told =
     record {
       block = told.block;
@@ -99,7 +106,7 @@ waiting_told s begun entered f job told =
     waiting_doing (Ended end) h = h
 
 -- a transaction that begins
-begun_underway : (s : Setting) (now : Now) (f : Following) (job : SeenJob) → IsReady s now job → AreAttempts f job.attempts
+begun_underway : (s : Setting) (now : Moment) (f : Following) (job : JobView) → IsReady s now job → AreAttempts f job.attempts
     → f.starved ≡ false → job.place ≡ at_begin f.job → f.since ≤ length now.journal → job.me ≡ beginning job.me.places → All IsSided job.me.places
     → IsUnderway s f (record job.place { begun = job.place.variables })
     (new_tx (begun_count now + 1) (rank_of job.attempts (begun_count now + 1)) (length now.journal) job.me)
@@ -125,8 +132,8 @@ begun_underway s now f job ready are goes place since fresh sided =
     }
 
 -- an idle job whose next transaction begins
-pub begun_told : (s : Setting) (now : Now) (f : Following) (job : SeenJob) → job.doing ≡ Idle → IsReady s now job
-    → IsJobTold s (begun_count now) (length now.journal) f job → IsJobTold s (begun_count now + 1) (length now.journal) f (beginning_job now job)
+pub begun_told : (s : Setting) (now : Moment) (f : Following) (job : JobView) → job.doing ≡ Idle → IsReady s now job
+    → StoryHolds s (begun_count now) (length now.journal) f job → StoryHolds s (begun_count now + 1) (length now.journal) f (beginning_job now job)
 begun_told s now f job idle ready told =
     let (goes, place) = subst (IsDoing s (begun_count now) f job) idle told.doing in
     record {
@@ -141,9 +148,9 @@ begun_told s now f job idle ready told =
 
 -- ---- a job with an active transaction that stays active
 -- its story goes on where its transaction does
-pub active_told : (s : Setting) (begun entered : ℕ) (f : Following) (job : SeenJob) (place : Position) (tx next : SeenTx) → job.doing ≡ Active tx
+pub active_told : (s : Setting) (begun entered : ℕ) (f : Following) (job : JobView) (place : Position) (tx next : TxView) → job.doing ≡ Active tx
     → (IsUnderway s f job.place tx → IsUnderway s f place next)
-    → IsJobTold s begun entered f job → IsJobTold s begun entered f (with_tx job place next)
+    → StoryHolds s begun entered f job → StoryHolds s begun entered f (with_tx job place next)
 active_told s begun entered f job place tx next active moves told =
     record {
       block = told.block;
@@ -156,16 +163,16 @@ active_told s begun entered f job place tx next active moves told =
     }
 
 -- the same begin stands in the same transaction
-pub same_standing : (f : Following) (old new : Position) → IsSameBegin old new → IsStanding f old → IsStanding f new
-same_standing f old new same stands =
+pub same_next_tx : (f : Following) (old new : Position) → IsSameBegin old new → IsInNextTx f old → IsInNextTx f new
+same_next_tx f old new same stands =
     record { block = same.block ∙ stands.block; next = same.next ∙ stands.next; begun = same.begun ∙ stands.begun }
 
 -- a running one's phase
-pub running_phase : (s : Setting) (f : Following) (place : Position) (tx : SeenTx) → tx.phase ≡ Running → IsUnderway s f place tx → IsRunning s f place tx
+pub running_phase : (s : Setting) (f : Following) (place : Position) (tx : TxView) → tx.phase ≡ Running → IsUnderway s f place tx → IsRunning s f place tx
 running_phase s f place tx runs under = subst (IsInPhase s f place tx) runs under.phase
 
--- behind a call
-pub called_underway : (w : World) (s : Setting) (f : Following) (old new : Position) (tx : SeenTx) (call : Call) (reply : Reply) (claims : List Claim)
+-- after a call
+pub called_underway : (w : World) (s : Setting) (f : Following) (old new : Position) (tx : TxView) (call : Call) (reply : Reply) (claims : List Claim)
     (parts : Parts) (made : List Undo)
     → tx.phase ≡ Running → asks (walk_of s.script old) ≡ ask.Call call → IsSameBegin old new → walk_of s.script new ≡ answered (walk_of s.script old) reply
     → IsReplyInTime tx.me tx.number call reply → parts.undo ≡ record tx.undo { pending = tx.undo.pending ++ made }
@@ -186,7 +193,7 @@ called_underway w s f old new tx call reply claims parts made runs asked same be
       attempts = under.attempts;
       rank = under.rank;
       since = under.since;
-      standing = same_standing f old new same under.standing;
+      standing = same_next_tx f old new same under.standing;
       asked = asks-more begin tx.calls tx.replies call reply under.asked is;
       kept = late-more w tx.me tx.number tx.late tx.calls tx.replies call reply in_time (asks-count begin tx.calls tx.replies under.asked) under.kept;
       in_time = in_time-more tx.calls tx.replies call reply
@@ -196,8 +203,8 @@ called_underway w s f old new tx call reply claims parts made runs asked same be
       phase = subst (IsInPhase s f new (noting tx call reply claims parts)) (sym runs) phase;
     }
 
--- on its way back
-pub back_underway : (s : Setting) (f : Following) (old new : Position) (tx : SeenTx) (c : Cause) (undo : Records) (held : List Claim)
+-- rolling back
+pub back_underway : (s : Setting) (f : Following) (old new : Position) (tx : TxView) (c : Cause) (undo : Records) (held : List Claim)
     → undo.ended ≡ tx.undo.ended → tx.phase ≡ Running → IsSamePosition s old new
     → (next_of s.script f tx.replies ≡ asked_at s old → IsCauseOf c (next_of s.script f tx.replies))
     → IsUnderway s f old tx → IsUnderway s f new (record tx { phase = Undoing c; undo = undo; held = held })
@@ -209,7 +216,7 @@ back_underway s f old new tx c undo held ended runs same caused under =
       attempts = under.attempts;
       rank = under.rank;
       since = under.since;
-      standing = same_standing f old new same.begin under.standing;
+      standing = same_next_tx f old new same.begin under.standing;
       asked = under.asked;
       kept = under.kept;
       in_time = under.in_time;
@@ -223,7 +230,7 @@ back_underway s f old new tx c undo held ended runs same caused under =
     }
 
 -- passed silent statements at most
-pub same_underway : (s : Setting) (f : Following) (old new : Position) (tx : SeenTx) → tx.phase ≡ Running → IsSamePosition s old new
+pub same_underway : (s : Setting) (f : Following) (old new : Position) (tx : TxView) → tx.phase ≡ Running → IsSamePosition s old new
     → IsUnderway s f old tx → IsUnderway s f new tx
 same_underway s f old new tx runs same under =
     let running = running_phase s f old tx runs under in
@@ -234,7 +241,7 @@ same_underway s f old new tx runs same under =
       attempts = under.attempts;
       rank = under.rank;
       since = under.since;
-      standing = same_standing f old new same.begin under.standing;
+      standing = same_next_tx f old new same.begin under.standing;
       asked = under.asked;
       kept = under.kept;
       in_time = under.in_time;
@@ -244,7 +251,8 @@ same_underway s f old new tx runs same under =
     }
 
 -- over to its commit
-pub commits_underway : (s : Setting) (f : Following) (old new : Position) (tx : SeenTx) → tx.phase ≡ Running → IsSamePosition s old new → IsSettled s.script new
+pub commits_underway : (s : Setting) (f : Following) (old new : Position) (tx : TxView) → tx.phase ≡ Running → IsSamePosition s old new
+    → IsPastSilent s.script new
     → asked_at s old ≡ ask.Commit → IsUnderway s f old tx → IsUnderway s f new (record tx { phase = Committing })
 commits_underway s f old new tx runs same settled asked under =
     let running = running_phase s f old tx runs under in
@@ -254,7 +262,7 @@ commits_underway s f old new tx runs same settled asked under =
       attempts = under.attempts;
       rank = under.rank;
       since = under.since;
-      standing = same_standing f old new same.begin under.standing;
+      standing = same_next_tx f old new same.begin under.standing;
       asked = under.asked;
       kept = under.kept;
       in_time = under.in_time;
@@ -269,11 +277,11 @@ commits_underway s f old new tx runs same settled asked under =
       };
     }
 
--- behind a late call
-pub ended_underway : (s : Setting) (f : Following) (place : Position) (tx : SeenTx) (end : LateEnd) → tx.phase ≡ Committing → length tx.ends < length tx.late
+-- after a late call
+pub ended_underway : (s : Setting) (f : Following) (place : Position) (tx : TxView) (end : LateEnd) → tx.phase ≡ Committing → length tx.ends < length tx.late
     → IsUnderway s f place tx → IsUnderway s f place (record tx { ends = tx.ends ++ end ∷ [] })
 ended_underway s f place tx end commits some under =
-    let next : SeenTx = record tx { ends = tx.ends ++ end ∷ [] } in
+    let next : TxView = record tx { ends = tx.ends ++ end ∷ [] } in
     let committing : IsCommitting s f place tx = subst (IsInPhase s f place tx) commits under.phase in
     let phase : IsCommitting s f place next = record {
       ahead = committing.ahead;
@@ -297,13 +305,13 @@ ended_underway s f place tx end commits some under =
       phase = subst (IsInPhase s f place next) (sym commits) phase;
     }
 
--- behind a compensation
-pub tried_underway : (s : Setting) (f : Following) (place : Position) (tx : SeenTx) (c : Cause) (older : List Undo) (u : Undo) (end : UndoEnd)
+-- after a compensation
+pub tried_underway : (s : Setting) (f : Following) (place : Position) (tx : TxView) (c : Cause) (older : List Undo) (u : Undo) (end : UndoEnd)
     → tx.phase ≡ Undoing c → tx.undo.pending ≡ older ++ u ∷ [] → IsLegalEnd s.rules.undo_tries u end (way_of older u tx.undo)
     → IsUnderway s f place tx → IsUnderway s f place (record tx { undo = record { pending = older; ended = (u, end) ∷ tx.undo.ended } })
 tried_underway s f place tx c older u end undoes newest legal under =
     let undoing : IsUndoing s f tx c = subst (IsInPhase s f place tx) undoes under.phase in
-    let next : SeenTx = record tx { undo = record { pending = older; ended = (u, end) ∷ tx.undo.ended } } in
+    let next : TxView = record tx { undo = record { pending = older; ended = (u, end) ∷ tx.undo.ended } } in
     let count : length tx.undo.pending ≡ length older + 1 = ap length newest ∙ length-append older (u ∷ []) in
     let phase : IsUndoing s f next c = record {
       caused = undoing.caused;
@@ -326,8 +334,8 @@ tried_underway s f place tx c older u end undoes newest legal under =
     }
 
 -- ---- a job that asks nothing more
-pub starved_told : (s : Setting) (begun entered : ℕ) (f : Following) (job : SeenJob) → job.doing ≡ Starved → IsJobTold s begun entered f job
-    → IsJobTold s begun entered f (record job { doing = Ended job_end.NoMemory })
+pub starved_told : (s : Setting) (begun entered : ℕ) (f : Following) (job : JobView) → job.doing ≡ Starved → StoryHolds s begun entered f job
+    → StoryHolds s begun entered f (record job { doing = Ended job_end.NoMemory })
 starved_told s begun entered f job starved told =
     let was = subst (IsDoing s begun f job) starved told.doing in
     record { block = told.block; fresh = told.fresh; sided = told.sided; since = told.since; attempts = told.attempts; few = told.few; doing = was.1 }

@@ -9,17 +9,17 @@ use Rattle.xc_data.specs.Counts.{RisesBy}
 use Rattle.xc_text.specs.declared.script.Script.{Script}
 use Rattle.xc_script.specs.Ask.{block_place, fresh_job}
 use Rattle.xc_data.specs.declared.entry.Mark.{Mark}
-use Rattle.xc_story.specs.Setting.{Setting}
-use Rattle.xc_story.specs.Grounds.{Part}
-use Rattle.xc_story.specs.Progress.{Following, progress_of, untried}
-use Rattle.xc_story.specs.Counted.{tx_faults}
-use Rattle.xc_story.specs.Holding.{AreApart}
-use Rattle.xc_story.specs.Kept.{IsKept}
-use Rattle.xc_story.specs.Opened.{IsOpening, opened_job}
-use Rattle.xc_story.specs.Seen.{SeenTx, SeenJob, Now, actives}
-use Rattle.xc_story.specs.Spoken.{AreSpoken}
-use Rattle.xc_story.specs.Told.{AreBegins, AreTold, IsJobTold, active_begin, active_parts, reading}
-use Rattle.xc_story.specs.Started.{blocks, started_by}
+use Rattle.xc_model.specs.Setting.{Setting}
+use Rattle.xc_model.specs.Grounds.{Part}
+use Rattle.xc_model.specs.Progress.{Following, progress_of, untried}
+use Rattle.xc_model.specs.Counted.{tx_faults}
+use Rattle.xc_model.specs.Holding.{AreApart}
+use Rattle.xc_model.specs.Consistent.{IsConsistent}
+use Rattle.xc_model.specs.Opened.{IsOpening, opened_job}
+use Rattle.xc_model.specs.Moment.{TxView, JobView, Moment, actives}
+use Rattle.xc_model.specs.Words.{WordsAgree}
+use Rattle.xc_model.specs.Stories.{AreBegins, StoriesHold, StoryHolds, active_begin, active_parts, reading}
+use Rattle.xc_model.specs.Started.{blocks, started_by}
 use Rattle.xc_turns.proofs.Jobs.{none_active, opened_rests}
 use Rattle.xc_turns.proofs.Sided.{opened_sided}
 
@@ -28,7 +28,7 @@ abbrev opened_following : Script → List ℕ → Following
 opened_following script name = untried name (fresh_job script (block_place script name)) 0
 
 -- its jobs before their first transactions
-abbrev opened_jobs : Script → List (List ℕ) → List SeenJob
+abbrev opened_jobs : Script → List (List ℕ) → List JobView
 opened_jobs script names = map (opened_job script) names
 
 -- none of them is active
@@ -41,13 +41,13 @@ opened_blocks script [] = refl
 opened_blocks script (name ∷ names) = ap (λ bs. name ∷ bs) (opened_blocks script names)
 
 -- each is told
-opened_told : (s : Setting) (begun entered : ℕ) (names : List (List ℕ)) (at : ℕ) (f : Following) (job : SeenJob)
-    → slice_get (map (opened_following s.script) names) at ≡ Some f → slice_get (opened_jobs s.script names) at ≡ Some job → IsJobTold s begun entered f job
+opened_told : (s : Setting) (begun entered : ℕ) (names : List (List ℕ)) (at : ℕ) (f : Following) (job : JobView)
+    → slice_get (map (opened_following s.script) names) at ≡ Some f → slice_get (opened_jobs s.script names) at ≡ Some job → StoryHolds s begun entered f job
 opened_told s begun entered [] at f job got_f got = cc
 opened_told s begun entered (name ∷ names) zero f job got_f got =
     let first : opened_following s.script name ≡ f = cc in
     let one : opened_job s.script name ≡ job = cc in
-    let told : IsJobTold s begun entered (opened_following s.script name) (opened_job s.script name) = record {
+    let told : StoryHolds s begun entered (opened_following s.script name) (opened_job s.script name) = record {
       block = refl;
       fresh = refl;
       sided = opened_sided s.script.outline;
@@ -56,8 +56,8 @@ opened_told s begun entered (name ∷ names) zero f job got_f got =
       few = omega arith;
       doing = (refl, refl);
     } in
-    subst (λ (g : Following). IsJobTold s begun entered g job) first
-    (subst (IsJobTold s begun entered (opened_following s.script name)) one told)
+    subst (λ (g : Following). StoryHolds s begun entered g job) first
+    (subst (StoryHolds s begun entered (opened_following s.script name)) one told)
 opened_told s begun entered (name ∷ names) (suc at) f job got_f got = opened_told s begun entered names at f job got_f got
 
 -- no conflict has to be grounded
@@ -78,7 +78,7 @@ none_begun =
       by_now = λ a in_a. absurd (let none = in_a.1 in omega arith);
     }
 
-start_told : (s : Setting) (words : ℕ) (marks : ℕ → Option Mark) → AreTold s words marks [] (opened_jobs s.script s.script.outline.jobs)
+start_told : (s : Setting) (words : ℕ) (marks : ℕ → Option Mark) → StoriesHold s words marks [] (opened_jobs s.script s.script.outline.jobs)
 start_told s words marks =
     let names = s.script.outline.jobs in
     let jobs = opened_jobs s.script names in
@@ -86,15 +86,15 @@ start_told s words marks =
       entries = tt;
       count = length-map names (opened_following s.script) ∙ sym (length-map names (opened_job s.script));
       jobs_told = λ at f job got_f got. opened_told s (0 + length (actives jobs)) 0 names at f job got_f got;
-      begins = subst (λ (txs : List SeenTx). AreBegins [] (map active_begin txs)) (sym (none_opened s.script names)) none_begun;
-      few = subst (λ (txs : List SeenTx). 0 + length txs ≤ 10000) (sym (none_opened s.script names)) (omega arith);
+      begins = subst (λ (txs : List TxView). AreBegins [] (map active_begin txs)) (sym (none_opened s.script names)) none_begun;
+      few = subst (λ (txs : List TxView). 0 + length txs ≤ 10000) (sym (none_opened s.script names)) (omega arith);
       grounded = record {
         entries = λ i e got. cc;
         actives = λ j e got. absurd (none_wanted s words marks 1 (progress_of s.script []).jobs names j e got);
       };
     }
 
-start_spoken : (script : Script) (names : List (List ℕ)) (words : List ℕ) → AreSpoken words words (opened_jobs script names)
+start_spoken : (script : Script) (names : List (List ℕ)) (words : List ℕ) → WordsAgree words words (opened_jobs script names)
 start_spoken script names words =
     record {
       count = refl;
@@ -112,7 +112,7 @@ start_apart script names =
 
 start_counted : (script : Script) (names : List (List ℕ)) (faults : ℕ) → RisesBy (0 + sum_by tx_faults (actives (opened_jobs script names))) faults faults
 start_counted script names faults =
-    subst (λ (txs : List SeenTx). RisesBy (0 + sum_by tx_faults txs) faults faults) (sym (none_opened script names)) refl
+    subst (λ (txs : List TxView). RisesBy (0 + sum_by tx_faults txs) faults faults) (sym (none_opened script names)) refl
 
 start_started : (script : Script) (names : List (List ℕ))
     → names ≡ blocks (opened_jobs script names) ++ flat_map started_by (actives (opened_jobs script names))
@@ -120,12 +120,12 @@ start_started script names =
     sym (ap₂ (λ a b. a ++ b) (opened_blocks script names) (ap (flat_map started_by) (none_opened script names)) ∙ append-nil names)
 
 -- a start keeps all
-pub start_kept : (s : Setting) (now : Now) → length s.script.outline.jobs ≤ 1000 → IsOpening s.script now → IsKept s now.faults now
+pub start_kept : (s : Setting) (now : Moment) → length s.script.outline.jobs ≤ 1000 → IsOpening s.script now → IsConsistent s now.faults now
 start_kept s now few opening =
     let names = s.script.outline.jobs in
-    let first : Now = record now { words = s.script.outline.words; journal = []; jobs = opened_jobs s.script names; started = names } in
+    let first : Moment = record now { words = s.script.outline.words; journal = []; jobs = opened_jobs s.script names; started = names } in
     let same : now ≡ first = λ i. record now { words = opening.words i; journal = opening.journal i; jobs = opening.jobs i; started = opening.started i } in
-    let kept : IsKept s now.faults first = record {
+    let kept : IsConsistent s now.faults first = record {
       told = start_told s (length s.script.outline.words) now.marks;
       attempts = tt;
       spoken = start_spoken s.script names s.script.outline.words;
@@ -137,4 +137,4 @@ start_kept s now few opening =
         holds = λ j tx active. absurd (opened_rests s.script names j tx active);
       };
     } in
-    subst (IsKept s now.faults) (sym same) kept
+    subst (IsConsistent s now.faults) (sym same) kept

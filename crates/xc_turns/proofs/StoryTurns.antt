@@ -20,86 +20,100 @@ use Rattle.xc_script.specs.declared.ask.Ask.{Ask}
 use Rattle.xc_script.specs.declared.ask.Ask.TheVariants as ask
 use Rattle.xc_script.specs.Position.{Position, is_call}
 use Rattle.xc_data.specs.declared.entry.Mark.{Mark}
-use Rattle.xc_story.specs.declared.phase.Phase.{Phase}
-use Rattle.xc_story.specs.declared.phase.Phase.TheVariants.{Running, Committing, Undoing}
-use Rattle.xc_story.specs.Setting.{Setting}
-use Rattle.xc_story.specs.WordCalls.{AreWordReplies}
-use Rattle.xc_story.specs.Progress.{Following, following_abort, progress_of}
-use Rattle.xc_story.specs.Seen.{SeenTx, SeenJob, Doing, Idle, Active, Starved, Ended, Now, active_in, begun_count, late_left, rank_of, revoked, waiting}
-use Rattle.xc_story.specs.Rows.{ActiveTurn, AskedTurn, BackTurn, Calls, Commits, Compensates, Conflicts, IdleTurn, IsActiveAt, IsEnding, IsReady, IsTurn}
-use Rattle.xc_story.specs.Rows.{MarkedTurn, Revokes, RunningTurn, Waits}
-use Rattle.xc_story.specs.Rows.{LateTurn, NextLate, started_job, started_jobs, StarvedTurn, TurnOf, TurnsBack, Wants, asked_at, behind_abort}
-use Rattle.xc_story.specs.Rows.{behind_commit, beginning_job, mover}
-use Rattle.xc_story.specs.Rows.{claims_at, entry_of, new_tx, noting, wanting, with_tx}
-use Rattle.xc_story.specs.Grounds.{AreGrounded}
-use Rattle.xc_story.specs.Told.{AreTold, IsDoing, IsUnderway, active_begin, reading, scene_at}
-use Rattle.xc_story.specs.Played.{IsPlayedSoFar}
-use Rattle.xc_story.specs.Spoken.{AreSpoken}
+use Rattle.xc_model.specs.declared.phase.Phase.{Phase}
+use Rattle.xc_model.specs.declared.phase.Phase.TheVariants.{Running, Committing, Undoing}
+use Rattle.xc_model.specs.Setting.{Setting}
+use Rattle.xc_model.specs.WordCalls.{AreWordReplies}
+use Rattle.xc_model.specs.Progress.{Following, following_abort, progress_of}
+use Rattle.xc_model.specs.Moment.{TxView, JobView, Doing, Idle, Active, Starved, Ended, Moment, active_in, begun_count, late_left, rank_of, revoked, waiting}
+use Rattle.xc_model.specs.Rows.{ActiveTurn, IsTurn}
+use Rattle.xc_model.specs.RunningRows.{AskedTurn, Calls, Commits, Conflicts}
+use Rattle.xc_model.specs.UndoingRows.{BackTurn, Compensates}
+use Rattle.xc_model.specs.IdleRows.{IdleTurn, IsEnding, IsReady}
+use Rattle.xc_model.specs.Movers.{IsActiveAt}
+use Rattle.xc_model.specs.RunningRows.{MarkedTurn, Revokes, RunningTurn, Waits}
+use Rattle.xc_model.specs.CommittingRows.{LateTurn, NextLate}
+use Rattle.xc_model.specs.Entering.{started_job, started_jobs, behind_abort}
+use Rattle.xc_model.specs.Rows.{StarvedTurn, TurnOf}
+use Rattle.xc_model.specs.RunningRows.{TurnsBack, Wants}
+use Rattle.xc_model.specs.Movers.{asked_at}
+use Rattle.xc_model.specs.Entering.{behind_commit}
+use Rattle.xc_model.specs.IdleRows.{beginning_job}
+use Rattle.xc_model.specs.Movers.{mover}
+use Rattle.xc_model.specs.PlainSteps.{claims_at, noting, wanting}
+use Rattle.xc_model.specs.Entering.{entry_of}
+use Rattle.xc_model.specs.IdleRows.{new_tx}
+use Rattle.xc_model.specs.Movers.{with_tx}
+use Rattle.xc_model.specs.Grounds.{AreGrounded}
+use Rattle.xc_model.specs.Stories.{StoriesHold, IsDoing, IsUnderway, active_begin, reading, scene_at}
+use Rattle.xc_model.specs.Played.{IsPlayedSoFar}
+use Rattle.xc_model.specs.Words.{WordsAgree}
 use Rattle.xc_turns.proofs.Lists.{get_beside}
 use Rattle.xc_turns.proofs.Jobs.{behind_abort_none}
 use Rattle.xc_turns.proofs.Progressing.{entered-all}
 use Rattle.xc_turns.proofs.StoryBegins.{active_begun}
-use Rattle.xc_turns.proofs.StoryJobs.{AreToldBut, begins_in, goes_on, told_but, told_whole}
+use Rattle.xc_turns.proofs.StoryJobs.{StoriesHoldBut, begins_in, goes_on, told_but, told_whole}
 use Rattle.xc_turns.proofs.StoryRows.{active_told, back_underway, begun_told, called_underway, commits_underway, ended_told, ended_underway, starved_told}
 use Rattle.xc_turns.proofs.StoryRows.{same_underway, tried_underway, waiting_told}
 use Rattle.xc_turns.proofs.LateCounts.{left_some}
 use Rattle.xc_turns.proofs.StoryEntries.{started_on, abort_leads, abort_true, aborted_by, commit_leads, commit_true, gone_on}
 use Rattle.std.proofs.Common.{append-nil}
 use Rattle.std.proofs.lemmas.List.{length-map}
-use Rattle.xc_story.specs.LateCalls.{started_late}
-use Rattle.xc_story.specs.Progress.{committed_job, started_job as progress_started}
+use Rattle.xc_model.specs.LateCalls.{started_late}
+use Rattle.xc_model.specs.Progress.{committed_job, started_job as progress_started}
 use Rattle.xc_turns.proofs.Grown.{started_idle}
 use Rattle.xc_turns.proofs.LateEnds.{next_ends}
 use Rattle.xc_turns.proofs.StoryEnds.{started_told, aborted_told, committed_told, enters}
 
 -- the same journal and jobs
-told_as : (s : Setting) (journal journal' : List Entry) (jobs jobs' : List SeenJob) → journal' ≡ journal → jobs' ≡ jobs → AreToldBut s journal jobs
-    → AreToldBut s journal' jobs'
+told_as : (s : Setting) (journal journal' : List Entry) (jobs jobs' : List JobView) → journal' ≡ journal → jobs' ≡ jobs → StoriesHoldBut s journal jobs
+    → StoriesHoldBut s journal' jobs'
 told_as s journal journal' jobs jobs' entries same told =
-    subst (λ es. AreToldBut s es jobs') (sym entries) (subst (AreToldBut s journal) (sym same) told)
+    subst (λ es. StoriesHoldBut s es jobs') (sym entries) (subst (StoriesHoldBut s journal) (sym same) told)
 
 -- what is true before a turn of the job in this place
-pub record Before (s : Setting) (at : ℕ) (old : Now) (job : SeenJob) : Type 0 where
-  pub stands : slice_get old.jobs at ≡ Some job
-  pub spoken : AreSpoken (progress_of s.script old.journal).words old.words old.jobs
-  pub played : IsTrue s.tells → (tx : SeenTx) → IsActiveAt old.jobs at tx
+pub record Before (s : Setting) (at : ℕ) (old : Moment) (job : JobView) : Type 0 where
+  pub there : slice_get old.jobs at ≡ Some job
+  pub spoken : WordsAgree (progress_of s.script old.journal).words old.words old.jobs
+  pub played : IsTrue s.tells → (tx : TxView) → IsActiveAt old.jobs at tx
       → IsPlayedSoFar s (length old.words) (progress_of s.script old.journal) at tx
-  pub told : AreToldBut s old.journal old.jobs
+  pub told : StoriesHoldBut s old.journal old.jobs
 
-module _ (s : Setting) (at : ℕ) (old new : Now) (job : SeenJob) (b : Before s at old job) where
+module _ (s : Setting) (at : ℕ) (old new : Moment) (job : JobView) (b : Before s at old job) where
   -- the new moment's stories
   abbrev After : Type 0
-  After = AreToldBut s new.journal new.jobs
+  After = StoriesHoldBut s new.journal new.jobs
 
   -- ---- an idle job
   ended_row : (end : JobEnd) → job.doing ≡ Idle → IsEnding s old job end → new.journal ≡ old.journal
       → new.jobs ≡ slice_set old.jobs at (record job { doing = Ended end }) → After
   ended_row end idle ending journal jobs =
       told_as s old.journal new.journal (slice_set old.jobs at (record job { doing = Ended end })) new.jobs journal jobs
-      (goes_on s old.journal old.jobs at job (record job { doing = Ended end }) b.stands (ap (option_map active_begin) (sym (ap active_in idle)))
+      (goes_on s old.journal old.jobs at job (record job { doing = Ended end }) b.there (ap (option_map active_begin) (sym (ap active_in idle)))
       (λ f told. ended_told s old (length old.journal) f job end idle ending told) b.told)
 
   begun_row : job.doing ≡ Idle → IsReady s old job → new.journal ≡ old.journal → new.jobs ≡ slice_set old.jobs at (beginning_job old job) → After
   begun_row idle ready journal jobs =
       let tx = new_tx (begun_count old + 1) (rank_of job.attempts (begun_count old + 1)) (length old.journal) job.me in
       told_as s old.journal new.journal (slice_set old.jobs at (beginning_job old job)) new.jobs journal jobs
-      (begins_in s old.journal old.jobs at job (beginning_job old job) tx b.stands (ap active_in idle) refl refl refl ready.room
+      (begins_in s old.journal old.jobs at job (beginning_job old job) tx b.there (ap active_in idle) refl refl refl ready.room
       (λ f told. begun_told s old f job idle ready told) b.told)
 
   idle_row : (answer : Turn) → job.doing ≡ Idle → IdleTurn (mover s at old job) answer new → After
-  idle_row (turn.Ended end) idle row = ended_row end idle row.0 (ap (λ (n : Now). n.journal) row.1) (ap (λ (n : Now). n.jobs) row.1)
-  idle_row turn.Went idle row = begun_row idle row.0 (ap (λ (n : Now). n.journal) row.1) (ap (λ (n : Now). n.jobs) row.1)
+  idle_row (turn.Ended end) idle row = ended_row end idle row.0 (ap (λ (n : Moment). n.journal) row.1) (ap (λ (n : Moment). n.jobs) row.1)
+  idle_row turn.Went idle row = begun_row idle row.0 (ap (λ (n : Moment). n.journal) row.1) (ap (λ (n : Moment). n.jobs) row.1)
   idle_row (turn.Busy object number) idle row =
-      told_as s old.journal new.journal (slice_set old.jobs at (waiting job)) new.jobs (ap (λ (n : Now). n.journal) row.1) (ap (λ (n : Now). n.jobs) row.1)
-      (goes_on s old.journal old.jobs at job (waiting job) b.stands refl
+      told_as s old.journal new.journal (slice_set old.jobs at (waiting job)) new.jobs (ap (λ (n : Moment). n.journal) row.1)
+      (ap (λ (n : Moment). n.jobs) row.1)
+      (goes_on s old.journal old.jobs at job (waiting job) b.there refl
       (λ f told. waiting_told s (begun_count old) (length old.journal) f job told) b.told)
   idle_row turn.NoMemory idle row = absurd row
 
   starved_row : (answer : Turn) → job.doing ≡ Starved → StarvedTurn (mover s at old job) answer new → After
   starved_row (turn.Ended job_end.NoMemory) starved row =
-      let next : SeenJob = record job { doing = Ended job_end.NoMemory } in
-      told_as s old.journal new.journal (slice_set old.jobs at next) new.jobs (ap (λ (n : Now). n.journal) row) (ap (λ (n : Now). n.jobs) row)
-      (goes_on s old.journal old.jobs at job next b.stands (ap (option_map active_begin) (sym (ap active_in starved)))
+      let next : JobView = record job { doing = Ended job_end.NoMemory } in
+      told_as s old.journal new.journal (slice_set old.jobs at next) new.jobs (ap (λ (n : Moment). n.journal) row) (ap (λ (n : Moment). n.jobs) row)
+      (goes_on s old.journal old.jobs at job next b.there (ap (option_map active_begin) (sym (ap active_in starved)))
       (λ f told. starved_told s (begun_count old) (length old.journal) f job starved told) b.told)
   starved_row (turn.Ended job_end.Done) starved row = absurd row
   starved_row (turn.Ended (job_end.GaveUp c)) starved row = absurd row
@@ -109,96 +123,96 @@ module _ (s : Setting) (at : ℕ) (old new : Now) (job : SeenJob) (b : Before s 
   starved_row turn.NoMemory starved row = absurd row
 
   -- ---- a job with an active transaction that stays active
-  active_row : (place : Position) (tx next : SeenTx) → job.doing ≡ Active tx → active_begin next ≡ active_begin tx
+  active_row : (place : Position) (tx next : TxView) → job.doing ≡ Active tx → active_begin next ≡ active_begin tx
       → ((f : Following) → IsUnderway s f job.place tx → IsUnderway s f place next)
       → new.journal ≡ old.journal → new.jobs ≡ slice_set old.jobs at (with_tx job place next) → After
   active_row place tx next active same moves journal jobs =
       told_as s old.journal new.journal (slice_set old.jobs at (with_tx job place next)) new.jobs journal jobs
-      (goes_on s old.journal old.jobs at job (with_tx job place next) b.stands
+      (goes_on s old.journal old.jobs at job (with_tx job place next) b.there
       (ap Some same ∙ ap (option_map active_begin) (sym (ap active_in active)))
       (λ f told. active_told s (begun_count old) (length old.journal) f job place tx next active (moves f) told) b.told)
 
-  called_row : (tx : SeenTx) (call : Call) → job.doing ≡ Active tx → tx.phase ≡ Running → asked_at s job.place ≡ ask.Call call
+  called_row : (tx : TxView) (call : Call) → job.doing ≡ Active tx → tx.phase ≡ Running → asked_at s job.place ≡ ask.Call call
       → Calls (mover s at old job) tx call new → After
   called_row tx call active runs asked row =
       active_row row.place tx (noting tx call row.reply (claims_at old tx call) row.parts) active refl
       (λ f under. called_underway (world_of old.contents) s f job.place row.place tx call row.reply (claims_at old tx call) row.parts row.made runs asked
       row.begin row.walk row.in_time row.undo row.stored row.after under)
-      (ap (λ (n : Now). n.journal) row.behind) (ap (λ (n : Now). n.jobs) row.behind)
+      (ap (λ (n : Moment). n.journal) row.behind) (ap (λ (n : Moment). n.jobs) row.behind)
 
-  conflict_row : (tx : SeenTx) (call : Call) → job.doing ≡ Active tx → tx.phase ≡ Running → asked_at s job.place ≡ ask.Call call
+  conflict_row : (tx : TxView) (call : Call) → job.doing ≡ Active tx → tx.phase ≡ Running → asked_at s job.place ≡ ask.Call call
       → Conflicts (mover s at old job) tx call new → After
   conflict_row tx call active runs asked row =
       let c = cause.Conflict row.object row.holder (length old.journal) in
       active_row row.place tx (record tx { phase = Undoing c }) active refl
       (λ f under. back_underway s f job.place row.place tx c tx.undo tx.held refl runs row.same (λ next. ap is_call (next ∙ asked)) under)
-      (ap (λ (n : Now). n.journal) row.behind) (ap (λ (n : Now). n.jobs) row.behind)
+      (ap (λ (n : Moment). n.journal) row.behind) (ap (λ (n : Moment). n.jobs) row.behind)
 
   -- it is told to wait
-  waits_row : (tx : SeenTx) (object : Object) (holder : ℕ) → job.doing ≡ Active tx → tx.phase ≡ Running → Waits (mover s at old job) tx object holder new
+  waits_row : (tx : TxView) (object : Object) (holder : ℕ) → job.doing ≡ Active tx → tx.phase ≡ Running → Waits (mover s at old job) tx object holder new
       → After
   waits_row tx object holder active runs row =
-      let next : SeenJob = with_tx job row.place tx in
-      told_as s old.journal new.journal (slice_set old.jobs at (waiting next)) new.jobs (ap (λ (n : Now). n.journal) row.behind)
-      (ap (λ (n : Now). n.jobs) row.behind)
-      (goes_on s old.journal old.jobs at job (waiting next) b.stands (ap (option_map active_begin) (sym (ap active_in active)))
+      let next : JobView = with_tx job row.place tx in
+      told_as s old.journal new.journal (slice_set old.jobs at (waiting next)) new.jobs (ap (λ (n : Moment). n.journal) row.behind)
+      (ap (λ (n : Moment). n.jobs) row.behind)
+      (goes_on s old.journal old.jobs at job (waiting next) b.there (ap (option_map active_begin) (sym (ap active_in active)))
       (λ f told. waiting_told s (begun_count old) (length old.journal) f next
       (active_told s (begun_count old) (length old.journal) f job row.place tx tx active (same_underway s f job.place row.place tx runs row.same) told)) b.told)
 
   -- it is revoked
-  revoked_row : (tx : SeenTx) (m : Mark) → job.doing ≡ Active tx → tx.phase ≡ Running → Revokes (mover s at old job) tx m new → After
+  revoked_row : (tx : TxView) (m : Mark) → job.doing ≡ Active tx → tx.phase ≡ Running → Revokes (mover s at old job) tx m new → After
   revoked_row tx m active runs row =
       active_row job.place tx (record tx { phase = Undoing (revoked m) }) active refl
       (λ f under. back_underway s f job.place job.place tx (revoked m) tx.undo tx.held refl runs
       (record { begin = record { block = refl; next = refl; begun = refl }; walk = refl; at = omega arith }) (λ next. tt) under)
-      (ap (λ (n : Now). n.journal) row) (ap (λ (n : Now). n.jobs) row)
+      (ap (λ (n : Moment). n.journal) row) (ap (λ (n : Moment). n.jobs) row)
 
-  commits_row : (tx : SeenTx) → job.doing ≡ Active tx → tx.phase ≡ Running → asked_at s job.place ≡ ask.Commit → Commits (mover s at old job) tx new → After
+  commits_row : (tx : TxView) → job.doing ≡ Active tx → tx.phase ≡ Running → asked_at s job.place ≡ ask.Commit → Commits (mover s at old job) tx new → After
   commits_row tx active runs asked row =
       active_row row.place tx (record tx { phase = Committing }) active refl
       (λ f under. commits_underway s f job.place row.place tx runs row.same row.settled asked under)
-      (ap (λ (n : Now). n.journal) row.behind) (ap (λ (n : Now). n.jobs) row.behind)
+      (ap (λ (n : Moment). n.journal) row.behind) (ap (λ (n : Moment). n.jobs) row.behind)
 
-  turned_row : (tx : SeenTx) → job.doing ≡ Active tx → tx.phase ≡ Running → asked_at s job.place ≡ ask.Abort → TurnsBack (mover s at old job) tx new → After
+  turned_row : (tx : TxView) → job.doing ≡ Active tx → tx.phase ≡ Running → asked_at s job.place ≡ ask.Abort → TurnsBack (mover s at old job) tx new → After
   turned_row tx active runs asked row =
       active_row row.place tx (record tx { phase = Undoing cause.Asked }) active refl
       (λ f under. back_underway s f job.place row.place tx cause.Asked tx.undo tx.held refl runs row.same (λ next. next ∙ asked) under)
-      (ap (λ (n : Now). n.journal) row.behind) (ap (λ (n : Now). n.jobs) row.behind)
+      (ap (λ (n : Moment). n.journal) row.behind) (ap (λ (n : Moment). n.jobs) row.behind)
 
-  wants_row : (tx : SeenTx) → job.doing ≡ Active tx → tx.phase ≡ Running → Wants (mover s at old job) tx new → After
+  wants_row : (tx : TxView) → job.doing ≡ Active tx → tx.phase ≡ Running → Wants (mover s at old job) tx new → After
   wants_row tx active runs row =
       let next = wanting tx row.left row.held in
       active_row row.place tx next active refl
       (λ f under. back_underway s f job.place row.place tx cause.NoMemory next.undo row.held refl runs row.same (λ asked. tt) under)
-      (ap (λ (n : Now). n.journal) row.behind) (ap (λ (n : Now). n.jobs) row.behind)
+      (ap (λ (n : Moment). n.journal) row.behind) (ap (λ (n : Moment). n.jobs) row.behind)
 
-  late_row : (tx : SeenTx) (call : LateCall) (calls : List LateCall) → job.doing ≡ Active tx → tx.phase ≡ Committing → late_left tx ≡ call ∷ calls
+  late_row : (tx : TxView) (call : LateCall) (calls : List LateCall) → job.doing ≡ Active tx → tx.phase ≡ Committing → late_left tx ≡ call ∷ calls
       → NextLate (mover s at old job) tx call new → After
   late_row tx call calls active commits some next =
       let row = next_ends s at old job tx new call next in
       active_row job.place tx (record tx { ends = tx.ends ++ row.end ∷ [] }) active refl
       (λ f under. ended_underway s f job.place tx row.end commits (left_some tx.late tx.ends call calls some) under) row.journal row.jobs
 
-  tried_row : (tx : SeenTx) (c : Cause) → job.doing ≡ Active tx → tx.phase ≡ Undoing c → Compensates (mover s at old job) tx new → After
+  tried_row : (tx : TxView) (c : Cause) → job.doing ≡ Active tx → tx.phase ≡ Undoing c → Compensates (mover s at old job) tx new → After
   tried_row tx c active undoes row =
       active_row job.place tx (record tx { undo = record { pending = row.older; ended = (row.tried, row.end) ∷ tx.undo.ended } }) active refl
-      (λ f under. tried_underway s f job.place tx c row.older row.tried row.end undoes row.newest row.legal under) (ap (λ (n : Now). n.journal) row.behind)
-      (ap (λ (n : Now). n.jobs) row.behind)
+      (λ f under. tried_underway s f job.place tx c row.older row.tried row.end undoes row.newest row.legal under) (ap (λ (n : Moment). n.journal) row.behind)
+      (ap (λ (n : Moment). n.jobs) row.behind)
 
-  asked_row : (tx : SeenTx) (a : Ask) → job.doing ≡ Active tx → tx.phase ≡ Running → asked_at s job.place ≡ a → AskedTurn (mover s at old job) tx a new → After
+  asked_row : (tx : TxView) (a : Ask) → job.doing ≡ Active tx → tx.phase ≡ Running → asked_at s job.place ≡ a → AskedTurn (mover s at old job) tx a new → After
   asked_row tx (ask.Call call) active runs asked (inl row) = called_row tx call active runs asked row
   asked_row tx (ask.Call call) active runs asked (inr row) = conflict_row tx call active runs asked row
   asked_row tx ask.Commit active runs asked row = commits_row tx active runs asked row
   asked_row tx ask.Abort active runs asked row = turned_row tx active runs asked row
   asked_row tx ask.End active runs asked row = absurd row
 
-  running_row : (tx : SeenTx) (answer : Turn) → job.doing ≡ Active tx → tx.phase ≡ Running → RunningTurn (mover s at old job) tx answer new → After
+  running_row : (tx : TxView) (answer : Turn) → job.doing ≡ Active tx → tx.phase ≡ Running → RunningTurn (mover s at old job) tx answer new → After
   running_row tx turn.Went active is row = asked_row tx (asked_at s job.place) active is refl row
   running_row tx turn.NoMemory active is row = wants_row tx active is row
   running_row tx (turn.Busy object holder) active is row = waits_row tx object holder active is row
   running_row tx (turn.Ended end) active is row = absurd row
 
-  marked_row : (tx : SeenTx) (m : Option Mark) (answer : Turn) → job.doing ≡ Active tx → tx.phase ≡ Running → MarkedTurn (mover s at old job) tx m answer new
+  marked_row : (tx : TxView) (m : Option Mark) (answer : Turn) → job.doing ≡ Active tx → tx.phase ≡ Running → MarkedTurn (mover s at old job) tx m answer new
       → After
   marked_row tx None answer active is row = running_row tx answer active is row
   marked_row tx (Some m) turn.Went active is row = revoked_row tx m active is row
@@ -208,31 +222,31 @@ module _ (s : Setting) (at : ℕ) (old new : Now) (job : SeenJob) (b : Before s 
 
   -- ---- a transaction that enters
   -- it is active
-  is_active : (tx : SeenTx) → job.doing ≡ Active tx → IsActiveAt old.jobs at tx
-  is_active tx active = (job, b.stands, ap active_in active)
+  is_active : (tx : TxView) → job.doing ≡ Active tx → IsActiveAt old.jobs at tx
+  is_active tx active = (job, b.there, ap active_in active)
 
   -- it began by now
-  began_by_now : (tx : SeenTx) → job.doing ≡ Active tx → tx.began ≤ (progress_of s.script old.journal).entered
+  began_by_now : (tx : TxView) → job.doing ≡ Active tx → tx.began ≤ (progress_of s.script old.journal).entered
   began_by_now tx active =
       let by = b.told.begins.by_now (active_begin tx) (active_begun old.journal old.jobs at tx (is_active tx active)) in
       let all = entered-all s.script old.journal in
       omega arith
 
-  replies_said : (tx : SeenTx) → job.doing ≡ Active tx → AreWordReplies (progress_of s.script old.journal).words tx.calls tx.replies
+  replies_said : (tx : TxView) → job.doing ≡ Active tx → AreWordReplies (progress_of s.script old.journal).words tx.calls tx.replies
   replies_said tx active = (b.spoken.each at tx (is_active tx active)).replies
 
   -- what the journal tells of the job so far
   follows : (f : Following) × (slice_get (progress_of s.script old.journal).jobs at ≡ Some f)
-  follows = get_beside (progress_of s.script old.journal).jobs old.jobs at job b.told.count b.stands
+  follows = get_beside (progress_of s.script old.journal).jobs old.jobs at job b.told.count b.there
 
-  commit_row : (tx : SeenTx) → job.doing ≡ Active tx → tx.phase ≡ Committing → late_left tx ≡ []
+  commit_row : (tx : TxView) → job.doing ≡ Active tx → tx.phase ≡ Committing → late_left tx ≡ []
       → new.journal ≡ old.journal ++ entry_of tx at (Committed tx.ends) ∷ [] → new.jobs ≡ slice_set old.jobs at (behind_commit job tx) ++ started_jobs
       s.script job tx → After
   commit_row tx active commits none journal jobs =
       let p = progress_of s.script old.journal in
       let e = entry_of tx at (Committed tx.ends) in
       let (f, got) = follows in
-      let told = b.told.jobs_told at f job got b.stands in
+      let told = b.told.jobs_told at f job got b.there in
       let under : IsUnderway s f job.place tx = subst (IsDoing s (begun_count old) f job) active told.doing in
       let starter = committed_job s.script f.job tx.calls tx.replies tx.ends in
       let blocks = started_late tx.late tx.ends in
@@ -240,7 +254,7 @@ module _ (s : Setting) (at : ℕ) (old new : Now) (job : SeenJob) (b : Before s 
       let variables : (behind_commit job tx).place.variables ≡ starter.variables = ap (λ (place : Position). place.variables) gone.doing.1 in
       told_as s (old.journal ++ e ∷ []) new.journal (slice_set old.jobs at (behind_commit job tx) ++ started_jobs s.script job tx) new.jobs journal jobs
       (enters s old.journal old.jobs (started_jobs s.script job tx) at job (behind_commit job tx) tx e f (gone_on s.script p.entered f tx)
-      (started_on s.script p.entered f tx) b.stands
+      (started_on s.script p.entered f tx) b.there
       (ap active_in active) refl refl got (commit_leads s.script p f at tx got under.kept)
       (length-map blocks (progress_started s.script starter (p.entered + 1)) ∙ sym (length-map blocks (started_job s.script (behind_commit job tx))))
       (started_idle s.script (behind_commit job tx) blocks)
@@ -250,36 +264,37 @@ module _ (s : Setting) (at : ℕ) (old new : Now) (job : SeenJob) (b : Before s 
       (λ t. b.played t tx (is_active tx active)))
       gone b.told)
 
-  left_row : (tx : SeenTx) (calls : List LateCall) → job.doing ≡ Active tx → tx.phase ≡ Committing → late_left tx ≡ calls
+  left_row : (tx : TxView) (calls : List LateCall) → job.doing ≡ Active tx → tx.phase ≡ Committing → late_left tx ≡ calls
       → LateTurn (mover s at old job) tx calls new → After
-  left_row tx [] active commits none row = commit_row tx active commits none (ap (λ (n : Now). n.journal) row.0) (ap (λ (n : Now). n.jobs) row.0)
+  left_row tx [] active commits none row = commit_row tx active commits none (ap (λ (n : Moment). n.journal) row.0) (ap (λ (n : Moment). n.jobs) row.0)
   left_row tx (call ∷ calls) active commits some row = late_row tx call calls active commits some row
 
-  abort_row : (tx : SeenTx) (c : Cause) → job.doing ≡ Active tx → tx.phase ≡ Undoing c → tx.undo.pending ≡ []
+  abort_row : (tx : TxView) (c : Cause) → job.doing ≡ Active tx → tx.phase ≡ Undoing c → tx.undo.pending ≡ []
       → new.journal ≡ old.journal ++ entry_of tx at (aborted_by c tx) ∷ [] → new.jobs ≡ slice_set old.jobs at (behind_abort job tx c) → After
   abort_row tx c active undoes none journal jobs =
       let p = progress_of s.script old.journal in
       let e = entry_of tx at (aborted_by c tx) in
       let (f, got) = follows in
-      let told = b.told.jobs_told at f job got b.stands in
+      let told = b.told.jobs_told at f job got b.there in
       let under : IsUnderway s f job.place tx = subst (IsDoing s (begun_count old) f job) active told.doing in
       let nil = append-nil (slice_set old.jobs at (behind_abort job tx c)) in
       told_as s (old.journal ++ e ∷ []) new.journal (slice_set old.jobs at (behind_abort job tx c)) new.jobs journal jobs
-      (subst (λ js. AreToldBut s (old.journal ++ e ∷ []) js) nil (enters s old.journal old.jobs [] at job (behind_abort job tx c) tx e f
-      (following_abort p.entered f e c) [] b.stands
+      (subst (λ js. StoriesHoldBut s (old.journal ++ e ∷ []) js) nil (enters s old.journal old.jobs [] at job (behind_abort job tx c) tx e f
+      (following_abort p.entered f e c) [] b.there
       (ap active_in active) (behind_abort_none job tx c) refl got
       (abort_leads s.script p f at tx c got ∙ sym (append-nil (slice_set p.jobs at (following_abort p.entered f e c)))) refl tt (λ j g other none. cc none)
       (abort_true s (length old.words) p f at job.place tx c got undoes none under (began_by_now tx active) (replies_said tx active)
       (λ t. b.played t tx (is_active tx active)))
       (aborted_told s (begun_count old) (length old.journal) p.entered at f job tx c active (entered-all s.script old.journal) told) b.told))
 
-  back_row : (tx : SeenTx) (c : Cause) (pending : List Undo) → job.doing ≡ Active tx → tx.phase ≡ Undoing c → tx.undo.pending ≡ pending
+  back_row : (tx : TxView) (c : Cause) (pending : List Undo) → job.doing ≡ Active tx → tx.phase ≡ Undoing c → tx.undo.pending ≡ pending
       → BackTurn (mover s at old job) tx c pending new → After
-  back_row tx c [] active undoes none row = abort_row tx c active undoes none (ap (λ (n : Now). n.journal) row.behind) (ap (λ (n : Now). n.jobs) row.behind)
+  back_row tx c [] active undoes none row = abort_row tx c active undoes none (ap (λ (n : Moment). n.journal) row.behind)
+      (ap (λ (n : Moment). n.jobs) row.behind)
   back_row tx c (u ∷ pending) active undoes some row = tried_row tx c active undoes row
 
   -- ---- all rows
-  phase_row : (tx : SeenTx) (phase : Phase) (answer : Turn) → job.doing ≡ Active tx → tx.phase ≡ phase → ActiveTurn (mover s at old job) tx phase answer new
+  phase_row : (tx : TxView) (phase : Phase) (answer : Turn) → job.doing ≡ Active tx → tx.phase ≡ phase → ActiveTurn (mover s at old job) tx phase answer new
       → After
   phase_row tx Running answer active is row = marked_row tx (old.marks tx.number) answer active is row
   phase_row tx Committing turn.Went active is row = left_row tx (late_left tx) active is refl row
@@ -298,21 +313,21 @@ module _ (s : Setting) (at : ℕ) (old new : Now) (job : SeenJob) (b : Before s 
   doing_row (Ended end) answer is row = absurd row
 
 -- a turn goes on with all that is true of the stories but for the grounds of conflicts
-pub turn_told : (s : Setting) (at : ℕ) (old new : Now) (answer : Turn) → IsTurn s at old answer new
-    → AreSpoken (progress_of s.script old.journal).words old.words old.jobs
-    → (IsTrue s.tells → (tx : SeenTx) → IsActiveAt old.jobs at tx → IsPlayedSoFar s (length old.words) (progress_of s.script old.journal) at tx)
-    → AreToldBut s old.journal old.jobs → AreToldBut s new.journal new.jobs
+pub turn_told : (s : Setting) (at : ℕ) (old new : Moment) (answer : Turn) → IsTurn s at old answer new
+    → WordsAgree (progress_of s.script old.journal).words old.words old.jobs
+    → (IsTrue s.tells → (tx : TxView) → IsActiveAt old.jobs at tx → IsPlayedSoFar s (length old.words) (progress_of s.script old.journal) at tx)
+    → StoriesHoldBut s old.journal old.jobs → StoriesHoldBut s new.journal new.jobs
 turn_told s at old new answer turned spoken played told =
-    let b : Before s at old turned.job = record { stands = turned.stands; spoken = spoken; played = played; told = told } in
+    let b : Before s at old turned.job = record { there = turned.there; spoken = spoken; played = played; told = told } in
     doing_row s at old new turned.job b turned.job.doing answer refl turned.row
 
 -- a turn keeps the stories of all jobs, where it keeps the grounds of conflicts
-pub a_turn_keeps_the_stories_but : (s : Setting) (at : ℕ) (old new : Now) (answer : Turn) → IsTurn s at old answer new
-    → AreSpoken (progress_of s.script old.journal).words old.words old.jobs
-    → (IsTrue s.tells → (tx : SeenTx) → IsActiveAt old.jobs at tx → IsPlayedSoFar s (length old.words) (progress_of s.script old.journal) at tx)
-    → AreTold s (length old.words) old.marks old.journal old.jobs
+pub a_turn_keeps_the_stories_but : (s : Setting) (at : ℕ) (old new : Moment) (answer : Turn) → IsTurn s at old answer new
+    → WordsAgree (progress_of s.script old.journal).words old.words old.jobs
+    → (IsTrue s.tells → (tx : TxView) → IsActiveAt old.jobs at tx → IsPlayedSoFar s (length old.words) (progress_of s.script old.journal) at tx)
+    → StoriesHold s (length old.words) old.marks old.journal old.jobs
     → AreGrounded (scene_at (reading s (length new.words) new.marks) new.journal new.jobs)
-    → AreTold s (length new.words) new.marks new.journal new.jobs
+    → StoriesHold s (length new.words) new.marks new.journal new.jobs
 a_turn_keeps_the_stories_but s at old new answer turned spoken played told grounded =
     told_whole s (length new.words) new.marks new.journal new.jobs
     (turn_told s at old new answer turned spoken played (told_but s (length old.words) old.marks old.journal old.jobs told)) grounded

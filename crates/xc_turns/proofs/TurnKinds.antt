@@ -1,8 +1,7 @@
--- What a turn changes of active transactions: of what they hold, and of why they undo.
-use Rattle.std.proofs.Common.{◌≡◌, ◌⊎◌, inl, inr, ℕ, ◌+◌, List, [], ◌∷◌, ◌++◌, length, refl, ap, sym, ◌∙◌, subst}
-use Rattle.std.specs.Prelude.{All, Option, slice_set}
+-- Each row of the table of turns is of one kind.
+use Rattle.std.proofs.Common.{◌≡◌, inl, inr, ℕ, ◌+◌, List, [], ◌∷◌, ◌++◌, length, refl, ap, sym, ◌∙◌, subst}
+use Rattle.std.specs.Prelude.{Option, slice_set}
 use Rattle.std.specs.declared.option.Option.TheVariants.{None, Some}
-use Rattle.xc_data.specs.Claims.{holding}
 use Rattle.xc_data.specs.declared.call.Call.{Call}
 use Rattle.xc_data.specs.declared.call.LateCall.{LateCall}
 use Rattle.xc_data.specs.declared.claim.Claim.{Claim}
@@ -20,151 +19,34 @@ use Rattle.xc_script.specs.declared.ask.Ask.TheVariants as ask
 use Rattle.xc_txmem.proofs.Overlays.{overlay_count}
 use Rattle.xc_host.specs.Contents.{Contents}
 use Rattle.xc_data.specs.declared.entry.Mark.{Mark}
-use Rattle.xc_story.specs.declared.phase.Phase.{Phase}
-use Rattle.xc_story.specs.declared.phase.Phase.TheVariants.{Running, Committing, Undoing}
-use Rattle.xc_story.specs.Setting.{Setting}
-use Rattle.xc_story.specs.Seen.{SeenTx, SeenJob, Doing, Idle, Active, Starved, Ended, Now, active_in, active_of, begun_count, entering, late_left}
-use Rattle.xc_story.specs.Seen.{revoked, unmarked, waiting}
-use Rattle.xc_story.specs.Told.{cause_of_phase}
-use Rattle.xc_story.specs.Truth.{cause_in}
-use Rattle.xc_story.specs.Rows.{IsTurn, TurnOf, IdleTurn, StarvedTurn, ActiveTurn, MarkedTurn, RunningTurn, AskedTurn, CommittingTurn, UndoingTurn, BackTurn}
-use Rattle.xc_story.specs.Rows.{Calls, Conflicts, Waits, Revokes, Commits, TurnsBack, Wants, HoldsWanting, LateTurn, Compensates, started_jobs, mover, Mover}
-use Rattle.xc_story.specs.Rows.{HasNoRival, IsFirstMet, asked_at, claims_at, beginning_job, behind_commit, behind_abort, entry_of, noting, wanting, with_tx}
-use Rattle.xc_story.specs.LateCalls.{started_late}
+use Rattle.xc_model.specs.declared.phase.Phase.{Phase}
+use Rattle.xc_model.specs.declared.phase.Phase.TheVariants.{Running, Committing, Undoing}
+use Rattle.xc_model.specs.Setting.{Setting}
+use Rattle.xc_model.specs.Moment.{TxView, JobView, Doing, Idle, Active, Starved, Ended, Moment, active_in, active_of, entering, late_left}
+use Rattle.xc_model.specs.Moment.{revoked, waiting}
+use Rattle.xc_model.specs.Stories.{cause_of_phase}
+use Rattle.xc_model.specs.Truth.{cause_in}
+use Rattle.xc_model.specs.Rows.{IsTurn, TurnOf, StarvedTurn, ActiveTurn}
+use Rattle.xc_model.specs.IdleRows.{IdleTurn}
+use Rattle.xc_model.specs.RunningRows.{MarkedTurn, RunningTurn, AskedTurn}
+use Rattle.xc_model.specs.CommittingRows.{CommittingTurn}
+use Rattle.xc_model.specs.UndoingRows.{UndoingTurn, BackTurn}
+use Rattle.xc_model.specs.RunningRows.{Calls, Conflicts, Waits, Revokes, Commits, TurnsBack, Wants, HoldsWanting}
+use Rattle.xc_model.specs.CommittingRows.{LateTurn}
+use Rattle.xc_model.specs.UndoingRows.{Compensates}
+use Rattle.xc_model.specs.Entering.{started_jobs}
+use Rattle.xc_model.specs.Movers.{mover}
+use Rattle.xc_model.specs.Movers.{asked_at, with_tx}
+use Rattle.xc_model.specs.PlainSteps.{claims_at, noting, wanting}
+use Rattle.xc_model.specs.IdleRows.{beginning_job}
+use Rattle.xc_model.specs.Entering.{behind_commit, behind_abort, entry_of}
+use Rattle.xc_model.specs.LateCalls.{started_late}
 use Rattle.xc_turns.proofs.Grown.{AreIdle, started_idle}
 use Rattle.xc_turns.proofs.LateEnds.{Ends, next_ends}
 use Rattle.std.proofs.Common.{append-nil}
 use Rattle.xc_turns.proofs.Jobs.{behind_abort_none}
-
--- ---- the kinds
--- the job in this place changes, and the words stay as many
-pub record Sets (at : ℕ) (old new : Now) (behind : SeenJob) : Type 0 where
-  pub jobs : new.jobs ≡ slice_set old.jobs at behind
-  pub words : length new.words ≡ length old.words
-
--- the job has no active transaction, before and behind
-pub record Rests (at : ℕ) (old : Now) (job : SeenJob) (new : Now) : Type 0 where
-  pub behind : SeenJob
-  pub sets : Sets at old new behind
-  pub journal : new.journal ≡ old.journal
-  pub marks : new.marks ≡ old.marks
-  pub before : active_of job ≡ None
-  pub after : active_of behind ≡ None
-
--- one begins: it holds nothing, doesn't undo and isn't marked
-pub record Begins (at : ℕ) (old : Now) (job : SeenJob) (new : Now) : Type 0 where
-  pub behind : SeenJob
-  pub sets : Sets at old new behind
-  pub journal : new.journal ≡ old.journal
-  pub before : active_of job ≡ None
-  pub tx : SeenTx
-  pub after : active_of behind ≡ Some tx
-  pub none : tx.held ≡ []
-  pub running : tx.phase ≡ Running
-  pub number : tx.number ≡ begun_count old + 1
-  pub marks : new.marks ≡ unmarked old.marks tx.number
-
--- what it holds stays, or claims come to it that nobody else holds against it
-abbrev pub HoldsOn : List SeenJob → ℕ → List Claim → List Claim → Type 0
-HoldsOn jobs at was held = (held ≡ was) ⊎ ((claims : List Claim) × All (HasNoRival jobs at) claims × (held ≡ holding was claims))
-
--- the call that it was asked is done: it holds what that claims
-pub record HoldsAsked (s : Setting) (old : Now) (job : SeenJob) (was tx : SeenTx) : Type 0 where
-  pub call : Call
-  pub asked : asked_at s job.place ≡ ask.Call call
-  pub running : was.phase ≡ Running
-  pub held : tx.held ≡ holding was.held (claims_at old was call)
-
--- what it is asked stays, or the asked call is done
-abbrev pub AsksOn : Setting → Now → SeenJob → SeenTx → SeenTx → Type 0
-AsksOn s old job was tx = ((tx.me ≡ was.me) × (tx.replies ≡ was.replies)) ⊎ HoldsAsked s old job was tx
-
--- no conflict and no revocation
-abbrev pub IsNoConflict : Option Cause → Type 0
-IsNoConflict (Some (cause.Conflict object holder at)) = ⊥
-IsNoConflict (Some (cause.Revoked object by at)) = ⊥
-IsNoConflict _ = Unit {0}
-
--- why it undoes, or is marked
-abbrev pub cause_on : Now → SeenTx → Option Cause
-cause_on now tx = cause_of_phase (now.marks tx.number) tx.phase
-
--- that stays, with all that it is judged by
-pub record IsSameCause (old : Now) (was tx : SeenTx) : Type 0 where
-  pub cause : cause_on old tx ≡ cause_on old was
-  pub me : tx.me ≡ was.me
-  pub replies : tx.replies ≡ was.replies
-
--- the call that it is asked meets a holder
-pub record Meets (m : Mover) (was tx : SeenTx) : Type 0 where
-  pub call : Call
-  pub asked : asked_at m.setting m.job.place ≡ ask.Call call
-  pub running : was.phase ≡ Running
-  pub object : Object
-  pub holder : ℕ
-  pub met : IsFirstMet m.old.jobs m.at (claims_at m.old was call) object holder
-  pub phase : tx.phase ≡ Undoing (cause.Conflict object holder (length m.old.journal))
-  pub me : tx.me ≡ was.me
-  pub replies : tx.replies ≡ was.replies
-
--- it has the old cause, none that names a holder, or a new one that does
-pub data CauseOn (m : Mover) (was tx : SeenTx) : Type 0 where
-  same : IsSameCause m.old was tx → CauseOn m was tx
-  free : IsNoConflict (cause_on m.old tx) → CauseOn m was tx
-  meets : Meets m was tx → CauseOn m was tx
-
--- an active transaction goes on
-pub record Moves (s : Setting) (at : ℕ) (old : Now) (job : SeenJob) (new : Now) : Type 0 where
-  pub behind : SeenJob
-  pub sets : Sets at old new behind
-  pub journal : new.journal ≡ old.journal
-  pub was : SeenTx
-  pub tx : SeenTx
-  pub before : active_of job ≡ Some was
-  pub after : active_of behind ≡ Some tx
-  pub number : tx.number ≡ was.number
-  pub rank : tx.rank ≡ was.rank
-  pub began : tx.began ≡ was.began
-  pub held : HoldsOn old.jobs at was.held tx.held
-  pub wants : AsksOn s old job was tx
-  pub why : CauseOn (mover s at old job) was tx
-  pub marks : new.marks ≡ old.marks
-
--- an active transaction stays as it is, and another one is marked
-pub record Stays (s : Setting) (at : ℕ) (old : Now) (job : SeenJob) (new : Now) : Type 0 where
-  pub behind : SeenJob
-  pub sets : Sets at old new behind
-  pub journal : new.journal ≡ old.journal
-  pub tx : SeenTx
-  pub before : active_of job ≡ Some tx
-  pub after : active_of behind ≡ Some tx
-  pub running : tx.phase ≡ Running
-  pub object : Object
-  pub holder : ℕ
-  pub waits : Waits (mover s at old job) tx object holder new
-
--- an active transaction ends, and perhaps more jobs come
-pub record Enters (at : ℕ) (old : Now) (job : SeenJob) (new : Now) : Type 0 where
-  pub behind : SeenJob
-  pub more : List SeenJob
-  pub idle : AreIdle more
-  pub jobs : new.jobs ≡ slice_set old.jobs at behind ++ more
-  pub words : length new.words ≡ length old.words
-  pub tx : SeenTx
-  pub outcome : Outcome
-  pub journal : new.journal ≡ old.journal ++ entry_of tx at outcome ∷ []
-  pub before : active_of job ≡ Some tx
-  pub after : active_of behind ≡ None
-  pub why : cause_in outcome ≡ cause_on old tx
-  pub marks : new.marks ≡ unmarked old.marks tx.number
-
--- one of these
-pub data Kind (s : Setting) (at : ℕ) (old : Now) (job : SeenJob) (new : Now) : Type 0 where
-  rests : Rests at old job new → Kind s at old job new
-  begins : Begins at old job new → Kind s at old job new
-  moves : Moves s at old job new → Kind s at old job new
-  stays : Stays s at old job new → Kind s at old job new
-  enters : Enters at old job new → Kind s at old job new
+use Rattle.xc_turns.proofs.KindsOfTurns.{HoldsOn, IsNoConflict, cause_on, same, free, meets, Kind, rests, begins, moves, stays}
+use Rattle.xc_turns.proofs.KindsOfTurns.{enters}
 
 -- ---- causes by phase
 -- a running one without a mark has no cause
@@ -187,38 +69,38 @@ undoing_is None c = refl
 undoing_is (Some m) c = refl
 
 -- ---- the rows
-module _ (s : Setting) (at : ℕ) (old : Now) (job : SeenJob) (new : Now) where
+module _ (s : Setting) (at : ℕ) (old : Moment) (job : JobView) (new : Moment) where
   idle_kind : job.doing ≡ Idle → (answer : Turn) → IdleTurn (mover s at old job) answer new → Kind s at old job new
   idle_kind e (turn.Ended end) row =
       rests (record {
         behind = record job { doing = Ended end };
-        sets = record { jobs = ap (λ (n : Now). n.jobs) row.1; words = ap (λ (n : Now). length n.words) row.1 };
-        journal = ap (λ (n : Now). n.journal) row.1;
-        marks = ap (λ (n : Now). n.marks) row.1;
+        sets = record { jobs = ap (λ (n : Moment). n.jobs) row.1; words = ap (λ (n : Moment). length n.words) row.1 };
+        journal = ap (λ (n : Moment). n.journal) row.1;
+        marks = ap (λ (n : Moment). n.marks) row.1;
         before = ap active_in e;
         after = refl;
       })
   idle_kind e (turn.Busy object number) row =
       rests (record {
         behind = waiting job;
-        sets = record { jobs = ap (λ (n : Now). n.jobs) row.1; words = ap (λ (n : Now). length n.words) row.1 };
-        journal = ap (λ (n : Now). n.journal) row.1;
-        marks = ap (λ (n : Now). n.marks) row.1;
+        sets = record { jobs = ap (λ (n : Moment). n.jobs) row.1; words = ap (λ (n : Moment). length n.words) row.1 };
+        journal = ap (λ (n : Moment). n.journal) row.1;
+        marks = ap (λ (n : Moment). n.marks) row.1;
         before = ap active_in e;
         after = ap active_in e;
       })
   idle_kind e turn.Went row =
       begins (record {
         behind = beginning_job old job;
-        sets = record { jobs = ap (λ (n : Now). n.jobs) row.1; words = ap (λ (n : Now). length n.words) row.1 };
-        journal = ap (λ (n : Now). n.journal) row.1;
+        sets = record { jobs = ap (λ (n : Moment). n.jobs) row.1; words = ap (λ (n : Moment). length n.words) row.1 };
+        journal = ap (λ (n : Moment). n.journal) row.1;
         before = ap active_in e;
         tx = _;
         after = refl;
         none = refl;
         running = refl;
         number = refl;
-        marks = ap (λ (n : Now). n.marks) row.1;
+        marks = ap (λ (n : Moment). n.marks) row.1;
       })
   idle_kind e _ row = absurd row
 
@@ -226,22 +108,22 @@ module _ (s : Setting) (at : ℕ) (old : Now) (job : SeenJob) (new : Now) where
   starved_kind e (turn.Ended job_end.NoMemory) row =
       rests (record {
         behind = record job { doing = Ended job_end.NoMemory };
-        sets = record { jobs = ap (λ (n : Now). n.jobs) row; words = ap (λ (n : Now). length n.words) row };
-        journal = ap (λ (n : Now). n.journal) row;
-        marks = ap (λ (n : Now). n.marks) row;
+        sets = record { jobs = ap (λ (n : Moment). n.jobs) row; words = ap (λ (n : Moment). length n.words) row };
+        journal = ap (λ (n : Moment). n.journal) row;
+        marks = ap (λ (n : Moment). n.marks) row;
         before = ap active_in e;
         after = refl;
       })
   starved_kind e _ row = absurd row
 
-  module _ (tx : SeenTx) (active : active_of job ≡ Some tx) where
+  module _ (tx : TxView) (active : active_of job ≡ Some tx) where
     calls_kind : (call : Call) → asked_at s job.place ≡ ask.Call call → Calls (mover s at old job) tx call new → tx.phase ≡ Running
         → old.marks tx.number ≡ None → Kind s at old job new
     calls_kind call asked row e free_of =
         moves (record {
           behind = with_tx job row.place (noting tx call row.reply (claims_at old tx call) row.parts);
-          sets = record { jobs = ap (λ (n : Now). n.jobs) row.behind; words = ap (λ (n : Now). length n.words) row.behind };
-          journal = ap (λ (n : Now). n.journal) row.behind;
+          sets = record { jobs = ap (λ (n : Moment). n.jobs) row.behind; words = ap (λ (n : Moment). length n.words) row.behind };
+          journal = ap (λ (n : Moment). n.journal) row.behind;
           was = tx;
           tx = noting tx call row.reply (claims_at old tx call) row.parts;
           before = active;
@@ -252,17 +134,17 @@ module _ (s : Setting) (at : ℕ) (old : Now) (job : SeenJob) (new : Now) where
           held = inr (claims_at old tx call, row.free, refl);
           wants = inr (record { call = call; asked = asked; running = e; held = refl });
           why = free (no_cause (old.marks tx.number) tx.phase free_of e);
-          marks = ap (λ (n : Now). n.marks) row.behind;
+          marks = ap (λ (n : Moment). n.marks) row.behind;
         })
 
     conflict_kind : (call : Call) → asked_at s job.place ≡ ask.Call call → Conflicts (mover s at old job) tx call new → tx.phase ≡ Running
         → Kind s at old job new
     conflict_kind call asked row e =
-        let undoing : SeenTx = record tx { phase = Undoing (cause.Conflict row.object row.holder (length old.journal)) } in
+        let undoing : TxView = record tx { phase = Undoing (cause.Conflict row.object row.holder (length old.journal)) } in
         moves (record {
           behind = with_tx job row.place undoing;
-          sets = record { jobs = ap (λ (n : Now). n.jobs) row.behind; words = ap (λ (n : Now). length n.words) row.behind };
-          journal = ap (λ (n : Now). n.journal) row.behind;
+          sets = record { jobs = ap (λ (n : Moment). n.jobs) row.behind; words = ap (λ (n : Moment). length n.words) row.behind };
+          journal = ap (λ (n : Moment). n.journal) row.behind;
           was = tx;
           tx = undoing;
           before = active;
@@ -272,7 +154,7 @@ module _ (s : Setting) (at : ℕ) (old : Now) (job : SeenJob) (new : Now) where
           began = refl;
           held = inl refl;
           wants = inl (refl, refl);
-          marks = ap (λ (n : Now). n.marks) row.behind;
+          marks = ap (λ (n : Moment). n.marks) row.behind;
           why = meets (record {
             call = call;
             asked = asked;
@@ -290,8 +172,12 @@ module _ (s : Setting) (at : ℕ) (old : Now) (job : SeenJob) (new : Now) where
     commits_kind row =
         moves (record {
           behind = with_tx job row.place (record tx { phase = Committing });
-          sets = record { jobs = ap (λ (n : Now). n.jobs) row.behind; words = ap (λ (n : Now). length n.words) row.behind ∙ overlay_count old.words tx.writes };
-          journal = ap (λ (n : Now). n.journal) row.behind;
+          sets = record {
+            jobs = ap (λ (n : Moment). n.jobs) row.behind;
+            words = ap (λ (n : Moment). length n.words) row.behind
+                ∙ overlay_count old.words tx.writes;
+          };
+          journal = ap (λ (n : Moment). n.journal) row.behind;
           was = tx;
           tx = record tx { phase = Committing };
           before = active;
@@ -302,7 +188,7 @@ module _ (s : Setting) (at : ℕ) (old : Now) (job : SeenJob) (new : Now) where
           held = inl refl;
           wants = inl (refl, refl);
           why = free (no_committing (old.marks tx.number));
-          marks = ap (λ (n : Now). n.marks) row.behind;
+          marks = ap (λ (n : Moment). n.marks) row.behind;
         })
 
     -- it is told to wait
@@ -310,8 +196,8 @@ module _ (s : Setting) (at : ℕ) (old : Now) (job : SeenJob) (new : Now) where
     waits_kind object holder row e =
         stays (record {
           behind = waiting (with_tx job row.place tx);
-          sets = record { jobs = ap (λ (n : Now). n.jobs) row.behind; words = ap (λ (n : Now). length n.words) row.behind };
-          journal = ap (λ (n : Now). n.journal) row.behind;
+          sets = record { jobs = ap (λ (n : Moment). n.jobs) row.behind; words = ap (λ (n : Moment). length n.words) row.behind };
+          journal = ap (λ (n : Moment). n.journal) row.behind;
           tx = tx;
           before = active;
           after = refl;
@@ -324,11 +210,11 @@ module _ (s : Setting) (at : ℕ) (old : Now) (job : SeenJob) (new : Now) where
     -- it is revoked, for the cause that it had
     revokes_kind : (m : Mark) → Revokes (mover s at old job) tx m new → tx.phase ≡ Running → old.marks tx.number ≡ Some m → Kind s at old job new
     revokes_kind m row e has =
-        let undoing : SeenTx = record tx { phase = Undoing (revoked m) } in
+        let undoing : TxView = record tx { phase = Undoing (revoked m) } in
         moves (record {
           behind = with_tx job job.place undoing;
-          sets = record { jobs = ap (λ (n : Now). n.jobs) row; words = ap (λ (n : Now). length n.words) row };
-          journal = ap (λ (n : Now). n.journal) row;
+          sets = record { jobs = ap (λ (n : Moment). n.jobs) row; words = ap (λ (n : Moment). length n.words) row };
+          journal = ap (λ (n : Moment). n.journal) row;
           was = tx;
           tx = undoing;
           before = active;
@@ -344,15 +230,15 @@ module _ (s : Setting) (at : ℕ) (old : Now) (job : SeenJob) (new : Now) where
             me = refl;
             replies = refl;
           });
-          marks = ap (λ (n : Now). n.marks) row;
+          marks = ap (λ (n : Moment). n.marks) row;
         })
 
     turns_back_kind : TurnsBack (mover s at old job) tx new → Kind s at old job new
     turns_back_kind row =
         moves (record {
           behind = with_tx job row.place (record tx { phase = Undoing cause.Asked });
-          sets = record { jobs = ap (λ (n : Now). n.jobs) row.behind; words = ap (λ (n : Now). length n.words) row.behind };
-          journal = ap (λ (n : Now). n.journal) row.behind;
+          sets = record { jobs = ap (λ (n : Moment). n.jobs) row.behind; words = ap (λ (n : Moment). length n.words) row.behind };
+          journal = ap (λ (n : Moment). n.journal) row.behind;
           was = tx;
           tx = record tx { phase = Undoing cause.Asked };
           before = active;
@@ -363,7 +249,7 @@ module _ (s : Setting) (at : ℕ) (old : Now) (job : SeenJob) (new : Now) where
           held = inl refl;
           wants = inl (refl, refl);
           why = free (subst IsNoConflict (sym (undoing_is (old.marks tx.number) cause.Asked)) tt);
-          marks = ap (λ (n : Now). n.marks) row.behind;
+          marks = ap (λ (n : Moment). n.marks) row.behind;
         })
 
     wanting_held : (a : Ask) (left : List Undo) (held : List Claim) → HoldsWanting (mover s at old job) tx a left held → HoldsOn old.jobs at tx.held held
@@ -377,8 +263,8 @@ module _ (s : Setting) (at : ℕ) (old : Now) (job : SeenJob) (new : Now) where
     wants_kind row =
         moves (record {
           behind = with_tx job row.place (wanting tx row.left row.held);
-          sets = record { jobs = ap (λ (n : Now). n.jobs) row.behind; words = ap (λ (n : Now). length n.words) row.behind };
-          journal = ap (λ (n : Now). n.journal) row.behind;
+          sets = record { jobs = ap (λ (n : Moment). n.jobs) row.behind; words = ap (λ (n : Moment). length n.words) row.behind };
+          journal = ap (λ (n : Moment). n.journal) row.behind;
           was = tx;
           tx = wanting tx row.left row.held;
           before = active;
@@ -389,7 +275,7 @@ module _ (s : Setting) (at : ℕ) (old : Now) (job : SeenJob) (new : Now) where
           held = wanting_held (asked_at s job.place) row.left row.held row.holds;
           wants = inl (refl, refl);
           why = free (subst IsNoConflict (sym (undoing_is (old.marks tx.number) cause.NoMemory)) tt);
-          marks = ap (λ (n : Now). n.marks) row.behind;
+          marks = ap (λ (n : Moment). n.marks) row.behind;
         })
 
     asked_kind : (a : Ask) → asked_at s job.place ≡ a → AskedTurn (mover s at old job) tx a new → tx.phase ≡ Running
@@ -415,11 +301,11 @@ module _ (s : Setting) (at : ℕ) (old : Now) (job : SeenJob) (new : Now) where
 
     compensates_kind : Compensates (mover s at old job) tx new → Kind s at old job new
     compensates_kind row =
-        let undone : SeenTx = record tx { undo = record { pending = row.older; ended = (row.tried, row.end) ∷ tx.undo.ended } } in
+        let undone : TxView = record tx { undo = record { pending = row.older; ended = (row.tried, row.end) ∷ tx.undo.ended } } in
         moves (record {
           behind = with_tx job job.place undone;
-          sets = record { jobs = ap (λ (n : Now). n.jobs) row.behind; words = ap (λ (n : Now). length n.words) row.behind };
-          journal = ap (λ (n : Now). n.journal) row.behind;
+          sets = record { jobs = ap (λ (n : Moment). n.jobs) row.behind; words = ap (λ (n : Moment). length n.words) row.behind };
+          journal = ap (λ (n : Moment). n.journal) row.behind;
           was = tx;
           tx = undone;
           before = active;
@@ -430,10 +316,10 @@ module _ (s : Setting) (at : ℕ) (old : Now) (job : SeenJob) (new : Now) where
           held = inl refl;
           wants = inl (refl, refl);
           why = same (record { cause = refl; me = refl; replies = refl });
-          marks = ap (λ (n : Now). n.marks) row.behind;
+          marks = ap (λ (n : Moment). n.marks) row.behind;
         })
 
-    enters_kind : (behind : SeenJob) (outcome : Outcome) (contents : Contents) (jobs_behind more : List SeenJob)
+    enters_kind : (behind : JobView) (outcome : Outcome) (contents : Contents) (jobs_behind more : List JobView)
         → new ≡ record (entering old at behind (entry_of tx at outcome)) { contents = contents; jobs = jobs_behind }
         → jobs_behind ≡ slice_set old.jobs at behind ++ more → AreIdle more → active_of behind ≡ None
         → cause_in outcome ≡ cause_on old tx → Kind s at old job new
@@ -442,20 +328,20 @@ module _ (s : Setting) (at : ℕ) (old : Now) (job : SeenJob) (new : Now) where
           behind = behind;
           more = more;
           idle = idle;
-          jobs = ap (λ (n : Now). n.jobs) row ∙ jobs;
-          words = ap (λ (n : Now). length n.words) row;
+          jobs = ap (λ (n : Moment). n.jobs) row ∙ jobs;
+          words = ap (λ (n : Moment). length n.words) row;
           tx = tx;
           outcome = outcome;
-          journal = ap (λ (n : Now). n.journal) row;
+          journal = ap (λ (n : Moment). n.journal) row;
           before = active;
           after = after;
           why = why;
-          marks = ap (λ (n : Now). n.marks) row;
+          marks = ap (λ (n : Moment). n.marks) row;
         })
 
     late_kind : Ends at old job tx new → Kind s at old job new
     late_kind row =
-        let ended : SeenTx = record tx { ends = tx.ends ++ row.end ∷ [] } in
+        let ended : TxView = record tx { ends = tx.ends ++ row.end ∷ [] } in
         moves (record {
           behind = with_tx job job.place ended;
           sets = record { jobs = row.jobs; words = ap length row.words };
@@ -506,5 +392,5 @@ module _ (s : Setting) (at : ℕ) (old : Now) (job : SeenJob) (new : Now) where
   doing_kind (Ended end) e answer row = absurd row
 
 -- each row is of one kind
-pub kind_of : (s : Setting) (at : ℕ) (old new : Now) (answer : Turn) → (t : IsTurn s at old answer new) → Kind s at old t.job new
+pub kind_of : (s : Setting) (at : ℕ) (old new : Moment) (answer : Turn) → (t : IsTurn s at old answer new) → Kind s at old t.job new
 kind_of s at old new answer t = doing_kind s at old t.job new t.job.doing refl answer t.row

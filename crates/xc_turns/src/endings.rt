@@ -1,23 +1,23 @@
 ghost use Rattle.std.specs.Prelude.{◌≡◌, ℕ, List, length, true};
 ghost use Rattle.xc_data.specs.declared.entry.Entry.{Entry};
 ghost use Rattle.xc_data.specs.declared.entry.JobLine.{JobLine};
-ghost use Rattle.xc_story.specs.Setting.{Setting};
-ghost use Rattle.xc_story.specs.Progress.{progress_of};
-ghost use Rattle.xc_story.specs.Seen.{SeenJob, Now};
-ghost use Rattle.xc_story.specs.Told.{AreTold};
-ghost use Rattle.xc_story.specs.Spoken.{AreSpoken};
-ghost use Rattle.xc_story.specs.Kept.{AreLinesOf};
-ghost use Rattle.xc_story.specs.Truth.{IsTrueJournal};
-ghost use Rattle.xc_story.specs.Ending.{AreEnds, IsComplete, all_done};
-ghost use Rattle.xc_story.specs.Accounted.{AreAccounted};
+ghost use Rattle.xc_model.specs.Setting.{Setting};
+ghost use Rattle.xc_model.specs.Progress.{progress_of};
+ghost use Rattle.xc_model.specs.Moment.{JobView, Moment};
+ghost use Rattle.xc_model.specs.Stories.{StoriesHold};
+ghost use Rattle.xc_model.specs.Words.{WordsAgree};
+ghost use Rattle.xc_model.specs.Consistent.{AreLinesOf};
+ghost use Rattle.xc_model.specs.Truth.{IsTrueJournal};
+ghost use Rattle.xc_model.specs.Ending.{AreEnds, IsComplete, all_done};
+ghost use Rattle.xc_model.specs.Accounted.{AreAccounted};
 
 /// Where each job has ended the journal is true, the words are its words, and each job has the end that its story has.
 pub fn where_all_have_ended_the_journal_is_true()
-    ensures journal { (s : Setting) (words : ℕ) (now : Now) (lines : List JobLine) → AreTold s words now.marks now.journal now.jobs
+    ensures journal { (s : Setting) (words : ℕ) (now : Moment) (lines : List JobLine) → StoriesHold s words now.marks now.journal now.jobs
         → AreLinesOf now.jobs lines → IsTrueJournal s now.journal }
-    ensures ends { (s : Setting) (words : ℕ) (now : Now) (lines : List JobLine) → AreTold s words now.marks now.journal now.jobs
+    ensures ends { (s : Setting) (words : ℕ) (now : Moment) (lines : List JobLine) → StoriesHold s words now.marks now.journal now.jobs
         → AreLinesOf now.jobs lines → AreEnds s (length now.journal) (progress_of s.script now.journal).jobs lines }
-    ensures words { (before words : List ℕ) (jobs : List SeenJob) (lines : List JobLine) → AreSpoken before words jobs
+    ensures words { (before words : List ℕ) (jobs : List JobView) (lines : List JobLine) → WordsAgree before words jobs
         → AreLinesOf jobs lines → words ≡ before }
 {}
 
@@ -28,7 +28,7 @@ pub fn each_entry_is_accounted_for()
 
 /// Where each job was done, each transaction of each job has the one entry by which it was done with.
 pub fn where_all_are_done_all_is_complete()
-    ensures { (s : Setting) (now : Now) (lines : List JobLine) → IsTrueJournal s now.journal
+    ensures { (s : Setting) (now : Moment) (lines : List JobLine) → IsTrueJournal s now.journal
         → AreEnds s (length now.journal) (progress_of s.script now.journal).jobs lines → all_done lines ≡ true
         → IsComplete s.script now.journal }
 {}

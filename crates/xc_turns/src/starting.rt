@@ -1,21 +1,23 @@
 ghost use Rattle.std.specs.Prelude.{◌≡◌, ℕ, true, [], ◌++◌, ◌+◌, ◌≤◌, length, sum_by};
 ghost use Rattle.xc_data.specs.declared.entry.Turn.{Turn};
-ghost use Rattle.xc_story.specs.Setting.{Setting};
-ghost use Rattle.xc_story.specs.Seen.{SeenTx, Now, actives};
-ghost use Rattle.xc_story.specs.Holding.{AreApart};
-ghost use Rattle.xc_story.specs.Rows.{IsActiveAt, IsTurn};
-ghost use Rattle.xc_story.specs.Told.{AreTold};
-ghost use Rattle.xc_story.specs.Started.{AreStarted, blocks, keeps_start, started_by, starting};
+ghost use Rattle.xc_model.specs.Setting.{Setting};
+ghost use Rattle.xc_model.specs.Moment.{TxView, Moment, actives};
+ghost use Rattle.xc_model.specs.Holding.{AreApart};
+ghost use Rattle.xc_model.specs.Movers.{IsActiveAt};
+ghost use Rattle.xc_model.specs.Rows.{IsTurn};
+ghost use Rattle.xc_model.specs.Stories.{StoriesHold};
+ghost use Rattle.xc_model.specs.Started.{AreStarted, blocks, keeps_start, started_by, starting};
 
-/// A turn keeps the order of the started jobs: those that are live or have ended, and behind them those that active
+/// A turn keeps the order of the started jobs: those that are live or have ended, and after them those that active
 /// transactions have started. So an entry has room for its own, and where a transaction keeps a start, no other's are among them.
 pub fn a_turn_keeps_the_started()
-    ensures turn { (s : Setting) (at : ℕ) (old new : Now) (answer : Turn) → IsTurn s at old answer new
-        → AreTold s (length old.words) old.marks old.journal old.jobs → AreApart old.jobs → AreStarted old → AreStarted new }
-    ensures room { (now : Now) (at : ℕ) (tx : SeenTx) → AreStarted now → IsActiveAt now.jobs at tx → length now.jobs + starting tx ≤ 1000 }
-    ensures count { (now : Now) → AreStarted now → length now.started ≡ length now.jobs + sum_by starting (actives now.jobs) }
-    ensures alone { (now : Now) (at : ℕ) (tx : SeenTx) → AreStarted now → AreApart now.jobs → IsActiveAt now.jobs at tx
+    ensures turn { (s : Setting) (at : ℕ) (old new : Moment) (answer : Turn) → IsTurn s at old answer new
+        → StoriesHold s (length old.words) old.marks old.journal old.jobs → AreApart old.jobs → AreStarted old → AreStarted new }
+    ensures room { (now : Moment) (at : ℕ) (tx : TxView) → AreStarted now → IsActiveAt now.jobs at tx
+        → length now.jobs + starting tx ≤ 1000 }
+    ensures count { (now : Moment) → AreStarted now → length now.started ≡ length now.jobs + sum_by starting (actives now.jobs) }
+    ensures alone { (now : Moment) (at : ℕ) (tx : TxView) → AreStarted now → AreApart now.jobs → IsActiveAt now.jobs at tx
         → keeps_start tx ≡ true → now.started ≡ blocks now.jobs ++ started_by tx }
-    ensures nobody { (now : Now) → AreStarted now → ((at : ℕ) (tx : SeenTx) → IsActiveAt now.jobs at tx → started_by tx ≡ [])
+    ensures nobody { (now : Moment) → AreStarted now → ((at : ℕ) (tx : TxView) → IsActiveAt now.jobs at tx → started_by tx ≡ [])
         → now.started ≡ blocks now.jobs }
 {}

@@ -1,7 +1,7 @@
 -- Beginnings of journals, and entries with their places.
 use Rattle.std.proofs.Common.{◌≡◌, ◌≢◌, ℕ, zero, suc, ◌+◌, ◌*◌, ◌<◌, ◌≤◌, ◌^◌, ◌⊎◌, inl, inr, ⊎_elim, Bool, true, false, nat_lt, if◌then◌else◌}
 use Rattle.std.proofs.Common.{List, [], ◌∷◌, ◌++◌, length, drop, get_or, set, slice_get, Some, refl, sym, ap, ◌∙◌, subst, arith, append_assoc}
-use Rattle.std.proofs.Common.{length-append, add-one, lit<, bit_or}
+use Rattle.std.proofs.Common.{add-one, lit<, bit_or}
 use Rattle.std.proofs.lemmas.List.{append-nil}
 use Rattle.std.proofs.lemmas.Nat.{or_shifted, or_block}
 use Rattle.std.proofs.lemmas.Bool.Decides.{nat_tests}
@@ -20,10 +20,6 @@ starts_self xs = ([], sym (append-nil xs))
 -- a front of a front is a front
 pub starts_trans : (xs ys zs : List Entry) → BeginsWith xs ys → BeginsWith ys zs → BeginsWith xs zs
 starts_trans xs ys zs p q = (q.0 ++ p.0, p.1 ∙ (ap (λ w. w ++ p.0) q.1 ∙ append_assoc zs q.0 p.0))
-
--- a front is no longer than the whole
-pub starts_length : (xs ys : List Entry) → BeginsWith xs ys → length ys ≤ length xs
-starts_length xs ys p = omega (arith, ap length p.1 ∙ length-append ys p.0)
 
 -- what stands in a front stands in the whole
 get_front : (ys rest : List Entry) (k : ℕ) (e : Entry) → slice_get ys k ≡ Some e → slice_get (ys ++ rest) k ≡ Some e
@@ -53,7 +49,7 @@ pub stands_append : (ps qs : List (ℕ × Entry)) (xs : List Entry) → AreAtPla
 stands_append [] qs xs h k = k
 stands_append (p ∷ ps) qs xs h k = (h.0, stands_append ps qs xs h.1 k)
 
--- the first entry behind so many
+-- the first entry after so many
 drop_get : (xs : List Entry) (n : ℕ) (e : Entry) (es : List Entry) → drop n xs ≡ e ∷ es → (slice_get xs n ≡ Some e) × (drop (suc n) xs ≡ es)
 drop_get [] zero e es h = absurd cc
 drop_get [] (suc n) e es h = absurd cc
@@ -87,7 +83,7 @@ pub rises_lower : (ps : List (ℕ × Entry)) (m n : ℕ) → m ≤ n → PlacesR
 rises_lower [] m n le h = tt
 rises_lower (p ∷ ps) m n le h = (let a = h.0 in omega arith, h.1)
 
--- places that rise, and then others behind them
+-- places that rise, and then others after them
 pub rises_append : (ps qs : List (ℕ × Entry)) (m n : ℕ) → PlacesRise m ps → ((k : ℕ) → HasPlace k ps → k < n) → m ≤ n → PlacesRise n qs
     → PlacesRise m (ps ++ qs)
 rises_append [] qs m n h below le k = rises_lower qs m n le k
@@ -222,7 +218,7 @@ behind_apart p q qs n low rises rest =
     let up = rises_above (placed p qs) (q.0 + 1) p.0 rises (placed_self p qs) in
     ((low, rest.0), λ x. ⊎_elim (λ e. omega arith) rest.1 x)
 
--- where places rise behind an entry was put among them, they rose, and its place was not one of them
+-- where places rise after an entry was put among them, they rose, and its place was not one of them
 placed_apart : (p : ℕ × Entry) (qs : List (ℕ × Entry)) (n : ℕ) → PlacesRise n (placed p qs) → PlacesRise n qs × (HasPlace p.0 qs → ⊥)
 placed_apart p [] n h = (tt, λ x. x)
 placed_apart p (q ∷ qs) n h =
@@ -244,21 +240,6 @@ longer_is P xs ys a b = elim (nat_lt (length xs) (length ys)) as (λ c. P (if c 
 -- and of the shorter
 pub shorter_is : (P : List Entry → Type 0) (xs ys : List Entry) → P xs → P ys → P (shorter xs ys)
 shorter_is P xs ys a b = elim (nat_lt (length xs) (length ys)) as (λ c. P (if c then xs else ys)) [ true ↦ a | false ↦ b ]
-
--- the shorter is no longer than the longer, by cases
-ordered : (xs ys : List Entry) (b : Bool) → nat_lt (length xs) (length ys) ≡ b → length (if b then xs else ys) ≤ length (if b then ys else xs)
-ordered xs ys true h = let l : length xs < length ys = grind (arith, nat_tests) in omega arith
-ordered xs ys false h = let l : length ys ≤ length xs = grind (arith, nat_tests) in l
-
--- the shorter is no longer than the longer
-pub shorter_le : (xs ys : List Entry) → length (shorter xs ys) ≤ length (longer xs ys)
-shorter_le xs ys = ordered xs ys (nat_lt (length xs) (length ys)) refl
-
--- where the longer begins with the shorter, one of two begins with the other
-pub one_begins : (xs ys : List Entry) → BeginsWith (longer xs ys) (shorter xs ys) → BeginsWith xs ys ⊎ BeginsWith ys xs
-one_begins xs ys h =
-    elim (nat_lt (length xs) (length ys)) as (λ b. BeginsWith (if b then ys else xs) (if b then xs else ys)
-    → BeginsWith xs ys ⊎ BeginsWith ys xs) [ true ↦ λ x. inr x | false ↦ λ x. inl x ] h
 
 -- all shares, with one view more
 pub total_more : (views : List View) (w : View) → sum_by (λ (u : View). u.shares) (views ++ w ∷ []) ≡ sum_by (λ (u : View). u.shares) views + w.shares

@@ -1,16 +1,15 @@
 -- What a pass keeps over an entering with one event, and over several.
-use Rattle.std.proofs.Common.{◌≡◌, ◌≢◌, ℕ, ◌+◌, ◌%◌, ◌^◌, ◌≤◌, ◌==◌, Bool, false, List, [], ◌++◌, Option, length, refl, sym, ap, ◌∙◌, subst}
+use Rattle.std.proofs.Common.{◌≡◌, ◌≢◌, ℕ, ◌+◌, ◌%◌, ◌^◌, ◌≤◌, ◌==◌, Bool, false, List, ◌++◌, Option, length, sym, ap, ◌∙◌, subst}
 use Rattle.std.proofs.Common.{arith, append_assoc, if◌then◌else◌}
-use Rattle.std.proofs.lemmas.List.{append-nil}
 use Rattle.std.proofs.lemmas.Bool.{ne_eqb}
 use Rattle.xc_data.specs.declared.entry.Entry.{Entry}
 use Rattle.xc_data.specs.declared.entry.Event.{Event}
 use Rattle.xc_turnstile.specs.declared.view.View.{View}
-use Rattle.xc_turnstile.specs.Insides.{IsInside, IsNext, PassGoesOn, GainsEvent, Together}
+use Rattle.xc_turnstile.specs.Insides.{IsInside, IsNext, PassGoesOn, GainsEvent}
 use Rattle.xc_turnstile.specs.Known.{Known}
 use Rattle.xc_turnstile.specs.Meanings.{Meaning}
 use Rattle.xc_turnstile.specs.Views.{BeginsWith, added, entered_view, event_of, left_view}
-use Rattle.xc_turnstile.proofs.Fronts.{starts_self, starts_trans}
+use Rattle.xc_turnstile.proofs.Fronts.{starts_trans}
 
 -- one more, modulo 2^64, is another number
 counts_on : (n : ℕ) → (n + 1) % 2 ^ 64 ≢ n
@@ -18,7 +17,7 @@ counts_on n e = omega (arith, e)
 
 -- an event leads on from what was handed out
 module _ {X : Type 0} (m : Meaning X) (pass hold : Known) (x y : X) (event : Event) (inside : IsInside m pass hold x) (next : IsNext m x y event) where
-  -- the pass behind a leaving with y
+  -- the pass after a leaving with y
   pub gains : (left : Known) → left.table ≡ hold.table → left.view ≡ left_view (m.journal y) (m.count y) (m.last y) hold.view → GainsEvent pass left event
   gains left table view =
       let was : left.view ≡ left_view (m.journal y) (m.count y) (m.last y)
@@ -43,12 +42,8 @@ module _ {X : Type 0} (m : Meaning X) (pass hold : Known) (x y : X) (event : Eve
       }
 
 -- ---- several
--- a pass goes on from itself
-pub goes_nowhere : (a : Known) → PassGoesOn a a
-goes_nowhere a =
-    record { table = refl; shares = refl; origin = refl; seen = starts_self a.view.seen; added = []; mine = sym (append-nil a.view.mine) }
 
--- one way behind another
+-- one way after another
 pub goes_further : (a b c : Known) → PassGoesOn a b → PassGoesOn b c → PassGoesOn a c
 goes_further a b c p q =
     record {
@@ -59,7 +54,3 @@ goes_further a b c p q =
       added = p.added ++ q.added;
       mine = q.mine ∙ (ap (λ ps. ps ++ q.added) p.mine ∙ append_assoc a.view.mine p.added q.added);
     }
-
--- what goes on goes together
-pub goes_together : (a b : Known) → PassGoesOn a b → Together a b
-goes_together a b p = record { table = p.table; shares = p.shares; origin = p.origin; seen = p.seen }

@@ -16,7 +16,7 @@ abbrev pub numbered : ℕ → List Entry → List (ℕ × Entry)
 numbered n [] = []
 numbered n (e ∷ es) = (n, e) ∷ numbered (n + 1) es
 
--- what was added behind the first n entries
+-- what was added after the first n entries
 abbrev pub added : ℕ → List Entry → List (ℕ × Entry)
 added n journal = numbered n (drop n journal)
 

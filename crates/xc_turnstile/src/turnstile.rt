@@ -14,6 +14,7 @@ use std::snapshot::Snapshot;
 /// A value that one pass at a time holds. Its word is twice the journal's length, and one more while the value is held.
 ///
 /// None of its calls waits. `new` alone takes memory. It is not let go, but ended by `close` or `abandon`.
+/// A worker that finds another inside learns how long the journal was.
 pub struct Turnstile<V: Chronicle> {
     table: Table<Option<V>, View, Snapshot<V>, Rule<V>, Global>,
     ghost sized: { (table.shared.table_id.words ≡ 1) × (table.shared.table_id.slots ≡ 1) },

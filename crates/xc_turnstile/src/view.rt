@@ -1,9 +1,10 @@
 use std::collections::LinkedList;
 use xc_data::{Entry, Event};
-use xc_story::Rules;
+use xc_model::Rules;
 use xc_text::Script;
 
 /// What a value was started with. Contracts alone name it.
+/// No value of it is ever made.
 #[derive(Drop)]
 pub struct Origin {
     pub script: Script,

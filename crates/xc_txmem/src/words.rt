@@ -20,6 +20,7 @@ impl Model for Words {
 }
 
 impl Words {
+    /// Words with these values, from word 0 on.
     pub fn new(alloc: Global, values: &[u64]) -> Result<Words, NoMemory>
         ensures { IfOk result (λ words. words ≡ values.now) }
     {
@@ -36,6 +37,7 @@ impl Words {
         self.values.len()
     }
 
+    /// The value of a word.
     pub fn get(&self, at: usize) -> u64
         requires { at < length self.now }
         ensures { result ≡ slice_index self.now at }
@@ -43,6 +45,7 @@ impl Words {
         self.values[at]
     }
 
+    /// A word takes a value. It takes no memory.
     pub fn set(&mut self, at: usize, value: u64)
         requires { at < length self.old }
         ensures { self.new ≡ slice_set self.old at value }
@@ -50,7 +53,7 @@ impl Words {
         self.values[at] = value;
     }
 
-    /// It takes no memory.
+    /// The values, without a copy. It takes no memory.
     pub fn list(self) -> WordList
         ensures { result ≡ self }
     {

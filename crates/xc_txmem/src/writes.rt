@@ -29,7 +29,7 @@ impl Model for WriteSet {
 }
 
 impl WriteSet {
-    /// It takes no memory.
+    /// No store waits. It takes no memory.
     pub fn new(alloc: Global) -> WriteSet
         ensures { result ≡ [] }
     {

@@ -43,7 +43,7 @@ get-words_of : (ms : List (List (ℕ × Mode))) (v n : ℕ) → map.get (words_o
 get-words_of ms v n = get-lookup word_holder_total (entries_from 0 ms) (word_holder v n) ∙ placed v 0 v n ms (omega arith)
 
 -- ---- changes of the list
--- a word that nobody holds has no entry behind the others
+-- a word that nobody holds has no entry after the others
 pushed : (w : ℕ) (ms : List (List (ℕ × Mode))) → entries_from w (ms ++ [] ∷ []) ≡ entries_from w ms
 pushed w [] = refl
 pushed w (m ∷ ms) = ap (λ es. entries_at w m ++ es) (pushed (w + 1) ms)

@@ -1,4 +1,4 @@
--- Modes behind claims, and loops over them.
+-- Modes after claims, and loops over them.
 use Rattle.std.proofs.Common.{◌≡◌, ℕ, Bool, true, false, cond, ◌||◌, Option, Some, None, IsSome, List, [], ◌∷◌, ◌++◌, refl, ap, sym, ◌∙◌, subst}
 use Rattle.std.proofs.Common.{take, ◌+◌, ◌<◌, suc, length, get_or, drop, drop-cons, add-one}
 use Rattle.std.specs.Prelude.{All, if◌then◌else◌}
@@ -9,8 +9,8 @@ use Rattle.xc_data.specs.declared.object.Object.{Object}
 use Rattle.xc_data.specs.declared.claim.Mode.{Mode}
 use Rattle.xc_data.specs.declared.claim.Claim.{Claim}
 use Rattle.xc_data.specs.Claims.{is_object}
-use Rattle.xc_wordlocks.specs.Table.{has, Table, mode_of, set_mode, with_mode, claimed, KeepsOthers}
-use Rattle.xc_wordlocks.proofs.Orders.{same_object, itself}
+use Rattle.xc_wordlocks.specs.Table.{has, Table, held_mode, set_mode, with_mode, claimed, KeepsOthers}
+use Rattle.xc_data.proofs.Objects.{same_object, itself}
 use Rattle.xc_wordlocks.proofs.Modes.{mode_of-set, mode_of-set_other}
 
 -- what is left of a list begins with the next one
@@ -32,18 +32,18 @@ pub claimed_on : (was : Option Mode) (c : Claim) (o : Object) (b : Bool) → is_
 claimed_on was c o b e = ap (λ x. if x then Some (with_mode was c.mode) else was) e
 
 raised_by : (t : Table) (tx : ℕ) (c : Claim) (o : Object) (b : Bool) → is_object c.object o ≡ b
-    → cond b (Some (with_mode (mode_of t tx c.object) c.mode)) (mode_of t tx o) ≡ cond b (Some (with_mode (mode_of t tx o) c.mode)) (mode_of t tx o)
-raised_by t tx c o true e = ap (λ (p : Object). Some (with_mode (mode_of t tx p) c.mode)) (same_object c.object o e)
+    → cond b (Some (with_mode (held_mode t tx c.object) c.mode)) (held_mode t tx o) ≡ cond b (Some (with_mode (held_mode t tx o) c.mode)) (held_mode t tx o)
+raised_by t tx c o true e = ap (λ (p : Object). Some (with_mode (held_mode t tx p) c.mode)) (same_object c.object o e)
 raised_by t tx c o false e = refl
 
 -- a claim on what is held gives it the stronger of both modes
-pub raised : (t : Table) (tx : ℕ) (c : Claim) (m : Mode) (o : Object) → m ≡ with_mode (mode_of t tx c.object) c.mode
-    → mode_of (set_mode t tx c.object (Some m)) tx o ≡ claimed (mode_of t tx o) (c ∷ []) o
+pub raised : (t : Table) (tx : ℕ) (c : Claim) (m : Mode) (o : Object) → m ≡ with_mode (held_mode t tx c.object) c.mode
+    → held_mode (set_mode t tx c.object (Some m)) tx o ≡ claimed (held_mode t tx o) (c ∷ []) o
 raised t tx c m o e =
-    mode_of-set t c.object o tx (Some m) ∙ ap (λ (x : Mode). cond (is_object c.object o) (Some x) (mode_of t tx o)) e
-    ∙ raised_by t tx c o (is_object c.object o) refl ∙ sym (claimed_on (mode_of t tx o) c o (is_object c.object o) refl)
+    mode_of-set t c.object o tx (Some m) ∙ ap (λ (x : Mode). cond (is_object c.object o) (Some x) (held_mode t tx o)) e
+    ∙ raised_by t tx c o (is_object c.object o) refl ∙ sym (claimed_on (held_mode t tx o) c o (is_object c.object o) refl)
 
--- what is held before a claim is held behind it
+-- what is held before a claim is held after it
 still_held : (was : Option Mode) (c : Claim) (o : Object) → IsSome was → IsSome (claimed was (c ∷ []) o)
 still_held was c o there = by (is_object c.object o) refl
   where
@@ -54,28 +54,28 @@ still_held was c o there = by (is_object c.object o) refl
 -- ---- the loop over the claims
 -- the claims that are left make of these modes what all make of the first ones
 pub record Raising (tx : ℕ) (was now : Table) (claims left : List Claim) : Type 0 where
-  pub own : (o : Object) → claimed (mode_of now tx o) left o ≡ claimed (mode_of was tx o) claims o
+  pub own : (o : Object) → claimed (held_mode now tx o) left o ≡ claimed (held_mode was tx o) claims o
   pub others : KeepsOthers tx was now
-  pub held : All (λ (c : Claim). IsSome (mode_of now tx c.object)) left
+  pub held : All (λ (c : Claim). IsSome (held_mode now tx c.object)) left
 
 -- a claim more is done
 pub raising_more : (tx : ℕ) (was now next : Table) (claims rest : List Claim) (c : Claim) → Raising tx was now claims (c ∷ rest)
-    → ((o : Object) → mode_of next tx o ≡ claimed (mode_of now tx o) (c ∷ []) o) → KeepsOthers tx now next → Raising tx was next claims rest
+    → ((o : Object) → held_mode next tx o ≡ claimed (held_mode now tx o) (c ∷ []) o) → KeepsOthers tx now next → Raising tx was next claims rest
 raising_more tx was now next claims rest c r own others = record {
   own = λ o. ap (λ (m : Option Mode). claimed m rest o) (own o) ∙ r.own o;
   others = λ n o ne. others n o ne ∙ r.others n o ne;
-  held = still rest (All-tail (λ (d : Claim). IsSome (mode_of now tx d.object)) c rest r.held);
+  held = still rest (All-tail (λ (d : Claim). IsSome (held_mode now tx d.object)) c rest r.held);
 }
   where
-    still : (cs : List Claim) → All (λ (d : Claim). IsSome (mode_of now tx d.object)) cs → All (λ (d : Claim). IsSome (mode_of next tx d.object)) cs
+    still : (cs : List Claim) → All (λ (d : Claim). IsSome (held_mode now tx d.object)) cs → All (λ (d : Claim). IsSome (held_mode next tx d.object)) cs
     still cs h =
-        All-weaker (λ (d : Claim). IsSome (mode_of now tx d.object)) (λ (d : Claim). IsSome (mode_of next tx d.object))
-        (λ d there. subst IsSome (sym (own d.object)) (still_held (mode_of now tx d.object) c d.object there)) cs h
+        All-weaker (λ (d : Claim). IsSome (held_mode now tx d.object)) (λ (d : Claim). IsSome (held_mode next tx d.object))
+        (λ d there. subst IsSome (sym (own d.object)) (still_held (held_mode now tx d.object) c d.object there)) cs h
 
 -- ---- the loop over objects that are taken out
 -- without the objects that are left the transaction holds what it held at first without all
 pub record Removing (tx : ℕ) (was now : Table) (objects left : List Object) : Type 0 where
-  pub own : (o : Object) → cond (has left o) None (mode_of now tx o) ≡ cond (has objects o) None (mode_of was tx o)
+  pub own : (o : Object) → cond (has left o) None (held_mode now tx o) ≡ cond (has objects o) None (held_mode was tx o)
   pub others : KeepsOthers tx was now
 
 -- what is without one and then without another is without either
@@ -104,7 +104,7 @@ pub removing_more : (tx : ℕ) (was now : Table) (objects rest : List Object) (p
     → Removing tx was (set_mode now tx p None) objects rest
 removing_more tx was now objects rest p r = record {
   own = λ o.
-      ap (λ (m : Option Mode). cond (has rest o) None m) (mode_of-set now p o tx None ∙ ap (λ b. cond b None (mode_of now tx o)) (is_object-swap p o))
-      ∙ without (is_object o p) (has rest o) (mode_of now tx o) ∙ r.own o;
+      ap (λ (m : Option Mode). cond (has rest o) None m) (mode_of-set now p o tx None ∙ ap (λ b. cond b None (held_mode now tx o)) (is_object-swap p o))
+      ∙ without (is_object o p) (has rest o) (held_mode now tx o) ∙ r.own o;
   others = λ n o ne. mode_of-set_other now p o tx n None ne ∙ r.others n o ne;
 }

@@ -9,7 +9,7 @@ use Rattle.xc_data.specs.declared.claim.Mode.{Mode}
 use Rattle.xc_data.specs.declared.claim.Claim.{Claim}
 use Rattle.xc_data.specs.Claims.{claim, is_object, stronger, merged, holding_one, holding, held_of, objects, AreOnceAtMost}
 use Rattle.xc_wordlocks.specs.Table.{has, with_mode, claimed, mode_in}
-use Rattle.xc_wordlocks.proofs.Orders.{same_object, itself}
+use Rattle.xc_data.proofs.Objects.{same_object, itself}
 use Rattle.xc_wordlocks.proofs.Modes.{none_there}
 use Rattle.xc_wordlocks.proofs.Claimed.{is_object-swap}
 use Rattle.xc_wordlocks.proofs.Places.{or_last}
@@ -79,7 +79,7 @@ behind_by : (h : Claim) (hs : List Claim) (c : Claim) (o : Object) (x : Bool)
 behind_by h hs c o true rest = refl
 behind_by h hs c o false rest = rest
 
--- a claim behind a list has its mode where the list has none
+-- a claim after a list has its mode where the list has none
 behind_list : (held : List Claim) (c : Claim) (o : Object) → mode_in (held ++ c ∷ []) o ≡ cond (is_some (mode_in held o)) (mode_in held o) (mode_in (c ∷ []) o)
 behind_list [] c o = refl
 behind_list (h ∷ hs) c o =
@@ -111,7 +111,7 @@ new_by held c o true e lacks =
     ap (λ m. cond (is_some m) m (Some c.mode)) none ∙ sym (ap (λ m. Some (with_mode m c.mode)) none)
 new_by held c o false e lacks = alone_by (mode_in held o)
 
--- the modes in a list behind a claim
+-- the modes in a list after a claim
 one_more : (held : List Claim) (c : Claim) (o : Object) → claimed (mode_in held o) (c ∷ []) o ≡ mode_in (holding_one held c) o
 one_more held c o = by (has (objects held) c.object) refl
   where
@@ -123,7 +123,7 @@ one_more held c o = by (has (objects held) c.object) refl
     by true e = sym (merged_modes c held o ∙ held_by held c o z refl e)
     by false e = sym (behind_list held c o ∙ new_by held c o z refl e)
 
--- the modes in a list behind claims
+-- the modes in a list after claims
 pub claimed-holding : (held claims : List Claim) (o : Object) → claimed (mode_in held o) claims o ≡ mode_in (holding held claims) o
 claimed-holding held [] o = refl
 claimed-holding held (c ∷ cs) o = ap (λ m. claimed m cs o) (one_more held c o) ∙ claimed-holding (holding_one held c) cs o

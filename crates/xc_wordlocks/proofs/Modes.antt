@@ -11,9 +11,10 @@ use Rattle.xc_maps.proofs.Laws as laws
 use Rattle.xc_wordlocks.specs.declared.key.Kind.{Kind}
 use Rattle.xc_wordlocks.specs.declared.key.Kind.TheVariants as kind
 use Rattle.xc_wordlocks.specs.Keys.{WordHolder, Holder, kind_of, holder_of, holder_cmp, word_holder, word_holder_cmp}
-use Rattle.xc_wordlocks.specs.Table.{Table, mode_at, mode_of, set_entry, set_at, set_mode}
+use Rattle.xc_wordlocks.specs.Table.{Table, mode_at, held_mode, set_entry, set_at, set_mode}
 use Rattle.xc_wordlocks.proofs.Orders.{holder_total, holder_exact, word_holder_total, word_holder_exact}
-use Rattle.xc_wordlocks.proofs.Orders.{object_of, kind_of-object_of, kind_of-same, same_object, other_object}
+use Rattle.xc_wordlocks.proofs.Orders.{object_of, kind_of-object_of, kind_of-same}
+use Rattle.xc_data.proofs.Objects.{same_object, other_object}
 
 -- what holds anyway holds on an error
 pub on_err : {A B P : Type 0} (r : Result A B) → P → OnErr r P
@@ -33,7 +34,7 @@ none_there None e = refl
 none_there (Some x) e = absurd (cc)
 
 -- tables with the same modes are the same
-pub same_table : (s t : Table) → ((n : ℕ) (o : Object) → mode_of s n o ≡ mode_of t n o) → s ≡ t
+pub same_table : (s t : Table) → ((n : ℕ) (o : Object) → held_mode s n o ≡ held_mode t n o) → s ≡ t
 same_table s t same =
     let words = map.same_map word_holder_total word_holder_exact s.words t.words (λ h. at_kind h.1 (kind.Word h.0)) in
     let others = map.same_map holder_total holder_exact s.others t.others (λ h. at_kind h.1 (kind.Other h.0)) in
@@ -49,7 +50,7 @@ empty_at t n (kind.Other p) w o =
     ap (λ (m : map.FinMap holder_cmp Mode). map.get m (holder_of p n)) o ∙ map.get-empty holder_cmp (holder_of p n)
 
 -- nobody holds anything in an empty table
-pub mode_of-empty : (t : Table) (n : ℕ) (o : Object) → t.words ≡ map.empty → t.others ≡ map.empty → mode_of t n o ≡ None
+pub mode_of-empty : (t : Table) (n : ℕ) (o : Object) → t.words ≡ map.empty → t.others ≡ map.empty → held_mode t n o ≡ None
 mode_of-empty t n o words others = empty_at t n (kind_of o) words others
 
 -- ---- one entry of a map
@@ -79,15 +80,15 @@ at_elsewhere t (kind.Other a) (kind.Word b) tx n m ne = refl
 
 -- ---- the mode of an object
 -- others stay
-pub mode_of-set_other : (t : Table) (p o : Object) (tx n : ℕ) (m : Option Mode) → n ≢ tx → mode_of (set_mode t tx p m) n o ≡ mode_of t n o
+pub mode_of-set_other : (t : Table) (p o : Object) (tx n : ℕ) (m : Option Mode) → n ≢ tx → held_mode (set_mode t tx p m) n o ≡ held_mode t n o
 mode_of-set_other t p o tx n m ne = at_elsewhere t (kind_of p) (kind_of o) tx n m (λ _ e. ne e)
 
 by_object : (t : Table) (p o : Object) (tx : ℕ) (m : Option Mode) (b : Bool) → is_object p o ≡ b
-    → mode_of (set_mode t tx p m) tx o ≡ cond b m (mode_of t tx o)
-by_object t p o tx m true e = ap (mode_of (set_mode t tx p m) tx) (sym (same_object p o e)) ∙ at_there t (kind_of p) tx m
+    → held_mode (set_mode t tx p m) tx o ≡ cond b m (held_mode t tx o)
+by_object t p o tx m true e = ap (held_mode (set_mode t tx p m) tx) (sym (same_object p o e)) ∙ at_there t (kind_of p) tx m
 by_object t p o tx m false e = at_elsewhere t (kind_of p) (kind_of o) tx tx m (λ same _. other_object p o e (kind_of-same p o (sym same)))
 
 -- the object has the mode, and the transaction's other objects stay
 pub mode_of-set : (t : Table) (p o : Object) (tx : ℕ) (m : Option Mode)
-    → mode_of (set_mode t tx p m) tx o ≡ cond (is_object p o) m (mode_of t tx o)
+    → held_mode (set_mode t tx p m) tx o ≡ cond (is_object p o) m (held_mode t tx o)
 mode_of-set t p o tx m = by_object t p o tx m (is_object p o) refl

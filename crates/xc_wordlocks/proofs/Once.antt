@@ -1,4 +1,4 @@
--- Lists with each object once: what is held behind one claim more, and where a claim on an object stands.
+-- Lists with each object once: what is held after one claim more, and where a claim on an object stands.
 use Rattle.std.proofs.Common.{◌≡◌, ℕ, Bool, true, false, cond, ◌||◌, List, [], ◌∷◌, ◌++◌, map, refl, ap, sym, ◌∙◌, subst, arith}
 use Rattle.std.proofs.Common.{◌+◌, ◌≤◌, zero, suc, set, Some, append_assoc}
 use Rattle.std.specs.Prelude.{All, Contains, count_by, slice_get, if◌then◌else◌}
@@ -13,7 +13,7 @@ use Rattle.xc_data.specs.Claims.{is_object, stronger, merged, holding_one, objec
 use Rattle.xc_wordlocks.specs.Released.{with_one, each_once}
 use Rattle.xc_wordlocks.specs.Table.{has, mode_in}
 use Rattle.xc_wordlocks.proofs.Held.{any_counts, count_cons, once_rest, once_here, once_member}
-use Rattle.xc_wordlocks.proofs.Orders.{same_object, itself}
+use Rattle.xc_data.proofs.Objects.{same_object, itself}
 use Rattle.xc_wordlocks.proofs.Places.{or_last}
 use Rattle.xc_wordlocks.proofs.Released.{one_objects}
 
@@ -40,7 +40,7 @@ once_new os p lacks once o =
         omega (arith, n, one, z)
     by false is n m k = let none = m ∙ ap (λ b. (0 + cond b 1 0) + 0) is in omega (arith, n, none, k)
 
--- behind a claim more each object is there once
+-- after a claim more each object is there once
 pub once_one : (held : List Claim) (c : Claim) → AreOnceAtMost (objects held) → AreOnceAtMost (objects (holding_one held c))
 once_one held c once = subst AreOnceAtMost (sym (one_objects held c)) (by (has (objects held) c.object) refl)
   where
@@ -49,7 +49,7 @@ once_one held c once = subst AreOnceAtMost (sym (one_objects held c)) (by (has (
     by false e = once_new (objects held) c.object e once
 
 -- ---- such a list stays as it is
--- each object once, behind others: all of them stay
+-- each object once, after others: all of them stay
 once_behind : (front os : List Object) → AreOnceAtMost (front ++ os) → fold with_one front os ≡ front ++ os
 once_behind front [] once = sym (append-nil front)
 once_behind front (p ∷ os) once = by (has front p) refl (once_behind (front ++ p ∷ []) os)

@@ -13,21 +13,21 @@ use Rattle.xc_data.specs.declared.claim.Claim.{Claim}
 use Rattle.xc_data.specs.Claims.{claim, is_object, merged, holding_one, objects}
 use Rattle.xc_data.specs.Step.{Step}
 use Rattle.xc_wordlocks.specs.Released.{with_one, each_once, claims_on}
-use Rattle.xc_wordlocks.specs.Table.{Table, KeepsOthers, has, mode_of, set_mode}
+use Rattle.xc_wordlocks.specs.Table.{Table, KeepsOthers, has, held_mode, set_mode}
 use Rattle.xc_wordlocks.proofs.Claimed.{is_object-swap, left-cons, take-more, without}
 use Rattle.xc_wordlocks.proofs.Held.{merged_object}
 use Rattle.xc_wordlocks.proofs.Modes.{mode_of-set, mode_of-set_other}
-use Rattle.xc_wordlocks.proofs.Orders.{same_object}
+use Rattle.xc_data.proofs.Objects.{same_object}
 use Rattle.xc_wordlocks.proofs.Places.{has-append, or_last}
 
 -- ---- objects, each once
--- the objects of what is held behind a claim
+-- the objects of what is held after a claim
 merged_objects : (c : Claim) (held : List Claim) → objects (map (merged c) held) ≡ objects held
 merged_objects c [] = refl
 merged_objects c (h ∷ hs) =
     ap (λ o. o ∷ objects (map (merged c) hs)) (merged_object c h (is_object c.object h.object) refl) ∙ ap (λ os. h.object ∷ os) (merged_objects c hs)
 
--- behind one claim, and behind several
+-- after one claim, and after several
 pub one_objects : (held : List Claim) (c : Claim) → objects (holding_one held c) ≡ with_one (objects held) c.object
 one_objects held c = by (has (objects held) c.object)
   where
@@ -35,7 +35,7 @@ one_objects held c = by (has (objects held) c.object)
     by true = merged_objects c held
     by false = map-append (λ (d : Claim). d.object) held (c ∷ [])
 
--- an object behind others adds itself alone
+-- an object after others adds itself alone
 with_has : (os : List Object) (p o : Object) (b : Bool) → has os p ≡ b → has (if b then os else os ++ p ∷ []) o ≡ (has os o || has (p ∷ []) o)
 with_has os p o true there = by (is_object o p) refl
   where
@@ -44,7 +44,7 @@ with_has os p o true there = by (is_object o p) refl
     by false is = sym (or-false (has os o))
 with_has os p o false lacks = has-append os (p ∷ []) o
 
--- objects behind others add themselves alone
+-- objects after others add themselves alone
 fold_has : (os ps : List Object) (o : Object) → has (fold with_one os ps) o ≡ (has os o || has ps o)
 fold_has os [] o = sym (or-false (has os o))
 fold_has os (p ∷ ps) o =
@@ -87,10 +87,10 @@ claims_more modes os p =
         ∙ filter_map-append (λ o. option_map (λ m. claim m o) (modes o)) (each_once os) (p ∷ [])
 
 -- ---- the loop over the claims
--- the objects of the claims so far are taken out of the table, each is kept once in the front, and the claims behind stand as they were
+-- the objects of the claims so far are taken out of the table, each is kept once in the front, and the claims after stand as they were
 pub record Taking (tx : ℕ) (table : Step Table) (claims : Step (List Claim)) (at count : ℕ) : Type 0 where
-  pub kept : take count claims.new ≡ claims_on (mode_of table.old tx) (each_once (objects (take at claims.old)))
-  pub own : (o : Object) → mode_of table.new tx o ≡ cond (has (objects (take at claims.old)) o) None (mode_of table.old tx o)
+  pub kept : take count claims.new ≡ claims_on (held_mode table.old tx) (each_once (objects (take at claims.old)))
+  pub own : (o : Object) → held_mode table.new tx o ≡ cond (has (objects (take at claims.old)) o) None (held_mode table.old tx o)
   pub others : KeepsOthers tx table.old table.new
   pub rest : drop at claims.new ≡ drop at claims.old
   pub behind : count ≤ at
@@ -99,7 +99,7 @@ pub record Taking (tx : ℕ) (table : Step Table) (claims : Step (List Claim)) (
 module _ (tx : ℕ) (was now : Table) (log items : List Claim) (at count : ℕ)
     (t : Taking tx (record { old = was; new = now }) (record { old = log; new = items }) at count) (c : Claim)
     (within : at < length items) (is : c ≡ get_or items at c) where
-  -- the claim is the log's next one, and behind it all stands as it was
+  -- the claim is the log's next one, and after it all stands as it was
   both : c ∷ drop (at + 1) items ≡ get_or log at c ∷ drop (at + 1) log
   both = sym (left-cons items at c within is) ∙ t.rest ∙ rw add-one (drop-cons log at c (omega (arith, t.same_length)))
 
@@ -114,18 +114,18 @@ module _ (tx : ℕ) (was now : Table) (log items : List Claim) (at count : ℕ)
   grown = ap objects (take-more log at c (omega (arith, t.same_length)) is_next) ∙ map-append (λ (d : Claim). d.object) (take at log) (c ∷ [])
 
   -- a claim more is done
-  pub taking_more : (next : List Claim) (n : ℕ) → take n next ≡ take count items ++ claim_in (mode_of now tx c.object) c.object
+  pub taking_more : (next : List Claim) (n : ℕ) → take n next ≡ take count items ++ claim_in (held_mode now tx c.object) c.object
       → drop (at + 1) next ≡ drop (at + 1) items → n ≤ at + 1 → length next ≡ length items
       → Taking tx (record { old = was; new = set_mode now tx c.object None }) (record { old = log; new = next }) (at + 1) n
   taking_more next n front back behind same = record {
     kept =
         front ∙ ap₂ (λ cs m. cs ++ claim_in m c.object) t.kept (t.own c.object)
-        ∙ sym (ap (λ os. claims_on (mode_of was tx) (each_once os)) grown ∙ claims_more (mode_of was tx) (objects (take at log)) c.object);
+        ∙ sym (ap (λ os. claims_on (held_mode was tx) (each_once os)) grown ∙ claims_more (held_mode was tx) (objects (take at log)) c.object);
     own = λ o.
         mode_of-set now c.object o tx None
         ∙ ap₂ (λ b m. cond b None m) (is_object-swap c.object o ∙ sym (or-false (is_object o c.object))) (t.own o)
-        ∙ without (has (objects (take at log)) o) (has (c.object ∷ []) o) (mode_of was tx o)
-        ∙ ap (λ b. cond b None (mode_of was tx o)) (sym (ap (λ os. has os o) grown ∙ has-append (objects (take at log)) (c.object ∷ []) o));
+        ∙ without (has (objects (take at log)) o) (has (c.object ∷ []) o) (held_mode was tx o)
+        ∙ ap (λ b. cond b None (held_mode was tx o)) (sym (ap (λ os. has os o) grown ∙ has-append (objects (take at log)) (c.object ∷ []) o));
     others = λ n o ne. mode_of-set_other now c.object o tx n None ne ∙ t.others n o ne;
     rest = back ∙ rest_next;
     behind = behind;

@@ -1,19 +1,19 @@
 -- Which claims are met, and by whom.
-use Rattle.std.specs.Prelude.{◌≡◌, ◌≢◌, ◌≤◌, ℕ, false, All, List, ◌∷◌, ◌++◌, Some}
+use Rattle.std.specs.Prelude.{◌≡◌, ◌≢◌, ◌≤◌, ℕ, All, List, ◌∷◌, ◌++◌, Some}
 use Rattle.xc_data.specs.declared.object.Object.{Object}
 use Rattle.xc_data.specs.declared.claim.Mode.{Mode}
 use Rattle.xc_data.specs.declared.claim.Claim.{Claim}
-use Rattle.xc_data.specs.Claims.{compatible}
+use Rattle.xc_data.specs.Claims.{Clash, claim}
 use Rattle.xc_wordlocks.specs.declared.refusal.ClaimErr.{ClaimErr}
 use Rattle.xc_wordlocks.specs.declared.refusal.ClaimErr.TheVariants.{Met, NoMemory}
-use Rattle.xc_wordlocks.specs.Table.{Table, mode_of}
+use Rattle.xc_wordlocks.specs.Table.{Table, held_mode}
 
 -- another transaction holds the claimed object, in a mode that isn't compatible with the claimed one
-pub record Meets (table : Table) (claim : Claim) (tx n : ℕ) : Type 0 where
+pub record Meets (table : Table) (wanted : Claim) (tx n : ℕ) : Type 0 where
   pub other : n ≢ tx
   pub held_as : Mode
-  pub holds : mode_of table n claim.object ≡ Some held_as
-  pub apart : compatible held_as claim.mode ≡ false
+  pub holds : held_mode table n wanted.object ≡ Some held_as
+  pub clash : Clash wanted (claim held_as wanted.object)
 
 -- this transaction is the smallest that meets a claim of tx
 pub record IsMet (table : Table) (claim : Claim) (tx n : ℕ) : Type 0 where

@@ -7,7 +7,7 @@ use Rattle.xc_data.specs.declared.claim.Claim.{Claim}
 use Rattle.xc_data.specs.Claims.{claim}
 use Rattle.xc_wordlocks.specs.Table.{has}
 
--- an object behind others, where it isn't among them
+-- an object after others, where it isn't among them
 abbrev pub with_one : List Object → Object → List Object
 with_one os o = if has os o then os else os ++ o ∷ []
 

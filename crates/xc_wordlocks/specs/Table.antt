@@ -36,8 +36,8 @@ mode_at table n (kind.Word at) = map.get table.words (word_holder at n)
 mode_at table n (kind.Other o) = map.get table.others (holder_of o n)
 
 -- in which mode a transaction holds an object
-abbrev pub mode_of : Table → ℕ → Object → Option Mode
-mode_of table n o = mode_at table n (kind_of o)
+abbrev pub held_mode : Table → ℕ → Object → Option Mode
+held_mode table n o = mode_at table n (kind_of o)
 
 -- a map with a mode at a key, or with nothing there
 abbrev pub set_entry : {K : Type 0} {R : K → K → Ordering} → map.FinMap R Mode → K → Option Mode → map.FinMap R Mode
@@ -53,12 +53,12 @@ set_at table n (kind.Other o) mode = record table { others = set_entry table.oth
 abbrev pub set_mode : Table → ℕ → Object → Option Mode → Table
 set_mode table n o mode = set_at table n (kind_of o) mode
 
--- the mode of an object behind a claim on it
+-- the mode of an object after a claim on it
 abbrev pub with_mode : Option Mode → Mode → Mode
 with_mode None mode = mode
 with_mode (Some was) mode = stronger was mode
 
--- in which mode a transaction holds an object behind claims, from the mode before them
+-- in which mode a transaction holds an object after claims, from the mode before them
 abbrev pub claimed : Option Mode → List Claim → Object → Option Mode
 claimed was [] o = was
 claimed was (c ∷ cs) o = claimed (if is_object c.object o then Some (with_mode was c.mode) else was) cs o
@@ -70,13 +70,13 @@ mode_in (c ∷ cs) o = if is_object c.object o then Some c.mode else mode_in cs 
 
 -- a transaction holds what this list says, and no more
 abbrev pub Holds : Table → ℕ → List Claim → Type 0
-Holds table tx held = (o : Object) → mode_of table tx o ≡ mode_in held o
+Holds table tx held = (o : Object) → held_mode table tx o ≡ mode_in held o
 
 -- all others hold the same in both tables
 abbrev pub KeepsOthers : ℕ → Table → Table → Type 0
-KeepsOthers tx old new = (n : ℕ) (o : Object) → n ≢ tx → mode_of new n o ≡ mode_of old n o
+KeepsOthers tx old new = (n : ℕ) (o : Object) → n ≢ tx → held_mode new n o ≡ held_mode old n o
 
 -- two transactions hold one object only where both hold it Shared
 abbrev pub AreCompatible : Table → Type 0
-AreCompatible table = (n k : ℕ) (o : Object) (a b : Mode) → n ≢ k → mode_of table n o ≡ Some a → mode_of table k o ≡ Some b
+AreCompatible table = (n k : ℕ) (o : Object) (a b : Mode) → n ≢ k → held_mode table n o ≡ Some a → held_mode table k o ≡ Some b
     → (a ≡ Shared) × (b ≡ Shared)

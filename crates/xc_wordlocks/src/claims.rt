@@ -1,7 +1,7 @@
 ghost use Rattle.std.specs.Prelude.{◌≡◌, ◌<◌, ◌≤◌, ◌+◌, ℕ, length, All, MatchOption, MatchResult, None, OnOk, OnErr, IfErr, if◌then◌else◌};
 ghost use Rattle.xc_data.specs.Claims.{objects};
 ghost use Rattle.xc_data.specs.declared.object.Object.{Object};
-ghost use Rattle.xc_wordlocks.specs.Table.{AreCompatible, Holds, KeepsOthers, claimed, has, mode_of};
+ghost use Rattle.xc_wordlocks.specs.Table.{AreCompatible, Holds, KeepsOthers, claimed, has, held_mode};
 ghost use Rattle.xc_wordlocks.specs.Met.{IsCause, IsMet, IsNotMet};
 
 use crate::ClaimErr;
@@ -16,7 +16,7 @@ use std::marker::{Brand, Model};
 use std::sync::ledger::{Blank, Ledger};
 use xc_data::{Claim, HeldList, Items};
 
-/// Which transaction holds which object, and in which mode. Contracts see it by `mode_of`.
+/// Which transaction holds which object, and in which mode. Contracts see it by `held_mode`.
 #[derive(Drop)]
 pub struct Claims {
     alloc: Global,
@@ -36,8 +36,9 @@ impl Model for Claims {
 }
 
 impl Claims {
+    /// Nobody holds anything. It takes no memory.
     pub fn new(alloc: Global) -> Claims
-        ensures empty { (n : ℕ) (o : Object) → mode_of result n o ≡ None }
+        ensures empty { (n : ℕ) (o : Object) → held_mode result n o ≡ None }
         ensures coherent { AreCompatible result }
     {
         Claims {
@@ -53,7 +54,7 @@ impl Claims {
         ensures coherent { AreCompatible self.now }
     {
         let (holder, mode) = first_other::<Brand>(&self.holders, &claim.object, tx, Blank::new(1))?;
-        if mode.is_compatible(claim.mode) {
+        if claim.mode.is_compatible(mode) {
             None
         } else {
             Some(holder)
@@ -79,7 +80,7 @@ impl Claims {
     /// of both modes.
     pub fn claim(&mut self, claims: &[Claim], tx: u32) -> Result<(), ClaimErr>
         ensures unmet { OnOk result (All (IsNotMet self.old tx) claims.now) }
-        ensures held { OnOk result ((o : Object) → mode_of self.new tx o ≡ claimed (mode_of self.old tx o) claims.now o) }
+        ensures held { OnOk result ((o : Object) → held_mode self.new tx o ≡ claimed (held_mode self.old tx o) claims.now o) }
         ensures others { OnOk result (KeepsOthers tx self.old self.new) }
         ensures err { OnErr result (self.new ≡ self.old) }
         ensures cause { IfErr result (IsCause self.old claims.now tx) }
@@ -93,8 +94,8 @@ impl Claims {
     /// The transaction holds nothing any longer of what is listed. Gives the list, each object once, in the mode in which it was
     /// held; what the transaction doesn't hold is passed over. It takes no memory.
     pub fn release_all(&mut self, tx: u32, held: Holding) -> HeldList
-        ensures freed { (o : Object) → mode_of self.new tx o ≡ (if has (objects held.items) o then None else mode_of self.old tx o) }
-        ensures released { Holds self.old tx held.items → (o : Object) → mode_of self.new tx o ≡ None }
+        ensures freed { (o : Object) → held_mode self.new tx o ≡ (if has (objects held.items) o then None else held_mode self.old tx o) }
+        ensures released { Holds self.old tx held.items → (o : Object) → held_mode self.new tx o ≡ None }
         ensures held { Holds self.old tx held.items → result ≡ held.items }
         ensures others { KeepsOthers tx self.old self.new }
         ensures coherent { AreCompatible self.new }
@@ -107,8 +108,8 @@ impl Claims {
         requires name { blank.name ≡ L.name }
         requires parts { blank.parts ≡ L.parts }
         requires one { 0 < blank.parts }
-        ensures freed { (o : Object) → mode_of self.new tx o ≡ (if has (objects held.items) o then None else mode_of self.old tx o) }
-        ensures released { Holds self.old tx held.items → (o : Object) → mode_of self.new tx o ≡ None }
+        ensures freed { (o : Object) → held_mode self.new tx o ≡ (if has (objects held.items) o then None else held_mode self.old tx o) }
+        ensures released { Holds self.old tx held.items → (o : Object) → held_mode self.new tx o ≡ None }
         ensures held { Holds self.old tx held.items → result ≡ held.items }
         ensures others { KeepsOthers tx self.old self.new }
         ensures coherent { AreCompatible self.new }
@@ -123,8 +124,8 @@ impl Claims {
         held: Holding,
         steps: &mut Steps<L>,
     ) -> HeldList
-        ensures freed { (o : Object) → mode_of self.new tx o ≡ (if has (objects held.items) o then None else mode_of self.old tx o) }
-        ensures released { Holds self.old tx held.items → (o : Object) → mode_of self.new tx o ≡ None }
+        ensures freed { (o : Object) → held_mode self.new tx o ≡ (if has (objects held.items) o then None else held_mode self.old tx o) }
+        ensures released { Holds self.old tx held.items → (o : Object) → held_mode self.new tx o ≡ None }
         ensures held { Holds self.old tx held.items → result ≡ held.items }
         ensures others { KeepsOthers tx self.old self.new }
         ensures coherent { AreCompatible self.new }

@@ -10,7 +10,7 @@ use std::alloc::Global;
 use std::sync::ledger::Ledger;
 use xc_data::{Mode, NoMemory, Object};
 
-/// Who holds which object, and in which mode: words by their places, all others by hash. Contracts see it by `mode_of`. It is looked
+/// Who holds which object, and in which mode: words by their places, all others by hash. Contracts see it by `held_mode`. It is looked
 /// up, put into and taken from, an object a call, and each call is a step.
 #[derive(Drop)]
 pub struct Holders {
@@ -19,11 +19,12 @@ pub struct Holders {
 }
 
 impl Holders {
-    ghost use Rattle.xc_wordlocks.specs.Table.{mode_of, set_mode};
+    ghost use Rattle.xc_wordlocks.specs.Table.{held_mode, set_mode};
     ghost use Rattle.xc_wordlocks.specs.Rows.{mode_among};
 
+    /// Nobody holds anything. It takes no memory.
     pub fn new(alloc: Global) -> Self
-        ensures { (n : ℕ) (o : Object) → mode_of result n o ≡ None }
+        ensures { (n : ℕ) (o : Object) → held_mode result n o ≡ None }
     {
         Holders {
             words: Words::new(alloc),
@@ -33,8 +34,8 @@ impl Holders {
 
     /// The holders of an object.
     pub fn look<L: Ledger>(&self, object: Object, steps: &mut Steps<L>) -> Option<&ObjectHolders>
-        ensures some { IfSome result (λ m. (n : ℕ) → mode_of self.now n object ≡ mode_among m.now n) }
-        ensures none { IfNone result ((n : ℕ) → mode_of self.now n object ≡ None) }
+        ensures some { IfSome result (λ m. (n : ℕ) → held_mode self.now n object ≡ mode_among m.now n) }
+        ensures none { IfNone result ((n : ℕ) → held_mode self.now n object ≡ None) }
         ensures cost { steps.new ≡ steps.old + 1 }
     {
         steps.tick();
@@ -44,7 +45,7 @@ impl Holders {
         }
     }
 
-    /// The transaction holds the object in this mode. Only a new holder can want memory.
+    /// The transaction holds the object in this mode. Only a new holder can run out of memory.
     pub fn put<L: Ledger>(
         &mut self,
         object: Object,
@@ -54,7 +55,7 @@ impl Holders {
     ) -> Result<(), NoMemory>
         ensures ok { OnOk result (self.new ≡ set_mode self.old tx object (Some mode)) }
         ensures err { OnErr result (self.new ≡ self.old) }
-        ensures absent { OnErr result (mode_of self.old tx object ≡ None) }
+        ensures absent { OnErr result (held_mode self.old tx object ≡ None) }
         ensures cost { steps.new ≡ steps.old + 1 }
     {
         steps.tick();
@@ -66,7 +67,7 @@ impl Holders {
 
     /// The transaction doesn't hold the object any longer. Gives the mode in which it did. It takes no memory.
     pub fn take<L: Ledger>(&mut self, object: Object, tx: u32, steps: &mut Steps<L>) -> Option<Mode>
-        ensures value { result ≡ mode_of self.old tx object }
+        ensures value { result ≡ held_mode self.old tx object }
         ensures removed { self.new ≡ set_mode self.old tx object None }
         ensures cost { steps.new ≡ steps.old + 1 }
     {

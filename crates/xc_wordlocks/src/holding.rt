@@ -5,7 +5,7 @@ ghost use Rattle.xc_wordlocks.specs.Held.{HasRoomFor, IsPlaceOf};
 use std::alloc::Global;
 use std::marker::Model;
 use xc_data::{Claim, NoMemory, Object};
-use xc_journal::Roomy;
+use xc_roomy::Roomy;
 
 /// What the claims of a transaction's calls hold: each object once, where it was first claimed, in the strongest mode in which it
 /// was. So a release costs what is held, however often it was claimed; a claim walks what is held already.
@@ -26,7 +26,7 @@ impl Model for Holding {
 }
 
 impl Holding {
-    /// It takes no memory.
+    /// A transaction that holds nothing. It takes no memory.
     pub fn new(alloc: Global) -> Holding
         ensures { result.items ≡ [] }
     {

@@ -20,6 +20,8 @@ enum Form {
 
 /// The transactions that hold one object, each with its mode. One alone stands in its place; a tree is made for a second one, and
 /// stays. Contracts see them as a list.
+///
+/// Mostly there is no holder or one; a tree would then be memory that each claim takes and each end gives back.
 #[derive(Drop)]
 pub struct ObjectHolders {
     form: Form,
@@ -46,6 +48,7 @@ fn both(alloc: Global, one: (u32, Mode), two: (u32, Mode)) -> Result<BTreeMap<u3
 }
 
 impl ObjectHolders {
+    /// No holder. It takes no memory.
     pub fn nobody() -> ObjectHolders
         ensures { result ≡ [] }
     {
@@ -72,6 +75,7 @@ impl ObjectHolders {
         }
     }
 
+    /// In which mode a transaction holds the object; `None` if it doesn't.
     pub fn get(&self, tx: u32) -> Option<Mode>
         ensures { result ≡ mode_among self.now tx }
     {
@@ -82,7 +86,7 @@ impl ObjectHolders {
         }
     }
 
-    /// Only a new holder can want memory.
+    /// Only a new holder can run out of memory.
     pub fn insert(&mut self, alloc: Global, tx: u32, mode: Mode) -> Result<(), NoMemory>
         ensures ok { OnOk result ((n : ℕ) → mode_among self.new n ≡ cond (is_at (nat_cmp tx) n) (Some mode) (mode_among self.old n)) }
         ensures err { OnErr result (self.new ≡ self.old) }
@@ -101,7 +105,7 @@ impl ObjectHolders {
         Ok(())
     }
 
-    /// It takes no memory.
+    /// A transaction holds the object no longer. Gives the mode in which it did. It takes no memory.
     pub fn remove(&mut self, tx: u32) -> Option<Mode>
         ensures value { result ≡ mode_among self.old tx }
         ensures removed { (n : ℕ) → mode_among self.new n ≡ cond (is_at (nat_cmp tx) n) None (mode_among self.old n) }

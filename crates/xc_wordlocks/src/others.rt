@@ -34,6 +34,7 @@ impl Model for Others {
 }
 
 impl Others {
+    /// Nobody holds an object that isn't a word. It takes no memory.
     pub fn new(alloc: Global) -> Self
         ensures { result ≡ map.empty }
     {
@@ -51,7 +52,7 @@ impl Others {
         self.rows.get(&object)
     }
 
-    /// Only a new holder can want memory.
+    /// Only a new holder can run out of memory.
     pub fn insert(&mut self, object: Other, tx: u32, mode: Mode) -> Result<(), NoMemory>
         ensures ok { OnOk result (self.new ≡ map.insert self.old (holder_of object tx) mode) }
         ensures err { OnErr result (self.new ≡ self.old) }

@@ -1,6 +1,6 @@
 ghost use Rattle.std.specs.Prelude.{◌≡◌, ◌<◌, ◌∷◌, [], List, None, OnOk, OnErr, if◌then◌else◌};
 ghost use Rattle.xc_data.specs.declared.object.Object.{Object};
-ghost use Rattle.xc_wordlocks.specs.Table.{KeepsOthers, claimed, has, mode_of};
+ghost use Rattle.xc_wordlocks.specs.Table.{KeepsOthers, claimed, has, held_mode};
 ghost use Rattle.xc_wordlocks.specs.Placing.{Placed, PlacedBehind};
 
 use crate::holders::Holders;
@@ -12,7 +12,7 @@ use std::alloc::Global;
 use std::sync::ledger::{Blank, Ledger};
 use xc_data::{Claim, Mode, NoMemory, Object};
 
-// Puts a claim's object into the table, and behind those that were added, where it isn't held yet.
+// Puts a claim's object into the table, and after those that were added, where it isn't held yet.
 fn place<L: Ledger>(
     holders: &mut Holders,
     added: &mut SmallVec<Object, 2>,
@@ -36,7 +36,7 @@ fn place<L: Ledger>(
 
 // The transaction holds none of these objects any longer.
 fn take_back<L: Ledger>(holders: &mut Holders, objects: &[Object], tx: u32, steps: &mut Steps<L>)
-    ensures own { (o : Object) → mode_of holders.new tx o ≡ (if has objects.now o then None else mode_of holders.old tx o) }
+    ensures own { (o : Object) → held_mode holders.new tx o ≡ (if has objects.now o then None else held_mode holders.old tx o) }
     ensures others { KeepsOthers tx holders.old holders.new }
 {
     for object in objects {
@@ -77,7 +77,7 @@ pub fn hold_all<L: Ledger>(
     requires name { blank.name ≡ L.name }
     requires parts { blank.parts ≡ L.parts }
     requires one { 0 < blank.parts }
-    ensures own { OnOk result ((o : Object) → mode_of holders.new tx o ≡ claimed (mode_of holders.old tx o) claims.now o) }
+    ensures own { OnOk result ((o : Object) → held_mode holders.new tx o ≡ claimed (held_mode holders.old tx o) claims.now o) }
     ensures others { OnOk result (KeepsOthers tx holders.old holders.new) }
     ensures err { OnErr result (holders.new ≡ holders.old) }
 {

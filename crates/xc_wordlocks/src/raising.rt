@@ -1,7 +1,7 @@
 ghost use Rattle.std.specs.Prelude.{◌≡◌, [], ◌∷◌, All, IsSome};
 ghost use Rattle.xc_data.specs.declared.object.Object.{Object};
 ghost use Rattle.xc_data.specs.declared.claim.Claim.{Claim};
-ghost use Rattle.xc_wordlocks.specs.Table.{KeepsOthers, claimed, mode_of};
+ghost use Rattle.xc_wordlocks.specs.Table.{KeepsOthers, claimed, held_mode};
 
 use crate::holders::Holders;
 use crate::reading::mode_held;
@@ -11,8 +11,8 @@ use xc_data::Claim;
 
 // The transaction holds the object in the stronger of both modes. It takes no memory.
 fn raise<L: Ledger>(holders: &mut Holders, claim: &Claim, tx: u32, steps: &mut Steps<L>)
-    requires { IsSome (mode_of holders.old tx claim.now.object) }
-    ensures own { (o : Object) → mode_of holders.new tx o ≡ claimed (mode_of holders.old tx o) (claim.now ∷ []) o }
+    requires { IsSome (held_mode holders.old tx claim.now.object) }
+    ensures own { (o : Object) → held_mode holders.new tx o ≡ claimed (held_mode holders.old tx o) (claim.now ∷ []) o }
     ensures others { KeepsOthers tx holders.old holders.new }
 {
     let was = mode_held(holders, claim.object, tx, steps);
@@ -27,8 +27,8 @@ fn raise<L: Ledger>(holders: &mut Holders, claim: &Claim, tx: u32, steps: &mut S
 
 /// Gives what the transaction holds the modes of these claims. It takes no memory.
 pub fn raise_all<L: Ledger>(holders: &mut Holders, claims: &[Claim], tx: u32, steps: &mut Steps<L>)
-    requires { All (λ (c : Claim). IsSome (mode_of holders.old tx c.object)) claims.now }
-    ensures own { (o : Object) → mode_of holders.new tx o ≡ claimed (mode_of holders.old tx o) claims.now o }
+    requires { All (λ (c : Claim). IsSome (held_mode holders.old tx c.object)) claims.now }
+    ensures own { (o : Object) → held_mode holders.new tx o ≡ claimed (held_mode holders.old tx o) claims.now o }
     ensures others { KeepsOthers tx holders.old holders.new }
 {
     for claim in claims {

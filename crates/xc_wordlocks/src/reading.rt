@@ -1,5 +1,5 @@
 ghost use Rattle.std.specs.Prelude.{◌≡◌, ◌<◌, MatchOption};
-ghost use Rattle.xc_wordlocks.specs.Table.{mode_of};
+ghost use Rattle.xc_wordlocks.specs.Table.{held_mode};
 ghost use Rattle.xc_wordlocks.specs.Others.{HasNoOther, IsFirstOther};
 
 use crate::holders::Holders;
@@ -14,7 +14,7 @@ pub fn mode_held<L: Ledger>(
     tx: u32,
     steps: &mut Steps<L>,
 ) -> Option<Mode>
-    ensures { result ≡ mode_of holders.now tx object }
+    ensures { result ≡ held_mode holders.now tx object }
 {
     holders.look(object, steps)?.get(tx)
 }

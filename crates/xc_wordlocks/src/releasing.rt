@@ -2,7 +2,7 @@ ghost use Rattle.std.specs.Prelude.{◌≡◌, ◌+◌, None, length, if◌then�
 ghost use Rattle.xc_data.specs.Claims.{objects};
 ghost use Rattle.xc_data.specs.declared.object.Object.{Object};
 ghost use Rattle.xc_wordlocks.specs.Released.{claims_on, each_once};
-ghost use Rattle.xc_wordlocks.specs.Table.{KeepsOthers, has, mode_of};
+ghost use Rattle.xc_wordlocks.specs.Table.{KeepsOthers, has, held_mode};
 
 use crate::holders::Holders;
 use crate::steps::Steps;
@@ -17,9 +17,10 @@ pub fn take_all<L: Ledger>(
     tx: u32,
     steps: &mut Steps<L>,
 )
-    ensures own { (o : Object) → mode_of holders.new tx o ≡ (if has (objects claims.old.items) o then None else mode_of holders.old tx o) }
+    ensures own { (o : Object)
+        → held_mode holders.new tx o ≡ (if has (objects claims.old.items) o then None else held_mode holders.old tx o) }
     ensures others { KeepsOthers tx holders.old holders.new }
-    ensures taken { claims.new.items ≡ claims_on (mode_of holders.old tx) (each_once (objects claims.old.items)) }
+    ensures taken { claims.new.items ≡ claims_on (held_mode holders.old tx) (each_once (objects claims.old.items)) }
     ensures cost { steps.new ≡ steps.old + length claims.old.items }
 {
     let mut count = 0;

@@ -4,6 +4,7 @@ use std::marker::Model;
 use std::sync::ledger::{Blank, Book, Ledger, Share};
 
 /// How many steps were taken: each is a call of the map of claims, which looks up, puts or takes one object. It takes no bytes.
+/// The hash and the walk of a bucket are one step.
 #[derive(Drop)]
 pub struct Steps<L: Ledger> {
     book: Book<L>,

@@ -43,6 +43,7 @@ fn grow(holders: &mut Vec<ObjectHolders>, at: usize) -> Result<(), NoMemory>
 }
 
 impl Words {
+    /// Nobody holds a word. It takes no memory.
     pub fn new(alloc: Global) -> Self
         ensures { result ≡ map.empty }
     {
@@ -60,7 +61,7 @@ impl Words {
         self.holders.get(at as usize)
     }
 
-    /// Only a new holder can want memory.
+    /// Only a new holder can run out of memory.
     pub fn insert(&mut self, at: u32, tx: u32, mode: Mode) -> Result<(), NoMemory>
         ensures ok { OnOk result (self.new ≡ map.insert self.old (word_holder at tx) mode) }
         ensures err { OnErr result (self.new ≡ self.old) }
@@ -70,6 +71,7 @@ impl Words {
         self.holders[at as usize].insert(self.alloc, tx, mode)
     }
 
+    /// A transaction holds a word no longer. Gives the mode in which it did. It takes no memory.
     pub fn remove(&mut self, at: u32, tx: u32) -> Option<Mode>
         ensures value { result ≡ map.get self.old (word_holder at tx) }
         ensures removed { self.new ≡ map.remove self.old (word_holder at tx) }

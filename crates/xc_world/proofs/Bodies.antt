@@ -19,10 +19,10 @@ use Rattle.xc_world.specs.Laws.{AgreeAt, ChangesOnly, ActsAlike}
 use Rattle.xc_world.proofs.Local.{act_alike}
 use Rattle.xc_world.proofs.LocalParts.{agree_itself}
 use Rattle.xc_data.specs.declared.claim.Claim.{Claim}
-use Rattle.xc_data.specs.declared.call.Asked.{Asked}
+use Rattle.xc_data.specs.declared.call.CallWithAnswer.{CallWithAnswer}
 use Rattle.xc_data.specs.Claims.{objects, owned, owned_object}
 use Rattle.xc_world.specs.Modes.{mode_of, claims_of}
-use Rattle.xc_world.specs.Run.{Ran, begins, taken_by, step, goes_on, body, body_fits}
+use Rattle.xc_world.specs.Run.{BodyResult, begins, taken_by, step, goes_on, body, body_fits}
 use Rattle.xc_world.specs.Own.{IsNumbered, Sees, Owns, AgreeOn, KeepsBut, GaveAlike, RanAlike}
 use Rattle.xc_world.proofs.Objects.{agree_on}
 use Rattle.xc_world.proofs.Calls.{objects_of_claims, made_numbered, recorded_alike, fits_alike, agreed, still_agree, keeps_itself, act_keeps}
@@ -40,11 +40,11 @@ keeps_on own w v x first later =
 pub keeps_more : (own more : Object → Type 0) (w v : World) → ((o : Object) → own o → more o) → KeepsBut own w v → KeepsBut more w v
 keeps_more own more w v within keeps = record { others = λ o lacks. keeps.others o (λ has. lacks (within o has)); count = keeps.count; blocks = keeps.blocks }
 
--- ---- claims one behind another
+-- ---- claims one after another
 pub objects_append : (a b : List Claim) → objects (a ++ b) ≡ objects a ++ objects b
 objects_append a b = map-append (λ (c : Claim). c.object) a b
 
--- what claims one behind another own
+-- what claims one after another own
 pub owned_append : (a b : List Claim) → owned (a ++ b) ≡ owned a ++ owned b
 owned_append a b = filter_map-append owned_object a b
 
@@ -66,7 +66,7 @@ owns_in_front tx a b o (inl at) = inl (subst (λ l. Contains l o) (sym (owned_ap
 owns_in_front tx a b o (inr numbered) = inr numbered
 
 -- what was touched stays touched
-pub keeps_touched : (tx : ℕ) (ran : Ran) (asked : List Asked) (o : Object) → Contains (objects ran.touched) o
+pub keeps_touched : (tx : ℕ) (ran : BodyResult) (asked : List CallWithAnswer) (o : Object) → Contains (objects ran.touched) o
     → Contains (objects (goes_on tx ran asked).touched) o
 keeps_touched tx ran [] o at = at
 keeps_touched tx ran (c ∷ asked) o at =
@@ -75,7 +75,7 @@ keeps_touched tx ran (c ∷ asked) o at =
 -- ---- one call of two bodies
 -- two bodies gave the same so far, in worlds that agree on what P tells; and from the worlds in which they began, each
 -- changed nothing but its own
-pub record Alike (P : Object → Type 0) (tx : ℕ) (starts : World × World) (r q : Ran) : Type 0 where
+pub record Alike (P : Object → Type 0) (tx : ℕ) (starts : World × World) (r q : BodyResult) : Type 0 where
   pub gave : GaveAlike r q
   pub agree : AgreeOn P r.world q.world
   pub count : length r.world.words ≡ length q.world.words
@@ -83,11 +83,11 @@ pub record Alike (P : Object → Type 0) (tx : ℕ) (starts : World × World) (r
   pub right : KeepsBut (Owns tx q.touched) starts.1 q.world
 
 -- the objects of a call are among those of P
-pub record Within (P : Object → Type 0) (tx : ℕ) (r : Ran) (c : Asked) : Type 0 where
+pub record Within (P : Object → Type 0) (tx : ℕ) (r : BodyResult) (c : CallWithAnswer) : Type 0 where
   pub claimed : (o : Object) → Contains (objects (claims_of c.call r.me (length r.world.words))) o → P o
   pub numbered : (o : Object) → IsNumbered tx o → P o
 
-module _ (P : Object → Type 0) (tx : ℕ) (r q : Ran) (c : Asked) where
+module _ (P : Object → Type 0) (tx : ℕ) (r q : BodyResult) (c : CallWithAnswer) where
   abbrev listed : List Object
   listed = touch c.call r.me (length r.world.words) ++ made_by c.call r.me tx
 
@@ -105,7 +105,7 @@ first_part : {X : Type 0} (P : X → Type 0) (xs ys : List X) → All P (xs ++ y
 first_part P xs ys all = All-weaker (Contains xs) P (λ x at. All-contains P (xs ++ ys) x all (Contains-append_left xs ys x at)) xs (All-contains_itself xs)
 
 -- what one call more owns
-step_keeps : (tx : ℕ) (w : World) (r : Ran) (c : Asked) → KeepsBut (Owns tx r.touched) w r.world
+step_keeps : (tx : ℕ) (w : World) (r : BodyResult) (c : CallWithAnswer) → KeepsBut (Owns tx r.touched) w r.world
     → KeepsBut (Owns tx (step tx r c).touched) r.world (step tx r c).world → KeepsBut (Owns tx (step tx r c).touched) w (step tx r c).world
 step_keeps tx w r c before now =
     keeps_on _ w r.world (step tx r c).world
@@ -113,7 +113,7 @@ step_keeps tx w r c before now =
     (owns_in_front tx r.touched (claims_of c.call r.me (length r.world.words))) before) now
 
 -- two bodies stay alike over one call on objects of P
-pub step_alike : (P : Object → Type 0) (tx : ℕ) (w v : World) (r q : Ran) (c : Asked) → Alike P tx (w, v) r q → Within P tx r c
+pub step_alike : (P : Object → Type 0) (tx : ℕ) (w v : World) (r q : BodyResult) (c : CallWithAnswer) → Alike P tx (w, v) r q → Within P tx r c
     → Alike P tx (w, v) (step tx r c) (step tx q c)
 step_alike P tx w v r q c so within =
     let words = length r.world.words in
@@ -151,7 +151,7 @@ step_alike P tx w v r q c so within =
 
 -- ---- the whole
 -- the next call's objects are among those of the body
-next_within : (P : Object → Type 0) (tx : ℕ) (ran : Ran) (c : Asked) (asked : List Asked)
+next_within : (P : Object → Type 0) (tx : ℕ) (ran : BodyResult) (c : CallWithAnswer) (asked : List CallWithAnswer)
     → ((o : Object) → Contains (objects (goes_on tx ran (c ∷ asked)).touched) o → P o)
     → ((o : Object) → IsNumbered tx o → P o) → Within P tx ran c
 next_within P tx ran c asked touched numbered =
@@ -161,7 +161,7 @@ next_within P tx ran c asked touched numbered =
     }
 
 -- two bodies stay alike over calls on objects of P
-pub goes_on_alike : (P : Object → Type 0) (tx : ℕ) (w v : World) (r q : Ran) (asked : List Asked) → Alike P tx (w, v) r q
+pub goes_on_alike : (P : Object → Type 0) (tx : ℕ) (w v : World) (r q : BodyResult) (asked : List CallWithAnswer) → Alike P tx (w, v) r q
     → ((o : Object) → Contains (objects (goes_on tx r asked).touched) o → P o) → ((o : Object) → IsNumbered tx o → P o)
     → Alike P tx (w, v) (goes_on tx r asked) (goes_on tx q asked)
 goes_on_alike P tx w v r q [] so touched numbered = so
@@ -169,7 +169,7 @@ goes_on_alike P tx w v r q (c ∷ asked) so touched numbered =
     goes_on_alike P tx w v (step tx r c) (step tx q c) asked (step_alike P tx w v r q c so (next_within P tx r c asked touched numbered)) touched numbered
 
 -- the same answers fit the calls of both
-pub on_fits_alike : (P : Object → Type 0) (tx : ℕ) (w v : World) (r q : Ran) (asked : List Asked) → Alike P tx (w, v) r q
+pub on_fits_alike : (P : Object → Type 0) (tx : ℕ) (w v : World) (r q : BodyResult) (asked : List CallWithAnswer) → Alike P tx (w, v) r q
     → ((o : Object) → Contains (objects (goes_on tx r asked).touched) o → P o) → ((o : Object) → IsNumbered tx o → P o)
     → body_fits r.world r.me tx asked ≡ body_fits q.world q.me tx asked
 on_fits_alike P tx w v r q [] so touched numbered = refl
@@ -214,7 +214,7 @@ seen_agree tx w v claims touched numbered o (inl at) = All-contains (AgreeAt w v
 seen_agree tx w v claims touched numbered o (inr e) = numbered o e
 
 -- a body gives the same in worlds that agree on what it touches and on its numbers
-pub body_alike : (w v : World) (me : Private) (tx : ℕ) (asked : List Asked) → length w.words ≡ length v.words
+pub body_alike : (w v : World) (me : Private) (tx : ℕ) (asked : List CallWithAnswer) → length w.words ≡ length v.words
     → All (AgreeAt w v) (objects (body w me tx asked).touched) → AgreeOn (IsNumbered tx) w v
     → RanAlike tx w v (body w me tx asked) (body v me tx asked)
 body_alike w v me tx asked count touched numbered =
@@ -226,7 +226,7 @@ body_alike w v me tx asked count touched numbered =
     record { gave = so.gave; agree = so.agree; left = so.left; right = so.right }
 
 -- the same answers fit a body in worlds that agree on what it touches and on its numbers
-pub body_fits_alike : (w v : World) (me : Private) (tx : ℕ) (asked : List Asked) → length w.words ≡ length v.words
+pub body_fits_alike : (w v : World) (me : Private) (tx : ℕ) (asked : List CallWithAnswer) → length w.words ≡ length v.words
     → All (AgreeAt w v) (objects (body w me tx asked).touched) → AgreeOn (IsNumbered tx) w v
     → body_fits w me tx asked ≡ body_fits v me tx asked
 body_fits_alike w v me tx asked count touched numbered =
@@ -236,7 +236,8 @@ body_fits_alike w v me tx asked count touched numbered =
     (λ o e. inr e)
 
 -- what it changes, whatever other world there is
-pub body_keeps : (w : World) (me : Private) (tx : ℕ) (asked : List Asked) → KeepsBut (Owns tx (body w me tx asked).touched) w (body w me tx asked).world
+pub body_keeps : (w : World) (me : Private) (tx : ℕ) (asked : List CallWithAnswer)
+    → KeepsBut (Owns tx (body w me tx asked).touched) w (body w me tx asked).world
 body_keeps w me tx asked =
     (body_alike w w me tx asked refl (agreed (λ _. Unit {0}) w w (objects (body w me tx asked).touched) (λ o _. agree_itself w o) (λ _ _. tt))
     (λ o _. agree_itself w o)).left
@@ -246,7 +247,7 @@ none_made : (w : World) (me : Private) (tx : ℕ) → IsSound w me tx → me.mad
 none_made w me tx sound none k = sound.new k (subst (λ n. n ≤ k) (sym none) (omega arith))
 
 -- a body that has made nothing before gives the same in sound worlds that agree on what it touches
-pub body_alike_begun : (w v : World) (me : Private) (tx : ℕ) (asked : List Asked) → IsSound w me tx → IsSound v me tx → me.made ≡ 0
+pub body_alike_begun : (w v : World) (me : Private) (tx : ℕ) (asked : List CallWithAnswer) → IsSound w me tx → IsSound v me tx → me.made ≡ 0
     → length w.words ≡ length v.words
     → All (AgreeAt w v) (objects (body w me tx asked).touched) → RanAlike tx w v (body w me tx asked) (body v me tx asked)
 body_alike_begun w v me tx asked here there none count touched =

@@ -12,7 +12,7 @@ use Rattle.xc_data.specs.declared.object.Object.TheVariants as object
 use Rattle.xc_data.specs.declared.undo.Undo.{Undo}
 use Rattle.xc_data.specs.declared.undo.Undo.TheVariants.{Bytes, Tail, Made, Moved, NewPipe, NewPair}
 use Rattle.xc_data.specs.declared.undo.UndoEnd.TheVariants.{Undone, Failed, Blocked}
-use Rattle.xc_data.specs.Standing.{objects_of}
+use Rattle.xc_data.specs.Remaining.{objects_of}
 use Rattle.xc_data.specs.Claims.{is_object}
 use Rattle.xc_world.specs.World.{World}
 use Rattle.xc_world.specs.Laws.{AgreeAt}
@@ -122,19 +122,19 @@ still_made w u q j apart =
 abbrev pub IsBeside : Undo → List (Undo × ℕ) → Type 0
 IsBeside u rest = AllByRecursion (λ r. AreApart u r.0) rest
 
--- an effect goes in front of what stands of others, or behind it
+-- an effect goes in front of what stands of others, or after it
 pub effect_behind : (w : World) (u : Undo) (k : ℕ) (rest : List (Undo × ℕ)) → IsBeside u rest
     → with_remains (with_effect w u k) rest ≡ with_effect (with_remains w rest) u k
 effect_behind w u k [] beside = refl
 effect_behind w u k ((q, j) ∷ rest) beside =
     ap (λ v. with_remains v rest) (in_either_order w u q k j beside.0) ∙ effect_behind (with_effect w q j) u k rest beside.1
 
--- a record that is made in a world is made behind them too
+-- a record that is made in a world is made after them too
 pub made_past : (w : World) (u : Undo) (rest : List (Undo × ℕ)) → IsBeside u rest → IsMadeIn w u → IsMadeIn (with_remains w rest) u
 made_past w u [] beside made = made
 made_past w u ((q, j) ∷ rest) beside made = made_past (with_effect w q j) u rest beside.1 (still_made w u q j beside.0 made)
 
--- neither here nor behind
+-- neither here nor after
 none_blocks : (b : Bool) (from : ℕ) (o : Option ℕ) → (if b then Some from else o) ≡ None → (b ≡ false) × (o ≡ None)
 none_blocks true from o e = cc
 none_blocks false from o e = (refl, e)

@@ -6,7 +6,7 @@ use Rattle.xc_data.specs.declared.object.Num.{Num}
 use Rattle.xc_data.specs.declared.undo.Undo.{Undo}
 use Rattle.xc_data.specs.declared.undo.Undo.TheVariants.{Bytes, Tail, Made, Moved, NewPipe, NewPair}
 use Rattle.xc_data.specs.declared.undo.UndoEnd.TheVariants.{Undone, Failed, Blocked}
-use Rattle.xc_data.specs.Standing.{stopped_at}
+use Rattle.xc_data.specs.Remaining.{stopped_at}
 use Rattle.xc_maps.specs.Keys.{num_cmp}
 use Rattle.xc_maps.proofs.Maps.{num_total, num_exact}
 use Rattle.xc_maps.proofs.Laws.{get-insert_cases}

@@ -1,4 +1,4 @@
--- Effects of records one behind another, and in a world with other words.
+-- Effects of records one after another, and in a world with other words.
 use Rattle.std.proofs.Common.{◌≡◌, ◌≢◌, inl, inr, ℕ, Option, Some, None, List, [], ◌∷◌, ◌++◌, refl, ap, sym, ◌∙◌}
 use Rattle.std.proofs.lemmas.List.{map-append}
 use Rattle.xc_data.specs.declared.object.Num.{Num}
@@ -56,12 +56,12 @@ pub remains-words : (w : World) (words : List ℕ) (us : List (Undo × ℕ)) →
 remains-words w words [] = refl
 remains-words w words ((u, k) ∷ us) = ap (λ v. with_remains v us) (effect-words w words u k) ∙ remains-words (with_effect w u k) words us
 
--- ---- one behind another
+-- ---- one after another
 pub remains-append : (w : World) (us vs : List (Undo × ℕ)) → with_remains w (us ++ vs) ≡ with_remains (with_remains w us) vs
 remains-append w [] vs = refl
 remains-append w ((u, k) ∷ us) vs = remains-append (with_effect w u k) us vs
 
--- records that stand whole, one behind another
+-- records that stand whole, one after another
 pub whole-append : (us vs : List Undo) → whole (us ++ vs) ≡ whole us ++ whole vs
 whole-append us vs = map-append (λ (u : Undo). (u, 0)) us vs
 

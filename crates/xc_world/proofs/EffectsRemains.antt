@@ -10,7 +10,7 @@ use Rattle.xc_data.specs.declared.undo.UndoEnd.TheVariants.{Undone, Failed, Bloc
 use Rattle.xc_data.specs.declared.private.Place.{Place}
 use Rattle.xc_data.specs.declared.private.Private.{Private}
 use Rattle.xc_data.specs.Private.{place_of}
-use Rattle.xc_data.specs.Standing.{stopped_at}
+use Rattle.xc_data.specs.Remaining.{stopped_at}
 use Rattle.xc_world.specs.World.{World, file_of, empty_pipe, empty_pair}
 use Rattle.xc_world.specs.Sound.{IsFit, IsFree, IsKnown, IsSound}
 use Rattle.xc_world.specs.Trail.{move_name, with_effect}

@@ -7,7 +7,7 @@ use Rattle.std.proofs.lemmas.List.Elements.{All-weaker, All-contains_itself}
 use Rattle.xc_data.specs.declared.object.Num.{Num}
 use Rattle.xc_data.specs.declared.object.Object.{Object}
 use Rattle.xc_data.specs.declared.object.Object.TheVariants as object
-use Rattle.xc_data.specs.declared.call.Asked.{Asked}
+use Rattle.xc_data.specs.declared.call.CallWithAnswer.{CallWithAnswer}
 use Rattle.xc_data.specs.declared.call.Call.{Call}
 use Rattle.xc_data.specs.declared.call.Call.TheVariants as call
 use Rattle.xc_data.specs.declared.call.Answer.{Answer}
@@ -18,7 +18,7 @@ use Rattle.xc_data.specs.declared.private.Place.{Place}
 use Rattle.xc_data.specs.declared.private.Place.TheVariants.{Vacant, File, Pipe, Pair}
 use Rattle.xc_data.specs.declared.private.Private.{Private}
 use Rattle.xc_data.specs.Private.{place_of}
-use Rattle.xc_data.specs.Standing.{objects_of}
+use Rattle.xc_data.specs.Remaining.{objects_of}
 use Rattle.xc_maps.specs.Keys.{num_cmp, name_cmp}
 use Rattle.xc_world.specs.World.{World, pair_of, pipe_of, waiting, empty_pipe, empty_pair}
 use Rattle.xc_world.specs.Sound.{IsSound}
@@ -27,7 +27,7 @@ use Rattle.xc_world.specs.Act.Files.{overwritten}
 use Rattle.xc_world.specs.Act.Pipes.{read_pipe_at, received, receive_at}
 use Rattle.xc_world.specs.Act.{done, act}
 use Rattle.xc_world.specs.Fits.{fits}
-use Rattle.xc_world.specs.Run.{Ran, body, body_fits}
+use Rattle.xc_world.specs.Run.{BodyResult, body, body_fits}
 use Rattle.xc_world.specs.Trail.{move_name, recorded, with_effect}
 use Rattle.xc_world.specs.Ends.{with_remains}
 use Rattle.xc_world.specs.Effects.{whole, takes_data, AreMadeIn}
@@ -200,7 +200,7 @@ made-in v w (u ∷ us) room made = (
 )
 
 -- each record of a body was made in the world that the ones before it left
-pub body-made : (w : World) (me : Private) (tx : ℕ) (asked : List Asked) → IsSound w me tx → IsTrue (body_fits w me tx asked)
+pub body-made : (w : World) (me : Private) (tx : ℕ) (asked : List CallWithAnswer) → IsSound w me tx → IsTrue (body_fits w me tx asked)
     → AreMadeIn w (body w me tx asked).trail
 body-made w me tx [] sound fit = tt
 body-made w me tx (c ∷ asked) sound fit =
@@ -209,6 +209,6 @@ body-made w me tx (c ∷ asked) sound fit =
     let rest = body s.world s.me tx asked in
     let both = and_parts (fits w me tx c.call c.answer) (body_fits s.world s.me tx asked) fit in
     let later = body-made s.world s.me tx asked (act_sound w me tx c.call c.answer both.0 sound) both.1 in
-    subst (λ (r : Ran). AreMadeIn w r.trail) (sym (body_first w me tx c asked))
+    subst (λ (r : BodyResult). AreMadeIn w r.trail) (sym (body_first w me tx c asked))
     (made-append w us rest.trail (act-made w me tx c.call c.answer sound both.0)
     (made-in s.world (with_remains w (whole us)) rest.trail (act-room w me tx c.call c.answer) later))

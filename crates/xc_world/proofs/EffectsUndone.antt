@@ -13,7 +13,7 @@ use Rattle.xc_data.specs.declared.undo.Undo.{Undo}
 use Rattle.xc_data.specs.declared.undo.Undo.TheVariants.{Bytes, Tail, Made, Moved, NewPipe, NewPair}
 use Rattle.xc_data.specs.declared.undo.UndoEnd.{UndoEnd}
 use Rattle.xc_data.specs.declared.undo.UndoEnd.TheVariants.{Undone, Failed, Blocked}
-use Rattle.xc_data.specs.Standing.{stopped_at}
+use Rattle.xc_data.specs.Remaining.{stopped_at}
 use Rattle.xc_maps.proofs.Maps.{num_total, num_exact, undone as removed_again}
 use Rattle.xc_maps.proofs.Laws.{alike, get-insert_same, get-insert_other, insert-insert_same, insert-get_same, insert-remove_same}
 use Rattle.xc_world.specs.World.{World, file_of, with_file, empty_pipe, empty_pair}
@@ -92,7 +92,7 @@ moved_covered w from to (Some num) e there vacant =
       ap is_some (get-insert_same nat_list_cmp_total exact_bytes without to num),
     )
 
--- ---- one record, with nothing behind it
+-- ---- one record, with nothing after it
 effect_undone : (w : World) (u : Undo) → IsMadeIn w u → undone (with_effect w u 0) u ≡ w
 effect_undone w (Bytes file at before after n) made =
     let f = file_of w file in

@@ -8,7 +8,7 @@ use Rattle.std.proofs.lemmas.Map.Lookups.{exact_bytes}
 use Rattle.xc_data.specs.declared.object.Num.{Num}
 use Rattle.xc_data.specs.declared.object.Object.TheVariants as object
 use Rattle.xc_data.specs.declared.undo.Undo.TheVariants as undo
-use Rattle.xc_data.specs.declared.call.Asked.{Asked}
+use Rattle.xc_data.specs.declared.call.CallWithAnswer.{CallWithAnswer}
 use Rattle.xc_data.specs.declared.call.Call.TheVariants as call
 use Rattle.xc_data.specs.declared.call.Answer.TheVariants as answer
 use Rattle.xc_data.specs.declared.call.Reply.TheVariants as reply
@@ -39,7 +39,7 @@ small = record { words = 7 ∷ []; names = map.empty; files = map.empty; pipes =
 abbrev me : Private
 me = record { places = place.Pair first 1 ∷ place.Vacant ∷ []; made = 0; stored = 0 }
 
-abbrev calls : List Asked
+abbrev calls : List CallWithAnswer
 calls =
     record { call = call.XCreate (codes "a"); answer = answer.Fine } ∷ record { call = call.XWriteSeq 1 (codes "hi"); answer = answer.Fine }
     ∷ record { call = call.XRename (codes "a") (codes "b"); answer = answer.Fine } ∷ record { call = call.XRecvmsg 0; answer = answer.Fine } ∷ []

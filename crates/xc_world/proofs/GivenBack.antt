@@ -1,5 +1,5 @@
 -- What was taken from pipes and pairs, given back: it touches each object by itself.
-use Rattle.std.proofs.Common.{◌≡◌, ◌≢◌, ℕ, Bool, true, false, cond, Option, Some, List, [], ◌∷◌, ap, sym, ◌∙◌, subst, refl}
+use Rattle.std.proofs.Common.{◌≡◌, ◌≢◌, Bool, true, false, cond, Option, Some, List, [], ◌∷◌, ap, sym, ◌∙◌, subst, refl}
 use Rattle.std.specs.Prelude.{All, unwrap_or, ◌++◌}
 use Rattle.std.specs.FinMap as map
 use Rattle.std.specs.Ordering.{eq_by_cmp}

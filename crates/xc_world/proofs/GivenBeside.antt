@@ -21,14 +21,14 @@ use Rattle.xc_data.specs.declared.undo.Undo.{Undo}
 use Rattle.xc_data.specs.declared.undo.UndoEnd.{UndoEnd}
 use Rattle.xc_world.specs.World.{World}
 use Rattle.xc_world.specs.Act.{act}
-use Rattle.xc_world.specs.Act.Step.{Stepped, step_to}
+use Rattle.xc_world.specs.Act.Step.{step_to}
 use Rattle.xc_world.specs.Beside.{AreElsewhere, spoken_of, with_given, end_with_given, is_on_data}
 use Rattle.xc_world.specs.Act.Names.{next_num}
 use Rattle.xc_world.specs.Checks.{is_bad_handle, is_bad_word, is_file, is_refused, is_too_big, is_too_much}
 use Rattle.xc_world.specs.Effects.{undone_to}
-use Rattle.xc_data.specs.Standing.{objects_of}
-use Rattle.xc_world.specs.Fits.{fits, late_fits}
-use Rattle.xc_world.specs.Late.{Ended, ends, late}
+use Rattle.xc_data.specs.Remaining.{objects_of}
+use Rattle.xc_world.specs.Fits.{fits}
+use Rattle.xc_world.specs.Late.{ends, late}
 use Rattle.xc_world.specs.Laws.{AgreeAt, GoAlike, late_objects}
 use Rattle.xc_world.specs.Run.{given_back, item_object}
 use Rattle.xc_world.specs.Touch.{touch, made_by, object_at, objects_of_call}
@@ -39,7 +39,6 @@ use Rattle.xc_world.proofs.Local.{act_alike}
 use Rattle.xc_world.proofs.LocalLate.{late_alike}
 use Rattle.xc_world.proofs.Objects.{agree_back, agree_on, decide, worlds_same}
 use Rattle.xc_world.proofs.Records.{undone_to_alike}
-use Rattle.xc_world.proofs.Runs.{late_fits_alike}
 
 -- items that are of none of these objects are of none in particular
 pub each_away : (objects : List Object) (o : Object) → Contains objects o → (items : List KeptItem) → AreElsewhere objects items
@@ -107,10 +106,6 @@ module _ (w : World) (items : List KeptItem) (c : LateCall) (elsewhere : AreElse
       let alike = late_alike w (given_back w items) c answer (sym (given_blocks w items)) (agree_beside (late_objects c) w items elsewhere) in
       let world = go_beside (late_objects c) w (late w c answer).world (late (given_back w items) c answer).world items alike.worlds elsewhere in
       λ i. ends (world i) (sym alike.end i)
-
-  -- and the same answers fit it
-  pub late_fits_beside : (answer : LateAnswer) → late_fits w c answer ≡ late_fits (given_back w items) c answer
-  late_fits_beside answer = late_fits_alike w (given_back w items) c answer (agree_beside (late_objects c) w items elsewhere)
 
 -- ---- a compensation
 pub undone_beside : (w : World) (items : List KeptItem) (u : Undo) (end : UndoEnd) → AreElsewhere (objects_of u) items

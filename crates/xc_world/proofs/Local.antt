@@ -1,11 +1,8 @@
 -- What a call does depends on the objects that it touches alone, and it changes no other.
-use Rattle.std.proofs.Common.{◌≡◌, ℕ, Bool, false, ◌||◌, List, [], ◌∷◌, ◌++◌, length, ap, sym, ◌∙◌, subst, refl}
+use Rattle.std.proofs.Common.{◌≡◌, ℕ, Bool, false, ◌||◌, List, [], ◌++◌, length, ap, sym, ◌∙◌, subst, refl}
 use Rattle.std.specs.Prelude.{All, if◌then◌else◌}
-use Rattle.std.proofs.lemmas.List.Elements.{All-nil, All-cons}
 use Rattle.xc_data.specs.declared.object.Object.{Object}
-use Rattle.xc_data.specs.declared.object.Object.TheVariants as object
 use Rattle.xc_data.specs.declared.call.Call.{Call}
-use Rattle.xc_data.specs.declared.call.Call.TheVariants as call
 use Rattle.xc_data.specs.declared.call.Answer.{Answer}
 use Rattle.xc_data.specs.declared.call.Reply.TheVariants as reply
 use Rattle.xc_data.specs.declared.private.Private.{Private}
@@ -13,8 +10,6 @@ use Rattle.xc_world.specs.World.{World}
 use Rattle.xc_world.specs.Checks.{is_bad_handle, is_too_big, is_too_much, is_bad_word}
 use Rattle.xc_world.specs.Act.{act, done}
 use Rattle.xc_world.specs.Act.Step.{Stepped, storing_call, storing_reply, counted}
-use Rattle.xc_world.specs.Act.Names.{next_num}
-use Rattle.xc_world.specs.Sound.{IsFree}
 use Rattle.xc_world.specs.Touch.{touch, objects_of_call, made_by}
 use Rattle.xc_world.specs.Laws.{AgreeAt, ActsAlike}
 use Rattle.xc_world.proofs.LocalParts.{both_so}
@@ -51,12 +46,3 @@ act_alike w v me tx c a count agree =
     (counted_alike _ w v c (done w me tx c a) (done v me tx c a) (done_alike w v me tx c a (subst (λ l. All (AgreeAt w v) (l ++ made_by c me tx)) e agree)))))))
 
 -- ---- what the agreement on an object that is made comes from: its number is free in both worlds
-one_agrees : (w v : World) (o : Object) → AgreeAt w v o → All (AgreeAt w v) (o ∷ [])
-one_agrees w v o e = All-cons (AgreeAt w v) o [] e (All-nil (AgreeAt w v))
-
--- worlds where the next number is free agree on what a call makes
-pub made_agree : (w v : World) (me : Private) (tx : ℕ) (c : Call) → IsFree w (next_num me tx) → IsFree v (next_num me tx) → All (AgreeAt w v) (made_by c me tx)
-made_agree w v me tx (call.XCreate name) a b = one_agrees w v (object.File (next_num me tx)) (a.file ∙ sym b.file)
-made_agree w v me tx call.XPipe a b = one_agrees w v (object.Pipe (next_num me tx)) (a.pipe ∙ sym b.pipe)
-made_agree w v me tx call.XPair a b = one_agrees w v (object.Pair (next_num me tx)) (a.pair ∙ sym b.pair)
-made_agree w v me tx _ a b = All-nil (AgreeAt w v)

@@ -20,7 +20,7 @@ use Rattle.xc_data.specs.declared.private.Private.{Private}
 use Rattle.xc_data.specs.Private.{place_of, with_place, lowest_vacant}
 use Rattle.xc_world.specs.World.{World, Pipe, Pair, file_of, pipe_of, pair_of, empty_pipe, empty_pair, waiting, with_waiting}
 use Rattle.xc_world.specs.Act.{fine, faulty, done}
-use Rattle.xc_world.specs.Act.Step.{Stepped, step_to}
+use Rattle.xc_world.specs.Act.Step.{step_to}
 use Rattle.xc_world.specs.Act.Names.{next_num, opened, created, renamed}
 use Rattle.xc_world.specs.Act.Files.{open_at, read_at, overwritten, put, overwrite_at, appended, append_at, seek_at, len_at, overwrite_short, append_short}
 use Rattle.xc_world.specs.Act.Pipes.{nothing, new_pipe, read_pipe_at, pair_made, new_pair, received, receive_at}

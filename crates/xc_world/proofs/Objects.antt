@@ -1,44 +1,19 @@
 -- Objects: whether a list has one, and worlds that agree at one.
-use Rattle.std.proofs.Common.{◌≡◌, ◌⊎◌, inl, inr, ℕ, Bool, true, false, List, [], ◌∷◌, suc, ap, sym, ◌∙◌, subst, refl, arith}
+use Rattle.std.proofs.Common.{◌≡◌, ◌⊎◌, inl, inr, ℕ, Bool, true, false, List, [], ◌∷◌, suc, sym, ◌∙◌, subst, refl}
 use Rattle.std.specs.Prelude.{Contains, slice_get}
 use Rattle.std.specs.FinMap as map
 use Rattle.std.specs.List.{list_any}
-use Rattle.std.specs.Cmp.Lexicographic.{same_text, nat_list_cmp_total}
+use Rattle.std.specs.Cmp.Lexicographic.{nat_list_cmp_total}
 use Rattle.std.proofs.lemmas.Map.Lookups.{exact_bytes}
 use Rattle.std.proofs.lemmas.Map.Views.{Contains-from_any}
 use Rattle.std.proofs.lemmas.List.Folds.{list_any_at}
-use Rattle.std.proofs.lemmas.Cmp.{nat_list_eq_equiv}
-use Rattle.xc_data.specs.declared.object.Num.{Num}
 use Rattle.xc_data.specs.declared.object.Object.{Object}
 use Rattle.xc_data.specs.declared.object.Object.TheVariants as object
 use Rattle.xc_maps.proofs.Maps.{num_total, num_exact}
 use Rattle.xc_world.specs.World.{World}
 use Rattle.xc_data.specs.Claims.{is_object}
 use Rattle.xc_world.specs.Laws.{AgreeAt}
-
-same_num : (n m : Num) → is_object (object.File n) (object.File m) ≡ true → n ≡ m
-same_num n m e = grind arith
-
--- objects that the test calls equal are the same
-pub same_object : (a b : Object) → is_object a b ≡ true → a ≡ b
-same_object (object.Word i) (object.Word j) e = grind arith
-same_object (object.Name n) (object.Name m) e = ap object.Name (same_text n m (sym e))
-same_object (object.File n) (object.File m) e = ap object.File (same_num n m e)
-same_object (object.Pipe n) (object.Pipe m) e = ap object.Pipe (same_num n m e)
-same_object (object.Pair n) (object.Pair m) e = ap object.Pair (same_num n m e)
-same_object object.Jobs object.Jobs e = refl
-same_object a b e = cc
-
-itself_num : (n : Num) → is_object (object.File n) (object.File n) ≡ true
-itself_num n = grind arith
-
-itself : (o : Object) → is_object o o ≡ true
-itself (object.Word i) = grind arith
-itself (object.Name n) = nat_list_eq_equiv.refl n
-itself (object.File n) = itself_num n
-itself (object.Pipe n) = itself_num n
-itself (object.Pair n) = itself_num n
-itself object.Jobs = refl
+use Rattle.xc_data.proofs.Objects.{same_object, itself}
 
 true_not_false : true ≡ false → ⊥
 true_not_false e = cc

@@ -16,7 +16,7 @@ use Rattle.xc_data.specs.declared.undo.Undo.{Undo}
 use Rattle.xc_data.specs.declared.undo.Undo.TheVariants.{Bytes, Tail, Made, Moved, NewPipe, NewPair}
 use Rattle.xc_data.specs.declared.undo.UndoEnd.{UndoEnd}
 use Rattle.xc_data.specs.declared.undo.UndoEnd.TheVariants.{Undone, Failed, Blocked}
-use Rattle.xc_data.specs.Standing.{objects_of}
+use Rattle.xc_data.specs.Remaining.{objects_of}
 use Rattle.xc_maps.proofs.Maps.{num_total, num_exact}
 use Rattle.xc_maps.proofs.Laws.{get-remove_other}
 use Rattle.xc_world.specs.World.{World, file_of, empty_pipe, empty_pair}

@@ -1,4 +1,4 @@
--- A whole run: the late calls behind a body depend on and change what the body claims.
+-- A whole run: the late calls after a body depend on and change what the body claims.
 use Rattle.std.proofs.Common.{arith, ◌≡◌, ℕ, ◌&&◌, true, not, List, [], ◌∷◌, length, ap, ap₂, sym, ◌∙◌, subst, refl, inl, inr}
 use Rattle.std.specs.Prelude.{IsTrue, All, Contains, ◌==◌, min, nat_lt, if◌then◌else◌}
 use Rattle.std.proofs.lemmas.List.Elements.{All-nil, All-cons, All-head, All-tail, All-contains, All-contains_itself}
@@ -18,7 +18,7 @@ use Rattle.xc_world.specs.Laws.{AgreeAt, late_objects}
 use Rattle.xc_world.proofs.LocalParts.{agree_itself, first_in}
 use Rattle.xc_world.proofs.LocalCalls.{same_pipe}
 use Rattle.xc_world.proofs.LocalLate.{late_alike}
-use Rattle.xc_data.specs.declared.call.Asked.{Asked}
+use Rattle.xc_data.specs.declared.call.CallWithAnswer.{CallWithAnswer}
 use Rattle.xc_data.specs.declared.claim.Claim.{Claim}
 use Rattle.xc_data.specs.Claims.{objects}
 use Rattle.xc_world.specs.Run.{body, run, run_fits}
@@ -111,7 +111,7 @@ asked_within sees own (c ∷ calls) (e ∷ ends) within =
     (asked_within sees own calls ends (All-tail (LooksWithin sees own) c calls within))
 
 -- ---- the run
-pub run_keeps : (w : World) (me : Private) (tx : ℕ) (asked : List Asked) (ends : List LateEnd)
+pub run_keeps : (w : World) (me : Private) (tx : ℕ) (asked : List CallWithAnswer) (ends : List LateEnd)
     → KeepsBut (Owns tx (body w me tx asked).touched) w (body w me tx asked).world
     → KeepsBut (Owns tx (body w me tx asked).touched) w (run w me tx asked ends).late.world
 run_keeps w me tx asked ends left =
@@ -120,7 +120,7 @@ run_keeps w me tx asked ends left =
     keeps_on _ w ran.world (run w me tx asked ends).late.world left
     (lates_keep (Sees tx ran.touched) (Owns tx ran.touched) ran.world (late_asked_of ran.late ends) within)
 
-module _ (w v : World) (me : Private) (tx : ℕ) (asked : List Asked) (ends : List LateEnd) where
+module _ (w v : World) (me : Private) (tx : ℕ) (asked : List CallWithAnswer) (ends : List LateEnd) where
   late_part : w.blocks ≡ v.blocks → RanAlike tx w v (body w me tx asked) (body v me tx asked)
       → EndAlike (Sees tx (body w me tx asked).touched) (Owns tx (body w me tx asked).touched) (body w me tx asked).world (body v me tx asked).world
       (late_asked_of (body w me tx asked).late ends)
@@ -162,7 +162,7 @@ pub kept_for_others : (tx ty : ℕ) (w x : World) (seen owned : List Claim) → 
 kept_for_others tx ty w x seen owned keeps apart o sees = keeps.others o (apart o sees)
 
 -- a body gives the same after a run of another that owns nothing that the body sees
-pub other_run_apart : (w : World) (me you : Private) (tx ty : ℕ) (asked others : List Asked) (ends : List LateEnd)
+pub other_run_apart : (w : World) (me you : Private) (tx ty : ℕ) (asked others : List CallWithAnswer) (ends : List LateEnd)
     → ((o : Object) → Sees tx (body w me tx asked).touched o → Owns ty (body w you ty others).touched o → ⊥)
     → RanAlike tx w (run w you ty others ends).late.world (body w me tx asked) (body (run w you ty others ends).late.world me tx asked)
 other_run_apart w me you tx ty asked others ends apart =

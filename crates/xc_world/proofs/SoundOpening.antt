@@ -86,7 +86,7 @@ vacant_at zero h = refl
 vacant_at (suc n) zero = refl
 vacant_at (suc n) (suc h) = vacant_at n h
 
--- what holds of some places, with vacant ones behind them
+-- what holds of some places, with vacant ones after them
 place_in : (P : Place → Type 0) (places : List Place) (n h : ℕ) → P place.Vacant → All P places → P (place_of (places ++ replicate n place.Vacant) h)
 place_in P [] n h vacant all = subst P (sym (vacant_at n h)) vacant
 place_in P (p ∷ places) n zero vacant all = All-head P p places all

@@ -1,207 +1,55 @@
--- A body's world with all that it took given back is its begin with the effects of its records, words aside.
-use Rattle.std.proofs.Common.{◌≡◌, ◌≢◌, ℕ, Bool, true, false, Option, Some, None, is_some, unwrap_or, List, [], ◌∷◌, ◌++◌, zero, suc, length, take, drop, ap}
+-- A body with what it took given back.
+use Rattle.std.proofs.Common.{◌≡◌, ℕ, Bool, true, false, is_some, unwrap_or, List, [], ◌∷◌, ◌++◌, zero, suc, length, take, drop, ap}
 use Rattle.std.proofs.Common.{ap₂, sym, ◌∙◌, subst, refl, arith}
 use Rattle.std.specs.Prelude.{All, IsTrue, ◌==◌, if◌then◌else◌}
 use Rattle.std.specs.FinMap as map
 use Rattle.std.proofs.Math.Dec.{eqb-suc-zero}
 use Rattle.std.proofs.lemmas.Bool.{and_parts}
 use Rattle.std.proofs.lemmas.List.{append-nil, take-append-drop}
-use Rattle.std.proofs.lemmas.List.Elements.{All-nil, All-cons, All-head, All-tail, All-append, All-weaker}
+use Rattle.std.proofs.lemmas.List.Elements.{All-nil, All-cons, All-append, All-weaker}
 use Rattle.xc_data.specs.declared.object.Num.{Num}
-use Rattle.xc_data.specs.declared.undo.Undo.{Undo}
-use Rattle.xc_data.specs.declared.undo.Undo.TheVariants.{Tail, Made, Moved, NewPipe, NewPair}
-use Rattle.xc_data.specs.declared.undo.Undo.TheVariants as undo
 use Rattle.xc_data.specs.declared.call.Call.{Call}
 use Rattle.xc_data.specs.declared.call.Call.TheVariants as call
 use Rattle.xc_data.specs.declared.call.Answer.{Answer}
 use Rattle.xc_data.specs.declared.call.Answer.TheVariants as answer
 use Rattle.xc_data.specs.declared.call.Reply.{Reply}
 use Rattle.xc_data.specs.declared.call.Reply.TheVariants as reply
-use Rattle.xc_data.specs.declared.call.LateCall.TheVariants.{WritePipe, Send}
 use Rattle.xc_data.specs.declared.private.Place.{Place}
 use Rattle.xc_data.specs.declared.private.Place.TheVariants as place
 use Rattle.xc_data.specs.declared.private.Private.{Private}
 use Rattle.xc_data.specs.Private.{place_of}
 use Rattle.xc_maps.proofs.Maps.{num_total, num_exact}
-use Rattle.xc_maps.proofs.Laws.{get-insert_same, get-insert_other, insert-get_same, insert-insert_same, insert-insert_other}
+use Rattle.xc_maps.proofs.Laws.{get-insert_same, insert-get_same, insert-insert_same}
 use Rattle.xc_world.specs.World.{World, Pipe, Pair, pipe_of, pair_of, empty_pipe, empty_pair, with_pipe, with_pair, waiting, with_waiting}
 use Rattle.xc_world.specs.Act.{act, done}
 use Rattle.xc_world.specs.Act.Step.{Stepped, step_to}
-use Rattle.xc_world.specs.Act.Names.{next_num}
 use Rattle.xc_world.specs.Act.Pipes.{nothing, took, read_pipe_at, received, receive_at}
 use Rattle.xc_world.specs.Fits.{fits}
-use Rattle.xc_world.specs.Sound.{IsSound, IsFree, IsKnown}
-use Rattle.xc_world.specs.Trail.{overwrite_record, append_record, create_record, rename_record, pipe_record, pair_record, move_name, with_effect, recorded}
+use Rattle.xc_world.specs.Sound.{IsSound, IsKnown}
+use Rattle.xc_world.specs.Trail.{recorded}
 use Rattle.xc_world.specs.Ends.{with_remains}
 use Rattle.xc_world.specs.Effects.{whole, takes_data}
 use Rattle.xc_world.proofs.SoundParts.{chosen_so, there_put}
 use Rattle.xc_world.proofs.Sound.{act_sound}
 use Rattle.xc_world.proofs.UndoingBody.{act-cases}
-use Rattle.xc_world.proofs.SoundReady.{act_keeps_ready}
 use Rattle.xc_world.proofs.EffectsParts.{with_words, remains-words, remains-append, whole-append}
 use Rattle.xc_world.proofs.EffectsCalls.{act-leads}
-use Rattle.xc_data.specs.declared.call.Asked.{Asked}
+use Rattle.xc_data.specs.declared.call.CallWithAnswer.{CallWithAnswer}
 use Rattle.xc_data.specs.declared.entry.KeptItem.{KeptItem}
 use Rattle.xc_data.specs.declared.entry.KeptItem.TheVariants.{Bytes, Message}
-use Rattle.xc_world.specs.Run.{Ran, begins, bytes_taken, message_taken, taken_by, gives, given_back, step, goes_on, body, body_fits}
-
--- ---- the object of what was taken is there
-abbrev pub Stands : World → KeptItem → Type 0
-Stands w (Bytes num bytes) = is_some (map.get w.pipes num) ≡ true
-Stands w (Message num side bytes) = is_some (map.get w.pairs num) ≡ true
-
-stands_on : (w : World) (me : Private) (tx : ℕ) (c : Call) (a : Answer) (t : KeptItem) → IsTrue (fits w me tx c a) → IsSound w me tx → Stands w t
-    → Stands (act w me tx c a).world t
-stands_on w me tx c a (Bytes num bytes) fit sound there =
-    (act_keeps_ready w me tx c a (WritePipe num []) fit sound (record { short = omega arith; there = there })).there
-stands_on w me tx c a (Message num side bytes) fit sound there =
-    (act_keeps_ready w me tx c a (Send num side []) fit sound (record { short = omega arith; there = there })).there
-
--- what is there reads as it is
-pipe_there : (w : World) (num : Num) → is_some (map.get w.pipes num) ≡ true → map.get w.pipes num ≡ Some (pipe_of w num)
-pipe_there w num there = by_case (map.get w.pipes num) there
-  where
-    by_case : (o : Option Pipe) → is_some o ≡ true → o ≡ Some (unwrap_or o empty_pipe)
-    by_case None e = cc
-    by_case (Some p) e = refl
-
-pair_there : (w : World) (num : Num) → is_some (map.get w.pairs num) ≡ true → map.get w.pairs num ≡ Some (pair_of w num)
-pair_there w num there = by_case (map.get w.pairs num) there
-  where
-    by_case : (o : Option Pair) → is_some o ≡ true → o ≡ Some (unwrap_or o empty_pair)
-    by_case None e = cc
-    by_case (Some p) e = refl
-
--- ---- giving back, and effects of records of other objects
-abbrev pub Apart : Undo → KeptItem → Type 0
-Apart (NewPipe n) (Bytes num bytes) = num ≢ n
-Apart (NewPair n) (Message num side bytes) = num ≢ n
-Apart u t = Unit {0}
-
-gives_moved : (x : World) (t : KeptItem) (from to : List ℕ) (o : Option Num) → gives (move_name x from to o) t ≡ move_name (gives x t) from to o
-gives_moved x (Bytes num bytes) from to None = refl
-gives_moved x (Bytes num bytes) from to (Some n) = refl
-gives_moved x (Message num side bytes) from to None = refl
-gives_moved x (Message num side bytes) from to (Some n) = refl
-
-pipe_beside : (x : World) (n num : Num) (p : Pipe) → num ≢ n → pipe_of (with_pipe x n p) num ≡ pipe_of x num
-pipe_beside x n num p apart = ap (λ o. unwrap_or o empty_pipe) (get-insert_other num_total num_exact x.pipes n num p apart)
-
-pair_beside : (x : World) (n num : Num) (p : Pair) → num ≢ n → pair_of (with_pair x n p) num ≡ pair_of x num
-pair_beside x n num p apart = ap (λ o. unwrap_or o empty_pair) (get-insert_other num_total num_exact x.pairs n num p apart)
-
-gives_effect : (x : World) (u : Undo) (k : ℕ) (t : KeptItem) → Apart u t → gives (with_effect x u k) t ≡ with_effect (gives x t) u k
-gives_effect x (NewPipe n) k (Bytes num bytes) apart =
-    let f : Pipe → Pipe = λ p. record p { held = bytes ++ p.held } in
-    ap (λ p. with_pipe (with_pipe x n empty_pipe) num (f p)) (pipe_beside x n num empty_pipe apart)
-    ∙ ap (λ m. record x { pipes = m }) (insert-insert_other num_total num_exact x.pipes n num empty_pipe (f (pipe_of x num)) (λ e. apart (sym e)))
-gives_effect x (NewPair n) k (Message num side bytes) apart =
-    let f : Pair → Pair = λ p. with_waiting p side (bytes ∷ waiting p side) in
-    ap (λ p. with_pair (with_pair x n empty_pair) num (f p)) (pair_beside x n num empty_pair apart)
-    ∙ ap (λ m. record x { pairs = m }) (insert-insert_other num_total num_exact x.pairs n num empty_pair (f (pair_of x num)) (λ e. apart (sym e)))
-gives_effect x (NewPipe n) k (Message num side bytes) apart = refl
-gives_effect x (NewPair n) k (Bytes num bytes) apart = refl
-gives_effect x (undo.Bytes file at before after n) k (Bytes num bytes) apart = refl
-gives_effect x (undo.Bytes file at before after n) k (Message num side bytes) apart = refl
-gives_effect x (Tail file from after n) k (Bytes num bytes) apart = refl
-gives_effect x (Tail file from after n) k (Message num side bytes) apart = refl
-gives_effect x (Made name n) k (Bytes num bytes) apart = refl
-gives_effect x (Made name n) k (Message num side bytes) apart = refl
-gives_effect x (Moved from to) k (Bytes num bytes) apart = gives_moved x (Bytes num bytes) from to (map.get x.names from)
-gives_effect x (Moved from to) k (Message num side bytes) apart = gives_moved x (Message num side bytes) from to (map.get x.names from)
-
-gives_words : (x : World) (words : List ℕ) (t : KeptItem) → gives (with_words x words) t ≡ with_words (gives x t) words
-gives_words x words (Bytes num bytes) = refl
-gives_words x words (Message num side bytes) = refl
-
--- an item that was taken is apart from each record
-abbrev pub AllApart : List Undo → KeptItem → Type 0
-AllApart us t = All (λ u. Apart u t) us
-
-gives_remains : (x : World) (us : List Undo) (t : KeptItem) → AllApart us t → gives (with_remains x (whole us)) t ≡ with_remains (gives x t) (whole us)
-gives_remains x [] t apart = refl
-gives_remains x (u ∷ us) t apart =
-    let P : Undo → Type 0 = λ v. Apart v t in
-    gives_remains (with_effect x u 0) us t (All-tail P u us apart) ∙ ap (λ y. with_remains y (whole us)) (gives_effect x u 0 t (All-head P u us apart))
-
-given_words : (x : World) (words : List ℕ) (ts : List KeptItem) → given_back (with_words x words) ts ≡ with_words (given_back x ts) words
-given_words x words [] = refl
-given_words x words (t ∷ ts) = ap (λ y. gives y t) (given_words x words ts) ∙ gives_words (given_back x ts) words t
-
-given_remains : (x : World) (us : List Undo) (ts : List KeptItem) → All (AllApart us) ts
-    → given_back (with_remains x (whole us)) ts ≡ with_remains (given_back x ts) (whole us)
-given_remains x us [] apart = refl
-given_remains x us (t ∷ ts) apart =
-    ap (λ y. gives y t) (given_remains x us ts (All-tail (AllApart us) t ts apart)) ∙ gives_remains (given_back x ts) us t (All-head (AllApart us) t ts apart)
-
-given_append : (x : World) (ts us : List KeptItem) → given_back x (ts ++ us) ≡ given_back (given_back x us) ts
-given_append x [] us = refl
-given_append x (t ∷ ts) us = ap (λ y. gives y t) (given_append x ts us)
-
--- ---- a record of a call is apart from what was taken, since its number is new
-nothing_apart : (t : KeptItem) → AllApart [] t
-nothing_apart t = All-nil (λ u. Apart u t)
-
-one_apart : (t : KeptItem) (u : Undo) → Apart u t → AllApart (u ∷ []) t
-one_apart t u apart = All-cons (λ v. Apart v t) u [] apart (nothing_apart t)
-
-new_pipe_apart : (w : World) (n : Num) (t : KeptItem) → IsFree w n → Stands w t → Apart (NewPipe n) t
-new_pipe_apart w n (Bytes num bytes) free there =
-    λ e. let bad : is_some {T = Pipe} None ≡ true = ap is_some (sym free.pipe ∙ ap (map.get w.pipes) (sym e)) ∙ there in cc
-new_pipe_apart w n (Message num side bytes) free there = tt
-
-new_pair_apart : (w : World) (n : Num) (t : KeptItem) → IsFree w n → Stands w t → Apart (NewPair n) t
-new_pair_apart w n (Message num side bytes) free there =
-    λ e. let bad : is_some {T = Pair} None ≡ true = ap is_some (sym free.pair ∙ ap (map.get w.pairs) (sym e)) ∙ there in cc
-new_pair_apart w n (Bytes num bytes) free there = tt
-
-overwrite_apart : (w : World) (bytes : List ℕ) (n : ℕ) (p : Place) (t : KeptItem) → AllApart (overwrite_record w bytes n p) t
-overwrite_apart w bytes n (place.File num at) t = chosen_so (λ us. AllApart us t) (n == 0) _ _ (λ _. nothing_apart t) (λ _. one_apart t _ tt)
-overwrite_apart w bytes n place.Vacant t = nothing_apart t
-overwrite_apart w bytes n (place.Pipe num) t = nothing_apart t
-overwrite_apart w bytes n (place.Pair num side) t = nothing_apart t
-
-append_apart : (w : World) (bytes : List ℕ) (n : ℕ) (p : Place) (t : KeptItem) → AllApart (append_record w bytes n p) t
-append_apart w bytes n (place.File num at) t = chosen_so (λ us. AllApart us t) (n == 0) _ _ (λ _. nothing_apart t) (λ _. one_apart t _ tt)
-append_apart w bytes n place.Vacant t = nothing_apart t
-append_apart w bytes n (place.Pipe num) t = nothing_apart t
-append_apart w bytes n (place.Pair num side) t = nothing_apart t
-
-create_apart : (me : Private) (tx : ℕ) (name : List ℕ) (r : Reply) (t : KeptItem) → AllApart (create_record me tx name r) t
-create_apart me tx name (reply.Made h) t = one_apart t _ tt
-create_apart me tx name _ t = nothing_apart t
-
-rename_apart : (from to : List ℕ) (r : Reply) (t : KeptItem) → AllApart (rename_record from to r) t
-rename_apart from to reply.Done t = one_apart t _ tt
-rename_apart from to _ t = nothing_apart t
-
-pipe_apart : (w : World) (me : Private) (tx : ℕ) (r : Reply) (t : KeptItem) → IsFree w (next_num me tx) → Stands w t → AllApart (pipe_record me tx r) t
-pipe_apart w me tx (reply.Made h) t free there = one_apart t _ (new_pipe_apart w (next_num me tx) t free there)
-pipe_apart w me tx _ t free there = nothing_apart t
-
-pair_apart : (w : World) (me : Private) (tx : ℕ) (r : Reply) (t : KeptItem) → IsFree w (next_num me tx) → Stands w t → AllApart (pair_record me tx r) t
-pair_apart w me tx (reply.MadePair h g) t free there = one_apart t _ (new_pair_apart w (next_num me tx) t free there)
-pair_apart w me tx _ t free there = nothing_apart t
-
-recorded_apart : (w : World) (me : Private) (tx : ℕ) (c : Call) (r : Reply) (t : KeptItem) → IsFree w (next_num me tx) → Stands w t
-    → AllApart (recorded w me tx c r) t
-recorded_apart w me tx (call.XWriteOvr h bytes) r t free there = overwrite_apart w bytes _ (place_of me.places h) t
-recorded_apart w me tx (call.XWriteSeq h bytes) r t free there = append_apart w bytes _ (place_of me.places h) t
-recorded_apart w me tx (call.XCreate name) r t free there = create_apart me tx name r t
-recorded_apart w me tx (call.XRename from to) r t free there = rename_apart from to r t
-recorded_apart w me tx call.XPipe r t free there = pipe_apart w me tx r t free there
-recorded_apart w me tx call.XPair r t free there = pair_apart w me tx r t free there
-recorded_apart w me tx _ r t free there = nothing_apart t
+use Rattle.xc_world.specs.Run.{BodyResult, begins, bytes_taken, message_taken, taken_by, gives, given_back, step, goes_on, body, body_fits}
+use Rattle.xc_world.proofs.TakenApart.{IsInFront, stands_on, pipe_there, pair_there, AllApart, given_words, given_remains}
+use Rattle.xc_world.proofs.TakenApart.{given_append, recorded_apart}
 
 -- ---- one call
 -- what a call took, given back, leads to the world before it
 pub record TakesBack (w : World) (me : Private) (c : Call) (s : Stepped) : Type 0 where
   pub back : given_back s.world (taken_by c me s.reply) ≡ w
-  pub there : All (Stands s.world) (taken_by c me s.reply)
+  pub there : All (IsInFront s.world) (taken_by c me s.reply)
   pub words : s.world.words ≡ w.words
 
 takes_nothing : (w : World) (me : Private) (c : Call) (r : Reply) (you : Private) → taken_by c me r ≡ [] → TakesBack w me c (step_to w you r)
-takes_nothing w me c r you e = record { back = ap (given_back w) e; there = subst (All (Stands w)) (sym e) (All-nil (Stands w)); words = refl }
+takes_nothing w me c r you e = record { back = ap (given_back w) e; there = subst (All (IsInFront w)) (sym e) (All-nil (IsInFront w)); words = refl }
 
 -- put back where it was taken from
 pipe_back : (w : World) (num : Num) (p : Pipe) (bytes : List ℕ) → is_some (map.get w.pipes num) ≡ true → record p { held = bytes ++ p.held } ≡ pipe_of w num
@@ -222,7 +70,7 @@ some_taken (suc n) (x ∷ held) some more = eqb-suc-zero (length (take n held))
 took_back : (w : World) (me : Private) (h n : ℕ) (num : Num) → (n == 0) ≡ false → (length (pipe_of w num).held == 0) ≡ false
     → is_some (map.get w.pipes num) ≡ true
     → (taken : List KeptItem) → taken ≡ Bytes num (take n (pipe_of w num).held) ∷ []
-    → (given_back (took w me num n).world taken ≡ w) × All (Stands (took w me num n).world) taken
+    → (given_back (took w me num n).world taken ≡ w) × All (IsInFront (took w me num n).world) taken
 took_back w me h n num some more there taken e =
     let p = pipe_of w num in
     let bytes = take n p.held in
@@ -230,7 +78,7 @@ took_back w me h n num some more there taken e =
     let rest : Pipe = record p { held = drop n p.held } in
     let whole_again : record rest { held = bytes ++ drop n p.held } ≡ p = ap (λ l. record p { held = l }) (take-append-drop n p.held) in (
       ap (given_back after) e ∙ pipe_back w num rest bytes there whole_again,
-      subst (All (Stands after)) (sym e) (All-cons (Stands after) (Bytes num bytes) [] (there_put w.pipes num rest) (All-nil (Stands after))),
+      subst (All (IsInFront after)) (sym e) (All-cons (IsInFront after) (Bytes num bytes) [] (there_put w.pipes num rest) (All-nil (IsInFront after))),
     )
 
 read_pipe_back : (w : World) (me : Private) (h n : ℕ) (p : Place) → p ≡ place_of me.places h → IsKnown w p
@@ -289,7 +137,8 @@ received_back w me h num side (message ∷ messages) is there e =
     record {
       back = ap (given_back after) taken ∙ back;
       there =
-          subst (All (Stands after)) (sym taken) (All-cons (Stands after) (Message num side message) [] (there_put w.pairs num rest) (All-nil (Stands after)));
+          subst (All (IsInFront after)) (sym taken)
+          (All-cons (IsInFront after) (Message num side message) [] (there_put w.pairs num rest) (All-nil (IsInFront after)));
       words = refl;
     }
 
@@ -354,19 +203,21 @@ act_takes w me tx c a takes known =
     (let d = answered w me tx c a takes known in record { back = d.back; there = d.there; words = d.words })
 
 -- ---- a body
-pub record Returns (w : World) (tx : ℕ) (r : Ran) : Type 0 where
+pub record Returns (w : World) (tx : ℕ) (r : BodyResult) : Type 0 where
   pub sound : IsSound r.world r.me tx
-  pub there : All (Stands r.world) r.taken
+  pub there : All (IsInFront r.world) r.taken
   pub back : given_back r.world r.taken ≡ with_words (with_remains w (whole r.trail)) r.world.words
 
 -- what was taken stands on, and what a call takes stands
-stand_on : (tx : ℕ) (r : Ran) (c : Asked) → IsTrue (fits r.world r.me tx c.call c.answer) → IsSound r.world r.me tx → All (Stands r.world) r.taken
-    → All (Stands (act r.world r.me tx c.call c.answer).world) r.taken
+stand_on : (tx : ℕ) (r : BodyResult) (c : CallWithAnswer) → IsTrue (fits r.world r.me tx c.call c.answer) → IsSound r.world r.me tx
+    → All (IsInFront r.world) r.taken
+    → All (IsInFront (act r.world r.me tx c.call c.answer).world) r.taken
 stand_on tx r c fit sound there =
-    All-weaker (Stands r.world) (Stands (act r.world r.me tx c.call c.answer).world)
+    All-weaker (IsInFront r.world) (IsInFront (act r.world r.me tx c.call c.answer).world)
     (λ t so. stands_on r.world r.me tx c.call c.answer t fit sound so) r.taken there
 
-taking_returns : (w : World) (tx : ℕ) (r : Ran) (c : Asked) → takes_data c.call ≡ true → IsTrue (fits r.world r.me tx c.call c.answer) → Returns w tx r
+taking_returns : (w : World) (tx : ℕ) (r : BodyResult) (c : CallWithAnswer) → takes_data c.call ≡ true → IsTrue (fits r.world r.me tx c.call c.answer)
+    → Returns w tx r
     → Returns w tx (step tx r c)
 taking_returns w tx r c takes fit so =
     let s = act r.world r.me tx c.call c.answer in
@@ -376,13 +227,14 @@ taking_returns w tx r c takes fit so =
     sym (ap (λ us. r.trail ++ us) (no_record r.world r.me tx c.call s.reply takes) ∙ append-nil r.trail) in
     record {
       sound = act_sound r.world r.me tx c.call c.answer fit so.sound;
-      there = All-append (Stands s.world) r.taken new (stand_on tx r c fit so.sound so.there) took.there;
+      there = All-append (IsInFront s.world) r.taken new (stand_on tx r c fit so.sound so.there) took.there;
       back =
           given_append s.world r.taken new ∙ ap (λ x. given_back x r.taken) took.back ∙ so.back
           ∙ ap₂ (λ us ws. with_words (with_remains w (whole us)) ws) same_trail (sym took.words);
     }
 
-quiet_returns : (w : World) (tx : ℕ) (r : Ran) (c : Asked) → takes_data c.call ≡ false → IsTrue (fits r.world r.me tx c.call c.answer) → Returns w tx r
+quiet_returns : (w : World) (tx : ℕ) (r : BodyResult) (c : CallWithAnswer) → takes_data c.call ≡ false → IsTrue (fits r.world r.me tx c.call c.answer)
+    → Returns w tx r
     → Returns w tx (step tx r c)
 quiet_returns w tx r c quiet fit so =
     let s = act r.world r.me tx c.call c.answer in
@@ -392,11 +244,11 @@ quiet_returns w tx r c quiet fit so =
     let none = no_data c.call r.me s.reply quiet in
     let same_taken : r.taken ++ taken_by c.call r.me s.reply ≡ r.taken = ap (λ ts. r.taken ++ ts) none ∙ append-nil r.taken in
     let apart : All (AllApart us) r.taken =
-    All-weaker (Stands r.world) (AllApart us)
+    All-weaker (IsInFront r.world) (AllApart us)
     (λ t there. recorded_apart r.world r.me tx c.call s.reply t (so.sound.new r.me.made (omega arith)) there) r.taken so.there in
     record {
       sound = act_sound r.world r.me tx c.call c.answer fit so.sound;
-      there = subst (All (Stands s.world)) (sym same_taken) (stand_on tx r c fit so.sound so.there);
+      there = subst (All (IsInFront s.world)) (sym same_taken) (stand_on tx r c fit so.sound so.there);
       back =
           ap (given_back s.world) same_taken
           ∙ ap (λ x. given_back x r.taken) (act-leads r.world r.me tx c.call c.answer quiet)
@@ -407,14 +259,15 @@ quiet_returns w tx r c quiet fit so =
           ∙ ap (λ x. with_words x ws) (sym (ap (with_remains w) (whole-append r.trail us) ∙ remains-append w (whole r.trail) (whole us)));
     }
 
-step_returns : (w : World) (tx : ℕ) (r : Ran) (c : Asked) → IsTrue (fits r.world r.me tx c.call c.answer) → Returns w tx r → Returns w tx (step tx r c)
+step_returns : (w : World) (tx : ℕ) (r : BodyResult) (c : CallWithAnswer) → IsTrue (fits r.world r.me tx c.call c.answer) → Returns w tx r
+    → Returns w tx (step tx r c)
 step_returns w tx r c fit so = by_kind (takes_data c.call) refl
   where
     by_kind : (b : Bool) → takes_data c.call ≡ b → Returns w tx (step tx r c)
     by_kind true e = taking_returns w tx r c e fit so
     by_kind false e = quiet_returns w tx r c e fit so
 
-goes_on_returns : (w : World) (tx : ℕ) (r : Ran) (asked : List Asked) → IsTrue (body_fits r.world r.me tx asked) → Returns w tx r
+goes_on_returns : (w : World) (tx : ℕ) (r : BodyResult) (asked : List CallWithAnswer) → IsTrue (body_fits r.world r.me tx asked) → Returns w tx r
     → Returns w tx (goes_on tx r asked)
 goes_on_returns w tx r [] fit so = so
 goes_on_returns w tx r (c ∷ asked) fit so =
@@ -422,7 +275,8 @@ goes_on_returns w tx r (c ∷ asked) fit so =
     goes_on_returns w tx (step tx r c) asked both.1 (step_returns w tx r c both.0 so)
 
 -- but for the words, what a body took, given back, leaves the world with the effects of its records
-pub body_returns : (w : World) (me : Private) (tx : ℕ) (asked : List Asked) → IsSound w me tx → IsTrue (body_fits w me tx asked)
+pub body_returns : (w : World) (me : Private) (tx : ℕ) (asked : List CallWithAnswer) → IsSound w me tx → IsTrue (body_fits w me tx asked)
     → given_back (body w me tx asked).world (body w me tx asked).taken
     ≡ record (with_remains w (whole (body w me tx asked).trail)) { words = (body w me tx asked).world.words }
-body_returns w me tx asked sound fit = (goes_on_returns w tx (begins w me) asked fit (record { sound = sound; there = All-nil (Stands w); back = refl })).back
+body_returns w me tx asked sound fit =
+    (goes_on_returns w tx (begins w me) asked fit (record { sound = sound; there = All-nil (IsInFront w); back = refl })).back

@@ -17,7 +17,7 @@ use Rattle.xc_data.specs.declared.private.Place.{Place}
 use Rattle.xc_data.specs.declared.private.Place.TheVariants as place
 use Rattle.xc_data.specs.declared.private.Private.{Private}
 use Rattle.xc_data.specs.Private.{place_of}
-use Rattle.xc_data.specs.Standing.{objects_of}
+use Rattle.xc_data.specs.Remaining.{objects_of}
 use Rattle.xc_world.specs.World.{World}
 use Rattle.xc_world.specs.Act.{act}
 use Rattle.xc_world.specs.Act.Step.{Stepped}
@@ -32,10 +32,10 @@ use Rattle.xc_world.proofs.LocalParts.{first_in, later_in}
 use Rattle.xc_world.proofs.UndoingBody.{refusal-none}
 use Rattle.xc_data.specs.declared.claim.Mode.TheVariants.{Exclusive}
 use Rattle.xc_data.specs.declared.claim.Claim.{Claim}
-use Rattle.xc_data.specs.declared.call.Asked.{Asked}
+use Rattle.xc_data.specs.declared.call.CallWithAnswer.{CallWithAnswer}
 use Rattle.xc_data.specs.Claims.{objects, owned}
 use Rattle.xc_world.specs.Modes.{mode_of, claims_of}
-use Rattle.xc_world.specs.Run.{Ran, begins, step, goes_on, body}
+use Rattle.xc_world.specs.Run.{BodyResult, begins, step, goes_on, body}
 use Rattle.xc_world.specs.Own.{IsNumbered, Sees, Owns, LooksWithin, late_changes, SpeaksOfOwn}
 use Rattle.xc_world.proofs.Calls.{act_cases, touched_all, objects_of_claims, owned_of_call}
 use Rattle.xc_world.proofs.Bodies.{in_front, behind, owned_behind, owns_in_front}
@@ -224,7 +224,7 @@ sees_in_front : (tx : ℕ) (a b : List Claim) (o : Object) → Sees tx a o → S
 sees_in_front tx a b o (inl at) = inl (in_front a b o at)
 sees_in_front tx a b o (inr numbered) = inr numbered
 
-step_speaks : (tx : ℕ) (r : Ran) (c : Asked) → SpeaksOfOwn tx r → SpeaksOfOwn tx (step tx r c)
+step_speaks : (tx : ℕ) (r : BodyResult) (c : CallWithAnswer) → SpeaksOfOwn tx r → SpeaksOfOwn tx (step tx r c)
 step_speaks tx r c so =
     let now = claims_of c.call r.me (length r.world.words) in
     let all = r.touched ++ now in
@@ -246,11 +246,11 @@ step_speaks tx r c so =
       late = All-append (LooksWithin (Sees tx all) (Owns tx all)) r.late (kept_call c.call r.me s.reply) kept one.late;
     }
 
-goes_on_speaks : (tx : ℕ) (r : Ran) (asked : List Asked) → SpeaksOfOwn tx r → SpeaksOfOwn tx (goes_on tx r asked)
+goes_on_speaks : (tx : ℕ) (r : BodyResult) (asked : List CallWithAnswer) → SpeaksOfOwn tx r → SpeaksOfOwn tx (goes_on tx r asked)
 goes_on_speaks tx r [] so = so
 goes_on_speaks tx r (c ∷ asked) so = goes_on_speaks tx (step tx r c) asked (step_speaks tx r c so)
 
 -- the records and the late calls of a body speak of its own
-pub body_speaks : (w : World) (me : Private) (tx : ℕ) (asked : List Asked) → SpeaksOfOwn tx (body w me tx asked)
+pub body_speaks : (w : World) (me : Private) (tx : ℕ) (asked : List CallWithAnswer) → SpeaksOfOwn tx (body w me tx asked)
 body_speaks w me tx asked =
     goes_on_speaks tx (begins w me) asked (record { trail = All-nil (Speaks (Owns tx [])); late = All-nil (LooksWithin (Sees tx []) (Owns tx [])) })

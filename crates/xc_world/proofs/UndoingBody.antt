@@ -22,8 +22,8 @@ use Rattle.xc_data.specs.Calls.{bytes_of}
 use Rattle.xc_world.specs.Act.Step.{Stepped, step_to, counted}
 use Rattle.xc_world.specs.Act.{fine, faulty, done, act}
 use Rattle.xc_world.specs.Fits.{fits, asks_host, may_stop, is_write, is_done}
-use Rattle.xc_world.specs.Run.{Ran, body, body_fits}
-use Rattle.xc_data.specs.declared.call.Asked.{Asked}
+use Rattle.xc_world.specs.Run.{BodyResult, body, body_fits}
+use Rattle.xc_data.specs.declared.call.CallWithAnswer.{CallWithAnswer}
 use Rattle.xc_world.proofs.Joined.{body_first}
 use Rattle.xc_world.specs.Trail.{overwrite_record, append_record, recorded, undone, all_undone}
 use Rattle.xc_world.specs.Undoing.{BroughtBack}
@@ -104,7 +104,7 @@ fine-undoes w me tx call.XPair sound = new_pair-undoes w me tx (lowest_vacant me
 fine-undoes w me tx (call.XRecvmsg h) sound = receive_at-undoes w me (place_of me.places h) (sound.handles h)
 fine-undoes w me tx _ sound = as_is w
 
--- a fault behind the first byte stops a write that would be done
+-- a fault after the first byte stops a write that would be done
 pub stops : (w : World) (me : Private) (tx : ℕ) (c : Call) (n : ℕ) → IsTrue (fits w me tx c (answer.Fault n)) → (n == 0) ≡ false
     → Stops n (bytes_of c) (fine w me tx c)
 stops w me tx c n fit some =
@@ -149,7 +149,7 @@ all_undone-append w [] vs = refl
 all_undone-append w (u ∷ us) vs = ap (λ v. undone v u) (all_undone-append w us vs)
 
 -- all records of a body undone bring its world back
-pub body-undoes : (w : World) (me : Private) (tx : ℕ) (asked : List Asked) → IsSound w me tx → IsTrue (body_fits w me tx asked)
+pub body-undoes : (w : World) (me : Private) (tx : ℕ) (asked : List CallWithAnswer) → IsSound w me tx → IsTrue (body_fits w me tx asked)
     → BroughtBack w (all_undone (body w me tx asked).world (body w me tx asked).trail)
 body-undoes w me tx [] sound fit = same-back w
 body-undoes w me tx (c ∷ asked) sound fit =
@@ -158,6 +158,6 @@ body-undoes w me tx (c ∷ asked) sound fit =
     let both = and_parts (fits w me tx c.call c.answer) (body_fits s.world s.me tx asked) fit in
     let later : BroughtBack s.world (all_undone rest.world rest.trail) =
     body-undoes s.world s.me tx asked (act_sound w me tx c.call c.answer both.0 sound) both.1 in
-    subst (λ (r : Ran). BroughtBack w (all_undone r.world r.trail)) (sym (body_first w me tx c asked))
+    subst (λ (r : BodyResult). BroughtBack w (all_undone r.world r.trail)) (sym (body_first w me tx c asked))
     (subst (BroughtBack w) (sym (all_undone-append rest.world (recorded w me tx c.call s.reply) rest.trail))
     (act-undoes w me tx c.call c.answer sound both.0 (all_undone rest.world rest.trail) later))

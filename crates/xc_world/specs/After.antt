@@ -34,7 +34,7 @@ with_at places h p = slice_set places h p
 abbrev pub moved_by : List Place → ℕ → ℕ → List Place
 moved_by places h n = if n == 0 then places else with_at places h (further (place_of places h) n)
 
--- an append of so many bytes leaves it behind them, wherever the file ended
+-- an append of so many bytes leaves it after them, wherever the file ended
 abbrev pub IsAppendedAt : List Place → ℕ → ℕ → List Place → Type 0
 IsAppendedAt was h zero is = is ≡ was
 IsAppendedAt was h (suc n) is = (end : ℕ) × (is ≡ with_at was h (at_position (place_of was h) (end + suc n)))
@@ -45,7 +45,7 @@ ArePairPlaces num was handles is =
     let first = with_at was handles.0 (place.Pair num 0) in
     (lowest_vacant was ≡ Some handles.0) × (lowest_vacant first ≡ Some handles.1) × (is ≡ with_at first handles.1 (place.Pair num 1))
 
--- the handles behind a call with this reply; calls and replies that aren't named leave them as they are
+-- the handles after a call with this reply; calls and replies that aren't named leave them as they are
 abbrev pub ArePlaces : ℕ → Call → Private → Reply → List Place → Type 0
 ArePlaces tx (call.XOpen name) me (reply.Made h) is =
     (lowest_vacant me.places ≡ Some h) × (num : Num) × (is ≡ with_at me.places h (place.File num 0))
@@ -62,7 +62,7 @@ ArePlaces tx (call.XClose h) me reply.Done is = is ≡ with_at me.places h place
 ArePlaces tx c me r is = is ≡ me.places
 
 -- ---- what was made and stored
--- how many objects are made behind it: a file, a pipe or a pair that was made is one more
+-- how many objects are made after it: a file, a pipe or a pair that was made is one more
 abbrev pub made_after : Call → Reply → ℕ → ℕ
 made_after (call.XCreate name) (reply.Made h) made = made + 1
 made_after call.XPipe (reply.Made h) made = made + 1
@@ -81,7 +81,7 @@ abbrev pub stored_after : Option Reply → Call → Reply → ℕ → ℕ
 stored_after (Some refused) c r stored = stored
 stored_after None c r stored = stored + length (bytes_of c) + bytes_in r
 
--- the private state of the transaction of this number behind a call with this reply
+-- the private state of the transaction of this number after a call with this reply
 pub record IsMeAfter (tx : ℕ) (c : Call) (r : Reply) (was is : Private) : Type 0 where
   pub places : ArePlaces tx c was r is.places
   pub made : is.made ≡ made_after c r was.made

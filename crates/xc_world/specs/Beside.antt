@@ -1,12 +1,10 @@
 -- What stands beside a step: data that is given back to objects which it doesn't speak of.
-use Rattle.std.specs.Prelude.{◌≡◌, ℕ, ◌++◌, Bool, true, false, List, length, All, Contains}
+use Rattle.std.specs.Prelude.{ℕ, ◌++◌, Bool, true, false, List, All, Contains}
 use Rattle.xc_data.specs.declared.object.Object.{Object}
-use Rattle.xc_data.specs.declared.object.Object.TheVariants as object
 use Rattle.xc_data.specs.declared.call.Call.{Call}
 use Rattle.xc_data.specs.declared.call.Call.TheVariants as call
 use Rattle.xc_data.specs.declared.private.Private.{Private}
 use Rattle.xc_data.specs.declared.entry.KeptItem.{KeptItem}
-use Rattle.xc_world.specs.World.{World}
 use Rattle.xc_world.specs.Act.Step.{Stepped, step_to}
 use Rattle.xc_world.specs.Late.{Ended, ends}
 use Rattle.xc_world.specs.Touch.{touch, made_by}

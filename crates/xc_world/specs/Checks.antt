@@ -1,5 +1,5 @@
 -- The private checks of a call: what refuses it before anything is touched.
-use Rattle.std.specs.Prelude.{◌≡◌, ℕ, ◌+◌, ◌||◌, Bool, true, false, not, is_none, [], length, count_by, nat_lt}
+use Rattle.std.specs.Prelude.{◌≡◌, ℕ, ◌+◌, ◌||◌, Bool, true, false, not, is_none, length, count_by, nat_lt}
 use Rattle.std.specs.Prelude.{nat_le, Option, if◌then◌else◌}
 use Rattle.std.specs.declared.option.Option.TheVariants.{None, Some}
 use Rattle.xc_data.specs.declared.call.Call.{Call}

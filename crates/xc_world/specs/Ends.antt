@@ -6,7 +6,7 @@ use Rattle.xc_data.specs.declared.undo.Undo.{Undo}
 use Rattle.xc_data.specs.declared.undo.Undo.TheVariants.{Bytes, Tail, Made, Moved, NewPipe, NewPair}
 use Rattle.xc_data.specs.declared.undo.UndoEnd.{UndoEnd}
 use Rattle.xc_data.specs.declared.undo.UndoEnd.TheVariants.{Undone, Failed, Blocked}
-use Rattle.xc_data.specs.Standing.{objects_of, stands_from}
+use Rattle.xc_data.specs.Remaining.{objects_of, remains_from}
 use Rattle.xc_world.specs.World.{World}
 use Rattle.xc_data.specs.Claims.{is_object}
 use Rattle.xc_world.specs.Trail.{with_effect}
@@ -61,7 +61,7 @@ standing_of u (Some k) = Some (u, k)
 
 -- the records that stand, each with the byte from which it does
 abbrev pub remains : List Ending → List (Undo × ℕ)
-remains records = filter_map (λ r. standing_of r.0 (stands_from r.0 r.1)) records
+remains records = filter_map (λ r. standing_of r.0 (remains_from r.0 r.1)) records
 
 -- the world with what remains
 abbrev pub with_remains : World → List (Undo × ℕ) → World

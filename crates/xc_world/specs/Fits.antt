@@ -102,7 +102,7 @@ late_may_stop w (Shutdown object) n = false
 late_may_stop w (Send num side bytes) n = false
 late_may_stop w (Thread body) n = false
 
--- with no byte done a fault fits all but a thread call, and want of memory fits all
+-- with no byte done a fault fits all but a thread call, and lack of memory fits all
 abbrev pub late_fits : World → LateCall → LateAnswer → Bool
 late_fits w c late_answer.Fine = true
 late_fits w c (late_answer.Fault n) = if n == 0 then not (is_thread c) else late_may_stop w c n

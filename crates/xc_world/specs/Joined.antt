@@ -1,9 +1,9 @@
--- One body behind another.
+-- One body after another.
 use Rattle.std.specs.Prelude.{◌++◌}
-use Rattle.xc_world.specs.Run.{Ran}
+use Rattle.xc_world.specs.Run.{BodyResult}
 
 -- what came before, and then what a body gave that began there
-abbrev pub behind : Ran → Ran → Ran
+abbrev pub behind : BodyResult → BodyResult → BodyResult
 behind r later =
     record later {
       replies = r.replies ++ later.replies;

@@ -66,7 +66,7 @@ shut_down w _ = ends w end.Done
 abbrev pub sent_to : Pair → ℕ → List ℕ → Pair
 sent_to pair side bytes = with_waiting pair side (waiting pair side ++ bytes ∷ [])
 
--- the message is put behind the fewer than 8 that wait for the other side, and none into a shut pair
+-- the message is put after the fewer than 8 that wait for the other side, and none into a shut pair
 abbrev pub sent : World → Num → ℕ → List ℕ → Ended
 sent w num side bytes =
     if (pair_of w num).shut then ends w end.Shut

@@ -4,12 +4,12 @@ use Rattle.xc_data.specs.declared.object.Object.{Object}
 use Rattle.xc_data.specs.declared.object.Object.TheVariants as object
 use Rattle.xc_data.specs.declared.call.LateCall.{LateCall}
 use Rattle.xc_data.specs.declared.call.LateCall.TheVariants.{Sync}
-use Rattle.xc_data.specs.Standing.{objects_of}
+use Rattle.xc_data.specs.Remaining.{objects_of}
 use Rattle.xc_world.specs.World.{World}
 use Rattle.xc_world.specs.Laws.{AgreeAt, late_objects}
 use Rattle.xc_data.specs.declared.claim.Claim.{Claim}
 use Rattle.xc_data.specs.Claims.{objects, owned}
-use Rattle.xc_world.specs.Run.{Ran, Run}
+use Rattle.xc_world.specs.Run.{BodyResult, Run}
 
 -- an object that has a number of this transaction's
 abbrev pub IsNumbered : ℕ → Object → Type 0
@@ -37,7 +37,7 @@ pub record KeepsBut (own : Object → Type 0) (w v : World) : Type 0 where
   pub blocks : v.blocks ≡ w.blocks
 
 -- two bodies gave the same
-pub record GaveAlike (r q : Ran) : Type 0 where
+pub record GaveAlike (r q : BodyResult) : Type 0 where
   pub me : r.me ≡ q.me
   pub replies : r.replies ≡ q.replies
   pub late : r.late ≡ q.late
@@ -46,7 +46,7 @@ pub record GaveAlike (r q : Ran) : Type 0 where
   pub touched : r.touched ≡ q.touched
 
 -- two bodies that began in the worlds w and v gave the same, agree on what they see, and changed nothing but their own
-pub record RanAlike (tx : ℕ) (w v : World) (r q : Ran) : Type 0 where
+pub record RanAlike (tx : ℕ) (w v : World) (r q : BodyResult) : Type 0 where
   pub gave : GaveAlike r q
   pub agree : AgreeOn (Sees tx r.touched) r.world q.world
   pub left : KeepsBut (Owns tx r.touched) w r.world
@@ -64,7 +64,7 @@ pub record LooksWithin (sees own : Object → Type 0) (c : LateCall) : Type 0 wh
   pub changes : All own (late_changes c)
 
 -- its records and its late calls speak of its own objects, and a sync of one that it sees
-pub record SpeaksOfOwn (tx : ℕ) (r : Ran) : Type 0 where
+pub record SpeaksOfOwn (tx : ℕ) (r : BodyResult) : Type 0 where
   pub trail : All (λ u. All (Owns tx r.touched) (objects_of u)) r.trail
   pub late : All (LooksWithin (Sees tx r.touched) (Owns tx r.touched)) r.late
 

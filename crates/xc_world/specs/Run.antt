@@ -26,7 +26,7 @@ use Rattle.xc_world.specs.Trail.{recorded}
 use Rattle.xc_data.specs.Claims.{held_of}
 use Rattle.xc_world.specs.Modes.{claims_of}
 use Rattle.xc_data.specs.declared.claim.Claim.{Claim}
-use Rattle.xc_data.specs.declared.call.Asked.{Asked}
+use Rattle.xc_data.specs.declared.call.CallWithAnswer.{CallWithAnswer}
 use Rattle.xc_data.specs.declared.entry.KeptItem.{KeptItem}
 use Rattle.xc_data.specs.declared.entry.KeptItem.TheVariants.{Bytes, Message}
 
@@ -84,7 +84,7 @@ given_back w (t ∷ ts) = gives (given_back w ts) t
 
 -- ---- the body
 -- where a body stands, and what it gave on the way
-pub record Ran : Type 0 where
+pub record BodyResult : Type 0 where
   pub world : World
   pub me : Private
   pub replies : List Reply
@@ -94,11 +94,11 @@ pub record Ran : Type 0 where
   pub touched : List Claim
 
 -- a body that has made no call yet
-abbrev pub begins : World → Private → Ran
+abbrev pub begins : World → Private → BodyResult
 begins w me = record { world = w; me = me; replies = []; late = []; trail = []; taken = []; touched = [] }
 
 -- one call more, which gave this
-abbrev pub stepped : ℕ → Ran → Call → Stepped → Ran
+abbrev pub stepped : ℕ → BodyResult → Call → Stepped → BodyResult
 stepped tx ran call s =
     record {
       world = s.world;
@@ -111,35 +111,35 @@ stepped tx ran call s =
     }
 
 -- a body with one call more
-abbrev pub step : ℕ → Ran → Asked → Ran
+abbrev pub step : ℕ → BodyResult → CallWithAnswer → BodyResult
 step tx ran asked = stepped tx ran asked.call (act ran.world ran.me tx asked.call asked.answer)
 
 -- the calls one after another
-abbrev pub goes_on : ℕ → Ran → List Asked → Ran
+abbrev pub goes_on : ℕ → BodyResult → List CallWithAnswer → BodyResult
 goes_on tx ran asked = fold (step tx) ran asked
 
 -- the calls of a body, one after another from its begin
-abbrev pub body : World → Private → ℕ → List Asked → Ran
+abbrev pub body : World → Private → ℕ → List CallWithAnswer → BodyResult
 body w me tx asked = goes_on tx (begins w me) asked
 
 -- each answer fits its call where it is made
-abbrev pub body_fits : World → Private → ℕ → List Asked → Bool
+abbrev pub body_fits : World → Private → ℕ → List CallWithAnswer → Bool
 body_fits w me tx [] = true
 body_fits w me tx (c ∷ asked) =
     let s = act w me tx c.call c.answer in
     fits w me tx c.call c.answer && body_fits s.world s.me tx asked
 
 -- the claims that a body holds at its end
-abbrev pub held_by : World → Private → ℕ → List Asked → List Claim
+abbrev pub held_by : World → Private → ℕ → List CallWithAnswer → List Claim
 held_by w me tx asked = held_of (body w me tx asked).touched
 
 -- ---- the late calls, one after another
-pub record Finished : Type 0 where
+pub record LateResult : Type 0 where
   pub world : World
   pub ends : List LateEnd
 
 -- the late calls, one after another
-abbrev pub lates : World → List (LateCall × LateAnswer) → Finished
+abbrev pub lates : World → List (LateCall × LateAnswer) → LateResult
 lates w [] = record { world = w; ends = [] }
 lates w ((call, answer) ∷ rest) =
     let e = late w call answer in
@@ -152,7 +152,7 @@ lates_fit w [] = true
 lates_fit w ((call, answer) ∷ rest) = late_fits w call answer && lates_fit (late w call answer).world rest
 
 -- ---- the answers that are read off an entry: fine where it has none
-abbrev pub asked_of : List Call → List Reply → List Asked
+abbrev pub asked_of : List Call → List Reply → List CallWithAnswer
 asked_of [] replies = []
 asked_of (call ∷ calls) [] = record { call = call; answer = answer.Fine } ∷ asked_of calls []
 asked_of (call ∷ calls) (reply ∷ replies) = record { call = call; answer = answer_of reply } ∷ asked_of calls replies
@@ -165,17 +165,17 @@ late_asked_of (call ∷ calls) (end ∷ ends) = (call, late_answer_of end) ∷ l
 
 -- ---- the whole: a body, then its late calls, each on the object that was fixed when it was made
 pub record Run : Type 0 where
-  pub body : Ran
-  pub late : Finished
+  pub body : BodyResult
+  pub late : LateResult
 
 -- a body, and then its late calls with the answers that their ends tell of
-abbrev pub run : World → Private → ℕ → List Asked → List LateEnd → Run
+abbrev pub run : World → Private → ℕ → List CallWithAnswer → List LateEnd → Run
 run w me tx asked ends =
     let ran = body w me tx asked in
     record { body = ran; late = lates ran.world (late_asked_of ran.late ends) }
 
 -- each answer fits its call, and each answer of a late call fits that
-abbrev pub run_fits : World → Private → ℕ → List Asked → List LateEnd → Bool
+abbrev pub run_fits : World → Private → ℕ → List CallWithAnswer → List LateEnd → Bool
 run_fits w me tx asked ends =
     let ran = body w me tx asked in
     body_fits w me tx asked && lates_fit ran.world (late_asked_of ran.late ends)

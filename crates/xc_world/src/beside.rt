@@ -8,7 +8,7 @@ ghost use Rattle.xc_data.specs.declared.entry.KeptItem.{KeptItem};
 ghost use Rattle.xc_data.specs.declared.private.Private.{Private};
 ghost use Rattle.xc_data.specs.declared.undo.Undo.{Undo};
 ghost use Rattle.xc_data.specs.declared.undo.UndoEnd.{UndoEnd};
-ghost use Rattle.xc_data.specs.Standing.{objects_of};
+ghost use Rattle.xc_data.specs.Remaining.{objects_of};
 ghost use Rattle.xc_world.specs.World.{World};
 ghost use Rattle.xc_world.specs.Act.{act};
 ghost use Rattle.xc_world.specs.Beside.{AreElsewhere, end_with_given, is_on_data, spoken_of, with_given};

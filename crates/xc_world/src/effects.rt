@@ -1,12 +1,12 @@
 ghost use Rattle.std.specs.declared.option.Option.TheVariants.{None};
-ghost use Rattle.std.specs.Prelude.{◌≡◌, ◌≢◌, ℕ, ◌+◌, true, false, List, [], ◌∷◌, ◌++◌, length, map, All, IsTrue};
+ghost use Rattle.std.specs.Prelude.{◌≡◌, ◌≢◌, ℕ, ◌+◌, false, List, [], ◌∷◌, ◌++◌, length, map, All, IsTrue};
 ghost use Rattle.xc_data.specs.declared.call.Call.{Call};
 ghost use Rattle.xc_data.specs.declared.call.Answer.{Answer};
 ghost use Rattle.xc_data.specs.declared.undo.Undo.{Undo};
 ghost use Rattle.xc_data.specs.declared.undo.UndoEnd.{UndoEnd};
 ghost use Rattle.xc_data.specs.declared.private.Private.{Private};
 ghost use Rattle.xc_world.specs.World.{World};
-ghost use Rattle.xc_data.specs.declared.call.Asked.{Asked};
+ghost use Rattle.xc_data.specs.declared.call.CallWithAnswer.{CallWithAnswer};
 ghost use Rattle.xc_world.specs.Act.{act};
 ghost use Rattle.xc_world.specs.Sound.{IsSound};
 ghost use Rattle.xc_world.specs.Run.{body, body_fits, given_back};
@@ -25,14 +25,14 @@ pub fn a_call_has_the_effects_of_its_records()
 /// Outside the words, a body's world with all that it took given back is its begin with the effects
 /// of its records.
 pub fn a_body_has_the_effects_of_its_records()
-    ensures { (w : World) (me : Private) (tx : ℕ) (asked : List Asked) → IsSound w me tx → IsTrue (body_fits w me tx asked)
+    ensures { (w : World) (me : Private) (tx : ℕ) (asked : List CallWithAnswer) → IsSound w me tx → IsTrue (body_fits w me tx asked)
         → given_back (body w me tx asked).world (body w me tx asked).taken
         ≡ record (with_remains w (whole (body w me tx asked).trail)) { words = (body w me tx asked).world.words } }
 {}
 
 /// Each record of a body was made in the world that the ones before it left.
 pub fn a_body_leaves_a_trail()
-    ensures { (w : World) (me : Private) (tx : ℕ) (asked : List Asked) → IsSound w me tx → IsTrue (body_fits w me tx asked)
+    ensures { (w : World) (me : Private) (tx : ℕ) (asked : List CallWithAnswer) → IsSound w me tx → IsTrue (body_fits w me tx asked)
         → AreMadeIn w (body w me tx asked).trail }
 {}
 
@@ -64,13 +64,13 @@ pub fn what_remains_is_sound()
 
 /// A body with answers that fit keeps a world and its private state sound.
 pub fn a_body_keeps_all_sound()
-    ensures { (w : World) (me : Private) (tx : ℕ) (asked : List Asked) → IsSound w me tx → IsTrue (body_fits w me tx asked)
+    ensures { (w : World) (me : Private) (tx : ℕ) (asked : List CallWithAnswer) → IsSound w me tx → IsTrue (body_fits w me tx asked)
         → IsSound (body w me tx asked).world (body w me tx asked).me tx }
 {}
 
 /// It keeps every other transaction's private state sound too.
 pub fn a_body_keeps_others_sound()
-    ensures { (w : World) (me you : Private) (tx ty : ℕ) (asked : List Asked) → IsSound w me tx → IsTrue (body_fits w me tx asked)
+    ensures { (w : World) (me you : Private) (tx ty : ℕ) (asked : List CallWithAnswer) → IsSound w me tx → IsTrue (body_fits w me tx asked)
         → IsSound w you ty → (ty ≢ tx)
         → IsSound (body w me tx asked).world you ty }
 {}

@@ -1,4 +1,4 @@
-ghost use Rattle.std.specs.Prelude.{◌≡◌, ◌≤◌, ◌<◌, ◌++◌, ◌∷◌, ◌-◌, ◌^◌, [], length, replicate, IfOk, OnOk};
+ghost use Rattle.std.specs.Prelude.{◌≡◌, ◌≤◌, ◌<◌, ◌++◌, ◌∷◌, ◌-◌, [], length, replicate, IfOk, OnOk};
 ghost use Rattle.xc_data.specs.declared.private.Place.TheVariants.{Vacant};
 ghost use Rattle.xc_world.specs.World.{beginning};
 ghost use Rattle.xc_data.specs.Limits.{KeepsLimits};

@@ -2,10 +2,6 @@
 //! the laws of calls and of whole bodies; and what a call checks and touches.
 #![tactic(auto)]
 
-ghost use Rattle.xc_world.specs.Run.{run};
-ghost use Rattle.xc_world.specs.Ends.{remains, AreLegal};
-ghost use Rattle.xc_world.specs.Opening.{opening_state};
-
 pub mod beside;
 pub mod checks;
 pub mod effects;

@@ -8,7 +8,7 @@ ghost use Rattle.xc_data.specs.declared.call.LateEnd.{LateEnd};
 ghost use Rattle.xc_data.specs.declared.undo.Undo.{Undo};
 ghost use Rattle.xc_data.specs.declared.undo.UndoEnd.{UndoEnd};
 ghost use Rattle.xc_data.specs.declared.private.Private.{Private};
-ghost use Rattle.xc_data.specs.Standing.{objects_of};
+ghost use Rattle.xc_data.specs.Remaining.{objects_of};
 ghost use Rattle.xc_world.specs.World.{World};
 ghost use Rattle.xc_world.specs.Act.{act};
 ghost use Rattle.xc_world.specs.Fits.{fits};
@@ -21,12 +21,12 @@ ghost use Rattle.xc_world.specs.Late.{late};
 ghost use Rattle.xc_world.specs.Trail.{undone, with_effect};
 ghost use Rattle.xc_world.specs.Fits.{late_fits};
 ghost use Rattle.xc_world.specs.Laws.{AgreeAt, GoAlike, late_objects};
-ghost use Rattle.xc_data.specs.declared.call.Asked.{Asked};
+ghost use Rattle.xc_data.specs.declared.call.CallWithAnswer.{CallWithAnswer};
 ghost use Rattle.xc_data.specs.declared.claim.Claim.{Claim};
 ghost use Rattle.xc_data.specs.declared.claim.Mode.TheVariants.{Shared};
 ghost use Rattle.xc_data.specs.Claims.{AreOnceAtMost, held_of, objects, owned};
 ghost use Rattle.xc_world.specs.Modes.{mode_of};
-ghost use Rattle.xc_world.specs.Run.{begins, body, body_fits, run, run_fits, step};
+ghost use Rattle.xc_world.specs.Run.{body, body_fits, run, run_fits, step};
 ghost use Rattle.xc_world.specs.Joined.{behind};
 ghost use Rattle.xc_world.specs.Own.{AgreeOn, IsNumbered, KeepsBut, Owns, Sees, RanAlike, RunAlike, SpeaksOfOwn, late_changes};
 
@@ -52,7 +52,7 @@ pub fn the_record_of_a_call_is_local()
 /// transaction's number, it gives the same in both, they agree on that afterwards, and in both it
 /// changes nothing but what it touches exclusively or has that number.
 pub fn a_body_is_local()
-    ensures { (w v : World) (me : Private) (tx : ℕ) (asked : List Asked) → length w.words ≡ length v.words
+    ensures { (w v : World) (me : Private) (tx : ℕ) (asked : List CallWithAnswer) → length w.words ≡ length v.words
         → All (AgreeAt w v) (objects (body w me tx asked).touched) → AgreeOn (IsNumbered tx) w v
         → RanAlike tx w v (body w me tx asked) (body v me tx asked) }
 {}
@@ -65,26 +65,26 @@ pub fn worlds_without_a_number_agree_there()
 
 /// The same answers fit the body in both.
 pub fn what_fits_a_body_is_local()
-    ensures { (w v : World) (me : Private) (tx : ℕ) (asked : List Asked) → length w.words ≡ length v.words
+    ensures { (w v : World) (me : Private) (tx : ℕ) (asked : List CallWithAnswer) → length w.words ≡ length v.words
         → All (AgreeAt w v) (objects (body w me tx asked).touched) → AgreeOn (IsNumbered tx) w v
         → body_fits w me tx asked ≡ body_fits v me tx asked }
 {}
 
 /// A body changes nothing but what it touches exclusively or has its transaction's number.
 pub fn a_body_changes_its_own_alone()
-    ensures { (w : World) (me : Private) (tx : ℕ) (asked : List Asked)
+    ensures { (w : World) (me : Private) (tx : ℕ) (asked : List CallWithAnswer)
         → KeepsBut (Owns tx (body w me tx asked).touched) w (body w me tx asked).world }
 {}
 
 /// The records that a body leaves speak of what it touches exclusively or what has its number
 /// alone, and so do its late calls, but for a sync, which speaks of what it touches.
 pub fn what_a_body_leaves_speaks_of_its_own()
-    ensures { (w : World) (me : Private) (tx : ℕ) (asked : List Asked) → SpeaksOfOwn tx (body w me tx asked) }
+    ensures { (w : World) (me : Private) (tx : ℕ) (asked : List CallWithAnswer) → SpeaksOfOwn tx (body w me tx asked) }
 {}
 
 /// A whole run is local as its body is, where both worlds know the same blocks.
 pub fn a_run_is_local()
-    ensures { (w v : World) (me : Private) (tx : ℕ) (asked : List Asked) (ends : List LateEnd) → length w.words ≡ length v.words
+    ensures { (w v : World) (me : Private) (tx : ℕ) (asked : List CallWithAnswer) (ends : List LateEnd) → length w.words ≡ length v.words
         → w.blocks ≡ v.blocks
         → All (AgreeAt w v) (objects (body w me tx asked).touched) → AgreeOn (IsNumbered tx) w v
         → RunAlike tx w v (run w me tx asked ends) (run v me tx asked ends) }
@@ -92,7 +92,7 @@ pub fn a_run_is_local()
 
 /// The same answers fit the run in both.
 pub fn what_fits_a_run_is_local()
-    ensures { (w v : World) (me : Private) (tx : ℕ) (asked : List Asked) (ends : List LateEnd) → length w.words ≡ length v.words
+    ensures { (w v : World) (me : Private) (tx : ℕ) (asked : List CallWithAnswer) (ends : List LateEnd) → length w.words ≡ length v.words
         → w.blocks ≡ v.blocks
         → All (AgreeAt w v) (objects (body w me tx asked).touched) → AgreeOn (IsNumbered tx) w v
         → run_fits w me tx asked ends ≡ run_fits v me tx asked ends }
@@ -143,20 +143,20 @@ pub fn what_remains_changes_its_objects_alone()
 
 /// One call more is one step more.
 pub fn a_call_more_is_a_step_more()
-    ensures { (w : World) (me : Private) (tx : ℕ) (asked : List Asked) (call : Asked)
+    ensures { (w : World) (me : Private) (tx : ℕ) (asked : List CallWithAnswer) (call : CallWithAnswer)
         → body w me tx (asked ++ call ∷ []) ≡ step tx (body w me tx asked) call }
 {}
 
-/// What fits a body of a call more: what fits the body, and an answer that fits behind it.
+/// What fits a body of a call more: what fits the body, and an answer that fits after it.
 pub fn what_fits_a_call_more()
-    ensures { (w : World) (me : Private) (tx : ℕ) (asked : List Asked) (call : Asked)
+    ensures { (w : World) (me : Private) (tx : ℕ) (asked : List CallWithAnswer) (call : CallWithAnswer)
         → body_fits w me tx (asked ++ call ∷ [])
         ≡ (body_fits w me tx asked && fits (body w me tx asked).world (body w me tx asked).me tx call.call call.answer) }
 {}
 
-/// A body in two parts is the first with the second behind it, which begins where the first ended.
+/// A body in two parts is the first with the second after it, which begins where the first ended.
 pub fn a_body_in_two_parts()
-    ensures { (w : World) (me : Private) (tx : ℕ) (front rest : List Asked)
+    ensures { (w : World) (me : Private) (tx : ℕ) (front rest : List CallWithAnswer)
         → body w me tx (front ++ rest) ≡ behind (body w me tx front) (body (body w me tx front).world (body w me tx front).me tx rest) }
 {}
 
@@ -177,14 +177,14 @@ pub fn what_is_held_exclusively_was_claimed_so()
 
 /// A body from its transaction's begin, in two sound worlds that agree on what it touches.
 pub fn a_body_from_its_begin_is_local()
-    ensures { (w v : World) (me : Private) (tx : ℕ) (asked : List Asked) → IsSound w me tx → IsSound v me tx → me.made ≡ 0
+    ensures { (w v : World) (me : Private) (tx : ℕ) (asked : List CallWithAnswer) → IsSound w me tx → IsSound v me tx → me.made ≡ 0
         → length w.words ≡ length v.words
         → All (AgreeAt w v) (objects (body w me tx asked).touched) → RanAlike tx w v (body w me tx asked) (body v me tx asked) }
 {}
 
 /// A run of another transaction that owns nothing which a body sees leaves that body as it was.
 pub fn a_run_leaves_the_bodies_of_others()
-    ensures { (w : World) (me you : Private) (tx ty : ℕ) (asked others : List Asked) (ends : List LateEnd)
+    ensures { (w : World) (me you : Private) (tx ty : ℕ) (asked others : List CallWithAnswer) (ends : List LateEnd)
         → ((o : Object) → Sees tx (body w me tx asked).touched o → Owns ty (body w you ty others).touched o → ⊥)
         → RanAlike tx w (run w you ty others ends).late.world (body w me tx asked)
         (body (run w you ty others ends).late.world me tx asked) }

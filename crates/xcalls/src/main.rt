@@ -9,7 +9,7 @@ use xc_app::{NoPace, Status, xcalls_run};
 use xc_edge::{StdSink, StdSource, write_whole};
 use xc_memhost::MemHost;
 
-// The words behind the program's name.
+// The words after the program's name.
 fn words(rt: &HostRuntime) -> io::Result<Vec<String>> {
     let mut args = env::args(rt)?;
     args.next();
@@ -32,7 +32,7 @@ fn run<R: AllocGlobal + Threads + Wait + Sync>(
     xcalls_run(threads, words, &mut source, &mut sink, host, &NoPace).status
 }
 
-// The words could not be had: for want of memory, or since one is no text, which no option takes.
+// The words could not be had: for lack of memory, or since one is no text, which no option takes.
 fn wordless<R: AllocGlobal + Threads + Wait + Sync>(
     rt: &HostRuntime,
     threads: &R,

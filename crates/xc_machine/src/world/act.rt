@@ -101,7 +101,7 @@ impl World {
         match call {
             Call::XWriteOvr { h, bytes } => self.overwrite_short(me, *h, bytes, n),
             Call::XWriteSeq { h, bytes } => self.append_short(me, *h, bytes, n),
-            // Any other call leaves nothing behind a fault, also one yet to come.
+            // Any other call leaves nothing after a fault, also one yet to come.
             _ => Ok(Reply::Fault(n)),
         }
     }

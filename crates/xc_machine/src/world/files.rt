@@ -2,9 +2,9 @@ ghost use Rattle.std.specs.Prelude.{◌≡◌, ◌≤◌, ◌<◌, ◌+◌, ◌+
 ghost use Rattle.xc_data.specs.declared.object.Num.{Num};
 ghost use Rattle.xc_data.specs.declared.private.Place.TheVariants.{File};
 ghost use Rattle.xc_data.specs.Private.{place_of, with_place};
-ghost use Rattle.xc_world.specs.World.{World as PlainWorld, file_of, with_file};
+ghost use Rattle.xc_world.specs.World.{file_of, with_file};
 ghost use Rattle.xc_world.specs.Act.Step.{step_to};
-ghost use Rattle.xc_world.specs.Act.Files.{read_at, overwrite_at, append_at, seek_at, len_at, overwrite_short, append_short, overwritten};
+ghost use Rattle.xc_world.specs.Act.Files.{read_at, overwrite_at, append_at, len_at, overwrite_short, append_short, overwritten};
 
 use super::World;
 use super::shared::{joined, replaced};

@@ -17,7 +17,7 @@ fn words_of(alloc: Global, words: &[u64]) -> Result<WordList, NoMemory>
     Ok(Items::from_vec(list))
 }
 
-// These names, and others behind them.
+// These names, and others after them.
 fn names_of(alloc: Global, front: &[Ident], back: &[Ident]) -> Result<IdentList, NoMemory>
     ensures { IfOk result (λ list. list ≡ front.now ++ back.now) }
 {

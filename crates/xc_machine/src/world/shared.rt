@@ -1,4 +1,4 @@
-ghost use Rattle.std.specs.Prelude.{◌≡◌, ◌≤◌, ◌+◌, ◌++◌, ◌∷◌, [], length, IfOk, OnOk, OnErr};
+ghost use Rattle.std.specs.Prelude.{◌≡◌, ◌≤◌, ◌+◌, ◌++◌, ◌∷◌, [], length, IfOk, OnOk};
 ghost use Rattle.xc_world.specs.Act.Files.{overwritten};
 
 use std::alloc::Global;
@@ -21,7 +21,7 @@ pub(super) fn replaced(
     Chunk::from_vec(next)
 }
 
-/// The bytes with others behind them.
+/// The bytes with others after them.
 pub(super) fn joined(alloc: Global, front: &[u8], bytes: &[u8]) -> Result<Chunk, NoMemory>
     ensures { IfOk result (λ next. next ≡ front.now ++ bytes.now) }
 {

@@ -50,7 +50,7 @@ impl Host for MemHost {
         ensures value { IfOk result (λ found. found ≡ map.get self.old.contents.names name.now) }
         ensures answered { Answers mem_host_model Kind.Lookup (record { old = self.old; new = self.new }) result (λ found c. c) }
 
-        // Exactly the listed calls fail, and none wants memory.
+        // Exactly the listed calls fail, and none runs out of memory.
         ensures fault { is_fault result ≡ is_listed Kind.Lookup self.old }
         ensures answers { is_err result ≡ is_listed Kind.Lookup self.old }
         ensures state { self.new ≡ begun Kind.Lookup self.old }

@@ -1,13 +1,13 @@
 use Rattle.std.proofs.Common.{rules, ◌≡◌, IfSome, subst, sym}
 use Rattle.std.specs.Prelude.{Option}
 use Rattle.xc_station.specs.declared.start.End.{End}
-use Rattle.xc_story.specs.Ending.{IsTrueEnd, StopWhereFull}
-use Rattle.xc_story.specs.Setting.{setting}
-use Rattle.xc_story.specs.Truth.{IsSerial}
+use Rattle.xc_model.specs.Ending.{IsTrueEnd, StopWhereFull}
+use Rattle.xc_model.specs.Setting.{setting}
+use Rattle.xc_model.specs.Serial.{IsSerial}
 use Rattle.xc_turns.proofs.Accounts.{journal_accounts}
 use Rattle.xc_turns.proofs.Orders.{alone_opened, alone_stops}
 use Rattle.xc_app.specs.Headline.{IsRunOver, RunsAlone, final_of}
-use Rattle.xc_plain.proofs.Finals.{plain_end}
+use Rattle.xc_serial.proofs.Finals.{plain_end}
 use Rattle.xc_app.proofs.run.of_script.Goals as goal
 
 pub returns-in-Ok-clause-run : goal.returns-in-Ok-clause-run

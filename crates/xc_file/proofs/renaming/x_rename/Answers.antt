@@ -2,9 +2,9 @@ use Rattle.std.proofs.Common.{◌≡◌, false, refl}
 use Rattle.xc_data.specs.declared.call.Call.TheVariants.{XRename}
 use Rattle.xc_world.specs.Checks.{is_check_reply}
 use Rattle.xc_world.specs.Trail.{rename_record}
-use Rattle.xc_file.specs.Calls.{Acts, IsMePassed, IsPassedReply}
+use Rattle.xc_file.specs.Calls.{ActsAsPlain, IsMePassed, IsPassedReply}
 use Rattle.xc_file.specs.Naming.{Renames}
-use Rattle.xc_file.proofs.FileCalls.{moment, passed_call, told_grow, ok_more, always_err}
+use Rattle.xc_file.proofs.FileCalls.{call_view_at, passed_call, told_grow, ok_more, always_err}
 use Rattle.xc_file.proofs.NameCalls.{rename_acts, rename_me, rename_one}
 use Rattle.xc_file.proofs.renaming.x_rename.Goals as goal
 
@@ -24,7 +24,7 @@ returns-clause-call g c =
       uses = c.rename.ensures.uses;
       after = ok_more (IsPassedReply (XRename from to)) (IsMePassed number (XRename from to) me me) result (λ r p. rename_me number me from to r p.1)
           did.reply;
-      acts = λ t. ok_more (Renames was is from to) (Acts (XRename from to) (moment was number me) (moment is number me)) result
+      acts = λ t. ok_more (Renames was is from to) (ActsAsPlain (XRename from to) (call_view_at was number me) (call_view_at is number me)) result
           (rename_acts was is number me from to) (did.told t);
       err = always_err _ result refl;
       cause = did.cause;

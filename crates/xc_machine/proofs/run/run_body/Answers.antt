@@ -9,7 +9,7 @@ use Rattle.xc_world.specs.Act.Step.{Stepped}
 use Rattle.xc_world.specs.Fits.{fits}
 use Rattle.xc_world.specs.Late.{kept_call}
 use Rattle.xc_machine.proofs.MachineRun.{left-cons, behind_test}
-use Rattle.xc_world.specs.Run.{Ran, body, body_fits, taken_by}
+use Rattle.xc_world.specs.Run.{BodyResult, body, body_fits, taken_by}
 use Rattle.xc_world.proofs.Joined.{body_more}
 use Rattle.xc_machine.proofs.run.run_body.Goals as goal
 
@@ -32,19 +32,19 @@ loop-call-preserved c =
           subst (λ w. IsTrue (body_fits w c.take_call.new.me c.args.tx rest)) (sym gave.world)
           (subst (λ m. IsTrue (body_fits s.world m c.args.tx rest)) (sym gave.me)
           (behind_test (fits c.loop-call.world c.loop-call.me c.args.tx item.call item.answer) _ fit));
-      world = gave.world ∙ ap (λ (s : Stepped). s.world) same ∙ ap (λ (r : Ran). r.world) more;
-      me = gave.me ∙ ap (λ (s : Stepped). s.me) same ∙ ap (λ (r : Ran). r.me) more;
-      replies = gave.replies ∙ ap₂ (λ rs (s : Stepped). rs ++ s.reply ∷ []) before.replies same ∙ ap (λ (r : Ran). r.replies) more;
+      world = gave.world ∙ ap (λ (s : Stepped). s.world) same ∙ ap (λ (r : BodyResult). r.world) more;
+      me = gave.me ∙ ap (λ (s : Stepped). s.me) same ∙ ap (λ (r : BodyResult). r.me) more;
+      replies = gave.replies ∙ ap₂ (λ rs (s : Stepped). rs ++ s.reply ∷ []) before.replies same ∙ ap (λ (r : BodyResult). r.replies) more;
       words = subst (λ x. length x.words < 2 ^ 32) (sym gave.world)
           (subst (λ n. n < 2 ^ 32) (sym (body_keeps c.loop-call.world c.loop-call.me c.args.tx (item ∷ [])).count) before.words);
       taken =
           gave.taken ∙ ap₂ (λ ts t. ts ++ t) before.taken (ap₂ (λ m (s : Stepped). taken_by item.call m s.reply) before.me same)
-          ∙ ap (λ (r : Ran). r.taken) more;
+          ∙ ap (λ (r : BodyResult). r.taken) more;
       held =
           gave.held ∙ ap₂ holding before.held (ap₂ (λ m (w : World). claims_of item.call m (length w.words)) before.me before.world)
           ∙ sym (fold-append holding_one [] ran.touched (claims_of item.call ran.me (length ran.world.words)))
-          ∙ ap (λ (r : Ran). held_of r.touched) more;
+          ∙ ap (λ (r : BodyResult). held_of r.touched) more;
       late =
           gave.late ∙ ap₂ (λ ls k. ls ++ k) before.late (ap₂ (λ m (s : Stepped). kept_call item.call m s.reply) before.me same)
-          ∙ ap (λ (r : Ran). r.late) more;
+          ∙ ap (λ (r : BodyResult). r.late) more;
     }

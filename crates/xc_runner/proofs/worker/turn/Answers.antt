@@ -1,5 +1,5 @@
 use Rattle.xc_data.specs.declared.entry.Event.TheVariants.{Turned}
-use Rattle.xc_station.specs.Stations.{meaning_of}
+use Rattle.xc_station.specs.Events.{meaning_of}
 use Rattle.xc_turnstile.proofs.Passes.{gains}
 use Rattle.xc_runner.proofs.Events.{event_next}
 use Rattle.xc_runner.proofs.worker.turn.Goals as goal

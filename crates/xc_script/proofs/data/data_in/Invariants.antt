@@ -1,5 +1,5 @@
 use Rattle.std.proofs.Common.{◌≡◌, ◌++◌, drop}
-use Rattle.xc_script.specs.Ask.{data_of}
+use Rattle.xc_script.specs.Values.{data_of}
 use Rattle.xc_script.proofs.data.data_in.Given as goal
 
 -- what is joined and what is left are all bytes

@@ -1,5 +1,5 @@
 use Rattle.std.proofs.Common.{◌≡◌, ◌≤◌, ◌+◌, length, drop}
-use Rattle.xc_script.specs.Ask.{data_of}
+use Rattle.xc_script.specs.Values.{data_of}
 use Rattle.xc_script.proofs.data.data_len.Given as goal
 
 -- what is counted and what is left is the whole length

@@ -2,13 +2,13 @@ use Rattle.std.proofs.Common.{◌≡◌, ◌<◌, ◌∷◌, ◌++◌, [], lengt
 use Rattle.std.proofs.lemmas.Iterator.Consumers.{YieldsList-turn, YieldsList-end, YieldsList-at}
 use Rattle.std.proofs.lemmas.Iterator.Splits.{YieldsList-from_str_split}
 use Rattle.std.proofs.lemmas.List.{length_push}
-use Rattle.xc_settings.specs.Options.{parts_of}
+use Rattle.xc_settings.specs.Options.{comma_parts}
 use Rattle.xc_settings.proofs.JobLists.{numbers_in-more, numbers_in-refused, job_numbers-refused, job_numbers-many, job_numbers-read}
 use Rattle.xc_settings.proofs.values.jobs.Goals as goal
 use Rattle.xc_settings.proofs.values.jobs.Goals.{In-Some}
 
 -- the part is the next one of the text
-next_part : (c : In-Some) → let parts = parts_of c.args.text.now in
+next_part : (c : In-Some) → let parts = comma_parts c.args.text.now in
     (length c.loop-part.yielded < length parts) × (c.in-Some.part.now ≡ get_or parts (length c.loop-part.yielded) c.in-Some.part.now)
 next_part c =
     let of = c.split-part-items.ensures in

@@ -3,9 +3,9 @@ use Rattle.xc_data.specs.declared.entry.JobEnd.TheVariants as job_end
 use Rattle.xc_data.specs.declared.entry.Mark.{Mark}
 use Rattle.xc_script.specs.Position.{Position}
 use Rattle.xc_sentinel.specs.Seating.{KeepsSeats, SetsSeat}
-use Rattle.xc_story.specs.Seen.{Ended, begun_count, unmarked, with_job}
-use Rattle.xc_story.specs.Setting.{setting}
-use Rattle.xc_station.specs.Jobs.{seen_job}
+use Rattle.xc_model.specs.Moment.{Ended, begun_count, unmarked, with_job}
+use Rattle.xc_model.specs.Setting.{setting}
+use Rattle.xc_station.specs.Jobs.{job_view}
 use Rattle.xc_station.specs.Moments.{marks_of}
 use Rattle.xc_station.proofs.Begun.{all_begun, begins, ended_seats, ends, stopped, stopped_seats, stopped_there, where_err, where_ok}
 use Rattle.xc_station.proofs.Seated.{marks_kept, marks_unmarked}
@@ -16,7 +16,7 @@ stop-requires c = c.in-Some.ensures.patient
 
 pub returns-in-Some-clause-row : goal.returns-in-Some-clause-row
 returns-in-Some-clause-row c tells now at begun sat same =
-    stopped (setting c.args.script.now c.args.rules.now tells) at now (seen_job c.args.job.now) _ c.in-Some.halt _ _ same
+    stopped (setting c.args.script.now c.args.rules.now tells) at now (job_view c.args.job.now) _ c.in-Some.halt _ _ same
     (c.in-Some.ensures.halts tells now (all_begun now _ _ _ begun c.len-entered.ensures) sat) c.stop.ensures.stopped
 
 pub returns-in-Some-clause-seats : goal.returns-in-Some-clause-seats
@@ -37,9 +37,9 @@ returns-then-is_err-clause-row c tells now at begun sat same =
     let failed = sym c.is_err.ensures.value ∙ c.if-is_err.true in
     let place = where_err c.take_room.result failed c.take_room.ensures.err_place in
     let seats : KeepsSeats c.args.sentinels.now.seats c.take_room.new.sentinels.seats = where_err c.take_room.result failed c.take_room.ensures.err_seats in
-    ends (setting c.args.script.now c.args.rules.now tells) at now (seen_job job) _ _ job_end.NoMemory (marks_of c.take_room.new.sentinels.seats)
+    ends (setting c.args.script.now c.args.rules.now tells) at now (job_view job) _ _ job_end.NoMemory (marks_of c.take_room.new.sentinels.seats)
     (same ∙ sym (marks_kept c.args.sentinels.now.seats c.take_room.new.sentinels.seats seats)) ready.left
-    (c.end.ensures.ended.0 ∙ ap (λ (p : Position). record (seen_job job) { place = p; doing = Ended job_end.NoMemory }) place) c.end.ensures.ended.1
+    (c.end.ensures.ended.0 ∙ ap (λ (p : Position). record (job_view job) { place = p; doing = Ended job_end.NoMemory }) place) c.end.ensures.ended.1
 
 pub returns-clause-row : goal.returns-clause-row
 returns-clause-row c tells now at begun sat same =
@@ -49,7 +49,7 @@ returns-clause-row c tells now at begun sat same =
     let sets : SetsSeat c.args.sentinels.now.seats c.take_room.new.sentinels.seats (c.len-entered.result + c.args.active + 1)
     (Some (record { rank = c.rank_of-rank.result; running = true; mark = None })) = where_ok c.take_room.result done c.take_room.ensures.ok_seats in
     let number = all_begun now _ _ _ begun c.len-entered.ensures in
-    let job' = begins now (seen_job job) _ _ _ _ _ _ _ c.begin.ensures.begun begun c.len-entered.ensures placed c.rank_of-rank.ensures c.begin.ensures.tx in
+    let job' = begins now (job_view job) _ _ _ _ _ _ _ c.begin.ensures.begun begun c.len-entered.ensures placed c.rank_of-rank.ensures c.begin.ensures.tx in
     let marks : marks_of c.take_room.new.sentinels.seats ≡ unmarked now.marks (begun_count now + 1) =
     marks_unmarked c.args.sentinels.now.seats c.take_room.new.sentinels.seats (c.len-entered.result + c.args.active + 1)
     (Some (record { rank = c.rank_of-rank.result; running = true; mark = None })) sets refl

@@ -1,6 +1,6 @@
 use Rattle.std.proofs.Common.{arith, refl}
-use Rattle.xc_story.specs.Setting.{setting}
-use Rattle.xc_station.specs.Jobs.{seen_job}
+use Rattle.xc_model.specs.Setting.{setting}
+use Rattle.xc_station.specs.Jobs.{job_view}
 use Rattle.xc_station.proofs.Begun.{free, some_there, waits}
 use Rattle.xc_station.proofs.begin.why_halted.Goals as goal
 
@@ -11,7 +11,7 @@ returns-in-Some-clause-halts c tells now begun sat =
 pub returns-in-Some-waits_for-clause-halts : goal.returns-in-Some-waits_for-clause-halts
 returns-in-Some-waits_for-clause-halts c tells now begun sat =
     let e = c.in-Some-waits_for.ensures in
-    waits (setting c.args.script.now c.args.rules.now tells) now (seen_job c.args.job.now) c.args.sentinels.now.seats sat
+    waits (setting c.args.script.now c.args.rules.now tells) now (job_view c.args.job.now) c.args.sentinels.now.seats sat
     (some_there _ c.if-not-has_next.ensures) c.in_default.ensures c.in-Some-waits_for.object c.in-Some-waits_for.holder e.waits.0 e.waits.1 (e.patient refl).0
 
 pub returns-then-begun-ge-MOST_ENTRIES-clause-halts : goal.returns-then-begun-ge-MOST_ENTRIES-clause-halts
@@ -20,7 +20,7 @@ returns-then-begun-ge-MOST_ENTRIES-clause-halts c tells now begun sat =
     let left = some_there _ c.if-not-has_next.ensures in (
       left,
       c.in_default.ensures,
-      free (setting c.args.script.now c.args.rules.now tells) now (seen_job c.args.job.now) c.args.sentinels.now.seats sat left c.in_default.ensures
+      free (setting c.args.script.now c.args.rules.now tells) now (job_view c.args.job.now) c.args.sentinels.now.seats sat left c.in_default.ensures
           c.in_default-waits_for.ensures.waits,
       omega (arith, begun, full),
     )
@@ -32,7 +32,7 @@ returns-clause-halts c tells now begun sat =
     record {
       left = left;
       attempts = c.in_default.ensures;
-      free = free (setting c.args.script.now c.args.rules.now tells) now (seen_job c.args.job.now) c.args.sentinels.now.seats sat left c.in_default.ensures
+      free = free (setting c.args.script.now c.args.rules.now tells) now (job_view c.args.job.now) c.args.sentinels.now.seats sat left c.in_default.ensures
           c.in_default-waits_for.ensures.waits;
       room = omega (arith, begun, few);
     }

@@ -4,10 +4,15 @@ use Rattle.xc_file.specs.Calls.{IsFileCall}
 use Rattle.xc_buffers.specs.Items.{keeps_pair, kept_bytes}
 use Rattle.xc_world.specs.Act.Names.{next_num}
 use Rattle.xc_station.specs.Acting.{IsFreeFor, IsLentFor, IsSourceIn, acting}
-use Rattle.xc_station.specs.Jobs.{seen_tx}
+use Rattle.xc_station.specs.Jobs.{tx_view}
 use Rattle.xc_data.specs.declared.private.Private.{Private}
-use Rattle.xc_station.proofs.Doings.{alone_acted_at, calling, file_acted, file_acted_at, kept_acted, kept_acted_at, load_acted, made_acted}
-use Rattle.xc_station.proofs.Doings.{read_acted_at, store_acted, stored_acted_at}
+use Rattle.xc_station.proofs.Doings.{alone_acted_at, calling, file_acted, file_acted_at}
+use Rattle.xc_station.proofs.DoingsLate.{kept_acted, kept_acted_at}
+use Rattle.xc_station.proofs.DoingsWords.{load_acted}
+use Rattle.xc_station.proofs.DoingsTaking.{made_acted}
+use Rattle.xc_station.proofs.DoingsTaking.{read_acted_at}
+use Rattle.xc_station.proofs.DoingsWords.{store_acted}
+use Rattle.xc_station.proofs.DoingsLate.{stored_acted_at}
 use Rattle.xc_world.specs.Checks.{refusal_of}
 use Rattle.xc_host.specs.Fronted.{fronted}
 use Rattle.xc_station.proofs.Takings.{note_backed, ok_checked}
@@ -112,7 +117,7 @@ returns-in-XPipe-clause-acted g c =
     let e = c.x_pipe.ensures in
     let same = c.deref_mut-in-XPipe.ensures.value in
     let stored = ap (λ (me : Private). me.stored) same in
-    let tx = seen_tx c.args.tx.now in
+    let tx = tx_view c.args.tx.now in
     let kept = c.args.buffers.now.kept in
     let none : IsTrue model.tells → kept_bytes (next_num tx.me tx.number) kept ≡ [] =
     λ t. (subst (IsFreeFor (model.contents c.args.host.now) kept (next_num tx.me tx.number)) c.in-XPipe.is (c.requires.lent t).free).1 in
@@ -126,7 +131,7 @@ returns-in-XPair-clause-acted g c =
     let e = c.x_pair.ensures in
     let same = c.deref_mut-in-XPair.ensures.value in
     let stored = ap (λ (me : Private). me.stored) same in
-    let tx = seen_tx c.args.tx.now in
+    let tx = tx_view c.args.tx.now in
     let kept = c.args.buffers.now.kept in
     let none : IsTrue model.tells → keeps_pair (next_num tx.me tx.number) kept ≡ false =
     λ t. (subst (IsFreeFor (model.contents c.args.host.now) kept (next_num tx.me tx.number)) c.in-XPair.is (c.requires.lent t).free).1 in

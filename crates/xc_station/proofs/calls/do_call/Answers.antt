@@ -1,7 +1,8 @@
 use Rattle.std.proofs.Common.{ap, sym}
 use Rattle.std.specs.Prelude.{is_err}
 use Rattle.xc_station.specs.Acting.{acting}
-use Rattle.xc_station.proofs.Doings.{unanswered, unanswered_so, wants_value, word_untaken}
+use Rattle.xc_station.proofs.DoingsStarved.{unanswered, unanswered_so, wants_value}
+use Rattle.xc_station.proofs.DoingsWords.{word_untaken}
 use Rattle.xc_station.proofs.calls.do_call.Goals as goal
 
 pub returns-in_err-answer-clause-acted : goal.returns-in_err-answer-clause-acted

@@ -1,15 +1,15 @@
 use Rattle.std.proofs.Common.{◌≡◌, ap, subst, sym, ◌∙◌, length, arith}
 use Rattle.std.specs.Prelude.{Contains, Ok}
 use Rattle.xc_data.specs.declared.private.Private.{Private}
-use Rattle.xc_story.specs.Seen.{SeenTx}
+use Rattle.xc_model.specs.Moment.{TxView}
 use Rattle.xc_world.specs.After.{IsMeAfter}
 use Rattle.xc_world.specs.Run.{given_back}
-use Rattle.xc_station.specs.Acting.{acting, HasActed, HasDone}
+use Rattle.xc_station.specs.Acting.{acting, HasActedAsPlain, HasDoneAsPlain}
 use Rattle.xc_station.specs.Lent.{Lent, StaysBacked}
 use Rattle.xc_station.specs.PutBack.{place_before}
 use Rattle.xc_station.specs.declared.calls.Before.{Before}
 use Rattle.xc_station.specs.declared.tx.Tx.{Tx}
-use Rattle.xc_station.proofs.Doings.{wants_value}
+use Rattle.xc_station.proofs.DoingsStarved.{wants_value}
 use Rattle.xc_station.proofs.Unanswered.{given_undone, last_backed, nothing_undone}
 use Rattle.xc_station.proofs.calls.do_host_call.Goals as goal
 use Rattle.xc_station.proofs.calls.do_host_call.Goals.{then-noted, else-noted}
@@ -23,16 +23,17 @@ returns-then-is_err-clause-acted g c =
     let done = acting c.act.new.host c.act.new.buffers.kept c.args.words.now c.act.new.tx in
     let behind = acting c.act.new.host c.if-noted.buffers.kept c.args.words.now c.if-noted.tx in
     let acted = c.in_ok-reply.ensures.acted in
-    let did : HasDone model call old done reply = subst (λ (t : SeenTx). HasDone model call (record old { tx = t }) done reply) c.keep.ensures.tx acted in
+    let did : HasDoneAsPlain model call old done reply = subst
+    (λ (t : TxView). HasDoneAsPlain model call (record old { tx = t }) done reply) c.keep.ensures.tx acted in
     let was = c.keep.new.self.me.value in
     let stood = c.state_before-before.ensures
     ∙ ap (λ (me : Private). let b : Before = record { place = place_before call me.places; made = me.made; stored = me.stored } in b)
     c.deref.ensures in
     let after = subst (IsMeAfter c.keep.new.self.number call reply was) (sym c.deref_mut.ensures.value) acted.after in
     let back : c.put_back.new.me ≡ c.args.tx.now.me.value =
-    c.put_back.ensures c.keep.new.self.number was after stood ∙ ap (λ (t : SeenTx). t.me) c.keep.ensures.tx in
+    c.put_back.ensures c.keep.new.self.number was after stood ∙ ap (λ (t : TxView). t.me) c.keep.ensures.tx in
     let brings = wants_value c.answer.result _ (sym c.if-is_err.ensures.value) c.answer.ensures.lasting in
-    let held = ap (λ (t : SeenTx). length t.taken) c.keep.ensures.tx in
+    let held = ap (λ (t : TxView). length t.taken) c.keep.ensures.tx in
     let counts = c.in_ok-reply.ensures.noted in
     elim c.if-noted.branch [
       | then-noted w ↦ given_undone model call old done reply did c.requires.may.sided c.requires.lent behind
@@ -56,9 +57,9 @@ returns-then-is_err-clause-backs g c = λ tells.
     let reply = c.in_ok-reply.reply in
     let old = acting c.args.host.now c.args.buffers.now.kept c.args.words.now c.args.tx.now in
     let done = acting c.act.new.host c.act.new.buffers.kept c.args.words.now c.act.new.tx in
-    let did : HasDone model call old done reply =
-    subst (λ (t : SeenTx). HasDone model call (record old { tx = t }) done reply) c.keep.ensures.tx c.in_ok-reply.ensures.acted in
-    let held = ap (λ (t : SeenTx). length t.taken) c.keep.ensures.tx in
+    let did : HasDoneAsPlain model call old done reply =
+    subst (λ (t : TxView). HasDoneAsPlain model call (record old { tx = t }) done reply) c.keep.ensures.tx c.in_ok-reply.ensures.acted in
+    let held = ap (λ (t : TxView). length t.taken) c.keep.ensures.tx in
     let counts = c.in_ok-reply.ensures.noted in
     let stays : StaysBacked (model.contents c.args.host.now) c.args.buffers.now.kept c.act.new.buffers.kept = c.in_ok-reply.ensures.backs tells in
     elim c.if-noted.branch [
@@ -71,5 +72,6 @@ returns-then-is_err-clause-backs g c = λ tells.
 pub returns-clause-acted : goal.returns-clause-acted
 returns-clause-acted g c =
     let model = g.H.Host.model in
-    subst (λ (t : SeenTx). HasActed model c.args.call.now (record (acting c.args.host.now c.args.buffers.now.kept c.args.words.now c.args.tx.now) { tx = t })
+    subst (λ (t : TxView). HasActedAsPlain model c.args.call.now
+    (record (acting c.args.host.now c.args.buffers.now.kept c.args.words.now c.args.tx.now) { tx = t })
     (acting c.act.new.host c.act.new.buffers.kept c.args.words.now c.act.new.tx) (Ok c.in_ok-reply.reply)) c.keep.ensures.tx c.in_ok-reply.ensures.acted

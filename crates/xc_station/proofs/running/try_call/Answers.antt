@@ -1,6 +1,6 @@
 use Rattle.std.proofs.Common.{ap, refl, subst, sym, ◌∙◌, arith, length}
-use Rattle.xc_story.specs.Seen.{SeenTx}
-use Rattle.xc_station.specs.Jobs.{seen_tx}
+use Rattle.xc_model.specs.Moment.{TxView}
+use Rattle.xc_station.specs.Jobs.{tx_view}
 use Rattle.xc_station.specs.Acting.{IsLentFor}
 use Rattle.xc_station.specs.Moments.{Front, Lends, front_of}
 use Rattle.xc_station.proofs.Lending.{lends_done, lends_from, lends_left, lends_still, unclaimed_takes}
@@ -45,7 +45,8 @@ returns-in-Err-do_call-clause-row g c rules now at job here has terms =
     c.claim.new.tx c.args.call
     c.in_default.ensures.same.1 c.requires.asked c.in_default.ensures.claimed (λ tells. tells) c.do_call.new.place
     (front_of c.claim.new.shared) c.do_call.new.tx
-    c.want.new.tx e.err_place c.in_default.ensures.same.0 e.acted c.want.ensures.tx c.want.result c.want.ensures.answer
+    c.abort_for_memory.new.tx e.err_place c.in_default.ensures.same.0 e.acted
+    c.abort_for_memory.ensures.tx c.abort_for_memory.result c.abort_for_memory.ensures.answer
 
 pub returns-in-Err-clause-plan : goal.returns-in-Err-clause-plan
 returns-in-Err-clause-plan g c = ap (λ (f : Front g.row.H.Denot). g.H.Host.model.plan f.host) c.in-Err.ensures.same.0
@@ -67,7 +68,7 @@ pub do_call-requires-clause-lent : goal.do_call-requires-clause-lent
 do_call-requires-clause-lent g c =
     let model = g.H.Host.model in
     let e = c.in_default.ensures in
-    λ t. subst (λ (u : SeenTx). IsLentFor u.me u.number c.args.call (model.contents c.claim.new.shared.host) c.claim.new.shared.buffers.kept)
+    λ t. subst (λ (u : TxView). IsLentFor u.me u.number c.args.call (model.contents c.claim.new.shared.host) c.claim.new.shared.buffers.kept)
     (sym e.claimed.held)
     (subst (λ (f : Front g.row.H.Denot). IsLentFor c.args.tx.now.me.value c.args.tx.now.number c.args.call (model.contents f.host) f.lent.kept) (sym e.same.0)
     (c.requires.needs t c.args.call e.claimed.granted.free))
@@ -75,7 +76,7 @@ do_call-requires-clause-lent g c =
 pub do_call-requires-clause-noted : goal.do_call-requires-clause-noted
 do_call-requires-clause-noted g c =
     let e = c.in_default.ensures in
-    let held = ap (λ (t : SeenTx). length t.taken) e.claimed.held in
+    let held = ap (λ (t : TxView). length t.taken) e.claimed.held in
     let lent = ap (λ (f : Front g.row.H.Denot). f.lent.noted) e.same.0 in
     let noted = c.requires.noted in
     omega (arith, held, lent, noted)
@@ -86,9 +87,9 @@ returns-in-Ok-clause-lends g c =
     let e = c.in-Ok.ensures in
     let d = c.in_default.ensures in
     subst (λ (f : Front g.row.H.Denot). Lends model (record { old = f; new = record { host = c.do_call.new.host; lent = c.do_call.new.buffers } })
-    (record { old = seen_tx c.args.tx.now; new = seen_tx c.note.new.self })) d.same.0
-    (lends_from model _ (record { old = seen_tx c.claim.new.tx; new = seen_tx c.do_call.new.tx }) (seen_tx c.args.tx.now) (seen_tx c.note.new.self)
-    (ap (λ (t : SeenTx). t.taken) (sym d.claimed.held)) (ap (λ (t : SeenTx). t.taken) c.note.ensures.noted)
+    (record { old = tx_view c.args.tx.now; new = tx_view c.note.new.self })) d.same.0
+    (lends_from model _ (record { old = tx_view c.claim.new.tx; new = tx_view c.do_call.new.tx }) (tx_view c.args.tx.now) (tx_view c.note.new.self)
+    (ap (λ (t : TxView). t.taken) (sym d.claimed.held)) (ap (λ (t : TxView). t.taken) c.note.ensures.noted)
     (lends_done model c.args.call _ _ (front_of c.claim.new.shared).lent c.do_call.new.buffers refl c.in-Ok.reply e.acted e.noted e.backs))
 
 pub returns-in-Err-do_call-clause-lends : goal.returns-in-Err-do_call-clause-lends
@@ -97,7 +98,7 @@ returns-in-Err-do_call-clause-lends g c =
     let e = c.in-Err-do_call.ensures in
     let d = c.in_default.ensures in
     subst (λ (f : Front g.row.H.Denot). Lends model (record { old = f; new = record { host = c.do_call.new.host; lent = c.do_call.new.buffers } })
-    (record { old = seen_tx c.args.tx.now; new = seen_tx c.want.new.tx })) d.same.0
-    (lends_from model _ (record { old = seen_tx c.claim.new.tx; new = seen_tx c.do_call.new.tx }) (seen_tx c.args.tx.now) (seen_tx c.want.new.tx)
-    (ap (λ (t : SeenTx). t.taken) (sym d.claimed.held)) (ap (λ (t : SeenTx). t.taken) c.want.ensures.tx)
+    (record { old = tx_view c.args.tx.now; new = tx_view c.abort_for_memory.new.tx })) d.same.0
+    (lends_from model _ (record { old = tx_view c.claim.new.tx; new = tx_view c.do_call.new.tx }) (tx_view c.args.tx.now) (tx_view c.abort_for_memory.new.tx)
+    (ap (λ (t : TxView). t.taken) (sym d.claimed.held)) (ap (λ (t : TxView). t.taken) c.abort_for_memory.ensures.tx)
     (lends_left model c.args.call _ _ (front_of c.claim.new.shared).lent c.do_call.new.buffers refl e.acted e.noted e.backs))

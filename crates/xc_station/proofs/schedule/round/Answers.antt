@@ -1,5 +1,5 @@
 use Rattle.std.proofs.Common.{◌-◌, ◌<◌, sym, subst, arith}
-use Rattle.xc_story.specs.Rows.{IsTurn}
+use Rattle.xc_model.specs.Rows.{IsTurn}
 use Rattle.xc_station.specs.Stations.{ChangesOne, IsStepOf, KeepsOpening, TakeRound, now_of, setting_of, turns_of}
 use Rattle.xc_station.proofs.Runs.{falls_further, goes_further, live_within, next_turned, round_over, turn_goes}
 use Rattle.xc_station.proofs.schedule.round.Goals as goal

@@ -1,6 +1,6 @@
 use Rattle.std.proofs.Common.{ℕ, ◌<◌, ◌-◌, ◌∙◌, ap, sym, subst, arith}
-use Rattle.xc_story.specs.Alone.{AreAlone}
-use Rattle.xc_story.specs.Seen.{Now}
+use Rattle.xc_model.specs.Alone.{AreAlone}
+use Rattle.xc_model.specs.Moment.{Moment}
 use Rattle.xc_station.specs.Stations.{live_at}
 use Rattle.xc_station.proofs.Runs.{goes_further, next_alone, next_ended, next_goes, next_others, nobody_left, none_above}
 use Rattle.xc_station.proofs.schedule.work_alone.Goals as goal
@@ -33,7 +33,7 @@ loop-job-preserved g c =
 pub returns-clause-alone : goal.returns-clause-alone
 returns-clause-alone g c = λ first alone.
     let at : ℕ = c.loop-job.station.taken - 1 in
-    (at, subst (λ (now : Now). AreAlone now at) (sym c.next_job.ensures.same.2) (c.loop-job.invariant.alone first alone))
+    (at, subst (λ (now : Moment). AreAlone now at) (sym c.next_job.ensures.same.2) (c.loop-job.invariant.alone first alone))
 
 pub returns-clause-done : goal.returns-clause-done
 returns-clause-done g c number more =

@@ -1,5 +1,5 @@
 use Rattle.std.proofs.Common.{◌≡◌, ◌-◌, ◌<◌, ◌≤◌, ℕ, false}
-use Rattle.xc_story.specs.Alone.{AreAlone}
+use Rattle.xc_model.specs.Alone.{AreAlone}
 use Rattle.xc_station.specs.Stations.{GoesOn, live_at, now_of}
 use Rattle.xc_station.proofs.schedule.work_alone.Given as goal
 

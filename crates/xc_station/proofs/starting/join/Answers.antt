@@ -2,7 +2,7 @@ use Rattle.std.proofs.Common.{◌≡◌, ◌+◌, ◌∷◌, ◌++◌, [], lengt
 use Rattle.std.proofs.lemmas.List.{map-append}
 use Rattle.std.proofs.lemmas.List.Elements.{All-push}
 use Rattle.xc_station.specs.declared.job.Job.{Job}
-use Rattle.xc_station.specs.Jobs.{seen_child, seen_job}
+use Rattle.xc_station.specs.Jobs.{child_view, job_view}
 use Rattle.xc_station.specs.Stations.{AreAhead}
 use Rattle.xc_station.proofs.Ahead.{ahead_joined}
 use Rattle.xc_station.proofs.starting.join.Goals as goal
@@ -19,8 +19,8 @@ loop-child-preserved c =
       live = (
         more ++ job ∷ [],
         pushed.items ∙ ap (λ js. js ++ job ∷ []) was.live.1 ∙ append_assoc c.args.jobs.now.items more (job ∷ []),
-        map-append seen_job more (job ∷ []) ∙ (λ i. was.live.2 i ++ c.live.ensures.seen i ∷ [])
-            ∙ sym (map-append seen_child c.loop-child.yielded (c.in-Some.child ∷ [])),
+        map-append job_view more (job ∷ []) ∙ (λ i. was.live.2 i ++ c.live.ensures.seen i ∷ [])
+            ∙ sym (map-append child_view c.loop-child.yielded (c.in-Some.child ∷ [])),
         All-push (λ (j : Job). j.children.items ≡ []) more job was.live.3 c.live.ensures.alone,
       );
       came = append_assoc c.loop-child.yielded (c.in-Some.child ∷ []) c.next.new.self.rest.items

@@ -2,7 +2,7 @@ use Rattle.std.proofs.Common.{refl, ap, ◌∙◌, subst}
 use Rattle.std.specs.Prelude.{slice_set}
 use Rattle.xc_data.specs.declared.call.LateEnd.TheVariants as end
 use Rattle.xc_station.specs.declared.job.Job.{Job}
-use Rattle.xc_station.specs.Jobs.{seen_job}
+use Rattle.xc_station.specs.Jobs.{job_view}
 use Rattle.xc_station.specs.Starting.{StartsChild}
 use Rattle.xc_station.proofs.Children.{lent_job, still_has}
 use Rattle.xc_station.proofs.starting.start_job.Goals as goal
@@ -24,7 +24,7 @@ returns-in-Ok-clause-jobs c job got =
     let next = c.push_child.new.job in (
       next,
       ap (λ js. slice_set js c.args.at next) same,
-      c.push_child.ensures.same ∙ ap seen_job one,
+      c.push_child.ensures.same ∙ ap job_view one,
       subst (λ (j : Job). StartsChild c.args.script.now j c.args.start.block end.Done next.children.items) one c.in-Ok.ensures.ok,
     )
 
@@ -35,6 +35,6 @@ returns-in-Err-clause-jobs c job got =
     let next = c.push_child.new.job in (
       next,
       ap (λ js. slice_set js c.args.at next) same,
-      c.push_child.ensures.same ∙ ap seen_job one,
+      c.push_child.ensures.same ∙ ap job_view one,
       c.in-Err.ensures.err ∙ ap (λ (j : Job). j.children.items) one,
     )

@@ -5,7 +5,7 @@ use Rattle.xc_data.specs.declared.claim.Claim.{Claim}
 use Rattle.xc_data.specs.Claims.{objects}
 use Rattle.xc_wordlocks.specs.Table.{has}
 use Rattle.xc_wordlocks.proofs.Claimed.{take-more}
-use Rattle.xc_wordlocks.proofs.Orders.{same_object}
+use Rattle.xc_data.proofs.Objects.{same_object}
 use Rattle.xc_wordlocks.proofs.Places.{has-append}
 use Rattle.xc_wordlocks.proofs.holding.place_of.Goals as goal
 

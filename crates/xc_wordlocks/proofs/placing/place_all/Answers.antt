@@ -2,7 +2,7 @@ use Rattle.std.proofs.Common.{◌∷◌, ◌++◌, [], None, cond, List, take, a
 use Rattle.xc_data.specs.declared.object.Object.{Object}
 use Rattle.xc_data.specs.declared.claim.Claim.{Claim}
 use Rattle.xc_wordlocks.specs.Placing.{Placed}
-use Rattle.xc_wordlocks.specs.Table.{Table, has, mode_of}
+use Rattle.xc_wordlocks.specs.Table.{Table, has, held_mode}
 use Rattle.xc_wordlocks.proofs.Claimed.{take-more}
 use Rattle.xc_wordlocks.proofs.Places.{placed-append, taken_back}
 use Rattle.xc_wordlocks.proofs.placing.place_all.Goals as goal
@@ -25,6 +25,6 @@ returns-in-Err-clause-err g c =
     taken_back c.args.tx (take i c.args.claims.now) c.args.holders.now c.loop-claim.holders c.take_back.new.holders c.loop-claim.added.items
     c.loop-claim.invariant
     (λ o. c.take_back.ensures.own o
-    ∙ ap₂ (λ (l : List Object) (t : Table). cond (has l o) None (mode_of t c.args.tx o)) (c.as_slice.ensures ∙ c.in-Err.ensures.err_added)
+    ∙ ap₂ (λ (l : List Object) (t : Table). cond (has l o) None (held_mode t c.args.tx o)) (c.as_slice.ensures ∙ c.in-Err.ensures.err_added)
     c.in-Err.ensures.err)
-    (λ n o ne. c.take_back.ensures.others n o ne ∙ ap (λ (t : Table). mode_of t n o) c.in-Err.ensures.err)
+    (λ n o ne. c.take_back.ensures.others n o ne ∙ ap (λ (t : Table). held_mode t n o) c.in-Err.ensures.err)

@@ -12,13 +12,13 @@ pub idle-requires : goal.idle-requires
 idle-requires g c =
     let jobs = c.self.inside.jobs.items in
     let live = live_shown jobs c.args.job c.index.result.now (subst (λ v. live_at v.jobs c.args.job ≡ true) (sym c.self.view_is) c.requires) c.index.ensures in
-    subst (λ v. IsStage v.jobs (c.args.job - 1) PlainStage.Idle) c.self.view_is (c.index.result.now, live.stands, sym c.stage.ensures ∙ c.in-Idle.is)
+    subst (λ v. IsStage v.jobs (c.args.job - 1) PlainStage.Idle) c.self.view_is (c.index.result.now, live.there, sym c.stage.ensures ∙ c.in-Idle.is)
 
 pub running-requires : goal.running-requires
 running-requires g c =
     let jobs = c.self.inside.jobs.items in
     let live = live_shown jobs c.args.job c.index.result.now (subst (λ v. live_at v.jobs c.args.job ≡ true) (sym c.self.view_is) c.requires) c.index.ensures in
-    subst (λ v. IsStage v.jobs (c.args.job - 1) PlainStage.Running) c.self.view_is (c.index.result.now, live.stands, sym c.stage.ensures ∙ c.in-Running.is)
+    subst (λ v. IsStage v.jobs (c.args.job - 1) PlainStage.Running) c.self.view_is (c.index.result.now, live.there, sym c.stage.ensures ∙ c.in-Running.is)
 
 pub committing-requires : goal.committing-requires
 committing-requires g c =
@@ -26,7 +26,7 @@ committing-requires g c =
     let live = live_shown jobs c.args.job c.index.result.now (subst (λ v. live_at v.jobs c.args.job ≡ true) (sym c.self.view_is) c.requires) c.index.ensures in
     subst (λ v. IsStage v.jobs (c.args.job - 1) PlainStage.Committing) c.self.view_is (
       c.index.result.now,
-      live.stands,
+      live.there,
       sym c.stage.ensures
           ∙ c.in-Committing.is,
     )
@@ -37,7 +37,7 @@ committed-requires g c =
     let live = live_shown jobs c.args.job c.index.result.now (subst (λ v. live_at v.jobs c.args.job ≡ true) (sym c.self.view_is) c.requires) c.index.ensures in
     subst (λ v. IsStage v.jobs (c.args.job - 1) PlainStage.Committed) c.self.view_is (
       c.index.result.now,
-      live.stands,
+      live.there,
       sym c.stage.ensures
           ∙ c.in-Committed.is,
     )
@@ -46,19 +46,19 @@ pub undoing-requires : goal.undoing-requires
 undoing-requires g c =
     let jobs = c.self.inside.jobs.items in
     let live = live_shown jobs c.args.job c.index.result.now (subst (λ v. live_at v.jobs c.args.job ≡ true) (sym c.self.view_is) c.requires) c.index.ensures in
-    subst (λ v. IsStage v.jobs (c.args.job - 1) PlainStage.Undoing) c.self.view_is (c.index.result.now, live.stands, sym c.stage.ensures ∙ c.in-Undoing.is)
+    subst (λ v. IsStage v.jobs (c.args.job - 1) PlainStage.Undoing) c.self.view_is (c.index.result.now, live.there, sym c.stage.ensures ∙ c.in-Undoing.is)
 
 pub undone-requires : goal.undone-requires
 undone-requires g c =
     let jobs = c.self.inside.jobs.items in
     let live = live_shown jobs c.args.job c.index.result.now (subst (λ v. live_at v.jobs c.args.job ≡ true) (sym c.self.view_is) c.requires) c.index.ensures in
-    subst (λ v. IsStage v.jobs (c.args.job - 1) PlainStage.Undone) c.self.view_is (c.index.result.now, live.stands, sym c.stage.ensures ∙ c.in-Undone.is)
+    subst (λ v. IsStage v.jobs (c.args.job - 1) PlainStage.Undone) c.self.view_is (c.index.result.now, live.there, sym c.stage.ensures ∙ c.in-Undone.is)
 
 pub starved-requires : goal.starved-requires
 starved-requires g c =
     let jobs = c.self.inside.jobs.items in
     let live = live_shown jobs c.args.job c.index.result.now (subst (λ v. live_at v.jobs c.args.job ≡ true) (sym c.self.view_is) c.requires) c.index.ensures in
-    subst (λ v. IsStage v.jobs (c.args.job - 1) PlainStage.Starved) c.self.view_is (c.index.result.now, live.stands, sym c.stage.ensures ∙ c.in-Starved.is)
+    subst (λ v. IsStage v.jobs (c.args.job - 1) PlainStage.Starved) c.self.view_is (c.index.result.now, live.there, sym c.stage.ensures ∙ c.in-Starved.is)
 
 pub unreachable-requires : goal.unreachable-requires
 unreachable-requires g c =

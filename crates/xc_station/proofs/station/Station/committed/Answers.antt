@@ -2,20 +2,21 @@ use Rattle.std.proofs.Common.{◌≡◌, ℕ, ◌+◌, ◌-◌, ◌≤◌, ◌++
 use Rattle.std.proofs.lemmas.List.{length-append, length-map, map-append}
 use Rattle.std.specs.Prelude.{slice_get, slice_set, All, map}
 use Rattle.std.specs.declared.option.Option.TheVariants.{Some}
-use Rattle.xc_journal.specs.Room.{Roomy}
-use Rattle.xc_story.specs.Seen.{SeenTx, SeenJob, Active, active_in, active_of}
-use Rattle.xc_story.specs.Setting.{setting}
-use Rattle.xc_story.specs.Started.{started_by}
-use Rattle.xc_story.specs.Rows.{IsTurn, behind_commit, started_jobs}
+use Rattle.xc_roomy.specs.Room.{Roomy}
+use Rattle.xc_model.specs.Moment.{TxView, JobView, Active, active_in, active_of}
+use Rattle.xc_model.specs.Setting.{setting}
+use Rattle.xc_model.specs.Started.{started_by}
+use Rattle.xc_model.specs.Rows.{IsTurn}
+use Rattle.xc_model.specs.Entering.{behind_commit, started_jobs}
 use Rattle.xc_turns.proofs.Grown.{AreIdle, started_idle}
 use Rattle.xc_data.specs.declared.entry.Turn.TheVariants as turn
 use Rattle.xc_station.specs.declared.job.Job.{Job}
 use Rattle.xc_station.specs.declared.job.Stage.TheVariants as PlainStage
-use Rattle.xc_station.specs.Jobs.{HasChildren, IsStage, doing_of, goes_on, seen_child, seen_job, seen_jobs, started_in}
+use Rattle.xc_station.specs.Jobs.{HasChildren, IsStage, doing_of, goes_on, child_view, job_view, job_views, started_in}
 use Rattle.xc_station.specs.Stations.{HasRooms, IsSteady, moment, now_of, room_of, setting_of}
 use Rattle.xc_station.proofs.Ahead.{ahead_kept}
 use Rattle.xc_station.proofs.Joined.{backed_joined, children_joined, children_within, rooms_joined}
-use Rattle.xc_station.proofs.Placed.{get_map, length_set}
+use Rattle.xc_data.proofs.Lists.{get_map, length_set}
 use Rattle.xc_station.proofs.Ready.{fits_next, has_room}
 use Rattle.xc_station.proofs.RoomsKept.{rooms_entered}
 use Rattle.xc_station.proofs.Stages.{lent, committed_stage}
@@ -45,7 +46,7 @@ commit-entry-requires-clause-table g c tx doing =
     let at = c.args.at in
     let is = lent station.jobs.items at PlainStage.Committed was (subst (λ v. IsStage v.jobs at PlainStage.Committed) (sym c.self.view_is) c.requires)
     c.index_mut.ensures.value in
-    λ o. (c.self.invariant.1.claims o).held at tx (seen_job was, get_map seen_job station.jobs.items at was is.stands, ap active_in doing)
+    λ o. (c.self.invariant.1.claims o).held at tx (job_view was, get_map job_view station.jobs.items at was is.there, ap active_in doing)
 
 pub commit-entry-requires-clause-next : goal.commit-entry-requires-clause-next
 commit-entry-requires-clause-next g c =
@@ -97,7 +98,7 @@ join-requires-clause-jobs g c =
     let is = lent jobs at PlainStage.Committed was (subst (λ v. IsStage v.jobs at PlainStage.Committed) (sym c.self.view_is) c.requires)
     c.index_mut.ensures.value in
     let within = children_within s station.opening.faults (moment model station.shared station.journal.items jobs) jobs at was
-    (room_of station.jobs station.lines station.ahead) c.self.invariant.0 refl is.stands c.self.invariant.7 in
+    (room_of station.jobs station.lines station.ahead) c.self.invariant.0 refl is.there c.self.invariant.7 in
     let children = ap length c.commit-entry.ensures.children.0 in
     let set = length_set jobs at c.commit-entry.new.job in
     let room = c.self.invariant.7.jobs_room in
@@ -114,7 +115,7 @@ join-requires-clause-few g c =
     let is = lent jobs at PlainStage.Committed was (subst (λ v. IsStage v.jobs at PlainStage.Committed) (sym c.self.view_is) c.requires)
     c.index_mut.ensures.value in
     let within = children_within s station.opening.faults (moment model station.shared station.journal.items jobs) jobs at was
-    (room_of station.jobs station.lines station.ahead) c.self.invariant.0 refl is.stands c.self.invariant.7 in
+    (room_of station.jobs station.lines station.ahead) c.self.invariant.0 refl is.there c.self.invariant.7 in
     let children = ap length c.commit-entry.ensures.children.0 in
     let set = length_set jobs at c.commit-entry.new.job in
     let below = c.self.invariant.0.kept.started.few in
@@ -131,7 +132,7 @@ join-requires-clause-ahead g c =
     let is = lent jobs at PlainStage.Committed was (subst (λ v. IsStage v.jobs at PlainStage.Committed) (sym c.self.view_is) c.requires)
     c.index_mut.ensures.value in
     let within = children_within s station.opening.faults (moment model station.shared station.journal.items jobs) jobs at was
-    (room_of station.jobs station.lines station.ahead) c.self.invariant.0 refl is.stands c.self.invariant.7 in
+    (room_of station.jobs station.lines station.ahead) c.self.invariant.0 refl is.there c.self.invariant.7 in
     let children = ap length c.commit-entry.ensures.children.0 in
     let room = c.self.invariant.7.marks_room in
     let count = c.self.invariant.2.count in
@@ -147,7 +148,7 @@ join-requires-clause-marks g c =
     let s = setting station.opening.script station.rules model.tells in
     let is = lent jobs at PlainStage.Committed was (subst (λ v. IsStage v.jobs at PlainStage.Committed) (sym c.self.view_is) c.requires)
     c.index_mut.ensures.value in
-    ahead_kept jobs at was c.commit-entry.new.job station.ahead.items is.stands (ap goes_on is.stage) c.self.invariant.2
+    ahead_kept jobs at was c.commit-entry.new.job station.ahead.items is.there (ap goes_on is.stage) c.self.invariant.2
 
 pub invariant_of-self : goal.invariant_of-self
 invariant_of-self g c =
@@ -160,7 +161,7 @@ invariant_of-self g c =
     let is = lent jobs at PlainStage.Committed was (subst (λ v. IsStage v.jobs at PlainStage.Committed) (sym c.self.view_is) c.requires)
     c.index_mut.ensures.value in
     let within = children_within s station.opening.faults (moment model station.shared station.journal.items jobs) jobs at was
-    (room_of station.jobs station.lines station.ahead) c.self.invariant.0 refl is.stands c.self.invariant.7 in
+    (room_of station.jobs station.lines station.ahead) c.self.invariant.0 refl is.there c.self.invariant.7 in
     let children = ap length c.commit-entry.ensures.children.0 in
     let set = length_set jobs at c.commit-entry.new.job in
     let mine = committed_stage (doing_of was) is.stage in
@@ -168,10 +169,10 @@ invariant_of-self g c =
     let job = c.commit-entry.new.job in
     let joins = c.join.ensures.jobs in
     let more = joins.0 in
-    let starts : (tx : SeenTx) → doing_of was ≡ Active tx → seen_jobs more ≡ started_jobs s.script (seen_job was) tx =
-    λ tx does. joins.2 ∙ ap (map seen_child) c.commit-entry.ensures.children.0 ∙ c.self.invariant.7.children at was is.stands
-    ∙ ap (started_in s.script (seen_job was)) does in
-    let many = sym (length-map more seen_job) ∙ ap length joins.2 ∙ length-map c.commit-entry.result.children.items seen_child in
+    let starts : (tx : TxView) → doing_of was ≡ Active tx → job_views more ≡ started_jobs s.script (job_view was) tx =
+    λ tx does. joins.2 ∙ ap (map child_view) c.commit-entry.ensures.children.0 ∙ c.self.invariant.7.children at was is.there
+    ∙ ap (started_in s.script (job_view was)) does in
+    let many = sym (length-map more job_view) ∙ ap length joins.2 ∙ length-map c.commit-entry.result.children.items child_view in
     let below = c.self.invariant.0.kept.started.few in
     let few : length jobs + length more ≤ 1000 = omega (arith, within, children, many, below) in
     let turned = committed_turned model station.shared station.journal.items jobs at was s shared' c.enter.new.self.items c.commit-entry.result.entry job more
@@ -182,20 +183,20 @@ invariant_of-self g c =
     let freed = c.commit-entry.ensures.freed mine.tx mine.doing in
     let some = has_room model station.shared station.journal.items jobs at was station.opening.script station.rules station.opening.faults
     station.active station.journal.spare station.lines c.self.invariant.0 c.self.invariant.1 PlainStage.Committed mine.tx is mine.doing in
-    let idle : AreIdle (seen_jobs more) =
-    subst AreIdle (sym (starts mine.tx mine.doing)) (started_idle s.script (behind_commit (seen_job was) mine.tx) (started_by mine.tx)) in
-    let shown : seen_jobs (slice_set jobs at job ++ more) ≡ seen_jobs (slice_set jobs at job) ++ seen_jobs more =
-    map-append seen_job (slice_set jobs at job) more in
-    let counts = length-map more seen_job in
-    let sets = length-map (slice_set jobs at job) seen_job in (
+    let idle : AreIdle (job_views more) =
+    subst AreIdle (sym (starts mine.tx mine.doing)) (started_idle s.script (behind_commit (job_view was) mine.tx) (started_by mine.tx)) in
+    let shown : job_views (slice_set jobs at job ++ more) ≡ job_views (slice_set jobs at job) ++ job_views more =
+    map-append job_view (slice_set jobs at job) more in
+    let counts = length-map more job_view in
+    let sets = length-map (slice_set jobs at job) job_view in (
       subst (λ js. IsSteady s station.opening.faults (moment model shared' c.enter.new.self.items js)) (sym joins.1)
           (steady_kept s station.opening.faults at _ _ turn.Went c.self.invariant.0 turned),
       subst (λ js. HasRooms shared' (station.active - 1) c.enter.new.self.spare (moment model shared' c.enter.new.self.items js) station.lines) (sym joins.1)
           (subst (λ js. HasRooms shared' (station.active - 1) c.enter.new.self.spare
           (record (moment model shared' c.enter.new.self.items (slice_set jobs at job)) { jobs = js }) station.lines) (sym shown)
           (rooms_joined shared' (station.active - 1) c.enter.new.self.spare (moment model shared' c.enter.new.self.items (slice_set jobs at job))
-          (seen_jobs more) station.lines idle (omega (arith, few, counts, sets, set))
-          (rooms_entered model station.shared station.journal.items jobs at was job station.active station.journal.spare station.lines is.stands
+          (job_views more) station.lines idle (omega (arith, few, counts, sets, set))
+          (rooms_entered model station.shared station.journal.items jobs at was job station.active station.journal.spare station.lines is.there
           c.self.invariant.1 s shared' c.enter.new.self.items c.enter.new.self.spare mine.tx c.self.invariant.0.kept.told mine.doing
           (ap active_of gave.0)
           freed some.0 c.enter.ensures.spare c.commit-entry.ensures.gone.noted))),
@@ -203,11 +204,11 @@ invariant_of-self g c =
       (let taken = c.self.invariant.3 in let longer = ap length joins.1 ∙ length-append (slice_set jobs at job) more in omega (arith, taken, longer, set)),
       ap model.plan c.commit-entry.ensures.same.0 ∙ c.self.invariant.4,
       λ tells.
-          subst (λ js. AreBacked (model.contents shared'.host) shared'.buffers.kept (seen_jobs js)) (sym joins.1)
+          subst (λ js. AreBacked (model.contents shared'.host) shared'.buffers.kept (job_views js)) (sym joins.1)
           (subst (AreBacked (model.contents shared'.host) shared'.buffers.kept) (sym shown)
-          (backed_joined (model.contents shared'.host) shared'.buffers.kept (seen_jobs (slice_set jobs at job)) (seen_jobs more) idle
-          (subst (λ h. AreBacked (model.contents h) shared'.buffers.kept (seen_jobs (slice_set jobs at job))) (sym c.commit-entry.ensures.same.0)
-          (backed_without _ _ _ jobs at was job is.stands
+          (backed_joined (model.contents shared'.host) shared'.buffers.kept (job_views (slice_set jobs at job)) (job_views more) idle
+          (subst (λ h. AreBacked (model.contents h) shared'.buffers.kept (job_views (slice_set jobs at job))) (sym c.commit-entry.ensures.same.0)
+          (backed_without _ _ _ jobs at was job is.there
           (subst (All (IsBacked (model.contents station.shared.host))) (sym c.commit-entry.ensures.gone.kept) ((c.self.invariant.5 tells).kept))
           (ap active_of gave.0) (c.self.invariant.5 tells))))),
       c.self.invariant.6,
@@ -220,8 +221,8 @@ invariant_of-self g c =
           record {
             children = subst (λ js. (j : ℕ) (x : Job) → slice_get js j ≡ Some x → HasChildren s.script x) (sym joins.1)
                 (children_joined s.script (slice_set jobs at job) more c.commit-entry.result.children.items joins.2 joins.3
-                (starts_set s.script station.shared.started.items jobs (room_of station.jobs station.lines station.ahead) at was job is.stands
-                (ap (map seen_child) c.commit-entry.ensures.children.1 ∙ sym (ap (λ (j : SeenJob). started_in s.script j j.doing) gave.0)) all).children);
+                (starts_set s.script station.shared.started.items jobs (room_of station.jobs station.lines station.ahead) at was job is.there
+                (ap (map child_view) c.commit-entry.ensures.children.1 ∙ sym (ap (λ (j : JobView). started_in s.script j j.doing) gave.0)) all).children);
             jobs_room = omega (arith, count, jobs_room, jobs');
             lines_room = omega (arith, count, lines_room);
             marks_room = omega (arith, count, marks_room, marks');
@@ -239,17 +240,17 @@ returns-clause-row g c =
     let is = lent jobs at PlainStage.Committed was (subst (λ v. IsStage v.jobs at PlainStage.Committed) (sym c.self.view_is) c.requires)
     c.index_mut.ensures.value in
     let within = children_within s station.opening.faults (moment model station.shared station.journal.items jobs) jobs at was
-    (room_of station.jobs station.lines station.ahead) c.self.invariant.0 refl is.stands c.self.invariant.7 in
+    (room_of station.jobs station.lines station.ahead) c.self.invariant.0 refl is.there c.self.invariant.7 in
     let children = ap length c.commit-entry.ensures.children.0 in
     let mine = committed_stage (doing_of was) is.stage in
     let shared' = c.commit-entry.new.shared in
     let job = c.commit-entry.new.job in
     let joins = c.join.ensures.jobs in
     let more = joins.0 in
-    let starts : (tx : SeenTx) → doing_of was ≡ Active tx → seen_jobs more ≡ started_jobs s.script (seen_job was) tx =
-    λ tx does. joins.2 ∙ ap (map seen_child) c.commit-entry.ensures.children.0 ∙ c.self.invariant.7.children at was is.stands
-    ∙ ap (started_in s.script (seen_job was)) does in
-    let many = sym (length-map more seen_job) ∙ ap length joins.2 ∙ length-map c.commit-entry.result.children.items seen_child in
+    let starts : (tx : TxView) → doing_of was ≡ Active tx → job_views more ≡ started_jobs s.script (job_view was) tx =
+    λ tx does. joins.2 ∙ ap (map child_view) c.commit-entry.ensures.children.0 ∙ c.self.invariant.7.children at was is.there
+    ∙ ap (started_in s.script (job_view was)) does in
+    let many = sym (length-map more job_view) ∙ ap length joins.2 ∙ length-map c.commit-entry.result.children.items child_view in
     let below = c.self.invariant.0.kept.started.few in
     let few : length jobs + length more ≤ 1000 = omega (arith, within, children, many, below) in
     let turned = committed_turned model station.shared station.journal.items jobs at was s shared' c.enter.new.self.items c.commit-entry.result.entry job more
@@ -268,6 +269,6 @@ commit-entry-requires-clause-noted g c =
     let at = c.args.at in
     let is = lent station.jobs.items at PlainStage.Committed was (subst (λ v. IsStage v.jobs at PlainStage.Committed) (sym c.self.view_is) c.requires)
     c.index_mut.ensures.value in
-    let within = notes_within (seen_jobs station.jobs.items) at (seen_job was) (get_map seen_job station.jobs.items at was is.stands) in
+    let within = notes_within (job_views station.jobs.items) at (job_view was) (get_map job_view station.jobs.items at was is.there) in
     let noted = c.self.invariant.1.noted in
     omega (arith, within, noted)

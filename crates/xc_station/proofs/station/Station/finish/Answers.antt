@@ -2,11 +2,11 @@ use Rattle.std.proofs.Common.{◌≡◌, ◌<◌, ap, sym, ◌∙◌, subst, len
 use Rattle.std.specs.Prelude.{List, sum_by, slice_index_or}
 use Rattle.xc_data.specs.Counts.{RisesBy}
 use Rattle.xc_data.specs.Faults.{entry_faults}
-use Rattle.xc_story.specs.Ending.{IsTrueEnd}
-use Rattle.xc_story.specs.Kept.{AreLinesOf}
-use Rattle.xc_story.specs.Setting.{setting}
+use Rattle.xc_model.specs.Ending.{IsTrueEnd}
+use Rattle.xc_model.specs.Consistent.{AreLinesOf}
+use Rattle.xc_model.specs.Setting.{setting}
 use Rattle.xc_station.specs.declared.job.Job.{Job}
-use Rattle.xc_station.specs.Jobs.{is_live, seen_job, seen_jobs}
+use Rattle.xc_station.specs.Jobs.{is_live, job_view, job_views}
 use Rattle.xc_station.specs.Stations.{NobodyLives, moment}
 use Rattle.xc_station.proofs.Ended.{counted_end, each_ended, true_end}
 use Rattle.xc_station.proofs.station.Station.finish.Goals as goal
@@ -19,7 +19,7 @@ lines_of-requires-clause-ended g c k d low =
     let jobs : List Job = c.self.inside.jobs.items in
     let nobody : NobodyLives jobs = subst (λ v. NobodyLives v.jobs) (sym c.self.view_is) c.requires in
     let value : c.as_slice.result.now ≡ jobs = c.as_slice.ensures.value in
-    ap (λ (all : List Job). is_live (seen_job (slice_index_or all k d))) value
+    ap (λ (all : List Job). is_live (job_view (slice_index_or all k d))) value
     ∙ each_ended jobs nobody k d (subst (λ (all : List Job). k < length all) value low)
 
 pub returns-clause-whole : goal.returns-clause-whole
@@ -27,8 +27,8 @@ returns-clause-whole g c =
     let model = g.H.Host.model in
     let station = c.self.inside in
     let now = moment model station.shared station.journal.items station.jobs.items in
-    let over : AreLinesOf (seen_jobs station.jobs.items) c.lines_of.result =
-    subst (λ (all : List Job). AreLinesOf (seen_jobs all) c.lines_of.result) c.as_slice.ensures.value c.lines_of.ensures in
+    let over : AreLinesOf (job_views station.jobs.items) c.lines_of.result =
+    subst (λ (all : List Job). AreLinesOf (job_views all) c.lines_of.result) c.as_slice.ensures.value c.lines_of.ensures in
     let whole = true_end (setting station.opening.script station.rules model.tells) station.opening.faults now c.lines_of.result c.self.invariant.0 over in
     let listed = subst (λ words. IsTrueEnd (setting station.opening.script station.rules model.tells) station.journal.items
     (record { words = words; contents = told_by model station.shared; lines = c.lines_of.result })) (sym c.list.ensures) whole in
@@ -44,7 +44,7 @@ returns-clause-faults g c =
     let model = g.H.Host.model in
     let station = c.self.inside in
     let now = moment model station.shared station.journal.items station.jobs.items in
-    let over : AreLinesOf (seen_jobs station.jobs.items) c.lines_of.result =
-    subst (λ (all : List Job). AreLinesOf (seen_jobs all) c.lines_of.result) c.as_slice.ensures.value c.lines_of.ensures in
+    let over : AreLinesOf (job_views station.jobs.items) c.lines_of.result =
+    subst (λ (all : List Job). AreLinesOf (job_views all) c.lines_of.result) c.as_slice.ensures.value c.lines_of.ensures in
     let whole = counted_end (setting station.opening.script station.rules model.tells) station.opening.faults now c.lines_of.result c.self.invariant.0 over in
     subst (λ v. RisesBy (sum_by entry_faults station.journal.items) v.opening.faults (model.fault_count station.shared.host)) c.self.view_is whole

@@ -1,11 +1,11 @@
 use Rattle.std.proofs.Common.{◌≡◌, ◌≢◌, refl, sym, subst, ap, ◌∙◌, true, false}
 use Rattle.std.specs.Prelude.{slice_set, All}
-use Rattle.xc_story.specs.Seen.{active_in}
-use Rattle.xc_story.specs.Setting.{setting}
-use Rattle.xc_story.specs.Rows.{IsTurn}
+use Rattle.xc_model.specs.Moment.{active_in}
+use Rattle.xc_model.specs.Setting.{setting}
+use Rattle.xc_model.specs.Rows.{IsTurn}
 use Rattle.xc_data.specs.declared.entry.Turn.TheVariants as turn
 use Rattle.xc_station.specs.declared.job.Stage.TheVariants as PlainStage
-use Rattle.xc_station.specs.Jobs.{IsStage, doing_of, goes_on, seen_job, started_in}
+use Rattle.xc_station.specs.Jobs.{IsStage, doing_of, goes_on, job_view, started_in}
 use Rattle.xc_station.specs.Stations.{moment, now_of, room_of, setting_of}
 use Rattle.xc_station.proofs.Ahead.{ahead_kept, taken_kept}
 use Rattle.xc_station.proofs.Ready.{next_unseated}
@@ -48,26 +48,26 @@ invariant_of-self g c =
       | in_default w ↦ let lacks : false ≡ true = sym w.matches-is ∙ c.if-matches.true in cc lacks
     ] in (
       steady_kept s station.opening.faults at _ _ c.begin-turn.result c.self.invariant.0 turned,
-      rooms_idle_went model station.shared station.journal.items station.jobs.items at was job station.active station.journal.spare station.lines is.stands
+      rooms_idle_went model station.shared station.journal.items station.jobs.items at was job station.active station.journal.spare station.lines is.there
           c.self.invariant.1 s c.begin-turn.new.sentinels journal.items journal.spare c.begin-turn.result (ap active_in (idle_stage
           (doing_of was) is.stage)) row c.begin-turn.ensures.claims c.begin-turn.ensures.seats c.self.invariant.0.kept.told
           went (c.begin-turn.ensures.room.0 went),
-      ahead_kept station.jobs.items at was job station.ahead.items is.stands (ap goes_on is.stage) c.self.invariant.2,
+      ahead_kept station.jobs.items at was job station.ahead.items is.there (ap goes_on is.stage) c.self.invariant.2,
       taken_kept station.jobs.items at job station.taken c.self.invariant.3,
       c.self.invariant.4,
       λ tells.
-          backed_jobs _ _ _ _ station.jobs.items at was job is.stands (keeps_itself (model.contents station.shared.host)) ((c.self.invariant.5 tells).kept)
+          backed_jobs _ _ _ _ station.jobs.items at was job is.there (keeps_itself (model.contents station.shared.host)) ((c.self.invariant.5 tells).kept)
           (λ tx active. subst (All (IsBacked (model.contents station.shared.host)))
           (sym (idle_untaken model station.shared station.journal.items station.jobs.items at was job station.active station.journal.spare station.lines
-          is.stands c.self.invariant.1 s c.begin-turn.new.sentinels journal.items journal.spare c.begin-turn.result
+          is.there c.self.invariant.1 s c.begin-turn.new.sentinels journal.items journal.spare c.begin-turn.result
           (ap active_in (idle_stage (doing_of was) is.stage)) row c.begin-turn.ensures.claims c.begin-turn.ensures.seats tx active))
           (All-nil (IsBacked (model.contents station.shared.host))))
           (c.self.invariant.5 tells),
       c.self.invariant.6,
       starts_still model station.shared (record station.shared { sentinels = c.begin-turn.new.sentinels })
           station.journal.items journal.items station.jobs.items at was job (room_of station.jobs station.lines station.ahead) s
-          station.opening.faults c.begin-turn.result c.self.invariant.0 is.stands turned refl
-          (ap (started_in station.opening.script (seen_job was)) (idle_stage (doing_of was) is.stage)) c.begin-turn.ensures.children c.self.invariant.7,
+          station.opening.faults c.begin-turn.result c.self.invariant.0 is.there turned refl
+          (ap (started_in station.opening.script (job_view was)) (idle_stage (doing_of was) is.stage)) c.begin-turn.ensures.children c.self.invariant.7,
     )
 
 pub invariant_of-self-else-matches : goal.invariant_of-self-else-matches
@@ -91,26 +91,26 @@ invariant_of-self-else-matches g c =
       | in_default w ↦ λ e. w.in_default.not-Went e
     ] in (
       steady_kept s station.opening.faults at _ _ c.begin-turn.result c.self.invariant.0 turned,
-      rooms_idle_halted model station.shared station.journal.items station.jobs.items at was job station.active station.journal.spare station.lines is.stands
+      rooms_idle_halted model station.shared station.journal.items station.jobs.items at was job station.active station.journal.spare station.lines is.there
           c.self.invariant.1 s c.begin-turn.new.sentinels journal.items journal.spare c.begin-turn.result
           (ap active_in (idle_stage (doing_of was) is.stage)) row
           c.begin-turn.ensures.claims c.begin-turn.ensures.seats ended c.begin-turn.ensures.room.1,
-      ahead_kept station.jobs.items at was job station.ahead.items is.stands (ap goes_on is.stage) c.self.invariant.2,
+      ahead_kept station.jobs.items at was job station.ahead.items is.there (ap goes_on is.stage) c.self.invariant.2,
       taken_kept station.jobs.items at job station.taken c.self.invariant.3,
       c.self.invariant.4,
       λ tells.
-          backed_jobs _ _ _ _ station.jobs.items at was job is.stands (keeps_itself (model.contents station.shared.host)) ((c.self.invariant.5 tells).kept)
+          backed_jobs _ _ _ _ station.jobs.items at was job is.there (keeps_itself (model.contents station.shared.host)) ((c.self.invariant.5 tells).kept)
           (λ tx active. subst (All (IsBacked (model.contents station.shared.host)))
           (sym (idle_untaken model station.shared station.journal.items station.jobs.items at was job station.active station.journal.spare station.lines
-          is.stands c.self.invariant.1 s c.begin-turn.new.sentinels journal.items journal.spare c.begin-turn.result
+          is.there c.self.invariant.1 s c.begin-turn.new.sentinels journal.items journal.spare c.begin-turn.result
           (ap active_in (idle_stage (doing_of was) is.stage)) row c.begin-turn.ensures.claims c.begin-turn.ensures.seats tx active))
           (All-nil (IsBacked (model.contents station.shared.host))))
           (c.self.invariant.5 tells),
       c.self.invariant.6,
       starts_still model station.shared (record station.shared { sentinels = c.begin-turn.new.sentinels })
           station.journal.items journal.items station.jobs.items at was job (room_of station.jobs station.lines station.ahead) s
-          station.opening.faults c.begin-turn.result c.self.invariant.0 is.stands turned refl
-          (ap (started_in station.opening.script (seen_job was)) (idle_stage (doing_of was) is.stage)) c.begin-turn.ensures.children c.self.invariant.7,
+          station.opening.faults c.begin-turn.result c.self.invariant.0 is.there turned refl
+          (ap (started_in station.opening.script (job_view was)) (idle_stage (doing_of was) is.stage)) c.begin-turn.ensures.children c.self.invariant.7,
     )
 
 pub returns-then-matches-clause-row : goal.returns-then-matches-clause-row

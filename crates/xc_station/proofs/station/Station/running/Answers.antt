@@ -1,9 +1,9 @@
 use Rattle.std.proofs.Common.{sym, subst, ◌∙◌, ap, ◌≡◌, arith}
 use Rattle.std.specs.Prelude.{slice_set, All}
-use Rattle.xc_story.specs.Setting.{setting}
-use Rattle.xc_story.specs.Rows.{IsTurn}
+use Rattle.xc_model.specs.Setting.{setting}
+use Rattle.xc_model.specs.Rows.{IsTurn}
 use Rattle.xc_station.specs.declared.job.Stage.TheVariants as PlainStage
-use Rattle.xc_station.specs.Jobs.{doing_of, IsStage, goes_on, seen_job}
+use Rattle.xc_station.specs.Jobs.{doing_of, IsStage, goes_on, job_view}
 use Rattle.xc_station.specs.Stations.{moment, now_of, room_of, setting_of}
 use Rattle.xc_station.proofs.Ahead.{ahead_kept, taken_kept}
 use Rattle.xc_station.proofs.Ready.{may_run, stands_now, few_words}
@@ -14,9 +14,9 @@ use Rattle.xc_station.proofs.TurnRows.{running_turned}
 use Rattle.xc_station.proofs.Waiting.{none_running, starts_still}
 use Rattle.xc_station.proofs.station.Station.running.Goals as goal
 use Rattle.xc_station.specs.Lent.{IsBacked, notes_in}
-use Rattle.xc_story.specs.Seen.{SeenTx, active_in}
+use Rattle.xc_model.specs.Moment.{TxView, active_in}
 use Rattle.xc_station.proofs.Notes.{backed_jobs, still_backed}
-use Rattle.xc_station.proofs.Placed.{get_map}
+use Rattle.xc_data.proofs.Lists.{get_map}
 use Rattle.std.specs.declared.option.Option.TheVariants.{Some}
 
 pub run-requires-clause-running : goal.run-requires-clause-running
@@ -61,13 +61,13 @@ invariant_of-self g c =
     let mine = running_stage (doing_of was) is.stage in
     let lends = c.run.ensures.lends mine.tx mine.doing in (
       steady_kept s station.opening.faults at _ _ c.run.result c.self.invariant.0 turned,
-      rooms_running model station.shared station.journal.items station.jobs.items at was job station.active station.journal.spare station.lines is.stands
+      rooms_running model station.shared station.journal.items station.jobs.items at was job station.active station.journal.spare station.lines is.there
           c.self.invariant.1 s shared' c.run.result row
           (let noted = lends.2.noted in
           let before = ap (λ d. notes_in (active_in d)) mine.doing in
           let behind = ap (λ d. notes_in (active_in d)) lends.1 in
           omega (arith, noted, before, behind)),
-      ahead_kept station.jobs.items at was job station.ahead.items is.stands (ap goes_on is.stage) c.self.invariant.2,
+      ahead_kept station.jobs.items at was job station.ahead.items is.there (ap goes_on is.stage) c.self.invariant.2,
       taken_kept station.jobs.items at job station.taken c.self.invariant.3,
       c.run.ensures.plan ∙ c.self.invariant.4,
       λ tells.
@@ -76,18 +76,18 @@ invariant_of-self g c =
           let are = c.self.invariant.5 tells in
           let keeps = lends.2.keeps tells in
           let took = still_backed c' d (lends.0).taken keeps (lends.2.taken tells are.kept (are.taken at mine.tx
-          (seen_job was, get_map seen_job station.jobs.items at was is.stands, ap active_in mine.doing))) in
-          backed_jobs c' d _ _ station.jobs.items at was job is.stands keeps (still_backed c' d shared'.buffers.kept keeps (lends.2.kept tells are.kept))
+          (job_view was, get_map job_view station.jobs.items at was is.there, ap active_in mine.doing))) in
+          backed_jobs c' d _ _ station.jobs.items at was job is.there keeps (still_backed c' d shared'.buffers.kept keeps (lends.2.kept tells are.kept))
           (λ tx active.
           let both : Some (lends.0) ≡ Some tx = ap active_in (sym lends.1) ∙ active in
           let one : lends.0 ≡ tx = cc both in
-          subst (λ (t : SeenTx). All (IsBacked d) t.taken) one took)
+          subst (λ (t : TxView). All (IsBacked d) t.taken) one took)
           are,
       c.self.invariant.6,
       starts_still model station.shared shared' station.journal.items station.journal.items station.jobs.items at was job
-          (room_of station.jobs station.lines station.ahead) s station.opening.faults c.run.result c.self.invariant.0 is.stands turned c.run.ensures.started
-          (none_running s station.opening.faults (moment model station.shared station.journal.items station.jobs.items) at (seen_job was) mine.tx
-          c.self.invariant.0 (get_map seen_job station.jobs.items at was is.stands) mine.doing mine.phase) c.run.ensures.children c.self.invariant.7,
+          (room_of station.jobs station.lines station.ahead) s station.opening.faults c.run.result c.self.invariant.0 is.there turned c.run.ensures.started
+          (none_running s station.opening.faults (moment model station.shared station.journal.items station.jobs.items) at (job_view was) mine.tx
+          c.self.invariant.0 (get_map job_view station.jobs.items at was is.there) mine.doing mine.phase) c.run.ensures.children c.self.invariant.7,
     )
 
 pub returns-clause-row : goal.returns-clause-row

@@ -4,9 +4,9 @@ use Rattle.xc_data.specs.declared.script.Outline.{Outline}
 use Rattle.xc_host.specs.Contents.{opened}
 use Rattle.xc_host.specs.Model.{plan_of}
 use Rattle.xc_sentinel.specs.Asking.{mark_of}
-use Rattle.xc_story.specs.Opened.{IsOpening, opened_job}
-use Rattle.xc_story.specs.Setting.{setting}
-use Rattle.xc_station.specs.Jobs.{seen_job}
+use Rattle.xc_model.specs.Opened.{IsOpening, opened_job}
+use Rattle.xc_model.specs.Setting.{setting}
+use Rattle.xc_station.specs.Jobs.{job_view}
 use Rattle.xc_station.specs.Stations.{moment}
 use Rattle.xc_station.proofs.Started.{backed_at_start, each_opened, roomy, started}
 use Rattle.xc_station.proofs.station.Station.start.Goals as goal
@@ -45,7 +45,7 @@ invariant_of-result g c =
       c.in_default-open_with.ensures.plan ∙ ap (λ (p : Outline). plan_of p.prologue) c.outline.ensures,
       λ tells. backed_at_start c.args.script _ _ _ c.in-Ok.ensures.jobs (ap (λ (lent : Lent). lent.kept) c.in-Ok.ensures.buffers),
       c.in-Ok.ensures.places,
-      (let count = sym (length-map rooms.jobs.items seen_job) ∙ ap length c.in-Ok.ensures.jobs
+      (let count = sym (length-map rooms.jobs.items job_view) ∙ ap length c.in-Ok.ensures.jobs
           ∙ length-map c.args.script.outline.jobs (opened_job c.args.script) in
           let names = ap length c.in-Ok.ensures.started in
           let lines = c.in-Ok.ensures.lines.0 in

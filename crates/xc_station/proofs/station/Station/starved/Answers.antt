@@ -1,10 +1,10 @@
 use Rattle.std.proofs.Common.{refl, sym, subst, ap, arith}
 use Rattle.std.specs.Prelude.{slice_set}
-use Rattle.xc_story.specs.Seen.{active_in, active_of}
-use Rattle.xc_story.specs.Setting.{setting}
-use Rattle.xc_story.specs.Rows.{IsTurn}
+use Rattle.xc_model.specs.Moment.{active_in, active_of}
+use Rattle.xc_model.specs.Setting.{setting}
+use Rattle.xc_model.specs.Rows.{IsTurn}
 use Rattle.xc_station.specs.declared.job.Stage.TheVariants as PlainStage
-use Rattle.xc_station.specs.Jobs.{IsStage, doing_of, goes_on, seen_job, started_in}
+use Rattle.xc_station.specs.Jobs.{IsStage, doing_of, goes_on, job_view, started_in}
 use Rattle.xc_station.specs.Stations.{moment, now_of, room_of, setting_of}
 use Rattle.xc_station.proofs.Ahead.{ahead_kept, taken_kept}
 use Rattle.xc_station.proofs.RoomsKept.{rooms_still}
@@ -27,21 +27,21 @@ invariant_of-self g c =
     (sym c.self.view_is) c.requires) c.index_mut.ensures.value in
     let turned = starved_turned model station.shared station.journal.items station.jobs.items at was s job c.end.result is c.end.ensures.ended in (
       steady_kept s station.opening.faults at _ _ c.end.result c.self.invariant.0 turned,
-      rooms_still model station.shared station.journal.items station.jobs.items at was job station.active station.journal.spare station.lines is.stands
+      rooms_still model station.shared station.journal.items station.jobs.items at was job station.active station.journal.spare station.lines is.there
           c.self.invariant.1 station.shared.sentinels station.journal.items station.journal.spare refl (λ n. refl)
           (ap active_in (starved_stage (doing_of was) is.stage))
           (ap active_of c.end.ensures.ended.0)
           (omega arith),
-      ahead_kept station.jobs.items at was job station.ahead.items is.stands (ap goes_on is.stage) c.self.invariant.2,
+      ahead_kept station.jobs.items at was job station.ahead.items is.there (ap goes_on is.stage) c.self.invariant.2,
       taken_kept station.jobs.items at job station.taken c.self.invariant.3,
       c.self.invariant.4,
       λ tells.
-          backed_without _ _ _ station.jobs.items at was job is.stands ((c.self.invariant.5 tells).kept) (ap active_of c.end.ensures.ended.0)
+          backed_without _ _ _ station.jobs.items at was job is.there ((c.self.invariant.5 tells).kept) (ap active_of c.end.ensures.ended.0)
           (c.self.invariant.5 tells),
       c.self.invariant.6,
       starts_still model station.shared station.shared station.journal.items station.journal.items station.jobs.items at was job
-          (room_of station.jobs station.lines station.ahead) s station.opening.faults c.end.result c.self.invariant.0 is.stands turned refl
-          (ap (started_in station.opening.script (seen_job was)) (starved_stage (doing_of was) is.stage)) c.end.ensures.children c.self.invariant.7,
+          (room_of station.jobs station.lines station.ahead) s station.opening.faults c.end.result c.self.invariant.0 is.there turned refl
+          (ap (started_in station.opening.script (job_view was)) (starved_stage (doing_of was) is.stage)) c.end.ensures.children c.self.invariant.7,
     )
 
 pub returns-clause-row : goal.returns-clause-row

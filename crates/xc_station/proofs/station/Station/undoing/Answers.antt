@@ -1,11 +1,11 @@
 use Rattle.std.proofs.Common.{refl, sym, subst, ap, ◌∙◌, ◌≡◌}
 use Rattle.std.specs.Prelude.{slice_set}
-use Rattle.xc_story.specs.Setting.{setting}
-use Rattle.xc_story.specs.Rows.{IsTurn}
+use Rattle.xc_model.specs.Setting.{setting}
+use Rattle.xc_model.specs.Rows.{IsTurn}
 use Rattle.xc_station.specs.declared.calls.Shared.{Shared}
 use Rattle.xc_data.specs.declared.entry.Turn.TheVariants as turn
 use Rattle.xc_station.specs.declared.job.Stage.TheVariants as PlainStage
-use Rattle.xc_station.specs.Jobs.{IsStage, doing_of, goes_on, seen_job, seen_jobs}
+use Rattle.xc_station.specs.Jobs.{IsStage, doing_of, goes_on, job_view, job_views}
 use Rattle.xc_station.specs.Stations.{moment, now_of, room_of, setting_of}
 use Rattle.xc_station.proofs.Ahead.{ahead_kept, taken_kept}
 use Rattle.xc_station.proofs.Ready.{may_undo, took_elsewhere, undo_elsewhere}
@@ -17,8 +17,8 @@ use Rattle.xc_station.proofs.Waiting.{none_undoing, starts_still}
 use Rattle.xc_station.proofs.station.Station.undoing.Goals as goal
 use Rattle.xc_station.proofs.Backed.{backed_undone}
 use Rattle.xc_station.specs.Lent.{AreBacked}
-use Rattle.xc_story.specs.Seen.{SeenTx, active_in}
-use Rattle.xc_station.proofs.Placed.{get_map}
+use Rattle.xc_model.specs.Moment.{TxView, active_in}
+use Rattle.xc_data.proofs.Lists.{get_map}
 use Rattle.std.specs.declared.option.Option.TheVariants.{Some}
 
 pub undo-requires-clause-undoing : goal.undo-requires-clause-undoing
@@ -51,10 +51,10 @@ invariant_of-self g c =
     let back = undoing_stage (doing_of was) is.stage in
     let gave = c.undo.ensures.undone back.tx back.doing in (
       steady_kept s station.opening.faults at _ _ turn.Went c.self.invariant.0 turned,
-      rooms_going model station.shared station.journal.items station.jobs.items at was job station.active station.journal.spare station.lines is.stands
+      rooms_going model station.shared station.journal.items station.jobs.items at was job station.active station.journal.spare station.lines is.there
           c.self.invariant.1 s shared' back.tx (record back.tx { undo = gave.0 }) c.self.invariant.0.kept.told refl back.doing (ap (λ j. j.doing) gave.1)
           refl refl refl refl refl,
-      ahead_kept station.jobs.items at was job station.ahead.items is.stands (ap goes_on is.stage) c.self.invariant.2,
+      ahead_kept station.jobs.items at was job station.ahead.items is.there (ap goes_on is.stage) c.self.invariant.2,
       taken_kept station.jobs.items at job station.taken c.self.invariant.3,
       gave.2.uses.used.plan ∙ c.self.invariant.4,
       λ tells.
@@ -64,19 +64,19 @@ invariant_of-self g c =
           let took = took_elsewhere model station.shared station.journal.items station.jobs.items at was station.opening.script station.rules
           station.opening.faults station.active station.journal.spare station.lines c.self.invariant.0 c.self.invariant.1 c.self.invariant.5 is tried.older
           tried.tried tried.was tells in
-          subst (λ d. AreBacked d station.shared.buffers.kept (seen_jobs (slice_set station.jobs.items at job))) (sym (tried.effect tells))
-          (backed_undone c' station.shared.buffers.kept station.jobs.items at was job tried.tried tried.end is.stands
+          subst (λ d. AreBacked d station.shared.buffers.kept (job_views (slice_set station.jobs.items at job))) (sym (tried.effect tells))
+          (backed_undone c' station.shared.buffers.kept station.jobs.items at was job tried.tried tried.end is.there
           (away tried.older tried.tried tried.was tells) took
           (λ tx active.
           let both : Some (record back.tx { undo = gave.0 }) ≡ Some tx = ap active_in (sym (ap (λ j. j.doing) gave.1)) ∙ active in
           let one : record back.tx { undo = gave.0 } ≡ tx = cc both in
-          (back.tx, (seen_job was, get_map seen_job station.jobs.items at was is.stands, ap active_in back.doing), ap (λ (t : SeenTx). t.taken) one))
+          (back.tx, (job_view was, get_map job_view station.jobs.items at was is.there, ap active_in back.doing), ap (λ (t : TxView). t.taken) one))
           are),
       c.self.invariant.6,
       starts_still model station.shared shared' station.journal.items station.journal.items station.jobs.items at was job
-          (room_of station.jobs station.lines station.ahead) s station.opening.faults turn.Went c.self.invariant.0 is.stands turned refl
-          (none_undoing s station.opening.faults (moment model station.shared station.journal.items station.jobs.items) at (seen_job was) back.tx
-          back.cause c.self.invariant.0 (get_map seen_job station.jobs.items at was is.stands) back.doing back.phase) c.undo.ensures.children
+          (room_of station.jobs station.lines station.ahead) s station.opening.faults turn.Went c.self.invariant.0 is.there turned refl
+          (none_undoing s station.opening.faults (moment model station.shared station.journal.items station.jobs.items) at (job_view was) back.tx
+          back.cause c.self.invariant.0 (get_map job_view station.jobs.items at was is.there) back.doing back.phase) c.undo.ensures.children
           c.self.invariant.7,
     )
 

@@ -1,14 +1,14 @@
 use Rattle.std.proofs.Common.{rules, refl, sym, subst, ap, ◌∙◌, ◌+◌, arith, Fits, w32}
 use Rattle.std.specs.Prelude.{slice_set}
-use Rattle.xc_story.specs.Seen.{active_in, active_of}
-use Rattle.xc_story.specs.Setting.{setting}
-use Rattle.xc_story.specs.Rows.{IsTurn}
+use Rattle.xc_model.specs.Moment.{active_in, active_of}
+use Rattle.xc_model.specs.Setting.{setting}
+use Rattle.xc_model.specs.Rows.{IsTurn}
 use Rattle.xc_data.specs.declared.entry.Turn.TheVariants as turn
 use Rattle.xc_station.specs.declared.job.Stage.TheVariants as PlainStage
-use Rattle.xc_station.specs.Jobs.{IsStage, doing_of, goes_on, seen_job, seen_jobs}
+use Rattle.xc_station.specs.Jobs.{IsStage, doing_of, goes_on, job_view, job_views}
 use Rattle.xc_station.specs.Stations.{moment, now_of, room_of, setting_of}
 use Rattle.xc_station.proofs.Ahead.{ahead_kept, taken_kept}
-use Rattle.xc_station.proofs.Placed.{get_map}
+use Rattle.xc_data.proofs.Lists.{get_map}
 use Rattle.xc_station.proofs.Ready.{fits_next, fits_failures, has_room}
 use Rattle.xc_station.proofs.RoomsKept.{rooms_entered, back_none}
 use Rattle.xc_station.proofs.Stages.{lent, undone_stage}
@@ -54,7 +54,7 @@ abort-entry-requires-clause-table g c tx doing =
     let at = c.args.at in
     let is = lent station.jobs.items at PlainStage.Undone was (subst (λ v. IsStage v.jobs at PlainStage.Undone) (sym c.self.view_is) c.requires)
     c.index_mut.ensures.value in
-    λ o. (c.self.invariant.1.claims o).held at tx (seen_job was, get_map seen_job station.jobs.items at was is.stands, ap active_in doing)
+    λ o. (c.self.invariant.1.claims o).held at tx (job_view was, get_map job_view station.jobs.items at was is.there, ap active_in doing)
 
 pub abort-entry-requires-clause-next : goal.abort-entry-requires-clause-next
 abort-entry-requires-clause-next g c =
@@ -118,27 +118,27 @@ invariant_of-self g c =
     station.active
     station.journal.spare station.lines c.self.invariant.0 c.self.invariant.1 PlainStage.Undone mine.tx is mine.doing in (
       steady_kept s station.opening.faults at _ _ turn.Went c.self.invariant.0 turned,
-      rooms_entered model station.shared station.journal.items station.jobs.items at was job station.active station.journal.spare station.lines is.stands
+      rooms_entered model station.shared station.journal.items station.jobs.items at was job station.active station.journal.spare station.lines is.there
           c.self.invariant.1 s shared' c.enter.new.self.items c.enter.new.self.spare mine.tx c.self.invariant.0.kept.told mine.doing
-          (ap active_of gave.0 ∙ back_none (seen_job was) mine.tx mine.cause)
+          (ap active_of gave.0 ∙ back_none (job_view was) mine.tx mine.cause)
           freed some.0 c.enter.ensures.spare c.abort-entry.ensures.given.noted,
-      ahead_kept station.jobs.items at was job station.ahead.items is.stands (ap goes_on is.stage) c.self.invariant.2,
+      ahead_kept station.jobs.items at was job station.ahead.items is.there (ap goes_on is.stage) c.self.invariant.2,
       taken_kept station.jobs.items at job station.taken c.self.invariant.3,
       ap model.plan c.abort-entry.ensures.same.0 ∙ c.self.invariant.4,
       λ tells.
           let are = c.self.invariant.5 tells in
           let backed = given_all (IsBacked (model.contents station.shared.host)) mine.tx.taken station.shared.buffers.kept shared'.buffers.kept
           (λ item. c.abort-entry.ensures.given.among item mine.tx mine.doing)
-          (are.taken at mine.tx (seen_job was, get_map seen_job station.jobs.items at was is.stands, ap active_in mine.doing)) are.kept in
-          subst (λ h. AreBacked (model.contents h) shared'.buffers.kept (seen_jobs (slice_set station.jobs.items at job))) (sym c.abort-entry.ensures.same.0)
-          (backed_without _ _ _ station.jobs.items at was job is.stands backed
-          (ap active_of gave.0 ∙ back_none (seen_job was) mine.tx mine.cause) are),
+          (are.taken at mine.tx (job_view was, get_map job_view station.jobs.items at was is.there, ap active_in mine.doing)) are.kept in
+          subst (λ h. AreBacked (model.contents h) shared'.buffers.kept (job_views (slice_set station.jobs.items at job))) (sym c.abort-entry.ensures.same.0)
+          (backed_without _ _ _ station.jobs.items at was job is.there backed
+          (ap active_of gave.0 ∙ back_none (job_view was) mine.tx mine.cause) are),
       c.self.invariant.6,
       starts_still model station.shared shared' station.journal.items c.enter.new.self.items station.jobs.items at was job
-          (room_of station.jobs station.lines station.ahead) s station.opening.faults turn.Went c.self.invariant.0 is.stands turned
+          (room_of station.jobs station.lines station.ahead) s station.opening.faults turn.Went c.self.invariant.0 is.there turned
           c.abort-entry.ensures.started
-          (none_undoing s station.opening.faults (moment model station.shared station.journal.items station.jobs.items) at (seen_job was) mine.tx
-          mine.cause c.self.invariant.0 (get_map seen_job station.jobs.items at was is.stands) mine.doing mine.phase) c.abort-entry.ensures.children
+          (none_undoing s station.opening.faults (moment model station.shared station.journal.items station.jobs.items) at (job_view was) mine.tx
+          mine.cause c.self.invariant.0 (get_map job_view station.jobs.items at was is.there) mine.doing mine.phase) c.abort-entry.ensures.children
           c.self.invariant.7,
     )
 
@@ -168,6 +168,6 @@ abort-entry-requires-clause-noted g c =
     let at = c.args.at in
     let is = lent station.jobs.items at PlainStage.Undone was (subst (λ v. IsStage v.jobs at PlainStage.Undone) (sym c.self.view_is) c.requires)
     c.index_mut.ensures.value in
-    let within = notes_within (seen_jobs station.jobs.items) at (seen_job was) (get_map seen_job station.jobs.items at was is.stands) in
+    let within = notes_within (job_views station.jobs.items) at (job_view was) (get_map job_view station.jobs.items at was is.there) in
     let noted = c.self.invariant.1.noted in
     omega (arith, within, noted)

@@ -1,0 +1,42 @@
+-- The table of turns: from one moment to the next, a row for each thing that a job may do.
+use Rattle.std.specs.Prelude.{◌≡◌, ℕ, slice_get}
+use Rattle.std.specs.declared.option.Option.TheVariants.{Some}
+use Rattle.xc_data.specs.declared.entry.JobEnd.TheVariants as job_end
+use Rattle.xc_data.specs.declared.entry.Turn.{Turn}
+use Rattle.xc_data.specs.declared.entry.Turn.TheVariants as turn
+use Rattle.xc_model.specs.declared.phase.Phase.{Phase}
+use Rattle.xc_model.specs.declared.phase.Phase.TheVariants.{Running, Committing, Undoing}
+use Rattle.xc_model.specs.Setting.{Setting}
+use Rattle.xc_model.specs.Moment.{TxView, JobView, Doing, Idle, Active, Starved, Ended, Moment}
+use Rattle.xc_model.specs.Moment.{with_job}
+use Rattle.xc_model.specs.Movers.{Mover, mover}
+use Rattle.xc_model.specs.IdleRows.{IdleTurn}
+use Rattle.xc_model.specs.RunningRows.{MarkedTurn}
+use Rattle.xc_model.specs.CommittingRows.{CommittingTurn}
+use Rattle.xc_model.specs.UndoingRows.{UndoingTurn}
+
+-- ---- all rows
+module _ (m : Mover) where
+  -- a job whose last transaction was aborted for lack of memory ends
+  abbrev pub StarvedTurn : Turn → Moment → Type 0
+  StarvedTurn (turn.Ended job_end.NoMemory) new = new ≡ with_job m.old m.at (record m.job { doing = Ended job_end.NoMemory })
+  StarvedTurn _ new = ⊥
+
+  -- a job with an active transaction, by the transaction's phase
+  abbrev pub ActiveTurn : TxView → Phase → Turn → Moment → Type 0
+  ActiveTurn tx Running answer new = MarkedTurn m tx (m.old.marks tx.number) answer new
+  ActiveTurn tx Committing answer new = CommittingTurn m tx answer new
+  ActiveTurn tx (Undoing c) answer new = UndoingTurn m tx c answer new
+
+  -- by what the job does; one that has ended has no turn
+  abbrev pub TurnOf : Doing → Turn → Moment → Type 0
+  TurnOf Idle answer new = IdleTurn m answer new
+  TurnOf (Active tx) answer new = ActiveTurn tx tx.phase answer new
+  TurnOf Starved answer new = StarvedTurn answer new
+  TurnOf (Ended end) answer new = ⊥
+
+-- one turn of the job in this place, which counts from 0
+pub record IsTurn (s : Setting) (at : ℕ) (old : Moment) (answer : Turn) (new : Moment) : Type 0 where
+  pub job : JobView
+  pub there : slice_get old.jobs at ≡ Some job
+  pub row : TurnOf (mover s at old job) job.doing answer new

@@ -1,0 +1,203 @@
+-- What is true between two turns of the stories of all jobs.
+use Rattle.std.specs.Prelude.{◌≡◌, ℕ, ◌+◌, ◌<◌, ◌≤◌, true, false, List, [], ◌∷◌, ◌++◌, length, map, slice_get, unwrap_or}
+use Rattle.std.specs.Prelude.{All, IsSome, IsPermutation, Contains}
+use Rattle.std.specs.Prelude.{Option}
+use Rattle.std.specs.declared.option.Option.TheVariants.{None, Some}
+use Rattle.xc_data.specs.declared.claim.Claim.{Claim}
+use Rattle.xc_data.specs.declared.entry.Cause.{Cause}
+use Rattle.xc_data.specs.declared.entry.Entry.{Entry}
+use Rattle.xc_script.specs.declared.ask.Ask.{Ask}
+use Rattle.xc_script.specs.declared.ask.Ask.TheVariants as ask
+use Rattle.xc_script.specs.Asking.{asks}
+use Rattle.xc_script.specs.Answers.{all_answered}
+use Rattle.xc_script.specs.Ask.{walk_from, next_body}
+use Rattle.xc_script.specs.Position.{Position, at_begin, walk_of, IsPastSilent}
+use Rattle.xc_world.specs.World.{beginning}
+use Rattle.xc_world.specs.Ends.{AreLegal}
+use Rattle.xc_world.specs.Modes.{claims_of}
+use Rattle.xc_model.specs.declared.phase.Attempts.{Attempts}
+use Rattle.xc_data.specs.declared.entry.Mark.{Mark}
+use Rattle.xc_model.specs.declared.phase.Phase.{Phase}
+use Rattle.xc_model.specs.declared.phase.Phase.TheVariants.{Running, Committing, Undoing}
+use Rattle.xc_model.specs.Setting.{Setting}
+use Rattle.xc_model.specs.Grounds.{Part, AreGrounded, Scene, scene_of}
+use Rattle.xc_script.specs.Slots.{kept_of}
+use Rattle.xc_model.specs.Progress.{Following, opening_progress, progress_of}
+use Rattle.xc_model.specs.Truth.{AsksEach, AreTrue, IsCauseOf, counting, next_of, entry_parts}
+use Rattle.xc_model.specs.Ending.{IsEnd}
+use Rattle.xc_model.specs.InTime.{AreInTime}
+use Rattle.xc_data.specs.Calls.{thread_asked, thread_in}
+use Rattle.xc_data.specs.Private.{IsSided}
+use Rattle.xc_model.specs.Moment.{TxView, JobView, Doing, Idle, Active, Starved, Ended, actives, active_of, revoked}
+
+-- ---- an active transaction, as a part of its job's story
+-- the job stands in its next transaction, and keeps the variables of its begin
+pub record IsInNextTx (f : Following) (place : Position) : Type 0 where
+  pub block : place.block ≡ f.job.block
+  pub next : place.next ≡ f.job.next
+  pub begun : place.begun ≡ f.job.variables
+
+-- the job stands after its transaction's replies
+abbrev pub IsAhead : Setting → Following → Position → TxView → Type 0
+IsAhead s f place tx = walk_of s.script place ≡ all_answered (walk_from s.script f.job) tx.replies
+
+-- a running one: no compensation was tried
+pub record IsRunning (s : Setting) (f : Following) (place : Position) (tx : TxView) : Type 0 where
+  pub ahead : IsAhead s f place tx
+  pub none : tx.undo.ended ≡ []
+  pub no_ends : tx.ends ≡ []
+
+-- a committing one: its commit was asked, and the job stands where its walk does
+pub record IsCommitting (s : Setting) (f : Following) (place : Position) (tx : TxView) : Type 0 where
+  pub ahead : IsAhead s f place tx
+  pub asked : asks (walk_of s.script place) ≡ ask.Commit
+  pub settled : IsPastSilent s.script place
+  pub none : tx.undo.ended ≡ []
+  pub few_ends : length tx.ends ≤ length tx.late
+
+-- an undoing one: the compensations so far have legal ends
+pub record IsUndoing (s : Setting) (f : Following) (tx : TxView) (c : Cause) : Type 0 where
+  pub caused : IsCauseOf c (next_of s.script f tx.replies)
+  pub legal : AreLegal s.rules.undo_tries (length tx.undo.pending + 1) tx.undo.ended
+  pub no_ends : tx.ends ≡ []
+
+-- by its phase
+abbrev pub IsInPhase : Setting → Following → Position → TxView → Phase → Type 0
+IsInPhase s f place tx Running = IsRunning s f place tx
+IsInPhase s f place tx Committing = IsCommitting s f place tx
+IsInPhase s f place tx (Undoing c) = IsUndoing s f tx c
+
+-- the active transaction of a job that the journal tells so far as f
+pub record IsUnderway (s : Setting) (f : Following) (place : Position) (tx : TxView) : Type 0 where
+  pub goes_on : f.starved ≡ false
+  pub left : IsSome (next_body s.script f.job)
+  pub attempts : length f.failed < s.rules.attempts
+  pub rank : tx.rank ≡ unwrap_or f.first tx.number
+  -- it began after its job's entry before
+  pub since : f.since ≤ tx.began
+  pub standing : IsInNextTx f place
+  -- its calls are the script's, and its late calls are as many as were kept for the commit, and start the same blocks
+  pub asked : AsksEach (walk_from s.script f.job) tx.calls tx.replies
+  pub kept : map thread_in tx.late ≡ map thread_asked (kept_of tx.calls tx.replies)
+  -- those replied late, and no others
+  pub in_time : AreInTime tx.calls tx.replies
+  pub stored : tx.me.stored ≤ 16384
+  -- a pair is open at one of its two sides
+  pub sided : All IsSided tx.me.places
+  pub phase : IsInPhase s f place tx tx.phase
+
+-- ---- a job
+-- the attempts are those that the journal tells
+abbrev pub AreAttempts : Following → Option Attempts → Type 0
+AreAttempts f None = (f.first ≡ None) × (f.failed ≡ [])
+AreAttempts f (Some a) =
+    (f.first ≡ Some a.first) × (length f.failed ≡ a.failed) × (1 ≤ a.failed) × (before : List Cause) × (f.failed ≡ before ++ a.last ∷ [])
+
+-- what it does; `begun` transactions have begun in all
+abbrev pub IsDoing : Setting → ℕ → Following → JobView → Doing → Type 0
+IsDoing s begun f job Idle = (f.starved ≡ false) × (job.place ≡ at_begin f.job)
+IsDoing s begun f job (Active tx) = IsUnderway s f job.place tx
+IsDoing s begun f job Starved = (f.starved ≡ true) × IsSome (next_body s.script f.job)
+IsDoing s begun f job (Ended end) = IsEnd s begun f end
+
+-- a job goes on with its story
+pub record StoryHolds (s : Setting) (begun entered : ℕ) (f : Following) (job : JobView) : Type 0 where
+  pub block : f.block ≡ job.block
+  pub fresh : job.me ≡ beginning job.me.places
+  pub sided : All IsSided job.me.places
+  pub since : f.since ≤ entered
+  pub attempts : AreAttempts f job.attempts
+  pub few : length f.failed ≤ s.rules.attempts
+  pub doing : IsDoing s begun f job job.doing
+
+-- ---- numbers and begins, over entries and active transactions
+-- a number, and the length that the journal had at that begin
+abbrev pub entry_begin : Entry → ℕ × ℕ
+entry_begin e = (e.tx, e.began)
+
+-- the same of an active transaction
+abbrev pub active_begin : TxView → ℕ × ℕ
+active_begin tx = (tx.number, tx.began)
+
+-- of all
+abbrev pub begins_of : List Entry → List JobView → List (ℕ × ℕ)
+begins_of journal jobs = map entry_begin journal ++ map active_begin (actives jobs)
+
+-- a greater number didn't begin earlier, and none later than now
+pub record AreBegins (journal : List Entry) (begins : List (ℕ × ℕ)) : Type 0 where
+  pub numbers : IsPermutation (map (λ b. b.0) begins) (counting 1 (length begins))
+  pub order : (a b : ℕ × ℕ) → Contains begins a → Contains begins b → a.0 < b.0 → a.1 ≤ b.1
+  pub by_now : (a : ℕ × ℕ) → Contains begins a → a.1 ≤ length journal
+
+-- ---- what conflicts and revocations are judged by, of active transactions
+-- what the call claims that it is asked next
+abbrev pub wanted_by : ℕ → TxView → Ask → List Claim
+wanted_by words tx (ask.Call call) = claims_of call tx.me words
+wanted_by words tx _ = []
+
+-- why it undoes, or will at its next turn where it is marked
+abbrev pub cause_of_phase : Option Mark → Phase → Option Cause
+cause_of_phase (Some m) Running = Some (revoked m)
+cause_of_phase mark (Undoing c) = Some c
+cause_of_phase None Running = None
+cause_of_phase mark Committing = None
+
+-- what it is asked after its replies
+abbrev pub asked_of_tx : Setting → Option Following → TxView → Ask
+asked_of_tx s None tx = ask.End
+asked_of_tx s (Some f) tx = next_of s.script f tx.replies
+
+-- what they are read by: the setting, the number of words, and the marks
+pub record Reading : Type 0 where
+  pub setting : Setting
+  pub words : ℕ
+  pub marks : ℕ → Option Mark
+
+-- these
+abbrev pub reading : Setting → ℕ → (ℕ → Option Mark) → Reading
+reading s words marks = record { setting = s; words = words; marks = marks }
+
+module _ (r : Reading) where
+  -- an active transaction of the job of this number
+  abbrev pub part_under_way : Option Following → ℕ → TxView → Part
+  part_under_way f number tx =
+      record {
+        number = tx.number;
+        job = number;
+        rank = tx.rank;
+        began = tx.began;
+        held = tx.held;
+        wanted = wanted_by r.words tx (asked_of_tx r.setting f tx);
+        cause = cause_of_phase (r.marks tx.number) tx.phase;
+      }
+
+  -- a job's active transaction, where it has one
+  abbrev pub active_part : Option Following → ℕ → Option TxView → Option Part
+  active_part f number None = None
+  active_part f number (Some tx) = Some (part_under_way f number tx)
+
+  -- of each job, from this number on; the first list is what the journal tells of them
+  abbrev pub active_parts : ℕ → List Following → List JobView → List (Option Part)
+  active_parts number followings [] = []
+  active_parts number [] (job ∷ jobs) = active_part None number (active_of job) ∷ active_parts (number + 1) [] jobs
+  active_parts number (f ∷ followings) (job ∷ jobs) =
+      active_part (Some f) number (active_of job) ∷ active_parts (number + 1) followings jobs
+
+-- what they are judged against, after this journal
+abbrev pub scene_at : Reading → List Entry → List JobView → Scene
+scene_at r journal jobs =
+    let told = (progress_of r.setting.script journal).jobs in
+    scene_of r.setting.tells (entry_parts r.setting journal) (active_parts r 1 told jobs)
+
+-- ---- all together
+-- `words` is the number of words
+pub record StoriesHold (s : Setting) (words : ℕ) (marks : ℕ → Option Mark) (journal : List Entry) (jobs : List JobView) : Type 0 where
+  pub entries : AreTrue s (opening_progress s.script) journal
+  -- the jobs are those that the journal tells
+  pub count : length (progress_of s.script journal).jobs ≡ length jobs
+  pub jobs_told : (at : ℕ) (f : Following) (job : JobView)
+      → slice_get (progress_of s.script journal).jobs at ≡ Some f → slice_get jobs at ≡ Some job
+      → StoryHolds s (length journal + length (actives jobs)) (length journal) f job
+  pub begins : AreBegins journal (begins_of journal jobs)
+  pub few : length journal + length (actives jobs) ≤ 10000
+  pub grounded : AreGrounded (scene_at (reading s words marks) journal jobs)

@@ -1,0 +1,60 @@
+-- Calls on words, by the words alone.
+use Rattle.std.specs.Prelude.{◌≡◌, ℕ, Bool, true, false, List, [], ◌∷◌, length, nat_le, slice_index, slice_set, if◌then◌else◌}
+use Rattle.std.specs.List.{fold}
+use Rattle.xc_data.specs.declared.call.Call.{Call}
+use Rattle.xc_data.specs.declared.call.Call.TheVariants as call
+use Rattle.xc_data.specs.declared.call.Reply.{Reply}
+use Rattle.xc_data.specs.declared.call.Reply.TheVariants.{Number, Done, BadWord}
+
+-- a call on words
+abbrev pub is_word_call : Call → Bool
+is_word_call (call.Load at) = true
+is_word_call (call.Store at value) = true
+is_word_call (call.XOpen name) = false
+is_word_call (call.XCreate name) = false
+is_word_call (call.XRead h n) = false
+is_word_call (call.XWriteOvr h bytes) = false
+is_word_call (call.XWriteSeq h bytes) = false
+is_word_call (call.XSeek h to) = false
+is_word_call (call.XLen h) = false
+is_word_call (call.XRename from to) = false
+is_word_call (call.XClose h) = false
+is_word_call call.XPipe = false
+is_word_call (call.XReadPipe h n) = false
+is_word_call call.XPair = false
+is_word_call (call.XRecvmsg h) = false
+is_word_call (call.XUnlink name slot) = false
+is_word_call (call.XSync h slot) = false
+is_word_call (call.XWritePipe h bytes slot) = false
+is_word_call (call.XShutdown h slot) = false
+is_word_call (call.XSendmsg h bytes slot) = false
+is_word_call (call.XThreadCreate body slot) = false
+
+-- what such a call replies on these words
+abbrev pub word_reply : List ℕ → Call → Reply
+word_reply words (call.Load at) = if nat_le (length words) at then BadWord else Number (slice_index words at)
+word_reply words (call.Store at value) = if nat_le (length words) at then BadWord else Done
+-- it is asked of calls on words alone
+word_reply words _ = BadWord
+
+-- and the words after it
+abbrev pub words_after : List ℕ → Call → List ℕ
+words_after words (call.Store at value) = if nat_le (length words) at then words else slice_set words at value
+-- no other call is on words (`is_word_call`)
+words_after words _ = words
+
+-- the words after several calls
+abbrev pub words_behind : List ℕ → List Call → List ℕ
+words_behind words calls = fold words_after words calls
+
+-- each call on words has its reply, on the words after the calls before it
+abbrev pub AreWordReplies : List ℕ → List Call → List Reply → Type 0
+AreWordReplies words [] replies = replies ≡ []
+AreWordReplies words (call ∷ calls) [] = ⊥
+AreWordReplies words (call ∷ calls) (reply ∷ replies) =
+    (is_word_call call ≡ true → reply ≡ word_reply words call) × AreWordReplies (words_after words call) calls replies
+
+-- a call with this reply leads from one list of words to another
+pub record IsWordStep (from to : List ℕ) (call : Call) (reply : Reply) : Type 0 where
+  pub words : to ≡ words_after from call
+  pub gives : is_word_call call ≡ true → reply ≡ word_reply from call

@@ -1,0 +1,26 @@
+use xc_data::Cause;
+
+/// What an active transaction does.
+///
+/// | Phase | Facts | Left by |
+/// |---|---|---|
+/// | Running | its stores wait; the job stands after its replies | the commit or abort asked, a conflict, lack of memory |
+/// | Committing | its stores are written | the Committed entry |
+/// | Undoing | its stores are dropped; its records are undone, the newest first | the Aborted entry |
+#[derive(Clone, Copy)]
+pub enum Phase {
+    Running,
+    Committing,
+    Undoing(Cause),
+}
+
+/// Attempts at a job's next transaction that met a holder or were revoked.
+#[derive(Clone, Copy)]
+pub struct Attempts {
+    /// The number of the first one, which is the transaction's rank.
+    pub first: u32,
+    /// How many there were, at least one.
+    pub failed: u32,
+    /// Why the last one ended.
+    pub last: Cause,
+}

@@ -1,5 +1,0 @@
-use Rattle.xc_played.proofs.NewEmpty.{made_empty}
-use Rattle.xc_played.proofs.during.what_it_made_is_empty.Goals as goal
-
-pub returns : goal.returns
-returns c = λ s now at tx why older u all active undoes pending. made_empty s now all at active.0 tx why older u active.1 active.2 undoes pending

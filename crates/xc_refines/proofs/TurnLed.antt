@@ -1,0 +1,116 @@
+-- What one entry more leads to.
+use Rattle.std.proofs.Common.{◌≡◌, ◌≢◌, zero, suc, refl, ap₂, length-set, ℕ, ◌+◌, ◌-◌, ◌<◌, List, [], ◌∷◌, ◌++◌, length, ap, sym, ◌∙◌, arith, Some}
+use Rattle.std.specs.Prelude.{map, replicate, slice_get, slice_set, unwrap_or}
+use Rattle.std.proofs.lemmas.List.Sums.{fold_push}
+use Rattle.xc_data.specs.declared.call.CallWithAnswer.{CallWithAnswer}
+use Rattle.xc_data.specs.declared.entry.Cause.{Cause}
+use Rattle.xc_data.specs.declared.entry.Entry.{Entry}
+use Rattle.xc_data.specs.declared.entry.Outcome.{Outcome}
+use Rattle.xc_data.specs.declared.entry.Outcome.TheVariants.{Committed, Aborted}
+use Rattle.xc_data.specs.declared.private.Private.{Private}
+use Rattle.xc_data.specs.declared.private.Place.{Place as Handle}
+use Rattle.xc_text.specs.declared.script.Script.{Script}
+use Rattle.xc_world.specs.World.{beginning, no_handles}
+use Rattle.xc_world.specs.Run.{asked_of, body, run}
+use Rattle.xc_model.specs.Progress.{Following, Progress, untried, private_of, committed_job}
+use Rattle.xc_model.specs.Progress.{following_abort, after_outcome, after_following, words_left, after_entry, opening_progress, progress_of}
+use Rattle.xc_model.specs.Moment.{TxView, JobView}
+use Rattle.xc_model.specs.LateCalls.{started_late}
+use Rattle.xc_data.specs.Calls.{thread_asked, thread_in}
+use Rattle.xc_model.specs.Entering.{entry_of, started_job as seen_started}
+use Rattle.xc_model.proofs.StartedCalls.{started_same}
+use Rattle.xc_script.specs.Slots.{kept_of}
+use Rattle.xc_refines.proofs.Grown.{started_handles}
+use Rattle.std.proofs.lemmas.List.{map-append}
+use Rattle.xc_flight.specs.Turns.{after_commit as world_after_commit, after_abort as world_after_abort}
+use Rattle.xc_refines.specs.InFlight.{flown, ran_at}
+use Rattle.xc_data.proofs.Lists.{get_set_other, get_map, map_set, map_set_same}
+
+get_in_front : {A : Type 0} (xs ys : List A) (j : ℕ) → j < length xs → slice_get (xs ++ ys) j ≡ slice_get xs j
+get_in_front [] ys j low = absurd (omega (arith, low))
+get_in_front (x ∷ xs) ys zero low = refl
+get_in_front (x ∷ xs) ys (suc j) low = get_in_front xs ys j (omega (arith, low))
+
+-- one entry more
+pub progress-more : (script : Script) (journal : List Entry) (e : Entry)
+    → progress_of script (journal ++ e ∷ []) ≡ after_entry script (progress_of script journal) e
+progress-more script journal e = fold_push (after_entry script) (opening_progress script) journal e
+
+-- places count from 0, jobs from 1
+back_one : (at : ℕ) → at + 1 - 1 ≡ at
+back_one at = omega arith
+
+abbrev places_of : JobView → List Handle
+places_of job = job.me.places
+
+-- ---- an entry of the job in this place
+module _ (script : Script) (p : Progress) (f : Following) (jobs : List JobView) (at : ℕ) (job : JobView) (tx : TxView)
+    (there : slice_get jobs at ≡ Some job) (following : slice_get p.jobs at ≡ Some f) (fresh : job.me ≡ beginning job.me.places)
+    (handles : p.state.handles ≡ map (λ (job : JobView). job.me.places) jobs) where
+  -- the journal of its job so far is found
+  led_by : (outcome : Outcome) → after_entry script p (entry_of tx at outcome)
+      ≡ record (after_outcome script p f (entry_of tx at outcome) outcome) { entered = p.entered + 1; words = words_left p.words tx.calls outcome }
+  led_by outcome =
+      let e = entry_of tx at outcome in
+      ap (λ o. record (after_following script p e o) { entered = p.entered + 1; words = words_left p.words tx.calls outcome })
+      (ap (slice_get p.jobs) (back_one at) ∙ following)
+
+  -- its private state at its begin
+  private_is : private_of p.state (at + 1) ≡ job.me
+  private_is = (λ i. beginning (unwrap_or (slice_get (handles i) (back_one at i)) no_handles))
+      ∙ ap (λ o. beginning (unwrap_or o no_handles)) (get_map places_of jobs at job there) ∙ sym fresh
+
+  others_follow : (g : Following) (j : ℕ) → j ≢ at → slice_get (slice_set p.jobs (at + 1 - 1) g) j ≡ slice_get p.jobs j
+  others_follow g j ne = ap (λ k. slice_get (slice_set p.jobs k g) j) (back_one at) ∙ get_set_other p.jobs at j g ne
+
+  -- ---- of a commit
+  abbrev committed : Entry
+  committed = entry_of tx at (Committed tx.ends)
+
+  abbrev behind : Following
+  behind = untried f.block (committed_job script f.job tx.calls tx.replies tx.ends) (p.entered + 1)
+
+  -- the world is its run's
+  pub commit_world : (us : List CallWithAnswer) → (after_entry script p committed).state.world ≡ world_after_commit p.state.world (flown job.me us tx)
+  commit_world us = ap (λ (q : Progress). q.state.world) (led_by (Committed tx.ends))
+      ∙ ap (λ m. (run p.state.world m tx.number (asked_of tx.calls tx.replies) tx.ends).late.world) private_is
+
+  -- the handles are those of its end
+  pub commit_handles : (job' : JobView) → map thread_in tx.late ≡ map thread_asked (kept_of tx.calls tx.replies) → (ran_at p.state.world job.me tx).me ≡ tx.me
+      → job'.me.places ≡ tx.me.places → (after_entry script p committed).state.handles
+      ≡ map (λ (job : JobView). job.me.places) (slice_set jobs at job' ++ map (seen_started script job') (started_late tx.late tx.ends))
+  commit_handles job' kept me places =
+      let end : Private → List Handle = λ m. (body p.state.world m tx.number (asked_of tx.calls tx.replies)).me.places in
+      let mine : end (private_of p.state (at + 1)) ≡ job'.me.places = ap end private_is ∙ ap (λ (m : Private). m.places) me ∙ sym places in
+      ap (λ (q : Progress). q.state.handles) (led_by (Committed tx.ends))
+      ∙ (λ i. slice_set (handles i) (back_one at i) (mine i)
+      ++ replicate (length (sym (started_same tx.late (kept_of tx.calls tx.replies) tx.ends kept) i)) (mine i))
+      ∙ ap₂ (λ a b. a ++ b) (sym (map_set places_of jobs at job')) (started_handles script job' (started_late tx.late tx.ends))
+      ∙ sym (map-append places_of (slice_set jobs at job') (map (seen_started script job') (started_late tx.late tx.ends)))
+
+  -- the other jobs stay
+  pub commit_followings : (j : ℕ) → j ≢ at → j < length p.jobs → slice_get (after_entry script p committed).jobs j ≡ slice_get p.jobs j
+  commit_followings j ne low =
+      let many = length-set p.jobs (at + 1 - 1) behind in
+      ap (λ (q : Progress). slice_get q.jobs j) (led_by (Committed tx.ends))
+      ∙ get_in_front (slice_set p.jobs (at + 1 - 1) behind) _ j (omega (arith, low, many)) ∙ others_follow behind j ne
+
+  -- ---- of an abort
+  abbrev aborted : Cause → Entry
+  aborted c = entry_of tx at (Aborted (record { cause = c; records = tx.undo.ended }))
+
+  -- the world has what remains
+  pub abort_world : (us : List CallWithAnswer) (c : Cause)
+      → (after_entry script p (aborted c)).state.world ≡ world_after_abort p.state.world (flown job.me us tx)
+  abort_world us c = ap (λ (q : Progress). q.state.world) (led_by (Aborted (record { cause = c; records = tx.undo.ended })))
+
+  -- the handles are those of its begin
+  pub abort_handles : (c : Cause) (job' : JobView) → job'.me ≡ job.me
+      → (after_entry script p (aborted c)).state.handles ≡ map (λ (job : JobView). job.me.places) (slice_set jobs at job')
+  abort_handles c job' me = ap (λ (q : Progress). q.state.handles) (led_by (Aborted (record { cause = c; records = tx.undo.ended }))) ∙ handles
+      ∙ sym (map_set_same places_of jobs at job' job there (ap (λ (m : Private). m.places) me))
+
+  -- the other jobs stay
+  pub abort_followings : (c : Cause) (j : ℕ) → j ≢ at → slice_get (after_entry script p (aborted c)).jobs j ≡ slice_get p.jobs j
+  abort_followings c j ne = ap (λ (q : Progress). slice_get q.jobs j) (led_by (Aborted (record { cause = c; records = tx.undo.ended })))
+      ∙ others_follow (following_abort p.entered f (aborted c) c) j ne

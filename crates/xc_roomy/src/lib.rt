@@ -1,0 +1,7 @@
+//! A list that only grows, into room that was made before: what has to be noted once an effect is
+//! done has its place before the effect is begun.
+#![tactic(auto)]
+
+mod roomy;
+
+pub use roomy::Roomy;

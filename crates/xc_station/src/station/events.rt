@@ -1,0 +1,137 @@
+ghost use Rattle.std.specs.Prelude.{◌≡◌, ◌<◌, ◌≤◌, ◌-◌, ℕ, length, None, true, false};
+ghost use Rattle.std.specs.Prelude.{IsNone, MatchOption, Some};
+ghost use Rattle.xc_model.specs.Measure.{turns_left};
+ghost use Rattle.xc_model.specs.Rows.{IsTurn};
+ghost use Rattle.xc_data.specs.declared.entry.Event.TheVariants.{Turned, Picked, Looked};
+ghost use Rattle.xc_station.specs.Waits.{IsFairWait};
+ghost use Rattle.xc_station.specs.Stations.{ChangesOne, IsNextOf, KeepsOpening};
+ghost use Rattle.xc_station.specs.Events.{IsEvent, IsTried};
+ghost use Rattle.xc_station.specs.Stations.{live_at, now_of, setting_of};
+ghost use Rattle.xc_station.specs.Events.{noted};
+
+use crate::Station;
+use xc_data::{Event, Turn};
+use xc_host::Host;
+use xc_turnstile::Chronicle;
+
+impl<H: Host> Station<H> {
+    // One event more, which is the last one from then on.
+    fn note(&mut self, event: Event)
+        ensures noted { self.new ≡ noted self.old event }
+        ensures few { length self.old.journal ≤ 10000 }
+        ensures few_jobs { length self.old.jobs ≤ 1000 }
+    {
+        self.events = self.events.wrapping_add(1);
+        self.last = Some(event);
+    }
+
+    // A turn with this answer was the last event from then on.
+    fn note_turn(&mut self, job: u32, answer: &Turn)
+        ensures noted { self.new ≡ noted self.old (Turned job (Some answer.now)) }
+        ensures few { length self.old.journal ≤ 10000 }
+    {
+        self.note(Event::Turned {
+            job,
+            answer: Some(*answer),
+        });
+    }
+
+    /// One event of the job of this number.
+    ///
+    /// | The job | What the turn does | Answer |
+    /// |---|---|---|
+    /// | idle, no transaction left | it ends | Ended(Done) |
+    /// | idle, as many attempts met a holder or were revoked as the rules allow | it ends | Ended(GaveUp(the last cause)) |
+    /// | idle, who made its last attempt abort is still active, and patience is left | it waits | Busy(the object, that transaction) |
+    /// | idle, 10,000 transactions have begun | it ends | Ended(JournalFull) |
+    /// | idle, no memory for a begin | it ends | Ended(NoMemory) |
+    /// | idle otherwise | its next transaction begins | Went |
+    /// | running, marked | it undoes, with Revoked | Went |
+    /// | running, a call is asked, and nobody holds anything against it | the call is done and noted | Went |
+    /// | running, a call meets a younger holder, patience is left | it waits, and may mark the holder | Busy(the object, the holder) |
+    /// | running, a call is asked, and another holds something against it otherwise | it undoes, with Conflict | Went |
+    /// | running, the commit is asked | its stores are written | Went |
+    /// | running, an abort is asked | it undoes | Went |
+    /// | running, no memory | nothing is noted, but what a call had done at the host is recorded; it undoes | NoMemory |
+    /// | committing, a late call has no end | the first such call is done at the host, or it starts a job | Went |
+    /// | committing, all have one | the Committed entry, with its slots set; its claims end, and the jobs that it started are live | Went |
+    /// | undoing, a record has no end | the newest such record is tried | Went |
+    /// | undoing, all have one | what it took is in front again, the Aborted entry; its claims end | Went |
+    /// | starved by lack of memory | it ends | Ended(NoMemory) |
+    pub fn turn(&mut self, job: u32) -> Turn
+        requires { live_at self.old.jobs job ≡ true }
+        ensures same { KeepsOpening self.old self.new }
+        ensures changes { ChangesOne (job - 1) (now_of H.model self.old) (now_of H.model self.new) }
+        ensures row { IsTurn (setting_of H.model self.old) (job - 1) (now_of H.model self.old) result (now_of H.model self.new) }
+        ensures falls { turns_left (setting_of H.model self.new) (now_of H.model self.new)
+            < turns_left (setting_of H.model self.old) (now_of H.model self.old) }
+        ensures event { IsEvent self.old self.new (Turned job (Some result)) }
+
+        // A transaction waits for a younger one only, and an idle job for who ended its last attempt. Who waits may mark; nobody else.
+        ensures waiting { IsFairWait (setting_of H.model self.old) (job - 1) (now_of H.model self.old) result (now_of H.model self.new) }
+    {
+        let answer = self.advance(job);
+        self.note_turn(job, &answer);
+        answer
+    }
+
+    /// What `turn` does and answers where the job is live; None exactly where it isn't, and then nothing but the events changes.
+    pub fn try_turn(&mut self, job: u32) -> Option<Turn>
+        ensures tried { IsTried H.model job (record { old = self.old; new = self.new }) (live_at self.old.jobs job) result }
+        ensures event { IsEvent self.old self.new (Turned job result) }
+    {
+        if self.live(job) {
+            return Some(self.turn(job));
+        }
+        self.note(Event::Turned { job, answer: None });
+        None
+    }
+
+    /// The live job with the smallest number that isn't taken. It is taken from then on: nothing else changes what is taken, so each
+    /// job is handed out once at most.
+    pub fn next_job(&mut self) -> Option<u32>
+        ensures jobs { self.new.jobs ≡ self.old.jobs }
+        ensures same { (self.new.opening ≡ self.old.opening) × (self.new.rules ≡ self.old.rules)
+            × (now_of H.model self.new ≡ now_of H.model self.old) }
+        ensures first { MatchOption result
+            ((number : ℕ) → self.old.taken < number → live_at self.old.jobs number ≡ false)
+            (λ job. IsNextOf self.old.jobs self.old.taken job × (self.new.taken ≡ job)) }
+        ensures taken { (self.old.taken ≤ self.new.taken) × (self.new.taken ≤ length self.new.jobs) }
+        ensures all { IsNone result → self.new.taken ≡ length self.new.jobs }
+        ensures few { length self.new.jobs ≤ 1000 }
+        ensures event { IsEvent self.old self.new (Picked result) }
+    {
+        let job = self.take_next();
+        self.note(Event::Picked(job));
+        job
+    }
+
+    /// The journal's length. Nothing but the events changes, and it takes no memory.
+    pub fn look(&mut self) -> u32
+        ensures length { result ≡ length self.old.journal }
+        ensures noted { self.new ≡ noted self.old (Looked result) }
+        ensures event { IsEvent self.old self.new (Looked result) }
+    {
+        let length = self.journal.len() as u32;
+        self.note(Event::Looked(length));
+        length
+    }
+}
+
+impl<H: Host> Chronicle for Station<H> {
+    ghost use Rattle.xc_station.specs.Events.{meaning_of};
+
+    ghost meaning = { meaning_of };
+
+    fn len(&self) -> u64 {
+        self.journal.len() as u64
+    }
+
+    fn events(&self) -> u64 {
+        self.events
+    }
+
+    fn last(&self) -> Option<Event> {
+        self.last
+    }
+}

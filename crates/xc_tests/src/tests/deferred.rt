@@ -1,0 +1,54 @@
+use super::{FILE, are_of, host_of, name};
+use Kind::{Lookup, Sync, Unlink};
+use std::alloc::Global;
+use std::test::Fail;
+use xc_buffers::Kept;
+use xc_data::{Kind, LateCall, LateEnd, NoMemory};
+use xc_deferred::Late;
+use xc_testhost::TestHost;
+
+// An unlink of the name `a` and a sync of its file.
+fn late_calls(alloc: Global) -> Result<Late, NoMemory> {
+    let mut late = Late::new(alloc);
+    late.push(LateCall::Unlink(name(b"a")?))?;
+    late.push(LateCall::Sync(FILE))?;
+    Ok(late)
+}
+
+// Does all calls: their ends are these, by these calls of the host.
+fn ends_so(
+    mut host: TestHost,
+    mut late: Late,
+    kept: &Kept,
+    ends: &[LateEnd],
+    calls: &[Kind],
+) -> bool {
+    for _ in 0..9 {
+        if late.has_left() && late.next_thread().is_none() {
+            late.do_one(&mut host, kept);
+        }
+    }
+    late.into_ends().as_slice() == ends && are_of(&host.log, calls)
+}
+
+#[test]
+fn calls_end_in_their_order(rt: HostRuntime) -> Result<(), Fail> {
+    let late = late_calls(rt.alloc())?;
+    let kept = Kept::new(rt.alloc());
+    let host = host_of(rt.alloc(), b"hello")?;
+    let ends = [LateEnd::Done, LateEnd::Done];
+    assert!(rt; ends_so(host, late, &kept, &ends, &[Lookup, Unlink, Sync]));
+    Ok(())
+}
+
+// No host that follows a script runs out of memory for a look.
+#[test]
+fn an_unlink_wants_memory(rt: HostRuntime) -> Result<(), Fail> {
+    let late = late_calls(rt.alloc())?;
+    let kept = Kept::new(rt.alloc());
+    let mut host = host_of(rt.alloc(), b"hello")?;
+    host.starves = true;
+    let ends = [LateEnd::NoMemory(0), LateEnd::Done];
+    assert!(rt; ends_so(host, late, &kept, &ends, &[Lookup, Sync]));
+    Ok(())
+}

@@ -1,0 +1,258 @@
+-- A prologue line keeps what is sound.
+use Rattle.std.proofs.Common.{◌≡◌, ℕ, ◌+◌, ◌<◌, ◌≤◌, List, [], ◌∷◌, ◌++◌, length, Option, None, Some, Result, Ok, Err, IfOk, IfSome, cond}
+use Rattle.std.proofs.Common.{subst, append_assoc, arith, nat_lt, nat_le, ◌||◌, ◌&&◌}
+use Rattle.std.specs.Prelude.{All, count_by, is_some}
+use Rattle.std.specs.List.{list_any}
+use Rattle.std.proofs.lemmas.Bool.{cond_both, ltb-true, ltb-false, leb-false, leb-true, and_parts, or_parts}
+use Rattle.std.proofs.lemmas.List.{length-append, length-replicate, length-set}
+use Rattle.std.proofs.lemmas.List.Elements.{All-push}
+use Rattle.std.proofs.lemmas.List.Sums.{sum_by_push}
+use Rattle.xc_data.specs.declared.script.Kind.{Kind}
+use Rattle.xc_data.specs.declared.script.Opened.{Opened}
+use Rattle.xc_data.specs.declared.script.Opened.TheVariants.{File, Pipe, Pair}
+use Rattle.xc_data.specs.Limits.{IsOpenedFit, is_pipe_line, is_pair_line}
+use Rattle.xc_tokens.specs.Answers.{and_then, seen}
+use Rattle.xc_text.specs.Kinds.{kind}
+use Rattle.xc_text.specs.Said.{Names, Said, opening}
+use Rattle.xc_text.specs.Scripts.{IsOneCall}
+use Rattle.xc_text.specs.Steps.{are_few, is_file_of, sized_by, valued_by, added, faulted, grained}
+use Rattle.xc_text.specs.Steps.{has_room_for_pipe, piped_at, piped, has_room_for_pair, paired_at, paired}
+use Rattle.xc_text.specs.Steps.{filed}
+use Rattle.xc_text.specs.Places.{Placed, variable, placed_two}
+use Rattle.xc_text.proofs.Growing.{Grows, has_place, variable_grows, have_places, variables_grow}
+use Rattle.xc_text.proofs.Sound.{IsSound, Keeps}
+
+-- a line of `words` keeps it
+pub sized-keeps : (r : Said) (n : ℕ) → IsSound r → Keeps (sized_by r n)
+sized-keeps r n k =
+    cond_both (nat_lt n 1 || nat_lt 4096 n) _ _ Keeps (λ _. tt) (λ fits.
+    cond_both (r.sized || r.valued) _ _ Keeps (λ _. tt) (λ _.
+    let parts = or_parts _ _ fits in
+    record {
+      some_words = rw length-replicate (ltb-false _ _ parts.0);
+      few_words = rw length-replicate (ltb-false _ _ parts.1);
+      count = k.count;
+      named = k.named;
+      few_blocks = k.few_blocks;
+      distinct = k.distinct;
+      calls = k.calls;
+      body = k.body;
+      opening = k.opening;
+      each_block = k.each_block;
+      few_variables = k.few_variables;
+      few_slots = k.few_slots;
+      handles = k.handles;
+      each_handle = k.each_handle;
+    }))
+
+-- a line of `word` keeps it
+pub valued-keeps : (r : Said) (at value : ℕ) → IsSound r → Keeps (valued_by r at value)
+valued-keeps r at value k =
+    cond_both (nat_le (length r.words) at) _ _ Keeps (λ _. tt) (λ _.
+    record {
+      some_words = rw length-set k.some_words;
+      few_words = rw length-set k.few_words;
+      count = k.count;
+      named = k.named;
+      few_blocks = k.few_blocks;
+      distinct = k.distinct;
+      calls = k.calls;
+      body = k.body;
+      opening = k.opening;
+      each_block = k.each_block;
+      few_variables = k.few_variables;
+      few_slots = k.few_slots;
+      handles = k.handles;
+      each_handle = k.each_handle;
+    })
+
+-- what follows of an answer of which P holds
+pub then_keeps : {A B E : Type 0} (P : A → Type 0) (Q : B → Type 0) (a : Result A E) (f : A → Result B E) →
+    IfOk a P → ((x : A) → P x → IfOk (f x) Q) → IfOk (and_then a f) Q
+then_keeps P Q (Ok x) f h g = g x h
+then_keeps P Q (Err e) f h g = tt
+
+-- what holds of what a line says holds of it as it is seen
+pub for_seen : {A B E : Type 0} (P : B → Type 0) (f : A → B) (a : Result A E) → IfOk a (λ x. P (f x)) → IfOk (seen f a) P
+for_seen P f (Ok x) h = h
+for_seen P f (Err e) h = tt
+
+pipes_of : (objects : List Opened) (o : Opened) → count_by is_pipe_line (objects ++ o ∷ []) ≡ count_by is_pipe_line objects + cond (is_pipe_line o) 1 0
+pipes_of objects o = sum_by_push (λ x. cond (is_pipe_line x) 1 0) objects o
+
+pairs_of : (objects : List Opened) (o : Opened) → count_by is_pair_line (objects ++ o ∷ []) ≡ count_by is_pair_line objects + cond (is_pair_line o) 1 0
+pairs_of objects o = sum_by_push (λ x. cond (is_pair_line x) 1 0) objects o
+
+added-keeps : (r : Said) (file : List ℕ) (bytes : Option (List ℕ)) → IfSome bytes (λ bs. length bs ≤ 65536) → IsSound r → Keeps (added r file bytes)
+added-keeps r file None few k = tt
+added-keeps r file (Some bytes) few k =
+    cond_both (nat_le 4096 (length r.objects)) _ _ Keeps (λ _. tt) (λ room.
+    record {
+      some_words = k.some_words;
+      few_words = k.few_words;
+      count = k.count;
+      named = k.named;
+      few_blocks = k.few_blocks;
+      distinct = k.distinct;
+      calls = k.calls;
+      body = k.body;
+      opening = record {
+        few = rw length-append (omega (arith, leb-false _ _ room));
+        fit = All-push IsOpenedFit r.objects (File file bytes) k.opening.fit few;
+        pipes = omega (arith, k.opening.pipes, pipes_of r.objects (File file bytes));
+        pairs = omega (arith, k.opening.pairs, pairs_of r.objects (File file bytes));
+        faults = k.opening.faults;
+        grain = k.opening.grain;
+      };
+      each_block = k.each_block;
+      few_variables = k.few_variables;
+      few_slots = k.few_slots;
+      handles = omega (arith, k.handles, pipes_of r.objects (File file bytes), pairs_of r.objects (File file bytes));
+      each_handle = k.each_handle;
+    })
+
+-- a line of `file` keeps it
+pub filed-keeps : (r : Said) (file : List ℕ) (bytes : Option (List ℕ)) → IfSome bytes (λ bs. length bs ≤ 65536) → IsSound r → Keeps (filed r file bytes)
+filed-keeps r file bytes few k =
+    cond_both (list_any (is_file_of file) r.objects) _ _ Keeps (λ _. tt) (λ _. added-keeps r file bytes few k)
+
+-- places of variables stay such
+pub kept_within : (old new : Names) (places : List ℕ) → Grows old new → All (λ v. v < length old.variables) places → All (λ v. v < length new.variables) places
+kept_within old new places grows all = λ i d lt. omega (arith, all i d lt, grows)
+
+piped_at-keeps : (r : Said) (bytes : List ℕ) (p : Placed ℕ) → length bytes ≤ 4096 → p.1 < length p.0.variables → Grows r.names p.0 → IsSound r
+    → Keeps (piped_at r bytes p)
+piped_at-keeps r bytes p few within grows k =
+    cond_both (has_room_for_pipe r.objects && are_few p.0) _ _ Keeps (λ room.
+    let parts = and_parts (has_room_for_pipe r.objects) (are_few p.0) room in
+    let objects = and_parts (nat_lt (length r.objects) 4096) (nat_lt (count_by is_pipe_line r.objects) 64) parts.0 in
+    let names = and_parts (nat_le (length p.0.variables) 256) (nat_le (length p.0.slots) 256) parts.1 in
+    record {
+      some_words = k.some_words;
+      few_words = k.few_words;
+      count = k.count;
+      named = k.named;
+      few_blocks = k.few_blocks;
+      distinct = k.distinct;
+      calls = k.calls;
+      body = k.body;
+      opening = record {
+        few = rw length-append (omega (arith, ltb-true _ _ objects.0));
+        fit = All-push IsOpenedFit r.objects (Pipe bytes) k.opening.fit few;
+        pipes = omega (arith, ltb-true _ _ objects.1, pipes_of r.objects (Pipe bytes));
+        pairs = omega (arith, k.opening.pairs, pairs_of r.objects (Pipe bytes));
+        faults = k.opening.faults;
+        grain = k.opening.grain;
+      };
+      each_block = k.each_block;
+      few_variables = leb-true _ _ names.0;
+      few_slots = leb-true _ _ names.1;
+      handles = rw length-append (omega (arith, k.handles, pipes_of r.objects (Pipe bytes), pairs_of r.objects (Pipe bytes)));
+      each_handle = All-push (λ v. v < length p.0.variables) r.handles p.1 (kept_within r.names p.0 r.handles grows k.each_handle) within;
+    }) (λ _. tt)
+
+-- a line of `pipe` keeps it
+pub piped-keeps : (r : Said) (handle : List ℕ) (bytes : Option (List ℕ)) → IfSome bytes (λ bs. length bs ≤ 4096) → IsSound r → Keeps (piped r handle bytes)
+piped-keeps r handle None few k = tt
+piped-keeps r handle (Some bytes) few k =
+    piped_at-keeps r bytes (variable r.names handle) few (has_place r.names handle) (variable_grows r.names handle) k
+
+-- places of variables, and two more of them
+All-push_two : (P : ℕ → Type 0) (places : List ℕ) (a b : ℕ) → All P places → P a → P b → All P (places ++ a ∷ b ∷ [])
+All-push_two P places a b all first second =
+    subst (All P) (append_assoc places (a ∷ []) (b ∷ [])) (All-push P (places ++ a ∷ []) b (All-push P places a all first) second)
+
+paired_at-keeps : (r : Said) (p : Placed (ℕ × ℕ)) → (p.1.0 < length p.0.variables) × (p.1.1 < length p.0.variables) → Grows r.names p.0
+    → IsSound r → Keeps (paired_at r p)
+paired_at-keeps r p within grows k =
+    cond_both (has_room_for_pair r.objects && are_few p.0) _ _ Keeps (λ room.
+    let parts = and_parts (has_room_for_pair r.objects) (are_few p.0) room in
+    let objects = and_parts (nat_lt (length r.objects) 4096) (nat_lt (count_by is_pair_line r.objects) 32) parts.0 in
+    let names = and_parts (nat_le (length p.0.variables) 256) (nat_le (length p.0.slots) 256) parts.1 in
+    let places = kept_within r.names p.0 r.handles grows k.each_handle in
+    record {
+      some_words = k.some_words;
+      few_words = k.few_words;
+      count = k.count;
+      named = k.named;
+      few_blocks = k.few_blocks;
+      distinct = k.distinct;
+      calls = k.calls;
+      body = k.body;
+      opening = record {
+        few = rw length-append (omega (arith, ltb-true _ _ objects.0));
+        fit = All-push IsOpenedFit r.objects Pair k.opening.fit tt;
+        pipes = omega (arith, k.opening.pipes, pipes_of r.objects Pair);
+        pairs = omega (arith, ltb-true _ _ objects.1, pairs_of r.objects Pair);
+        faults = k.opening.faults;
+        grain = k.opening.grain;
+      };
+      each_block = k.each_block;
+      few_variables = leb-true _ _ names.0;
+      few_slots = leb-true _ _ names.1;
+      handles = rw length-append (omega (arith, k.handles, pipes_of r.objects Pair, pairs_of r.objects Pair));
+      each_handle = All-push_two (λ v. v < length p.0.variables) r.handles p.1.0 p.1.1 places within.0 within.1;
+    }) (λ _. tt)
+
+-- a line of `pair` keeps it
+pub paired-keeps : (r : Said) (first second : List ℕ) → IsSound r → Keeps (paired r first second)
+paired-keeps r first second k =
+    paired_at-keeps r (placed_two r.names first second) (have_places r.names first second) (variables_grow r.names first second) k
+
+-- a line of `fault` keeps it
+pub faulted-keeps : (r : Said) (kind : Kind) (n : ℕ) → IsSound r → Keeps (faulted r kind n)
+faulted-keeps r kind n k =
+    cond_both (nat_lt n 1) _ _ Keeps (λ _. tt) (λ counted.
+    record {
+      some_words = k.some_words;
+      few_words = k.few_words;
+      count = k.count;
+      named = k.named;
+      few_blocks = k.few_blocks;
+      distinct = k.distinct;
+      calls = k.calls;
+      body = k.body;
+      opening = record {
+        few = k.opening.few;
+        fit = k.opening.fit;
+        pipes = k.opening.pipes;
+        pairs = k.opening.pairs;
+        faults = All-push IsOneCall r.faults _ k.opening.faults (ltb-false _ _ counted, refl);
+        grain = k.opening.grain;
+      };
+      each_block = k.each_block;
+      few_variables = k.few_variables;
+      few_slots = k.few_slots;
+      handles = k.handles;
+      each_handle = k.each_handle;
+    })
+
+-- a line of `grain` keeps it
+pub grained-keeps : (r : Said) (n : ℕ) → IsSound r → Keeps (grained r n)
+grained-keeps r n k =
+    cond_both (nat_lt n 1 || nat_lt 65536 n) _ _ Keeps (λ _. tt) (λ fits.
+    cond_both (is_some r.grain) _ _ Keeps (λ _. tt) (λ _.
+    let parts = or_parts _ _ fits in
+    record {
+      some_words = k.some_words;
+      few_words = k.few_words;
+      count = k.count;
+      named = k.named;
+      few_blocks = k.few_blocks;
+      distinct = k.distinct;
+      calls = k.calls;
+      body = k.body;
+      opening = record {
+        few = k.opening.few;
+        fit = k.opening.fit;
+        pipes = k.opening.pipes;
+        pairs = k.opening.pairs;
+        faults = k.opening.faults;
+        grain = (ltb-false _ _ parts.0, ltb-false _ _ parts.1);
+      };
+      each_block = k.each_block;
+      few_variables = k.few_variables;
+      few_slots = k.few_slots;
+      handles = k.handles;
+      each_handle = k.each_handle;
+    }))
