@@ -1,4 +1,4 @@
-ghost use Rattle.std.specs.Prelude.{◌≡◌, ◌↔◌, ◌++◌, ◌∷◌, [], ◌+◌, ◌≤◌, ◌<◌, length, slice_get, Some, IsTrue, IsOk, OnOk, OnErr};
+ghost use Rattle.std.specs.Prelude.{◌≡◌, ◌↔◌, ◌++◌, ◌∷◌, [], ◌+◌, ◌≤◌, ◌<◌, length, slice_get, slice_set, Some, IsTrue, IsOk, OnOk, OnErr};
 
 use std::alloc::Global;
 use std::marker::Model;
@@ -103,5 +103,14 @@ impl<T: Drop> Roomy<T> {
         ensures spare { self.new.spare + 1 ≡ self.old.spare }
     {
         self.items.push_reserved(item);
+    }
+
+    /// Puts another item in the place of one. It takes no memory.
+    pub fn set(&mut self, at: usize, item: T)
+        requires { at < length self.old.items }
+        ensures items { self.new.items ≡ slice_set self.old.items at item }
+        ensures spare { self.new.spare ≡ self.old.spare }
+    {
+        self.items[at] = item;
     }
 }

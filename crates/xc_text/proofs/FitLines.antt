@@ -11,7 +11,7 @@ use Rattle.xc_text.specs.declared.line.Section.TheVariants.{Prologue, Between, B
 use Rattle.xc_tokens.specs.declared.why.Why.TheVariants.{UnknownLine}
 use Rattle.xc_tokens.specs.Answers.{both, seen}
 use Rattle.xc_text.specs.Grammar.{line_of, first_line, worded_line, words_line, word_line, file_line, pipe_line, pair_line}
-use Rattle.xc_text.specs.Grammar.{fault_line, grain_line, job_line, body_line}
+use Rattle.xc_text.specs.Grammar.{fault_line, range, grain_line, job_line, body_line}
 use Rattle.xc_text.specs.Kinds.{kind}
 use Rattle.xc_tokens.specs.Literals.{is_within, contents, only_literals}
 use Rattle.xc_text.specs.Sections.{is_outside}
@@ -65,9 +65,8 @@ pair_fits (v ∷ w ∷ u ∷ ts) = tt
 
 fault_fits : (rest : List Lexeme) → IfOk (fault_line rest) (IsFitLine Prologue)
 fault_fits [] = tt
-fault_fits (k ∷ []) = tt
-fault_fits (k ∷ n ∷ []) = fits_seen Prologue (λ (p : Kind × ℕ). line.Fault p.0 p.1) (both (kind k) (number n)) (λ _. tt)
-fault_fits (k ∷ n ∷ m ∷ ts) = tt
+fault_fits (k ∷ numbers) =
+    fits_seen Prologue (λ (p : Kind × (ℕ × ℕ)). line.Fault p.0 p.1.0 p.1.1) (both (kind k) (range numbers)) (λ _. tt)
 
 grain_fits : (rest : List Lexeme) → IfOk (grain_line rest) (IsFitLine Prologue)
 grain_fits [] = tt

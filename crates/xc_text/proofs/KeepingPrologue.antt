@@ -14,7 +14,7 @@ use Rattle.xc_data.specs.Limits.{IsOpenedFit, is_pipe_line, is_pair_line}
 use Rattle.xc_tokens.specs.Answers.{and_then, seen}
 use Rattle.xc_text.specs.Kinds.{kind}
 use Rattle.xc_text.specs.Said.{Names, Said, opening}
-use Rattle.xc_text.specs.Scripts.{IsOneCall}
+use Rattle.xc_text.specs.Scripts.{AreCalls}
 use Rattle.xc_text.specs.Steps.{are_few, is_file_of, sized_by, valued_by, added, faulted, grained}
 use Rattle.xc_text.specs.Steps.{has_room_for_pipe, piped_at, piped, has_room_for_pair, paired_at, paired}
 use Rattle.xc_text.specs.Steps.{filed}
@@ -200,9 +200,10 @@ paired-keeps r first second k =
     paired_at-keeps r (placed_two r.names first second) (have_places r.names first second) (variables_grow r.names first second) k
 
 -- a line of `fault` keeps it
-pub faulted-keeps : (r : Said) (kind : Kind) (n : ℕ) → IsSound r → Keeps (faulted r kind n)
-faulted-keeps r kind n k =
-    cond_both (nat_lt n 1) _ _ Keeps (λ _. tt) (λ counted.
+pub faulted-keeps : (r : Said) (kind : Kind) (first last : ℕ) → IsSound r → Keeps (faulted r kind first last)
+faulted-keeps r kind first last k =
+    cond_both (nat_lt first 1 || nat_lt last first) _ _ Keeps (λ _. tt) (λ counted.
+    let parts = or_parts _ _ counted in
     record {
       some_words = k.some_words;
       few_words = k.few_words;
@@ -217,7 +218,7 @@ faulted-keeps r kind n k =
         fit = k.opening.fit;
         pipes = k.opening.pipes;
         pairs = k.opening.pairs;
-        faults = All-push IsOneCall r.faults _ k.opening.faults (ltb-false _ _ counted, refl);
+        faults = All-push AreCalls r.faults _ k.opening.faults (ltb-false _ _ parts.0, ltb-false _ _ parts.1);
         grain = k.opening.grain;
       };
       each_block = k.each_block;

@@ -13,7 +13,7 @@ use Rattle.xc_text.specs.declared.line.Section.{Section}
 use Rattle.xc_text.specs.declared.line.Section.TheVariants.{Prologue, Between, Block, Transaction}
 use Rattle.xc_tokens.specs.declared.why.Why.{Why}
 use Rattle.xc_text.specs.Said.{Said, opening}
-use Rattle.xc_text.specs.Scripts.{names_of, IsBlock, IsOneCall, handle_count, prologue_of}
+use Rattle.xc_text.specs.Scripts.{names_of, IsBlock, AreCalls, handle_count, prologue_of}
 use Rattle.xc_text.specs.Steps.{is_call}
 use Rattle.xc_tokens.specs.Words.{name}
 
@@ -34,7 +34,7 @@ pub record IsOpening (p : OnePrologue) : Type 0 where
   pub fit : All IsOpenedFit p.objects
   pub pipes : count_by is_pipe_line p.objects ≤ 64
   pub pairs : count_by is_pair_line p.objects ≤ 32
-  pub faults : All IsOneCall p.faults
+  pub faults : All AreCalls p.faults
   pub grain : IsGrain p.grain
 
 -- the names of the blocks that have ended, and of the one under way
@@ -99,7 +99,7 @@ opening-keeps =
             fit = All-nil IsOpenedFit;
             pipes = omega arith;
             pairs = omega arith;
-            faults = All-nil IsOneCall;
+            faults = All-nil AreCalls;
             grain = tt;
           };
       each_block = All-nil IsBlock;

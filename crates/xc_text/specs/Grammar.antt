@@ -42,10 +42,16 @@ abbrev pub pair_line : List Lexeme → Result Line Why
 pair_line (v ∷ w ∷ []) = seen (λ (p : List ℕ × List ℕ). line.Pair p.0 p.1) (both (ident v) (ident w))
 pair_line _ = Err BadForm
 
--- `fault KIND N`
+-- one number, or the first and the last of several
+abbrev pub range : List Lexeme → Result (ℕ × ℕ) Why
+range (n ∷ []) = seen (λ n. (n, n)) (number n)
+range (n ∷ m ∷ []) = both (number n) (number m)
+range _ = Err BadForm
+
+-- `fault KIND N`, and `fault KIND N M`
 abbrev pub fault_line : List Lexeme → Result Line Why
-fault_line (k ∷ n ∷ []) = seen (λ (p : Kind × ℕ). line.Fault p.0 p.1) (both (kind k) (number n))
-fault_line _ = Err BadForm
+fault_line [] = Err BadForm
+fault_line (k ∷ numbers) = seen (λ (p : Kind × (ℕ × ℕ)). line.Fault p.0 p.1.0 p.1.1) (both (kind k) (range numbers))
 
 -- `grain G`
 abbrev pub grain_line : List Lexeme → Result Line Why

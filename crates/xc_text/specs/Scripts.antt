@@ -68,9 +68,9 @@ pub record IsBlock (b : OneBlock) : Type 0 where
 abbrev pub handle_count : List Opened → ℕ
 handle_count objects = count_by is_pipe_line objects + 2 * count_by is_pair_line objects
 
--- a fault line of one call, counted from 1
-abbrev pub IsOneCall : FaultLine → Type 0
-IsOneCall line = (1 ≤ line.first) × (line.first ≡ line.last)
+-- a fault line of at least one call, counted from 1
+abbrev pub AreCalls : FaultLine → Type 0
+AreCalls line = (1 ≤ line.first) × (line.first ≤ line.last)
 
 -- a script that was read
 pub record IsScript (s : Script) : Type 0 where
@@ -80,7 +80,7 @@ pub record IsScript (s : Script) : Type 0 where
   pub distinct : IsDistinct (pointwise nat_eq) (names_of s.blocks)
   pub named : IsPermutation (s.outline.jobs ++ s.outline.bodies) (names_of s.blocks)
   pub prologue : IsPrologue s.outline.prologue
-  pub faults : All IsOneCall s.outline.prologue.faults
+  pub faults : All AreCalls s.outline.prologue.faults
   pub each_block : All IsBlock s.blocks
   pub few_variables : length s.variables ≤ 256
   pub few_slots : length s.slots ≤ 256

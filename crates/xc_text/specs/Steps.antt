@@ -99,11 +99,11 @@ paired_at s p =
 abbrev pub paired : Said → List ℕ → List ℕ → Result Said Why
 paired s v w = paired_at s (placed_two s.names v w)
 
--- a call of a kind fails, by its number from 1
-abbrev pub faulted : Said → Kind → ℕ → Result Said Why
-faulted s kind n =
-    if nat_lt n 1 then Err BadNumber
-    else Ok (record s { faults = s.faults ++ record { kind = kind; first = n; last = n } ∷ [] })
+-- the calls of a kind fail from one to another, by their numbers from 1
+abbrev pub faulted : Said → Kind → ℕ → ℕ → Result Said Why
+faulted s kind first last =
+    if nat_lt first 1 || nat_lt last first then Err BadNumber
+    else Ok (record s { faults = s.faults ++ record { kind = kind; first = first; last = last } ∷ [] })
 
 -- a grain of 1 to 65,536 bytes, by one line
 abbrev pub grained : Said → ℕ → Result Said Why
@@ -166,7 +166,7 @@ after s (line.Word at value) = valued_by s at value
 after s (line.File name bytes) = filed s name bytes
 after s (line.Pipe name bytes) = piped s name bytes
 after s (line.Pair first second) = paired s first second
-after s (line.Fault kind n) = faulted s kind n
+after s (line.Fault kind first last) = faulted s kind first last
 after s (line.Grain n) = grained s n
 after s (line.Job name) = started s name
 after s (line.Body name) = bodied s name

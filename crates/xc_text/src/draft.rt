@@ -246,7 +246,7 @@ impl Draft {
             Line::File { name, bytes } => self.file(name, bytes),
             Line::Pipe { handle, bytes } => self.pipe(&handle, bytes),
             Line::Pair { first, second } => self.pair(&first, &second),
-            Line::Fault { kind, n } => self.fault(kind, n),
+            Line::Fault { kind, first, last } => self.fault(kind, first, last),
             Line::Grain(n) => self.set_grain(n),
             Line::Job(name) => self.start_job(name),
             Line::Body(name) => self.start_body(name),

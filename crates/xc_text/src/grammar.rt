@@ -3,7 +3,7 @@
 ghost use Rattle.std.specs.Prelude.{◌≡◌, map};
 ghost use Rattle.xc_tokens.specs.Answers.{Gives};
 ghost use Rattle.xc_text.specs.Grammar.{words_line as words_said, word_line as word_said, file_line as file_said, job_line as job_said};
-ghost use Rattle.xc_text.specs.Grammar.{body_line as body_said};
+ghost use Rattle.xc_text.specs.Grammar.{body_line as body_said, range as range_said};
 ghost use Rattle.xc_text.specs.Grammar.{pipe_line as pipe_said, pair_line as pair_said, fault_line as fault_said, grain_line as grain_said};
 ghost use Rattle.xc_text.specs.Grammar.{prologue_line as prologue_said, between_line as between_said};
 ghost use Rattle.xc_tokens.specs.Literals.{only_literals as literals_alone};
@@ -104,15 +104,29 @@ fn body_line<'a>(tokens: &[Token<'a>]) -> Result<Line<'a>, Why>
     }
 }
 
+// One number, or the first and the last of several.
+fn range(tokens: &[Token<'_>]) -> Result<(u64, u64), Why>
+    ensures { result ≡ range_said (map lexeme tokens.now) }
+{
+    match tokens {
+        [n] => {
+            let n = number(n)?;
+            Ok((n, n))
+        }
+        [first, last] => both(number(first), number(last)),
+        _ => Err(Why::BadForm),
+    }
+}
+
 fn fault_line<'a>(tokens: &[Token<'a>]) -> Result<Line<'a>, Why>
     ensures { result ≡ fault_said (map lexeme tokens.now) }
 {
     match tokens {
-        [kind_token, n] => {
-            let (kind, n) = both(kind(kind_token), number(n))?;
-            Ok(Line::Fault { kind, n })
+        [] => Err(Why::BadForm),
+        [kind_token, numbers @ ..] => {
+            let (kind, (first, last)) = both(kind(kind_token), range(numbers))?;
+            Ok(Line::Fault { kind, first, last })
         }
-        _ => Err(Why::BadForm),
     }
 }
 

@@ -72,10 +72,11 @@ pub enum Line<'a> {
         first: IdentWord<'a>,
         second: IdentWord<'a>,
     },
-    /// The nth call of a kind fails.
+    /// The calls of a kind from the `first` to the `last` fail.
     Fault {
         kind: Kind,
-        n: u64,
+        first: u64,
+        last: u64,
     },
     /// The most bytes of one read or write.
     Grain(u64),

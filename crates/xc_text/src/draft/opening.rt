@@ -95,17 +95,13 @@ impl Draft {
         Ok(())
     }
 
-    pub(super) fn fault(&mut self, kind: Kind, n: u64) -> Result<(), Stop>
-        ensures { Gives (λ _. self.new) result (faulted self.old kind n) }
+    pub(super) fn fault(&mut self, kind: Kind, first: u64, last: u64) -> Result<(), Stop>
+        ensures { Gives (λ _. self.new) result (faulted self.old kind first last) }
     {
-        if n < 1 {
+        if first < 1 || last < first {
             return Err(Stop::Refused(Why::BadNumber));
         }
-        self.faults.push(FaultLine {
-            kind,
-            first: n,
-            last: n,
-        })?;
+        self.faults.push(FaultLine { kind, first, last })?;
         Ok(())
     }
 
