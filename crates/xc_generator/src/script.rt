@@ -1,4 +1,4 @@
-ghost use Rattle.std.specs.Prelude.{◌≡◌, ◌++◌, ◌*◌, ◌+◌, ◌-◌, ◌≤◌, ◌<◌, ◌^◌, codes, IfOk, OnOk, string_bytes};
+ghost use Rattle.std.specs.Prelude.{◌≡◌, ◌++◌, ◌*◌, codes, IfOk, OnOk, string_bytes};
 ghost use Rattle.std.specs.Fmt.{decimal};
 ghost use Rattle.xc_generator.specs.Draws.{state};
 ghost use Rattle.xc_generator.specs.Generated.{word_line, taking_lines, giving_lines, logging_lines, transfer_lines};
@@ -9,7 +9,6 @@ use crate::transfer::Transfer;
 use std::alloc::Global;
 use xc_data::{NoMemory, Text};
 
-#[tactic(auto, using(crate::proofs::Runs::texts_begin, crate::proofs::Runs::texts_end))]
 fn push_words(out: &mut String, count: u64) -> Result<(), NoMemory>
     ensures { OnOk result (string_bytes out.new ≡ string_bytes out.old ++ texts word_line 0 count) }
 {
@@ -57,7 +56,7 @@ fn push_transfer(out: &mut String, transfer: Transfer) -> Result<(), NoMemory>
     push_logging(out, transfer)
 }
 
-#[tactic(auto, using(crate::proofs::Runs::texts_begin, crate::proofs::Runs::texts_end, crate::proofs::Runs::state_begins))]
+#[tactic(auto, using(crate::proofs::Runs::state_begins))]
 fn push_transactions(out: &mut String, draws: &mut Draws, count: u64) -> Result<(), NoMemory>
     ensures text { OnOk result (string_bytes out.new ≡ string_bytes out.old ++ texts (transaction draws.old.state) 0 count) }
     ensures state { OnOk result (draws.new.state ≡ state draws.old.state (3 * count)) }
@@ -79,9 +78,8 @@ fn push_job(out: &mut String, draws: &mut Draws, number: u64) -> Result<(), NoMe
     Ok(())
 }
 
-#[tactic(auto, using(crate::proofs::Runs::texts_begin, crate::proofs::Runs::texts_end, crate::proofs::Runs::state_begins))]
+#[tactic(auto, using(crate::proofs::Runs::state_begins))]
 fn push_jobs(out: &mut String, seed: u64, count: u64) -> Result<(), NoMemory>
-    requires { count < 2 ^ 63 }
     ensures { OnOk result (string_bytes out.new ≡ string_bytes out.old ++ texts (job_lines seed) 1 count) }
 {
     let mut draws = Draws { state: seed };
