@@ -4,6 +4,8 @@ use Rattle.std.specs.Prelude.{Option, Result, Ok, Err}
 use Rattle.std.specs.declared.option.Option.TheVariants.{None, Some}
 use Rattle.std.specs.Prelude.{Bool, true, false, ◌||◌, ◌&&◌, IfSome, IsTrue}
 use Rattle.std.specs.List.{list_any}
+use Rattle.std.specs.Option.{option_and_then, option_map}
+use Rattle.xc_data.specs.Step.{Step}
 use Rattle.xc_data.specs.declared.entry.JobEnd.{JobEnd}
 use Rattle.xc_data.specs.declared.entry.JobEnd.TheVariants as job_end
 use Rattle.xc_data.specs.declared.entry.JobLine.{JobLine}
@@ -22,7 +24,7 @@ use Rattle.xc_app.specs.declared.finish.Status.TheVariants as status
 use Rattle.xc_edge.specs.Streams.{AppendsWhole}
 use Rattle.xc_edge.specs.View.{StreamView}
 use Rattle.xc_host.specs.Model.{HostModel}
-use Rattle.xc_app.specs.Headline.{IsRead, IsRefusal, is_refused_by, IsUnscripted, AreScript, IsCaused, IsDone, IsDue, IsRun}
+use Rattle.xc_app.specs.Headline.{IsInput, IsRefusal, is_refused_by, IsUnscripted, AreScript, IsCaused, IsDone, IsDue, IsRun, input_of, seed_of, written_of}
 use Rattle.xc_app.specs.Headline.{IsDoneWith, IsSaidPlainly, RunsAlone}
 use Rattle.xc_app.specs.Headline.{end_text, starves, is_given_up, gives_up}
 use Rattle.xc_app.specs.Outcomes.{IsOfBytes}
@@ -61,49 +63,68 @@ came_told limit None after bytes taken bound end = tt
 came_told limit (Some told) None bytes taken bound end = absurd taken
 came_told limit (Some told) (Some rest) bytes taken bound end = came_at limit told rest bytes taken bound end
 
+-- the bytes that are run are those that are known beforehand
+input_told : (seed : Option ℕ) (source : Step StreamView) (bytes : List ℕ) → IsInput seed source bytes
+    → IfSome (input_of seed source.old.bytes) (λ known. known ≡ bytes)
+input_told None source bytes came =
+    as_taken source.old.bytes (came_told 1048577 source.old.bytes source.new.bytes bytes came.taken came.bound came.end)
+  where
+    as_taken : (o : Option (List ℕ)) → IfSome o (λ told. take 1048577 told ≡ bytes) → IfSome (option_map (take 1048577) o) (λ known. known ≡ bytes)
+    as_taken None same = tt
+    as_taken (Some told) same = same
+input_told (Some seed) source bytes input = sym input.1
+
 -- the bytes are a script that the host follows
 abbrev AreFollowed : Bool → List ℕ → Type 0
 AreFollowed takes bytes = (script : Script) × (parse_of bytes ≡ Ok script) × (is_refused_by takes script ≡ false)
 
-are_followed : (takes : Bool) (left : Option (List ℕ)) (bytes : List ℕ) → AreScript takes left
-    → IfSome left (λ told. take 1048577 told ≡ bytes) → AreFollowed takes bytes
+are_followed : (takes : Bool) (known : Option (List ℕ)) (bytes : List ℕ) → AreScript takes known → IfSome known (λ k. k ≡ bytes)
+    → AreFollowed takes bytes
 are_followed takes None bytes script same = absurd script
-are_followed takes (Some told) bytes (script, read, followed) same = (script, ap parse_of (sym same) ∙ read, followed)
+are_followed takes (Some known) bytes (script, read, followed) same = (script, ap parse_of (sym same) ∙ read, followed)
 
-read_followed : (takes : Bool) (old new : StreamView) (bytes : List ℕ) → AreScript takes old.bytes → IsRead old new bytes → AreFollowed takes bytes
-read_followed takes old new bytes script came =
-    are_followed takes old.bytes bytes script (came_told 1048577 old.bytes new.bytes bytes came.taken came.bound came.end)
+input_followed : (takes : Bool) (seed : Option ℕ) (source : Step StreamView) (bytes : List ℕ) → AreScript takes (input_of seed source.old.bytes)
+    → IsInput seed source bytes → AreFollowed takes bytes
+input_followed takes seed source bytes script input =
+    are_followed takes (input_of seed source.old.bytes) bytes script (input_told seed source bytes input)
 
 ok_is_err : (r : Result Script (ℕ × Why)) (s : Script) (e : ℕ × Why) → r ≡ Ok s → r ≡ Err e → ⊥
 ok_is_err (Ok t) s e ok is = cc
 ok_is_err (Err f) s e ok is = cc
 
-never_refused : (takes : Bool) (old new : StreamView) (line : ℕ) (why : Why) → AreScript takes old.bytes → IsRefusal old new line why → ⊥
-never_refused takes old new line why script (bytes, came, e) =
-    let followed = read_followed takes old new bytes script came in ok_is_err (parse_of bytes) followed.0 (line, why) followed.1 e
+never_refused : (takes : Bool) (seed : Option ℕ) (source : Step StreamView) (line : ℕ) (why : Why)
+    → AreScript takes (input_of seed source.old.bytes) → IsRefusal seed source line why → ⊥
+never_refused takes seed source line why script (bytes, input, e) =
+    let followed = input_followed takes seed source bytes script input in ok_is_err (parse_of bytes) followed.0 (line, why) followed.1 e
 
 ok_both : (r : Result Script (ℕ × Why)) (s t : Script) → r ≡ Ok s → r ≡ Ok t → s ≡ t
 ok_both (Ok u) s t p q = let both : Ok s ≡ Ok t = sym p ∙ q in cc
 ok_both (Err f) s t p q = cc
 
-never_unscripted : (takes : Bool) (old new : StreamView) → AreScript takes old.bytes → IsUnscripted takes old new → ⊥
-never_unscripted takes old new script (bytes, other, came, e, refused) =
-    let followed = read_followed takes old new bytes script came in
+never_unscripted : (takes : Bool) (seed : Option ℕ) (source : Step StreamView) → AreScript takes (input_of seed source.old.bytes)
+    → IsUnscripted takes seed source → ⊥
+never_unscripted takes seed source script (bytes, other, input, e, refused) =
+    let followed = input_followed takes seed source bytes script input in
     let same : followed.0 ≡ other = ok_both (parse_of bytes) followed.0 other followed.1 e in
     let no : true ≡ false = sym refused ∙ ap (is_refused_by takes) (sym same) ∙ followed.2 in
     cc
 
--- the status of bytes that were read has its cause
-pub caused_by_bytes : (words : List (List ℕ)) (chosen : Chosen) (takes : Bool) (old new : StreamView) (s : Status) → settings_of words ≡ Some chosen
-    → IsOfBytes s → ((line : ℕ) (why : Why) → s ≡ status.Refused line why → IsRefusal old new line why)
-    → (s ≡ status.NotScripted → IsUnscripted takes old new) → IsCaused words takes old new s
-caused_by_bytes words chosen takes old new s chose answer refused unscripted = record {
+-- the seed of the words is that of what they choose
+pub same_seed : (words : List (List ℕ)) (chosen : Chosen) → settings_of words ≡ Some chosen → seed_of words ≡ chosen.seed
+same_seed words chosen chose = ap (option_and_then (λ (c : Chosen). c.seed)) chose
+
+-- the status of bytes that were run has its cause
+pub caused_by_bytes : (words : List (List ℕ)) (chosen : Chosen) (takes : Bool) (source : Step StreamView) (s : Status) → settings_of words ≡ Some chosen
+    → IsOfBytes s → ((line : ℕ) (why : Why) → s ≡ status.Refused line why → IsRefusal chosen.seed source line why)
+    → (s ≡ status.NotScripted → IsUnscripted takes chosen.seed source) → IsCaused words takes source s
+caused_by_bytes words chosen takes source s chose answer refused unscripted = record {
   usage = λ e. absurd (no_usage s answer e);
   refused_words = λ none. absurd (chooses chosen (sym chose ∙ none));
-  refused = refused;
-  unscripted = unscripted;
+  refused = λ line why e. subst (λ seed. IsRefusal seed source line why) (sym (same_seed words chosen chose)) (refused line why e);
+  unscripted = λ e. subst (λ seed. IsUnscripted takes seed source) (sym (same_seed words chosen chose)) (unscripted e);
   read_fault = λ e. absurd (no_fault s answer e);
-  complete = λ _ _ script. done_of takes old new s answer refused unscripted script;
+  complete = λ _ _ script. done_of s answer refused unscripted
+      (subst (λ seed. AreScript takes (input_of seed source.old.bytes)) (same_seed words chosen chose) script);
 } where
   chooses : (c : Chosen) → Some c ≡ None → ⊥
   chooses c e = cc
@@ -114,19 +135,17 @@ caused_by_bytes words chosen takes old new s chose answer refused unscripted = r
   no_fault : (s : Status) → IsOfBytes s → s ≡ status.ReadFault → ⊥
   no_fault s answer e = subst IsOfBytes e answer
 
-  done_of : (takes : Bool) (old new : StreamView) (s : Status) → IsOfBytes s
-      → ((line : ℕ) (why : Why) → s ≡ status.Refused line why → IsRefusal old new line why)
-      → (s ≡ status.NotScripted → IsUnscripted takes old new) → AreScript takes old.bytes → IsDone s
-  done_of takes old new status.Done answer refused unscripted script = tt
-  done_of takes old new status.Left answer refused unscripted script = tt
-  done_of takes old new status.GaveUp answer refused unscripted script = tt
-  done_of takes old new status.NoMemory answer refused unscripted script = tt
-  done_of takes old new (status.Refused line why) answer refused unscripted script = absurd (never_refused takes old new line why script
-      (refused line why refl))
-  done_of takes old new status.NotScripted answer refused unscripted script = absurd (never_unscripted takes old new script (unscripted refl))
-  done_of takes old new status.Usage answer refused unscripted script = absurd answer
-  done_of takes old new status.ReadFault answer refused unscripted script = absurd answer
-  done_of takes old new status.WriteFault answer refused unscripted script = absurd answer
+  done_of : (s : Status) → IsOfBytes s → ((line : ℕ) (why : Why) → s ≡ status.Refused line why → IsRefusal chosen.seed source line why)
+      → (s ≡ status.NotScripted → IsUnscripted takes chosen.seed source) → AreScript takes (input_of chosen.seed source.old.bytes) → IsDone s
+  done_of status.Done answer refused unscripted script = tt
+  done_of status.Left answer refused unscripted script = tt
+  done_of status.GaveUp answer refused unscripted script = tt
+  done_of status.NoMemory answer refused unscripted script = tt
+  done_of (status.Refused line why) answer refused unscripted script = absurd (never_refused takes chosen.seed source line why script (refused line why refl))
+  done_of status.NotScripted answer refused unscripted script = absurd (never_unscripted takes chosen.seed source script (unscripted refl))
+  done_of status.Usage answer refused unscripted script = absurd answer
+  done_of status.ReadFault answer refused unscripted script = absurd answer
+  done_of status.WriteFault answer refused unscripted script = absurd answer
 
 -- ---- a run that is done
 or_false : (a b : Bool) → a || b ≡ false → (a ≡ false) × (b ≡ false)
@@ -155,58 +174,56 @@ all_fed : {H : Type 0} (end : End H) → starves end ≡ false → list_any is_s
 all_fed end fed = (or_false (list_any is_starved end.jobs) (some_late_starved end.journal.items) fed).0
 
 -- a run whose whole text is due, without a job that starved or gave up, is done
-pub done_with : {H : Type 0} (model : HostModel H) (words : List (List ℕ)) (old new : StreamView) (host : H) (s : Status) (o : Option (End H)) (due : List ℕ)
-    → IsDue s o due → IfSome o (IsRun model words (record { old = old; new = new }) host) → IsDoneWith s o
-done_with model words old new host status.Done None due h run = h
-done_with model words old new host status.Done (Some end) due h (chosen, chose, bytes, came, (read, run)) =
+pub done_with : {H : Type 0} (model : HostModel H) (words : List (List ℕ)) (source : Step StreamView) (host : H) (seed : Option ℕ) (s : Status)
+    (o : Option (End H)) (due : List ℕ) → IsDue seed s o due → IfSome o (IsRun model words source host) → IsDoneWith s o
+done_with model words source host seed status.Done None due h run = h
+done_with model words source host seed status.Done (Some end) due h (chosen, chose, bytes, came, (read, run)) =
     let whole = run.whole in
     let s = setting end.opening.script chosen.rules model.tells in
     whole.complete
     (all_done_of s (length end.journal.items) (progress_of end.opening.script end.journal.items).jobs end.jobs whole.ends
     (all_fed end h.1) h.3)
-done_with model words old new host status.Left None due h run = h
-done_with model words old new host status.Left (Some end) due h (chosen, chose, bytes, came, (read, run)) = λ none.
+done_with model words source host seed status.Left None due h run = h
+done_with model words source host seed status.Left (Some end) due h (chosen, chose, bytes, came, (read, run)) = λ none.
     let whole = run.whole in
     let s = setting end.opening.script chosen.rules model.tells in
     whole.complete
     (all_done_of s (length end.journal.items) (progress_of end.opening.script end.journal.items).jobs end.jobs whole.ends
     (all_fed end h.1) none)
-done_with model words old new host status.GaveUp o due h run = tt
-done_with model words old new host (status.Refused line why) o due h run = tt
-done_with model words old new host status.Usage o due h run = tt
-done_with model words old new host status.ReadFault o due h run = tt
-done_with model words old new host status.WriteFault o due h run = tt
-done_with model words old new host status.NotScripted o due h run = tt
-done_with model words old new host status.NoMemory o due h run = tt
+done_with model words source host seed status.GaveUp o due h run = tt
+done_with model words source host seed (status.Refused line why) o due h run = tt
+done_with model words source host seed status.Usage o due h run = tt
+done_with model words source host seed status.ReadFault o due h run = tt
+done_with model words source host seed status.WriteFault o due h run = tt
+done_with model words source host seed status.NotScripted o due h run = tt
+done_with model words source host seed status.NoMemory o due h run = tt
 
 same_choice : (a b : Chosen) (o : Option Chosen) → o ≡ Some a → o ≡ Some b → a ≡ b
 same_choice a b o one two = let both : Some a ≡ Some b = sym one ∙ two in cc both
 
 -- where the whole text is due its lines but those on kept data are the script's alone
-plain_due : {H : Type 0} (model : HostModel H) (words : List (List ℕ)) (old new : StreamView) (host : H) (end : End H) (due : List ℕ)
-    (before after : StreamView)
-    → due ≡ end_text end → starves end ≡ false → IsRun model words (record { old = old; new = new }) host end → AppendsWhole before after due
-    → IsTrue model.tells
-    → IsSaidPlainly words before after end
-plain_due model words old new host end due before after text fed (by, chose, bytes, came, (read, run)) wrote tells = λ chosen again alone faults.
+plain_due : {H : Type 0} (model : HostModel H) (words : List (List ℕ)) (source : Step StreamView) (host : H) (end : End H) (due : List ℕ)
+    (before after : StreamView) → due ≡ written_of (seed_of words) end → starves end ≡ false → IsRun model words source host end
+    → AppendsWhole before after due → IsTrue model.tells → IsSaidPlainly words before after end
+plain_due model words source host end due before after text fed (by, chose, bytes, input, (read, run)) wrote tells = λ chosen again alone faults.
     let one : by ≡ chosen = same_choice by chosen (settings_of words) chose again in
-    (subst (AppendsWhole before after) text wrote, run.plain (subst RunsAlone (sym one) alone) tells faults fed)
+    let unseeded : seed_of words ≡ None = same_seed words chosen again ∙ alone.seed in
+    (subst (AppendsWhole before after) (text ∙ ap (λ seed. written_of seed end) unseeded) wrote, run.plain (subst RunsAlone (sym one) alone) tells faults fed)
 
 -- what a run has written is the text of its script alone, but where memory ran out
-pub plainly : {H : Type 0} (model : HostModel H) (words : List (List ℕ)) (old new : StreamView) (host : H) (s : Status) (o : Option (End H)) (due : List ℕ)
-    (before after : StreamView) → IsDue s o due → IfSome o (IsRun model words (record { old = old; new = new }) host) → AppendsWhole before after due
-    → IsTrue model.tells
-    → s ≢ status.NoMemory → IfSome o (IsSaidPlainly words before after)
-plainly model words old new host s None due before after h run wrote tells not = tt
-plainly model words old new host status.Done (Some end) due before after h run wrote tells not =
-    plain_due model words old new host end due before after h.0 h.1 run wrote tells
-plainly model words old new host status.Left (Some end) due before after h run wrote tells not =
-    plain_due model words old new host end due before after h.0 h.1 run wrote tells
-plainly model words old new host status.GaveUp (Some end) due before after h run wrote tells not =
-    plain_due model words old new host end due before after h.0 h.1 run wrote tells
-plainly model words old new host status.NoMemory (Some end) due before after h run wrote tells not = absurd (not refl)
-plainly model words old new host (status.Refused line why) (Some end) due before after h run wrote tells not = absurd h
-plainly model words old new host status.Usage (Some end) due before after h run wrote tells not = absurd h
-plainly model words old new host status.ReadFault (Some end) due before after h run wrote tells not = absurd h
-plainly model words old new host status.WriteFault (Some end) due before after h run wrote tells not = absurd h
-plainly model words old new host status.NotScripted (Some end) due before after h run wrote tells not = absurd h
+pub plainly : {H : Type 0} (model : HostModel H) (words : List (List ℕ)) (source : Step StreamView) (host : H) (s : Status) (o : Option (End H))
+    (due : List ℕ) (before after : StreamView) → IsDue (seed_of words) s o due → IfSome o (IsRun model words source host)
+    → AppendsWhole before after due → IsTrue model.tells → s ≢ status.NoMemory → IfSome o (IsSaidPlainly words before after)
+plainly model words source host s None due before after h run wrote tells not = tt
+plainly model words source host status.Done (Some end) due before after h run wrote tells not =
+    plain_due model words source host end due before after h.0 h.1 run wrote tells
+plainly model words source host status.Left (Some end) due before after h run wrote tells not =
+    plain_due model words source host end due before after h.0 h.1 run wrote tells
+plainly model words source host status.GaveUp (Some end) due before after h run wrote tells not =
+    plain_due model words source host end due before after h.0 h.1 run wrote tells
+plainly model words source host status.NoMemory (Some end) due before after h run wrote tells not = absurd (not refl)
+plainly model words source host (status.Refused line why) (Some end) due before after h run wrote tells not = absurd h
+plainly model words source host status.Usage (Some end) due before after h run wrote tells not = absurd h
+plainly model words source host status.ReadFault (Some end) due before after h run wrote tells not = absurd h
+plainly model words source host status.WriteFault (Some end) due before after h run wrote tells not = absurd h
+plainly model words source host status.NotScripted (Some end) due before after h run wrote tells not = absurd h

@@ -2,6 +2,7 @@
 use Rattle.std.specs.Prelude.{◌≡◌, ℕ, ◌⊎◌, ◌&&◌, Bool, true, false, not, nat_lt, List, [], take, sum_by, IsSome, IsTrue, Option, Ok, Err}
 use Rattle.std.specs.declared.option.Option.TheVariants.{None, Some}
 use Rattle.std.specs.List.{list_any}
+use Rattle.std.specs.Option.{option_and_then, option_map}
 use Rattle.xc_data.specs.declared.entry.JobEnd.{JobEnd}
 use Rattle.xc_data.specs.declared.entry.JobEnd.TheVariants as job_end
 use Rattle.xc_data.specs.declared.entry.JobLine.{JobLine}
@@ -25,6 +26,8 @@ use Rattle.xc_model.specs.Serial.{IsSerial}
 use Rattle.xc_tokens.specs.declared.why.Why.{Why}
 use Rattle.xc_text.specs.Scripts.{parse_of}
 use Rattle.xc_serial.specs.Plain.{plain_text}
+use Rattle.xc_generator.specs.Generated.{generated}
+use Rattle.xc_generator.specs.Summary.{summary_of}
 use Rattle.xc_app.specs.declared.finish.Finish.{Finish}
 use Rattle.xc_app.specs.declared.finish.Status.{Status}
 use Rattle.xc_app.specs.declared.finish.Status.TheVariants as status
@@ -36,29 +39,45 @@ use Rattle.xc_app.specs.Lines.{usage_line, read_fault_line, no_memory_line, not_
 abbrev pub IsRead : StreamView → StreamView → List ℕ → Type 0
 IsRead old new bytes = Came 1048577 old new bytes
 
--- the bytes read are no script, and this is the first bad line with its first reason
-abbrev pub IsRefusal : StreamView → StreamView → ℕ → Why → Type 0
-IsRefusal old new line why = (bytes : List ℕ) × IsRead old new bytes × (parse_of bytes ≡ Err (line, why))
+-- these bytes are run: with a seed those that are generated, and then nothing is read; otherwise those that are read
+abbrev pub IsInput : Option ℕ → Step StreamView → List ℕ → Type 0
+IsInput None source bytes = IsRead source.old source.new bytes
+IsInput (Some seed) source bytes = (source.new ≡ source.old) × (bytes ≡ generated seed)
+
+-- the seed that the words choose, if they choose one
+abbrev pub seed_of : List (List ℕ) → Option ℕ
+seed_of words = option_and_then (λ (chosen : Chosen). chosen.seed) (settings_of words)
+
+-- the bytes are no script, and this is the first bad line with its first reason
+abbrev pub IsRefusal : Option ℕ → Step StreamView → ℕ → Why → Type 0
+IsRefusal seed source line why = (bytes : List ℕ) × IsInput seed source bytes × (parse_of bytes ≡ Err (line, why))
 
 -- the script has a line that this host can't follow
 abbrev pub is_refused_by : Bool → Script → Bool
 is_refused_by takes_scripts script = not takes_scripts && needs_scripted script.outline.prologue
 
--- the bytes read are a script with a line that this host can't follow
-abbrev pub IsUnscripted : Bool → StreamView → StreamView → Type 0
-IsUnscripted takes_scripts old new =
-    (bytes : List ℕ) × (script : Script) × IsRead old new bytes × (parse_of bytes ≡ Ok script) × (is_refused_by takes_scripts script ≡ true)
+-- the bytes are a script with a line that this host can't follow
+abbrev pub IsUnscripted : Bool → Option ℕ → Step StreamView → Type 0
+IsUnscripted takes_scripts seed source =
+    (bytes : List ℕ) × (script : Script) × IsInput seed source bytes × (parse_of bytes ≡ Ok script)
+    × (is_refused_by takes_scripts script ≡ true)
 
--- the told bytes, up to those that are read, are a script that this host follows
+-- the bytes that are run, if they are known beforehand: of the told ones those that are read
+abbrev pub input_of : Option ℕ → Option (List ℕ) → Option (List ℕ)
+input_of None told = option_map (take 1048577) told
+input_of (Some seed) told = Some (generated seed)
+
+-- they are known, and are a script that this host follows
 abbrev pub AreScript : Bool → Option (List ℕ) → Type 0
 AreScript takes_scripts None = ⊥
 AreScript takes_scripts (Some bytes) =
-    (script : Script) × (parse_of (take 1048577 bytes) ≡ Ok script) × (is_refused_by takes_scripts script ≡ false)
+    (script : Script) × (parse_of bytes ≡ Ok script) × (is_refused_by takes_scripts script ≡ false)
 
 -- ---- the run
--- one worker, and no schedule: jobs run one after another
+-- one worker, and neither a schedule nor a seed: jobs run one after another
 pub record RunsAlone (chosen : Chosen) : Type 0 where
   pub schedule : chosen.schedule ≡ None
+  pub seed : chosen.seed ≡ None
   pub workers : chosen.workers ≡ 1
 
 -- some job ended for lack of memory, or some late call did
@@ -68,6 +87,11 @@ starves end = wanted_memory end.jobs end.journal.items
 -- the text of a run's end
 abbrev pub end_text : {H : Type 0} → End H → List ℕ
 end_text end = rendered end.journal.items end.jobs end.words end.kept
+
+-- what is written of it: the text, or with a seed the line that sums it up
+abbrev pub written_of : {H : Type 0} → Option ℕ → End H → List ℕ
+written_of None end = end_text end
+written_of (Some seed) end = summary_of end.journal.items end.words seed
 
 -- its lines but those on kept data: the text as it were if nothing was kept
 abbrev pub lines_but_kept : {H : Type 0} → End H → List ℕ
@@ -106,10 +130,10 @@ module _ {H : Type 0} (model : HostModel H) where
   abbrev pub IsRunOf : List ℕ → Chosen → H → End H → Type 0
   IsRunOf bytes chosen host end = (parse_of bytes ≡ Ok end.opening.script) × IsRunOver chosen host end
 
-  -- the words chose something, bytes were read from the source, and this is the end of their run
+  -- the words chose something, bytes were read from the source or generated, and this is the end of their run
   abbrev pub IsRun : List (List ℕ) → Step StreamView → H → End H → Type 0
   IsRun words source host end =
-      (chosen : Chosen) × (settings_of words ≡ Some chosen) × (bytes : List ℕ) × IsRead source.old source.new bytes
+      (chosen : Chosen) × (settings_of words ≡ Some chosen) × (bytes : List ℕ) × IsInput chosen.seed source bytes
       × IsRunOf bytes chosen host end
 
 -- the end of a run is there, or the host, and not both
@@ -163,23 +187,26 @@ IsUsage status.NoMemory = Unit {0}
 IsUsage _ = ⊥
 
 -- a status has its cause: in the words, in the host, and in the source before and after it was read
-pub record IsCaused (words : List (List ℕ)) (takes_scripts : Bool) (old new : StreamView) (meant : Status) : Type 0 where
+pub record IsCaused (words : List (List ℕ)) (takes_scripts : Bool) (source : Step StreamView) (meant : Status) : Type 0 where
   pub usage : meant ≡ status.Usage → settings_of words ≡ None
   pub refused_words : settings_of words ≡ None → IsUsage meant
-  pub refused : (line : ℕ) (why : Why) → meant ≡ status.Refused line why → IsRefusal old new line why
-  pub unscripted : meant ≡ status.NotScripted → IsUnscripted takes_scripts old new
-  pub read_fault : meant ≡ status.ReadFault → HasFailed old new
+  pub refused : (line : ℕ) (why : Why) → meant ≡ status.Refused line why → IsRefusal (seed_of words) source line why
+  pub unscripted : meant ≡ status.NotScripted → IsUnscripted takes_scripts (seed_of words) source
+  pub read_fault : meant ≡ status.ReadFault → HasFailed source.old source.new
   -- with words that choose, no failed read and a script that the host follows the run is done, but for lack of memory
-  pub complete : IsSome (settings_of words) → (HasFailed old new → ⊥) → AreScript takes_scripts old.bytes → IsDone meant
+  pub complete : IsSome (settings_of words) → (HasFailed source.old source.new → ⊥)
+      → AreScript takes_scripts (input_of (seed_of words) source.old.bytes) → IsDone meant
 
 -- ---- what is written
 -- what is due with a status and an end
-abbrev pub IsDueWithEnd : {H : Type 0} → Status → End H → List ℕ → Type 0
-IsDueWithEnd status.Done end due = (due ≡ end_text end) × (starves end ≡ false) × (leaves_effects end ≡ false) × (gave_up end ≡ false)
-IsDueWithEnd status.Left end due = (due ≡ end_text end) × (starves end ≡ false) × (leaves_effects end ≡ true)
-IsDueWithEnd status.GaveUp end due = (due ≡ end_text end) × (starves end ≡ false) × (leaves_effects end ≡ false) × (gave_up end ≡ true)
-IsDueWithEnd status.NoMemory end due = (due ≡ no_memory_line) ⊎ ((due ≡ end_text end) × (starves end ≡ true))
-IsDueWithEnd _ end due = ⊥
+abbrev pub IsDueWithEnd : {H : Type 0} → Option ℕ → Status → End H → List ℕ → Type 0
+IsDueWithEnd seed status.Done end due = (due ≡ written_of seed end) × (starves end ≡ false) × (leaves_effects end ≡ false)
+    × (gave_up end ≡ false)
+IsDueWithEnd seed status.Left end due = (due ≡ written_of seed end) × (starves end ≡ false) × (leaves_effects end ≡ true)
+IsDueWithEnd seed status.GaveUp end due = (due ≡ written_of seed end) × (starves end ≡ false) × (leaves_effects end ≡ false)
+    × (gave_up end ≡ true)
+IsDueWithEnd seed status.NoMemory end due = (due ≡ no_memory_line) ⊎ ((due ≡ written_of seed end) × (starves end ≡ true))
+IsDueWithEnd seed _ end due = ⊥
 
 -- what is due with a status and no end
 abbrev pub IsDueAlone : Status → List ℕ → Type 0
@@ -191,9 +218,9 @@ IsDueAlone status.NotScripted due = due ≡ not_scripted_line
 IsDueAlone _ due = ⊥
 
 -- what is due with a status
-abbrev pub IsDue : {H : Type 0} → Status → Option (End H) → List ℕ → Type 0
-IsDue meant None due = IsDueAlone meant due
-IsDue meant (Some end) due = IsDueWithEnd meant end due
+abbrev pub IsDue : {H : Type 0} → Option ℕ → Status → Option (End H) → List ℕ → Type 0
+IsDue seed meant None due = IsDueAlone meant due
+IsDue seed meant (Some end) due = IsDueWithEnd seed meant end due
 
 -- all was written, and the run ends with the status that was meant; or a front, and it ends with the sink's failure
 abbrev pub IsWritten : Status → Status → List ℕ → StreamView → StreamView → Type 0
@@ -201,10 +228,12 @@ IsWritten meant ends due old new =
     ((ends ≡ meant) × AppendsWhole old new due) ⊎ ((ends ≡ status.WriteFault) × AppendsPart old new due × HasFailed old new)
 
 -- what is due with this status was written, or a front of it
-abbrev pub IsSaid : {H : Type 0} → Status → Finish H → StreamView → StreamView → Type 0
-IsSaid meant finish old new = (due : List ℕ) × IsDue meant finish.end due × IsWritten meant finish.status due old new
+abbrev pub IsSaid : {H : Type 0} → Option ℕ → Status → Finish H → Step StreamView → Type 0
+IsSaid seed meant finish sink =
+    (due : List ℕ) × IsDue seed meant finish.end due × IsWritten meant finish.status due sink.old sink.new
 
--- the run's text was written; and, with one worker and no schedule, where no fault is recorded, its lines but those on kept data
+-- the run's text was written; and, with one worker and neither a schedule nor a seed, where no fault is recorded, its lines but those on
+-- kept data
 -- are the text of the script alone
 abbrev pub IsSaidPlainly : {H : Type 0} → List (List ℕ) → StreamView → StreamView → End H → Type 0
 IsSaidPlainly words old new end =

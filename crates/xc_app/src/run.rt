@@ -1,5 +1,5 @@
 ghost use Rattle.std.specs.Prelude.{◌≡◌, ◌≢◌, ◌≤◌, ℕ, Some, None, Ok, Err, length, [], map, string_bytes, true};
-ghost use Rattle.std.specs.Prelude.{IfOk, IfSome, IsErrOf, IsTrue};
+ghost use Rattle.std.specs.Prelude.{IfOk, IfSome, IsErrOf, IsSome, IsTrue, Option};
 ghost use Rattle.xc_data.specs.Limits.{KeepsLimits};
 ghost use Rattle.xc_text.specs.declared.script.Script.{Script};
 ghost use Rattle.xc_tokens.specs.declared.why.Why.{Why};
@@ -7,8 +7,10 @@ ghost use Rattle.xc_text.specs.Scripts.{parse_of, IsScript};
 ghost use Rattle.xc_settings.specs.Options.{settings_of};
 ghost use Rattle.xc_model.specs.Alone.{AreAlone};
 ghost use Rattle.xc_station.specs.Stations.{KeepsOrigin, NobodyLives, RanAlone, now_of};
+ghost use Rattle.xc_edge.specs.View.{HasFailed};
 ghost use Rattle.xc_app.specs.Due.{due_bytes};
 ghost use Rattle.xc_app.specs.Headline.{is_refused_by, IsRun, IsRunOf, IsRunOver, IsOneOf, IsCaused, IsDoneWith, RunsAlone};
+ghost use Rattle.xc_app.specs.Headline.{IsInput, seed_of, written_of};
 ghost use Rattle.xc_app.specs.Headline.{IsDue, IsDueAlone, IsSaid, IsSaidPlainly};
 ghost use Rattle.xc_app.specs.Outcomes.{IsOfBytes, IsRefusedBy, IsUnrefused, TakeListed};
 
@@ -18,8 +20,9 @@ use crate::{Finish, LIMIT, Status};
 use std::alloc::Global;
 use std::sync::Wait;
 use std::thread::Threads;
-use xc_data::{JobNumbers, Text};
+use xc_data::{NoMemory, Text};
 use xc_edge::{ReadErr, Sink, Source, read_up_to, write_whole};
+use xc_generator::{generate, summary};
 use xc_host::{Host, OpenErr};
 use xc_print::render;
 use xc_runner::{Pace, run_workers};
@@ -74,7 +77,7 @@ struct Outcome<H> {
 // An outcome without a run.
 fn without_a_run<H>(host: H, status: Status, due: Due) -> Outcome<H>
     requires { IsDueAlone status (due_bytes due) }
-    ensures due { IsDue result.status result.end (due_bytes result.due) }
+    ensures due { (seed : Option ℕ) → IsDue seed result.status result.end (due_bytes result.due) }
     ensures status { (result.status ≡ status) × (result.end ≡ None) × (result.host ≡ Some host) }
 {
     Outcome {
@@ -86,14 +89,14 @@ fn without_a_run<H>(host: H, status: Status, due: Due) -> Outcome<H>
 }
 
 fn no_memory<H>(host: H) -> Outcome<H>
-    ensures due { IsDue result.status result.end (due_bytes result.due) }
+    ensures due { (seed : Option ℕ) → IsDue seed result.status result.end (due_bytes result.due) }
     ensures status { (result.status ≡ Status.NoMemory) × (result.end ≡ None) × (result.host ≡ Some host) }
 {
     without_a_run(host, Status::NoMemory, Due::NoMemory)
 }
 
 fn of_refusal<H: Drop>(alloc: Global, host: H, line: u32, why: Why) -> Outcome<H>
-    ensures due { IsDue result.status result.end (due_bytes result.due) }
+    ensures due { (seed : Option ℕ) → IsDue seed result.status result.end (due_bytes result.due) }
     ensures status { IsRefusedBy line why result.status }
     ensures none { (result.end ≡ None) × (result.host ≡ Some host) }
 {
@@ -103,22 +106,35 @@ fn of_refusal<H: Drop>(alloc: Global, host: H, line: u32, why: Why) -> Outcome<H
     }
 }
 
+// What is written of the end of a run: its text, or with a seed the line that sums it up.
+fn text_of<H>(alloc: Global, end: &End<H>, seed: Option<u64>) -> Result<Text, NoMemory>
+    requires { length end.now.journal.items ≤ 10000 }
+    ensures { IfOk result (λ text. text ≡ written_of seed end.now) }
+{
+    let journal = end.journal.as_slice();
+    let words = end.words.as_slice();
+    match seed {
+        Some(seed) => summary(alloc, journal, words, seed),
+        None => render(
+            alloc,
+            journal,
+            end.jobs.as_slice(),
+            words,
+            end.kept.as_slice(),
+        ),
+    }
+}
+
 // The outcome of a run that left this.
-fn of_end<H: Drop>(alloc: Global, end: End<H>) -> Outcome<H>
+fn of_end<H: Drop>(alloc: Global, end: End<H>, seed: Option<u64>) -> Outcome<H>
     requires { length end.journal.items ≤ 10000 }
-    ensures due { IsDue result.status result.end (due_bytes result.due) }
+    ensures due { IsDue seed result.status result.end (due_bytes result.due) }
     ensures end { (result.end ≡ Some end) × (result.host ≡ None) }
     ensures bytes { IsOfBytes result.status }
     ensures unrefused { IsUnrefused result.status }
 {
     let status = status_of(&end);
-    match render(
-        alloc,
-        end.journal.as_slice(),
-        end.jobs.as_slice(),
-        end.words.as_slice(),
-        end.kept.as_slice(),
-    ) {
+    match text_of(alloc, &end, seed) {
         Ok(text) => Outcome {
             status,
             due: Due::Whole(text),
@@ -136,7 +152,7 @@ fn of_end<H: Drop>(alloc: Global, end: End<H>) -> Outcome<H>
 
 // The outcome of a script that was not started.
 fn of_refused_start<H: Drop>(not_started: NotStarted<H>) -> Outcome<H>
-    ensures due { IsDue result.status result.end (due_bytes result.due) }
+    ensures due { (seed : Option ℕ) → IsDue seed result.status result.end (due_bytes result.due) }
     ensures host { (result.end ≡ None) × (result.host ≡ Some not_started.host) }
     ensures scripted { result.status ≡ Status.NotScripted → not_started.why ≡ OpenErr.NotScripted }
     ensures bytes { IsOfBytes result.status }
@@ -189,8 +205,8 @@ fn take_together<H: Host + Send, P: Pace + Sync, R: AllocGlobal + Threads + Wait
     station
 }
 
-// Takes the turns of all jobs: the listed ones first, and then rounds; with no list by the workers, and one worker goes
-// job after job.
+// Takes the turns of all jobs: the listed ones first, and then rounds; with a seed and no list rounds alone; otherwise by the
+// workers, and one worker goes job after job.
 fn take_turns<H: Host + Send, P: Pace + Sync, R: AllocGlobal + Threads + Wait + Sync>(
     rt: &R,
     station: Station<H>,
@@ -201,12 +217,16 @@ fn take_turns<H: Host + Send, P: Pace + Sync, R: AllocGlobal + Threads + Wait + 
     requires fresh { station.journal ≡ [] }
     ensures origin { KeepsOrigin station result }
     ensures listed { IfSome chosen.now.schedule (λ jobs. TakeListed H.model jobs station result) }
+    ensures seeded { IsSome chosen.now.seed → chosen.now.schedule ≡ None → TakeListed H.model [] station result }
     ensures ended { NobodyLives result.jobs }
     ensures alone { RunsAlone chosen.now → AreAlone (now_of H.model station) 0 → RanAlone H.model result }
 {
     match &chosen.schedule {
         Some(jobs) => take_listed(station, jobs.as_slice()),
         None => {
+            if chosen.seed.is_some() {
+                return take_listed(station, &[]);
+            }
             if chosen.workers == 1 {
                 return take_alone(station);
             }
@@ -226,7 +246,7 @@ fn of_script<H: Host + Send, P: Pace + Sync, R: AllocGlobal + Threads + Wait + S
     requires script { IsScript script }
     requires limits { KeepsLimits script.outline }
     requires rules { (1 ≤ chosen.now.rules.attempts) × (1 ≤ chosen.now.rules.undo_tries) }
-    ensures due { IsDue result.status result.end (due_bytes result.due) }
+    ensures due { IsDue chosen.now.seed result.status result.end (due_bytes result.due) }
     ensures run { IfSome result.end (λ end. (end.opening.script ≡ script)
         × IsRunOver H.model chosen.now host end) }
     ensures host { IfSome result.host (λ back. back ≡ host) }
@@ -238,7 +258,7 @@ fn of_script<H: Host + Send, P: Pace + Sync, R: AllocGlobal + Threads + Wait + S
     match Station::start(rt.alloc(), host, script, chosen.rules) {
         Ok(station) => {
             let station = take_turns(rt, station, chosen, pace);
-            of_end(rt.alloc(), station.finish())
+            of_end(rt.alloc(), station.finish(), chosen.seed)
         }
         Err(not_started) => of_refused_start(not_started),
     }
@@ -263,7 +283,7 @@ fn of_bytes<H: Host + Send, P: Pace + Sync, R: AllocGlobal + Threads + Wait + Sy
     pace: &P,
 ) -> Outcome<H>
     requires rules { (1 ≤ chosen.now.rules.attempts) × (1 ≤ chosen.now.rules.undo_tries) }
-    ensures due { IsDue result.status result.end (due_bytes result.due) }
+    ensures due { IsDue chosen.now.seed result.status result.end (due_bytes result.due) }
     ensures run { IfSome result.end (IsRunOf H.model bytes.items chosen.now host) }
     ensures host { IfSome result.host (λ back. back ≡ host) }
     ensures one { IsOneOf result.end result.host }
@@ -279,6 +299,21 @@ fn of_bytes<H: Host + Send, P: Pace + Sync, R: AllocGlobal + Threads + Wait + Sy
     }
 }
 
+// The bytes that are run: with a seed those that are generated, and then nothing is read; otherwise those of the source.
+fn input<S: Source>(alloc: Global, source: &mut S, seed: Option<u64>) -> Result<Vec<u8>, ReadErr>
+    ensures ok { IfOk result (λ bytes. IsInput seed (record { old = S.told source.old; new = S.told source.new }) bytes.items) }
+    ensures failed { IsErrOf result ReadErr.Failed → HasFailed (S.told source.old) (S.told source.new) }
+    ensures unread { IsSome seed → source.new ≡ source.old }
+{
+    match seed {
+        Some(seed) => match generate(alloc, seed) {
+            Ok(text) => Ok(text.into_vec()),
+            Err(NoMemory) => Err(ReadErr::NoMemory),
+        },
+        None => read_up_to(alloc, source, LIMIT),
+    }
+}
+
 // What the words and the source come to.
 fn decide<S: Source, H: Host + Send, P: Pace + Sync, R: AllocGlobal + Threads + Wait + Sync>(
     rt: &R,
@@ -287,9 +322,11 @@ fn decide<S: Source, H: Host + Send, P: Pace + Sync, R: AllocGlobal + Threads + 
     host: H,
     pace: &P,
 ) -> Outcome<H>
-    ensures due { IsDue result.status result.end (due_bytes result.due) }
-    ensures caused { IsCaused (map string_bytes words.now) H.model.takes_scripts (S.told source.old) (S.told source.new) result.status }
+    ensures due { IsDue (seed_of (map string_bytes words.now)) result.status result.end (due_bytes result.due) }
+    ensures caused { IsCaused (map string_bytes words.now) H.model.takes_scripts
+        (record { old = S.told source.old; new = S.told source.new }) result.status }
     ensures unread { settings_of (map string_bytes words.now) ≡ None → source.new ≡ source.old }
+    ensures seeded { IsSome (seed_of (map string_bytes words.now)) → source.new ≡ source.old }
     ensures run { IfSome result.end (
         IsRun H.model (map string_bytes words.now) (record { old = S.told source.old; new = S.told source.new }) host) }
     ensures host { IfSome result.host (λ back. back ≡ host) }
@@ -300,14 +337,15 @@ fn decide<S: Source, H: Host + Send, P: Pace + Sync, R: AllocGlobal + Threads + 
         Err(SettingsErr::Usage) => return without_a_run(host, Status::Usage, Due::Usage),
         Err(SettingsErr::NoMemory) => return no_memory(host),
     };
-    match read_up_to(rt.alloc(), source, LIMIT) {
+    match input(rt.alloc(), source, chosen.seed) {
         Ok(bytes) => of_bytes(rt, host, bytes, &chosen, pace),
         Err(ReadErr::Failed) => without_a_run(host, Status::ReadFault, Due::ReadFault),
         Err(ReadErr::NoMemory) => no_memory(host),
     }
 }
 
-/// Reads a script from the source, runs it over the host, and writes its text to the sink.
+/// Reads a script from the source, runs it over the host, and writes its text to the sink. With a seed it runs the script that the
+/// seed gives, and writes one line that sums up the run.
 ///
 /// `words` are those of the command line after the program's name. With a script that isn't run,
 /// one line is written that says why, and the host is given back. A source or a sink that fails ends
@@ -323,10 +361,14 @@ pub fn xcalls_run<
     // status; or the sink failed after a front of that. A run that is meant to be done has an entry
     // for each transaction, which committed or aborted itself; so has one of which effects are left,
     // where no job gave up.
-    ensures answered { (meant : Status) × IsCaused (map string_bytes words.now) H.model.takes_scripts (S.told source.old)
-        (S.told source.new) meant
-        × IsDoneWith meant result.end × IsSaid meant result (K.told sink.old) (K.told sink.new) }
+    ensures answered { (meant : Status) × IsCaused (map string_bytes words.now) H.model.takes_scripts
+        (record { old = S.told source.old; new = S.told source.new }) meant
+        × IsDoneWith meant result.end
+        × IsSaid (seed_of (map string_bytes words.now)) meant result (record { old = K.told sink.old; new = K.told sink.new }) }
+
+    // Nothing is read if the words are refused, or choose a seed.
     ensures unread { settings_of (map string_bytes words.now) ≡ None → source.new ≡ source.old }
+    ensures seeded { IsSome (seed_of (map string_bytes words.now)) → source.new ≡ source.old }
 
     // The headline: running the journal's committed transactions one after another on the plain
     // machine, with the recorded faults, gives the replies, the final words, the final host, with what is kept for

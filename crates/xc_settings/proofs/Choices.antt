@@ -8,7 +8,7 @@ use Rattle.clap.specs.Simple.{HasMatchesOf, matches_of}
 use Rattle.clap.specs.Walk.{Row, Text, first_of, is_empty}
 use Rattle.clap.specs.declared.parser.matches.ArgMatches.{ArgMatches}
 use Rattle.clap.proofs.WalkLemmas.{first_value-rows}
-use Rattle.xc_settings.specs.Options.{command, chosen_in, chosen_with, number_or, schedule_in, settings_of}
+use Rattle.xc_settings.specs.Options.{command, chosen_in, chosen_with, number_or, schedule_in, seed_in, settings_of}
 
 -- what the getters read of the matches are the rows that the words have
 pub first_value-words : (words : List Text) (m : ArgMatches) (id : Text) → HasMatchesOf command words m
@@ -30,12 +30,14 @@ pub chosen_in-none : (rows : List Row) (text : Option Text) → text ≡ first_o
 chosen_in-none rows text is read = ap (option_map (chosen_with rows)) (ap schedule_in (sym is) ∙ read)
 
 -- the choice of the matches is the numbers that were read
-pub chosen_read : (rows : List Row) (schedule : Option (List ℕ)) (w a p u : ℕ) → w ≡ number_or 4 (first_of (codes "workers") rows)
+pub chosen_read : (rows : List Row) (schedule : Option (List ℕ)) (w a p u : ℕ) (n : Option ℕ) → w ≡ number_or 4 (first_of (codes "workers") rows)
     → a ≡ number_or 100 (first_of (codes "attempts") rows) → p ≡ number_or 10000 (first_of (codes "patience") rows)
-    → u ≡ number_or 3 (first_of (codes "undo-tries") rows)
-    → chosen_with rows schedule ≡ record { workers = w; schedule = schedule; rules = record { attempts = a; patience = p; undo_tries = u } }
-chosen_read rows schedule w a p u workers attempts patience tries = λ i. record {
+    → u ≡ number_or 3 (first_of (codes "undo-tries") rows) → n ≡ seed_in (first_of (codes "seed") rows)
+    → chosen_with rows schedule
+    ≡ record { workers = w; schedule = schedule; rules = record { attempts = a; patience = p; undo_tries = u }; seed = n }
+chosen_read rows schedule w a p u n workers attempts patience tries seed = λ i. record {
   workers = sym workers i;
   schedule = schedule;
   rules = record { attempts = sym attempts i; patience = sym patience i; undo_tries = sym tries i };
+  seed = sym seed i;
 }

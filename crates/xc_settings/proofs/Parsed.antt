@@ -23,7 +23,7 @@ use Rattle.clap.specs.declared.parser.matches.ArgMatches.{ArgMatches}
 use Rattle.clap.specs.declared.parser.matches.Found.{Found}
 use Rattle.clap.specs.declared.parser.matches.MatchedArg.{MatchedArg}
 use Rattle.clap.proofs.CallerLemmas.{entry_by_id}
-use Rattle.xc_settings.specs.Options.{command, workers_rule, schedule_rule, attempts_rule, patience_rule, undo_tries_rule}
+use Rattle.xc_settings.specs.Options.{command, workers_rule, schedule_rule, attempts_rule, patience_rule, undo_tries_rule, seed_rule}
 use Rattle.xc_settings.specs.Matches.{HasNumbers}
 
 and_first : (a b : Bool) → a && b ≡ true → a ≡ true
@@ -122,14 +122,15 @@ at_entry f id Q (Some x) e each = rw e (first_of_values Q x.vals.items (each x e
 
 -- the command's own facts, which its rules and its shape have
 abbrev own_rules : List Rule
-own_rules = workers_rule ∷ schedule_rule ∷ attempts_rule ∷ patience_rule ∷ undo_tries_rule ∷ []
+own_rules = workers_rule ∷ schedule_rule ∷ attempts_rule ∷ patience_rule ∷ undo_tries_rule ∷ seed_rule ∷ []
 
-each_own : (P : Rule → Type 0) → P workers_rule → P schedule_rule → P attempts_rule → P patience_rule → P undo_tries_rule → All P own_rules
-each_own P w s a p u =
-    All-cons P workers_rule (schedule_rule ∷ attempts_rule ∷ patience_rule ∷ undo_tries_rule ∷ []) w
-    (All-cons P schedule_rule (attempts_rule ∷ patience_rule ∷ undo_tries_rule ∷ []) s
-    (All-cons P attempts_rule (patience_rule ∷ undo_tries_rule ∷ []) a
-    (All-cons P patience_rule (undo_tries_rule ∷ []) p (All-cons P undo_tries_rule [] u (All-nil P)))))
+each_own : (P : Rule → Type 0) → P workers_rule → P schedule_rule → P attempts_rule → P patience_rule → P undo_tries_rule → P seed_rule → All P own_rules
+each_own P w s a p u n =
+    All-cons P workers_rule (schedule_rule ∷ attempts_rule ∷ patience_rule ∷ undo_tries_rule ∷ seed_rule ∷ []) w
+    (All-cons P schedule_rule (attempts_rule ∷ patience_rule ∷ undo_tries_rule ∷ seed_rule ∷ []) s
+    (All-cons P attempts_rule (patience_rule ∷ undo_tries_rule ∷ seed_rule ∷ []) a
+    (All-cons P patience_rule (undo_tries_rule ∷ seed_rule ∷ []) p
+    (All-cons P undo_tries_rule (seed_rule ∷ []) u (All-cons P seed_rule [] n (All-nil P))))))
 
 here : (P : Rule → Type 0) (c : Command) → app_of c ≡ command → All P own_rules → All P (map rule_of (args_of c))
 here P c is all = subst (All P) (sym (ap (λ (a : App). a.top.rules) is)) all
@@ -139,7 +140,7 @@ no_group a simple = none_of a.groups.items (and_first _ _ (and_second _ _ (and_s
 
 names_none : (c : Command) → app_of c ≡ command → NamesNoGroup c
 names_none c is k d lt =
-    let simple = here (λ r. r.is_simple ≡ true) c is (each_own (λ r. r.is_simple ≡ true) refl refl refl refl refl) in
+    let simple = here (λ r. r.is_simple ≡ true) c is (each_own (λ r. r.is_simple ≡ true) refl refl refl refl refl refl) in
     no_group (slice_index_or (args_of c) k d) (each_argument (λ r. r.is_simple ≡ true) (args_of c) simple k d lt)
 
 no_groups : (c : Command) → app_of c ≡ command → groups_of c ≡ []
@@ -162,11 +163,13 @@ number_of_option c m p id least most is own rules =
 pub has_numbers : (c : Command) (m : ArgMatches) → app_of c ≡ command → IsParsedFrom c m → HasNumbers (found_of m)
 has_numbers c m is p = record {
   workers = number_of_option c m p (codes "workers") 1 64 is (record { help = refl; version = refl; named = λ e. cc })
-      (each_own (TakesBetween (codes "workers") 1 64) (λ _. refl) (λ e. cc) (λ e. cc) (λ e. cc) (λ e. cc));
+      (each_own (TakesBetween (codes "workers") 1 64) (λ _. refl) (λ e. cc) (λ e. cc) (λ e. cc) (λ e. cc) (λ e. cc));
   attempts = number_of_option c m p (codes "attempts") 1 1000 is (record { help = refl; version = refl; named = λ e. cc })
-      (each_own (TakesBetween (codes "attempts") 1 1000) (λ e. cc) (λ e. cc) (λ _. refl) (λ e. cc) (λ e. cc));
+      (each_own (TakesBetween (codes "attempts") 1 1000) (λ e. cc) (λ e. cc) (λ _. refl) (λ e. cc) (λ e. cc) (λ e. cc));
   patience = number_of_option c m p (codes "patience") 0 1000000 is (record { help = refl; version = refl; named = λ e. cc })
-      (each_own (TakesBetween (codes "patience") 0 1000000) (λ e. cc) (λ e. cc) (λ e. cc) (λ _. refl) (λ e. cc));
+      (each_own (TakesBetween (codes "patience") 0 1000000) (λ e. cc) (λ e. cc) (λ e. cc) (λ _. refl) (λ e. cc) (λ e. cc));
   undo_tries = number_of_option c m p (codes "undo-tries") 1 16 is (record { help = refl; version = refl; named = λ e. cc })
-      (each_own (TakesBetween (codes "undo-tries") 1 16) (λ e. cc) (λ e. cc) (λ e. cc) (λ e. cc) (λ _. refl));
+      (each_own (TakesBetween (codes "undo-tries") 1 16) (λ e. cc) (λ e. cc) (λ e. cc) (λ e. cc) (λ _. refl) (λ e. cc));
+  seed = number_of_option c m p (codes "seed") 0 18446744073709551615 is (record { help = refl; version = refl; named = λ e. cc })
+      (each_own (TakesBetween (codes "seed") 0 18446744073709551615) (λ e. cc) (λ e. cc) (λ e. cc) (λ e. cc) (λ e. cc) (λ _. refl));
 }

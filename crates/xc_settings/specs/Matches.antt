@@ -10,3 +10,4 @@ pub record HasNumbers (found : Found) : Type 0 where
   pub attempts : IfSome (first_value found (codes "attempts")) (IsUnsignedIn 1 1000)
   pub patience : IfSome (first_value found (codes "patience")) (IsUnsignedIn 0 1000000)
   pub undo_tries : IfSome (first_value found (codes "undo-tries")) (IsUnsignedIn 1 16)
+  pub seed : IfSome (first_value found (codes "seed")) (IsUnsignedIn 0 18446744073709551615)

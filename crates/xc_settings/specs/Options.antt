@@ -47,11 +47,15 @@ patience_rule = number_rule (codes "patience") 0 1000000
 abbrev pub undo_tries_rule : Rule
 undo_tries_rule = number_rule (codes "undo-tries") 1 16
 
+-- the seed of a generated script
+abbrev pub seed_rule : Rule
+seed_rule = number_rule (codes "seed") 0 18446744073709551615
+
 -- the command
 abbrev pub command : App
 command =
-    with_rule (with_rule (with_rule (with_rule (with_rule bare_command workers_rule) schedule_rule) attempts_rule)
-    patience_rule) undo_tries_rule
+    with_rule (with_rule (with_rule (with_rule (with_rule (with_rule bare_command workers_rule) schedule_rule) attempts_rule)
+    patience_rule) undo_tries_rule) seed_rule
 
 -- ---- a list of jobs
 -- a number, where it is from 1 to `most`
@@ -91,6 +95,11 @@ abbrev pub schedule_in : Option Text → Option (Option (List ℕ))
 schedule_in None = Some None
 schedule_in (Some text) = option_map Some (job_numbers text)
 
+-- the number that an option's text spells, if there is one
+abbrev pub seed_in : Option Text → Option ℕ
+seed_in None = None
+seed_in (Some text) = Some (digits_value 10 (without_leading_plus text))
+
 -- the rules where no word sets another
 abbrev pub default_rules : Rules
 default_rules = record { attempts = 100; patience = 10000; undo_tries = 3 }
@@ -105,7 +114,13 @@ rules_in rows = record default_rules {
 
 -- the choice with these jobs first
 abbrev pub chosen_with : List Row → Option (List ℕ) → Chosen
-chosen_with rows schedule = record { workers = number_or 4 (first_of (codes "workers") rows); schedule = schedule; rules = rules_in rows }
+chosen_with rows schedule =
+    record {
+      workers = number_or 4 (first_of (codes "workers") rows);
+      schedule = schedule;
+      rules = rules_in rows;
+      seed = seed_in (first_of (codes "seed") rows);
+    }
 
 -- what the command's matches choose, and nothing where the list of jobs is none
 abbrev pub chosen_in : List Row → Option Chosen

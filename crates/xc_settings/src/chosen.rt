@@ -10,6 +10,8 @@ pub struct Chosen {
     /// Whose turns come first, 1 to 10,000 jobs by their numbers.
     pub schedule: Option<JobNumbers>,
     pub rules: Rules,
+    /// The seed of a generated script, which is then run in place of the one that is read.
+    pub seed: Option<u64>,
 }
 
 /// Why the words of a command line are not taken.

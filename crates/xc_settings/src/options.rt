@@ -1,7 +1,8 @@
 ghost use Rattle.std.specs.Prelude.{◌≡◌, ◌≢◌, false, map, codes, string_bytes, [], IfOk, IfSome, OnOk, IsErrOf, None, Some};
 ghost use Rattle.clap.specs.Words.{app_of, rule_of, fault_of, found_of, first_value, HasMatchesOf, IsUnsignedIn};
 ghost use Rattle.xc_settings.specs.Matches.{HasNumbers};
-ghost use Rattle.xc_settings.specs.Options.{number_rule, text_rule, command, number_or, schedule_in, settings_of, IsBetween, KeepsBounds};
+ghost use Rattle.xc_settings.specs.Options.{number_rule, text_rule, command, number_or, schedule_in, seed_in, settings_of};
+ghost use Rattle.xc_settings.specs.Options.{IsBetween, KeepsBounds};
 
 use crate::values::jobs;
 use crate::{Chosen, SettingsErr};
@@ -30,14 +31,14 @@ const DEFAULT_RULES: Rules = Rules {
 };
 
 // An option that takes a number from `least` to `most`.
-fn number_option<'a>(alloc: Global, id: &'a str, least: u32, most: u32) -> Arg<'a>
+fn number_option<'a>(alloc: Global, id: &'a str, least: u64, most: u64) -> Arg<'a>
     ensures rule { rule_of result ≡ number_rule id.entry.now least most }
     ensures local { result.global ≡ false }
 {
     Arg::new(alloc, id)
         .long(id)
         .action(ArgAction::Set)
-        .value_parser(ValueParser::Unsigned(u64::from(least), u64::from(most)))
+        .value_parser(ValueParser::Unsigned(least, most))
 }
 
 // An option that takes a text.
@@ -52,11 +53,12 @@ fn text_option<'a>(alloc: Global, id: &'a str) -> Arg<'a>
 fn command<'a>(alloc: Global) -> Result<Command<'a>, AllocError>
     ensures { IfOk result (λ made. app_of made ≡ command) }
 {
-    let workers = number_option(alloc, "workers", 1, MOST_WORKERS);
+    let workers = number_option(alloc, "workers", 1, u64::from(MOST_WORKERS));
     let schedule = text_option(alloc, "schedule");
-    let attempts = number_option(alloc, "attempts", 1, MOST_ATTEMPTS);
-    let patience = number_option(alloc, "patience", 0, MOST_PATIENCE);
-    let undo_tries = number_option(alloc, "undo-tries", 1, MOST_UNDO_TRIES);
+    let attempts = number_option(alloc, "attempts", 1, u64::from(MOST_ATTEMPTS));
+    let patience = number_option(alloc, "patience", 0, u64::from(MOST_PATIENCE));
+    let undo_tries = number_option(alloc, "undo-tries", 1, u64::from(MOST_UNDO_TRIES));
+    let seed = number_option(alloc, "seed", 0, u64::MAX);
     Command::new(alloc, "xcalls")
         .no_binary_name(true)
         .disable_help_flag(true)
@@ -65,7 +67,8 @@ fn command<'a>(alloc: Global) -> Result<Command<'a>, AllocError>
         .arg(schedule)?
         .arg(attempts)?
         .arg(patience)?
-        .arg(undo_tries)
+        .arg(undo_tries)?
+        .arg(seed)
 }
 
 // What the words give each option.
@@ -95,6 +98,17 @@ fn number(matches: &ArgMatches<'_>, id: &str, default: u32, least: u32, most: u3
     match matches.get_str(id) {
         Some(text) => text.parse::<u32>().unwrap_or(default),
         None => default,
+    }
+}
+
+// The number that the option `--seed` is given, if it is.
+fn seed(matches: &ArgMatches<'_>) -> Option<u64>
+    requires { IfSome (first_value (found_of matches.now) (codes "seed")) (IsUnsignedIn 0 18446744073709551615) }
+    ensures { result ≡ seed_in (first_value (found_of matches.now) (codes "seed")) }
+{
+    match matches.get_str("seed") {
+        Some(text) => Some(text.parse::<u64>().unwrap_or(0)),
+        None => None,
     }
 }
 
@@ -145,5 +159,6 @@ pub fn settings(alloc: Global, words: &[String]) -> Result<Chosen, SettingsErr>
             patience,
             undo_tries,
         },
+        seed: seed(&matches),
     })
 }

@@ -13,8 +13,9 @@ returns-in-Ok-clause-answered g c =
     let wrote = subst (AppendsWhole (told c.args.sink.now) (told c.write_whole.new.sink)) c.as_bytes.ensures c.in-Ok.ensures.whole in (
       meant.status,
       d.caused,
-      done_with g.H.Host.model (map string_bytes c.args.words.now) (g.S.Source.told c.args.source.now)
-          (g.S.Source.told c.decide-status.new.source) c.args.host _ _ _ d.due d.run,
+      done_with g.H.Host.model (map string_bytes c.args.words.now)
+          (record { old = g.S.Source.told c.args.source.now; new = g.S.Source.told c.decide-status.new.source })
+          c.args.host _ _ _ _ d.due d.run,
       (due_bytes meant.due, d.due, inl (refl, wrote)),
     )
 
@@ -26,8 +27,9 @@ returns-clause-answered g c =
     let wrote = subst (AppendsPart (told c.args.sink.now) (told c.write_whole.new.sink)) c.as_bytes.ensures c.in-Err.ensures.part in (
       meant.status,
       d.caused,
-      done_with g.H.Host.model (map string_bytes c.args.words.now) (g.S.Source.told c.args.source.now)
-          (g.S.Source.told c.decide-status.new.source) c.args.host _ _ _ d.due d.run,
+      done_with g.H.Host.model (map string_bytes c.args.words.now)
+          (record { old = g.S.Source.told c.args.source.now; new = g.S.Source.told c.decide-status.new.source })
+          c.args.host _ _ _ _ d.due d.run,
       (due_bytes meant.due, d.due, inr (refl, wrote, c.in-Err.ensures.cause.failed)),
     )
 
@@ -37,6 +39,7 @@ returns-in-Ok-clause-plain g c = λ tells fed unfailed.
     let meant = c.decide-status.result in
     let d = c.decide-status.ensures in
     let wrote = subst (AppendsWhole (told c.args.sink.now) (told c.write_whole.new.sink)) c.as_bytes.ensures c.in-Ok.ensures.whole in
-    plainly g.H.Host.model (map string_bytes c.args.words.now) (g.S.Source.told c.args.source.now)
-    (g.S.Source.told c.decide-status.new.source) c.args.host meant.status meant.end (due_bytes meant.due)
+    plainly g.H.Host.model (map string_bytes c.args.words.now)
+    (record { old = g.S.Source.told c.args.source.now; new = g.S.Source.told c.decide-status.new.source }) c.args.host meant.status meant.end
+        (due_bytes meant.due)
     (told c.args.sink.now) (told c.write_whole.new.sink) d.due d.run wrote tells fed

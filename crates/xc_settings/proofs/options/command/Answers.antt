@@ -5,7 +5,7 @@ use Rattle.clap.specs.Simple.{App, app_of, with_rule}
 use Rattle.clap.specs.Walk.{Rule, rule_of}
 use Rattle.clap.specs.declared.builder.arg.Arg.{Arg}
 use Rattle.clap.specs.declared.builder.command.Command.{Command}
-use Rattle.xc_settings.specs.Options.{bare_command, workers_rule, schedule_rule, attempts_rule, patience_rule, undo_tries_rule}
+use Rattle.xc_settings.specs.Options.{bare_command, workers_rule, schedule_rule, attempts_rule, patience_rule, undo_tries_rule, seed_rule}
 use Rattle.xc_settings.proofs.options.command.Goals as goal
 
 -- one option more
@@ -20,5 +20,6 @@ returns c =
     let two = with_option _ schedule_rule _ one c.text_option-schedule.ensures.local (search rules) c.in_ok-arg-2.ensures in
     let three = with_option _ attempts_rule _ two c.number_option-attempts.ensures.local (search rules) c.in_ok-arg-3.ensures in
     let four = with_option _ patience_rule _ three c.number_option-patience.ensures.local (search rules) c.in_ok-arg-4.ensures in
-    IfOk-weaker c.arg-5.result _ _
-    (λ made adds. with_option _ undo_tries_rule made four c.number_option-undo_tries.ensures.local (search rules) adds) c.arg-5.ensures
+    let five = with_option _ undo_tries_rule _ four c.number_option-undo_tries.ensures.local (search rules) c.in_ok-arg-5.ensures in
+    IfOk-weaker c.arg-6.result _ _
+    (λ made adds. with_option _ seed_rule made five c.number_option-seed.ensures.local (search rules) adds) c.arg-6.ensures

@@ -1,7 +1,7 @@
 use Rattle.std.proofs.Common.{rules, map, string_bytes, codes, ap, ◌∙◌, Some}
 use Rattle.clap.specs.Matches.{first_value, found_of}
 use Rattle.clap.specs.Simple.{matches_of}
-use Rattle.xc_settings.specs.Options.{command, number_or}
+use Rattle.xc_settings.specs.Options.{command, number_or, seed_in}
 use Rattle.xc_settings.proofs.Bounds.{schedule_in-bounds}
 use Rattle.xc_settings.proofs.Choices.{first_value-words, settings_of-matches, chosen_in-list, chosen_in-none, chosen_read}
 use Rattle.xc_settings.proofs.options.settings.Goals as goal
@@ -22,10 +22,11 @@ returns-clause-ok c =
     let given = first_value-words words c.in_ok-matches.matches in
     settings_of-matches words found.ok
     ∙ chosen_in-list rows _ c.in_ok-schedule.schedule (given (codes "schedule") found.matches) c.in_ok-schedule.ensures.ok
-    ∙ ap Some (chosen_read rows c.in_ok-schedule.schedule _ _ _ _ (c.number.ensures.value ∙ ap (number_or 4) (given (codes "workers") found.matches))
+    ∙ ap Some (chosen_read rows c.in_ok-schedule.schedule _ _ _ _ _ (c.number.ensures.value ∙ ap (number_or 4) (given (codes "workers") found.matches))
     (c.number-attempts.ensures.value ∙ ap (number_or 100) (given (codes "attempts") found.matches))
     (c.number-patience.ensures.value ∙ ap (number_or 10000) (given (codes "patience") found.matches))
-    (c.number-undo_tries.ensures.value ∙ ap (number_or 3) (given (codes "undo-tries") found.matches)))
+    (c.number-undo_tries.ensures.value ∙ ap (number_or 3) (given (codes "undo-tries") found.matches))
+    (c.seed.ensures ∙ ap seed_in (given (codes "seed") found.matches)))
 
 pub returns-clause-bounds : goal.returns-clause-bounds
 returns-clause-bounds c =
