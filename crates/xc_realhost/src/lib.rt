@@ -1,0 +1,17 @@
+//! A host on the system: regular files of the current folder, pipes, and pairs of sockets on loopback.
+//!
+//! It takes no script and tells nothing. Its contracts say when it answers a fault and how it is
+//! counted, and bound what a call gives. What the system does is trusted.
+#![tactic(auto)]
+
+mod channels;
+mod counts;
+mod errors;
+mod folder;
+mod held;
+mod pair;
+mod pipe;
+mod real_host;
+mod table;
+
+pub use real_host::RealHost;

@@ -1,0 +1,31 @@
+mod host;
+
+use crate::channels::Channels;
+use crate::counts::Counts;
+use crate::folder::Folder;
+use std::net::Net;
+use std::rt::Files;
+
+/// A host on the system: regular files of the current folder, pipes, and pairs of sockets on
+/// loopback. It tells nothing, and takes no script.
+///
+/// A file that was there before gets the number 0.k at its first lookup, with k from 0 to 65,534. Each
+/// error of the system is a fault, whatever its cause.
+#[derive(Drop)]
+pub struct RealHost<R: Files + Net + Drop> {
+    folder: Folder<R>,
+    channels: Channels,
+    counts: Counts,
+}
+
+impl<R: Files + Net + AllocGlobal + Drop> RealHost<R> {
+    /// It holds nothing open. It takes no memory, and makes no call of the system.
+    pub fn new(rt: R) -> RealHost<R> {
+        let alloc = rt.alloc();
+        RealHost {
+            folder: Folder::new(rt, alloc),
+            channels: Channels::new(alloc),
+            counts: Counts::none(),
+        }
+    }
+}
