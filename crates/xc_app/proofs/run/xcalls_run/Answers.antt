@@ -41,5 +41,5 @@ returns-in-Ok-clause-plain g c = λ tells fed unfailed.
     let wrote = subst (AppendsWhole (told c.args.sink.now) (told c.write_whole.new.sink)) c.as_bytes.ensures c.in-Ok.ensures.whole in
     plainly g.H.Host.model (map string_bytes c.args.words.now)
     (record { old = g.S.Source.told c.args.source.now; new = g.S.Source.told c.decide-status.new.source }) c.args.host meant.status meant.end
-        (due_bytes meant.due)
+    (due_bytes meant.due)
     (told c.args.sink.now) (told c.write_whole.new.sink) d.due d.run wrote tells fed

@@ -51,7 +51,7 @@ returns-clause-row g c now at here journal =
     let gone = counted answer (with_tx (job_view job) c.step_running-answer.new.place (tx_view new)) in
     let behind : gone ≡ job_view c.count_wait.new.job =
     ap (counted answer) (moves_on job was.tx c.step_running-answer.new.place new was.doing c.step_running-answer.ensures.begun)
-        ∙ sym c.count_wait.ensures.counted in
+    ∙ sym c.count_wait.ensures.counted in
     subst (λ (j : JobView). IsRunningRow (mover s at now (job_view job)) (moved model shared' j now at) answer c.settle-2.new.sentinels) behind
     (gone_row model s c.args.shared.now now at (job_view job) (tx_view job.tx) here doing shared' mid gone answer
     (sym c.in_default.is ∙ c.doomed.ensures)

@@ -43,7 +43,7 @@ returns-in-Err-clause-row g c rules now at job here doing place terms =
     let same : IsSamePosition (setting c.args.script.now rules g.H.Host.model.tells) c.args.place.now c.ask.new.self =
     record { begin = record { block = e.same.0; next = e.same.1; begun = e.begun }; walk = e.walk; at = e.at } in
     wants g.H.Host.model _ _ _ _ _ c.ask.new.self c.args.tx.now here
-        (has_tx _ _ _ _ _ doing place same) c.args.shared.now c.abort_for_memory.new.tx c.abort_for_memory.result
+    (has_tx _ _ _ _ _ doing place same) c.args.shared.now c.abort_for_memory.new.tx c.abort_for_memory.result
     refl refl refl c.abort_for_memory.ensures.tx c.abort_for_memory.ensures.answer
 
 pub returns-in-Ok-Commit-clause-lends : goal.returns-in-Ok-Commit-clause-lends
