@@ -8,6 +8,9 @@ pub mod CountedTurns
 pub mod GivenNumbers
 pub mod GroundReads
 pub mod GroundSteps
+pub mod GroundMoves
+pub mod GroundWaits
+pub mod GroundEntries
 pub mod Grounding
 pub mod Grown
 pub mod HeldClaims
