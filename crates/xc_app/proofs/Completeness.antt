@@ -26,7 +26,7 @@ use Rattle.xc_edge.specs.View.{StreamView}
 use Rattle.xc_host.specs.Model.{HostModel}
 use Rattle.xc_app.specs.Headline.{IsInput, IsRefusal, is_refused_by, IsUnscripted, AreScript, IsCaused, IsDone, IsDue, IsRun, input_of, seed_of, written_of}
 use Rattle.xc_app.specs.Headline.{IsDoneWith, IsSaidPlainly, RunsAlone}
-use Rattle.xc_app.specs.Headline.{end_text, starves, is_given_up, gives_up}
+use Rattle.xc_app.specs.Headline.{starves, is_given_up, gives_up}
 use Rattle.xc_app.specs.Outcomes.{IsOfBytes}
 
 take_all : (n : ℕ) (bytes : List ℕ) → length bytes ≤ n → take n bytes ≡ bytes

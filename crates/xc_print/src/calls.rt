@@ -12,14 +12,14 @@ use xc_data::{Boxed, Call, Chunk, Ident, NoMemory};
 fn push_named(out: &mut Page, before: &str, name: &[u8]) -> Result<(), NoMemory>
     ensures { OnOk result (out.new ≡ out.old ++ (before.now ++ name.now)) }
 {
-    write!(out, "{before}")?;
+    out.text(before)?;
     out.push(name)
 }
 
 fn push_handled(out: &mut Page, before: &str, h: u16) -> Result<(), NoMemory>
     ensures { OnOk result (out.new ≡ out.old ++ (before.now ++ handle_text h)) }
 {
-    write!(out, "{before}")?;
+    out.text(before)?;
     push_handle(out, h)
 }
 
@@ -27,14 +27,14 @@ fn push_numbered(out: &mut Page, before: &str, h: u16, n: u64) -> Result<(), NoM
     ensures { OnOk result (out.new ≡ out.old ++ (before.now ++ handle_text h ++ codes " " ++ decimal n)) }
 {
     push_handled(out, before, h)?;
-    write!(out, " {n}")
+    out.labelled(" ", n)
 }
 
 fn push_written(out: &mut Page, before: &str, h: u16, bytes: &Chunk) -> Result<(), NoMemory>
     ensures { OnOk result (out.new ≡ out.old ++ (before.now ++ handle_text h ++ codes " " ++ bytes_text bytes.now)) }
 {
     push_handled(out, before, h)?;
-    write!(out, " ")?;
+    out.text(" ")?;
     push_bytes(out, bytes.as_slice())
 }
 
@@ -89,8 +89,11 @@ pub fn push_call(out: &mut Page, call: &Call) -> Result<(), NoMemory>
     ensures { OnOk result (out.new ≡ out.old ++ call_text call.now) }
 {
     match call {
-        Call::Load { at } => write!(out, "load {at}"),
-        Call::Store { at, value } => write!(out, "store {at} {value}"),
+        Call::Load { at } => out.labelled("load ", *at),
+        Call::Store { at, value } => {
+            out.labelled("store ", *at)?;
+            out.labelled(" ", *value)
+        }
         Call::XOpen { name } => push_named(out, "x_open ", name.value().as_slice()),
         Call::XCreate { name } => push_named(out, "x_create ", name.value().as_slice()),
         Call::XRead { h, n } => push_numbered(out, "x_read ", *h, *n),
@@ -103,9 +106,9 @@ pub fn push_call(out: &mut Page, call: &Call) -> Result<(), NoMemory>
             push_named(out, " ", to.value().as_slice())
         }
         Call::XClose { h } => push_handled(out, "x_close ", *h),
-        Call::XPipe => write!(out, "x_pipe"),
+        Call::XPipe => out.text("x_pipe"),
         Call::XReadPipe { h, n } => push_numbered(out, "x_read_pipe ", *h, *n),
-        Call::XPair => write!(out, "x_pair"),
+        Call::XPair => out.text("x_pair"),
         Call::XRecvmsg { h } => push_handled(out, "x_recvmsg ", *h),
         Call::XUnlink { name, slot } => push_named_late(
             out,

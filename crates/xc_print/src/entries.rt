@@ -13,18 +13,20 @@ fn push_cause(out: &mut Page, cause: &Cause) -> Result<(), NoMemory>
     ensures { OnOk result (out.new ≡ out.old ++ cause_text cause.now) }
 {
     match cause {
-        Cause::Asked => write!(out, "asked"),
+        Cause::Asked => out.text("asked"),
         Cause::Conflict { object, holder, at } => {
-            write!(out, "conflict ")?;
+            out.text("conflict ")?;
             push_object(out, object)?;
-            write!(out, " holder t{holder} at {at}")
+            out.labelled(" holder t", *holder)?;
+            out.labelled(" at ", *at)
         }
         Cause::Revoked { object, by, at } => {
-            write!(out, "revoked ")?;
+            out.text("revoked ")?;
             push_object(out, object)?;
-            write!(out, " by t{by} at {at}")
+            out.labelled(" by t", *by)?;
+            out.labelled(" at ", *at)
         }
-        Cause::NoMemory => write!(out, "no memory"),
+        Cause::NoMemory => out.text("no memory"),
     }
 }
 
@@ -33,16 +35,18 @@ fn push_attempt(out: &mut Page, entry: &Entry) -> Result<(), NoMemory>
 {
     let (tx, job) = (entry.tx, entry.job);
     let (rank, began) = (entry.rank, entry.began);
-    write!(out, " t{tx} job {job}")?;
-    write!(out, " rank {rank} began {began}")
+    out.labelled(" t", tx)?;
+    out.labelled(" job ", job)?;
+    out.labelled(" rank ", rank)?;
+    out.labelled(" began ", began)
 }
 
 fn push_word(out: &mut Page, outcome: &Outcome) -> Result<(), NoMemory>
     ensures { OnOk result (out.new ≡ out.old ++ outcome_word outcome.now) }
 {
     match outcome {
-        Outcome::Committed { .. } => write!(out, "commit"),
-        Outcome::Aborted(_) => write!(out, "abort"),
+        Outcome::Committed { .. } => out.text("commit"),
+        Outcome::Aborted(_) => out.text("abort"),
     }
 }
 
@@ -52,7 +56,7 @@ fn push_outcome_cause(out: &mut Page, outcome: &Outcome) -> Result<(), NoMemory>
     match outcome {
         Outcome::Committed { .. } => Ok(()),
         Outcome::Aborted(report) => {
-            write!(out, " ")?;
+            out.text(" ")?;
             push_cause(out, &report.cause)
         }
     }
@@ -64,17 +68,17 @@ fn push_head(out: &mut Page, entry: &Entry) -> Result<(), NoMemory>
     push_word(out, &entry.outcome)?;
     push_attempt(out, entry)?;
     push_outcome_cause(out, &entry.outcome)?;
-    write!(out, "\n")
+    out.text("\n")
 }
 
 fn push_call_line(out: &mut Page, call: &Call, reply: &Reply) -> Result<(), NoMemory>
     ensures { OnOk result (out.new ≡ out.old ++ call_line call.now reply.now) }
 {
-    write!(out, "  ")?;
+    out.text("  ")?;
     push_call(out, call)?;
-    write!(out, " = ")?;
+    out.text(" = ")?;
     push_reply(out, reply)?;
-    write!(out, "\n")
+    out.text("\n")
 }
 
 fn push_calls(out: &mut Page, calls: &[Call], replies: &[Reply]) -> Result<(), NoMemory>
@@ -92,9 +96,10 @@ fn push_calls(out: &mut Page, calls: &[Call], replies: &[Reply]) -> Result<(), N
 fn push_late(out: &mut Page, number: usize, end: LateEnd) -> Result<(), NoMemory>
     ensures { OnOk result (out.new ≡ out.old ++ late_line number end) }
 {
-    write!(out, "  late {number} = ")?;
+    out.labelled("  late ", number)?;
+    out.text(" = ")?;
     push_late_end(out, end)?;
-    write!(out, "\n")
+    out.text("\n")
 }
 
 fn push_lates(out: &mut Page, ends: &[LateEnd]) -> Result<(), NoMemory>

@@ -21,7 +21,7 @@ fn push_opening(out: &mut Page, pipe: Num) -> Result<(), NoMemory>
     ensures { OnOk result (out.new ≡ out.old ++ opening_text pipe) }
 {
     push_labelled(out, "kept pipe ", pipe)?;
-    write!(out, " \"")
+    out.text(" \"")
 }
 
 // Ends the line that is open.
@@ -29,7 +29,7 @@ fn push_closing(out: &mut Page, opened: Option<Num>) -> Result<(), NoMemory>
     ensures { OnOk result (out.new ≡ out.old ++ closing_text opened) }
 {
     match opened {
-        Some(_) => write!(out, "\"\n"),
+        Some(_) => out.text("\"\n"),
         None => Ok(()),
     }
 }
@@ -49,9 +49,10 @@ fn push_message(out: &mut Page, pair: Num, side: u8, bytes: &Chunk) -> Result<()
     ensures { OnOk result (out.new ≡ out.old ++ kept_line (Message pair side bytes.now)) }
 {
     push_labelled(out, "kept pair ", pair)?;
-    write!(out, " side {side} ")?;
+    out.labelled(" side ", side)?;
+    out.text(" ")?;
     push_bytes(out, bytes.as_slice())?;
-    write!(out, "\n")
+    out.text("\n")
 }
 
 fn push_item(out: &mut Page, opened: Option<Num>, item: &KeptItem) -> Result<(), NoMemory>

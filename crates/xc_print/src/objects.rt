@@ -9,23 +9,24 @@ pub fn push_handle(out: &mut Page, h: u16) -> Result<(), NoMemory>
     ensures { OnOk result (out.new ≡ out.old ++ handle_text h) }
 {
     if h == u16::MAX {
-        return write!(out, "h-");
+        return out.text("h-");
     }
-    write!(out, "h{h}")
+    out.labelled("h", h)
 }
 
 fn push_num(out: &mut Page, num: Num) -> Result<(), NoMemory>
     ensures { OnOk result (out.new ≡ out.old ++ num_text num) }
 {
     let Num { tx, k } = num;
-    write!(out, "{tx}.{k}")
+    out.number(tx)?;
+    out.labelled(".", k)
 }
 
 /// A number after its label.
 pub fn push_labelled(out: &mut Page, label: &str, num: Num) -> Result<(), NoMemory>
     ensures { OnOk result (out.new ≡ out.old ++ (label.now ++ num_text num)) }
 {
-    write!(out, "{label}")?;
+    out.text(label)?;
     push_num(out, num)
 }
 
@@ -34,15 +35,15 @@ pub fn push_object(out: &mut Page, object: &Object) -> Result<(), NoMemory>
     ensures { OnOk result (out.new ≡ out.old ++ object_text object.now) }
 {
     match object {
-        Object::Word(at) => write!(out, "word {at}"),
+        Object::Word(at) => out.labelled("word ", *at),
         Object::Name(name) => {
-            write!(out, "name ")?;
+            out.text("name ")?;
             out.push(name.as_slice())
         }
         Object::File(num) => push_labelled(out, "file ", *num),
         Object::Pipe(num) => push_labelled(out, "pipe ", *num),
         Object::Pair(num) => push_labelled(out, "pair ", *num),
-        Object::Jobs => write!(out, "jobs"),
+        Object::Jobs => out.text("jobs"),
     }
 }
 
@@ -50,7 +51,7 @@ fn push_mode(out: &mut Page, mode: Mode) -> Result<(), NoMemory>
     ensures { OnOk result (out.new ≡ out.old ++ mode_text mode) }
 {
     match mode {
-        Mode::Shared => write!(out, " shared"),
+        Mode::Shared => out.text(" shared"),
         Mode::Exclusive => Ok(()),
     }
 }
@@ -66,7 +67,7 @@ fn push_further(out: &mut Page, claims: &[Claim]) -> Result<(), NoMemory>
     ensures { OnOk result (out.new ≡ out.old ++ further_claims claims.now) }
 {
     for claim in claims {
-        write!(out, ", ")?;
+        out.text(", ")?;
         push_claim(out, claim)?;
     }
     Ok(())
@@ -79,10 +80,10 @@ pub fn push_held(out: &mut Page, held: &[Claim]) -> Result<(), NoMemory>
     match held {
         [] => Ok(()),
         [first, further @ ..] => {
-            write!(out, "  held ")?;
+            out.text("  held ")?;
             push_claim(out, first)?;
             push_further(out, further)?;
-            write!(out, "\n")
+            out.text("\n")
         }
     }
 }

@@ -1,6 +1,7 @@
 ghost use Rattle.std.specs.Prelude.{◌≡◌, ◌++◌, [], OnOk};
 ghost use Rattle.std.specs.Fmt.{AppendsText};
 
+use itoa::{Buffer, Integer};
 use std::alloc::Global;
 use std::fmt::Display;
 use std::io::Write;
@@ -45,8 +46,31 @@ impl Page {
         Ok(self.bytes.extend_from_slice(bytes)?)
     }
 
+    /// This text, at the end of the page.
+    pub fn text(&mut self, text: &str) -> Result<(), NoMemory>
+        ensures { OnOk result (self.new ≡ self.old ++ text.now) }
+    {
+        self.push(text.as_bytes())
+    }
+
+    /// A number in decimal digits, at the end of the page.
+    pub fn number<I: Integer>(&mut self, number: I) -> Result<(), NoMemory>
+        ensures { OnOk result (self.new ≡ self.old ++ I.text number) }
+    {
+        let mut digits = Buffer::new();
+        self.text(digits.format(number))
+    }
+
+    /// A number after its label, at the end of the page.
+    pub fn labelled<I: Integer>(&mut self, label: &str, number: I) -> Result<(), NoMemory>
+        ensures { OnOk result (self.new ≡ self.old ++ (label.now ++ I.text number)) }
+    {
+        self.text(label)?;
+        self.number(number)
+    }
+
     // What `write!` calls. A vector refuses bytes for lack of memory alone.
-    /// What `write!` formats, at the end of the page.
+    /// What `write!` formats, at the end of the page. It is slower than `text` and `labelled`.
     pub fn write_fmt<D: Display + Drop>(&mut self, text: D) -> Result<(), NoMemory>
         ensures { OnOk result (AppendsText self.old self.new (D.output text)) }
     {

@@ -12,39 +12,41 @@ fn push_kind(out: &mut Page, undo: &Undo) -> Result<(), NoMemory>
     ensures { OnOk result (out.new ≡ out.old ++ kind_text undo.now) }
 {
     match undo {
-        Undo::Bytes { .. } => write!(out, "bytes"),
-        Undo::Tail { .. } => write!(out, "tail"),
-        Undo::Made { .. } => write!(out, "made"),
-        Undo::Moved { .. } => write!(out, "moved"),
-        Undo::NewPipe(_) => write!(out, "pipe"),
-        Undo::NewPair(_) => write!(out, "pair"),
+        Undo::Bytes { .. } => out.text("bytes"),
+        Undo::Tail { .. } => out.text("tail"),
+        Undo::Made { .. } => out.text("made"),
+        Undo::Moved { .. } => out.text("moved"),
+        Undo::NewPipe(_) => out.text("pipe"),
+        Undo::NewPair(_) => out.text("pair"),
     }
 }
 
 fn push_failed(out: &mut Page, done: u32, faults: u32) -> Result<(), NoMemory>
     ensures { OnOk result (out.new ≡ out.old ++ undo_end_text (UndoEnd.Failed done faults)) }
 {
-    write!(out, "failed restored {done} faults {faults}")
+    out.labelled("failed restored ", done)?;
+    out.labelled(" faults ", faults)
 }
 
 fn push_undo_end(out: &mut Page, end: &UndoEnd) -> Result<(), NoMemory>
     ensures { OnOk result (out.new ≡ out.old ++ undo_end_text end.now) }
 {
     match end {
-        UndoEnd::Undone { faults } => write!(out, "done faults {faults}"),
+        UndoEnd::Undone { faults } => out.labelled("done faults ", *faults),
         UndoEnd::Failed { done, faults } => push_failed(out, *done, *faults),
-        UndoEnd::Blocked { by } => write!(out, "blocked by {by}"),
+        UndoEnd::Blocked { by } => out.labelled("blocked by ", *by),
     }
 }
 
 fn push_undo(out: &mut Page, number: usize, undo: &Undo, end: &UndoEnd) -> Result<(), NoMemory>
     ensures { OnOk result (out.new ≡ out.old ++ undo_line number (undo.now, end.now)) }
 {
-    write!(out, "  undo {number} ")?;
+    out.labelled("  undo ", number)?;
+    out.text(" ")?;
     push_kind(out, undo)?;
-    write!(out, " ")?;
+    out.text(" ")?;
     push_undo_end(out, end)?;
-    write!(out, "\n")
+    out.text("\n")
 }
 
 /// A line for each record, the newest first.
@@ -84,7 +86,8 @@ fn push_overwrite(out: &mut Page, file: Num, at: u64, bytes: &[u8]) -> Result<()
     ensures { OnOk result (out.new ≡ out.old ++ overwrite_text file at bytes.now) }
 {
     push_labelled(out, "bytes file ", file)?;
-    write!(out, " at {at} ")?;
+    out.labelled(" at ", at)?;
+    out.text(" ")?;
     push_bytes(out, bytes)
 }
 
@@ -92,14 +95,15 @@ fn push_tail(out: &mut Page, file: Num, from: u32, bytes: &[u8]) -> Result<(), N
     ensures { OnOk result (out.new ≡ out.old ++ tail_text file from bytes.now) }
 {
     push_labelled(out, "tail file ", file)?;
-    write!(out, " from {from} ")?;
+    out.labelled(" from ", from)?;
+    out.text(" ")?;
     push_bytes(out, bytes)
 }
 
 fn push_made(out: &mut Page, name: &Name, num: Num) -> Result<(), NoMemory>
     ensures { OnOk result (out.new ≡ out.old ++ made_text name.now num) }
 {
-    write!(out, "made ")?;
+    out.text("made ")?;
     out.push(name.as_slice())?;
     push_labelled(out, " file ", num)
 }
@@ -107,9 +111,9 @@ fn push_made(out: &mut Page, name: &Name, num: Num) -> Result<(), NoMemory>
 fn push_moved(out: &mut Page, from: &Name, to: &Name) -> Result<(), NoMemory>
     ensures { OnOk result (out.new ≡ out.old ++ moved_text from.now to.now) }
 {
-    write!(out, "moved ")?;
+    out.text("moved ")?;
     out.push(from.as_slice())?;
-    write!(out, " ")?;
+    out.text(" ")?;
     out.push(to.as_slice())
 }
 
@@ -146,9 +150,9 @@ fn push_remaining(out: &mut Page, undo: &Undo, from: Option<u32>) -> Result<(), 
     match from {
         None => Ok(()),
         Some(k) => {
-            write!(out, "  remains ")?;
+            out.text("  remains ")?;
             push_effect(out, undo, k)?;
-            write!(out, "\n")
+            out.text("\n")
         }
     }
 }

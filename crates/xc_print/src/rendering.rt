@@ -13,21 +13,22 @@ fn push_job_end(out: &mut Page, end: &JobEnd) -> Result<(), NoMemory>
     ensures { OnOk result (out.new ≡ out.old ++ job_end_text end.now) }
 {
     match end {
-        JobEnd::Done => write!(out, "done"),
-        JobEnd::GaveUp(_) => write!(out, "gave up"),
-        JobEnd::JournalFull => write!(out, "journal full"),
-        JobEnd::NoMemory => write!(out, "no memory"),
+        JobEnd::Done => out.text("done"),
+        JobEnd::GaveUp(_) => out.text("gave up"),
+        JobEnd::JournalFull => out.text("journal full"),
+        JobEnd::NoMemory => out.text("no memory"),
     }
 }
 
 fn push_job(out: &mut Page, number: usize, job: &JobLine) -> Result<(), NoMemory>
     ensures { OnOk result (out.new ≡ out.old ++ job_line number job.now) }
 {
-    write!(out, "job {number} ")?;
+    out.labelled("job ", number)?;
+    out.text(" ")?;
     out.push(job.block.as_slice())?;
-    write!(out, " ")?;
+    out.text(" ")?;
     push_job_end(out, &job.end)?;
-    write!(out, "\n")
+    out.text("\n")
 }
 
 fn push_jobs(out: &mut Page, jobs: &[JobLine]) -> Result<(), NoMemory>
@@ -45,7 +46,9 @@ fn push_word(out: &mut Page, at: usize, value: u64) -> Result<(), NoMemory>
     if value == 0 {
         return Ok(());
     }
-    write!(out, "word {at} {value}\n")
+    out.labelled("word ", at)?;
+    out.labelled(" ", value)?;
+    out.text("\n")
 }
 
 fn push_words(out: &mut Page, words: &[u64]) -> Result<(), NoMemory>
@@ -66,10 +69,11 @@ fn push_totals(out: &mut Page, totals: Totals) -> Result<(), NoMemory>
         faults,
         remains,
     } = totals;
-    write!(
-        out,
-        "total {committed} committed, {aborted} aborted, {faults} faults, {remains} remains\n"
-    )
+    out.labelled("total ", committed)?;
+    out.labelled(" committed, ", aborted)?;
+    out.labelled(" aborted, ", faults)?;
+    out.labelled(" faults, ", remains)?;
+    out.text(" remains\n")
 }
 
 #[tactic(auto, using(crate::proofs::Pieces::five_pieces))]

@@ -11,26 +11,26 @@ pub fn push_reply(out: &mut Page, reply: &Reply) -> Result<(), NoMemory>
     ensures { OnOk result (out.new ≡ out.old ++ reply_text reply.now) }
 {
     match reply {
-        Reply::Number(n) => write!(out, "{n}"),
+        Reply::Number(n) => out.number(*n),
         Reply::Got(bytes) => push_bytes(out, bytes.as_slice()),
         Reply::Made(h) => push_handle(out, *h),
         Reply::MadePair(h, g) => {
             push_handle(out, *h)?;
-            write!(out, " ")?;
+            out.text(" ")?;
             push_handle(out, *g)
         }
-        Reply::Done => write!(out, "done"),
-        Reply::End => write!(out, "end"),
-        Reply::Empty => write!(out, "empty"),
-        Reply::NoName => write!(out, "no name"),
-        Reply::Exists => write!(out, "exists"),
-        Reply::BadHandle => write!(out, "bad handle"),
-        Reply::PastEnd => write!(out, "past end"),
-        Reply::TooBig => write!(out, "too big"),
-        Reply::TooMuch => write!(out, "too much"),
-        Reply::BadWord => write!(out, "bad word"),
-        Reply::Fault(n) => write!(out, "fault {n}"),
-        Reply::Late => write!(out, "late"),
+        Reply::Done => out.text("done"),
+        Reply::End => out.text("end"),
+        Reply::Empty => out.text("empty"),
+        Reply::NoName => out.text("no name"),
+        Reply::Exists => out.text("exists"),
+        Reply::BadHandle => out.text("bad handle"),
+        Reply::PastEnd => out.text("past end"),
+        Reply::TooBig => out.text("too big"),
+        Reply::TooMuch => out.text("too much"),
+        Reply::BadWord => out.text("bad word"),
+        Reply::Fault(n) => out.labelled("fault ", *n),
+        Reply::Late => out.text("late"),
     }
 }
 
@@ -39,12 +39,12 @@ pub fn push_late_end(out: &mut Page, end: LateEnd) -> Result<(), NoMemory>
     ensures { OnOk result (out.new ≡ out.old ++ late_end_text end) }
 {
     match end {
-        LateEnd::Done => write!(out, "done"),
-        LateEnd::Full(n) => write!(out, "full {n}"),
-        LateEnd::Shut => write!(out, "shut"),
-        LateEnd::NoName => write!(out, "no name"),
-        LateEnd::NoScript => write!(out, "no script"),
-        LateEnd::Fault(n) => write!(out, "fault {n}"),
-        LateEnd::NoMemory(n) => write!(out, "no memory {n}"),
+        LateEnd::Done => out.text("done"),
+        LateEnd::Full(n) => out.labelled("full ", n),
+        LateEnd::Shut => out.text("shut"),
+        LateEnd::NoName => out.text("no name"),
+        LateEnd::NoScript => out.text("no script"),
+        LateEnd::Fault(n) => out.labelled("fault ", n),
+        LateEnd::NoMemory(n) => out.labelled("no memory ", n),
     }
 }
