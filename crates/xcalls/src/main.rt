@@ -4,7 +4,7 @@
 use std::process::ExitCode;
 use std::sync::Wait;
 use std::thread::Threads;
-use std::{env, io};
+use std::{env, io, mem};
 use xc_app::{NoPace, Status, xcalls_run};
 use xc_edge::{StdSink, StdSource, write_whole};
 use xc_memhost::MemHost;
@@ -29,7 +29,11 @@ fn run<R: AllocGlobal + Threads + Wait + Sync>(
     let mut source = StdSource::new(rt.stdin());
     let mut sink = StdSink::new(rt.stdout());
     let host = MemHost::new(rt.alloc());
-    xcalls_run(threads, words, &mut source, &mut sink, host, &NoPace).status
+    let finish = xcalls_run(threads, words, &mut source, &mut sink, host, &NoPace);
+    let status = finish.status;
+    // The system takes all memory back at once, right after.
+    mem::forget(finish);
+    status
 }
 
 // The words could not be had: for lack of memory, or since one is no text, which no option takes.
