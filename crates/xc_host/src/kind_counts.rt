@@ -44,7 +44,14 @@ impl KindCounts {
     pub fn next(&self, kind: Kind) -> u64
         ensures { result ≡ next_of kind self.now }
     {
-        self.counts[place_of(kind)].saturating_add(1)
+        self.of(kind).saturating_add(1)
+    }
+
+    /// How many calls there were of this kind.
+    pub fn of(&self, kind: Kind) -> u64
+        ensures { result ≡ calls_of self.now kind }
+    {
+        self.counts[place_of(kind)]
     }
 
     /// One call of this kind more.

@@ -1,6 +1,7 @@
 ghost use Rattle.std.specs.Prelude.{◌≡◌, ◌≤◌, ◌<◌, ◌+◌, true, [], ◌∷◌, length, IfOk, IfSome, OnOk, OnErr, is_some};
 ghost use Rattle.std.specs.FinMap as map;
 ghost use Rattle.xc_data.specs.Counts.{CountsFault};
+ghost use Rattle.xc_data.specs.declared.script.Kind.TheVariants as PlainKind;
 ghost use Rattle.xc_host.specs.Cause.{IsCalled};
 ghost use Rattle.xc_host.specs.Contents.{file_in, has_file};
 ghost use Rattle.xc_host.specs.Counting.{calls_of};
@@ -56,6 +57,13 @@ impl MemHost {
             calls: KindCounts::none(),
             faults: 0,
         }
+    }
+
+    /// How many calls there were since it was opened, the failed ones among them. It takes no memory.
+    pub fn calls(&self) -> u64
+        ensures { result ≡ calls_of self.now.calls PlainKind.Any }
+    {
+        self.calls.of(Kind::Any)
     }
 
     /// A file's bytes. Looking at them is no call of the host.

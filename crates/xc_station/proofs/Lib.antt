@@ -10,6 +10,7 @@ pub mod DoingsTaking
 pub mod DoingsWords
 pub mod Elsewhere
 pub mod Ended
+pub mod Finishing
 pub mod Giving
 pub mod Granted
 pub mod Joined

@@ -79,6 +79,12 @@ live_seen (Some job) = refl
 lives_as : (jobs : List Job) (at : ℕ) → lives (slice_get jobs at) ≡ seen_live (slice_get (job_views jobs) at)
 lives_as jobs at = live_seen (slice_get jobs at) ∙ ap seen_live (sym (slice_get-map job_view jobs at))
 
+-- a job whose view goes on lives
+pub live_there : (jobs : List Job) (at : ℕ) (job : JobView) → slice_get (job_views jobs) at ≡ Some job → is_live job ≡ true
+    → lives (slice_get jobs at) ≡ true
+unfolding seen_live
+live_there jobs at job there live = lives_as jobs at ∙ ap seen_live there ∙ live
+
 -- a live job has a number
 pub numbered : (jobs : List Job) (job : ℕ) → live_at jobs job ≡ true → 1 ≤ job
 numbered jobs zero live = cc
@@ -135,7 +141,8 @@ back_goes : (pending : List Undo) → goes_on (back_stage pending) ≡ true
 back_goes [] = refl
 back_goes (u ∷ pending) = refl
 
-phase_goes : (tx : TxView) (phase : Phase) → goes_on (phase_stage tx phase) ≡ true
+-- an active transaction goes on in each phase
+pub phase_goes : (tx : TxView) (phase : Phase) → goes_on (phase_stage tx phase) ≡ true
 phase_goes tx Running = refl
 phase_goes tx Committing = late_goes (late_left tx)
 phase_goes tx (Undoing c) = back_goes tx.undo.pending

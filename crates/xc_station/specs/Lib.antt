@@ -1,6 +1,7 @@
 pub mod Acting
 pub mod Beginning
 pub mod Events
+pub mod Finishing
 pub mod Jobs
 pub mod Lent
 pub mod Moments

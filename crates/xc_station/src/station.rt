@@ -9,6 +9,7 @@ ghost use Rattle.xc_station.specs.Stations.{live_at, now_of};
 
 mod closing;
 mod events;
+mod finishing;
 mod opening;
 mod turns;
 

@@ -6,6 +6,7 @@ mod data;
 mod deferred;
 mod edge;
 mod file;
+mod finishing;
 mod journal;
 mod machine;
 mod memhost;
@@ -19,7 +20,7 @@ mod words;
 mod workers;
 
 use std::alloc::Global;
-use xc_data::{Kind, Name, NoMemory, Num};
+use xc_data::{CallNumbers, Kind, Name, NoMemory, Num};
 use xc_testhost::{Asked, TestHost};
 
 // The file `a` of a host for tests.
@@ -41,4 +42,11 @@ fn are_of(log: &[Asked], kinds: &[Kind]) -> bool {
             .iter()
             .zip(kinds)
             .all(|(asked, kind)| asked.kind == *kind)
+}
+
+// The call of this number alone.
+fn only(alloc: Global, number: u64) -> Result<CallNumbers, NoMemory> {
+    let mut numbers = CallNumbers::new(alloc);
+    numbers.push(number)?;
+    Ok(numbers)
 }
