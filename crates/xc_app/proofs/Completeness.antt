@@ -25,7 +25,7 @@ use Rattle.xc_edge.specs.Streams.{AppendsWhole}
 use Rattle.xc_edge.specs.View.{StreamView}
 use Rattle.xc_host.specs.Model.{HostModel}
 use Rattle.xc_app.specs.Headline.{IsInput, IsRefusal, is_refused_by, IsUnscripted, AreScript, IsCaused, IsDone, IsDue, IsRun, input_of, seed_of, written_of}
-use Rattle.xc_app.specs.Headline.{IsDoneWith, IsSaidPlainly, RunsAlone}
+use Rattle.xc_app.specs.Headline.{IsDoneWith, IsSaidPlainly, IsWritten, RunsAlone}
 use Rattle.xc_app.specs.Headline.{starves, is_given_up, gives_up}
 use Rattle.xc_app.specs.Outcomes.{IsOfBytes}
 
@@ -209,6 +209,12 @@ plain_due model words source host end due before after text fed (by, chose, byte
     let one : by ≡ chosen = same_choice by chosen (settings_of words) chose again in
     let unseeded : seed_of words ≡ None = same_seed words chosen again ∙ alone.seed in
     (subst (AppendsWhole before after) (text ∙ ap (λ seed. written_of seed end) unseeded) wrote, run.plain (subst RunsAlone (sym one) alone) tells faults fed)
+
+-- where the sink did not fail, all was written, and the status is the one that was meant
+pub written_whole : (meant ends : Status) (due : List ℕ) (old new : StreamView) → IsWritten meant ends due old new
+    → ends ≢ status.WriteFault → (ends ≡ meant) × AppendsWhole old new due
+written_whole meant ends due old new (inl whole) unfailed = whole
+written_whole meant ends due old new (inr part) unfailed = absurd (unfailed part.0)
 
 -- what a run has written is the text of its script alone, but where memory ran out
 pub plainly : {H : Type 0} (model : HostModel H) (words : List (List ℕ)) (source : Step StreamView) (host : H) (s : Status) (o : Option (End H))

@@ -1,7 +1,7 @@
 -- The bytes of what is to be written.
 use Rattle.std.specs.Prelude.{ℕ, List, string_bytes}
-use Rattle.xc_app.specs.declared.run.Due.{Due}
-use Rattle.xc_app.specs.declared.run.Due.TheVariants.{Usage, ReadFault, NoMemory, NotScripted, Line, Whole}
+use Rattle.xc_app.specs.declared.due.Due.{Due}
+use Rattle.xc_app.specs.declared.due.Due.TheVariants.{Usage, ReadFault, NoMemory, NotScripted, Line, Whole}
 use Rattle.xc_app.specs.Lines.{usage_line, read_fault_line, no_memory_line, not_scripted_line}
 
 -- what is to be written, as bytes

@@ -232,9 +232,17 @@ abbrev pub IsSaid : {H : Type 0} → Option ℕ → Status → Finish H → Step
 IsSaid seed meant finish sink =
     (due : List ℕ) × IsDue seed meant finish.end due × IsWritten meant finish.status due sink.old sink.new
 
+-- a status was meant, and it has its cause: so the run is done, and what is due is written
+abbrev pub IsAnswered : {H : Type 0} → List (List ℕ) → Bool → Step StreamView → Step StreamView → Finish H → Type 0
+IsAnswered words takes_scripts source sink finish =
+    (meant : Status) × IsCaused words takes_scripts source meant × IsDoneWith meant finish.end × IsSaid (seed_of words) meant finish sink
+
+-- without the words of the command line: the line of status 2 or of status 5 is written, or a front of it
+abbrev pub IsWordless : Status → Step StreamView → Type 0
+IsWordless ends sink = (meant : Status) × IsUsage meant × (due : List ℕ) × IsDueAlone meant due × IsWritten meant ends due sink.old sink.new
+
 -- the run's text was written; and, with one worker and neither a schedule nor a seed, where no fault is recorded, its lines but those on
--- kept data
--- are the text of the script alone
+-- kept data are the text of the script alone
 abbrev pub IsSaidPlainly : {H : Type 0} → List (List ℕ) → StreamView → StreamView → End H → Type 0
 IsSaidPlainly words old new end =
     (chosen : Chosen) → settings_of words ≡ Some chosen → RunsAlone chosen → sum_by entry_faults end.journal.items ≡ 0

@@ -9,11 +9,12 @@ ghost use Rattle.xc_model.specs.Alone.{AreAlone};
 ghost use Rattle.xc_station.specs.Stations.{KeepsOrigin, NobodyLives, RanAlone, now_of};
 ghost use Rattle.xc_edge.specs.View.{HasFailed};
 ghost use Rattle.xc_app.specs.Due.{due_bytes};
-ghost use Rattle.xc_app.specs.Headline.{is_refused_by, IsRun, IsRunOf, IsRunOver, IsOneOf, IsCaused, IsDoneWith, RunsAlone};
+ghost use Rattle.xc_app.specs.Headline.{is_refused_by, IsRun, IsRunOf, IsRunOver, IsOneOf, IsCaused, RunsAlone};
 ghost use Rattle.xc_app.specs.Headline.{IsInput, seed_of, written_of};
-ghost use Rattle.xc_app.specs.Headline.{IsDue, IsDueAlone, IsSaid, IsSaidPlainly};
+ghost use Rattle.xc_app.specs.Headline.{IsAnswered, IsDue, IsDueAlone, IsSaidPlainly};
 ghost use Rattle.xc_app.specs.Outcomes.{IsOfBytes, IsRefusedBy, IsUnrefused, TakeListed};
 
+use crate::due::{Due, write_due};
 use crate::ends::status_of;
 use crate::lines::refused;
 use crate::{Finish, LIMIT, Status};
@@ -21,7 +22,7 @@ use std::alloc::Global;
 use std::sync::Wait;
 use std::thread::Threads;
 use xc_data::{NoMemory, Text};
-use xc_edge::{ReadErr, Sink, Source, read_up_to, write_whole};
+use xc_edge::{ReadErr, Sink, Source, read_up_to};
 use xc_generator::{generate, summary};
 use xc_host::{Host, OpenErr};
 use xc_print::render;
@@ -29,41 +30,6 @@ use xc_runner::{Pace, run_workers};
 use xc_settings::{Chosen, SettingsErr, settings};
 use xc_station::{End, NotStarted, Station, drain, run_schedule, work_alone};
 use xc_text::{ParseErr, Script, Why, parse};
-
-const USAGE: &str =
-    "usage: xcalls [--workers N] [--schedule LIST] [--attempts N] [--patience N] [--undo-tries N] [--seed N]\n";
-
-const READ_FAULT: &str = "read fault\n";
-
-const NO_MEMORY: &str = "no memory\n";
-
-const NOT_SCRIPTED: &str = "not scripted\n";
-
-/// What is to be written.
-#[derive(Drop)]
-enum Due {
-    Usage,
-    ReadFault,
-    NoMemory,
-    NotScripted,
-    Line(String),
-    Whole(Text),
-}
-
-impl Due {
-    fn as_bytes(&self) -> &[u8]
-        ensures { result.now ≡ due_bytes self.now }
-    {
-        match self {
-            Due::Usage => USAGE.as_bytes(),
-            Due::ReadFault => READ_FAULT.as_bytes(),
-            Due::NoMemory => NO_MEMORY.as_bytes(),
-            Due::NotScripted => NOT_SCRIPTED.as_bytes(),
-            Due::Line(line) => line.as_bytes(),
-            Due::Whole(text) => text.as_slice(),
-        }
-    }
-}
 
 /// What a run comes to before it is written.
 #[derive(Drop)]
@@ -361,10 +327,8 @@ pub fn xcalls_run<
     // status; or the sink failed after a front of that. A run that is meant to be done has an entry
     // for each transaction, which committed or aborted itself; so has one of which effects are left,
     // where no job gave up.
-    ensures answered { (meant : Status) × IsCaused (map string_bytes words.now) H.model.takes_scripts
-        (record { old = S.told source.old; new = S.told source.new }) meant
-        × IsDoneWith meant result.end
-        × IsSaid (seed_of (map string_bytes words.now)) meant result (record { old = K.told sink.old; new = K.told sink.new }) }
+    ensures answered { IsAnswered (map string_bytes words.now) H.model.takes_scripts
+        (record { old = S.told source.old; new = S.told source.new }) (record { old = K.told sink.old; new = K.told sink.new }) result }
 
     // Nothing is read if the words are refused, or choose a seed.
     ensures unread { settings_of (map string_bytes words.now) ≡ None → source.new ≡ source.old }
@@ -392,12 +356,6 @@ pub fn xcalls_run<
         end,
         host,
     } = decide(rt, words, source, host, pace);
-    match write_whole(sink, due.as_bytes()) {
-        Ok(()) => Finish { status, end, host },
-        Err(_) => Finish {
-            status: Status::WriteFault,
-            end,
-            host,
-        },
-    }
+    let status = write_due(sink, status, &due);
+    Finish { status, end, host }
 }

@@ -4,11 +4,13 @@
 //! they are told to; those over a reader or a writer tell what that one tells.
 #![tactic(auto)]
 
+mod command_line;
 mod memory;
 mod standard;
 mod streams;
 mod whole;
 
+pub use command_line::words;
 pub use memory::{MemSink, MemSource};
 pub use standard::{StdSink, StdSource};
 pub use streams::{Failed, Sink, Source};

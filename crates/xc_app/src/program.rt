@@ -1,0 +1,53 @@
+ghost use Rattle.std.specs.Prelude.{◌≡◌, IfOk, IfSome, OnErr, map, string_bytes};
+ghost use Rattle.xc_app.specs.Headline.{IsAnswered, IsRun, IsWordless};
+
+use crate::due::{Due, write_due};
+use crate::{Finish, NoPace, Status, xcalls_run};
+use std::sync::Wait;
+use std::thread::Threads;
+use std::{io, mem};
+use xc_edge::{Sink, Source};
+use xc_host::Host;
+
+// The words could not be had: for lack of memory, or since one is no text, which no option takes.
+fn say_wordless<K: Sink>(sink: &mut K, error: io::Error) -> Status
+    ensures { IsWordless result (record { old = K.told sink.old; new = K.told sink.new }) }
+{
+    if error.kind() == io::ErrorKind::OutOfMemory {
+        return write_due(sink, Status::NoMemory, &Due::NoMemory);
+    }
+    write_due(sink, Status::Usage, &Due::Usage)
+}
+
+/// Runs the whole program, with the words of its command line if they could be had. What the run leaves
+/// is not freed: the system takes all memory back at once, right after.
+///
+/// Only `main` has the leave to start threads and to wait, and hands it on as `rt`.
+pub fn run_program<R: AllocGlobal + Threads + Wait + Sync, S: Source, K: Sink, H: Host + Send>(
+    rt: &R,
+    words: io::Result<Vec<String>>,
+    source: &mut S,
+    sink: &mut K,
+    host: H,
+) -> Status
+    // It is as `xcalls_run` finishes, of which only the status is left.
+    ensures answered { IfOk words (λ words. (finish : Finish H) × (finish.status ≡ result)
+        × IsAnswered (map string_bytes words.items) H.model.takes_scripts
+        (record { old = S.told source.old; new = S.told source.new }) (record { old = K.told sink.old; new = K.told sink.new }) finish
+        × IfSome finish.end (
+        IsRun H.model (map string_bytes words.items) (record { old = S.told source.old; new = S.told source.new }) host)) }
+
+    // Without its words nothing is read.
+    ensures wordless { OnErr words (
+        IsWordless result (record { old = K.told sink.old; new = K.told sink.new }) × (source.new ≡ source.old)) }
+{
+    match words {
+        Ok(words) => {
+            let finish = xcalls_run(rt, words.as_slice(), source, sink, host, &NoPace);
+            let status = finish.status;
+            mem::forget(finish);
+            status
+        }
+        Err(error) => say_wordless(sink, error),
+    }
+}
