@@ -1,18 +1,21 @@
 ghost use Rattle.std.specs.Prelude.{◌≡◌, ◌≤◌, length, IfOk, Some, None, if◌then◌else◌};
-ghost use Rattle.xc_data.specs.declared.call.Call.TheVariants.{Store, XClose, XRead, XSeek, XSync, XUnlink, XWriteOvr, XWriteSeq};
-ghost use Rattle.xc_data.specs.declared.call.Call.TheVariants.{XReadPipe, XSendmsg, XShutdown, XThreadCreate, XWritePipe};
+ghost use Rattle.xc_data.specs.declared.call.Call.TheVariants.{XSendmsg, XWriteOvr, XWritePipe, XWriteSeq};
 ghost use Rattle.xc_script.specs.Walks.{is_over};
 ghost use Rattle.xc_script.specs.Asking.{unless_over};
-ghost use Rattle.xc_script.specs.Values.{data_of, handle_value, term_value, expression_value};
+ghost use Rattle.xc_script.specs.Values.{data_of, handle_value};
 ghost use Rattle.xc_script.specs.Asking.{name_of_slot, form_ask, ask_of};
 ghost use Rattle.xc_script.specs.Walks.{carried_by};
 
+use crate::calls::{
+    close, create, load, measure, open, read, read_pipe, receive, rename, seek, shutdown, start,
+    store, sync, unlink,
+};
 use crate::data::{data_in, data_len};
-use crate::terms::{expression_of, handle_in, value_of};
+use crate::terms::handle_in;
 use crate::value::Variables;
 use std::alloc::Global;
-use xc_data::{Boxed, Call, Chunk, Ident, MOST_STORED, Name, NoMemory};
-use xc_text::{CallForm, Data, Expression, Place, Statement, Term};
+use xc_data::{Boxed, Call, Chunk, Ident, MOST_STORED, NoMemory};
+use xc_text::{CallForm, Data, Place, Statement};
 
 /// What a job is asked to do next.
 #[derive(Drop)]
@@ -152,105 +155,6 @@ fn send(
     }
 }
 
-fn store(variables: &Variables, at: Term<Place>, value: Expression<Place>) -> Call
-    ensures { result ≡ Store (term_value variables.now at) (expression_value variables.now value) }
-{
-    Call::Store {
-        at: value_of(variables, at),
-        value: expression_of(variables, value),
-    }
-}
-
-fn read(variables: &Variables, handle: Place, n: Term<Place>) -> Call
-    ensures { result ≡ XRead (handle_value variables.now handle) (term_value variables.now n) }
-{
-    Call::XRead {
-        h: handle_in(variables, handle),
-        n: value_of(variables, n),
-    }
-}
-
-fn read_pipe(variables: &Variables, handle: Place, n: Term<Place>) -> Call
-    ensures { result ≡ XReadPipe (handle_value variables.now handle) (term_value variables.now n) }
-{
-    Call::XReadPipe {
-        h: handle_in(variables, handle),
-        n: value_of(variables, n),
-    }
-}
-
-fn seek(variables: &Variables, handle: Place, to: Term<Place>) -> Call
-    ensures { result ≡ XSeek (handle_value variables.now handle) (term_value variables.now to) }
-{
-    Call::XSeek {
-        h: handle_in(variables, handle),
-        to: value_of(variables, to),
-    }
-}
-
-fn close(variables: &Variables, handle: Place) -> Call
-    ensures { result ≡ XClose (handle_value variables.now handle) }
-{
-    let h = handle_in(variables, handle);
-    Call::XClose { h }
-}
-
-fn unlink(
-    alloc: Global,
-    variables: &Variables,
-    name: &Boxed<Name>,
-    slot: Option<Place>,
-) -> Result<Call, NoMemory>
-    ensures { IfOk result (λ call. call ≡ XUnlink name.now (name_of_slot variables.now slot)) }
-{
-    Ok(Call::XUnlink {
-        name: name.copied(alloc)?,
-        slot: Boxed::new_optional(alloc, variables.slot_name(slot))?,
-    })
-}
-
-fn sync(
-    alloc: Global,
-    variables: &Variables,
-    handle: Place,
-    slot: Option<Place>,
-) -> Result<Call, NoMemory>
-    ensures { IfOk result (λ call. call ≡ XSync (handle_value variables.now handle) (name_of_slot variables.now slot)) }
-{
-    Ok(Call::XSync {
-        h: handle_in(variables, handle),
-        slot: Boxed::new_optional(alloc, variables.slot_name(slot))?,
-    })
-}
-
-fn shutdown(
-    alloc: Global,
-    variables: &Variables,
-    handle: Place,
-    slot: Option<Place>,
-) -> Result<Call, NoMemory>
-    ensures { IfOk result (λ call. call ≡ XShutdown (handle_value variables.now handle) (name_of_slot variables.now slot)) }
-{
-    Ok(Call::XShutdown {
-        h: handle_in(variables, handle),
-        slot: Boxed::new_optional(alloc, variables.slot_name(slot))?,
-    })
-}
-
-fn start(
-    alloc: Global,
-    variables: &Variables,
-    block: &Boxed<Ident>,
-    slot: Option<Place>,
-) -> Result<Call, NoMemory>
-    ensures { IfOk result (λ call. call ≡ XThreadCreate block.now (name_of_slot variables.now slot)) }
-{
-    Ok(Call::XThreadCreate {
-        body: block.copied(alloc)?,
-        slot: Boxed::new_optional(alloc, variables.slot_name(slot))?,
-    })
-}
-
 // What a line that is a call asks, after so many stored bytes.
 fn form_ask(
     alloc: Global,
@@ -261,27 +165,16 @@ fn form_ask(
     ensures { IfOk result (λ ask. ask ≡ form_ask variables.now stored form.now) }
 {
     match form {
-        CallForm::Load { at, .. } => Ok(Ask::Call(Call::Load {
-            at: value_of(variables, *at),
-        })),
+        CallForm::Load { at, .. } => Ok(Ask::Call(load(variables, *at))),
         CallForm::Store { at, value } => Ok(Ask::Call(store(variables, *at, *value))),
-        CallForm::Open { name, .. } => Ok(Ask::Call(Call::XOpen {
-            name: name.copied(alloc)?,
-        })),
-        CallForm::Create { name, .. } => Ok(Ask::Call(Call::XCreate {
-            name: name.copied(alloc)?,
-        })),
-        CallForm::Rename { from, to } => Ok(Ask::Call(Call::XRename {
-            from: from.copied(alloc)?,
-            to: to.copied(alloc)?,
-        })),
+        CallForm::Open { name, .. } => Ok(Ask::Call(open(alloc, name)?)),
+        CallForm::Create { name, .. } => Ok(Ask::Call(create(alloc, name)?)),
+        CallForm::Rename { from, to } => Ok(Ask::Call(rename(alloc, from, to)?)),
         CallForm::Read { handle, n, .. } => Ok(Ask::Call(read(variables, *handle, *n))),
         CallForm::Overwrite { handle, data } => overwrite(alloc, variables, stored, *handle, data),
         CallForm::Append { handle, data } => append(alloc, variables, stored, *handle, data),
         CallForm::Seek { handle, to } => Ok(Ask::Call(seek(variables, *handle, *to))),
-        CallForm::Length { handle, .. } => Ok(Ask::Call(Call::XLen {
-            h: handle_in(variables, *handle),
-        })),
+        CallForm::Length { handle, .. } => Ok(Ask::Call(measure(variables, *handle))),
         CallForm::Close { handle } => Ok(Ask::Call(close(variables, *handle))),
         CallForm::Unlink { name, slot } => Ok(Ask::Call(unlink(alloc, variables, name, *slot)?)),
         CallForm::Sync { handle, slot } => Ok(Ask::Call(sync(alloc, variables, *handle, *slot)?)),
@@ -294,9 +187,7 @@ fn form_ask(
             Ok(Ask::Call(shutdown(alloc, variables, *handle, *slot)?))
         }
         CallForm::Pair { .. } => Ok(Ask::Call(Call::XPair)),
-        CallForm::Receive { handle, .. } => Ok(Ask::Call(Call::XRecvmsg {
-            h: handle_in(variables, *handle),
-        })),
+        CallForm::Receive { handle, .. } => Ok(Ask::Call(receive(variables, *handle))),
         CallForm::Send { handle, data, slot } => {
             send(alloc, variables, stored, *handle, data, *slot)
         }

@@ -3,6 +3,7 @@
 
 mod answer;
 mod ask;
+mod calls;
 mod data;
 mod ends;
 mod job;

@@ -1,0 +1,156 @@
+ghost use Rattle.std.specs.Prelude.{◌≡◌, IfOk};
+ghost use Rattle.xc_data.specs.declared.call.Call.TheVariants.{Load, Store, XClose, XCreate, XLen, XOpen, XRead, XRename, XSeek};
+ghost use Rattle.xc_data.specs.declared.call.Call.TheVariants.{XReadPipe, XRecvmsg, XShutdown, XSync, XThreadCreate, XUnlink};
+ghost use Rattle.xc_script.specs.Asking.{name_of_slot};
+ghost use Rattle.xc_script.specs.Values.{expression_value, handle_value, term_value};
+
+use crate::terms::{expression_of, handle_in, value_of};
+use crate::value::Variables;
+use std::alloc::Global;
+use xc_data::{Boxed, Call, Ident, Name, NoMemory};
+use xc_text::{Expression, Place, Term};
+
+// The calls that carry no bytes, each from the words of its line.
+
+pub fn load(variables: &Variables, at: Term<Place>) -> Call
+    ensures { result ≡ Load (term_value variables.now at) }
+{
+    let at = value_of(variables, at);
+    Call::Load { at }
+}
+
+pub fn store(variables: &Variables, at: Term<Place>, value: Expression<Place>) -> Call
+    ensures { result ≡ Store (term_value variables.now at) (expression_value variables.now value) }
+{
+    Call::Store {
+        at: value_of(variables, at),
+        value: expression_of(variables, value),
+    }
+}
+
+pub fn open(alloc: Global, name: &Boxed<Name>) -> Result<Call, NoMemory>
+    ensures { IfOk result (λ call. call ≡ XOpen name.now) }
+{
+    let name = name.copied(alloc)?;
+    Ok(Call::XOpen { name })
+}
+
+pub fn create(alloc: Global, name: &Boxed<Name>) -> Result<Call, NoMemory>
+    ensures { IfOk result (λ call. call ≡ XCreate name.now) }
+{
+    let name = name.copied(alloc)?;
+    Ok(Call::XCreate { name })
+}
+
+pub fn rename(alloc: Global, from: &Boxed<Name>, to: &Boxed<Name>) -> Result<Call, NoMemory>
+    ensures { IfOk result (λ call. call ≡ XRename from.now to.now) }
+{
+    Ok(Call::XRename {
+        from: from.copied(alloc)?,
+        to: to.copied(alloc)?,
+    })
+}
+
+pub fn read(variables: &Variables, handle: Place, n: Term<Place>) -> Call
+    ensures { result ≡ XRead (handle_value variables.now handle) (term_value variables.now n) }
+{
+    Call::XRead {
+        h: handle_in(variables, handle),
+        n: value_of(variables, n),
+    }
+}
+
+pub fn read_pipe(variables: &Variables, handle: Place, n: Term<Place>) -> Call
+    ensures { result ≡ XReadPipe (handle_value variables.now handle) (term_value variables.now n) }
+{
+    Call::XReadPipe {
+        h: handle_in(variables, handle),
+        n: value_of(variables, n),
+    }
+}
+
+pub fn seek(variables: &Variables, handle: Place, to: Term<Place>) -> Call
+    ensures { result ≡ XSeek (handle_value variables.now handle) (term_value variables.now to) }
+{
+    Call::XSeek {
+        h: handle_in(variables, handle),
+        to: value_of(variables, to),
+    }
+}
+
+pub fn measure(variables: &Variables, handle: Place) -> Call
+    ensures { result ≡ XLen (handle_value variables.now handle) }
+{
+    let h = handle_in(variables, handle);
+    Call::XLen { h }
+}
+
+pub fn receive(variables: &Variables, handle: Place) -> Call
+    ensures { result ≡ XRecvmsg (handle_value variables.now handle) }
+{
+    let h = handle_in(variables, handle);
+    Call::XRecvmsg { h }
+}
+
+pub fn close(variables: &Variables, handle: Place) -> Call
+    ensures { result ≡ XClose (handle_value variables.now handle) }
+{
+    let h = handle_in(variables, handle);
+    Call::XClose { h }
+}
+
+pub fn unlink(
+    alloc: Global,
+    variables: &Variables,
+    name: &Boxed<Name>,
+    slot: Option<Place>,
+) -> Result<Call, NoMemory>
+    ensures { IfOk result (λ call. call ≡ XUnlink name.now (name_of_slot variables.now slot)) }
+{
+    Ok(Call::XUnlink {
+        name: name.copied(alloc)?,
+        slot: Boxed::new_optional(alloc, variables.slot_name(slot))?,
+    })
+}
+
+pub fn sync(
+    alloc: Global,
+    variables: &Variables,
+    handle: Place,
+    slot: Option<Place>,
+) -> Result<Call, NoMemory>
+    ensures { IfOk result (λ call. call ≡ XSync (handle_value variables.now handle) (name_of_slot variables.now slot)) }
+{
+    Ok(Call::XSync {
+        h: handle_in(variables, handle),
+        slot: Boxed::new_optional(alloc, variables.slot_name(slot))?,
+    })
+}
+
+pub fn shutdown(
+    alloc: Global,
+    variables: &Variables,
+    handle: Place,
+    slot: Option<Place>,
+) -> Result<Call, NoMemory>
+    ensures { IfOk result (λ call. call ≡ XShutdown (handle_value variables.now handle) (name_of_slot variables.now slot)) }
+{
+    Ok(Call::XShutdown {
+        h: handle_in(variables, handle),
+        slot: Boxed::new_optional(alloc, variables.slot_name(slot))?,
+    })
+}
+
+pub fn start(
+    alloc: Global,
+    variables: &Variables,
+    block: &Boxed<Ident>,
+    slot: Option<Place>,
+) -> Result<Call, NoMemory>
+    ensures { IfOk result (λ call. call ≡ XThreadCreate block.now (name_of_slot variables.now slot)) }
+{
+    Ok(Call::XThreadCreate {
+        body: block.copied(alloc)?,
+        slot: Boxed::new_optional(alloc, variables.slot_name(slot))?,
+    })
+}
