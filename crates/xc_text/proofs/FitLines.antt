@@ -1,5 +1,5 @@
 -- What a line says fits the place where it is.
-use Rattle.std.proofs.Common.{◌≡◌, ℕ, ◌≤◌, Bool, true, false, List, [], ◌∷◌, length, Option, None, Some, Result, Ok, Err, IfOk, IfSome}
+use Rattle.std.proofs.Common.{◌≡◌, ℕ, ◌≤◌, Bool, true, false, List, [], ◌∷◌, length, Option, None, Some, Result, Err, IfOk, IfSome}
 use Rattle.std.proofs.Common.{refl}
 use Rattle.std.specs.Prelude.{codes, if◌then◌else◌}
 use Rattle.std.proofs.lemmas.Bool.{cond_both, leb-true}
@@ -19,16 +19,11 @@ use Rattle.xc_text.specs.Shapes.{bare}
 use Rattle.xc_text.specs.Statements.{statement_line}
 use Rattle.xc_tokens.specs.Words.{spells, number, ident, name}
 use Rattle.xc_tokens.specs.Tokens.{Lexeme, Word, Literal}
-use Rattle.xc_text.proofs.KeepingPrologue.{for_seen}
+use Rattle.xc_text.proofs.Results.{for_any, seen_keeps}
 use Rattle.xc_text.proofs.KeepingBlocks.{IsFitLine}
 
--- what holds of all holds of a result
-pub for_any : {A E : Type 0} (P : A → Type 0) (a : Result A E) → ((x : A) → P x) → IfOk a P
-for_any P (Ok x) h = h x
-for_any P (Err e) h = tt
-
 fits_seen : {A E : Type 0} (p : Section) (f : A → Line) (a : Result A E) → ((x : A) → IsFitLine p (f x)) → IfOk (seen f a) (IsFitLine p)
-fits_seen p f a h = for_seen (IsFitLine p) f a (for_any (λ x. IsFitLine p (f x)) a h)
+fits_seen p f a h = seen_keeps (λ x. IsFitLine p (f x)) (IsFitLine p) f a (for_any _ a h) (λ x fits. fits)
 
 words_fits : (rest : List Lexeme) → IfOk (words_line rest) (IsFitLine Prologue)
 words_fits [] = tt
@@ -145,4 +140,4 @@ IsFitLineOf p None = Unit {0}
 -- what the tokens of a line say fits its place
 pub said_fits : (p : Section) (tokens : List Lexeme) → IfOk (line_of p tokens) (IsFitLineOf p)
 said_fits p [] = tt
-said_fits p (t ∷ rest) = for_seen (IsFitLineOf p) Some (first_line p t rest) (first_fits p t rest)
+said_fits p (t ∷ rest) = seen_keeps (IsFitLine p) (IsFitLineOf p) Some (first_line p t rest) (first_fits p t rest) (λ x fits. fits)

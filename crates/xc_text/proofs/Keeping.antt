@@ -14,7 +14,6 @@ use Rattle.xc_tokens.specs.declared.why.Why.{Why}
 use Rattle.xc_text.specs.Refusals.{Refusal}
 use Rattle.xc_text.specs.Grammar.{line_of}
 use Rattle.xc_tokens.specs.Lines.{lines_of, is_line_byte}
-use Rattle.xc_tokens.specs.Literals.{contents}
 use Rattle.xc_text.specs.Said.{Said, opening}
 use Rattle.xc_text.specs.Sections.{is_outside}
 use Rattle.xc_text.specs.Scripts.{names_of, IsScript, at_line, prologue_of, script_of}
@@ -24,9 +23,9 @@ use Rattle.xc_text.specs.Steps.{after_tokens, after_bytes}
 use Rattle.xc_tokens.specs.Tokens.{Lexeme, tokens_of}
 use Rattle.xc_text.proofs.Indexing.{distinct_moved}
 use Rattle.xc_text.proofs.Sound.{IsOpening, IsSound, Keeps, opening-keeps}
-use Rattle.xc_text.proofs.KeepingPrologue.{then_keeps}
 use Rattle.xc_text.proofs.KeepingBlocks.{outside_names, after-keeps}
-use Rattle.xc_text.proofs.FitLines.{for_any, IsFitLineOf, said_fits}
+use Rattle.xc_text.proofs.FitLines.{IsFitLineOf, said_fits}
+use Rattle.xc_text.proofs.Results.{for_any, then_keeps}
 
 after_any-keeps : (r : Said) (says : Option Line) → IsFitLineOf r.section says → IsSound r → Keeps (after_any r says)
 after_any-keeps r (Some says) first k = after-keeps r says first k
@@ -49,10 +48,10 @@ after_bytes-keeps r bytes k =
 of_lines : (p : OnePrologue) → IsOpening p → IsPrologue p
 of_lines p is =
     record {
-      objects = is.few;
-      contents = is.fit;
-      pipes = is.pipes;
-      pairs = is.pairs;
+      objects = is.objects.few;
+      contents = is.objects.fit;
+      pipes = is.objects.pipes;
+      pairs = is.objects.pairs;
       grain = is.grain;
     }
 
@@ -65,18 +64,18 @@ script_of-keeps : (r : Said) → is_outside r.section ≡ true → IsSound r →
 script_of-keeps r outside k =
     let named : IsPermutation (r.jobs ++ r.bodies) (names_of r.blocks) = outside_names r outside k in
     record {
-      some_words = k.some_words;
-      few_words = k.few_words;
-      few_blocks = omega (arith, k.few_blocks, block_count (script_of r) named);
-      distinct = distinct_moved (r.jobs ++ r.bodies) (names_of r.blocks) named k.distinct;
+      some_words = k.words.some;
+      few_words = k.words.few;
+      few_blocks = omega (arith, k.begun.few, block_count (script_of r) named);
+      distinct = distinct_moved (r.jobs ++ r.bodies) (names_of r.blocks) named k.begun.distinct;
       named = named;
       prologue = of_lines (prologue_of r) k.opening;
       faults = k.opening.faults;
       each_block = k.each_block;
-      few_variables = k.few_variables;
-      few_slots = k.few_slots;
-      handles = k.handles;
-      each_handle = k.each_handle;
+      few_variables = k.names.variables;
+      few_slots = k.names.slots;
+      handles = k.handles.count;
+      each_handle = k.handles.each;
     }
 
 at_line-keeps : {A : Type 0} (P : A → Type 0) (n : ℕ) (a : Result A Why) → IfOk a P → IfOk (at_line n a) P

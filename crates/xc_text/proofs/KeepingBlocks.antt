@@ -1,5 +1,5 @@
 -- A line of a block, and one between blocks, keeps what is sound.
-use Rattle.std.proofs.Common.{◌≡◌, ℕ, ◌+◌, ◌<◌, ◌≤◌, true, false, List, ◌++◌, length, Result, Ok, Err, IfOk, IfSome}
+use Rattle.std.proofs.Common.{◌≡◌, ℕ, ◌+◌, ◌<◌, ◌≤◌, true, false, List, ◌++◌, length, Result, IfOk, IfSome}
 use Rattle.std.proofs.Common.{refl, subst, arith, nat_le, ◌&&◌}
 use Rattle.std.specs.Prelude.{IsPermutation}
 use Rattle.std.proofs.lemmas.Bool.{cond_both, leb-false, leb-true, and_parts}
@@ -11,9 +11,8 @@ use Rattle.xc_text.specs.declared.line.Line.TheVariants as line
 use Rattle.xc_text.specs.declared.line.Section.{Section}
 use Rattle.xc_text.specs.declared.line.Section.TheVariants.{Prologue, Between, Block, Transaction}
 use Rattle.xc_tokens.specs.declared.why.Why.{Why}
-use Rattle.xc_tokens.specs.Answers.{seen}
 use Rattle.xc_text.specs.Kinds.{kind}
-use Rattle.xc_text.specs.Said.{Said, opening}
+use Rattle.xc_text.specs.Said.{Said}
 use Rattle.xc_text.specs.Sections.{block_in, transaction_in, is_outside}
 use Rattle.xc_text.specs.Scripts.{names_of, IsBlock}
 use Rattle.xc_text.specs.Steps.{are_few, has_few_calls, is_among}
@@ -22,7 +21,8 @@ use Rattle.xc_text.specs.Places.{Placed, placed}
 use Rattle.xc_tokens.specs.Words.{name}
 use Rattle.xc_text.proofs.Growing.{Grows, placed_grows}
 use Rattle.xc_text.proofs.Indexing.{job_among, body_among, distinct_job, distinct_body}
-use Rattle.xc_text.proofs.Sound.{CountFits, IsBody, all_names, IsSound, Keeps, count_at, names_at}
+use Rattle.xc_text.proofs.Results.{seen_keeps}
+use Rattle.xc_text.proofs.Sound.{CountFits, IsBody, AreUnderWay, all_names, IsSound, Keeps, count_at, names_at}
 use Rattle.xc_text.proofs.KeepingPrologue.{sized-keeps, valued-keeps, filed-keeps, kept_within, piped-keeps, paired-keeps}
 use Rattle.xc_text.proofs.KeepingPrologue.{faulted-keeps, grained-keeps}
 
@@ -30,20 +30,16 @@ stated-keeps : (s : Said) (p : Placed Statement) → Grows s.names p.0 → IsSou
 stated-keeps s p grows k =
     cond_both (has_few_calls s.body p.1 && are_few p.0) _ _ Keeps (λ few.
     record {
-      some_words = k.some_words;
-      few_words = k.few_words;
-      count = k.count;
-      named = k.named;
-      few_blocks = k.few_blocks;
-      distinct = k.distinct;
-      calls = k.calls;
-      body = leb-true _ _ (and_parts _ _ few).0;
+      words = k.words;
       opening = k.opening;
+      begun = k.begun;
+      under_way = record { count = k.under_way.count; calls = k.under_way.calls; body = leb-true _ _ (and_parts _ _ few).0 };
       each_block = k.each_block;
-      few_variables = leb-true _ _ (and_parts _ _ (and_parts _ _ few).1).0;
-      few_slots = leb-true _ _ (and_parts _ _ (and_parts _ _ few).1).1;
-      handles = k.handles;
-      each_handle = kept_within s.names p.0 s.handles grows k.each_handle;
+      names = record {
+        variables = leb-true _ _ (and_parts _ _ (and_parts _ _ few).1).0;
+        slots = leb-true _ _ (and_parts _ _ (and_parts _ _ few).1).1;
+      };
+      handles = record { count = k.handles.count; each = kept_within s.names p.0 s.handles grows k.handles.each };
     }) (λ _. tt)
 
 begun-keeps : (r : Said) (p : Section) → r.section ≡ p → IsSound r → Keeps (begun r (block_in p))
@@ -53,20 +49,13 @@ begun-keeps r (Transaction name) e k = tt
 begun-keeps r (Block name) e k =
     cond_both (nat_le 1000 (length r.transactions)) _ _ Keeps (λ _. tt) (λ room.
     record {
-      some_words = k.some_words;
-      few_words = k.few_words;
-      count = leb-false _ _ room;
-      named = names_at r (Block name) e k;
-      few_blocks = k.few_blocks;
-      distinct = k.distinct;
-      calls = k.calls;
-      body = k.body;
+      words = k.words;
       opening = k.opening;
+      begun = record { named = names_at r (Block name) e k; few = k.begun.few; distinct = k.begun.distinct };
+      under_way = record { count = leb-false _ _ room; calls = k.under_way.calls; body = k.under_way.body };
       each_block = k.each_block;
-      few_variables = k.few_variables;
-      few_slots = k.few_slots;
+      names = k.names;
       handles = k.handles;
-      each_handle = k.each_handle;
     })
 
 committed-keeps : (r : Said) (p : Section) → r.section ≡ p → IsSound r → Keeps (committed r (transaction_in p))
@@ -75,20 +64,17 @@ committed-keeps r Between e k = tt
 committed-keeps r (Block name) e k = tt
 committed-keeps r (Transaction name) e k =
     record {
-      some_words = k.some_words;
-      few_words = k.few_words;
-      count = rw length-append (omega (arith, count_at r (Transaction name) e k));
-      named = names_at r (Transaction name) e k;
-      few_blocks = k.few_blocks;
-      distinct = k.distinct;
-      calls = All-push IsBody r.transactions r.body k.calls k.body;
-      body = omega arith;
+      words = k.words;
       opening = k.opening;
+      begun = record { named = names_at r (Transaction name) e k; few = k.begun.few; distinct = k.begun.distinct };
+      under_way = record {
+        count = rw length-append (omega (arith, count_at r (Transaction name) e k));
+        calls = All-push IsBody r.transactions r.body k.under_way.calls k.under_way.body;
+        body = omega arith;
+      };
       each_block = k.each_block;
-      few_variables = k.few_variables;
-      few_slots = k.few_slots;
+      names = k.names;
       handles = k.handles;
-      each_handle = k.each_handle;
     }
 
 ended-keeps : (r : Said) (p : Section) → r.section ≡ p → IsSound r → Keeps (ended_block r (block_in p))
@@ -97,20 +83,14 @@ ended-keeps r Between e k = tt
 ended-keeps r (Transaction name) e k = tt
 ended-keeps r (Block name) e k =
     record {
-      some_words = k.some_words;
-      few_words = k.few_words;
-      count = refl;
-      named = rw map-append (names_at r (Block name) e k);
-      few_blocks = k.few_blocks;
-      distinct = k.distinct;
-      calls = All-nil IsBody;
-      body = k.body;
+      words = k.words;
       opening = k.opening;
-      each_block = All-push IsBlock r.blocks _ k.each_block (record { transactions = count_at r (Block name) e k; calls = k.calls });
-      few_variables = k.few_variables;
-      few_slots = k.few_slots;
+      begun = record { named = rw map-append (names_at r (Block name) e k); few = k.begun.few; distinct = k.begun.distinct };
+      under_way = record { count = refl; calls = All-nil IsBody; body = k.under_way.body };
+      each_block =
+          All-push IsBlock r.blocks _ k.each_block (record { transactions = count_at r (Block name) e k; calls = k.under_way.calls });
+      names = k.names;
       handles = k.handles;
-      each_handle = k.each_handle;
     }
 
 -- a line that may stand in a section: a block begins outside of the others, and a file and a pipe aren't too long
@@ -136,7 +116,7 @@ ended_names (Transaction name) names outside = cc
 
 -- outside a block the names are those of the blocks so far
 pub outside_names : (r : Said) → is_outside r.section ≡ true → IsSound r → IsPermutation (r.jobs ++ r.bodies) (names_of r.blocks)
-outside_names r outside k = subst (IsPermutation (r.jobs ++ r.bodies)) (ended_names r.section (names_of r.blocks) outside) k.named
+outside_names r outside k = subst (IsPermutation (r.jobs ++ r.bodies)) (ended_names r.section (names_of r.blocks) outside) k.begun.named
 
 -- no block has the name, and there may be one more
 abbrev IsNew : Said → List ℕ → Type 0
@@ -148,49 +128,47 @@ new_block r name =
     cond_both (nat_le 1000 (length r.jobs + length r.bodies)) _ _ (λ (a : Result (Unit {0}) Why). IfOk a (λ _. IsNew r name)) (λ _. tt)
     (λ room. (new, leb-false _ _ room)))
 
-seen_where : {A B E : Type 0} (P : B → Type 0) (Q : Type 0) (f : A → B) (a : Result A E) → IfOk a (λ _. Q) → (Q → (x : A) → P (f x))
-    → IfOk (seen f a) P
-seen_where P Q f (Ok x) q h = h q x
-seen_where P Q f (Err e) q h = tt
+-- a block that begins has nothing under way
+block_opens : (r : Said) (name : List ℕ) → is_outside r.section ≡ true → IsSound r → AreUnderWay (Block name) r.transactions r.body
+block_opens r name outside k =
+    record {
+      count = omega (arith, none_under_way r.section (length r.transactions) outside k.under_way.count);
+      calls = k.under_way.calls;
+      body = k.under_way.body;
+    }
 
 started-keeps : (r : Said) (name : List ℕ) → is_outside r.section ≡ true → IsSound r → Keeps (started r name)
 started-keeps r name outside k =
-    seen_where IsSound (IsNew r name) _ (may_begin r name) (new_block r name) (λ new _.
+    seen_keeps (λ _. IsNew r name) IsSound _ (may_begin r name) (new_block r name) (λ _ new.
     record {
-      some_words = k.some_words;
-      few_words = k.few_words;
-      count = omega (arith, none_under_way r.section (length r.transactions) outside k.count);
-      named = job_among r.jobs r.bodies (names_of r.blocks) name (outside_names r outside k);
-      few_blocks = rw length-append (omega (arith, new.1));
-      distinct = distinct_job r.jobs r.bodies name new.0 k.distinct;
-      calls = k.calls;
-      body = k.body;
+      words = k.words;
       opening = k.opening;
+      begun = record {
+        named = job_among r.jobs r.bodies (names_of r.blocks) name (outside_names r outside k);
+        few = rw length-append (omega (arith, new.1));
+        distinct = distinct_job r.jobs r.bodies name new.0 k.begun.distinct;
+      };
+      under_way = block_opens r name outside k;
       each_block = k.each_block;
-      few_variables = k.few_variables;
-      few_slots = k.few_slots;
+      names = k.names;
       handles = k.handles;
-      each_handle = k.each_handle;
     })
 
 bodied-keeps : (r : Said) (name : List ℕ) → is_outside r.section ≡ true → IsSound r → Keeps (bodied r name)
 bodied-keeps r name outside k =
-    seen_where IsSound (IsNew r name) _ (may_begin r name) (new_block r name) (λ new _.
+    seen_keeps (λ _. IsNew r name) IsSound _ (may_begin r name) (new_block r name) (λ _ new.
     record {
-      some_words = k.some_words;
-      few_words = k.few_words;
-      count = omega (arith, none_under_way r.section (length r.transactions) outside k.count);
-      named = body_among r.jobs r.bodies (names_of r.blocks) name (outside_names r outside k);
-      few_blocks = rw length-append (omega (arith, new.1));
-      distinct = distinct_body r.jobs r.bodies name new.0 k.distinct;
-      calls = k.calls;
-      body = k.body;
+      words = k.words;
       opening = k.opening;
+      begun = record {
+        named = body_among r.jobs r.bodies (names_of r.blocks) name (outside_names r outside k);
+        few = rw length-append (omega (arith, new.1));
+        distinct = distinct_body r.jobs r.bodies name new.0 k.begun.distinct;
+      };
+      under_way = block_opens r name outside k;
       each_block = k.each_block;
-      few_variables = k.few_variables;
-      few_slots = k.few_slots;
+      names = k.names;
       handles = k.handles;
-      each_handle = k.each_handle;
     })
 
 -- each line that fits its place keeps it

@@ -1,5 +1,5 @@
 -- A prologue line keeps what is sound.
-use Rattle.std.proofs.Common.{◌≡◌, ℕ, ◌+◌, ◌<◌, ◌≤◌, List, [], ◌∷◌, ◌++◌, length, Option, None, Some, Result, Ok, Err, IfOk, IfSome, cond}
+use Rattle.std.proofs.Common.{◌≡◌, ℕ, ◌+◌, ◌<◌, ◌≤◌, List, [], ◌∷◌, ◌++◌, length, Option, None, Some, IfSome, cond}
 use Rattle.std.proofs.Common.{subst, append_assoc, arith, nat_lt, nat_le, ◌||◌, ◌&&◌}
 use Rattle.std.specs.Prelude.{All, count_by, is_some}
 use Rattle.std.specs.List.{list_any}
@@ -11,9 +11,8 @@ use Rattle.xc_data.specs.declared.script.Kind.{Kind}
 use Rattle.xc_data.specs.declared.script.Opened.{Opened}
 use Rattle.xc_data.specs.declared.script.Opened.TheVariants.{File, Pipe, Pair}
 use Rattle.xc_data.specs.Limits.{IsOpenedFit, is_pipe_line, is_pair_line}
-use Rattle.xc_tokens.specs.Answers.{and_then, seen}
 use Rattle.xc_text.specs.Kinds.{kind}
-use Rattle.xc_text.specs.Said.{Names, Said, opening}
+use Rattle.xc_text.specs.Said.{Names, Said}
 use Rattle.xc_text.specs.Scripts.{AreCalls}
 use Rattle.xc_text.specs.Steps.{are_few, is_file_of, sized_by, valued_by, added, faulted, grained}
 use Rattle.xc_text.specs.Steps.{has_room_for_pipe, piped_at, piped, has_room_for_pair, paired_at, paired}
@@ -29,20 +28,13 @@ sized-keeps r n k =
     cond_both (r.sized || r.valued) _ _ Keeps (λ _. tt) (λ _.
     let parts = or_parts _ _ fits in
     record {
-      some_words = rw length-replicate (ltb-false _ _ parts.0);
-      few_words = rw length-replicate (ltb-false _ _ parts.1);
-      count = k.count;
-      named = k.named;
-      few_blocks = k.few_blocks;
-      distinct = k.distinct;
-      calls = k.calls;
-      body = k.body;
+      words = record { some = rw length-replicate (ltb-false _ _ parts.0); few = rw length-replicate (ltb-false _ _ parts.1) };
       opening = k.opening;
+      begun = k.begun;
+      under_way = k.under_way;
       each_block = k.each_block;
-      few_variables = k.few_variables;
-      few_slots = k.few_slots;
+      names = k.names;
       handles = k.handles;
-      each_handle = k.each_handle;
     }))
 
 -- a line of `word` keeps it
@@ -50,32 +42,14 @@ pub valued-keeps : (r : Said) (at value : ℕ) → IsSound r → Keeps (valued_b
 valued-keeps r at value k =
     cond_both (nat_le (length r.words) at) _ _ Keeps (λ _. tt) (λ _.
     record {
-      some_words = rw length-set k.some_words;
-      few_words = rw length-set k.few_words;
-      count = k.count;
-      named = k.named;
-      few_blocks = k.few_blocks;
-      distinct = k.distinct;
-      calls = k.calls;
-      body = k.body;
+      words = record { some = rw length-set k.words.some; few = rw length-set k.words.few };
       opening = k.opening;
+      begun = k.begun;
+      under_way = k.under_way;
       each_block = k.each_block;
-      few_variables = k.few_variables;
-      few_slots = k.few_slots;
+      names = k.names;
       handles = k.handles;
-      each_handle = k.each_handle;
     })
-
--- what follows of an answer of which P holds
-pub then_keeps : {A B E : Type 0} (P : A → Type 0) (Q : B → Type 0) (a : Result A E) (f : A → Result B E) →
-    IfOk a P → ((x : A) → P x → IfOk (f x) Q) → IfOk (and_then a f) Q
-then_keeps P Q (Ok x) f h g = g x h
-then_keeps P Q (Err e) f h g = tt
-
--- what holds of what a line says holds of it as it is seen
-pub for_seen : {A B E : Type 0} (P : B → Type 0) (f : A → B) (a : Result A E) → IfOk a (λ x. P (f x)) → IfOk (seen f a) P
-for_seen P f (Ok x) h = h
-for_seen P f (Err e) h = tt
 
 pipes_of : (objects : List Opened) (o : Opened) → count_by is_pipe_line (objects ++ o ∷ []) ≡ count_by is_pipe_line objects + cond (is_pipe_line o) 1 0
 pipes_of objects o = sum_by_push (λ x. cond (is_pipe_line x) 1 0) objects o
@@ -88,27 +62,25 @@ added-keeps r file None few k = tt
 added-keeps r file (Some bytes) few k =
     cond_both (nat_le 4096 (length r.objects)) _ _ Keeps (λ _. tt) (λ room.
     record {
-      some_words = k.some_words;
-      few_words = k.few_words;
-      count = k.count;
-      named = k.named;
-      few_blocks = k.few_blocks;
-      distinct = k.distinct;
-      calls = k.calls;
-      body = k.body;
+      words = k.words;
       opening = record {
-        few = rw length-append (omega (arith, leb-false _ _ room));
-        fit = All-push IsOpenedFit r.objects (File file bytes) k.opening.fit few;
-        pipes = omega (arith, k.opening.pipes, pipes_of r.objects (File file bytes));
-        pairs = omega (arith, k.opening.pairs, pairs_of r.objects (File file bytes));
+        objects = record {
+          few = rw length-append (omega (arith, leb-false _ _ room));
+          fit = All-push IsOpenedFit r.objects (File file bytes) k.opening.objects.fit few;
+          pipes = omega (arith, k.opening.objects.pipes, pipes_of r.objects (File file bytes));
+          pairs = omega (arith, k.opening.objects.pairs, pairs_of r.objects (File file bytes));
+        };
         faults = k.opening.faults;
         grain = k.opening.grain;
       };
+      begun = k.begun;
+      under_way = k.under_way;
       each_block = k.each_block;
-      few_variables = k.few_variables;
-      few_slots = k.few_slots;
-      handles = omega (arith, k.handles, pipes_of r.objects (File file bytes), pairs_of r.objects (File file bytes));
-      each_handle = k.each_handle;
+      names = k.names;
+      handles = record {
+        count = omega (arith, k.handles.count, pipes_of r.objects (File file bytes), pairs_of r.objects (File file bytes));
+        each = k.handles.each;
+      };
     })
 
 -- a line of `file` keeps it
@@ -128,27 +100,25 @@ piped_at-keeps r bytes p few within grows k =
     let objects = and_parts (nat_lt (length r.objects) 4096) (nat_lt (count_by is_pipe_line r.objects) 64) parts.0 in
     let names = and_parts (nat_le (length p.0.variables) 256) (nat_le (length p.0.slots) 256) parts.1 in
     record {
-      some_words = k.some_words;
-      few_words = k.few_words;
-      count = k.count;
-      named = k.named;
-      few_blocks = k.few_blocks;
-      distinct = k.distinct;
-      calls = k.calls;
-      body = k.body;
+      words = k.words;
       opening = record {
-        few = rw length-append (omega (arith, ltb-true _ _ objects.0));
-        fit = All-push IsOpenedFit r.objects (Pipe bytes) k.opening.fit few;
-        pipes = omega (arith, ltb-true _ _ objects.1, pipes_of r.objects (Pipe bytes));
-        pairs = omega (arith, k.opening.pairs, pairs_of r.objects (Pipe bytes));
+        objects = record {
+          few = rw length-append (omega (arith, ltb-true _ _ objects.0));
+          fit = All-push IsOpenedFit r.objects (Pipe bytes) k.opening.objects.fit few;
+          pipes = omega (arith, ltb-true _ _ objects.1, pipes_of r.objects (Pipe bytes));
+          pairs = omega (arith, k.opening.objects.pairs, pairs_of r.objects (Pipe bytes));
+        };
         faults = k.opening.faults;
         grain = k.opening.grain;
       };
+      begun = k.begun;
+      under_way = k.under_way;
       each_block = k.each_block;
-      few_variables = leb-true _ _ names.0;
-      few_slots = leb-true _ _ names.1;
-      handles = rw length-append (omega (arith, k.handles, pipes_of r.objects (Pipe bytes), pairs_of r.objects (Pipe bytes)));
-      each_handle = All-push (λ v. v < length p.0.variables) r.handles p.1 (kept_within r.names p.0 r.handles grows k.each_handle) within;
+      names = record { variables = leb-true _ _ names.0; slots = leb-true _ _ names.1 };
+      handles = record {
+        count = rw length-append (omega (arith, k.handles.count, pipes_of r.objects (Pipe bytes), pairs_of r.objects (Pipe bytes)));
+        each = All-push (λ v. v < length p.0.variables) r.handles p.1 (kept_within r.names p.0 r.handles grows k.handles.each) within;
+      };
     }) (λ _. tt)
 
 -- a line of `pipe` keeps it
@@ -169,29 +139,27 @@ paired_at-keeps r p within grows k =
     let parts = and_parts (has_room_for_pair r.objects) (are_few p.0) room in
     let objects = and_parts (nat_lt (length r.objects) 4096) (nat_lt (count_by is_pair_line r.objects) 32) parts.0 in
     let names = and_parts (nat_le (length p.0.variables) 256) (nat_le (length p.0.slots) 256) parts.1 in
-    let places = kept_within r.names p.0 r.handles grows k.each_handle in
+    let places = kept_within r.names p.0 r.handles grows k.handles.each in
     record {
-      some_words = k.some_words;
-      few_words = k.few_words;
-      count = k.count;
-      named = k.named;
-      few_blocks = k.few_blocks;
-      distinct = k.distinct;
-      calls = k.calls;
-      body = k.body;
+      words = k.words;
       opening = record {
-        few = rw length-append (omega (arith, ltb-true _ _ objects.0));
-        fit = All-push IsOpenedFit r.objects Pair k.opening.fit tt;
-        pipes = omega (arith, k.opening.pipes, pipes_of r.objects Pair);
-        pairs = omega (arith, ltb-true _ _ objects.1, pairs_of r.objects Pair);
+        objects = record {
+          few = rw length-append (omega (arith, ltb-true _ _ objects.0));
+          fit = All-push IsOpenedFit r.objects Pair k.opening.objects.fit tt;
+          pipes = omega (arith, k.opening.objects.pipes, pipes_of r.objects Pair);
+          pairs = omega (arith, ltb-true _ _ objects.1, pairs_of r.objects Pair);
+        };
         faults = k.opening.faults;
         grain = k.opening.grain;
       };
+      begun = k.begun;
+      under_way = k.under_way;
       each_block = k.each_block;
-      few_variables = leb-true _ _ names.0;
-      few_slots = leb-true _ _ names.1;
-      handles = rw length-append (omega (arith, k.handles, pipes_of r.objects Pair, pairs_of r.objects Pair));
-      each_handle = All-push_two (λ v. v < length p.0.variables) r.handles p.1.0 p.1.1 places within.0 within.1;
+      names = record { variables = leb-true _ _ names.0; slots = leb-true _ _ names.1 };
+      handles = record {
+        count = rw length-append (omega (arith, k.handles.count, pipes_of r.objects Pair, pairs_of r.objects Pair));
+        each = All-push_two (λ v. v < length p.0.variables) r.handles p.1.0 p.1.1 places within.0 within.1;
+      };
     }) (λ _. tt)
 
 -- a line of `pair` keeps it
@@ -205,27 +173,17 @@ faulted-keeps r kind first last k =
     cond_both (nat_lt first 1 || nat_lt last first) _ _ Keeps (λ _. tt) (λ counted.
     let parts = or_parts _ _ counted in
     record {
-      some_words = k.some_words;
-      few_words = k.few_words;
-      count = k.count;
-      named = k.named;
-      few_blocks = k.few_blocks;
-      distinct = k.distinct;
-      calls = k.calls;
-      body = k.body;
+      words = k.words;
       opening = record {
-        few = k.opening.few;
-        fit = k.opening.fit;
-        pipes = k.opening.pipes;
-        pairs = k.opening.pairs;
+        objects = k.opening.objects;
         faults = All-push AreCalls r.faults _ k.opening.faults (ltb-false _ _ parts.0, ltb-false _ _ parts.1);
         grain = k.opening.grain;
       };
+      begun = k.begun;
+      under_way = k.under_way;
       each_block = k.each_block;
-      few_variables = k.few_variables;
-      few_slots = k.few_slots;
+      names = k.names;
       handles = k.handles;
-      each_handle = k.each_handle;
     })
 
 -- a line of `grain` keeps it
@@ -235,25 +193,15 @@ grained-keeps r n k =
     cond_both (is_some r.grain) _ _ Keeps (λ _. tt) (λ _.
     let parts = or_parts _ _ fits in
     record {
-      some_words = k.some_words;
-      few_words = k.few_words;
-      count = k.count;
-      named = k.named;
-      few_blocks = k.few_blocks;
-      distinct = k.distinct;
-      calls = k.calls;
-      body = k.body;
+      words = k.words;
       opening = record {
-        few = k.opening.few;
-        fit = k.opening.fit;
-        pipes = k.opening.pipes;
-        pairs = k.opening.pairs;
+        objects = k.opening.objects;
         faults = k.opening.faults;
         grain = (ltb-false _ _ parts.0, ltb-false _ _ parts.1);
       };
+      begun = k.begun;
+      under_way = k.under_way;
       each_block = k.each_block;
-      few_variables = k.few_variables;
-      few_slots = k.few_slots;
+      names = k.names;
       handles = k.handles;
-      each_handle = k.each_handle;
     }))

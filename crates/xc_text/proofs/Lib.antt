@@ -9,4 +9,5 @@ pub mod Keeping
 pub mod KeepingBlocks
 pub mod KeepingPrologue
 pub mod Parted
+pub mod Results
 pub mod Sound

@@ -6,13 +6,15 @@ use Rattle.std.specs.Cmp.Lexicographic.{pointwise}
 use Rattle.std.specs.List.{IsDistinct}
 use Rattle.std.proofs.lemmas.List.Elements.{All-nil}
 use Rattle.std.proofs.lemmas.List.Sorted.{IsPermutation-refl}
+use Rattle.xc_data.specs.declared.script.Opened.{Opened}
 use Rattle.xc_data.specs.declared.script.Prologue.{Prologue as OnePrologue}
 use Rattle.xc_data.specs.Limits.{IsOpenedFit, IsGrain, is_pipe_line, is_pair_line}
+use Rattle.xc_text.specs.declared.script.Block.{Block as OneBlock}
 use Rattle.xc_text.specs.Stated.{Statement}
 use Rattle.xc_text.specs.declared.line.Section.{Section}
 use Rattle.xc_text.specs.declared.line.Section.TheVariants.{Prologue, Between, Block, Transaction}
 use Rattle.xc_tokens.specs.declared.why.Why.{Why}
-use Rattle.xc_text.specs.Said.{Said, opening}
+use Rattle.xc_text.specs.Said.{Names, Said, opening}
 use Rattle.xc_text.specs.Scripts.{names_of, IsBlock, AreCalls, handle_count, prologue_of}
 use Rattle.xc_text.specs.Steps.{is_call}
 use Rattle.xc_tokens.specs.Words.{name}
@@ -28,12 +30,16 @@ CountFits (Transaction name) transactions = transactions < 1000
 abbrev pub IsBody : List Statement → Type 0
 IsBody body = count_by is_call body ≤ 256
 
+-- the objects that a host is opened with, so far
+pub record AreObjects (objects : List Opened) : Type 0 where
+  pub few : length objects ≤ 4096
+  pub fit : All IsOpenedFit objects
+  pub pipes : count_by is_pipe_line objects ≤ 64
+  pub pairs : count_by is_pair_line objects ≤ 32
+
 -- what a host is opened with, so far
 pub record IsOpening (p : OnePrologue) : Type 0 where
-  pub few : length p.objects ≤ 4096
-  pub fit : All IsOpenedFit p.objects
-  pub pipes : count_by is_pipe_line p.objects ≤ 64
-  pub pairs : count_by is_pair_line p.objects ≤ 32
+  pub objects : AreObjects p.objects
   pub faults : All AreCalls p.faults
   pub grain : IsGrain p.grain
 
@@ -48,22 +54,42 @@ all_names (Transaction name) names = names ++ name ∷ []
 abbrev pub AreDistinct : List (List ℕ) → Type 0
 AreDistinct names = IsDistinct (pointwise nat_eq) names
 
+-- the shared words, so far
+pub record AreWords (words : List ℕ) : Type 0 where
+  pub some : 1 ≤ length words
+  pub few : length words ≤ 4096
+
+-- the blocks that have begun: all but the one under way have ended
+pub record AreBegun (p : Section) (jobs bodies : List (List ℕ)) (blocks : List OneBlock) : Type 0 where
+  pub named : IsPermutation (jobs ++ bodies) (all_names p (names_of blocks))
+  pub few : length jobs + length bodies ≤ 1000
+  pub distinct : AreDistinct (jobs ++ bodies)
+
+-- the transactions of the block under way, and the statements of the one under way
+pub record AreUnderWay (p : Section) (transactions : List (List Statement)) (current : List Statement) : Type 0 where
+  pub count : CountFits p (length transactions)
+  pub calls : All IsBody transactions
+  pub body : IsBody current
+
+-- the names of variables and of slots are few
+pub record AreFew (names : Names) : Type 0 where
+  pub variables : length names.variables ≤ 256
+  pub slots : length names.slots ≤ 256
+
+-- each pipe and pair has its handles, in variables
+pub record AreHandles (names : Names) (objects : List Opened) (handles : List ℕ) : Type 0 where
+  pub count : length handles ≡ handle_count objects
+  pub each : All (λ v. v < length names.variables) handles
+
 -- what the lines so far keep to
 pub record IsSound (s : Said) : Type 0 where
-  pub some_words : 1 ≤ length s.words
-  pub few_words : length s.words ≤ 4096
-  pub count : CountFits s.section (length s.transactions)
-  pub named : IsPermutation (s.jobs ++ s.bodies) (all_names s.section (names_of s.blocks))
-  pub few_blocks : length s.jobs + length s.bodies ≤ 1000
-  pub distinct : AreDistinct (s.jobs ++ s.bodies)
-  pub calls : All IsBody s.transactions
-  pub body : IsBody s.body
+  pub words : AreWords s.words
   pub opening : IsOpening (prologue_of s)
+  pub begun : AreBegun s.section s.jobs s.bodies s.blocks
+  pub under_way : AreUnderWay s.section s.transactions s.body
   pub each_block : All IsBlock s.blocks
-  pub few_variables : length s.names.variables ≤ 256
-  pub few_slots : length s.names.slots ≤ 256
-  pub handles : length s.handles ≡ handle_count s.objects
-  pub each_handle : All (λ v. v < length s.names.variables) s.handles
+  pub names : AreFew s.names
+  pub handles : AreHandles s.names s.objects s.handles
 
 -- a reader that goes on is sound
 abbrev pub Keeps : Result Said Why → Type 0
@@ -71,11 +97,11 @@ Keeps answer = IfOk answer IsSound
 
 -- the count where the section is known
 pub count_at : (r : Said) (p : Section) → r.section ≡ p → IsSound r → CountFits p (length r.transactions)
-count_at r p e k = subst (λ q. CountFits q (length r.transactions)) e k.count
+count_at r p e k = subst (λ q. CountFits q (length r.transactions)) e k.under_way.count
 
 -- the names where the section is known
 pub names_at : (r : Said) (p : Section) → r.section ≡ p → IsSound r → IsPermutation (r.jobs ++ r.bodies) (all_names p (names_of r.blocks))
-names_at r p e k = subst (λ q. IsPermutation (r.jobs ++ r.bodies) (all_names q (names_of r.blocks))) e k.named
+names_at r p e k = subst (λ q. IsPermutation (r.jobs ++ r.bodies) (all_names q (names_of r.blocks))) e k.begun.named
 
 none_alike : AreDistinct []
 unfolding IsDistinct
@@ -85,26 +111,15 @@ none_alike = tt
 pub opening-keeps : IsSound opening
 opening-keeps =
     record {
-      some_words = lit≤ tt;
-      few_words = lit≤ tt;
-      count = refl;
-      named = IsPermutation-refl [];
-      few_blocks = omega arith;
-      distinct = none_alike;
-      calls = All-nil IsBody;
-      body = omega arith;
-      opening =
-          record {
-            few = omega arith;
-            fit = All-nil IsOpenedFit;
-            pipes = omega arith;
-            pairs = omega arith;
-            faults = All-nil AreCalls;
-            grain = tt;
-          };
+      words = record { some = lit≤ tt; few = lit≤ tt };
+      opening = record {
+        objects = record { few = omega arith; fit = All-nil IsOpenedFit; pipes = omega arith; pairs = omega arith };
+        faults = All-nil AreCalls;
+        grain = tt;
+      };
+      begun = record { named = IsPermutation-refl []; few = omega arith; distinct = none_alike };
+      under_way = record { count = refl; calls = All-nil IsBody; body = omega arith };
       each_block = All-nil IsBlock;
-      few_variables = omega arith;
-      few_slots = omega arith;
-      handles = refl;
-      each_handle = All-nil _;
+      names = record { variables = omega arith; slots = omega arith };
+      handles = record { count = refl; each = All-nil _ };
     }
