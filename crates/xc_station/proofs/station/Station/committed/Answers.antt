@@ -19,136 +19,141 @@ use Rattle.xc_station.proofs.Joined.{backed_joined, children_joined, children_wi
 use Rattle.xc_data.proofs.Lists.{get_map, length_set}
 use Rattle.xc_station.proofs.Ready.{fits_next, has_room}
 use Rattle.xc_station.proofs.RoomsKept.{rooms_entered}
-use Rattle.xc_station.proofs.Stages.{lent, committed_stage}
+use Rattle.xc_station.proofs.Stages.{IsCommitted, IsThere, lent, committed_stage}
 use Rattle.xc_station.proofs.Steady.{steady_kept}
 use Rattle.xc_station.proofs.TurnRows.{committed_turned}
 use Rattle.xc_station.proofs.Waiting.{starts_set}
+use Rattle.xc_station.proofs.station.Station.committed.Given.{Over}
 use Rattle.xc_station.proofs.station.Station.committed.Goals as goal
+use Rattle.xc_station.proofs.station.Station.committed.Goals.{After-index_mut, After-join}
 use Rattle.xc_station.proofs.Notes.{backed_without, notes_within}
 use Rattle.xc_station.specs.Lent.{AreBacked, IsBacked}
 
+-- the job that is lent
+is_there : (g : Over) (c : After-index_mut g) → IsThere c.self.inside.jobs.items c.args.at PlainStage.Committed c.index_mut.result.now
+is_there g c =
+    lent c.self.inside.jobs.items c.args.at PlainStage.Committed c.index_mut.result.now
+    (subst (λ v. IsStage v.jobs c.args.at PlainStage.Committed) (sym c.self.view_is) c.requires) c.index_mut.ensures.value
+
+-- its transaction
+mine : (g : Over) (c : After-index_mut g) → IsCommitted (doing_of c.index_mut.result.now)
+mine g c = committed_stage (doing_of c.index_mut.result.now) (is_there g c).stage
+
+-- it is active, and there is room for its entry
+room : (g : Over) (c : After-index_mut g) → (1 ≤ c.self.inside.active) × (1 ≤ c.self.inside.journal.spare)
+room g c =
+    let station = c.self.inside in
+    has_room g.H.Host.model station.shared station.journal.items station.jobs.items c.args.at c.index_mut.result.now station.opening.script
+    station.rules station.opening.faults station.active station.journal.spare station.lines c.self.invariant.0 c.self.invariant.1
+    PlainStage.Committed (mine g c).tx (is_there g c) (mine g c).doing
+
+-- what it starts was started
+within : (g : Over) (c : After-index_mut g) → length c.self.inside.jobs.items + length c.index_mut.result.now.children.items
+    ≤ length (moment g.H.Host.model c.self.inside.shared c.self.inside.journal.items c.self.inside.jobs.items).started
+within g c =
+    let station = c.self.inside in
+    children_within (setting station.opening.script station.rules g.H.Host.model.tells) station.opening.faults
+    (moment g.H.Host.model station.shared station.journal.items station.jobs.items) station.jobs.items c.args.at c.index_mut.result.now
+    (room_of station.jobs station.lines station.ahead) c.self.invariant.0 refl (is_there g c).there c.self.invariant.7
+
+-- the jobs that join are those that it starts
+starts : (g : Over) (c : After-join g) (tx : TxView) → doing_of c.index_mut.result.now ≡ Active tx
+    → job_views c.join.ensures.jobs.0 ≡ started_jobs c.self.inside.opening.script (job_view c.index_mut.result.now) tx
+starts g c tx does =
+    c.join.ensures.jobs.2 ∙ ap (map child_view) c.commit-entry.ensures.children.0
+    ∙ c.self.invariant.7.children c.args.at c.index_mut.result.now (is_there g (goal.at.invariant_of-self g c).After-index_mut).there
+    ∙ ap (started_in c.self.inside.opening.script (job_view c.index_mut.result.now)) does
+
+-- with them the jobs are few
+few : (g : Over) (c : After-join g) → length c.self.inside.jobs.items + length c.join.ensures.jobs.0 ≤ 1000
+few g c =
+    let all = within g (goal.at.invariant_of-self g c).After-index_mut in
+    let children = ap length c.commit-entry.ensures.children.0 in
+    let many = sym (length-map c.join.ensures.jobs.0 job_view) ∙ ap length c.join.ensures.jobs.2
+    ∙ length-map c.commit-entry.result.children.items child_view in
+    let below = c.self.invariant.0.kept.started.few in
+    omega (arith, all, children, many, below)
+
+-- the turn that it takes
+turned : (g : Over) (c : After-join g)
+    → IsTurn (setting c.self.inside.opening.script c.self.inside.rules g.H.Host.model.tells) c.args.at
+    (moment g.H.Host.model c.self.inside.shared c.self.inside.journal.items c.self.inside.jobs.items) turn.Went
+    (moment g.H.Host.model c.commit-entry.new.shared c.enter.new.self.items
+    (slice_set c.self.inside.jobs.items c.args.at c.commit-entry.new.job ++ c.join.ensures.jobs.0))
+turned g c =
+    let station = c.self.inside in
+    let commit = c.commit-entry.ensures in
+    committed_turned g.H.Host.model station.shared station.journal.items station.jobs.items c.args.at c.index_mut.result.now
+    (setting station.opening.script station.rules g.H.Host.model.tells) c.commit-entry.new.shared c.enter.new.self.items
+    c.commit-entry.result.entry c.commit-entry.new.job c.join.ensures.jobs.0 (c.args.at + 1)
+    (is_there g (goal.at.invariant_of-self g c).After-index_mut) commit.entry
+    (λ tx does. (commit.freed tx does).seats) refl (commit.same.0, commit.same.1, commit.started) commit.gone.kept c.enter.ensures.items
+    (starts g c) (few g c)
+
 pub commit-entry-requires-clause-committing : goal.commit-entry-requires-clause-committing
 commit-entry-requires-clause-committing g c =
-    let was = c.index_mut.result.now in
-    let station = c.self.inside in
-    let model = g.H.Host.model in
-    let at = c.args.at in
-    let s = setting station.opening.script station.rules model.tells in
-    let is = lent station.jobs.items at PlainStage.Committed was (subst (λ v. IsStage v.jobs at PlainStage.Committed) (sym c.self.view_is) c.requires)
-    c.index_mut.ensures.value in
-    let mine = committed_stage (doing_of was) is.stage in
-    (mine.tx, mine.doing, mine.phase)
+    let own = mine g (goal.at.commit-entry-requires-clause-committing g c).After-index_mut in
+    (own.tx, own.doing, own.phase)
 
 pub commit-entry-requires-clause-table : goal.commit-entry-requires-clause-table
 commit-entry-requires-clause-table g c tx doing =
     let was = c.index_mut.result.now in
-    let station = c.self.inside in
-    let at = c.args.at in
-    let is = lent station.jobs.items at PlainStage.Committed was (subst (λ v. IsStage v.jobs at PlainStage.Committed) (sym c.self.view_is) c.requires)
-    c.index_mut.ensures.value in
-    λ o. (c.self.invariant.1.claims o).held at tx (job_view was, get_map job_view station.jobs.items at was is.there, ap active_in doing)
+    let is = is_there g (goal.at.commit-entry-requires-clause-table g c).After-index_mut in
+    λ o. (c.self.invariant.1.claims o).held c.args.at tx
+    (job_view was, get_map job_view c.self.inside.jobs.items c.args.at was is.there, ap active_in doing)
 
 pub commit-entry-requires-clause-next : goal.commit-entry-requires-clause-next
 commit-entry-requires-clause-next g c =
-    let was = c.index_mut.result.now in
     let station = c.self.inside in
-    let model = g.H.Host.model in
-    let at = c.args.at in
-    let s = setting station.opening.script station.rules model.tells in
-    let is = lent station.jobs.items at PlainStage.Committed was (subst (λ v. IsStage v.jobs at PlainStage.Committed) (sym c.self.view_is) c.requires)
-    c.index_mut.ensures.value in
-    let mine = committed_stage (doing_of was) is.stage in
-    fits_next model station.shared station.journal.items station.jobs.items at was station.opening.script station.rules station.opening.faults station.active
-    station.journal.spare station.lines c.self.invariant.0 c.self.invariant.1 PlainStage.Committed mine.tx is mine.doing
+    let before = (goal.at.commit-entry-requires-clause-next g c).After-index_mut in
+    fits_next g.H.Host.model station.shared station.journal.items station.jobs.items c.args.at c.index_mut.result.now station.opening.script
+    station.rules station.opening.faults station.active station.journal.spare station.lines c.self.invariant.0 c.self.invariant.1
+    PlainStage.Committed (mine g before).tx (is_there g before) (mine g before).doing
+
+pub commit-entry-requires-clause-noted : goal.commit-entry-requires-clause-noted
+commit-entry-requires-clause-noted g c =
+    let was = c.index_mut.result.now in
+    let jobs = c.self.inside.jobs.items in
+    let is = is_there g (goal.at.commit-entry-requires-clause-noted g c).After-index_mut in
+    let within = notes_within (job_views jobs) c.args.at (job_view was) (get_map job_view jobs c.args.at was is.there) in
+    let noted = c.self.invariant.1.noted in
+    omega (arith, within, noted)
 
 pub enter-requires : goal.enter-requires
-enter-requires g c =
-    let was = c.index_mut.result.now in
-    let station = c.self.inside in
-    let model = g.H.Host.model in
-    let at = c.args.at in
-    let s = setting station.opening.script station.rules model.tells in
-    let is = lent station.jobs.items at PlainStage.Committed was (subst (λ v. IsStage v.jobs at PlainStage.Committed) (sym c.self.view_is) c.requires)
-    c.index_mut.ensures.value in
-    let mine = committed_stage (doing_of was) is.stage in
-    (has_room model station.shared station.journal.items station.jobs.items at was station.opening.script station.rules station.opening.faults station.active
-    station.journal.spare station.lines c.self.invariant.0 c.self.invariant.1 PlainStage.Committed mine.tx is mine.doing).1
+enter-requires g c = (room g (goal.at.enter-requires g c).After-index_mut).1
 
 pub overflow_sub-self : goal.overflow_sub-self
-overflow_sub-self g c =
-    let was = c.index_mut.result.now in
-    let station = c.self.inside in
-    let model = g.H.Host.model in
-    let at = c.args.at in
-    let s = setting station.opening.script station.rules model.tells in
-    let is = lent station.jobs.items at PlainStage.Committed was (subst (λ v. IsStage v.jobs at PlainStage.Committed) (sym c.self.view_is) c.requires)
-    c.index_mut.ensures.value in
-    let mine = committed_stage (doing_of was) is.stage in
-    (has_room model station.shared station.journal.items station.jobs.items at was station.opening.script station.rules station.opening.faults station.active
-    station.journal.spare station.lines c.self.invariant.0 c.self.invariant.1 PlainStage.Committed mine.tx is mine.doing).0
+overflow_sub-self g c = (room g (goal.at.overflow_sub-self g c).After-index_mut).0
 
 pub join-requires-clause-jobs : goal.join-requires-clause-jobs
 join-requires-clause-jobs g c =
-    let was = c.index_mut.result.now in
-    let station = c.self.inside in
-    let model = g.H.Host.model in
-    let at = c.args.at in
-    let jobs = station.jobs.items in
-    let s = setting station.opening.script station.rules model.tells in
-    let is = lent jobs at PlainStage.Committed was (subst (λ v. IsStage v.jobs at PlainStage.Committed) (sym c.self.view_is) c.requires)
-    c.index_mut.ensures.value in
-    let within = children_within s station.opening.faults (moment model station.shared station.journal.items jobs) jobs at was
-    (room_of station.jobs station.lines station.ahead) c.self.invariant.0 refl is.there c.self.invariant.7 in
+    let all = within g (goal.at.join-requires-clause-jobs g c).After-index_mut in
     let children = ap length c.commit-entry.ensures.children.0 in
-    let set = length_set jobs at c.commit-entry.new.job in
+    let set = length_set c.self.inside.jobs.items c.args.at c.commit-entry.new.job in
     let room = c.self.invariant.7.jobs_room in
-    omega (arith, within, children, set, room)
+    omega (arith, all, children, set, room)
 
 pub join-requires-clause-few : goal.join-requires-clause-few
 join-requires-clause-few g c =
-    let was = c.index_mut.result.now in
-    let station = c.self.inside in
-    let model = g.H.Host.model in
-    let at = c.args.at in
-    let jobs = station.jobs.items in
-    let s = setting station.opening.script station.rules model.tells in
-    let is = lent jobs at PlainStage.Committed was (subst (λ v. IsStage v.jobs at PlainStage.Committed) (sym c.self.view_is) c.requires)
-    c.index_mut.ensures.value in
-    let within = children_within s station.opening.faults (moment model station.shared station.journal.items jobs) jobs at was
-    (room_of station.jobs station.lines station.ahead) c.self.invariant.0 refl is.there c.self.invariant.7 in
+    let all = within g (goal.at.join-requires-clause-few g c).After-index_mut in
     let children = ap length c.commit-entry.ensures.children.0 in
-    let set = length_set jobs at c.commit-entry.new.job in
+    let set = length_set c.self.inside.jobs.items c.args.at c.commit-entry.new.job in
     let below = c.self.invariant.0.kept.started.few in
-    omega (arith, within, children, set, below)
+    omega (arith, all, children, set, below)
 
 pub join-requires-clause-ahead : goal.join-requires-clause-ahead
 join-requires-clause-ahead g c =
-    let was = c.index_mut.result.now in
-    let station = c.self.inside in
-    let model = g.H.Host.model in
-    let at = c.args.at in
-    let jobs = station.jobs.items in
-    let s = setting station.opening.script station.rules model.tells in
-    let is = lent jobs at PlainStage.Committed was (subst (λ v. IsStage v.jobs at PlainStage.Committed) (sym c.self.view_is) c.requires)
-    c.index_mut.ensures.value in
-    let within = children_within s station.opening.faults (moment model station.shared station.journal.items jobs) jobs at was
-    (room_of station.jobs station.lines station.ahead) c.self.invariant.0 refl is.there c.self.invariant.7 in
+    let all = within g (goal.at.join-requires-clause-ahead g c).After-index_mut in
     let children = ap length c.commit-entry.ensures.children.0 in
     let room = c.self.invariant.7.marks_room in
     let count = c.self.invariant.2.count in
-    omega (arith, within, children, count, room)
+    omega (arith, all, children, count, room)
 
 pub join-requires-clause-marks : goal.join-requires-clause-marks
 join-requires-clause-marks g c =
-    let was = c.index_mut.result.now in
-    let station = c.self.inside in
-    let model = g.H.Host.model in
-    let at = c.args.at in
-    let jobs = station.jobs.items in
-    let s = setting station.opening.script station.rules model.tells in
-    let is = lent jobs at PlainStage.Committed was (subst (λ v. IsStage v.jobs at PlainStage.Committed) (sym c.self.view_is) c.requires)
-    c.index_mut.ensures.value in
-    ahead_kept jobs at was c.commit-entry.new.job station.ahead.items is.there (ap goes_on is.stage) c.self.invariant.2
+    let is = is_there g (goal.at.join-requires-clause-marks g c).After-index_mut in
+    ahead_kept c.self.inside.jobs.items c.args.at c.index_mut.result.now c.commit-entry.new.job c.self.inside.ahead.items is.there
+    (ap goes_on is.stage) c.self.invariant.2
 
 pub invariant_of-self : goal.invariant_of-self
 invariant_of-self g c =
@@ -158,39 +163,27 @@ invariant_of-self g c =
     let at = c.args.at in
     let jobs = station.jobs.items in
     let s = setting station.opening.script station.rules model.tells in
-    let is = lent jobs at PlainStage.Committed was (subst (λ v. IsStage v.jobs at PlainStage.Committed) (sym c.self.view_is) c.requires)
-    c.index_mut.ensures.value in
-    let within = children_within s station.opening.faults (moment model station.shared station.journal.items jobs) jobs at was
-    (room_of station.jobs station.lines station.ahead) c.self.invariant.0 refl is.there c.self.invariant.7 in
-    let children = ap length c.commit-entry.ensures.children.0 in
+    let before = (goal.at.invariant_of-self g c).After-index_mut in
+    let is = is_there g before in
+    let mine = mine g before in
+    let some = room g before in
     let set = length_set jobs at c.commit-entry.new.job in
-    let mine = committed_stage (doing_of was) is.stage in
     let shared' = c.commit-entry.new.shared in
     let job = c.commit-entry.new.job in
     let joins = c.join.ensures.jobs in
     let more = joins.0 in
-    let starts : (tx : TxView) → doing_of was ≡ Active tx → job_views more ≡ started_jobs s.script (job_view was) tx =
-    λ tx does. joins.2 ∙ ap (map child_view) c.commit-entry.ensures.children.0 ∙ c.self.invariant.7.children at was is.there
-    ∙ ap (started_in s.script (job_view was)) does in
-    let many = sym (length-map more job_view) ∙ ap length joins.2 ∙ length-map c.commit-entry.result.children.items child_view in
-    let below = c.self.invariant.0.kept.started.few in
-    let few : length jobs + length more ≤ 1000 = omega (arith, within, children, many, below) in
-    let turned = committed_turned model station.shared station.journal.items jobs at was s shared' c.enter.new.self.items c.commit-entry.result.entry job more
-    (at + 1) is c.commit-entry.ensures.entry (λ tx does. (c.commit-entry.ensures.freed tx does).seats) refl
-    (c.commit-entry.ensures.same.0, c.commit-entry.ensures.same.1, c.commit-entry.ensures.started)
-    c.commit-entry.ensures.gone.kept c.enter.ensures.items starts few in
+    let few = few g c in
     let gave = c.commit-entry.ensures.entry mine.tx at mine.doing refl in
     let freed = c.commit-entry.ensures.freed mine.tx mine.doing in
-    let some = has_room model station.shared station.journal.items jobs at was station.opening.script station.rules station.opening.faults
-    station.active station.journal.spare station.lines c.self.invariant.0 c.self.invariant.1 PlainStage.Committed mine.tx is mine.doing in
     let idle : AreIdle (job_views more) =
-    subst AreIdle (sym (starts mine.tx mine.doing)) (started_idle s.script (behind_commit (job_view was) mine.tx) (started_by mine.tx)) in
+    subst AreIdle (sym (starts g c mine.tx mine.doing))
+    (started_idle s.script (behind_commit (job_view was) mine.tx) (started_by mine.tx)) in
     let shown : job_views (slice_set jobs at job ++ more) ≡ job_views (slice_set jobs at job) ++ job_views more =
     map-append job_view (slice_set jobs at job) more in
     let counts = length-map more job_view in
     let sets = length-map (slice_set jobs at job) job_view in (
       subst (λ js. IsSteady s station.opening.faults (moment model shared' c.enter.new.self.items js)) (sym joins.1)
-          (steady_kept s station.opening.faults at _ _ turn.Went c.self.invariant.0 turned),
+          (steady_kept s station.opening.faults at _ _ turn.Went c.self.invariant.0 (turned g c)),
       subst (λ js. HasRooms shared' (station.active - 1) c.enter.new.self.spare (moment model shared' c.enter.new.self.items js) station.lines) (sym joins.1)
           (subst (λ js. HasRooms shared' (station.active - 1) c.enter.new.self.spare
           (record (moment model shared' c.enter.new.self.items (slice_set jobs at job)) { jobs = js }) station.lines) (sym shown)
@@ -231,44 +224,11 @@ invariant_of-self g c =
 
 pub returns-clause-row : goal.returns-clause-row
 returns-clause-row g c =
-    let was = c.index_mut.result.now in
     let station = c.self.inside in
     let model = g.H.Host.model in
-    let at = c.args.at in
-    let jobs = station.jobs.items in
     let s = setting station.opening.script station.rules model.tells in
-    let is = lent jobs at PlainStage.Committed was (subst (λ v. IsStage v.jobs at PlainStage.Committed) (sym c.self.view_is) c.requires)
-    c.index_mut.ensures.value in
-    let within = children_within s station.opening.faults (moment model station.shared station.journal.items jobs) jobs at was
-    (room_of station.jobs station.lines station.ahead) c.self.invariant.0 refl is.there c.self.invariant.7 in
-    let children = ap length c.commit-entry.ensures.children.0 in
-    let mine = committed_stage (doing_of was) is.stage in
     let shared' = c.commit-entry.new.shared in
-    let job = c.commit-entry.new.job in
-    let joins = c.join.ensures.jobs in
-    let more = joins.0 in
-    let starts : (tx : TxView) → doing_of was ≡ Active tx → job_views more ≡ started_jobs s.script (job_view was) tx =
-    λ tx does. joins.2 ∙ ap (map child_view) c.commit-entry.ensures.children.0 ∙ c.self.invariant.7.children at was is.there
-    ∙ ap (started_in s.script (job_view was)) does in
-    let many = sym (length-map more job_view) ∙ ap length joins.2 ∙ length-map c.commit-entry.result.children.items child_view in
-    let below = c.self.invariant.0.kept.started.few in
-    let few : length jobs + length more ≤ 1000 = omega (arith, within, children, many, below) in
-    let turned = committed_turned model station.shared station.journal.items jobs at was s shared' c.enter.new.self.items c.commit-entry.result.entry job more
-    (at + 1) is c.commit-entry.ensures.entry (λ tx does. (c.commit-entry.ensures.freed tx does).seats) refl
-    (c.commit-entry.ensures.same.0, c.commit-entry.ensures.same.1, c.commit-entry.ensures.started)
-    c.commit-entry.ensures.gone.kept c.enter.ensures.items starts few in
-    subst (λ v. IsTurn (setting_of model v) at (now_of model v) turn.Went (moment model shared' c.enter.new.self.items c.join.new.jobs.items))
-    c.self.view_is
-    (subst (λ js. IsTurn s at (moment model station.shared station.journal.items jobs) turn.Went (moment model shared' c.enter.new.self.items js))
-    (sym joins.1) turned)
-
-pub commit-entry-requires-clause-noted : goal.commit-entry-requires-clause-noted
-commit-entry-requires-clause-noted g c =
-    let was = c.index_mut.result.now in
-    let station = c.self.inside in
-    let at = c.args.at in
-    let is = lent station.jobs.items at PlainStage.Committed was (subst (λ v. IsStage v.jobs at PlainStage.Committed) (sym c.self.view_is) c.requires)
-    c.index_mut.ensures.value in
-    let within = notes_within (job_views station.jobs.items) at (job_view was) (get_map job_view station.jobs.items at was is.there) in
-    let noted = c.self.invariant.1.noted in
-    omega (arith, within, noted)
+    subst (λ v. IsTurn (setting_of model v) c.args.at (now_of model v) turn.Went
+    (moment model shared' c.enter.new.self.items c.join.new.jobs.items)) c.self.view_is
+    (subst (λ js. IsTurn s c.args.at (moment model station.shared station.journal.items station.jobs.items) turn.Went
+    (moment model shared' c.enter.new.self.items js)) (sym c.join.ensures.jobs.1) (turned g c))

@@ -1,6 +1,7 @@
 use Rattle.std.proofs.Common.{◌≡◌, ℕ, ◌≤◌, ◌∷◌, ◌++◌, [], length, refl, sym, subst, ap, ◌∙◌, arith}
 use Rattle.std.specs.Prelude.{slice_get, slice_set, All, map}
 use Rattle.std.specs.declared.option.Option.TheVariants.{Some}
+use Rattle.xc_data.specs.declared.call.LateEnd.{LateEnd}
 use Rattle.xc_data.specs.declared.entry.Turn.TheVariants as turn
 use Rattle.xc_deferred.specs.Queue.{next_thread}
 use Rattle.xc_model.specs.Moment.{TxView, JobView, Active, active_in, late_left}
@@ -19,26 +20,77 @@ use Rattle.xc_station.proofs.Notes.{backed_jobs, keeps_itself}
 use Rattle.xc_data.proofs.Lists.{get_map}
 use Rattle.xc_station.proofs.Rooms.{rooms_relined}
 use Rattle.xc_station.proofs.RoomsKept.{rooms_going}
-use Rattle.xc_station.proofs.Stages.{IsThere, committing_stage}
+use Rattle.xc_station.proofs.Stages.{IsLating, IsThere, committing_stage}
 use Rattle.xc_station.proofs.Steady.{steady_kept}
 use Rattle.xc_station.proofs.TurnRows.{starting_turned}
 use Rattle.xc_station.proofs.Waiting.{start_waits, starts_set}
+use Rattle.xc_station.proofs.station.Station.late_start.Given.{Over}
 use Rattle.xc_station.proofs.station.Station.late_start.Goals as goal
+use Rattle.xc_station.proofs.station.Station.late_start.Goals.{After-index_mut}
+
+-- the job as it was
+found : (g : Over) (c : After-index_mut g) → IsStage c.self.inside.jobs.items c.args.at PlainStage.Committing
+found g c = subst (λ v. IsStage v.jobs c.args.at PlainStage.Committing) (sym c.self.view_is) c.requires.stage
+
+is_there : (g : Over) (c : After-index_mut g) → IsThere c.self.inside.jobs.items c.args.at PlainStage.Committing (found g c).0
+is_there g c = record { there = (found g c).1; stage = (found g c).2 }
+
+-- its transaction
+mine : (g : Over) (c : After-index_mut g) → IsLating (doing_of (found g c).0)
+mine g c = committing_stage (doing_of (found g c).0) (found g c).2
+
+-- the job that is lent looks as it did
+seen : (g : Over) (c : After-index_mut g) → job_view c.index_mut.result.now ≡ job_view (found g c).0
+seen g c =
+    lent_seen c.self.inside.opening.script c.self.inside.jobs.items c.start_job-end.new.jobs.items c.args.at c.args.block
+    c.start_job-end.result
+    (found g c).0 c.index_mut.result.now (found g c).1 c.start_job-end.ensures.jobs c.index_mut.ensures.value
+
+-- no other job changed
+items : (g : Over) (c : After-index_mut g) (job : Job)
+    → slice_set c.start_job-end.new.jobs.items c.args.at job ≡ slice_set c.self.inside.jobs.items c.args.at job
+items g c job =
+    set_behind c.self.inside.opening.script c.self.inside.jobs.items c.start_job-end.new.jobs.items c.args.at c.args.block
+    c.start_job-end.result
+    (found g c).0 c.index_mut.result.now (found g c).1 c.start_job-end.ensures.jobs c.index_mut.ensures.value job
+
+-- its next late call starts the block
+thread : (g : Over) (c : After-index_mut g) (tx : TxView) → doing_of (found g c).0 ≡ Active tx
+    → next_thread (late_left tx) ≡ Some c.args.block
+thread g c =
+    subst (λ v. (j : Job) → slice_get v.jobs c.args.at ≡ Some j → (t : TxView) → doing_of j ≡ Active t
+    → next_thread (late_left t) ≡ Some c.args.block) (sym c.self.view_is) c.requires.starts (found g c).0 (found g c).1
+
+-- the second job is the first with one more end of a late call
+abbrev HasEnded : Job → Job → LateEnd → Type 0
+HasEnded was job end =
+    (tx : TxView) → doing_of was ≡ Active tx → job_view job ≡ with_tx (job_view was) was.place (record tx { ends = tx.ends ++ end ∷ [] })
+
+-- so it is of the job as it was
+ended : (g : Over) (c : After-index_mut g) (job : Job) → HasEnded c.index_mut.result.now job c.start_job-end.result
+    → HasEnded (found g c).0 job c.start_job-end.result
+ended g c job ends tx does =
+    let end = c.start_job-end.result in
+    ends tx (ap (λ (j : JobView). j.doing) (seen g c) ∙ does)
+    ∙ ap (λ (j : JobView). with_tx j j.place (record tx { ends = tx.ends ++ end ∷ [] })) (seen g c)
+
+-- the turn that it takes
+turned : (g : Over) (c : After-index_mut g) (job : Job) → HasEnded c.index_mut.result.now job c.start_job-end.result
+    → IsTurn (setting c.self.inside.opening.script c.self.inside.rules g.H.Host.model.tells) c.args.at
+    (moment g.H.Host.model c.self.inside.shared c.self.inside.journal.items c.self.inside.jobs.items) turn.Went
+    (moment g.H.Host.model (record c.self.inside.shared { started = c.start_job-end.new.started }) c.self.inside.journal.items
+    (slice_set c.self.inside.jobs.items c.args.at job))
+turned g c job ends =
+    let station = c.self.inside in
+    starting_turned g.H.Host.model station.shared station.journal.items station.jobs.items c.args.at (found g c).0
+    (setting station.opening.script station.rules g.H.Host.model.tells) (record station.shared { started = c.start_job-end.new.started })
+    job c.args.block c.start_job-end.result (is_there g c) (thread g c) (ended g c job ends) c.start_job-end.ensures.end refl
 
 pub end_start-requires : goal.end_start-requires
 end_start-requires g c =
-    let station = c.self.inside in
-    let model = g.H.Host.model in
-    let at = c.args.at in
-    let jobs = station.jobs.items in
-    let s = setting station.opening.script station.rules model.tells in
-    let there = subst (λ v. IsStage v.jobs at PlainStage.Committing) (sym c.self.view_is) c.requires.stage in
-    let was = there.0 in
-    let is : IsThere jobs at PlainStage.Committing was = record { there = there.1; stage = there.2 } in
-    let mine = committing_stage (doing_of was) is.stage in
-    let seen = lent_seen s.script jobs c.start_job-end.new.jobs.items at c.args.block c.start_job-end.result was c.index_mut.result.now is.there
-    c.start_job-end.ensures.jobs c.index_mut.ensures.value in
-    record { committing = (mine.tx, ap (λ (j : JobView). j.doing) seen ∙ mine.doing, omega (arith, ap length mine.left)) }
+    let before = (goal.at.end_start-requires g c).After-index_mut in
+    let mine = mine g before in
+    record { committing = (mine.tx, ap (λ (j : JobView). j.doing) (seen g before) ∙ mine.doing, omega (arith, ap length mine.left)) }
 
 pub invariant_of-self : goal.invariant_of-self
 invariant_of-self g c =
@@ -47,33 +99,21 @@ invariant_of-self g c =
     let at = c.args.at in
     let jobs = station.jobs.items in
     let s = setting station.opening.script station.rules model.tells in
-    let there = subst (λ v. IsStage v.jobs at PlainStage.Committing) (sym c.self.view_is) c.requires.stage in
-    let was = there.0 in
-    let is : IsThere jobs at PlainStage.Committing was = record { there = there.1; stage = there.2 } in
-    let mine = committing_stage (doing_of was) is.stage in
+    let before = (goal.at.invariant_of-self g c).After-index_mut in
+    let was = (found g before).0 in
+    let is = is_there g before in
+    let mine = mine g before in
     let started = c.start_job-end.ensures in
     let lent = c.index_mut.result.now in
-    let seen = lent_seen s.script jobs c.start_job-end.new.jobs.items at c.args.block c.start_job-end.result was lent is.there started.jobs
-    c.index_mut.ensures.value in
     let job = c.end_start.new.job in
     let shared' : Shared g.row.H.Denot = record station.shared { started = c.start_job-end.new.started } in
-    let thread : (tx : TxView) → doing_of was ≡ Active tx → next_thread (late_left tx) ≡ Some c.args.block =
-    subst (λ v. (j : Job) → slice_get v.jobs at ≡ Some j → (t : TxView) → doing_of j ≡ Active t → next_thread (late_left t) ≡ Some c.args.block)
-    (sym c.self.view_is) c.requires.starts was is.there in
-    let gives : (tx : TxView) → doing_of was ≡ Active tx
-    → job_view job ≡ with_tx (job_view was) was.place (record tx { ends = tx.ends ++ c.start_job-end.result ∷ [] }) =
-    λ tx does. c.end_start.ensures.ends tx (ap (λ (j : JobView). j.doing) seen ∙ does)
-    ∙ ap (λ (j : JobView). with_tx j j.place (record tx { ends = tx.ends ++ c.start_job-end.result ∷ [] })) seen in
-    let turned = starting_turned model station.shared station.journal.items jobs at was s shared' job c.args.block c.start_job-end.result is thread gives
-    started.end refl in
-    let items : slice_set c.start_job-end.new.jobs.items at job ≡ slice_set jobs at job =
-    set_behind s.script jobs c.start_job-end.new.jobs.items at c.args.block c.start_job-end.result was lent is.there started.jobs
-    c.index_mut.ensures.value job in
+    let gives = ended g before job c.end_start.ensures.ends in
+    let items = items g before job in
     let tx' : TxView = record mine.tx { ends = mine.tx.ends ++ c.start_job-end.result ∷ [] } in
     let place = get_map job_view jobs at was is.there in
     let all = c.self.invariant.7 in (
       subst (λ js. IsSteady s station.opening.faults (moment model shared' station.journal.items js)) (sym items)
-          (steady_kept s station.opening.faults at _ _ turn.Went c.self.invariant.0 turned),
+          (steady_kept s station.opening.faults at _ _ turn.Went c.self.invariant.0 (turned g before job c.end_start.ensures.ends)),
       subst (λ js. HasRooms shared' station.active station.journal.spare (moment model shared' station.journal.items js) c.start_job-end.new.lines) (sym items)
           (rooms_relined shared' station.active station.journal.spare (moment model shared' station.journal.items (slice_set jobs at job)) station.lines
           c.start_job-end.new.lines started.same.0
@@ -100,7 +140,7 @@ invariant_of-self g c =
             ((starts_set s.script station.shared.started.items jobs (room_of station.jobs station.lines station.ahead) at was job is.there
             (ap (map child_view) c.end_start.ensures.children
             ∙ start_waits s.script was lent mine.tx mine.next mine.later c.args.block c.start_job-end.result mine.doing mine.left
-            (sym (ap next_thread mine.left) ∙ thread mine.tx mine.doing) (all.children at was is.there)
+            (sym (ap next_thread mine.left) ∙ thread g before mine.tx mine.doing) (all.children at was is.there)
             (lent_children s.script jobs c.start_job-end.new.jobs.items at c.args.block c.start_job-end.result was lent is.there started.jobs
             c.index_mut.ensures.value)
             ∙ sym (ap (λ (j : JobView). started_in s.script j j.doing) (gives mine.tx mine.doing))) all).children);
@@ -114,32 +154,12 @@ pub returns-clause-row : goal.returns-clause-row
 returns-clause-row g c =
     let station = c.self.inside in
     let model = g.H.Host.model in
-    let at = c.args.at in
-    let jobs = station.jobs.items in
     let s = setting station.opening.script station.rules model.tells in
-    let there = subst (λ v. IsStage v.jobs at PlainStage.Committing) (sym c.self.view_is) c.requires.stage in
-    let was = there.0 in
-    let is : IsThere jobs at PlainStage.Committing was = record { there = there.1; stage = there.2 } in
-    let mine = committing_stage (doing_of was) is.stage in
-    let started = c.start_job-end.ensures in
-    let lent = c.index_mut.result.now in
-    let seen = lent_seen s.script jobs c.start_job-end.new.jobs.items at c.args.block c.start_job-end.result was lent is.there started.jobs
-    c.index_mut.ensures.value in
-    let job = c.end_start.new.job in
     let shared' : Shared g.row.H.Denot = record station.shared { started = c.start_job-end.new.started } in
-    let thread : (tx : TxView) → doing_of was ≡ Active tx → next_thread (late_left tx) ≡ Some c.args.block =
-    subst (λ v. (j : Job) → slice_get v.jobs at ≡ Some j → (t : TxView) → doing_of j ≡ Active t → next_thread (late_left t) ≡ Some c.args.block)
-    (sym c.self.view_is) c.requires.starts was is.there in
-    let gives : (tx : TxView) → doing_of was ≡ Active tx
-    → job_view job ≡ with_tx (job_view was) was.place (record tx { ends = tx.ends ++ c.start_job-end.result ∷ [] }) =
-    λ tx does. c.end_start.ensures.ends tx (ap (λ (j : JobView). j.doing) seen ∙ does)
-    ∙ ap (λ (j : JobView). with_tx j j.place (record tx { ends = tx.ends ++ c.start_job-end.result ∷ [] })) seen in
-    let turned = starting_turned model station.shared station.journal.items jobs at was s shared' job c.args.block c.start_job-end.result is thread gives
-    started.end refl in
-    let items : slice_set c.start_job-end.new.jobs.items at job ≡ slice_set jobs at job =
-    set_behind s.script jobs c.start_job-end.new.jobs.items at c.args.block c.start_job-end.result was lent is.there started.jobs
-    c.index_mut.ensures.value job in
-    subst (λ v. IsTurn (setting_of model v) at (now_of model v) turn.Went
-    (moment model shared' station.journal.items (slice_set c.start_job-end.new.jobs.items at job))) c.self.view_is
-    (subst (λ js. IsTurn s at (moment model station.shared station.journal.items jobs) turn.Went (moment model shared' station.journal.items js)) (sym items)
-    turned)
+    let before = (goal.at.returns-clause-row g c).After-index_mut in
+    let job = c.end_start.new.job in
+    subst (λ v. IsTurn (setting_of model v) c.args.at (now_of model v) turn.Went
+    (moment model shared' station.journal.items (slice_set c.start_job-end.new.jobs.items c.args.at job))) c.self.view_is
+    (subst (λ js. IsTurn s c.args.at (moment model station.shared station.journal.items station.jobs.items) turn.Went
+    (moment model shared' station.journal.items js)) (sym (items g before job))
+    (turned g before job c.end_start.ensures.ends))
