@@ -54,25 +54,30 @@ written_refused t (u ∷ ts) e is some bad =
     let rest : take (length (u ∷ ts) - 1) ts ≡ ts = take_all (length (u ∷ ts) - 1) ts (omega arith) in
     refused_first (ident (lexeme u)) (data_of (map lexeme ts)) e (rw (is, rest) at bad)
 
-no_item : (f : List Item → List Item) (a : Result Item Why) (b : Result (List Item) Why) (e : Why) →
+no_item : {B : Type 0} (f : List Item → B) (a : Result Item Why) (b : Result (List Item) Why) (e : Why) →
     IsOk (seen f (seen (λ (p : Item × List Item). p.0 ∷ p.1) (both a b))) → a ≡ Err e → ⊥
 no_item f (Ok x) b e fine bad = cc
 no_item f (Err d) (Ok xs) e fine bad = cc
 no_item f (Err d) (Err c) e fine bad = cc
 
 -- where all items are good none is bad
-pub no_bad_item : (f : List Item → List Item) (t : Lexeme) (ts : List Lexeme) (e : Why) → IsOk (seen f (items_of (t ∷ ts))) → item_of t ≡ Err e → ⊥
+pub no_bad_item : {B : Type 0} (f : List Item → B) (t : Lexeme) (ts : List Lexeme) (e : Why) → IsOk (seen f (items_of (t ∷ ts))) → item_of t ≡ Err e → ⊥
 no_bad_item f t ts e fine bad = no_item f (item_of t) (items_of ts) e fine bad
 
-refused_item : (stops : Stop) (f : List Item → List Item) (t : Lexeme) (ts : List Lexeme) (all : Result (List Item) Why) →
+refused_item : {B : Type 0} (stops : Stop) (f : List Item → B) (t : Lexeme) (ts : List Lexeme) (all : Result B Why) →
     seen f (items_of (t ∷ ts)) ≡ all → IsOk all → Stops stops (item_of t) → Stops stops all
 refused_item stop.NoMemory f t ts all e fine bad = tt
 refused_item (stop.Refused why) f t ts all e fine bad = absurd (no_bad_item f t ts why (subst IsOk (sym e) fine) bad)
 
+still_good : {B : Type 0} (g : List Item → B) (items : Result (List Item) Why) → IsOk items → IsOk (seen g items)
+still_good g (Ok is) fine = refl
+still_good g (Err e) fine = fine
+
 -- only memory stops the making of items that are good
-pub item_stops : (stops : Stop) (f : List Item → List Item) (t : Token) (tokens : List Token) (i : ℕ) → i < length tokens → t ≡ get_or tokens i t →
-    seen f (items_of (map lexeme (drop i tokens))) ≡ items_of (map lexeme tokens) → IsOk (items_of (map lexeme tokens)) →
-    Stops stops (item_of (lexeme t)) → Stops stops (items_of (map lexeme tokens))
-item_stops stops f t tokens i within is left fine bad =
+pub item_stops : {B : Type 0} (stops : Stop) (f g : List Item → B) (t : Token) (tokens : List Token) (i : ℕ) → i < length tokens → t ≡ get_or tokens i t →
+    seen f (items_of (map lexeme (drop i tokens))) ≡ seen g (items_of (map lexeme tokens)) → IsOk (items_of (map lexeme tokens)) →
+    Stops stops (item_of (lexeme t)) → Stops stops (seen g (items_of (map lexeme tokens)))
+item_stops stops f g t tokens i within is left fine bad =
     let at : drop i tokens ≡ t ∷ drop (suc i) tokens = drop-cons tokens i t within ∙ ap (λ u. u ∷ drop (suc i) tokens) (sym is) in
-    refused_item stops f (lexeme t) (map lexeme (drop (suc i) tokens)) _ (ap (λ ts. seen f (items_of (map lexeme ts))) (sym at) ∙ left) fine bad
+    refused_item stops f (lexeme t) (map lexeme (drop (suc i) tokens)) _ (ap (λ ts. seen f (items_of (map lexeme ts))) (sym at) ∙ left)
+    (still_good g (items_of (map lexeme tokens)) fine) bad

@@ -10,4 +10,6 @@ pub mod KeepingBlocks
 pub mod KeepingPrologue
 pub mod Parted
 pub mod Results
+pub mod PlacedItems
+pub mod PlacedParts
 pub mod Sound

@@ -1,5 +1,5 @@
 -- What a line says, by the section that it stands in.
-use Rattle.std.specs.Prelude.{ℕ, List, [], ◌∷◌, codes, Option, Some, None, Result, Ok, Err, if◌then◌else◌}
+use Rattle.std.specs.Prelude.{ℕ, Bool, true, false, List, [], ◌∷◌, codes, Option, Some, None, Result, Ok, Err, if◌then◌else◌}
 use Rattle.xc_data.specs.declared.script.Kind.{Kind}
 use Rattle.xc_text.specs.declared.line.Line.{Line}
 use Rattle.xc_text.specs.declared.line.Line.TheVariants as line
@@ -14,6 +14,22 @@ use Rattle.xc_text.specs.Shapes.{bare}
 use Rattle.xc_text.specs.Statements.{statement_line}
 use Rattle.xc_tokens.specs.Words.{spells, number, ident, name}
 use Rattle.xc_tokens.specs.Tokens.{Lexeme, Word, Literal}
+
+-- no line that only a transaction has
+abbrev pub is_plain : Line → Bool
+is_plain (line.Words n) = true
+is_plain (line.Word at value) = true
+is_plain (line.File name bytes) = true
+is_plain (line.Pipe name bytes) = true
+is_plain (line.Pair first second) = true
+is_plain (line.Fault kind first last) = true
+is_plain (line.Grain n) = true
+is_plain (line.Job name) = true
+is_plain (line.Body name) = true
+is_plain line.Begin = true
+is_plain (line.Statement statement) = false
+is_plain line.Commit = true
+is_plain line.End = true
 
 -- `words N`
 abbrev pub words_line : List Lexeme → Result Line Why

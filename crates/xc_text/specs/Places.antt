@@ -94,6 +94,15 @@ placed_term_into names term into = two (λ t v. (t, v)) (placed_term names term)
 abbrev pub placed_written : Names → List ℕ → List named.Item → Placed (ℕ × List Item)
 placed_written names handle items = two (λ h is. (h, is)) (variable names handle) (λ behind. placed_data behind items)
 
+-- the same where both are one
+abbrev pub written_of : Names → List ℕ × List named.Item → Placed (ℕ × List Item)
+written_of names p = placed_written names p.0 p.1
+
+-- the same, and the slot that the end goes to
+abbrev pub written_with_slot_of : Names → List ℕ × (List named.Item × Option (List ℕ)) → Placed ((ℕ × List Item) × Option ℕ)
+written_with_slot_of names p =
+    two (λ w s. (w, s)) (placed_written names p.0 p.1.0) (λ behind. placed_ending behind p.1.1)
+
 -- a line that is a call
 abbrev pub placed_form : Names → named.CallForm → Placed CallForm
 placed_form names (form.Load at into) = one (λ p. form.Load p.0 p.1) (placed_term_into names at into)

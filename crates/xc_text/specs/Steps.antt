@@ -17,7 +17,7 @@ use Rattle.xc_tokens.specs.Answers.{and_then, seen}
 use Rattle.xc_text.specs.Grammar.{line_of}
 use Rattle.xc_tokens.specs.Lines.{is_line_byte}
 use Rattle.xc_text.specs.Said.{Names, Said}
-use Rattle.xc_text.specs.Named.{Statement as NamedStatement}
+use Rattle.xc_text.specs.Named.{CallForm as NamedCallForm, Statement as NamedStatement}
 use Rattle.xc_text.specs.Places.{Placed, variable, placed_two, placed}
 use Rattle.xc_text.specs.Stated.{Statement}
 use Rattle.xc_text.specs.Sections.{block_in, transaction_in}
@@ -147,6 +147,14 @@ stated_as s p =
 -- a statement more, with the places of its names
 abbrev pub stated : Said → NamedStatement → Result Said Why
 stated s statement = stated_as s (placed s.names statement)
+
+-- a statement more, where a line is one
+abbrev pub stated_by : Said → Result NamedStatement Why → Result Said Why
+stated_by s said = and_then said (stated s)
+
+-- a call more, where a line is one
+abbrev pub called : Said → Result NamedCallForm Why → Result Said Why
+called s form = stated_by s (seen (λ (f : NamedCallForm). statement.Call f) form)
 
 -- the transaction under way ends
 abbrev pub committed : Said → Option (List ℕ) → Result Said Why

@@ -1,11 +1,11 @@
-ghost use Rattle.std.specs.Prelude.{◌≡◌, ◌≤◌, ◌++◌, false, map, replicate, IfOk, IsOk};
+ghost use Rattle.std.specs.Prelude.{◌≡◌, ◌≤◌, ◌++◌, false, map, replicate, IfOk, IsOk, IsTrue};
 ghost use Rattle.xc_tokens.specs.Answers.{Gives, and_then};
 ghost use Rattle.xc_tokens.specs.Views.{lexeme};
-ghost use Rattle.xc_text.specs.Grammar.{prologue_line, between_line, block_line, transaction_line, worded_line, first_line};
+ghost use Rattle.xc_text.specs.Grammar.{prologue_line, between_line, block_line, transaction_line, worded_line, first_line, is_plain};
 ghost use Rattle.xc_text.specs.Said.{opening};
 ghost use Rattle.xc_text.specs.Scripts.{script_of};
 ghost use Rattle.xc_text.specs.Sections.{block_in, is_outside, transaction_in};
-ghost use Rattle.xc_text.specs.Steps.{is_among, may_begin, started, bodied, begun, stated, stated_as, committed, ended_block};
+ghost use Rattle.xc_text.specs.Steps.{is_among, may_begin, started, bodied, begun, stated_as, committed, ended_block};
 ghost use Rattle.xc_text.specs.Steps.{after, after_tokens, after_bytes};
 
 use crate::block_names::BlockNames;
@@ -15,17 +15,17 @@ use crate::limits::{FIRST_WORDS, MOST_BLOCKS, MOST_TRANSACTIONS};
 use crate::line::{Line, Section};
 use crate::names::Names;
 use crate::objects::Objects;
-use crate::places::{place_call, place_let, place_test};
 use crate::script::{Block, Body, Place, Script, Statement};
 use crate::shapes::bare;
-use crate::statements::read_statement;
 use std::alloc::Global;
 use std::marker::Model;
 use std::mem;
 use xc_data::{FaultList, Ident, Items, NoMemory, Outline, Prologue, WordList};
-use xc_tokens::{IdentWord, Stop, TextLine, Token, Why, read_tokens, spells};
+use xc_tokens::{Stop, TextLine, Token, Why, read_tokens, spells};
 
+mod calls;
 mod opening;
+mod statements;
 
 /// A script as far as its lines were read.
 #[derive(Drop)]
@@ -192,27 +192,6 @@ impl Draft {
         Ok(())
     }
 
-    fn state(&mut self, alloc: Global, statement: &Statement<IdentWord>) -> Result<(), Stop>
-        ensures { Gives (λ _. self.new) result (stated self.old statement.now) }
-    {
-        match statement {
-            Statement::Call(form) => {
-                let placed = place_call(alloc, &mut self.names, form)?;
-                self.keep(placed)
-            }
-            Statement::Let { into, value } => {
-                let placed = place_let(&mut self.names, into, value)?;
-                self.keep(placed)
-            }
-            Statement::Abort => self.keep(Statement::Abort),
-            Statement::AbortIf { left, test, right } => {
-                let placed = place_test(&mut self.names, left, *test, right)?;
-                self.keep(placed)
-            }
-            Statement::Require => self.keep(Statement::Require),
-        }
-    }
-
     fn commit(&mut self, alloc: Global) -> Result<(), Stop>
         ensures { Gives (λ _. self.new) result (committed self.old (transaction_in self.old.section)) }
     {
@@ -238,6 +217,7 @@ impl Draft {
     }
 
     fn add(&mut self, alloc: Global, line: Line) -> Result<(), Stop>
+        requires plain { IsTrue (is_plain line) }
         ensures { Gives (λ _. self.new) result (after self.old line.entry) }
     {
         match line {
@@ -251,7 +231,7 @@ impl Draft {
             Line::Job(name) => self.start_job(name),
             Line::Body(name) => self.start_body(name),
             Line::Begin => self.begin(),
-            Line::Statement(statement) => self.state(alloc, &statement),
+            Line::Statement(_) => unreachable!(),
             Line::Commit => self.commit(alloc),
             Line::End => self.end(alloc),
         }
@@ -285,7 +265,6 @@ impl Draft {
         Err(Stop::Refused(Why::UnknownLine))
     }
 
-    // Its statement is read into one place, and not handed on from line to line.
     fn read_in_transaction(
         &mut self,
         alloc: Global,
@@ -298,9 +277,7 @@ impl Draft {
             bare(rest)?;
             return self.commit(alloc);
         }
-        let mut statement = Statement::Abort;
-        read_statement(alloc, word, rest, &mut statement)?;
-        self.state(alloc, &statement)
+        self.read_statement(alloc, word, rest)
     }
 
     // A line that begins with a word, by the section that it stands in.

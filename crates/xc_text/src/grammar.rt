@@ -1,7 +1,8 @@
 //! Lines outside of blocks.
 
-ghost use Rattle.std.specs.Prelude.{◌≡◌, map};
+ghost use Rattle.std.specs.Prelude.{◌≡◌, map, IfOk, IsTrue};
 ghost use Rattle.xc_tokens.specs.Answers.{Gives};
+ghost use Rattle.xc_text.specs.Grammar.{is_plain};
 ghost use Rattle.xc_text.specs.Grammar.{words_line as words_said, word_line as word_said, file_line as file_said, job_line as job_said};
 ghost use Rattle.xc_text.specs.Grammar.{body_line as body_said, range as range_said};
 ghost use Rattle.xc_text.specs.Grammar.{pipe_line as pipe_said, pair_line as pair_said, fault_line as fault_said, grain_line as grain_said};
@@ -19,7 +20,8 @@ use xc_tokens::{
 };
 
 fn words_line<'a>(tokens: &[Token<'a>]) -> Result<Line<'a>, Why>
-    ensures { result ≡ words_said (map lexeme tokens.now) }
+    ensures value { result ≡ words_said (map lexeme tokens.now) }
+    ensures plain { IfOk result (λ line. IsTrue (is_plain line)) }
 {
     match tokens {
         [n] => Ok(Line::Words(number(n)?)),
@@ -28,7 +30,8 @@ fn words_line<'a>(tokens: &[Token<'a>]) -> Result<Line<'a>, Why>
 }
 
 fn word_line<'a>(tokens: &[Token<'a>]) -> Result<Line<'a>, Why>
-    ensures { result ≡ word_said (map lexeme tokens.now) }
+    ensures value { result ≡ word_said (map lexeme tokens.now) }
+    ensures plain { IfOk result (λ line. IsTrue (is_plain line)) }
 {
     match tokens {
         [at, value] => {
@@ -49,7 +52,8 @@ fn check_literals(tokens: &[Token]) -> Result<(), Why>
 }
 
 fn file_line<'a>(alloc: Global, tokens: &[Token<'a>]) -> Result<Line<'a>, Stop>
-    ensures { Gives (λ line. line) result (file_said (map lexeme tokens.now)) }
+    ensures value { Gives (λ line. line) result (file_said (map lexeme tokens.now)) }
+    ensures plain { IfOk result (λ line. IsTrue (is_plain line)) }
 {
     match tokens {
         [] => Err(Stop::Refused(Why::BadForm)),
@@ -62,7 +66,8 @@ fn file_line<'a>(alloc: Global, tokens: &[Token<'a>]) -> Result<Line<'a>, Stop>
 }
 
 fn pipe_line<'a>(alloc: Global, tokens: &[Token<'a>]) -> Result<Line<'a>, Stop>
-    ensures { Gives (λ line. line) result (pipe_said (map lexeme tokens.now)) }
+    ensures value { Gives (λ line. line) result (pipe_said (map lexeme tokens.now)) }
+    ensures plain { IfOk result (λ line. IsTrue (is_plain line)) }
 {
     match tokens {
         [] => Err(Stop::Refused(Why::BadForm)),
@@ -75,7 +80,8 @@ fn pipe_line<'a>(alloc: Global, tokens: &[Token<'a>]) -> Result<Line<'a>, Stop>
 }
 
 fn pair_line<'a>(tokens: &[Token<'a>]) -> Result<Line<'a>, Why>
-    ensures { result ≡ pair_said (map lexeme tokens.now) }
+    ensures value { result ≡ pair_said (map lexeme tokens.now) }
+    ensures plain { IfOk result (λ line. IsTrue (is_plain line)) }
 {
     match tokens {
         [first, second] => {
@@ -87,7 +93,8 @@ fn pair_line<'a>(tokens: &[Token<'a>]) -> Result<Line<'a>, Why>
 }
 
 fn job_line<'a>(tokens: &[Token<'a>]) -> Result<Line<'a>, Why>
-    ensures { result ≡ job_said (map lexeme tokens.now) }
+    ensures value { result ≡ job_said (map lexeme tokens.now) }
+    ensures plain { IfOk result (λ line. IsTrue (is_plain line)) }
 {
     match tokens {
         [name] => Ok(Line::Job(ident(name)?)),
@@ -96,7 +103,8 @@ fn job_line<'a>(tokens: &[Token<'a>]) -> Result<Line<'a>, Why>
 }
 
 fn body_line<'a>(tokens: &[Token<'a>]) -> Result<Line<'a>, Why>
-    ensures { result ≡ body_said (map lexeme tokens.now) }
+    ensures value { result ≡ body_said (map lexeme tokens.now) }
+    ensures plain { IfOk result (λ line. IsTrue (is_plain line)) }
 {
     match tokens {
         [name] => Ok(Line::Body(ident(name)?)),
@@ -119,7 +127,8 @@ fn range(tokens: &[Token<'_>]) -> Result<(u64, u64), Why>
 }
 
 fn fault_line<'a>(tokens: &[Token<'a>]) -> Result<Line<'a>, Why>
-    ensures { result ≡ fault_said (map lexeme tokens.now) }
+    ensures value { result ≡ fault_said (map lexeme tokens.now) }
+    ensures plain { IfOk result (λ line. IsTrue (is_plain line)) }
 {
     match tokens {
         [] => Err(Why::BadForm),
@@ -131,7 +140,8 @@ fn fault_line<'a>(tokens: &[Token<'a>]) -> Result<Line<'a>, Why>
 }
 
 fn grain_line<'a>(tokens: &[Token<'a>]) -> Result<Line<'a>, Why>
-    ensures { result ≡ grain_said (map lexeme tokens.now) }
+    ensures value { result ≡ grain_said (map lexeme tokens.now) }
+    ensures plain { IfOk result (λ line. IsTrue (is_plain line)) }
 {
     match tokens {
         [n] => Ok(Line::Grain(number(n)?)),
@@ -141,7 +151,8 @@ fn grain_line<'a>(tokens: &[Token<'a>]) -> Result<Line<'a>, Why>
 
 /// A line before the first block.
 pub fn prologue_line<'a>(alloc: Global, word: &[u8], rest: &[Token<'a>]) -> Result<Line<'a>, Stop>
-    ensures { Gives (λ line. line) result (prologue_said word.now (map lexeme rest.now)) }
+    ensures value { Gives (λ line. line) result (prologue_said word.now (map lexeme rest.now)) }
+    ensures plain { IfOk result (λ line. IsTrue (is_plain line)) }
 {
     if spells(word, b"words") {
         return Ok(words_line(rest)?);
@@ -175,7 +186,8 @@ pub fn prologue_line<'a>(alloc: Global, word: &[u8], rest: &[Token<'a>]) -> Resu
 
 /// A line after a block.
 pub fn between_line<'a>(word: &[u8], rest: &[Token<'a>]) -> Result<Line<'a>, Why>
-    ensures { result ≡ between_said word.now (map lexeme rest.now) }
+    ensures value { result ≡ between_said word.now (map lexeme rest.now) }
+    ensures plain { IfOk result (λ line. IsTrue (is_plain line)) }
 {
     if spells(word, b"job") {
         return job_line(rest);

@@ -20,8 +20,8 @@ mod pieces;
 mod places;
 mod script;
 mod shapes;
-mod statements;
 mod term;
+mod written;
 
 pub use parse_err::ParseErr;
 pub use parser::parse;

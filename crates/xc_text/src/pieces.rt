@@ -1,13 +1,16 @@
-ghost use Rattle.std.specs.Prelude.{◌≡◌, map, IsOk};
+ghost use Rattle.std.specs.Prelude.{◌≡◌, [], map, IfOk, IsOk};
+ghost use Rattle.xc_text.specs.Places.{placed_data};
 ghost use Rattle.xc_text.specs.Pieces.{word_item as word_item_said, item_of, items_of, data_of};
 ghost use Rattle.xc_tokens.specs.Answers.{Gives, seen};
 ghost use Rattle.xc_tokens.specs.Views.{lexeme};
 
 use crate::limits::MOST_ITEMS;
-use crate::script::{Data, Item};
+use crate::names::Names;
+use crate::places::place_item;
+use crate::script::{Data, Item, Place};
 use crate::term::term_word;
 use std::alloc::Global;
-use xc_data::{Items, MOST_CALL_BYTES};
+use xc_data::{Items, MOST_CALL_BYTES, NoMemory};
 use xc_tokens::{IdentWord, Stop, Token, Why, beside, ident_word, is_within, repeated};
 
 fn word_item<'a>(word: &'a [u8]) -> Result<Item<IdentWord<'a>>, Why>
@@ -50,13 +53,21 @@ fn check_items(tokens: &[Token]) -> Result<(), Why>
     }
 }
 
-fn items<'a>(alloc: Global, tokens: &[Token<'a>]) -> Result<Data<IdentWord<'a>>, Stop>
-    requires good { IsOk (items_of (map lexeme tokens.now)) }
-    ensures { Gives (λ items. items) result (items_of (map lexeme tokens.now)) }
+// No item yet, and room for so many.
+fn room_for(alloc: Global, n: usize) -> Result<Data<Place>, NoMemory>
+    ensures { IfOk result (λ items. items ≡ []) }
 {
-    let mut items = Items::new(alloc);
+    Ok(Items::from_vec(Vec::with_capacity(alloc, n)?))
+}
+
+fn items(alloc: Global, names: &mut Names, tokens: &[Token]) -> Result<Data<Place>, Stop>
+    requires good { IsOk (items_of (map lexeme tokens.now)) }
+    ensures { Gives (λ items. (names.new, items)) result (seen (placed_data names.old) (items_of (map lexeme tokens.now))) }
+{
+    let mut items = room_for(alloc, tokens.len())?;
     for token in tokens {
-        items.push(item(alloc, token)?)?;
+        let item = item(alloc, token)?;
+        items.push(place_item(names, item)?)?;
     }
     Ok(items)
 }
@@ -75,10 +86,10 @@ pub fn check_data(tokens: &[Token]) -> Result<(), Why>
     Ok(())
 }
 
-/// The data of a line that writes.
-pub fn data<'a>(alloc: Global, tokens: &[Token<'a>]) -> Result<Data<IdentWord<'a>>, Stop>
+/// The data of a line that writes, with the places of its variables and slots.
+pub fn data(alloc: Global, names: &mut Names, tokens: &[Token]) -> Result<Data<Place>, Stop>
     requires good { IsOk (data_of (map lexeme tokens.now)) }
-    ensures { Gives (λ items. items) result (data_of (map lexeme tokens.now)) }
+    ensures { Gives (λ items. (names.new, items)) result (seen (placed_data names.old) (data_of (map lexeme tokens.now))) }
 {
-    items(alloc, tokens)
+    items(alloc, names, tokens)
 }

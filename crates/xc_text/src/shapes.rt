@@ -1,20 +1,16 @@
 //! The shapes of lines: what may stand after a line's first word.
 
 ghost use Rattle.std.specs.Prelude.{◌≡◌, ◌∷◌, [], map};
-ghost use Rattle.xc_text.specs.Pieces.{data_of};
 ghost use Rattle.xc_text.specs.Shapes.{bare as bare_said, alone, led, target as target_said, slot_ending as slot_ending_said};
-ghost use Rattle.xc_text.specs.Shapes.{before_slot, parted as parted_said, two_targets as two_targets_said};
+ghost use Rattle.xc_text.specs.Shapes.{parted as parted_said, two_targets as two_targets_said};
 ghost use Rattle.xc_text.specs.Terms.{term as term_said, expression_of};
-ghost use Rattle.xc_tokens.specs.Answers.{Gives};
 ghost use Rattle.xc_tokens.specs.Views.{lexeme};
 ghost use Rattle.xc_tokens.specs.Words.{ident as ident_said, name as name_said};
 
-use crate::pieces::{check_data, data};
-use crate::script::{Data, Expression, Term};
+use crate::script::{Expression, Term};
 use crate::term::{expression, term};
-use std::alloc::Global;
 use xc_data::Name;
-use xc_tokens::{IdentWord, Stop, Token, Why, beside, both, ident_token, is_sign, name};
+use xc_tokens::{IdentWord, Token, Why, both, ident_token, is_sign, name};
 
 /// Nothing.
 pub fn bare(tokens: &[Token]) -> Result<(), Why>
@@ -79,7 +75,8 @@ fn slot_in<'a>(word: &Token, slot: &Token<'a>) -> Result<Option<IdentWord<'a>>, 
     Ok(Some(ident_token(slot)?))
 }
 
-fn slot_ending<'a>(tokens: &[Token<'a>]) -> Result<Option<IdentWord<'a>>, Why>
+/// Nothing, or `slot S`
+pub fn slot_ending<'a>(tokens: &[Token<'a>]) -> Result<Option<IdentWord<'a>>, Why>
     ensures { result ≡ slot_ending_said (map lexeme tokens.now) }
 {
     match tokens {
@@ -89,8 +86,8 @@ fn slot_ending<'a>(tokens: &[Token<'a>]) -> Result<Option<IdentWord<'a>>, Why>
     }
 }
 
-// The tokens in front of `slot S`, and those two where the tokens end so.
-fn parted<'t, 'a>(tokens: &'t [Token<'a>]) -> (&'t [Token<'a>], &'t [Token<'a>])
+/// The tokens in front of `slot S`, and those two where the tokens end so.
+pub fn parted<'t, 'a>(tokens: &'t [Token<'a>]) -> (&'t [Token<'a>], &'t [Token<'a>])
     ensures front { map lexeme result.0.now ≡ (parted_said (map lexeme tokens.now)).0 }
     ensures ending { map lexeme result.1.now ≡ (parted_said (map lexeme tokens.now)).1 }
 {
@@ -238,41 +235,5 @@ pub fn ident_and_slot<'a>(
     match tokens {
         [] => Err(Why::BadForm),
         [first, behind @ ..] => both(ident_token(first), slot_ending(behind)),
-    }
-}
-
-/// `H D`
-pub fn handle_and_data<'a>(
-    alloc: Global,
-    tokens: &[Token<'a>],
-) -> Result<(IdentWord<'a>, Data<IdentWord<'a>>), Stop>
-    ensures { Gives (λ written. written) result (led ident_said data_of (map lexeme tokens.now)) }
-{
-    match tokens {
-        [] => Err(Stop::Refused(Why::BadForm)),
-        [handle, items @ ..] => {
-            let handle = beside(ident_token(handle), check_data(items))?;
-            let data = data(alloc, items)?;
-            Ok((handle, data))
-        }
-    }
-}
-
-/// `H D`, `H D slot S`
-pub fn handle_data_slot<'a>(
-    alloc: Global,
-    tokens: &[Token<'a>],
-) -> Result<(IdentWord<'a>, (Data<IdentWord<'a>>, Option<IdentWord<'a>>)), Stop>
-    ensures { Gives (λ written. written) result (led ident_said (before_slot data_of) (map lexeme tokens.now)) }
-{
-    match tokens {
-        [] => Err(Stop::Refused(Why::BadForm)),
-        [handle, behind @ ..] => {
-            let (items, ending) = parted(behind);
-            let slot = both(check_data(items), slot_ending(ending));
-            let (handle, ((), slot)) = both(ident_token(handle), slot)?;
-            let data = data(alloc, items)?;
-            Ok((handle, (data, slot)))
-        }
     }
 }

@@ -4,7 +4,7 @@ use Rattle.xc_text.specs.Shapes.{led}
 use Rattle.xc_tokens.specs.Words.{ident}
 use Rattle.xc_tokens.specs.Views.{lexeme}
 use Rattle.xc_text.proofs.Checked.{written_refused}
-use Rattle.xc_text.proofs.shapes.handle_and_data.Goals as goal
+use Rattle.xc_text.proofs.written.written.Goals as goal
 
 pub returns-in_err-handle-in-len1-up : goal.returns-in_err-handle-in-len1-up
 returns-in_err-handle-in-len1-up c =
