@@ -180,8 +180,8 @@ impl Draft {
         Ok(())
     }
 
-    // One more statement, whose names have their places. It is handed over in memory from each of its callers.
-    #[inline(never)]
+    // One more statement, whose names have their places. Each of its callers puts it right into the list.
+    #[inline(always)]
     fn keep(&mut self, placed: Statement<Place>) -> Result<(), Stop>
         ensures { Gives (λ _. self.new) result (stated_as self.old (self.old.names, placed)) }
     {
@@ -299,7 +299,7 @@ impl Draft {
     {
         match first {
             Token::Word(word) => self.read_word(alloc, word, rest),
-            Token::Literal { .. } => Err(Stop::Refused(Why::UnknownLine)),
+            Token::Plain { .. } | Token::Escaped { .. } => Err(Stop::Refused(Why::UnknownLine)),
         }
     }
 
@@ -324,7 +324,7 @@ impl Draft {
         if !line.is_clean() {
             return Err(Stop::Refused(Why::BadByte));
         }
-        read_tokens(alloc, tokens, line.bytes())?;
+        read_tokens(tokens, line.bytes())?;
         self.read_line(alloc, tokens.as_slice())
     }
 }

@@ -49,6 +49,6 @@ pub fn kind(token: &Token) -> Result<Kind, Why>
 {
     match token {
         Token::Word(word) => kind_word(word),
-        Token::Literal { .. } => Err(Why::BadForm),
+        Token::Plain { .. } | Token::Escaped { .. } => Err(Why::BadForm),
     }
 }

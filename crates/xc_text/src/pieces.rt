@@ -38,7 +38,9 @@ fn item<'a>(alloc: Global, token: &Token<'a>) -> Result<Item<IdentWord<'a>>, Sto
 {
     match token {
         Token::Word(word) => Ok(word_item(word)?),
-        Token::Literal { bytes, repeat } => {
+        Token::Plain { bytes, repeat } => Ok(Item::Literal(repeated(alloc, bytes, *repeat)?)),
+        Token::Escaped { literal, repeat } => {
+            let bytes = literal.meant(alloc)?;
             Ok(Item::Literal(repeated(alloc, bytes.as_slice(), *repeat)?))
         }
     }

@@ -26,7 +26,7 @@ pub fn term<'a>(token: &Token<'a>) -> Result<Term<IdentWord<'a>>, Why>
 {
     match token {
         Token::Word(word) => term_word(word),
-        Token::Literal { .. } => Err(Why::BadForm),
+        Token::Plain { .. } | Token::Escaped { .. } => Err(Why::BadForm),
     }
 }
 
@@ -55,7 +55,7 @@ pub fn test(token: &Token) -> Result<Test, Why>
 {
     match token {
         Token::Word(word) => test_word(word),
-        Token::Literal { .. } => Err(Why::BadForm),
+        Token::Plain { .. } | Token::Escaped { .. } => Err(Why::BadForm),
     }
 }
 

@@ -1,5 +1,6 @@
 -- What stands between quotes.
-use Rattle.std.specs.Prelude.{ℕ, ◌+◌, ◌-◌, ◌*◌, ◌==◌, ◌||◌, ◌&&◌, Bool, List, [], ◌∷◌, nat_le, Option, Some, None, if◌then◌else◌}
+use Rattle.std.specs.Prelude.{ℕ, ◌+◌, ◌-◌, ◌*◌, ◌==◌, ◌||◌, ◌&&◌, not, Bool, List, [], ◌∷◌, length, nat_le}
+use Rattle.std.specs.Prelude.{Option, Some, None, if◌then◌else◌}
 use Rattle.xc_tokens.specs.Numbers.{is_digit}
 
 -- `A` to `F`
@@ -34,6 +35,10 @@ is_escape b = (b == 110) || (b == 34) || (b == 92)
 abbrev pub escaped : ℕ → ℕ
 escaped b = if b == 110 then 10 else b
 
+-- a byte of a literal that means itself: no quote and no `\`
+abbrev pub is_itself : ℕ → Bool
+is_itself b = not ((b == 34) || (b == 92))
+
 -- a byte, and what the rest of a literal means
 abbrev pub then_rest : ℕ → Option (List ℕ × List ℕ) → Option (List ℕ × List ℕ)
 then_rest b (Some (meant, behind)) = Some (b ∷ meant, behind)
@@ -62,3 +67,17 @@ abbrev mutual
       if is_hex first && is_hex second then then_rest (hex_byte first second) (literal_of bs)
       else None
   hex_of _ = None
+
+-- the bytes of a literal, none where it isn't one
+abbrev pub meant_in : Option (List ℕ × List ℕ) → List ℕ
+meant_in (Some p) = p.0
+meant_in None = []
+
+-- what a literal means whose opening quote stands before the bytes
+abbrev pub meant_by : List ℕ → List ℕ
+meant_by bs = meant_in (literal_of bs)
+
+-- how many bytes a literal means, and what stands after it
+abbrev pub measured : Option (List ℕ × List ℕ) → Option (ℕ × List ℕ)
+measured (Some p) = Some (length p.0, p.1)
+measured None = None

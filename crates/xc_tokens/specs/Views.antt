@@ -8,7 +8,8 @@ use Rattle.xc_tokens.specs.Tokens.{Lexeme, Word, Literal}
 -- a token
 abbrev pub lexeme : Token → Lexeme
 lexeme (token.Word bytes) = Word bytes.now
-lexeme (token.Literal bytes times) = Literal bytes.items times
+lexeme (token.Plain bytes times) = Literal bytes.now times
+lexeme (token.Escaped meant times) = Literal meant times
 
 -- a literal after a piece of it: the byte that the piece means, and what stands after it
 abbrev pub behind_piece : Option (ℕ × List ℕ) → Option (List ℕ × List ℕ)

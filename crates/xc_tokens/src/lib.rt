@@ -2,6 +2,7 @@
 //! and literals alone mean.
 #![tactic(auto)]
 
+mod escaped;
 mod limits;
 mod lines;
 mod literals;
@@ -13,6 +14,7 @@ mod token;
 mod why;
 mod words;
 
+pub use escaped::Escaped;
 pub use lines::{TextLine, first_line};
 pub use literals::{are_literals, contents, is_within, repeated};
 pub use numbers::is_digit_byte;

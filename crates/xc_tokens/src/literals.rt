@@ -13,7 +13,7 @@ fn is_literal(token: &Token) -> bool
 {
     match token {
         Token::Word(_) => false,
-        Token::Literal { .. } => true,
+        Token::Plain { .. } | Token::Escaped { .. } => true,
     }
 }
 
@@ -36,7 +36,8 @@ fn size(token: &Token) -> u128
 {
     match token {
         Token::Word(_) => 0,
-        Token::Literal { bytes, repeat } => *repeat as u128 * bytes.len() as u128,
+        Token::Plain { bytes, repeat } => *repeat as u128 * bytes.len() as u128,
+        Token::Escaped { literal, repeat } => *repeat as u128 * literal.len() as u128,
     }
 }
 
@@ -67,24 +68,28 @@ fn add_repeated(bytes: &mut Vec<u8>, piece: &[u8], times: u32) -> Result<(), NoM
     Ok(())
 }
 
-/// A piece so many times.
+/// A piece so many times. Most stand there once, and there is just the room for one.
 pub fn repeated(alloc: Global, piece: &[u8], times: u32) -> Result<Chunk, NoMemory>
     ensures { IfOk result (λ chunk. chunk ≡ repeat_of_list times piece.now) }
 {
-    let mut bytes = Vec::new(alloc);
+    let mut bytes = Vec::with_capacity(alloc, piece.len())?;
     add_repeated(&mut bytes, piece, times)?;
     Chunk::from_vec(bytes)
 }
 
-fn add_token(bytes: &mut Vec<u8>, token: &Token) -> Result<(), NoMemory>
+fn add_token(alloc: Global, bytes: &mut Vec<u8>, token: &Token) -> Result<(), NoMemory>
     ensures { OnOk result (bytes.new.items ≡ bytes.old.items ++ given (lexeme token.now)) }
 {
     match token {
         Token::Word(_) => Ok(()),
-        Token::Literal {
+        Token::Plain {
             bytes: piece,
             repeat,
-        } => add_repeated(bytes, piece.as_slice(), *repeat),
+        } => add_repeated(bytes, piece, *repeat),
+        Token::Escaped { literal, repeat } => {
+            let piece = literal.meant(alloc)?;
+            add_repeated(bytes, piece.as_slice(), *repeat)
+        }
     }
 }
 
@@ -93,7 +98,7 @@ fn joined(alloc: Global, tokens: &[Token]) -> Result<Chunk, NoMemory>
 {
     let mut bytes = Vec::new(alloc);
     for token in tokens {
-        add_token(&mut bytes, token)?;
+        add_token(alloc, &mut bytes, token)?;
     }
     Chunk::from_vec(bytes)
 }

@@ -2,23 +2,26 @@ ghost use Rattle.std.specs.Prelude.{◌≡◌, false, not, ◌≤◌, ◌<◌, �
 ghost use Rattle.std.specs.Prelude.{IfSome, IfOk};
 ghost use Rattle.xc_tokens.specs.declared.why.Why.TheVariants.{BadLiteral};
 ghost use Rattle.xc_tokens.specs.Answers.{Gives, seen};
-ghost use Rattle.xc_tokens.specs.Quoted.{is_hex, is_escape, escaped, digit_value, hex_byte, literal_of, escape_of, hex_of};
+ghost use Rattle.std.specs.List.{prefix_len};
+ghost use Rattle.xc_tokens.specs.Quoted.{is_itself};
 ghost use Rattle.xc_tokens.specs.Tokens.{Word, is_blank, past_blanks as behind_blanks, run_len as length_of_run};
 ghost use Rattle.xc_tokens.specs.Tokens.{unquoted_run_len, repeat_of, repeat_from};
-ghost use Rattle.xc_tokens.specs.Tokens.{literal_from, word_from, token_at, with_next, tokens_of};
-ghost use Rattle.xc_tokens.specs.Views.{behind_piece, lexeme};
+ghost use Rattle.xc_tokens.specs.Tokens.{literal_from, with_repeat, word_from, token_at, with_next, tokens_of};
+ghost use Rattle.xc_tokens.specs.Views.{lexeme};
 
+use crate::escaped::Escaped;
 use crate::limits::{MOST_LITERAL_BYTES, MOST_REPEAT};
 use crate::numbers::spelled_number;
 use crate::why::{Stop, Why};
-use std::alloc::Global;
 
 /// A token of a line.
 #[derive(Debug, Drop)]
 pub enum Token<'a> {
     Word(&'a [u8]),
-    /// The bytes between the quotes, and how often they stand there.
-    Literal { bytes: Vec<u8>, repeat: u32 },
+    /// A literal without an escape: its bytes as they stand in the line, and how often they are meant.
+    Plain { bytes: &'a [u8], repeat: u32 },
+    /// A literal with escapes, and how often it is meant.
+    Escaped { literal: Escaped<'a>, repeat: u32 },
 }
 
 // Most bytes of a line are no blank, and the first test tells of them.
@@ -49,42 +52,6 @@ fn opens_word(b: u8) -> bool
         return true;
     }
     b != b'#' && b != b'"'
-}
-
-fn is_hex_byte(b: u8) -> bool
-    ensures { result ≡ is_hex b }
-{
-    matches!(b, b'0'..=b'9' | b'A'..=b'F' | b'a'..=b'f')
-}
-
-fn is_escape_byte(b: u8) -> bool
-    ensures { result ≡ is_escape b }
-{
-    matches!(b, b'n' | b'"' | b'\\')
-}
-
-fn escaped_byte(b: u8) -> u8
-    ensures { result ≡ escaped b }
-{
-    if b == b'n' { b'\n' } else { b }
-}
-
-fn digit_of(b: u8) -> u8
-    ensures value { result ≡ digit_value b }
-    ensures bound { result ≤ 15 }
-{
-    match b {
-        b'0'..=b'9' => b - b'0',
-        b'A'..=b'F' => b - b'A' + 10,
-        b'a'..=b'f' => b - b'a' + 10,
-        _ => 0,
-    }
-}
-
-fn byte_of_digits(first: u8, second: u8) -> u8
-    ensures { result ≡ hex_byte first second }
-{
-    16 * digit_of(first) + digit_of(second)
 }
 
 fn past_blanks(bytes: &[u8]) -> &[u8]
@@ -131,72 +98,6 @@ fn unquoted_run(bytes: &[u8]) -> Option<usize>
     Some(n)
 }
 
-// The byte that two hexadecimal digits mean, and what stands after them.
-fn hex_piece(bytes: &[u8]) -> Option<(u8, &[u8])>
-    ensures means { behind_piece (option_map (λ p. (p.0, p.1.now)) result) ≡ hex_of bytes.now }
-    ensures fewer { IfSome result (λ p. length p.1.now ≤ length bytes.now) }
-{
-    let [first, second, behind @ ..] = bytes else {
-        return None;
-    };
-    if !is_hex_byte(*first) || !is_hex_byte(*second) {
-        return None;
-    }
-    Some((byte_of_digits(*first, *second), behind))
-}
-
-// The byte that an escape means whose `\` stands before the bytes, and what stands after it.
-fn escape_piece(bytes: &[u8]) -> Option<(u8, &[u8])>
-    ensures means { behind_piece (option_map (λ p. (p.0, p.1.now)) result) ≡ escape_of bytes.now }
-    ensures fewer { IfSome result (λ p. length p.1.now ≤ length bytes.now) }
-{
-    let [b, behind @ ..] = bytes else {
-        return None;
-    };
-    if is_escape_byte(*b) {
-        return Some((escaped_byte(*b), behind));
-    }
-    if *b == b'x' {
-        return hex_piece(behind);
-    }
-    None
-}
-
-// The byte that the first piece of a literal means, and what stands after the piece.
-fn piece(first: u8, behind: &[u8]) -> Option<(u8, &[u8])>
-    requires inside { (first == 34) ≡ false }
-    ensures means { behind_piece (option_map (λ p. (p.0, p.1.now)) result) ≡ literal_of (first ∷ behind.now) }
-    ensures fewer { IfSome result (λ p. length p.1.now ≤ length behind.now) }
-{
-    if first == b'\\' {
-        return escape_piece(behind);
-    }
-    Some((first, behind))
-}
-
-// What the literal means whose opening quote stands before the bytes, and what stands after its
-// closing quote.
-fn past_literal<'a>(alloc: Global, bytes: &'a [u8]) -> Result<(Vec<u8>, &'a [u8]), Stop>
-    ensures means { Gives (λ p. (p.0.items, p.1.now)) result (ok_or (literal_of bytes.now) BadLiteral) }
-    ensures fewer { IfOk result (λ p. length p.1.now ≤ length bytes.now) }
-{
-    let mut meant = Vec::new(alloc);
-    let mut rest = bytes;
-    while let [first, behind @ ..] = rest {
-        if *first == b'"' {
-            return Ok((meant, behind));
-        }
-        match piece(*first, behind) {
-            Some((byte, next)) => {
-                meant.push(byte)?;
-                rest = next;
-            }
-            None => return Err(Stop::Refused(Why::BadLiteral)),
-        }
-    }
-    Err(Stop::Refused(Why::BadLiteral))
-}
-
 fn repeat_count(bytes: &[u8]) -> Option<u32>
     ensures { result ≡ repeat_of bytes.now }
 {
@@ -225,19 +126,63 @@ fn past_repeat(bytes: &[u8]) -> Option<(u32, &[u8])>
     Some((repeat, &behind[n..]))
 }
 
-// A literal whose opening quote stands before the bytes, and what stands after it.
-fn literal<'a>(alloc: Global, bytes: &'a [u8]) -> Result<(Token<'a>, &'a [u8]), Stop>
-    ensures value { Gives (λ p. (lexeme p.0, p.1.now)) result (literal_from bytes.now) }
-    ensures fewer { IfOk result (λ p. length p.1.now ≤ length bytes.now) }
+// A byte of a literal that means itself.
+fn means_itself(b: u8) -> bool
+    ensures { result ≡ is_itself b }
 {
-    let (bytes, closed) = past_literal(alloc, bytes)?;
+    b != b'"' && b != b'\\'
+}
+
+// How many bytes in front mean themselves.
+fn plain_len(bytes: &[u8]) -> usize
+    ensures value { result ≡ prefix_len is_itself bytes.now }
+    ensures bound { result ≤ length bytes.now }
+{
+    let mut n = 0;
+    while n < bytes.len() {
+        if !means_itself(bytes[n]) {
+            return n;
+        }
+        n += 1;
+    }
+    n
+}
+
+// A literal without an escape whose first bytes are those, and what stands after it.
+fn plain_literal<'a>(bytes: &'a [u8], closed: &'a [u8]) -> Option<(Token<'a>, &'a [u8])>
+    ensures value { ok_or (option_map (λ p. (lexeme p.0, p.1.now)) result) BadLiteral ≡ with_repeat (bytes.now, closed.now) }
+    ensures fewer { IfSome result (λ p. length p.1.now ≤ length closed.now) }
+{
     if bytes.len() > MOST_LITERAL_BYTES {
-        return Err(Stop::Refused(Why::BadLiteral));
+        return None;
     }
-    match past_repeat(closed) {
-        Some((repeat, behind)) => Ok((Token::Literal { bytes, repeat }, behind)),
-        None => Err(Stop::Refused(Why::BadLiteral)),
+    let (repeat, behind) = past_repeat(closed)?;
+    Some((Token::Plain { bytes, repeat }, behind))
+}
+
+// A literal whose opening quote stands before the bytes, and what stands after it.
+fn escaped_literal<'a>(bytes: &'a [u8]) -> Option<(Token<'a>, &'a [u8])>
+    ensures value { ok_or (option_map (λ p. (lexeme p.0, p.1.now)) result) BadLiteral ≡ literal_from bytes.now }
+    ensures fewer { IfSome result (λ p. length p.1.now ≤ length bytes.now) }
+{
+    let (literal, len, closed) = Escaped::measured(bytes)?;
+    if len > MOST_LITERAL_BYTES {
+        return None;
     }
+    let (repeat, behind) = past_repeat(closed)?;
+    Some((Token::Escaped { literal, repeat }, behind))
+}
+
+// The same. Most literals have no escape.
+fn literal<'a>(bytes: &'a [u8]) -> Option<(Token<'a>, &'a [u8])>
+    ensures value { ok_or (option_map (λ p. (lexeme p.0, p.1.now)) result) BadLiteral ≡ literal_from bytes.now }
+    ensures fewer { IfSome result (λ p. length p.1.now ≤ length bytes.now) }
+{
+    let n = plain_len(bytes);
+    if n == bytes.len() || bytes[n] != b'"' {
+        return escaped_literal(bytes);
+    }
+    plain_literal(&bytes[..n], &bytes[n + 1..])
 }
 
 // How long the word in front is; none where a quote stands within it.
@@ -253,26 +198,20 @@ fn word_len(bytes: &[u8]) -> Option<usize>
 
 // Reads the literal whose opening quote stands before the bytes, after the tokens so far, and gives what stands
 // after it.
-fn push_literal<'a>(
-    alloc: Global,
-    tokens: &mut Vec<Token<'a>>,
-    bytes: &'a [u8],
-) -> Result<Option<&'a [u8]>, Stop>
+fn push_literal<'a>(tokens: &mut Vec<Token<'a>>, bytes: &'a [u8]) -> Result<Option<&'a [u8]>, Stop>
     ensures value { Gives (λ behind. (map lexeme tokens.new.items, option_map (λ b. b.now) behind)) result
         (seen (with_next (map lexeme tokens.old.items)) (seen Some (literal_from bytes.now))) }
     ensures fewer { IfOk result (λ next. IfSome next (λ behind. length behind.now ≤ length bytes.now)) }
 {
-    let (token, behind) = literal(alloc, bytes)?;
+    let Some((token, behind)) = literal(bytes) else {
+        return Err(Stop::Refused(Why::BadLiteral));
+    };
     tokens.push(token)?;
     Ok(Some(behind))
 }
 
 // Reads the first token after the tokens so far, and gives what stands after it; none where no token is left.
-fn push_token<'a>(
-    alloc: Global,
-    tokens: &mut Vec<Token<'a>>,
-    bytes: &'a [u8],
-) -> Result<Option<&'a [u8]>, Stop>
+fn push_token<'a>(tokens: &mut Vec<Token<'a>>, bytes: &'a [u8]) -> Result<Option<&'a [u8]>, Stop>
     ensures value { Gives (λ behind. (map lexeme tokens.new.items, option_map (λ b. b.now) behind)) result
         (seen (with_next (map lexeme tokens.old.items)) (token_at (behind_blanks bytes.now))) }
     ensures fewer { IfOk result (λ next. IfSome next (λ behind. length behind.now < length bytes.now)) }
@@ -285,7 +224,7 @@ fn push_token<'a>(
         if *first == b'#' {
             return Ok(None);
         }
-        return push_literal(alloc, tokens, behind);
+        return push_literal(tokens, behind);
     }
     let Some(n) = word_len(start) else {
         return Err(Stop::Refused(Why::BadLiteral));
@@ -295,16 +234,12 @@ fn push_token<'a>(
 }
 
 /// Reads the tokens of a line, in place of those that were there.
-pub fn read_tokens<'a>(
-    alloc: Global,
-    tokens: &mut Vec<Token<'a>>,
-    line: &'a [u8],
-) -> Result<(), Stop>
+pub fn read_tokens<'a>(tokens: &mut Vec<Token<'a>>, line: &'a [u8]) -> Result<(), Stop>
     ensures { Gives (λ _. map lexeme tokens.new.items) result (tokens_of line.now) }
 {
     tokens.clear();
     let mut rest = line;
-    while let Some(behind) = push_token(alloc, tokens, rest)? {
+    while let Some(behind) = push_token(tokens, rest)? {
         rest = behind;
     }
     Ok(())

@@ -22,7 +22,7 @@ pub fn is_sign(token: &Token, text: &[u8]) -> bool
 {
     match token {
         Token::Word(word) => spells(word, text),
-        Token::Literal { .. } => false,
+        Token::Plain { .. } | Token::Escaped { .. } => false,
     }
 }
 
@@ -61,7 +61,7 @@ pub fn number(token: &Token) -> Result<u64, Why>
 {
     match token {
         Token::Word(word) => number_word(word),
-        Token::Literal { .. } => Err(Why::BadForm),
+        Token::Plain { .. } | Token::Escaped { .. } => Err(Why::BadForm),
     }
 }
 
@@ -71,7 +71,7 @@ pub fn ident_token<'a>(token: &Token<'a>) -> Result<IdentWord<'a>, Why>
 {
     match token {
         Token::Word(word) => ident_word(word),
-        Token::Literal { .. } => Err(Why::BadForm),
+        Token::Plain { .. } | Token::Escaped { .. } => Err(Why::BadForm),
     }
 }
 
@@ -89,6 +89,6 @@ pub fn name(token: &Token) -> Result<Name, Why>
 {
     match token {
         Token::Word(word) => name_word(word),
-        Token::Literal { .. } => Err(Why::BadForm),
+        Token::Plain { .. } | Token::Escaped { .. } => Err(Why::BadForm),
     }
 }

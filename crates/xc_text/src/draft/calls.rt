@@ -31,6 +31,7 @@ use xc_tokens::{Stop, Token, Why};
 
 impl Draft {
     // One more call, whose names have their places.
+    #[inline(always)]
     fn keep_call(&mut self, form: CallForm<Place>) -> Result<(), Stop>
         ensures { Gives (λ _. self.new) result (stated_as self.old (self.old.names, statement.Call form)) }
     {

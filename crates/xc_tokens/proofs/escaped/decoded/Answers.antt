@@ -1,7 +1,7 @@
 use Rattle.std.proofs.Common.{◌≡◌, ◌-◌, ◌∷◌, ◌∙◌, ap, length, take, drop, get_or, arith, rules}
 use Rattle.xc_tokens.specs.Quoted.{literal_of, then_rest}
 use Rattle.xc_tokens.proofs.Quotes.{read_on, whole}
-use Rattle.xc_tokens.proofs.token.past_literal.Goals as goal
+use Rattle.xc_tokens.proofs.escaped.decoded.Goals as goal
 
 pub loop-rest-preserved : goal.loop-rest-preserved
 loop-rest-preserved c =
@@ -12,5 +12,5 @@ loop-rest-preserved c =
     read ∙ ap literal_of (whole c.loop-rest.rest.now (omega (arith, c.in-len1-up.len_at_least))) in
     search (
       rules,
-      read_on c.loop-rest.meant.items c.in-Some.byte c.loop-rest.rest.now c.in-Some.next.now (literal_of c.args.bytes.now) c.loop-rest.invariant.same piece,
+      read_on c.loop-rest.meant.items c.in-Some.byte c.loop-rest.rest.now c.in-Some.next.now (literal_of c.args.bytes.now) c.loop-rest.invariant piece,
     )
