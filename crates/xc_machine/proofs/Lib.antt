@@ -1,3 +1,5 @@
 pub mod MachineMaps
 pub mod MachineCounts
 pub mod MachineRun
+pub mod MachineReplay
+pub mod MachineRemain

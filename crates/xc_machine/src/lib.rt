@@ -3,11 +3,19 @@
 
 mod held;
 mod kept;
+mod lates;
+mod remains;
+mod replay;
+mod replaying;
 mod run;
 mod world;
 
 pub use held::hold;
 pub use kept::taken_by;
+pub use lates::replay_lates;
+pub use remains::replay_remains;
+pub use replay::replay_body;
+pub use replaying::{what_ends_so, what_is_replayed};
 pub use run::{Replied, run_body};
 pub use world::World;
 pub use xc_data::NoMemory;

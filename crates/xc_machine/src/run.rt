@@ -11,7 +11,8 @@ ghost use Rattle.xc_world.specs.Run.{body, body_fits, taken_by};
 use crate::{World, hold, taken_by};
 use std::alloc::Global;
 use xc_data::{
-    CallWithAnswer, Claim, Items, KeptList, LateCall, NoMemory, Private, Reply, ReplyList,
+    Answer, Call, CallWithAnswer, Claim, Items, KeptList, LateCall, NoMemory, Private, Reply,
+    ReplyList,
 };
 use xc_world::touched;
 
@@ -26,7 +27,7 @@ pub struct Replied {
 }
 
 impl Replied {
-    fn new(alloc: Global) -> Replied
+    pub(crate) fn new(alloc: Global) -> Replied
         ensures replies { result.replies ≡ [] }
         ensures late { result.late ≡ [] }
         ensures taken { result.taken ≡ [] }
@@ -57,47 +58,48 @@ impl Replied {
     }
 
     // What a call with this reply took is taken.
-    fn take(&mut self, asked: &CallWithAnswer, me: &Private, reply: &Reply) -> Result<(), NoMemory>
+    fn take(&mut self, call: &Call, me: &Private, reply: &Reply) -> Result<(), NoMemory>
         ensures replies { OnOk result (self.new.replies ≡ self.old.replies) }
         ensures late { OnOk result (self.new.late ≡ self.old.late) }
-        ensures taken { OnOk result (self.new.taken ≡ self.old.taken ++ taken_by asked.now.call me.now reply.now) }
+        ensures taken { OnOk result (self.new.taken ≡ self.old.taken ++ taken_by call.now me.now reply.now) }
         ensures held { OnOk result (self.new.held ≡ self.old.held) }
     {
-        if let Some(item) = taken_by(&asked.call, me, reply)? {
+        if let Some(item) = taken_by(call, me, reply)? {
             self.taken.push(item)?;
         }
         Ok(())
     }
 
-    fn take_call(
+    // Makes a call of the body, with what it met at the host.
+    pub(crate) fn take_call(
         &mut self,
         world: &mut World,
         me: &mut Private,
         tx: u32,
-        asked: &CallWithAnswer,
+        call: &Call,
+        answer: Answer,
     ) -> Result<(), NoMemory>
         requires sound { IsSound world.old me.old tx }
-        requires fits { IsTrue (fits world.old me.old tx asked.now.call asked.now.answer) }
+        requires fits { IsTrue (fits world.old me.old tx call.now answer) }
         requires words { length world.old.words < 2 ^ 32 }
         ensures sound { OnOk result (IsSound world.new me.new tx) }
-        ensures world { OnOk result (world.new ≡ (act world.old me.old tx asked.now.call asked.now.answer).world) }
-        ensures me { OnOk result (me.new ≡ (act world.old me.old tx asked.now.call asked.now.answer).me) }
-        ensures replies { OnOk result (self.new.replies
-            ≡ self.old.replies ++ (act world.old me.old tx asked.now.call asked.now.answer).reply ∷ []) }
+        ensures world { OnOk result (world.new ≡ (act world.old me.old tx call.now answer).world) }
+        ensures me { OnOk result (me.new ≡ (act world.old me.old tx call.now answer).me) }
+        ensures replies { OnOk result (self.new.replies ≡ self.old.replies ++ (act world.old me.old tx call.now answer).reply ∷ []) }
         ensures late { OnOk result (self.new.late
-            ≡ self.old.late ++ kept_call asked.now.call me.old (act world.old me.old tx asked.now.call asked.now.answer).reply) }
+            ≡ self.old.late ++ kept_call call.now me.old (act world.old me.old tx call.now answer).reply) }
         ensures taken { OnOk result (self.new.taken
-            ≡ self.old.taken ++ taken_by asked.now.call me.old (act world.old me.old tx asked.now.call asked.now.answer).reply) }
+            ≡ self.old.taken ++ taken_by call.now me.old (act world.old me.old tx call.now answer).reply) }
         ensures held { OnOk result (self.new.held.items
-            ≡ holding self.old.held.items (claims_of asked.now.call me.old (length world.old.words))) }
+            ≡ holding self.old.held.items (claims_of call.now me.old (length world.old.words))) }
     {
         let before = *me;
-        let late = asked.call.late_call(me)?;
-        let claims = touched(world.alloc(), &asked.call, me, world.word_count() as u32);
+        let late = call.late_call(me)?;
+        let claims = touched(world.alloc(), call, me, world.word_count() as u32);
         hold(&mut self.held, claims.as_slice())?;
-        let reply = world.act(me, tx, &asked.call, asked.answer)?;
+        let reply = world.act(me, tx, call, answer)?;
         self.keep(&reply, late)?;
-        self.take(asked, &before, &reply)?;
+        self.take(call, &before, &reply)?;
         self.replies.push(reply)
     }
 }
@@ -123,7 +125,7 @@ pub fn run_body(
 {
     let mut replied = Replied::new(alloc);
     for call in asked {
-        replied.take_call(world, me, tx, call)?;
+        replied.take_call(world, me, tx, &call.call, call.answer)?;
     }
     Ok(replied)
 }

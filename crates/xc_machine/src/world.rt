@@ -8,6 +8,7 @@ mod late;
 mod names;
 mod opening;
 mod pipes;
+mod remain;
 mod shared;
 
 use std::alloc::Global;
@@ -91,6 +92,13 @@ impl World {
         ensures { result ≡ length self.now.words }
     {
         self.words.len()
+    }
+
+    /// The words.
+    pub fn words(&self) -> &[u64]
+        ensures { result.now ≡ self.now.words }
+    {
+        self.words.as_slice()
     }
 
     fn file(&self, num: Num) -> &[u8]
