@@ -3,3 +3,4 @@ pub mod MachineCounts
 pub mod MachineRun
 pub mod MachineReplay
 pub mod MachineRemain
+pub mod MachineWhole

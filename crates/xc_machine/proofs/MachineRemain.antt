@@ -20,6 +20,7 @@ use Rattle.xc_world.proofs.SoundParts.{Adds, keeps_file, keeps_moved, adds_named
 use Rattle.xc_world.proofs.SoundSteps.{kept_sound}
 use Rattle.xc_world.proofs.SoundCalls.{empty_short}
 use Rattle.xc_world.proofs.EffectsLengths.{overwrite_within}
+use Rattle.xc_world.proofs.EffectsParts.{remains-words}
 use Rattle.xc_machine.specs.Remain.{CanRemain}
 
 -- an object with the number of another transaction comes
@@ -81,3 +82,7 @@ pub remains_first : (w : World) (u : Undo) (end : UndoEnd) (rest : List (Undo ×
 remains_first w u (Undone faults) rest = refl
 remains_first w u (Failed done faults) rest = refl
 remains_first w u (Blocked by) rest = refl
+
+-- what remains leaves the words
+pub remains_words : (w : World) (us : List (Undo × ℕ)) → (with_remains w us).words ≡ w.words
+remains_words w us = ap (λ (v : World). v.words) (remains-words w w.words us)

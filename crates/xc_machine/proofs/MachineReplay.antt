@@ -19,6 +19,7 @@ use Rattle.xc_world.specs.Late.{late}
 use Rattle.xc_world.specs.Run.{BodyResult, asked_of, body, body_fits, lates, lates_fit, late_asked_of}
 use Rattle.xc_world.specs.Sound.{IsFit, IsReady, IsShortCall, IsSound}
 use Rattle.xc_world.proofs.Joined.{body_first}
+use Rattle.xc_world.proofs.Runs.{late_keeps_others}
 use Rattle.xc_world.proofs.SoundReady.{late_keeps_ready}
 use Rattle.xc_world.proofs.SoundLate.{late_fit, late_sound}
 use Rattle.xc_machine.specs.Replay.{IsReplayed, AreReplayed, IsEnded, AreEnded, led_by}
@@ -130,6 +131,7 @@ module _ (w v : World) (c : LateCall) (end : LateEnd) where
     pub fit : IsFit v
     pub ready : All (IsReady v) calls
     pub sound : (me : Private) (tx : ℕ) → IsSound w me tx → IsSound v me tx
+    pub words : length v.words ≡ length w.words
     pub next : AreEnded w xs ys → AreEnded v calls ends
     pub back : IsEnded w c end → AreEnded v calls ends → AreEnded w xs ys
     pub leads : led_by v calls ends ≡ led_by w xs ys
@@ -151,6 +153,7 @@ late_step w v c end xs calls ys ends p q r fit ready =
       fit = late_fit w c (late_answer_of end) one.short fit;
       ready = all_ready w c (late_answer_of end) calls one.short fit (All-tail (IsReady w) c calls all);
       sound = λ me tx. late_sound w me tx c (late_answer_of end) one.short one.there;
+      words = (late_keeps_others w c (late_answer_of end)).count;
       next = λ h. h.1;
       back = λ h rest. (h, rest);
       leads = refl;

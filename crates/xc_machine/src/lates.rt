@@ -1,4 +1,4 @@
-ghost use Rattle.std.specs.Prelude.{◌≡◌, ℕ, All, IfOk};
+ghost use Rattle.std.specs.Prelude.{◌≡◌, ℕ, length, All, IfOk};
 ghost use Rattle.std.specs.Bool.{Decides, OnTrue};
 ghost use Rattle.xc_data.specs.declared.private.Private.{Private};
 ghost use Rattle.xc_world.specs.Sound.{IsFit, IsReady, IsSound};
@@ -46,6 +46,7 @@ pub fn replay_lates(
     requires ready { All (IsReady world.old) calls.now }
     ensures decides { IfOk result (λ yes. Decides yes (AreEnded world.old calls.now ends.now)) }
     ensures world { IfOk result (λ yes. OnTrue yes (world.new ≡ led_by world.old calls.now ends.now)) }
+    ensures words { IfOk result (λ yes. OnTrue yes (length world.new.words ≡ length world.old.words)) }
     ensures sound { (me : Private) (tx : ℕ) → IsSound world.old me tx → IfOk result (λ yes. OnTrue yes (IsSound world.new me tx)) }
 {
     if calls.len() != ends.len() {

@@ -8,6 +8,7 @@ mod remains;
 mod replay;
 mod replaying;
 mod run;
+mod whole;
 mod world;
 
 pub use held::hold;
@@ -17,5 +18,6 @@ pub use remains::replay_remains;
 pub use replay::replay_body;
 pub use replaying::{what_ends_so, what_is_replayed};
 pub use run::{Replied, run_body};
+pub use whole::replay_run;
 pub use world::World;
 pub use xc_data::NoMemory;

@@ -33,6 +33,7 @@ pub fn replay_remains(
     records: &[(Undo, UndoEnd)],
 ) -> Result<bool, NoMemory>
     ensures world { IfOk result (λ yes. OnTrue yes (world.new ≡ with_remains world.old (remains records.now))) }
+    ensures words { IfOk result (λ yes. OnTrue yes (world.new.words ≡ world.old.words)) }
     ensures sound { (me : Private) (ty : ℕ) → (ty ≢ tx) → IsSound world.old me ty
         → IfOk result (λ yes. OnTrue yes (IsSound world.new me ty)) }
 {

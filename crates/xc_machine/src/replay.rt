@@ -1,12 +1,12 @@
-ghost use Rattle.std.specs.Prelude.{◌≡◌, ◌<◌, ◌^◌, ◌∷◌, ◌++◌, [], length, All, IfOk, IfSome, MatchOption};
+ghost use Rattle.std.specs.Prelude.{◌≡◌, ◌≢◌, ◌<◌, ◌^◌, ◌∷◌, ◌++◌, [], ℕ, length, All, IfOk, IfSome, MatchOption};
 ghost use Rattle.std.specs.Bool.{Decides, OnTrue};
-ghost use Rattle.xc_data.specs.Claims.{held_of};
+ghost use Rattle.xc_data.specs.declared.private.Private.{Private};
 ghost use Rattle.xc_machine.specs.Replay.{IsReplayed, AreReplayed};
 ghost use Rattle.xc_world.specs.Sound.{IsReady, IsSound};
 ghost use Rattle.xc_world.specs.Act.{act};
 ghost use Rattle.xc_world.specs.Fits.{answer_of};
 ghost use Rattle.xc_world.specs.Late.{kept_call};
-ghost use Rattle.xc_world.specs.Run.{asked_of, body, taken_by};
+ghost use Rattle.xc_world.specs.Run.{asked_of, body};
 
 use crate::{Replied, World};
 use std::alloc::Global;
@@ -84,6 +84,9 @@ pub fn replay_body(
     ensures world { IfOk result (λ r. IfSome r (λ _. world.new ≡ (body world.old me.old tx (asked_of calls.now replies.now)).world)) }
     ensures me { IfOk result (λ r. IfSome r (λ _. me.new ≡ (body world.old me.old tx (asked_of calls.now replies.now)).me)) }
     ensures late { IfOk result (λ r. IfSome r (λ r. r.late ≡ (body world.old me.old tx (asked_of calls.now replies.now)).late)) }
+    ensures words { IfOk result (λ r. IfSome r (λ _. length world.new.words ≡ length world.old.words)) }
+    ensures others { (you : Private) (ty : ℕ) → (ty ≢ tx) → IsSound world.old you ty
+        → IfOk result (λ r. IfSome r (λ _. IsSound world.new you ty)) }
     ensures ready { IfOk result (λ r. IfSome r (λ r. All (IsReady world.new) r.late)) }
 {
     if calls.len() != replies.len() {

@@ -24,6 +24,7 @@ loop-at-preserved c =
       fit = step.fit;
       ready = step.ready;
       sound = λ me tx sound. step.sound me tx (before.sound me tx sound);
+      words = step.words ∙ before.words;
       to = λ all. step.next (before.to all);
       from = λ rest. before.from (step.back (gave.decides.0 yes) rest);
       leads = step.leads ∙ before.leads;

@@ -1,4 +1,4 @@
-use Rattle.std.proofs.Common.{ℕ, ◌≡◌, drop}
+use Rattle.std.proofs.Common.{ℕ, ◌≡◌, length, drop}
 use Rattle.std.specs.Prelude.{All}
 use Rattle.xc_data.specs.declared.private.Private.{Private}
 use Rattle.xc_world.specs.Sound.{IsFit, IsReady, IsSound}
@@ -12,6 +12,7 @@ invariant-loop-at l =
       fit : IsFit l.world;
       ready : All (IsReady l.world) (drop l.at l.calls);
       sound : (me : Private) (tx : ℕ) → IsSound l.fn.world me tx → IsSound l.world me tx;
+      words : length l.world.words ≡ length l.fn.world.words;
       to : AreEnded l.fn.world l.calls l.ends → AreEnded l.world (drop l.at l.calls) (drop l.at l.ends);
       from : AreEnded l.world (drop l.at l.calls) (drop l.at l.ends) → AreEnded l.fn.world l.calls l.ends;
       leads : led_by l.world (drop l.at l.calls) (drop l.at l.ends) ≡ led_by l.fn.world l.calls l.ends;

@@ -9,5 +9,6 @@ abbrev pub invariant-loop-ended : goal.invariant-loop-ended
 invariant-loop-ended l =
     record {
       leads : with_remains l.world (remains (drop l.ended-index l.records)) ≡ with_remains l.fn.world (remains l.records);
+      words : l.world.words ≡ l.fn.world.words;
       sound : (me : Private) (ty : ℕ) → (ty ≢ l.tx) → IsSound l.fn.world me ty → IsSound l.world me ty;
     }

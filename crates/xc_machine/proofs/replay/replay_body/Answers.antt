@@ -8,7 +8,9 @@ use Rattle.xc_world.specs.Act.{act}
 use Rattle.xc_world.specs.Act.Step.{Stepped}
 use Rattle.xc_world.specs.Fits.{answer_of}
 use Rattle.xc_world.specs.Late.{kept_call}
-use Rattle.xc_world.specs.Sound.{IsReady}
+use Rattle.xc_world.specs.World.{World}
+use Rattle.xc_world.specs.Sound.{IsReady, IsSound}
+use Rattle.xc_world.proofs.Sound.{others_sound}
 use Rattle.xc_machine.proofs.MachineRun.{left-cons}
 use Rattle.xc_machine.proofs.MachineReplay.{told, asked_all, asked_at, asked_length, as_many, next, back}
 use Rattle.xc_world.specs.Run.{BodyResult, asked_of, body}
@@ -49,13 +51,17 @@ loop-at-preserved c =
     let kept = All-weaker (IsReady w) (IsReady s.world) (λ d. act_keeps_ready w m tx call (answer_of reply) d one.fits before.sound)
     c.loop-at.replied.late before.ready in
     let new = act_leaves_ready w m tx call (answer_of reply) one.fits before.sound in
+    let count = ap (λ (x : World). length x.words) world ∙ (body_keeps w m tx (item ∷ [])).count in
     let both = All-append (IsReady s.world) c.loop-at.replied.late (kept_call call m s.reply) kept new in
     record {
       sound = OnTrue_at yes gave.sound;
       world = world ∙ ap (λ (s : Stepped). s.world) same ∙ ap (λ (r : BodyResult). r.world) more;
       me = me ∙ ap (λ (s : Stepped). s.me) same ∙ ap (λ (r : BodyResult). r.me) more;
-      words = subst (λ x. length x.words < 2 ^ 32) (sym world)
-          (subst (λ n. n < 2 ^ 32) (sym (body_keeps w m tx (item ∷ [])).count) before.words);
+      words = subst (λ n. n < 2 ^ 32) (sym count) before.words;
+      count = count ∙ before.count;
+      others = λ you ty apart sound.
+          let still = others_sound w m you tx ty call (answer_of reply) one.fits apart before.sound (before.others you ty apart sound) in
+          subst (λ x. IsSound x you ty) (sym world) still;
       late =
           OnTrue_at yes gave.late ∙ ap₂ (λ ls k. ls ++ k) before.late (ap₂ (λ m (s : Stepped). kept_call call m s.reply) before.me same)
           ∙ ap (λ (r : BodyResult). r.late) more;
