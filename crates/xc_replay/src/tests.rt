@@ -6,7 +6,10 @@ use std::sync::Wait;
 use std::test::Fail;
 use std::thread::Threads;
 use xc_app::{Finish, NoPace, xcalls_run};
-use xc_data::{CallNumbers, Chunk, Entry, Items, LateEnd, NoMemory, Outcome, Outline, Reply};
+use xc_data::{
+    Call, CallList, CallNumbers, Chunk, Entry, HeldList, LateEnd, LateList, NoMemory, Outcome,
+    Outline, Reply, ReplyList,
+};
 use xc_edge::{MemSink, MemSource};
 use xc_memhost::MemHost;
 use xc_text::{ParseErr, parse};
@@ -182,8 +185,8 @@ impl Met {
         tries: &str,
     ) -> Result<Option<u64>, ParseErr> {
         let parsed = parse(rt.alloc(), script.as_bytes())?;
-        let finish = run(rt, script, tries)?;
-        let Some(end) = finish.end else {
+        let Finish { end, .. } = run(rt, script, tries)?;
+        let Some(end) = end else {
             return Ok(None);
         };
         let journal = end.journal.as_slice();
@@ -231,9 +234,39 @@ fn each_journal_under_a_fault_is_replayed(rt: HostRuntime) -> Result<(), Fail> {
         }
     }
     assert!(rt; met.remains > 0 && met.late_faults > 0);
-    println!(rt;
-        "{} {} {} {}",
-        met.runs, met.entries, met.remains, met.late_faults
-    )?;
+    Ok(())
+}
+
+// An entry of PAY's job, whose one call, a load of word 0, replied this number.
+fn load(alloc: Global, number: u64) -> Result<Entry, NoMemory> {
+    let mut calls = CallList::new(alloc);
+    calls.push(Call::Load { at: 0 })?;
+    let mut replies = ReplyList::new(alloc);
+    replies.push(Reply::Number(number))?;
+    Ok(Entry {
+        tx: 1,
+        job: 1,
+        rank: 1,
+        began: 0,
+        calls,
+        replies,
+        held: HeldList::new(alloc),
+        outcome: Outcome::Committed {
+            late: LateList::new(alloc),
+        },
+    })
+}
+
+fn is_entered(alloc: Global, number: u64) -> Result<bool, ParseErr> {
+    let script = parse(alloc, PAY.as_bytes())?;
+    let replay = Replay::new(alloc, &script.outline)?;
+    let entry = load(alloc, number)?;
+    Ok(replay.enter(&entry)?.is_some())
+}
+
+#[test]
+fn another_reply_is_not_replayed(rt: HostRuntime) -> Result<(), Fail> {
+    assert!(rt; is_entered(rt.alloc(), 100)?);
+    assert!(rt; !is_entered(rt.alloc(), 99)?);
     Ok(())
 }
