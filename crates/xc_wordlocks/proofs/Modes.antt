@@ -21,10 +21,10 @@ pub on_err : {A B P : Type 0} (r : Result A B) → P → OnErr r P
 on_err (Ok x) p = tt
 on_err (Err e) p = p
 
--- what is put where something is can't fail
-pub put_there : {A E X K : Type 0} (old : Option X) (new put : K) (r : Result A E) → IsSome old → OnOk r (new ≡ put) → OnErr r (old ≡ None) → new ≡ put
-put_there old new put (Ok x) there ok absent = ok
-put_there old new put (Err e) there ok absent =
+-- what fails only where nothing is does not fail where something is
+pub ok_there : {A E X : Type 0} {P : Type 0} (old : Option X) (r : Result A E) → IsSome old → OnOk r P → OnErr r (old ≡ None) → P
+ok_there old (Ok x) there ok absent = ok
+ok_there old (Err e) there ok absent =
     let clash : false ≡ true = sym (ap is_some absent) ∙ there in
     absurd (cc)
 

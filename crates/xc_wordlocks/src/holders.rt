@@ -33,13 +33,13 @@ impl Holders {
     }
 
     /// The holders of an object.
-    pub fn look<L: Ledger>(&self, object: Object, steps: &mut Steps<L>) -> Option<&ObjectHolders>
-        ensures some { IfSome result (λ m. (n : ℕ) → held_mode self.now n object ≡ mode_among m.now n) }
-        ensures none { IfNone result ((n : ℕ) → held_mode self.now n object ≡ None) }
+    pub fn look<L: Ledger>(&self, object: &Object, steps: &mut Steps<L>) -> Option<&ObjectHolders>
+        ensures some { IfSome result (λ m. (n : ℕ) → held_mode self.now n object.now ≡ mode_among m.now n) }
+        ensures none { IfNone result ((n : ℕ) → held_mode self.now n object.now ≡ None) }
         ensures cost { steps.new ≡ steps.old + 1 }
     {
         steps.tick();
-        match Kind::from(object) {
+        match Kind::of(object) {
             Kind::Word(at) => self.words.holders_of(at),
             Kind::Other(object) => self.others.holders_of(object),
         }
@@ -48,31 +48,36 @@ impl Holders {
     /// The transaction holds the object in this mode. Only a new holder can run out of memory.
     pub fn put<L: Ledger>(
         &mut self,
-        object: Object,
+        object: &Object,
         tx: u32,
         mode: Mode,
         steps: &mut Steps<L>,
     ) -> Result<(), NoMemory>
-        ensures ok { OnOk result (self.new ≡ set_mode self.old tx object (Some mode)) }
+        ensures ok { OnOk result (self.new ≡ set_mode self.old tx object.now (Some mode)) }
         ensures err { OnErr result (self.new ≡ self.old) }
-        ensures absent { OnErr result (held_mode self.old tx object ≡ None) }
+        ensures absent { OnErr result (held_mode self.old tx object.now ≡ None) }
         ensures cost { steps.new ≡ steps.old + 1 }
     {
         steps.tick();
-        match Kind::from(object) {
+        match Kind::of(object) {
             Kind::Word(at) => self.words.insert(at, tx, mode),
             Kind::Other(object) => self.others.insert(object, tx, mode),
         }
     }
 
     /// The transaction doesn't hold the object any longer. Gives the mode in which it did. It takes no memory.
-    pub fn take<L: Ledger>(&mut self, object: Object, tx: u32, steps: &mut Steps<L>) -> Option<Mode>
-        ensures value { result ≡ held_mode self.old tx object }
-        ensures removed { self.new ≡ set_mode self.old tx object None }
+    pub fn take<L: Ledger>(
+        &mut self,
+        object: &Object,
+        tx: u32,
+        steps: &mut Steps<L>,
+    ) -> Option<Mode>
+        ensures value { result ≡ held_mode self.old tx object.now }
+        ensures removed { self.new ≡ set_mode self.old tx object.now None }
         ensures cost { steps.new ≡ steps.old + 1 }
     {
         steps.tick();
-        match Kind::from(object) {
+        match Kind::of(object) {
             Kind::Word(at) => self.words.remove(at, tx),
             Kind::Other(object) => self.others.remove(object, tx),
         }

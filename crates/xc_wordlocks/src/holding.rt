@@ -35,13 +35,21 @@ impl Holding {
         }
     }
 
+    /// Makes room for so many more objects.
+    pub fn make_room(&mut self, n: u32) -> Result<(), NoMemory>
+        ensures room { OnOk result (n ≤ self.new.spare) }
+        ensures items { self.new.items ≡ self.old.items }
+    {
+        self.claims.reserve(n)
+    }
+
     /// Makes room for these claims.
     pub fn reserve(&mut self, claims: &[Claim]) -> Result<(), NoMemory>
         requires { length claims.now < 2 ^ 32 }
         ensures room { OnOk result (HasRoomFor self.new claims.now) }
         ensures items { self.new.items ≡ self.old.items }
     {
-        self.claims.reserve(claims.len() as u32)
+        self.make_room(claims.len() as u32)
     }
 
     /// Holds what is claimed, into the room for it. It takes no memory.

@@ -1,3 +1,6 @@
+ghost use Rattle.std.specs.Prelude.{◌≡◌};
+ghost use Rattle.xc_wordlocks.specs.Keys.{kind_of};
+
 use xc_data::{Name, Num, Object};
 
 /// An object that isn't a word. Contracts see them in an order: by kind, and then by what they name.
@@ -17,19 +20,17 @@ pub enum Kind {
     Other(Other),
 }
 
-impl From<Object> for Kind {
-    ghost use Rattle.std.specs.Prelude.{◌≡◌};
-    ghost use Rattle.xc_wordlocks.specs.Keys.{kind_of};
-
-    ghost from_gives = { λ o k. k ≡ kind_of o };
-
-    fn from(object: Object) -> Self {
+impl Kind {
+    /// That of an object.
+    pub fn of(object: &Object) -> Kind
+        ensures { result ≡ kind_of object.now }
+    {
         match object {
-            Object::Word(at) => Kind::Word(at),
-            Object::Name(name) => Kind::Other(Other::Name(name)),
-            Object::File(num) => Kind::Other(Other::File(num)),
-            Object::Pipe(num) => Kind::Other(Other::Pipe(num)),
-            Object::Pair(num) => Kind::Other(Other::Pair(num)),
+            Object::Word(at) => Kind::Word(*at),
+            Object::Name(name) => Kind::Other(Other::Name(*name)),
+            Object::File(num) => Kind::Other(Other::File(*num)),
+            Object::Pipe(num) => Kind::Other(Other::Pipe(*num)),
+            Object::Pair(num) => Kind::Other(Other::Pair(*num)),
             Object::Jobs => Kind::Other(Other::Jobs),
         }
     }

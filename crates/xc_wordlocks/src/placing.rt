@@ -4,7 +4,7 @@ ghost use Rattle.xc_wordlocks.specs.Table.{KeepsOthers, claimed, has, held_mode}
 ghost use Rattle.xc_wordlocks.specs.Placing.{Placed, PlacedBehind};
 
 use crate::holders::Holders;
-use crate::raising::raise_all;
+use crate::raising::{hold_object, raise_all};
 use crate::reading::mode_held;
 use crate::steps::Steps;
 use smallvec::SmallVec;
@@ -25,11 +25,11 @@ fn place<L: Ledger>(
     ensures err { OnErr result (holders.new ≡ holders.old) }
     ensures err_added { OnErr result (added.new.items ≡ added.old.items) }
 {
-    if mode_held(holders, claim.object, tx, steps).is_some() {
+    if mode_held(holders, &claim.object, tx, steps).is_some() {
         return Ok(());
     }
     added.reserve(1)?;
-    holders.put(claim.object, tx, Mode::Shared, steps)?;
+    holders.put(&claim.object, tx, Mode::Shared, steps)?;
     added.push_reserved(claim.object);
     Ok(())
 }
@@ -40,7 +40,7 @@ fn take_back<L: Ledger>(holders: &mut Holders, objects: &[Object], tx: u32, step
     ensures others { KeepsOthers tx holders.old holders.new }
 {
     for object in objects {
-        holders.take(*object, tx, steps);
+        holders.take(object, tx, steps);
     }
 }
 
@@ -82,6 +82,10 @@ pub fn hold_all<L: Ledger>(
     ensures err { OnErr result (holders.new ≡ holders.old) }
 {
     let mut steps = Steps::<L>::new(blank);
+    // Most calls claim one object.
+    if let [claim] = claims {
+        return hold_object(holders, claim, tx, &mut steps);
+    }
     place_all(holders, alloc, claims, tx, &mut steps)?;
     raise_all(holders, claims, tx, &mut steps);
     Ok(())

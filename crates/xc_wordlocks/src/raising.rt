@@ -1,4 +1,4 @@
-ghost use Rattle.std.specs.Prelude.{◌≡◌, [], ◌∷◌, All, IsSome};
+ghost use Rattle.std.specs.Prelude.{◌≡◌, [], ◌∷◌, All, IsSome, None, OnOk, OnErr};
 ghost use Rattle.xc_data.specs.declared.object.Object.{Object};
 ghost use Rattle.xc_data.specs.declared.claim.Claim.{Claim};
 ghost use Rattle.xc_wordlocks.specs.Table.{KeepsOthers, claimed, held_mode};
@@ -7,22 +7,38 @@ use crate::holders::Holders;
 use crate::reading::mode_held;
 use crate::steps::Steps;
 use std::sync::ledger::Ledger;
-use xc_data::Claim;
+use xc_data::{Claim, NoMemory};
 
-// The transaction holds the object in the stronger of both modes. It takes no memory.
-fn raise<L: Ledger>(holders: &mut Holders, claim: &Claim, tx: u32, steps: &mut Steps<L>)
-    requires { IsSome (held_mode holders.old tx claim.now.object) }
-    ensures own { (o : Object) → held_mode holders.new tx o ≡ claimed (held_mode holders.old tx o) (claim.now ∷ []) o }
-    ensures others { KeepsOthers tx holders.old holders.new }
+/// The transaction holds one object more, or in the stronger of both modes. Only an object that it doesn't hold can run out of memory.
+pub fn hold_object<L: Ledger>(
+    holders: &mut Holders,
+    claim: &Claim,
+    tx: u32,
+    steps: &mut Steps<L>,
+) -> Result<(), NoMemory>
+    ensures own { OnOk result ((o : Object) → held_mode holders.new tx o ≡ claimed (held_mode holders.old tx o) (claim.now ∷ []) o) }
+    ensures others { OnOk result (KeepsOthers tx holders.old holders.new) }
+    ensures err { OnErr result (holders.new ≡ holders.old) }
+    ensures absent { OnErr result (held_mode holders.old tx claim.now.object ≡ None) }
 {
-    let was = mode_held(holders, claim.object, tx, steps);
+    let was = mode_held(holders, &claim.object, tx, steps);
     let mode = match was {
         Some(was) => was.stronger(claim.mode),
         None => claim.mode,
     };
     if was != Some(mode) {
-        let _ = holders.put(claim.object, tx, mode, steps);
+        holders.put(&claim.object, tx, mode, steps)?;
     }
+    Ok(())
+}
+
+// The transaction holds what it holds already in the stronger of both modes. It takes no memory.
+fn raise<L: Ledger>(holders: &mut Holders, claim: &Claim, tx: u32, steps: &mut Steps<L>)
+    requires { IsSome (held_mode holders.old tx claim.now.object) }
+    ensures own { (o : Object) → held_mode holders.new tx o ≡ claimed (held_mode holders.old tx o) (claim.now ∷ []) o }
+    ensures others { KeepsOthers tx holders.old holders.new }
+{
+    let _ = hold_object(holders, claim, tx, steps);
 }
 
 /// Gives what the transaction holds the modes of these claims. It takes no memory.

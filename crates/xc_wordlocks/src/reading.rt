@@ -10,11 +10,11 @@ use xc_data::{Mode, Object};
 /// In which mode a transaction holds an object.
 pub fn mode_held<L: Ledger>(
     holders: &Holders,
-    object: Object,
+    object: &Object,
     tx: u32,
     steps: &mut Steps<L>,
 ) -> Option<Mode>
-    ensures { result ≡ held_mode holders.now tx object }
+    ensures { result ≡ held_mode holders.now tx object.now }
 {
     holders.look(object, steps)?.get(tx)
 }
@@ -32,7 +32,7 @@ pub fn first_other<L: Ledger>(
     ensures { MatchOption result (HasNoOther holders.now object.now tx) (λ h. IsFirstOther holders.now object.now tx h.0 h.1) }
 {
     let mut steps = Steps::<L>::new(blank);
-    let row = holders.look(*object, &mut steps)?;
+    let row = holders.look(object, &mut steps)?;
     let (holder, mode) = row.first()?;
     if holder == tx {
         row.first_behind(tx)

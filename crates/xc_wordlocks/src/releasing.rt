@@ -26,7 +26,7 @@ pub fn take_all<L: Ledger>(
     let mut count = 0;
     for at in 0..claims.len() {
         let mut claim = claims[at];
-        if let Some(mode) = holders.take(claim.object, tx, steps) {
+        if let Some(mode) = holders.take(&claim.object, tx, steps) {
             claim.mode = mode;
             claims[count] = claim;
             count += 1;

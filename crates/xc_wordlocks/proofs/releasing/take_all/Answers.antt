@@ -14,11 +14,11 @@ loop-at-preserved g c =
     let items = c.loop-at.claims.items in
     let count = c.loop-at.count in
     let at = c.loop-at.at in
-    let item = c.index-claim.result.now in
+    let item = c.index.result.now in
     let t = c.loop-at.invariant.taking in
     let within : at < length items = omega (arith, c.args.claims.now.ok.0) in
     let front = λ (m : Option Mode). take count items ++ claim_in m item.object in
-    let more = taking_more c.args.tx c.args.holders.now c.loop-at.holders c.args.claims.now.items items at count t item within c.index-claim.ensures in
+    let more = taking_more c.args.tx c.args.holders.now c.loop-at.holders c.args.claims.now.items items at count t item within c.index.ensures in
     record {
       taking =
           subst (λ (now : Table). Taking c.args.tx (record { old = c.args.holders.now; new = now })
