@@ -1,4 +1,4 @@
-ghost use Rattle.std.specs.Prelude.{◌≡◌, ◌≤◌, ◌<◌, is_some, ◌+◌, ◌^◌, slice_get, None, IfOk, IsOk, OnOk, OnErr};
+ghost use Rattle.std.specs.Prelude.{◌≡◌, ◌≤◌, ◌<◌, is_some, ◌+◌, ◌^◌, slice_get, length, None, MatchOption, IfOk, IsOk, OnOk, OnErr};
 ghost use Rattle.std.specs.Option.{option_copied};
 ghost use Rattle.xc_text.specs.Scripts.{IsScript};
 ghost use Rattle.xc_script.specs.Ask.{asks_from, next_body, transactions_at, fresh_job, handed_on};
@@ -220,6 +220,16 @@ impl JobState {
 }
 
 impl JobState {
+    /// How many statements the next transaction has; none, where no transaction is left. It has at most so many calls.
+    pub fn statements(&self, script: &Script) -> usize
+        ensures { MatchOption (next_body script.now (job_of self.now)) (result ≡ 0) (λ body. result ≡ length body) }
+    {
+        match body_at(script, self.block, self.next) {
+            Some(body) => body.len(),
+            None => 0,
+        }
+    }
+
     /// Whether a transaction is left.
     pub fn has_next(&self, script: &Script) -> bool
         ensures { result ≡ is_some (next_body script.now (job_of self.now)) }

@@ -31,6 +31,9 @@ use xc_text::Script;
 use xc_txmem::Words;
 use xc_world::touched;
 
+/// The most calls that a transaction has.
+const MOST_CALLS: usize = 256;
+
 // What a transaction's call claims.
 fn touched_by(alloc: Global, words: &Words, tx: &Tx, call: &Call) -> SmallVec<Claim, 2>
     requires { length words.now ≤ 4096 }
@@ -56,6 +59,8 @@ struct Terms {
     patient: bool,
     // How long the journal is.
     at: u32,
+    // How many calls its transaction may have.
+    most: u32,
 }
 
 // Claims what a call touches, with room to note the call. Where another holds something against it the transaction waits, if that
@@ -77,7 +82,7 @@ fn claim<H: Host>(
 {
     let touched = touched_by(alloc, &shared.words, tx, call);
     let claims = touched.as_slice();
-    if tx.room(claims).is_err() {
+    if tx.room(claims, terms.most).is_err() {
         return Err(abort_for_memory(tx));
     }
     match shared
@@ -269,6 +274,7 @@ pub fn run<H: Host>(
     let terms = Terms {
         patient: job.busy < rules.patience,
         at: entered,
+        most: job.place.statements(script).min(MOST_CALLS) as u32,
     };
     let Job { place, tx, .. } = job;
     let answer = step_running(alloc, shared, script, terms, place, tx);

@@ -137,13 +137,26 @@ impl Tx {
         self.changed = false;
     }
 
-    /// Makes room for one call, its reply and its claims.
-    pub fn room(&mut self, claims: &[Claim]) -> Result<(), NoMemory>
+    // Room for so many calls with their replies, each on an object of its own. A list that has its room at once need not grow.
+    fn make_room(&mut self, calls: u32) -> Result<(), NoMemory>
+        ensures same { tx_view self.new ≡ tx_view self.old }
+        ensures begun { begun_of self.new ≡ begun_of self.old }
+    {
+        self.calls.reserve(calls)?;
+        self.replies.reserve(calls)?;
+        self.held.make_room(calls)
+    }
+
+    /// Makes room for one call, its reply and its claims; before the first call, for as many as the transaction may have.
+    pub fn room(&mut self, claims: &[Claim], most: u32) -> Result<(), NoMemory>
         requires { length claims.now ≤ 2 }
         ensures ok { OnOk result (HasRoom self.new claims.now) }
         ensures same { tx_view self.new ≡ tx_view self.old }
         ensures begun { begun_of self.new ≡ begun_of self.old }
     {
+        if self.calls.is_empty() {
+            self.make_room(most)?;
+        }
         self.calls.reserve(1)?;
         self.replies.reserve(1)?;
         self.held.reserve(claims)
