@@ -29,7 +29,6 @@ use Rattle.xc_world.specs.Beside.{is_on_data}
 use Rattle.xc_world.specs.Checks.{refusal_of}
 use Rattle.xc_world.specs.Act.Step.{step_to}
 use Rattle.xc_world.specs.Effects.{takes_data}
-use Rattle.xc_world.specs.Fits.{fits}
 use Rattle.xc_world.specs.Late.{kept_call}
 use Rattle.xc_world.specs.Run.{taken_by}
 use Rattle.xc_data.specs.Calls.{is_late, is_kept}

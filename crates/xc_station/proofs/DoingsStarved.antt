@@ -24,7 +24,7 @@ use Rattle.xc_world.specs.World.{World}
 use Rattle.xc_world.specs.Checks.{refusal_of}
 use Rattle.xc_world.specs.Act.Step.{Stepped}
 use Rattle.xc_world.specs.Effects.{takes_data}
-use Rattle.xc_world.specs.Fits.{fits, answer_of}
+use Rattle.xc_world.specs.Fits.{answer_of}
 use Rattle.xc_world.specs.Late.{kept_call}
 use Rattle.xc_world.specs.Run.{given_back, taken_by}
 use Rattle.xc_data.specs.Calls.{is_late}

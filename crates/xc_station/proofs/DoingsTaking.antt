@@ -5,7 +5,6 @@ use Rattle.std.specs.Prelude.{All, Result, Ok, Err, IfOk, OnErr}
 use Rattle.xc_data.specs.declared.call.Answer.{Answer}
 use Rattle.xc_data.specs.declared.call.Call.{Call}
 use Rattle.xc_data.specs.declared.call.Reply.{Reply}
-use Rattle.xc_data.specs.declared.call.Reply.TheVariants as reply
 use Rattle.xc_data.specs.declared.entry.KeptItem.{KeptItem}
 use Rattle.xc_data.specs.declared.memory.NoMemory.{NoMemory}
 use Rattle.xc_data.specs.declared.private.Private.{Private}
@@ -18,7 +17,6 @@ use Rattle.xc_pipe.specs.Reading.{Notes}
 use Rattle.xc_txmem.specs.Overlay.{overlaid}
 use Rattle.xc_world.specs.World.{World}
 use Rattle.xc_world.specs.Effects.{takes_data}
-use Rattle.xc_world.specs.Fits.{fits}
 use Rattle.xc_world.specs.Run.{taken_by}
 use Rattle.xc_data.specs.Calls.{is_late, is_kept}
 use Rattle.xc_model.specs.PlainSteps.{LeavesAsPlainIn, IsReplyInTime, tx_parts}

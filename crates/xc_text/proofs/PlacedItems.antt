@@ -1,11 +1,9 @@
 -- Items that take their places one after another.
-use Rattle.std.proofs.Common.{◌≡◌, List, [], ◌∷◌, ◌++◌, Result, Ok, Err, refl, ap, ◌∙◌, append_assoc}
+use Rattle.std.proofs.Common.{List, ◌++◌}
 use Rattle.xc_text.specs.Named as named
-use Rattle.xc_text.specs.Places.{Placed, placed_item, placed_data}
+use Rattle.xc_text.specs.Places.{Placed, placed_data}
 use Rattle.xc_text.specs.Said.{Names}
 use Rattle.xc_text.specs.Stated.{Item}
-use Rattle.xc_tokens.specs.declared.why.Why.{Why}
-use Rattle.xc_tokens.specs.Answers.{both, seen}
 
 -- the items that are left, behind those that have their places
 abbrev pub placed_behind : Names → List Item → List named.Item → Placed (List Item)

@@ -1,5 +1,5 @@
 -- Calls whose parts took their places while they were made.
-use Rattle.std.proofs.Common.{◌≡◌, arith, ℕ, List, Result, Ok, Err, ap, ◌∙◌, refl, sym}
+use Rattle.std.proofs.Common.{◌≡◌, arith, Result, Ok, Err, ap, ◌∙◌, refl, sym}
 use Rattle.xc_text.specs.declared.script.CallForm.TheVariants as form
 use Rattle.xc_text.specs.declared.line.Line.TheVariants as line
 use Rattle.xc_text.specs.declared.script.Statement.TheVariants as statement

@@ -1,4 +1,4 @@
-use Rattle.std.proofs.Common.{◌≡◌, ◌+◌, ◌-◌, ◌<◌, ◌∷◌, ◌∙◌, ap, length, take, drop, get_or, arith, rules}
+use Rattle.std.proofs.Common.{◌≡◌, ◌-◌, ◌<◌, ◌∷◌, ◌∙◌, ap, length, take, drop, get_or, arith, rules}
 use Rattle.xc_tokens.specs.Quoted.{literal_of, measured, then_rest}
 use Rattle.xc_tokens.proofs.Quotes.{count_on, whole}
 use Rattle.xc_tokens.proofs.escaped.measure.Goals as goal

@@ -1,4 +1,4 @@
-use Rattle.std.proofs.Common.{◌≡◌, None, rules}
+use Rattle.std.proofs.Common.{rules}
 use Rattle.xc_tokens.specs.Quoted.{literal_of}
 use Rattle.xc_tokens.proofs.Quotes.{measured_behind, measured_len, measured_some, unmeasured}
 use Rattle.xc_tokens.proofs.escaped.Escaped.measured.Goals as goal
