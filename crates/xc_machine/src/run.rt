@@ -9,12 +9,13 @@ ghost use Rattle.xc_world.specs.Modes.{claims_of};
 ghost use Rattle.xc_world.specs.Run.{body, body_fits, taken_by};
 
 use crate::{World, hold, taken_by};
+use arrayvec::ArrayVec;
 use std::alloc::Global;
 use xc_data::{
     Answer, Call, CallWithAnswer, Claim, Items, KeptList, LateCall, NoMemory, Private, Reply,
     ReplyList,
 };
-use xc_world::touched;
+use xc_world::push_claims;
 
 /// What a body gave on its way, in the order of its calls: their replies, its late calls and what it
 /// took; and its claims, each object once.
@@ -95,7 +96,8 @@ impl Replied {
     {
         let before = *me;
         let late = call.late_call(me)?;
-        let claims = touched(world.alloc(), call, me, world.word_count() as u32);
+        let mut claims = ArrayVec::new();
+        push_claims(&mut claims, call, me, world.word_count() as u32);
         hold(&mut self.held, claims.as_slice())?;
         let reply = world.act(me, tx, call, answer)?;
         self.keep(&reply, late)?;

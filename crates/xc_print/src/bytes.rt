@@ -12,14 +12,15 @@ fn hex_digit(n: u8) -> u8
     if n < 10 { b'0' + n } else { b'a' + (n - 10) }
 }
 
-fn push_byte(out: &mut Page, b: u8) -> Result<(), NoMemory>
+// A byte, or its escape.
+fn push_escape(out: &mut Page, b: u8) -> Result<(), NoMemory>
     ensures { OnOk result (out.new ≡ out.old ++ escaped_byte b) }
 {
     match b {
         b'"' => out.push(b"\\\""),
         b'\\' => out.push(b"\\\\"),
         b'\n' => out.push(b"\\n"),
-        b' '..=b'~' => out.push(&[b]),
+        b' '..=b'~' => out.push_byte(b),
         _ => out.push(&[b'\\', b'x', hex_digit(b / 16), hex_digit(b % 16)]),
     }
 }
@@ -29,7 +30,7 @@ pub fn push_escaped(out: &mut Page, bytes: &[u8]) -> Result<(), NoMemory>
     ensures { OnOk result (out.new ≡ out.old ++ escaped bytes.now) }
 {
     for b in bytes {
-        push_byte(out, *b)?;
+        push_escape(out, *b)?;
     }
     Ok(())
 }

@@ -1,4 +1,4 @@
-ghost use Rattle.std.specs.Prelude.{◌≡◌, ◌++◌, [], OnOk};
+ghost use Rattle.std.specs.Prelude.{◌≡◌, ◌++◌, ◌∷◌, [], OnOk};
 ghost use Rattle.std.specs.Fmt.{AppendsText};
 
 use itoa::{Buffer, Integer};
@@ -44,6 +44,13 @@ impl Page {
         ensures { OnOk result (self.new ≡ self.old ++ bytes.now) }
     {
         Ok(self.bytes.extend_from_slice(bytes)?)
+    }
+
+    /// A byte, at the end of the page.
+    pub fn push_byte(&mut self, byte: u8) -> Result<(), NoMemory>
+        ensures { OnOk result (self.new ≡ self.old ++ byte ∷ []) }
+    {
+        Ok(self.bytes.push(byte)?)
     }
 
     /// This text, at the end of the page.

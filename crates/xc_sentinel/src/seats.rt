@@ -26,7 +26,8 @@ impl Model for Seats {
 }
 
 impl Seats {
-    ghost use Rattle.std.specs.Prelude.{◌≡◌, ℕ, Some, None, OnOk, OnErr, IsSome, true};
+    ghost use Rattle.std.specs.Prelude.{◌≡◌, ℕ, Some, None, OnOk, OnErr, IsSome, true, option_copied};
+    ghost use Rattle.xc_sentinel.specs.Asking.{changed, settled};
     ghost use Rattle.xc_sentinel.specs.Seating.{KeepsSeats, SetsSeat, seat_in};
 
     /// No active transaction. It takes no memory.
@@ -40,12 +41,12 @@ impl Seats {
     }
 
     /// The seat of an active transaction; `None` if it isn't active.
-    pub fn get(&self, tx: u32) -> Option<Seat>
-        ensures { result ≡ seat_in self.now tx }
+    pub fn get(&self, tx: u32) -> Option<&Seat>
+        ensures { option_copied result ≡ seat_in self.now tx }
     {
         let key = self.keys.get(tx)?;
         let slot = self.slots.get(key)?;
-        Some(slot.seat)
+        Some(&slot.seat)
     }
 
     /// A transaction that isn't active becomes so: it runs, and has no mark.
@@ -77,6 +78,17 @@ impl Seats {
         if let Some(key) = self.keys.get(tx) {
             if let Some(slot) = self.slots.get_mut(key) {
                 slot.seat = seat;
+            }
+        }
+    }
+
+    /// An active transaction no longer runs. It takes no memory.
+    pub fn settle(&mut self, tx: u32)
+        ensures { SetsSeat self.old self.new tx (changed settled (seat_in self.old tx)) }
+    {
+        if let Some(key) = self.keys.get(tx) {
+            if let Some(slot) = self.slots.get_mut(key) {
+                slot.seat.running = false;
             }
         }
     }

@@ -1,12 +1,14 @@
-ghost use Rattle.std.specs.Prelude.{◌≡◌, ◌≤◌, ◌+◌, ℕ, length, Some, None, OnOk, OnErr, is_some, true};
+ghost use Rattle.std.specs.Prelude.{◌≡◌, ◌≤◌, ◌+◌, ℕ, List, length, Some, None, OnOk, OnErr, is_some, option_copied, true};
 ghost use Rattle.xc_data.specs.declared.object.Object.{Object};
+ghost use Rattle.xc_data.specs.declared.claim.Claim.{Claim};
+ghost use Rattle.xc_wordlocks.specs.Met.{IsFirstMet};
 ghost use Rattle.xc_wordlocks.specs.Table.{Holds, KeepsOthers, held_mode};
 
 use crate::seat::{Seat, Verdict};
 use crate::seats::Seats;
 use std::alloc::Global;
 use std::sync::ledger::Ledger;
-use xc_data::{Claim, HeldList, Mark, NoMemory};
+use xc_data::{Claim, HeldList, Mark, NoMemory, Object};
 use xc_wordlocks::{ClaimErr, Claims, Holding, Steps};
 
 /// Claims, and the active transactions that make them: who runs, and who was told by an older one to give way.
@@ -53,20 +55,12 @@ impl Sentinels {
     }
 
     /// The transaction is no longer running: it commits or undoes. It takes no memory.
+    #[inline(never)]
     pub fn settle(&mut self, tx: u32)
         ensures claims { self.new.claims ≡ self.old.claims }
         ensures seats { SetsSeat self.old.seats self.new.seats tx (changed settled (seat_in self.old.seats tx)) }
     {
-        if let Some(seat) = self.seats.get(tx) {
-            self.seats.set(
-                tx,
-                Seat {
-                    rank: seat.rank,
-                    running: false,
-                    mark: seat.mark,
-                },
-            );
-        }
+        self.seats.settle(tx);
     }
 
     // Whether both are active and the holder is the younger.
@@ -88,15 +82,39 @@ impl Sentinels {
     {
         if let Some(seat) = self.seats.get(holder) {
             if seat.running && seat.mark.is_none() {
-                self.seats.set(
-                    holder,
-                    Seat {
-                        rank: seat.rank,
-                        running: true,
-                        mark: Some(*mark),
-                    },
-                );
+                let marked = Seat {
+                    rank: seat.rank,
+                    running: true,
+                    mark: Some(*mark),
+                };
+                self.seats.set(holder, marked);
             }
+        }
+    }
+
+    // What becomes of claims of which the first that is met is on this object. Apart, since most claims are granted, and objects are
+    // large.
+    #[cold]
+    #[inline(never)]
+    fn meet(&mut self, object: &Object, holder: u32, tx: u32, patient: bool, at: u32) -> Verdict
+        ensures { (claims : List Claim) → IsFirstMet self.old.claims claims tx object.now holder
+            → IsAnswer (record { old = self.old; new = self.new }) tx (record { claims = claims; patient = patient; at = at }) result }
+    {
+        if !patient || !self.is_younger(tx, holder) {
+            return Verdict::Conflict {
+                object: *object,
+                holder,
+            };
+        }
+        let mark = Mark {
+            object: *object,
+            by: tx,
+            at,
+        };
+        self.mark(holder, &mark);
+        Verdict::Busy {
+            object: *object,
+            holder,
         }
     }
 
@@ -109,29 +127,15 @@ impl Sentinels {
         match self.claims.claim(claims, tx) {
             Ok(()) => Verdict::Granted,
             Err(ClaimErr::NoMemory) => Verdict::NoMemory,
-            Err(ClaimErr::Met { object, holder }) => {
-                if patient && self.is_younger(tx, holder) {
-                    let mark = Mark { object, by: tx, at };
-                    self.mark(holder, &mark);
-                    Verdict::Busy {
-                        object: mark.object,
-                        holder,
-                    }
-                } else {
-                    Verdict::Conflict { object, holder }
-                }
-            }
+            Err(ClaimErr::Met { object, holder }) => self.meet(&object, holder, tx, patient, at),
         }
     }
 
     /// The mark of a transaction, which then has to give way. It takes no memory.
-    pub fn doomed(&self, tx: u32) -> Option<Mark>
-        ensures { result ≡ mark_of (seat_in self.now.seats tx) }
+    pub fn doomed(&self, tx: u32) -> Option<&Mark>
+        ensures { option_copied result ≡ mark_of (seat_in self.now.seats tx) }
     {
-        match self.seats.get(tx) {
-            Some(seat) => seat.mark,
-            None => None,
-        }
+        self.seats.get(tx)?.mark.as_ref()
     }
 
     /// Whether a transaction has begun and not ended. It takes no memory.

@@ -1,4 +1,4 @@
-ghost use Rattle.std.specs.Prelude.{◌≡◌, ◌≢◌, ◌+◌, ◌<◌, ◌≤◌, ◌^◌, ℕ, length, true, IsSome, IsTrue, Some};
+ghost use Rattle.std.specs.Prelude.{◌≡◌, ◌≢◌, ◌+◌, ◌<◌, ◌≤◌, ◌^◌, [], ℕ, length, true, IsSome, IsTrue, Some};
 ghost use Rattle.xc_data.specs.declared.entry.Cause.TheVariants as PlainCause;
 ghost use Rattle.xc_script.specs.declared.ask.Ask.TheVariants.{Call as AskedCall};
 ghost use Rattle.xc_script.specs.Asking.{asks};
@@ -20,26 +20,27 @@ ghost use Rattle.xc_sentinel.specs.Seating.{seat_in};
 use crate::calls::{Shared, do_call};
 use crate::job::Job;
 use crate::tx::Tx;
-use smallvec::SmallVec;
+use arrayvec::ArrayVec;
 use std::alloc::Global;
-use xc_data::{Call, Cause, Claim, Mark, NoMemory, Turn};
+use xc_data::{Call, Cause, Claim, Mark, NoMemory, Object, Turn};
 use xc_host::Host;
 use xc_model::{Phase, Rules};
 use xc_script::{Ask, JobState};
 use xc_sentinel::{Sentinels, Verdict};
 use xc_text::Script;
 use xc_txmem::Words;
-use xc_world::touched;
+use xc_world::push_claims;
 
 /// The most calls that a transaction has.
 const MOST_CALLS: usize = 256;
 
-// What a transaction's call claims.
-fn touched_by(alloc: Global, words: &Words, tx: &Tx, call: &Call) -> SmallVec<Claim, 2>
-    requires { length words.now ≤ 4096 }
-    ensures { result.items ≡ claims_of call.now tx.now.me.value (length words.now) }
+// Puts into an empty list what a transaction's call claims.
+fn touch(claims: &mut ArrayVec<Claim, 2>, words: &Words, tx: &Tx, call: &Call)
+    requires count { length words.now ≤ 4096 }
+    requires empty { claims.old.items ≡ [] }
+    ensures { claims.new.items ≡ claims_of call.now tx.now.me.value (length words.now) }
 {
-    touched(alloc, call, &tx.me, words.count() as u32)
+    push_claims(claims, call, &tx.me, words.count() as u32);
 }
 
 // The transaction undoes for lack of memory.
@@ -50,6 +51,20 @@ fn abort_for_memory(tx: &mut Tx) -> Turn
 {
     tx.phase = Phase::Undoing(Cause::NoMemory);
     Turn::NoMemory
+}
+
+// The transaction undoes since another holds an object, and it doesn't wait.
+#[cold]
+#[inline(never)]
+fn lose(tx: &mut Tx, object: &Object, holder: u32, at: u32)
+    ensures tx { tx_view tx.new ≡ record (tx_view tx.old) { phase = PlainPhase.Undoing (PlainCause.Conflict object.now holder at) } }
+    ensures begun { begun_of tx.new ≡ begun_of tx.old }
+{
+    tx.phase = Phase::Undoing(Cause::Conflict {
+        object: *object,
+        holder,
+        at,
+    });
 }
 
 // On which terms a call claims what it touches.
@@ -66,7 +81,6 @@ struct Terms {
 // Claims what a call touches, with room to note the call. Where another holds something against it the transaction waits, if that
 // one is younger, or undoes; it undoes for lack of memory too.
 fn claim<H: Host>(
-    alloc: Global,
     shared: &mut Shared<H>,
     terms: Terms,
     tx: &mut Tx,
@@ -80,7 +94,8 @@ fn claim<H: Host>(
         (record { claims = claims_of call.now tx.old.me.value (length shared.old.words); patient = terms.patient; at = terms.at }) result }
     ensures begun { begun_of tx.new ≡ begun_of tx.old }
 {
-    let touched = touched_by(alloc, &shared.words, tx, call);
+    let mut touched = ArrayVec::new();
+    touch(&mut touched, &shared.words, tx, call);
     let claims = touched.as_slice();
     if tx.room(claims, terms.most).is_err() {
         return Err(abort_for_memory(tx));
@@ -95,11 +110,7 @@ fn claim<H: Host>(
         }
         Verdict::Busy { object, holder } => Err(Turn::Busy { object, holder }),
         Verdict::Conflict { object, holder } => {
-            tx.phase = Phase::Undoing(Cause::Conflict {
-                object,
-                holder,
-                at: terms.at,
-            });
+            lose(tx, &object, holder, terms.at);
             Err(Turn::Went)
         }
         Verdict::NoMemory => Err(abort_for_memory(tx)),
@@ -136,7 +147,7 @@ fn try_call<H: Host>(
         → IsRow (mover s at now job) (moved H.model shared.new (counted result (with_tx job place.new (tx_view tx.new))) now at) result
         shared.new.sentinels.claims }
 {
-    if let Err(turn) = claim(alloc, shared, terms, tx, &call) {
+    if let Err(turn) = claim(shared, terms, tx, &call) {
         return turn;
     }
     let Shared {
@@ -156,6 +167,7 @@ fn try_call<H: Host>(
 
 // What a running transaction does next: the call that is asked, or it enters its commit, which writes its
 // stores, or its rollback.
+#[inline(always)]
 fn step_running<H: Host>(
     alloc: Global,
     shared: &mut Shared<H>,
@@ -201,6 +213,7 @@ fn step_running<H: Host>(
 }
 
 // A transaction that no longer runs is known as one that doesn't.
+#[inline(always)]
 fn settle(sentinels: &mut Sentinels, tx: &Tx)
     ensures claims { sentinels.new.claims ≡ sentinels.old.claims }
     ensures marks { marks_of sentinels.new.seats ≡ marks_of sentinels.old.seats }
@@ -215,6 +228,8 @@ fn settle(sentinels: &mut Sentinels, tx: &Tx)
 }
 
 // The turn of a job whose transaction is marked: it undoes.
+#[cold]
+#[inline(never)]
 fn revoke(tx: &mut Tx, mark: &Mark) -> Turn
     ensures tx { tx_view tx.new ≡ record (tx_view tx.old) { phase = PlainPhase.Undoing (revoked mark.now) } }
     ensures begun { begun_of tx.new ≡ begun_of tx.old }
@@ -267,7 +282,7 @@ pub fn run<H: Host>(
         shared.new.sentinels }
 {
     if let Some(mark) = shared.sentinels.doomed(job.tx.number) {
-        let answer = revoke(&mut job.tx, &mark);
+        let answer = revoke(&mut job.tx, mark);
         settle(&mut shared.sentinels, &job.tx);
         return answer;
     }

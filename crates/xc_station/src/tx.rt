@@ -106,7 +106,7 @@ impl Tx {
             mem::swap(&mut self.me, &mut self.begun);
         }
         self.changed = false;
-        self.writes = WriteSet::new(alloc);
+        self.writes.clear();
         self.undo = Stack::new(alloc);
         self.late = Late::new(alloc);
         self.taken = Taken::new(alloc);
@@ -199,7 +199,7 @@ impl Tx {
         let late = mem::replace(&mut self.late, Late::new(alloc));
         let held = mem::replace(&mut self.held, Holding::new(alloc));
         let outcome = outcome_of(&self.phase, undo, late);
-        self.writes = WriteSet::new(alloc);
+        self.writes.clear();
         Entry {
             tx: self.number,
             job,

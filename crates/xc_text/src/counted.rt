@@ -58,6 +58,7 @@ impl Counted {
     }
 
     /// One statement more; a call raises the count.
+    #[inline(always)]
     pub fn push(&mut self, statement: Statement<Place>) -> Result<(), NoMemory>
         requires few { count_by is_call (self.old ++ statement ∷ []) ≤ 256 }
         ensures ok { OnOk result (self.new ≡ self.old ++ statement ∷ []) }

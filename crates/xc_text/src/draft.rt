@@ -17,10 +17,11 @@ use crate::names::Names;
 use crate::objects::Objects;
 use crate::script::{Block, Body, Place, Script, Statement};
 use crate::shapes::bare;
+use crate::source::Source;
 use std::alloc::Global;
 use std::marker::Model;
 use std::mem;
-use xc_data::{FaultList, Ident, Items, NoMemory, Outline, Prologue, WordList};
+use xc_data::{Chunk, FaultList, Ident, Items, NoMemory, Outline, Prologue, WordList};
 use xc_tokens::{Stop, TextLine, Token, Why, read_tokens, spells};
 
 mod calls;
@@ -30,6 +31,7 @@ mod statements;
 /// A script as far as its lines were read.
 #[derive(Drop)]
 pub struct Draft {
+    source: Source,
     section: Section,
     words: WordList,
     /// A `words` line came.
@@ -84,10 +86,11 @@ fn zeros(alloc: Global, n: u64) -> Result<WordList, NoMemory>
 
 impl Draft {
     /// No line was read.
-    pub fn new(alloc: Global) -> Result<Draft, NoMemory>
+    pub fn new(alloc: Global, text: Chunk) -> Result<Draft, NoMemory>
         ensures { IfOk result (λ draft. draft ≡ opening) }
     {
         Ok(Draft {
+            source: Source::new(text),
             section: Section::Prologue,
             words: zeros(alloc, FIRST_WORDS)?,
             sized: false,
@@ -313,6 +316,7 @@ impl Draft {
     }
 
     /// Reads one more line. The tokens are those of the line before, and then its own.
+    #[inline(always)]
     pub fn read<'a>(
         &mut self,
         alloc: Global,
@@ -324,7 +328,8 @@ impl Draft {
         if !line.is_clean() {
             return Err(Stop::Refused(Why::BadByte));
         }
-        read_tokens(tokens, line.bytes())?;
+        self.source.set_behind(line.behind());
+        read_tokens(tokens, line)?;
         self.read_line(alloc, tokens.as_slice())
     }
 }

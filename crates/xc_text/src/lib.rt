@@ -2,6 +2,8 @@
 //!
 //! `parse` reads a script exactly where the grammar of `specs/` has one, and else answers the first
 //! bad line with its first reason.
+//!
+//! What a line of a transaction passes on its way is inlined, so that its parts are not handed on in memory.
 #![tactic(auto)]
 
 mod block_names;
@@ -20,6 +22,7 @@ mod pieces;
 mod places;
 mod script;
 mod shapes;
+mod source;
 mod term;
 mod written;
 

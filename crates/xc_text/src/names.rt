@@ -1,4 +1,5 @@
-ghost use Rattle.std.specs.Prelude.{◌≡◌, ◌++◌, ◌∷◌, [], length, IfOk, OnOk};
+ghost use Rattle.std.specs.Prelude.{◌≡◌, ◌++◌, ◌∷◌, [], length, IfOk, OnOk, IsTrue};
+ghost use Rattle.xc_data.specs.Spelling.{is_ident};
 ghost use Rattle.xc_text.specs.Places.{place_of, taken, variable, slot, placed_two};
 ghost use Rattle.xc_text.specs.Said.{no_names};
 ghost use Rattle.xc_text.specs.Steps.{are_few};
@@ -8,7 +9,7 @@ use crate::script::Place;
 use std::alloc::Global;
 use std::marker::Model;
 use xc_data::{Ident, IdentList, Items, NoMemory};
-use xc_tokens::IdentWord;
+use xc_tokens::{IdentWord, spells};
 
 /// The names of a script's variables and of its slots, each once.
 #[derive(Drop)]
@@ -44,21 +45,28 @@ impl Names {
     }
 }
 
-// The place of a name, where it has one.
-fn place_of(names: &[Ident], name: &IdentWord) -> Option<usize>
+// The place of a name, where it has one. Each line that is read asks for some, from many places, so it stands by itself.
+#[inline(never)]
+fn place_of(names: &[Ident], name: &[u8]) -> Option<usize>
     ensures { result ≡ place_of names.now name.now }
 {
-    names.iter().position(|other| name.spells(other))
+    names
+        .iter()
+        .position(|other| spells(other.as_slice(), name))
 }
 
 // A name that is new takes the next place. It is the rare case.
 #[cold]
-fn add(names: &mut IdentList, name: &IdentWord) -> Result<usize, NoMemory>
+fn add(names: &mut IdentList, name: &[u8]) -> Result<usize, NoMemory>
+    requires { IsTrue (is_ident name.now) }
     ensures names { OnOk result (names.new ≡ names.old ++ name.now ∷ []) }
     ensures at { IfOk result (λ at. at ≡ length names.old) }
 {
     let at = names.len();
-    names.push(name.ident())?;
+    match Ident::new(name) {
+        Some(ident) => names.push(ident)?,
+        None => unreachable!(),
+    }
     Ok(at)
 }
 
@@ -68,6 +76,7 @@ fn take(names: &mut IdentList, name: &IdentWord) -> Result<usize, NoMemory>
     ensures names { OnOk result (names.new ≡ (taken names.old name.now).0) }
     ensures at { IfOk result (λ at. at ≡ (taken names.old name.now).1) }
 {
+    let name = name.bytes();
     match place_of(names.as_slice(), name) {
         Some(at) => Ok(at),
         None => add(names, name),
@@ -86,6 +95,7 @@ fn narrow(at: usize) -> Result<Place, NoMemory>
 
 impl Names {
     /// The place of a variable.
+    #[inline(always)]
     pub fn variable(&mut self, name: &IdentWord) -> Result<Place, NoMemory>
         ensures names { OnOk result (self.new ≡ (variable self.old name.now).0) }
         ensures at { IfOk result (λ at. at ≡ (variable self.old name.now).1) }
@@ -108,6 +118,7 @@ impl Names {
     }
 
     /// The place of a slot.
+    #[inline(always)]
     pub fn slot(&mut self, name: &IdentWord) -> Result<Place, NoMemory>
         ensures names { OnOk result (self.new ≡ (slot self.old name.now).0) }
         ensures at { IfOk result (λ at. at ≡ (slot self.old name.now).1) }

@@ -10,6 +10,7 @@ use crate::limits::MOST_SCRIPT_BYTES;
 use crate::parse_err::ParseErr;
 use crate::script::Script;
 use std::alloc::Global;
+use xc_data::Chunk;
 use xc_tokens::{Stop, Why, first_line};
 
 // The script of all lines, whose number is given.
@@ -29,7 +30,7 @@ fn read_lines(alloc: Global, bytes: &[u8]) -> Result<Script, ParseErr>
     requires { length bytes.now ≤ 1048576 }
     ensures { Reads result (read_from 0 opening (lines_of bytes.now)) }
 {
-    let mut draft = Draft::new(alloc)?;
+    let mut draft = Draft::new(alloc, Chunk::new(alloc, bytes)?)?;
     let mut tokens = Vec::new(alloc);
     let mut lines = 0;
     let mut rest = bytes;

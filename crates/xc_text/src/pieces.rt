@@ -8,6 +8,7 @@ use crate::limits::MOST_ITEMS;
 use crate::names::Names;
 use crate::places::place_item;
 use crate::script::{Data, Item, Place};
+use crate::source::Source;
 use crate::term::term_word;
 use std::alloc::Global;
 use xc_data::{Items, MOST_CALL_BYTES, NoMemory};
@@ -33,12 +34,13 @@ fn check_item(token: &Token) -> Result<(), Why>
     Ok(())
 }
 
-fn item<'a>(alloc: Global, token: &Token<'a>) -> Result<Item<IdentWord<'a>>, Stop>
+#[inline(always)]
+fn item<'a>(alloc: Global, source: &Source, token: &Token<'a>) -> Result<Item<IdentWord<'a>>, Stop>
     ensures { Gives (λ item. item) result (item_of (lexeme token.now)) }
 {
     match token {
         Token::Word(word) => Ok(word_item(word)?),
-        Token::Plain { bytes, repeat } => Ok(Item::Literal(repeated(alloc, bytes, *repeat)?)),
+        Token::Plain { bytes, repeat } => Ok(Item::Literal(source.literal(alloc, bytes, *repeat)?)),
         Token::Escaped { literal, repeat } => {
             let bytes = literal.meant(alloc)?;
             Ok(Item::Literal(repeated(alloc, bytes.as_slice(), *repeat)?))
@@ -62,19 +64,26 @@ fn room_for(alloc: Global, n: usize) -> Result<Data<Place>, NoMemory>
     Ok(Items::from_vec(Vec::with_capacity(alloc, n)?))
 }
 
-fn items(alloc: Global, names: &mut Names, tokens: &[Token]) -> Result<Data<Place>, Stop>
+#[inline(always)]
+fn items(
+    alloc: Global,
+    source: &Source,
+    names: &mut Names,
+    tokens: &[Token],
+) -> Result<Data<Place>, Stop>
     requires good { IsOk (items_of (map lexeme tokens.now)) }
     ensures { Gives (λ items. (names.new, items)) result (seen (placed_data names.old) (items_of (map lexeme tokens.now))) }
 {
     let mut items = room_for(alloc, tokens.len())?;
     for token in tokens {
-        let item = item(alloc, token)?;
+        let item = item(alloc, source, token)?;
         items.push(place_item(names, item)?)?;
     }
     Ok(items)
 }
 
 /// The reason against the data of a line that writes, if there is one.
+#[inline(always)]
 pub fn check_data(tokens: &[Token]) -> Result<(), Why>
     ensures { result ≡ seen (λ _. tt) (data_of (map lexeme tokens.now)) }
 {
@@ -89,9 +98,15 @@ pub fn check_data(tokens: &[Token]) -> Result<(), Why>
 }
 
 /// The data of a line that writes, with the places of its variables and slots.
-pub fn data(alloc: Global, names: &mut Names, tokens: &[Token]) -> Result<Data<Place>, Stop>
+#[inline(always)]
+pub fn data(
+    alloc: Global,
+    source: &Source,
+    names: &mut Names,
+    tokens: &[Token],
+) -> Result<Data<Place>, Stop>
     requires good { IsOk (data_of (map lexeme tokens.now)) }
     ensures { Gives (λ items. (names.new, items)) result (seen (placed_data names.old) (data_of (map lexeme tokens.now))) }
 {
-    items(alloc, names, tokens)
+    items(alloc, source, names, tokens)
 }

@@ -10,6 +10,7 @@ use xc_data::NoMemory;
 use xc_tokens::IdentWord;
 
 /// A term with the place of its variable or slot.
+#[inline(always)]
 pub fn place_term(names: &mut Names, term: &Term<IdentWord>) -> Result<Term<Place>, NoMemory>
     ensures names { OnOk result (names.new ≡ (placed_term names.old term.now).0) }
     ensures placed { IfOk result (λ placed. placed ≡ (placed_term names.old term.now).1) }
@@ -22,6 +23,7 @@ pub fn place_term(names: &mut Names, term: &Term<IdentWord>) -> Result<Term<Plac
 }
 
 /// An expression with its places.
+#[inline(always)]
 pub fn place_expression(
     names: &mut Names,
     value: &Expression<IdentWord>,
@@ -43,6 +45,7 @@ pub fn place_expression(
 }
 
 /// The variable that a reply goes to.
+#[inline(always)]
 pub fn place_target(names: &mut Names, into: &Option<IdentWord>) -> Result<Option<Place>, NoMemory>
     ensures names { OnOk result (names.new ≡ (placed_target names.old into.now).0) }
     ensures placed { IfOk result (λ placed. placed ≡ (placed_target names.old into.now).1) }
@@ -79,6 +82,7 @@ pub fn place_ending(names: &mut Names, slot: &Option<IdentWord>) -> Result<Optio
 }
 
 /// A part of the data with the place of its variable or slot.
+#[inline(always)]
 pub fn place_item(names: &mut Names, item: Item<IdentWord>) -> Result<Item<Place>, NoMemory>
     ensures names { OnOk result (names.new ≡ (placed_item names.old item.entry).0) }
     ensures placed { IfOk result (λ placed. placed ≡ (placed_item names.old item.entry).1) }
@@ -91,6 +95,7 @@ pub fn place_item(names: &mut Names, item: Item<IdentWord>) -> Result<Item<Place
 }
 
 /// A term, and the variable that a reply goes to.
+#[inline(always)]
 pub fn place_term_into(
     names: &mut Names,
     term: &Term<IdentWord>,

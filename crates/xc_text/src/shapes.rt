@@ -1,6 +1,7 @@
 //! The shapes of lines: what may stand after a line's first word.
 
-ghost use Rattle.std.specs.Prelude.{◌≡◌, ◌∷◌, [], map};
+ghost use Rattle.std.specs.Prelude.{◌≡◌, ◌∷◌, [], map, IfOk};
+ghost use Rattle.xc_tokens.specs.Answers.{Gives};
 ghost use Rattle.xc_text.specs.Shapes.{bare as bare_said, alone, led, target as target_said, slot_ending as slot_ending_said};
 ghost use Rattle.xc_text.specs.Shapes.{parted as parted_said, two_targets as two_targets_said};
 ghost use Rattle.xc_text.specs.Terms.{term as term_said, expression_of};
@@ -9,8 +10,9 @@ ghost use Rattle.xc_tokens.specs.Words.{ident as ident_said, name as name_said};
 
 use crate::script::{Expression, Term};
 use crate::term::{expression, term};
-use xc_data::Name;
-use xc_tokens::{IdentWord, Token, Why, both, ident_token, is_sign, name};
+use std::alloc::Global;
+use xc_data::{Boxed, Name, NoMemory};
+use xc_tokens::{IdentWord, Stop, Token, Why, both, ident_token, is_sign, name};
 
 /// Nothing.
 pub fn bare(tokens: &[Token]) -> Result<(), Why>
@@ -162,33 +164,61 @@ pub fn variable_and_expression<'a>(
     }
 }
 
+// A name in a place of its own, so that it is small where it is handed on.
+#[inline(always)]
+fn boxed(alloc: Global, name: Result<Name, Why>) -> Result<Result<Boxed<Name>, Why>, NoMemory>
+    ensures { IfOk result (λ boxed. boxed ≡ name) }
+{
+    match name {
+        Ok(name) => Ok(Ok(Boxed::new(alloc, name)?)),
+        Err(why) => Ok(Err(why)),
+    }
+}
+
 /// `NAME`, `NAME -> V`
-pub fn name_into<'a>(tokens: &[Token<'a>]) -> Result<(Name, Option<IdentWord<'a>>), Why>
-    ensures { result ≡ led name_said target_said (map lexeme tokens.now) }
+#[inline(always)]
+pub fn name_into<'a>(
+    alloc: Global,
+    tokens: &[Token<'a>],
+) -> Result<(Boxed<Name>, Option<IdentWord<'a>>), Stop>
+    ensures { Gives (λ read. read) result (led name_said target_said (map lexeme tokens.now)) }
 {
     match tokens {
-        [] => Err(Why::BadForm),
-        [first, behind @ ..] => both(name(first), target(behind)),
+        [] => Err(Stop::Refused(Why::BadForm)),
+        [first, behind @ ..] => {
+            let name = boxed(alloc, name(first))?;
+            Ok(both(name, target(behind))?)
+        }
     }
 }
 
 /// `NAME NAME`
-pub fn two_names(tokens: &[Token]) -> Result<(Name, Name), Why>
-    ensures { result ≡ led name_said (alone name_said) (map lexeme tokens.now) }
+pub fn two_names(alloc: Global, tokens: &[Token]) -> Result<(Boxed<Name>, Boxed<Name>), Stop>
+    ensures { Gives (λ read. read) result (led name_said (alone name_said) (map lexeme tokens.now)) }
 {
     match tokens {
-        [] => Err(Why::BadForm),
-        [first, behind @ ..] => both(name(first), name_alone(behind)),
+        [] => Err(Stop::Refused(Why::BadForm)),
+        [first, behind @ ..] => {
+            let from = boxed(alloc, name(first))?;
+            let to = boxed(alloc, name_alone(behind))?;
+            Ok(both(from, to)?)
+        }
     }
 }
 
 /// `NAME`, `NAME slot S`
-pub fn name_and_slot<'a>(tokens: &[Token<'a>]) -> Result<(Name, Option<IdentWord<'a>>), Why>
-    ensures { result ≡ led name_said slot_ending_said (map lexeme tokens.now) }
+pub fn name_and_slot<'a>(
+    alloc: Global,
+    tokens: &[Token<'a>],
+) -> Result<(Boxed<Name>, Option<IdentWord<'a>>), Stop>
+    ensures { Gives (λ read. read) result (led name_said slot_ending_said (map lexeme tokens.now)) }
 {
     match tokens {
-        [] => Err(Why::BadForm),
-        [first, behind @ ..] => both(name(first), slot_ending(behind)),
+        [] => Err(Stop::Refused(Why::BadForm)),
+        [first, behind @ ..] => {
+            let name = boxed(alloc, name(first))?;
+            Ok(both(name, slot_ending(behind))?)
+        }
     }
 }
 

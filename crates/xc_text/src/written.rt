@@ -13,12 +13,15 @@ use crate::pieces::{check_data, data};
 use crate::places::place_ending;
 use crate::script::{Data, Place};
 use crate::shapes::{parted, slot_ending};
+use crate::source::Source;
 use std::alloc::Global;
 use xc_tokens::{Stop, Token, Why, beside, both, ident_token};
 
 /// `H D`
+#[inline(always)]
 pub fn written(
     alloc: Global,
+    source: &Source,
     names: &mut Names,
     tokens: &[Token],
 ) -> Result<(Place, Data<Place>), Stop>
@@ -30,7 +33,7 @@ pub fn written(
         [handle, items @ ..] => {
             let handle = beside(ident_token(handle), check_data(items))?;
             let handle = names.variable(&handle)?;
-            let data = data(alloc, names, items)?;
+            let data = data(alloc, source, names, items)?;
             Ok((handle, data))
         }
     }
@@ -39,6 +42,7 @@ pub fn written(
 /// `H D`, `H D slot S`
 pub fn written_with_slot(
     alloc: Global,
+    source: &Source,
     names: &mut Names,
     tokens: &[Token],
 ) -> Result<((Place, Data<Place>), Option<Place>), Stop>
@@ -52,7 +56,7 @@ pub fn written_with_slot(
             let slot = both(check_data(items), slot_ending(ending));
             let (handle, ((), slot)) = both(ident_token(handle), slot)?;
             let handle = names.variable(&handle)?;
-            let data = data(alloc, names, items)?;
+            let data = data(alloc, source, names, items)?;
             let slot = place_ending(names, &slot)?;
             Ok(((handle, data), slot))
         }

@@ -15,6 +15,19 @@ same_run : (p q : ℕ → Bool) (xs : List ℕ) → Each1 (Fits w8) xs → agree
 same_run p q [] fit all = refl
 same_run p q (x ∷ xs) fit all = ap₂ (λ t n. cond t (1 + n) 0) (agree_below_at p q 256 x all fit.0.fits) (same_run p q xs fit.1 all)
 
+same_map : (p q : ℕ → Bool) (xs : List ℕ) → Each1 (Fits w8) xs → agree_below p q 256 ≡ true → map p xs ≡ map q xs
+same_map p q [] fit all = refl
+same_map p q (x ∷ xs) fit all = ap₂ (λ b bs. b ∷ bs) (agree_below_at p q 256 x all fit.0.fits) (same_map p q xs fit.1 all)
+
+-- where f has the top bit set in a lane its bit of the mask is set
+pub mask_of : (p : ℕ → Bool) (f : ℕ → ℕ) (bs z : List ℕ) → 16 ≤ length bs → ((k : ℕ) → Fits w8 (get_or bs k 0)) → z ≡ map f (chunk 0 16 bs) →
+    agree_below (λ x. top 7 (f x)) p 256 ≡ true → mask_l (map (top 7) z) % 2 ^ 64 ≡ mask_l (map p (chunk 0 16 bs))
+mask_of p f bs z room fits lanes all =
+    let v = chunk 0 16 bs in
+    let same = same_map (λ x. top 7 (f x)) p v (chunk-fits w8 0 16 bs fits) all in
+    ap (λ l. mask_l l % 2 ^ 64) (ap (map (top 7)) lanes ∙ map-map (top 7) f v ∙ same)
+    ∙ mask_l-mod (map p v) 64 (omega (arith, length-map v p, length-chunk 0 16 bs room))
+
 -- where f has the top bit set in a lane the run ends: its length is the place of the first such lane
 pub run_of : (p : ℕ → Bool) (f : ℕ → ℕ) (bs z : List ℕ) → 16 ≤ length bs → ((k : ℕ) → Fits w8 (get_or bs k 0)) → z ≡ map f (chunk 0 16 bs) →
     agree_below (λ x. not (top 7 (f x))) p 256 ≡ true →

@@ -1,7 +1,10 @@
+pub mod BitRuns
+pub mod FrontWords
 pub mod Lanes
 pub mod LineCuts
 pub mod LiteralLemmas
 pub mod NumberLemmas
 pub mod Quotes
 pub mod TokenLists
+pub mod Windows
 pub mod PlainBytes

@@ -1,6 +1,6 @@
 -- Where a script is cut into lines.
 use Rattle.std.proofs.Common.{◌≡◌, ℕ, ◌+◌, ◌<◌, Bool, true, false, zero, suc, List, [], ◌∷◌, length, take, drop, get_or, ◌==◌}
-use Rattle.std.proofs.Common.{cond, if◌then◌else◌, refl, ap, ap₂, sym, ◌∙◌, arith, add-one}
+use Rattle.std.proofs.Common.{cond, if◌then◌else◌, refl, ap, sym, ◌∙◌, arith, add-one}
 use Rattle.std.proofs.Common.{◌-◌, take_all, length-drop, subst}
 use Rattle.std.proofs.lemmas.List.{drop_all}
 use Rattle.std.specs.List.{list_all, prefix_len}
@@ -68,8 +68,8 @@ clean_at_end n bs lt none e =
     cut_at_end n bs lt none e ∙ ap (λ r. take n bs ∷ lines_of r) (sym behind)
 
 -- a clean line that lacks it
-pub clean_at_last : (n : ℕ) (bs : List ℕ) → 0 < n → n ≡ length bs → NoEnd n bs → lines_of bs ≡ bs ∷ lines_of (take (length bs - n) (drop n bs))
+pub clean_at_last : (n : ℕ) (bs : List ℕ) → 0 < n → n ≡ length bs → NoEnd n bs → lines_of bs ≡ take n bs ∷ lines_of (take (length bs - n) (drop n bs))
 clean_at_last n bs some is none =
     let behind = take_all (length bs - n) (drop n bs) (omega (arith, length-drop n bs)) in
     let nothing = drop_all (n + 1) bs (omega arith) ∙ sym (drop_all n bs (omega arith)) ∙ sym behind in
-    cut_at_last n bs some is none ∙ ap₂ (λ l r. l ∷ lines_of r) (take_all n bs (omega arith)) nothing
+    cut_at_last n bs some is none ∙ ap (λ r. take n bs ∷ lines_of r) nothing

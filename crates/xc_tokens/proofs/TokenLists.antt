@@ -1,12 +1,14 @@
 -- The first tokens of a line, one after another.
 use Rattle.std.proofs.Common.{◌≡◌, ℕ, ◌-◌, ◌<◌, ◌≤◌, zero, suc, List, [], ◌∷◌, ◌++◌, length, Option, Some, None}
-use Rattle.std.proofs.Common.{Result, Ok, Err, refl, ap, sym, ◌∙◌, append_assoc}
+use Rattle.std.proofs.Common.{Result, Ok, Err, refl, ap, sym, subst, ◌∙◌, append_assoc, take, drop}
 use Rattle.std.proofs.Common.{append-nil, arith, length-append}
 use Rattle.xc_tokens.specs.declared.why.Stop.{Stop}
 use Rattle.xc_tokens.specs.declared.why.Stop.TheVariants as stop
 use Rattle.xc_tokens.specs.declared.why.Why.{Why}
 use Rattle.xc_tokens.specs.Answers.{Stops, and_then, seen}
-use Rattle.xc_tokens.specs.Tokens.{Lexeme, past_blanks, token_at, with_next, and_others, first_tokens}
+use Rattle.xc_tokens.specs.Front.{Makes, ReadOn}
+use Rattle.xc_tokens.specs.Tokens.{Lexeme, past_blanks, token_at, with_next, and_others, first_tokens, tokens_of}
+use Rattle.xc_tokens.proofs.Windows.{window}
 
 -- none is left
 no_more : (n : ℕ) (bs : List ℕ) → token_at (past_blanks bs) ≡ Ok None → first_tokens n bs ≡ Ok []
@@ -38,6 +40,30 @@ one_more n ts bs t rest all room is e =
     ∙ ap (seen (λ (us : List Lexeme). ts ++ us)) (sym (one_token m bs t rest is))
     ∙ ap (λ k. seen (λ (us : List Lexeme). ts ++ us) (first_tokens k bs)) fewer
     ∙ e
+
+seen_same : (tokens : Result (List Lexeme) Why) → seen (λ (ts : List Lexeme). [] ++ ts) tokens ≡ tokens
+seen_same (Ok ts) = refl
+seen_same (Err e) = refl
+
+-- before the first token
+pub makes_all : (line : List ℕ) → Makes (length line) (tokens_of line) [] line
+makes_all line =
+    let whole : length line - 0 ≡ length line = omega arith in
+    (omega arith, ap (λ n. seen (λ (ts : List Lexeme). [] ++ ts) (first_tokens n line)) whole ∙ seen_same (tokens_of line))
+
+-- what is left of a line of a text after the words that were read in front of it
+pub left_of : (before : List Lexeme) (line : List ℕ) (tokens : List Lexeme) (text : List ℕ) (n at : ℕ) → line ≡ take n text → at ≤ n →
+    ReadOn before (take n text) tokens (drop at (take n text)) → ReadOn before line tokens (take (n - at) (drop at text))
+left_of before line tokens text n at is within read =
+    rw is (subst (λ rest. ReadOn before (take n text) tokens rest) (window at n text within) read)
+
+-- a word more of those that are read in front
+pub word_more : (before : List Lexeme) (line : List ℕ) (tokens : List Lexeme) (rest : List ℕ) (word : Lexeme) (behind : List ℕ) →
+    ReadOn before line tokens rest → length behind < length rest → token_at (past_blanks rest) ≡ Ok (Some (word, behind)) →
+    ReadOn before line (tokens ++ word ∷ []) behind
+word_more before line tokens rest word behind read fewer is n all makes =
+    let so_far = read n all makes in
+    (rw length-append (omega (arith, so_far.0, fewer)), one_more n tokens rest word behind all (omega (arith, so_far.0, fewer)) is so_far.1)
 
 -- tokens, and what stands after them where one more was read
 abbrev pub Next : Type 0

@@ -1,5 +1,6 @@
 pub mod Answers
 pub mod ByWord
+pub mod Front
 pub mod Lines
 pub mod Literals
 pub mod Numbers

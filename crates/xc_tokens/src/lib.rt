@@ -3,9 +3,11 @@
 #![tactic(auto)]
 
 mod escaped;
+mod front;
 mod limits;
 mod lines;
 mod literals;
+mod masks;
 mod numbers;
 mod reason;
 mod spelled;

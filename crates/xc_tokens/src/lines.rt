@@ -1,36 +1,50 @@
-ghost use Rattle.std.specs.Int.{w64, trailing_zeros};
-ghost use Rattle.std.specs.Prelude.{◌≡◌, ◌≤◌, ◌<◌, ◌+◌, ◌∷◌, ◌==◌, take, drop, length, if◌then◌else◌};
+ghost use Rattle.std.specs.Prelude.{◌≡◌, ◌≤◌, ◌<◌, ◌+◌, ◌∷◌, ◌==◌, take, drop, length};
 ghost use Rattle.std.specs.List.{list_all, prefix_len};
 ghost use Rattle.xc_tokens.specs.Lines.{lines_of, is_line_byte};
 
+use crate::masks::{LANES, first_set};
 use std::marker::Model;
 use std::simd::prelude::*;
 
 /// A line of a text, without its LF. It knows whether its bytes may all stand in a line.
 #[derive(Drop)]
 pub struct TextLine<'a> {
-    bytes: &'a [u8],
+    /// The text from the line on, so that many bytes can be looked at at once where a short line ends.
+    text: &'a [u8],
+    len: usize,
     clean: bool,
 }
 
 impl<'a> Model for TextLine<'a> {
-    ghost use Rattle.std.specs.Prelude.{◌≡◌, List, ℕ};
+    ghost use Rattle.std.specs.Prelude.{◌≡◌, ◌≤◌, List, ℕ, take, length};
     ghost use Rattle.std.specs.List.{list_all};
     ghost use Rattle.xc_tokens.specs.Lines.{is_line_byte};
 
     ghost Value = { List ℕ };
 
-    ghost view = { λ a. a.bytes.now };
+    ghost view = { λ a. take a.len a.text.now };
 
-    ghost invariant = { λ a. a.clean ≡ list_all is_line_byte a.bytes.now };
+    ghost invariant = { λ a. (a.len ≤ length a.text.now) × (a.clean ≡ list_all is_line_byte (take a.len a.text.now)) };
 }
 
 impl<'a> TextLine<'a> {
-    /// The bytes of the line, without its LF.
-    pub fn bytes(&self) -> &'a [u8]
-        ensures { result.now ≡ self.now }
+    /// The text from the line on.
+    pub fn text(&self) -> &'a [u8]
+        ensures { self.now ≡ take (length self.now) result.now }
     {
-        self.bytes
+        self.text
+    }
+
+    /// The number of its bytes, without its LF.
+    pub fn len(&self) -> usize
+        ensures { result ≡ length self.now }
+    {
+        self.len
+    }
+
+    /// How many bytes of the text stand after it, with its LF.
+    pub fn behind(&self) -> usize {
+        self.text.len() - self.len
     }
 
     /// Its bytes may all stand in a line.
@@ -50,21 +64,8 @@ fn is_line_byte_at(b: u8) -> bool
     b == b'\t'
 }
 
-// How many bytes are looked at at once.
-// They are judged in the pass that looks for the end of the line; only a line with a bad byte is read again.
-const LANES: usize = 16;
-
-// The place of the lowest bit, and the number of lanes where no bit is set.
-fn first_set(mask: u64) -> usize
-    ensures { result ≡ (if mask == 0 then 16 else trailing_zeros w64 mask) }
-{
-    if mask == 0 {
-        return LANES;
-    }
-    mask.trailing_zeros() as usize
-}
-
-// How many bytes in front, of the first ones, may stand in a line.
+// How many bytes in front, of the first ones, may stand in a line. They are judged in the pass that looks for the end of
+// the line; only a line with a bad byte is read again.
 fn clean_run(bytes: &[u8]) -> usize
     requires { LANES ≤ length bytes.now }
     ensures { result ≡ prefix_len is_line_byte (take LANES bytes.now) }
@@ -133,9 +134,12 @@ fn any_line<'a>(bytes: &'a [u8]) -> (TextLine<'a>, &'a [u8])
     ensures fewer { length result.1.now < length bytes.now }
 {
     let n = line_len(bytes);
-    let line = &bytes[..n];
-    let clean = are_line_bytes(line);
-    let line = TextLine { bytes: line, clean };
+    let clean = are_line_bytes(&bytes[..n]);
+    let line = TextLine {
+        text: bytes,
+        len: n,
+        clean,
+    };
     if n == bytes.len() {
         return (line, &bytes[n..]);
     }
@@ -150,11 +154,17 @@ pub fn first_line<'a>(bytes: &'a [u8]) -> (TextLine<'a>, &'a [u8])
 {
     let n = clean_len(bytes);
     if n == bytes.len() {
-        return (TextLine { bytes, clean: true }, &bytes[n..]);
+        let line = TextLine {
+            text: bytes,
+            len: n,
+            clean: true,
+        };
+        return (line, &bytes[n..]);
     }
     if bytes[n] == b'\n' {
         let line = TextLine {
-            bytes: &bytes[..n],
+            text: bytes,
+            len: n,
             clean: true,
         };
         return (line, &bytes[n + 1..]);

@@ -1,4 +1,4 @@
-ghost use Rattle.std.specs.Prelude.{◌≡◌, ◌<◌, ◌^◌, ◌++◌, length, map, IfOk, OnOk};
+ghost use Rattle.std.specs.Prelude.{◌≡◌, ◌<◌, ◌^◌, ◌++◌, ◌∷◌, [], length, map, IfOk, OnOk};
 ghost use Rattle.std.specs.List.{list_all, repeat as repeat_of_list};
 ghost use Rattle.xc_tokens.specs.Literals.{is_literal as is_literal_token, given, joined as joined_literals, is_within as is_within_bound};
 ghost use Rattle.xc_tokens.specs.Literals.{contents as contents_said};
@@ -55,12 +55,26 @@ pub fn is_within(most: u32, tokens: &[Token]) -> bool
     true
 }
 
+// Adds a byte so many times.
+fn add_byte(bytes: &mut Vec<u8>, byte: u8, times: u32) -> Result<(), NoMemory>
+    ensures { OnOk result (bytes.new.items ≡ bytes.old.items ++ repeat_of_list times (byte ∷ [])) }
+{
+    bytes.reserve(times as usize)?;
+    for _ in 0..times {
+        bytes.push(byte)?;
+    }
+    Ok(())
+}
+
 // Adds a piece so many times.
 fn add_repeated(bytes: &mut Vec<u8>, piece: &[u8], times: u32) -> Result<(), NoMemory>
     ensures { OnOk result (bytes.new.items ≡ bytes.old.items ++ repeat_of_list times piece.now) }
 {
     if piece.is_empty() {
         return Ok(());
+    }
+    if let [byte] = piece {
+        return add_byte(bytes, *byte, times);
     }
     for _ in 0..times {
         bytes.extend_from_slice(piece)?;

@@ -71,11 +71,12 @@ impl<'a> IdentWord<'a> {
         Some(IdentWord { bytes: word })
     }
 
-    /// The word spells the identifier.
-    pub fn spells(&self, ident: &Ident) -> bool
-        ensures { result ≡ pointwise nat_eq ident.now self.now }
+    /// Its bytes as they stand in the line.
+    pub fn bytes(&self) -> &'a [u8]
+        ensures value { result.now ≡ self.now }
+        ensures ident { IsTrue (is_ident self.now) }
     {
-        ident.as_slice() == self.bytes
+        self.bytes
     }
 
     /// The identifier that the word spells.

@@ -7,12 +7,18 @@ ghost use Rattle.xc_tokens.specs.Quoted.{is_itself};
 ghost use Rattle.xc_tokens.specs.Tokens.{Word, is_blank, past_blanks as behind_blanks, run_len as length_of_run};
 ghost use Rattle.xc_tokens.specs.Tokens.{unquoted_run_len, repeat_of, repeat_from};
 ghost use Rattle.xc_tokens.specs.Tokens.{literal_from, with_repeat, word_from, token_at, with_next, tokens_of};
+ghost use Rattle.xc_tokens.specs.Front.{ReadOn};
 ghost use Rattle.xc_tokens.specs.Views.{lexeme};
 
 use crate::escaped::Escaped;
+use crate::front::Front;
 use crate::limits::{MOST_LITERAL_BYTES, MOST_REPEAT};
+use crate::lines::TextLine;
+use crate::masks::{LANES, first_set};
 use crate::numbers::spelled_number;
 use crate::why::{Stop, Why};
+use std::simd::prelude::*;
+use xc_data::NoMemory;
 
 /// A token of a line.
 #[derive(Debug, Drop)]
@@ -133,12 +139,29 @@ fn means_itself(b: u8) -> bool
     b != b'"' && b != b'\\'
 }
 
+// How many bytes in front, of the first ones, mean themselves.
+fn plain_run(bytes: &[u8]) -> usize
+    requires { LANES ≤ length bytes.now }
+    ensures { result ≡ prefix_len is_itself (take LANES bytes.now) }
+{
+    let first = u8x16::from_slice(bytes);
+    let stops = first.simd_eq(u8x16::splat(b'"')) | first.simd_eq(u8x16::splat(b'\\'));
+    first_set(stops.to_bitmask())
+}
+
 // How many bytes in front mean themselves.
 fn plain_len(bytes: &[u8]) -> usize
     ensures value { result ≡ prefix_len is_itself bytes.now }
     ensures bound { result ≤ length bytes.now }
 {
     let mut n = 0;
+    'by_lanes: while bytes.len() - n >= LANES {
+        let run = plain_run(&bytes[n..]);
+        if run < LANES {
+            return n + run;
+        }
+        n += LANES;
+    }
     while n < bytes.len() {
         if !means_itself(bytes[n]) {
             return n;
@@ -233,12 +256,26 @@ fn push_token<'a>(tokens: &mut Vec<Token<'a>>, bytes: &'a [u8]) -> Result<Option
     Ok(Some(&start[n..]))
 }
 
+// Reads the words in front of a line, and gives what stands after them. Where few bytes of the text are left it reads none.
+fn push_front<'a>(tokens: &mut Vec<Token<'a>>, line: &TextLine<'a>) -> Result<&'a [u8], NoMemory>
+    ensures fewer { IfOk result (λ rest. length rest.now ≤ length line.now) }
+    ensures read { IfOk result (λ rest. ReadOn (map lexeme tokens.old.items) line.now (map lexeme tokens.new.items) rest.now) }
+{
+    let text = line.text();
+    let n = line.len();
+    if text.len() < LANES {
+        return Ok(&text[..n]);
+    }
+    let at = Front::new(text, n).push_words(tokens)?;
+    Ok(&text[at..n])
+}
+
 /// Reads the tokens of a line, in place of those that were there.
-pub fn read_tokens<'a>(tokens: &mut Vec<Token<'a>>, line: &'a [u8]) -> Result<(), Stop>
+pub fn read_tokens<'a>(tokens: &mut Vec<Token<'a>>, line: &TextLine<'a>) -> Result<(), Stop>
     ensures { Gives (λ _. map lexeme tokens.new.items) result (tokens_of line.now) }
 {
     tokens.clear();
-    let mut rest = line;
+    let mut rest = push_front(tokens, line)?;
     while let Some(behind) = push_token(tokens, rest)? {
         rest = behind;
     }

@@ -9,11 +9,22 @@ use crate::token::Token;
 use crate::why::Why;
 use xc_data::{Ident, Name};
 
-/// The word is spelled so.
+/// The word is spelled so. Most texts are short and known beforehand, so it takes no call to compare them.
+#[inline(always)]
 pub fn spells(word: &[u8], text: &[u8]) -> bool
     ensures { result ≡ is_spelled word.now text.now }
 {
-    word == text
+    if word.len() != text.len() {
+        return false;
+    }
+    let mut n = 0;
+    while n < text.len() {
+        if word[n] != text[n] {
+            return false;
+        }
+        n += 1;
+    }
+    true
 }
 
 /// The token is this sign.
@@ -27,6 +38,7 @@ pub fn is_sign(token: &Token, text: &[u8]) -> bool
 }
 
 /// The number that a word spells.
+#[inline(always)]
 pub fn number_word(word: &[u8]) -> Result<u64, Why>
     ensures { result ≡ number_in word.now }
 {
@@ -37,6 +49,7 @@ pub fn number_word(word: &[u8]) -> Result<u64, Why>
 }
 
 /// The identifier that a word is.
+#[inline(always)]
 pub fn ident_word<'a>(word: &'a [u8]) -> Result<IdentWord<'a>, Why>
     ensures { result ≡ ident_in word.now }
 {

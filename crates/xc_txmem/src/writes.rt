@@ -1,5 +1,5 @@
 ghost use Rattle.std.specs.Prelude.{◌≡◌, ◌<◌, ◌++◌, ◌∷◌, [], ℕ, List, length, slice_index, slice_set, OnOk, OnErr};
-ghost use Rattle.xc_txmem.specs.Overlay.{overlaid, AreWithin};
+ghost use Rattle.xc_txmem.specs.Overlay.{overlaid, left_at, AreWithin};
 
 use crate::Words;
 use std::alloc::Global;
@@ -7,25 +7,41 @@ use std::collections::BTreeMap;
 use std::marker::Model;
 use xc_data::NoMemory;
 
+/// How many of the stores a load walks through.
+const WALKED: usize = 8;
+
 /// The stores of a transaction, in their order. Its own loads see them; nobody else does before
 /// they are applied.
 #[derive(Drop)]
 pub struct WriteSet {
     // Oldest first.
     stores: Vec<(usize, u64)>,
-    // What they leave at each place that they store to.
+    // What those after the walked ones leave at each place that they store to: few stores need no map.
     newest: BTreeMap<usize, u64>,
 }
 
 impl Model for WriteSet {
-    ghost use Rattle.std.specs.Prelude.{List, ℕ};
+    ghost use Rattle.std.specs.Prelude.{List, ℕ, drop};
     ghost use Rattle.xc_txmem.specs.Overlay.{IsNewest};
 
     ghost Value = { List (ℕ × ℕ) };
 
     ghost view = { λ w. w.stores.items };
 
-    ghost invariant = { λ w. IsNewest w.newest w.stores.items };
+    ghost invariant = { λ w. IsNewest w.newest (drop 8 w.stores.items) };
+}
+
+// What stores, the oldest first, leave at a place that had this value.
+fn left_at(stores: &[(usize, u64)], at: usize, value: u64) -> u64
+    ensures { result ≡ left_at at value stores.now }
+{
+    let mut left = value;
+    for (place, stored) in stores {
+        if *place == at {
+            left = *stored;
+        }
+    }
+    left
 }
 
 impl WriteSet {
@@ -39,14 +55,25 @@ impl WriteSet {
         }
     }
 
-    /// A word as the transaction sees it. It is found by one look-up, however many stores there are.
+    /// No store waits any more, and the room stays for the next ones. It takes no memory.
+    pub fn clear(&mut self)
+        ensures { self.new ≡ [] }
+    {
+        self.stores.clear();
+        self.newest.clear();
+    }
+
+    /// A word as the transaction sees it. It is found by a short walk and one look-up, however many stores there are.
     pub fn load(&self, words: &Words, at: usize) -> u64
         requires { at < length words.now }
         ensures { result ≡ slice_index (overlaid words.now self.now) at }
     {
         match self.newest.get(&at) {
             Some(value) => *value,
-            None => words.get(at),
+            None => {
+                let walked = WALKED.min(self.stores.len());
+                left_at(&self.stores[..walked], at, words.get(at))
+            }
         }
     }
 
@@ -57,7 +84,9 @@ impl WriteSet {
         ensures err { OnErr result (self.new ≡ self.old) }
     {
         self.stores.reserve(1)?;
-        self.newest.insert(at, value)?;
+        if WALKED <= self.stores.len() {
+            self.newest.insert(at, value)?;
+        }
         self.stores.push_reserved((at, value));
         Ok(())
     }

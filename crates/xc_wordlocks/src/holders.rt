@@ -39,6 +39,18 @@ impl Holders {
         ensures cost { steps.new ≡ steps.old + 1 }
     {
         steps.tick();
+        match object {
+            Object::Word(at) => self.words.holders_of(*at),
+            _ => self.look_by_kind(object),
+        }
+    }
+
+    // Apart from the words, which are claimed most and need no key: a key is as large as the longest name.
+    #[inline(never)]
+    fn look_by_kind(&self, object: &Object) -> Option<&ObjectHolders>
+        ensures some { IfSome result (λ m. (n : ℕ) → held_mode self.now n object.now ≡ mode_among m.now n) }
+        ensures none { IfNone result ((n : ℕ) → held_mode self.now n object.now ≡ None) }
+    {
         match Kind::of(object) {
             Kind::Word(at) => self.words.holders_of(at),
             Kind::Other(object) => self.others.holders_of(object),
@@ -59,6 +71,18 @@ impl Holders {
         ensures cost { steps.new ≡ steps.old + 1 }
     {
         steps.tick();
+        match object {
+            Object::Word(at) => self.words.insert(*at, tx, mode),
+            _ => self.put_by_kind(object, tx, mode),
+        }
+    }
+
+    #[inline(never)]
+    fn put_by_kind(&mut self, object: &Object, tx: u32, mode: Mode) -> Result<(), NoMemory>
+        ensures ok { OnOk result (self.new ≡ set_mode self.old tx object.now (Some mode)) }
+        ensures err { OnErr result (self.new ≡ self.old) }
+        ensures absent { OnErr result (held_mode self.old tx object.now ≡ None) }
+    {
         match Kind::of(object) {
             Kind::Word(at) => self.words.insert(at, tx, mode),
             Kind::Other(object) => self.others.insert(object, tx, mode),
@@ -77,6 +101,17 @@ impl Holders {
         ensures cost { steps.new ≡ steps.old + 1 }
     {
         steps.tick();
+        match object {
+            Object::Word(at) => self.words.remove(*at, tx),
+            _ => self.take_by_kind(object, tx),
+        }
+    }
+
+    #[inline(never)]
+    fn take_by_kind(&mut self, object: &Object, tx: u32) -> Option<Mode>
+        ensures value { result ≡ held_mode self.old tx object.now }
+        ensures removed { self.new ≡ set_mode self.old tx object.now None }
+    {
         match Kind::of(object) {
             Kind::Word(at) => self.words.remove(at, tx),
             Kind::Other(object) => self.others.remove(object, tx),

@@ -12,5 +12,5 @@ pub mod undoing;
 pub mod whole;
 
 pub use handles::opening_private;
-pub use touch::touched;
+pub use touch::push_claims;
 pub use xc_data::NoMemory;

@@ -1,14 +1,15 @@
-ghost use Rattle.std.specs.Prelude.{◌≡◌, [], ◌∷◌, map, nat_eq, if◌then◌else◌};
+ghost use Rattle.std.specs.Prelude.{◌≡◌, [], ◌∷◌, ◌++◌, ◌+◌, ◌≤◌, map, nat_eq, if◌then◌else◌};
 ghost use Rattle.std.specs.Cmp.Lexicographic.{pointwise};
+ghost use Rattle.arrayvec.specs.ArrayVec.{array_vec_len};
 ghost use Rattle.xc_data.specs.declared.object.Object.TheVariants as object;
-ghost use Rattle.xc_world.specs.Touch.{object_at};
 ghost use Rattle.xc_data.specs.Claims.{claim};
+ghost use Rattle.xc_data.specs.Private.{place_of};
+ghost use Rattle.xc_world.specs.Touch.{object_at};
 ghost use Rattle.xc_world.specs.Modes.{mode_of, claims_of};
 
 use crate::checks::is_refused;
-use smallvec::SmallVec;
-use std::alloc::Global;
-use xc_data::{Call, Chunk, Claim, LateCall, Mode, Name, NoMemory, Object, Place, Private};
+use arrayvec::ArrayVec;
+use xc_data::{Call, Chunk, Claim, LateCall, Mode, Name, NoMemory, Num, Object, Place, Private};
 
 // The five calls that only look.
 fn mode_of(call: &Call) -> Mode
@@ -22,63 +23,84 @@ fn mode_of(call: &Call) -> Mode
     }
 }
 
-fn one(alloc: Global, mode: Mode, object: Object) -> SmallVec<Claim, 2>
-    ensures { result.items ≡ claim mode object ∷ [] }
+// A claim is built where it is pushed: an object takes the room of the longest name, and each hand-over would copy that.
+fn push_word(claims: &mut ArrayVec<Claim, 2>, mode: Mode, at: u32)
+    requires { array_vec_len claims.old + 1 ≤ 2 }
+    ensures { claims.new.items ≡ claims.old.items ++ claim mode (object.Word at) ∷ [] }
 {
-    let mut claims = SmallVec::new(alloc);
-    claims.push_reserved(Claim { object, mode });
-    claims
+    claims.push(Claim {
+        object: Object::Word(at),
+        mode,
+    });
+}
+
+fn push_name(claims: &mut ArrayVec<Claim, 2>, mode: Mode, name: &Name)
+    requires { array_vec_len claims.old + 1 ≤ 2 }
+    ensures { claims.new.items ≡ claims.old.items ++ claim mode (object.Name name.now) ∷ [] }
+{
+    claims.push(Claim {
+        object: Object::Name(*name),
+        mode,
+    });
 }
 
 // Two names, once where they are equal.
-fn both_names(alloc: Global, mode: Mode, from: Name, to: Name) -> SmallVec<Claim, 2>
-    ensures { result.items
-        ≡ map (claim mode) (if pointwise nat_eq from to then object.Name from ∷ [] else object.Name from ∷ object.Name to ∷ []) }
+fn push_names(claims: &mut ArrayVec<Claim, 2>, mode: Mode, from: &Name, to: &Name)
+    requires { array_vec_len claims.old + 2 ≤ 2 }
+    ensures { claims.new.items ≡ claims.old.items ++ map (claim mode)
+        (if pointwise nat_eq from.now to.now then object.Name from.now ∷ [] else object.Name from.now ∷ object.Name to.now ∷ []) }
 {
-    let mut claims = one(alloc, mode, Object::Name(from));
+    push_name(claims, mode, from);
     if from != to {
-        claims.push_reserved(Claim {
-            object: Object::Name(to),
-            mode,
-        });
+        push_name(claims, mode, to);
     }
-    claims
 }
 
 // What a handle holds.
-fn claim_at(alloc: Global, mode: Mode, place: Place) -> SmallVec<Claim, 2>
-    ensures { result.items ≡ map (claim mode) (object_at place) }
+fn push_held(claims: &mut ArrayVec<Claim, 2>, mode: Mode, me: &Private, h: u16)
+    requires { array_vec_len claims.old + 1 ≤ 2 }
+    ensures { claims.new.items ≡ claims.old.items ++ map (claim mode) (object_at (place_of me.now.places h)) }
 {
-    match place {
-        Place::Vacant => SmallVec::new(alloc),
-        Place::File { num, .. } => one(alloc, mode, Object::File(num)),
-        Place::Pipe(num) => one(alloc, mode, Object::Pipe(num)),
-        Place::Pair { num, .. } => one(alloc, mode, Object::Pair(num)),
-    }
+    let object = match me.place(h) {
+        Place::Vacant => return,
+        Place::File { num, .. } => Object::File(num),
+        Place::Pipe(num) => Object::Pipe(num),
+        Place::Pair { num, .. } => Object::Pair(num),
+    };
+    claims.push(Claim { object, mode });
 }
 
-/// What a call claims: the objects that it touches, in its order and its mode. It takes no memory.
-pub fn touched(alloc: Global, call: &Call, me: &Private, words: u32) -> SmallVec<Claim, 2>
-    ensures { result.items ≡ claims_of call.now me.now words }
+fn push_jobs(claims: &mut ArrayVec<Claim, 2>, mode: Mode)
+    requires { array_vec_len claims.old + 1 ≤ 2 }
+    ensures { claims.new.items ≡ claims.old.items ++ claim mode object.Jobs ∷ [] }
+{
+    claims.push(Claim {
+        object: Object::Jobs,
+        mode,
+    });
+}
+
+/// Puts into an empty list what a call claims: the objects that it touches, in its order and its mode. It takes no memory.
+pub fn push_claims(claims: &mut ArrayVec<Claim, 2>, call: &Call, me: &Private, words: u32)
+    requires { claims.old.items ≡ [] }
+    ensures { claims.new.items ≡ claims_of call.now me.now words }
 {
     if is_refused(call, me, words as u64) {
-        return SmallVec::new(alloc);
+        return;
     }
     let mode = mode_of(call);
     match call {
-        Call::Load { at } | Call::Store { at, .. } => one(alloc, mode, Object::Word(*at as u32)),
+        Call::Load { at } | Call::Store { at, .. } => push_word(claims, mode, *at as u32),
         Call::XOpen { name } | Call::XCreate { name } | Call::XUnlink { name, .. } => {
-            one(alloc, mode, Object::Name(*name.value()))
+            push_name(claims, mode, name.value());
         }
-        Call::XRename { from, to } => both_names(alloc, mode, *from.value(), *to.value()),
-        Call::XRead { h, .. } | Call::XWriteOvr { h, .. } => claim_at(alloc, mode, me.place(*h)),
-        Call::XWriteSeq { h, .. } | Call::XLen { h } => claim_at(alloc, mode, me.place(*h)),
-        Call::XReadPipe { h, .. } | Call::XRecvmsg { h } => claim_at(alloc, mode, me.place(*h)),
-        Call::XSync { h, .. } | Call::XWritePipe { h, .. } => claim_at(alloc, mode, me.place(*h)),
-        Call::XShutdown { h, .. } | Call::XSendmsg { h, .. } => claim_at(alloc, mode, me.place(*h)),
-        Call::XThreadCreate { .. } => one(alloc, mode, Object::Jobs),
-        Call::XSeek { .. } | Call::XClose { .. } | Call::XPipe | Call::XPair => {
-            SmallVec::new(alloc)
-        }
+        Call::XRename { from, to } => push_names(claims, mode, from.value(), to.value()),
+        Call::XRead { h, .. } | Call::XWriteOvr { h, .. } => push_held(claims, mode, me, *h),
+        Call::XWriteSeq { h, .. } | Call::XLen { h } => push_held(claims, mode, me, *h),
+        Call::XReadPipe { h, .. } | Call::XRecvmsg { h } => push_held(claims, mode, me, *h),
+        Call::XSync { h, .. } | Call::XWritePipe { h, .. } => push_held(claims, mode, me, *h),
+        Call::XShutdown { h, .. } | Call::XSendmsg { h, .. } => push_held(claims, mode, me, *h),
+        Call::XThreadCreate { .. } => push_jobs(claims, mode),
+        Call::XSeek { .. } | Call::XClose { .. } | Call::XPipe | Call::XPair => {}
     }
 }

@@ -23,6 +23,7 @@ use xc_host::Host;
 
 impl<H: Host> Station<H> {
     // An idle job's next transaction begins, or the job ends.
+    #[inline(never)]
     fn idle(&mut self, at: usize) -> Turn
         requires { IsStage self.old.jobs at PlainStage.Idle }
         ensures same { KeepsOpening self.old self.new }
@@ -45,6 +46,7 @@ impl<H: Host> Station<H> {
     }
 
     // A running transaction does its next call, or enters its commit or its rollback.
+    #[inline(never)]
     fn running(&mut self, at: usize) -> Turn
         requires { IsStage self.old.jobs at PlainStage.Running }
         ensures same { KeepsOpening self.old self.new }
@@ -105,6 +107,7 @@ impl<H: Host> Station<H> {
     }
 
     // Does the next late call of a committing transaction.
+    #[inline(never)]
     fn committing(&mut self, at: usize) -> Turn
         requires { IsStage self.old.jobs at PlainStage.Committing }
         ensures same { KeepsOpening self.old self.new }
@@ -120,6 +123,7 @@ impl<H: Host> Station<H> {
 
     // The entry of a committed transaction, into the room that was made at its begin. Its claims end, and the jobs that it started are
     // live.
+    #[inline(never)]
     fn committed(&mut self, at: usize) -> Turn
         requires { IsStage self.old.jobs at PlainStage.Committed }
         ensures same { KeepsOpening self.old self.new }
@@ -139,6 +143,7 @@ impl<H: Host> Station<H> {
     }
 
     // Tries the newest record of an undoing transaction that has no end yet.
+    #[inline(never)]
     fn undoing(&mut self, at: usize) -> Turn
         requires { IsStage self.old.jobs at PlainStage.Undoing }
         ensures same { KeepsOpening self.old self.new }
@@ -155,6 +160,7 @@ impl<H: Host> Station<H> {
 
     // The entry of a transaction whose records have their ends, into the room that was made at its begin. Its
     // stores were never written; what it took is in front again, and its claims end.
+    #[inline(never)]
     fn undone(&mut self, at: usize) -> Turn
         requires { IsStage self.old.jobs at PlainStage.Undone }
         ensures same { KeepsOpening self.old self.new }
@@ -173,6 +179,7 @@ impl<H: Host> Station<H> {
     }
 
     // A job whose transaction was aborted for lack of memory ends.
+    #[inline(never)]
     fn starved(&mut self, at: usize) -> Turn
         requires { IsStage self.old.jobs at PlainStage.Starved }
         ensures same { KeepsOpening self.old self.new }

@@ -14,5 +14,20 @@ fn stores_wait_until_they_are_applied(rt: HostRuntime) -> Result<(), Fail> {
     writes.apply(&mut words);
     assert_eq!(rt; words.get(0), 3);
     assert_eq!(rt; words.get(1), 41);
+    writes.clear();
+    assert_eq!(rt; writes.load(&words, 0), 3);
+    Ok(())
+}
+
+#[test]
+fn the_last_store_counts_however_many_there_are(rt: HostRuntime) -> Result<(), Fail> {
+    let words = Words::new(rt.alloc(), &[0, 0, 0])?;
+    let mut writes = WriteSet::new(rt.alloc());
+    for value in 1..21 {
+        writes.store(value as usize % 3, value)?;
+    }
+    assert_eq!(rt; writes.load(&words, 0), 18);
+    assert_eq!(rt; writes.load(&words, 1), 19);
+    assert_eq!(rt; writes.load(&words, 2), 20);
     Ok(())
 }

@@ -58,36 +58,31 @@ impl Draft {
     fn open(&mut self, alloc: Global, rest: &[Token]) -> Result<(), Stop>
         ensures { Gives (λ _. self.new) result (called self.old (name_form named.Open (map lexeme rest.now))) }
     {
-        let (name, into) = name_into(rest)?;
+        let (name, into) = name_into(alloc, rest)?;
         let into = place_target(&mut self.names, &into)?;
-        let name = Boxed::new(alloc, name)?;
         self.keep_call(CallForm::Open { name, into })
     }
 
     fn create(&mut self, alloc: Global, rest: &[Token]) -> Result<(), Stop>
         ensures { Gives (λ _. self.new) result (called self.old (name_form named.Create (map lexeme rest.now))) }
     {
-        let (name, into) = name_into(rest)?;
+        let (name, into) = name_into(alloc, rest)?;
         let into = place_target(&mut self.names, &into)?;
-        let name = Boxed::new(alloc, name)?;
         self.keep_call(CallForm::Create { name, into })
     }
 
     fn rename(&mut self, alloc: Global, rest: &[Token]) -> Result<(), Stop>
         ensures { Gives (λ _. self.new) result (called self.old (name_form named.Rename (map lexeme rest.now))) }
     {
-        let (from, to) = two_names(rest)?;
-        let from = Boxed::new(alloc, from)?;
-        let to = Boxed::new(alloc, to)?;
+        let (from, to) = two_names(alloc, rest)?;
         self.keep_call(CallForm::Rename { from, to })
     }
 
     fn unlink(&mut self, alloc: Global, rest: &[Token]) -> Result<(), Stop>
         ensures { Gives (λ _. self.new) result (called self.old (name_form named.Unlink (map lexeme rest.now))) }
     {
-        let (name, slot) = name_and_slot(rest)?;
+        let (name, slot) = name_and_slot(alloc, rest)?;
         let slot = place_ending(&mut self.names, &slot)?;
-        let name = Boxed::new(alloc, name)?;
         self.keep_call(CallForm::Unlink { name, slot })
     }
 
@@ -103,14 +98,14 @@ impl Draft {
     fn overwrite(&mut self, alloc: Global, rest: &[Token]) -> Result<(), Stop>
         ensures { Gives (λ _. self.new) result (called self.old (handle_form handled.Overwrite (map lexeme rest.now))) }
     {
-        let (handle, data) = written(alloc, &mut self.names, rest)?;
+        let (handle, data) = written(alloc, &self.source, &mut self.names, rest)?;
         self.keep_call(CallForm::Overwrite { handle, data })
     }
 
     fn append(&mut self, alloc: Global, rest: &[Token]) -> Result<(), Stop>
         ensures { Gives (λ _. self.new) result (called self.old (handle_form handled.Append (map lexeme rest.now))) }
     {
-        let (handle, data) = written(alloc, &mut self.names, rest)?;
+        let (handle, data) = written(alloc, &self.source, &mut self.names, rest)?;
         self.keep_call(CallForm::Append { handle, data })
     }
 
@@ -169,7 +164,7 @@ impl Draft {
     fn write_pipe(&mut self, alloc: Global, rest: &[Token]) -> Result<(), Stop>
         ensures { Gives (λ _. self.new) result (called self.old (pipe_form piped.Write (map lexeme rest.now))) }
     {
-        let ((handle, data), slot) = written_with_slot(alloc, &mut self.names, rest)?;
+        let ((handle, data), slot) = written_with_slot(alloc, &self.source, &mut self.names, rest)?;
         self.keep_call(CallForm::WritePipe { handle, data, slot })
     }
 
@@ -202,7 +197,7 @@ impl Draft {
     fn send(&mut self, alloc: Global, rest: &[Token]) -> Result<(), Stop>
         ensures { Gives (λ _. self.new) result (called self.old (pair_form paired.Send (map lexeme rest.now))) }
     {
-        let ((handle, data), slot) = written_with_slot(alloc, &mut self.names, rest)?;
+        let ((handle, data), slot) = written_with_slot(alloc, &self.source, &mut self.names, rest)?;
         self.keep_call(CallForm::Send { handle, data, slot })
     }
 

@@ -1,4 +1,5 @@
 use Rattle.std.proofs.Common.{◌≡◌, ℕ, true, Some, refl, subst, sym, ap, ◌∙◌}
+use Rattle.std.specs.Prelude.{option_copied}
 use Rattle.xc_sentinel.specs.Seating.{seat_in}
 use Rattle.xc_model.specs.Setting.{setting}
 use Rattle.xc_model.specs.Moment.{TxView, JobView}
@@ -33,7 +34,8 @@ returns-in-Some-clause-row g c now at here journal =
     (sym c.revoke-answer.ensures.answer)
     (revoked_row model s shared now at (job_view job) (tx_view job.tx) here doing shared' (job_view (record job { tx = new }))
     (λ n ne. c.settle.ensures.others n (λ e. ne (e ∙ number)))
-    c.in-Some.mark (sym c.in-Some.is ∙ c.doomed.ensures) refl refl c.settle.ensures.claims c.settle.ensures.marks (tx_view new) c.revoke-answer.ensures.tx
+    c.in-Some.mark.now (sym (ap option_copied c.in-Some.is) ∙ c.doomed.ensures) refl refl
+    c.settle.ensures.claims c.settle.ensures.marks (tx_view new) c.revoke-answer.ensures.tx
     (sym (moves_on job was.tx job.place new was.doing c.revoke-answer.ensures.begun)) mine)
 
 pub returns-clause-row : goal.returns-clause-row
@@ -54,7 +56,7 @@ returns-clause-row g c now at here journal =
     ∙ sym c.count_wait.ensures.counted in
     subst (λ (j : JobView). IsRunningRow (mover s at now (job_view job)) (moved model shared' j now at) answer c.settle-2.new.sentinels) behind
     (gone_row model s c.args.shared.now now at (job_view job) (tx_view job.tx) here doing shared' mid gone answer
-    (sym c.in_default.is ∙ c.doomed.ensures)
+    (sym (ap option_copied c.in_default.is) ∙ c.doomed.ensures)
     (c.step_running-answer.ensures.row c.args.rules.now now at (job_view job) here doing refl (record { patience = refl; entered = journal }))
     refl refl c.settle-2.ensures.claims c.settle-2.ensures.marks c.step_running-answer.ensures.seats running (tx_view new)
     (counted_doing answer (with_tx (job_view job) c.step_running-answer.new.place (tx_view new)))

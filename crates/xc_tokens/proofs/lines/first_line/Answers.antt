@@ -1,16 +1,20 @@
-use Rattle.std.proofs.Common.{take, sym, ap, ◌∙◌, subst, take_all, arith, rules}
-use Rattle.std.specs.List.{list_all, prefix_len}
+use Rattle.std.proofs.Common.{take, sym, ap, ◌∙◌, subst, arith, rules}
+use Rattle.std.specs.List.{list_all}
 use Rattle.xc_tokens.specs.Lines.{is_line_byte}
 use Rattle.xc_tokens.proofs.LineCuts.{NoEnd, all_clean, clean_front, clean_at_end, clean_at_last}
 use Rattle.xc_tokens.proofs.lines.first_line.Goals as goal
 
-pub invariant_of-result : goal.invariant_of-result
-invariant_of-result c =
-    let bs = c.args.bytes.now in
-    sym (all_clean bs) ∙ ap (list_all is_line_byte) (take_all (prefix_len is_line_byte bs) bs (omega (arith, c.clean_len-n.ensures.value)))
-
 pub invariant_of-line : goal.invariant_of-line
-invariant_of-line c = sym (all_clean c.args.bytes.now) ∙ ap (λ n. list_all is_line_byte (take n c.args.bytes.now)) (sym c.clean_len-n.ensures.value)
+invariant_of-line c = (
+  omega (arith, c.clean_len-n.ensures.bound),
+  sym (all_clean c.args.bytes.now) ∙ ap (λ n. list_all is_line_byte (take n c.args.bytes.now)) (sym c.clean_len-n.ensures.value),
+)
+
+pub invariant_of-line-then-bytes-n-eq10 : goal.invariant_of-line-then-bytes-n-eq10
+invariant_of-line-then-bytes-n-eq10 c = (
+  omega (arith, c.clean_len-n.ensures.bound),
+  sym (all_clean c.args.bytes.now) ∙ ap (λ n. list_all is_line_byte (take n c.args.bytes.now)) (sym c.clean_len-n.ensures.value),
+)
 
 pub returns-then-n-bytes-clause-cut : goal.returns-then-n-bytes-clause-cut
 returns-then-n-bytes-clause-cut c =

@@ -1,0 +1,13 @@
+use Rattle.std.proofs.Common.{not, refl}
+use Rattle.std.proofs.lemmas.Simd.{zip2_of_maps, zip2_splat, length-chunk}
+use lib.Lanes.{chunk}
+use Rattle.xc_tokens.specs.Tokens.{is_blank}
+use Rattle.xc_tokens.proofs.Lanes.{mask_of}
+use Rattle.xc_tokens.proofs.front.other_mask.Goals as goal
+
+pub returns : goal.returns
+returns c =
+    let v = chunk 0 16 c.args.bytes.now in
+    let long = length-chunk 0 16 c.args.bytes.now c.requires in
+    mask_of (λ b. not (is_blank b)) _ c.args.bytes.now _ c.requires c.type_inv.bytes
+    (zip2_of_maps _ _ _ v (zip2_splat _ v 16 32 long) (zip2_splat _ v 16 9 long)) refl
