@@ -108,8 +108,9 @@ pub(crate) fn take_bytes(
     if bytes.len() <= n {
         return Ok(into_chunk(items.remove(at)));
     }
-    let front = bytes.part(0, n)?;
-    let rest = bytes.part(n, bytes.len())?;
+    let alloc = *items.allocator();
+    let front = bytes.part(alloc, 0, n)?;
+    let rest = bytes.part(alloc, n, bytes.len())?;
     items[at] = KeptItem::Bytes { pipe, bytes: rest };
     Ok(front)
 }

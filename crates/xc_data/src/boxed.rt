@@ -29,13 +29,6 @@ impl<T: Drop> Boxed<T> {
             value: Box::new(alloc, value)?,
         })
     }
-
-    /// Another value in the same place. It takes no memory.
-    pub fn set(&mut self, value: T)
-        ensures { self.new ≡ value }
-    {
-        *self.value = value;
-    }
 }
 
 impl<T> Boxed<T> {
@@ -44,11 +37,6 @@ impl<T> Boxed<T> {
         ensures { result.now ≡ self.now }
     {
         &self.value
-    }
-
-    /// Where its place was taken.
-    pub fn allocator(&self) -> Global {
-        *Box::allocator(&self.value)
     }
 }
 

@@ -1,14 +1,18 @@
-ghost use Rattle.std.specs.Prelude.{◌≡◌, ◌↔◌, [], IsTrue, ◌≤◌, ◌<◌, ◌^◌, List, ℕ, length, slice_range, IfOk};
+ghost use Rattle.std.specs.Prelude.{◌≡◌, ◌↔◌, [], IsTrue, ◌≤◌, ◌<◌, ◌^◌, List, ℕ, length, nat_eq, slice_range, IfOk};
+ghost use Rattle.std.specs.Cmp.{partial_equiv_from_equiv};
+ghost use Rattle.std.specs.Cmp.Lexicographic.{pointwise, nat_list_eq_equiv};
 
-use crate::{Boxed, NoMemory};
+use crate::NoMemory;
 use bytes::Bytes;
-use std::alloc::Global;
+use std::alloc::{AllocError, Global};
 use std::marker::Model;
+use std::sync::Arc;
 
-/// Bytes that may have several owners. Another owner shares them and copies none.
-#[derive(Clone, Debug, Drop, PartialEq)]
+/// Bytes that may have several owners. Another owner shares them: it copies none, and takes no memory but for a count.
+#[derive(Debug, Drop)]
 pub struct Chunk {
-    bytes: Boxed<Bytes>,
+    // One pointer, so that what carries bytes stays small.
+    bytes: Arc<Bytes>,
 }
 
 impl Model for Chunk {
@@ -16,9 +20,7 @@ impl Model for Chunk {
 
     ghost Value = { List ℕ };
 
-    ghost view = { λ a. a.bytes };
-
-    ghost inverse = { λ xs. record { bytes = xs } };
+    ghost view = { λ a. a.bytes.value };
 }
 
 impl Chunk {
@@ -28,7 +30,7 @@ impl Chunk {
     {
         let bytes = Bytes::copy_from_slice(alloc, bytes)?;
         Ok(Chunk {
-            bytes: Boxed::new(alloc, bytes)?,
+            bytes: Arc::new(alloc, bytes)?,
         })
     }
 
@@ -39,26 +41,19 @@ impl Chunk {
         let alloc = *bytes.allocator();
         let bytes = Bytes::from_vec(bytes)?;
         Ok(Chunk {
-            bytes: Boxed::new(alloc, bytes)?,
+            bytes: Arc::new(alloc, bytes)?,
         })
     }
 
-    /// Other bytes in the place of its own. It copies none, and takes no memory.
-    pub fn set(&mut self, bytes: Bytes)
-        ensures { self.new ≡ bytes }
-    {
-        self.bytes.set(bytes);
-    }
-
     /// A front of the bytes from a place on. It copies none.
-    pub fn part(&self, from: usize, to: usize) -> Result<Chunk, NoMemory>
+    pub fn part(&self, alloc: Global, from: usize, to: usize) -> Result<Chunk, NoMemory>
         requires order { from ≤ to }
         requires within { to ≤ length self.now }
         ensures { IfOk result (λ chunk. chunk ≡ slice_range self.now from to) }
     {
-        let part = self.bytes.value().slice(from..to)?;
+        let part = self.bytes.slice(from..to)?;
         Ok(Chunk {
-            bytes: Boxed::new(self.bytes.allocator(), part)?,
+            bytes: Arc::new(alloc, part)?,
         })
     }
 
@@ -67,21 +62,21 @@ impl Chunk {
         ensures value { result ≡ length self.now }
         ensures bound { result < 2 ^ 63 }
     {
-        self.bytes.value().len()
+        self.bytes.len()
     }
 
     /// Whether there is no byte.
     pub fn is_empty(&self) -> bool
         ensures { IsTrue result ↔ (self.now ≡ []) }
     {
-        self.bytes.value().is_empty()
+        self.bytes.is_empty()
     }
 
     /// The bytes, without a copy.
     pub fn as_slice(&self) -> &[u8]
         ensures { result.now ≡ self.now }
     {
-        self.bytes.value().as_slice()
+        self.bytes.as_slice()
     }
 
     /// Another owner of the same bytes.
@@ -89,5 +84,25 @@ impl Chunk {
         ensures { IfOk result (λ chunk. chunk ≡ self.now) }
     {
         Ok(self.clone()?)
+    }
+}
+
+impl Clone for Chunk {
+    ghost is_clone = { λ chunk copy. copy ≡ chunk };
+
+    fn clone(&self) -> Result<Self, AllocError> {
+        Ok(Chunk {
+            bytes: Arc::try_clone(&self.bytes)?,
+        })
+    }
+}
+
+impl PartialEq for Chunk {
+    ghost eq = { pointwise nat_eq };
+
+    ghost laws = { partial_equiv_from_equiv nat_list_eq_equiv };
+
+    fn eq(&self, other: &Self) -> bool {
+        self.as_slice() == other.as_slice()
     }
 }

@@ -6,6 +6,9 @@ use crate::NoMemory;
 use std::alloc::{AllocError, Global};
 use std::marker::Model;
 
+/// For how many more items a list keeps room when it is trimmed.
+const KEPT_ROOM: usize = 4;
+
 /// A list, which contracts see as one.
 #[derive(Debug, Drop)]
 pub struct Items<T> {
@@ -44,12 +47,14 @@ impl<T> Items<T> {
         self.items
     }
 
-    /// The room that is left is given back. It takes no memory.
+    /// Room for more than a few more items is given back: less isn't worth the move. It takes no memory.
     pub fn trimmed(self) -> Self
         ensures { result ≡ self }
     {
         let mut items = self.items;
-        items.shrink_to_fit();
+        if items.capacity() - items.len() > KEPT_ROOM {
+            items.shrink_to_fit();
+        }
         Items { items }
     }
 

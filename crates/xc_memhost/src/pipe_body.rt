@@ -58,15 +58,15 @@ impl PipeBody {
         }
     }
 
-    // The first n bytes leave, or all where those are fewer. None is copied, of those or of the rest.
+    // The first n bytes leave, or all where those are fewer. None of the rest is copied.
     pub(crate) fn take(&mut self, n: u32) -> Result<Chunk, NoMemory>
         ensures front { IfOk result (λ front. front ≡ take n self.old.held) }
         ensures rest { IfOk result (λ front. self.new ≡ record self.old { held = drop (length front) self.old.held }) }
         ensures err { OnErr result (self.new ≡ self.old) }
     {
         let count = (n as usize).min(self.held.len());
-        let mut front = Chunk::new(*self.held.allocator(), &[])?;
-        front.set(self.held.freeze_to(count)?);
+        let front = Chunk::new(*self.held.allocator(), &self.held.as_slice()[..count])?;
+        self.held.advance(count);
         Ok(front)
     }
 

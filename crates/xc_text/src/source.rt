@@ -27,7 +27,7 @@ impl Source {
     }
 
     // The bytes as a part of the text, if they stand before the last byte of the line, which closes a literal.
-    fn part(&self, bytes: &[u8]) -> Result<Option<Chunk>, NoMemory>
+    fn part(&self, alloc: Global, bytes: &[u8]) -> Result<Option<Chunk>, NoMemory>
         ensures { IfOk result (λ part. IfSome part (λ chunk. chunk ≡ bytes.now)) }
     {
         let text = self.text.as_slice();
@@ -39,7 +39,7 @@ impl Source {
         if &text[start..end] != bytes {
             return Ok(None);
         }
-        Ok(Some(self.text.part(start, end)?))
+        Ok(Some(self.text.part(alloc, start, end)?))
     }
 
     /// The bytes of a literal so many times.
@@ -47,7 +47,7 @@ impl Source {
         ensures { IfOk result (λ chunk. chunk ≡ repeat_of_list times bytes.now) }
     {
         if times == 1 {
-            if let Some(chunk) = self.part(bytes)? {
+            if let Some(chunk) = self.part(alloc, bytes)? {
                 return Ok(chunk);
             }
         }

@@ -30,7 +30,7 @@ impl World {
             return Ok(Reply::End);
         }
         let to = file.len().min(at as usize + n as usize);
-        let bytes = file.part(at as usize, to)?;
+        let bytes = file.part(self.alloc, at as usize, to)?;
         let at = at + bytes.len() as u32;
         me.set_place(h, Place::File { num, at });
         Ok(Reply::Got(bytes))

@@ -36,16 +36,16 @@ fn is_shared(whole: &Chunk) -> Result<bool, NoMemory> {
     Ok(whole.share()? == *whole)
 }
 
-fn is_cut(whole: &Chunk) -> Result<bool, NoMemory>
+fn is_cut(alloc: Global, whole: &Chunk) -> Result<bool, NoMemory>
     requires { 3 ≤ length whole.now }
 {
-    Ok(whole.part(1, 3)?.as_slice() == b"el".as_slice())
+    Ok(whole.part(alloc, 1, 3)?.as_slice() == b"el".as_slice())
 }
 
 #[test]
 fn bytes_are_shared_and_cut(rt: HostRuntime) -> Result<(), Fail> {
     let whole = Chunk::new(rt.alloc(), b"hello")?;
-    assert!(rt; is_shared(&whole)? && is_cut(&whole)?);
+    assert!(rt; is_shared(&whole)? && is_cut(rt.alloc(), &whole)?);
     Ok(())
 }
 
