@@ -1,6 +1,6 @@
 -- Bytes that are taken from a pipe, piece by piece, and what they lead to when they are given back.
-use Rattle.std.proofs.Common.{◌≡◌, ℕ, ◌≤◌, Bool, true, is_some, Option, None, Some, unwrap_or, List, [], ◌∷◌, ◌++◌, length}
-use Rattle.std.proofs.Common.{take, drop, refl, ap, sym, ◌∙◌, arith, append-nil, if◌then◌else◌}
+use Rattle.std.proofs.Common.{◌≡◌, ℕ, ◌≤◌, ◌<◌, Bool, true, is_some, Option, None, Some, unwrap_or, List, [], ◌∷◌, ◌++◌, length}
+use Rattle.std.proofs.Common.{zero, suc, take, drop, refl, ap, sym, ◌∙◌, arith, append-nil, if◌then◌else◌}
 use Rattle.std.proofs.Math.Dec.{eqb-suc-zero}
 use Rattle.std.proofs.lemmas.List.{take-append-drop}
 use Rattle.std.specs.FinMap as map
@@ -145,3 +145,9 @@ module _ (c d : Contents) (was kept new : List KeptItem) (pipe : Num) (front : L
   pub all_failed : (result : Result Took HostErr) → OnErr result (Leads pipe front [] from_kept) → OnErr result (Leads pipe [] [] from_all)
   all_failed (Ok found) leads = tt
   all_failed (Err e) leads = all_leads [] leads
+
+-- where a front of some bytes is empty, there are none
+pub none_taken : (n : ℕ) (bytes : List ℕ) → 0 < n → take n bytes ≡ [] → bytes ≡ []
+none_taken n [] some none = refl
+none_taken zero (b ∷ bytes) some none = absurd (omega (arith, some))
+none_taken (suc n) (b ∷ bytes) some none = absurd (cc none)

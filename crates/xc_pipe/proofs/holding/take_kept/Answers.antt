@@ -5,7 +5,8 @@ use Rattle.xc_buffers.specs.Changes.{FindsBytes}
 use Rattle.xc_buffers.specs.Views.{KeptView}
 use Rattle.xc_file.proofs.FileCalls.{always_err}
 use Rattle.xc_pipe.specs.Reading.{back}
-use Rattle.xc_pipe.proofs.Takings.{taken_joined}
+use Rattle.xc_buffers.specs.Items.{kept_bytes}
+use Rattle.xc_pipe.proofs.Takings.{none_taken, taken_joined}
 use Rattle.xc_pipe.proofs.holding.take_kept.Goals as goal
 
 pub returns-in_err-front-in-Ok-Some-clause-err : goal.returns-in_err-front-in-Ok-Some-clause-err
@@ -38,3 +39,12 @@ loop-alloc-preserved c =
       in_order = λ kept. c.join.ensures.in_order (c.take_front.ensures.in_order (was.in_order kept));
       room = omega (arith, was.room, c.take_front.ensures.spare, ap (λ (k : KeptView). k.spare) next.ensures.kept);
     }
+
+pub returns-in-Ok-None-clause-left : goal.returns-in-Ok-None-clause-left
+returns-in-Ok-None-clause-left c =
+    let finds = subst (λ (found : Option (List ℕ)). FindsBytes c.args.pipe
+    (c.args.n - c.len-in-loop-alloc.result) found c.loop-alloc.kept.items c.take_front.new.self.items)
+    c.in-Ok-None.field-0-is c.in-Ok-None.ensures.ok in
+    λ less. ap (kept_bytes c.args.pipe) finds.1
+    ∙ none_taken (c.args.n - c.len-in-loop-alloc.result) (kept_bytes c.args.pipe c.loop-alloc.kept.items)
+    (omega (arith, less, c.len-in-loop-alloc.ensures.value)) finds.0
