@@ -21,7 +21,7 @@ use crate::{Finish, LIMIT, Status};
 use std::alloc::Global;
 use std::sync::Wait;
 use std::thread::Threads;
-use xc_data::{NoMemory, Text};
+use xc_data::{Chunk, NoMemory, Text};
 use xc_edge::{ReadErr, Sink, Source, read_up_to};
 use xc_generator::{generate, summary};
 use xc_host::{Host, OpenErr};
@@ -230,14 +230,14 @@ fn of_script<H: Host + Send, P: Pace + Sync, R: AllocGlobal + Threads + Wait + S
     }
 }
 
-// The script of these bytes, which are given back before it runs.
+// The script of these bytes, which its literals share.
 fn script_in(alloc: Global, bytes: Vec<u8>) -> Result<Script, ParseErr>
     ensures ok { IfOk result (λ script. parse_of bytes.items ≡ Ok script) }
     ensures refused { (line : _) (why : _) → IsErrOf result (ParseErr.Refused line why) → parse_of bytes.items ≡ Err (line, why) }
     ensures script { IfOk result IsScript }
     ensures limits { IfOk result (λ script. KeepsLimits script.outline) }
 {
-    parse(alloc, bytes.as_slice())
+    parse(alloc, &Chunk::from_vec(bytes)?)
 }
 
 // The outcome of the bytes that were read.

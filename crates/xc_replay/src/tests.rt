@@ -184,7 +184,7 @@ impl Met {
         script: &str,
         tries: &str,
     ) -> Result<Option<u64>, ParseErr> {
-        let parsed = parse(rt.alloc(), script.as_bytes())?;
+        let parsed = parse(rt.alloc(), &Chunk::new(rt.alloc(), script.as_bytes())?)?;
         let Finish { end, .. } = run(rt, script, tries)?;
         let Some(end) = end else {
             return Ok(None);
@@ -258,7 +258,7 @@ fn load(alloc: Global, number: u64) -> Result<Entry, NoMemory> {
 }
 
 fn is_entered(alloc: Global, number: u64) -> Result<bool, ParseErr> {
-    let script = parse(alloc, PAY.as_bytes())?;
+    let script = parse(alloc, &Chunk::new(alloc, PAY.as_bytes())?)?;
     let replay = Replay::new(alloc, &script.outline)?;
     let entry = load(alloc, number)?;
     Ok(replay.enter(&entry)?.is_some())

@@ -1,4 +1,5 @@
 mod Digits
+pub mod SlotEnds
 pub mod Blocks
 pub mod Handles
 pub mod Settling

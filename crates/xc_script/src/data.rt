@@ -2,7 +2,7 @@ ghost use Rattle.std.specs.Prelude.{◌≡◌, ◌≤◌, ◌<◌, ◌++◌, len
 ghost use Rattle.std.specs.Fmt.{decimal};
 ghost use Rattle.xc_script.specs.Values.{item_value, data_of};
 
-use crate::terms::{bytes_in, value_of};
+use crate::terms::{bytes_in, chunk_in, value_of};
 use crate::value::Variables;
 use std::alloc::Global;
 use xc_data::{Chunk, MOST_CALL_BYTES, NoMemory};
@@ -68,10 +68,24 @@ fn push_item(
     }
 }
 
-/// The items joined.
+// The bytes of a single literal, or of a single variable that has bytes.
+fn shared_in<'a>(variables: &'a Variables, items: &'a Data<Place>) -> Option<&'a Chunk>
+    ensures { IfSome result (λ bytes. bytes.now ≡ data_of variables.now items.now) }
+{
+    match items.as_slice() {
+        [Item::Literal(literal)] => Some(literal),
+        [Item::Bytes(at)] => chunk_in(variables, *at),
+        [] | [Item::Digits(_)] | [_, _, ..] => None,
+    }
+}
+
+/// The items joined. What is a single item is shared, and not copied.
 pub fn data_in(alloc: Global, variables: &Variables, items: &Data<Place>) -> Result<Chunk, NoMemory>
     ensures { IfOk result (λ bytes. bytes ≡ data_of variables.now items.now) }
 {
+    if let Some(bytes) = shared_in(variables, items) {
+        return bytes.share();
+    }
     let mut bytes = Vec::new(alloc);
     for item in items.as_slice() {
         push_item(alloc, variables, &mut bytes, item)?;

@@ -8,6 +8,10 @@ use xc_data::{Call, LateEnd, Reply};
 pub fn set_ends(variables: &mut Variables, calls: &[Call], replies: &[Reply], ends: &[LateEnd])
     ensures { variables.new ≡ with_ends variables.old (kept_of calls.now replies.now) ends.now }
 {
+    // Most transactions keep no call.
+    let [end, later @ ..] = ends else {
+        return;
+    };
     let [call, calls @ ..] = calls else {
         return;
     };
@@ -17,9 +21,6 @@ pub fn set_ends(variables: &mut Variables, calls: &[Call], replies: &[Reply], en
     if !reply.is_late() {
         return set_ends(variables, calls, replies, ends);
     }
-    let [end, ends @ ..] = ends else {
-        return;
-    };
     variables.end(call.slot(), *end);
-    set_ends(variables, calls, replies, ends);
+    set_ends(variables, calls, replies, later);
 }

@@ -1,16 +1,27 @@
-ghost use Rattle.std.specs.Prelude.{◌≡◌};
+ghost use Rattle.std.specs.Prelude.{◌≡◌, [], MatchOption};
 ghost use Rattle.xc_script.specs.Values.{bytes_value, handle_value, term_value, expression_value};
 
 use crate::value::{Value, Variables};
+use xc_data::Chunk;
 use xc_text::{Expression, Place, Term};
+
+/// The bytes of a variable that has some.
+pub fn chunk_in(variables: &Variables, at: Place) -> Option<&Chunk>
+    ensures { MatchOption result (bytes_value variables.now at ≡ []) (λ bytes. bytes.now ≡ bytes_value variables.now at) }
+{
+    match variables.get(at) {
+        Some(Value::Bytes(bytes)) => Some(bytes),
+        Some(Value::Number(_) | Value::Handle(_)) | None => None,
+    }
+}
 
 /// A variable without bytes counts as no bytes.
 pub fn bytes_in(variables: &Variables, at: Place) -> &[u8]
     ensures { result.now ≡ bytes_value variables.now at }
 {
-    match variables.get(at) {
-        Some(Value::Bytes(bytes)) => bytes.as_slice(),
-        Some(Value::Number(_) | Value::Handle(_)) | None => &[],
+    match chunk_in(variables, at) {
+        Some(bytes) => bytes.as_slice(),
+        None => &[],
     }
 }
 

@@ -26,14 +26,14 @@ fn close(draft: Draft, lines: u32) -> Result<Script, ParseErr>
     Ok(draft.into_script())
 }
 
-fn read_lines(alloc: Global, bytes: &[u8]) -> Result<Script, ParseErr>
-    requires { length bytes.now ≤ 1048576 }
-    ensures { Reads result (read_from 0 opening (lines_of bytes.now)) }
+fn read_lines(alloc: Global, text: &Chunk) -> Result<Script, ParseErr>
+    requires { length text.now ≤ 1048576 }
+    ensures { Reads result (read_from 0 opening (lines_of text.now)) }
 {
-    let mut draft = Draft::new(alloc, Chunk::new(alloc, bytes)?)?;
+    let mut draft = Draft::new(alloc, text.share()?)?;
     let mut tokens = Vec::new(alloc);
     let mut lines = 0;
-    let mut rest = bytes;
+    let mut rest = text.as_slice();
     while !rest.is_empty() {
         let (line, behind) = first_line(rest);
         lines += 1;
@@ -47,19 +47,20 @@ fn read_lines(alloc: Global, bytes: &[u8]) -> Result<Script, ParseErr>
     close(draft, lines)
 }
 
-/// Reads a script: what the grammar says of the bytes, or the first bad line with its first reason.
-pub fn parse(alloc: Global, bytes: &[u8]) -> Result<Script, ParseErr>
-    ensures ok { IfOk result (λ script. parse_of bytes.now ≡ Ok script) }
-    ensures refused { (line : _) (why : _) → IsErrOf result (ParseErr.Refused line why) → parse_of bytes.now ≡ Err (line, why) }
+/// Reads a script: what the grammar says of the text, or the first bad line with its first reason. Literals of the script share
+/// the text.
+pub fn parse(alloc: Global, text: &Chunk) -> Result<Script, ParseErr>
+    ensures ok { IfOk result (λ script. parse_of text.now ≡ Ok script) }
+    ensures refused { (line : _) (why : _) → IsErrOf result (ParseErr.Refused line why) → parse_of text.now ≡ Err (line, why) }
     ensures script { IfOk result IsScript }
     ensures limits { IfOk result (λ script. KeepsLimits script.outline) }
 {
-    if bytes.len() > MOST_SCRIPT_BYTES {
+    if text.len() > MOST_SCRIPT_BYTES {
         return Err(ParseErr::Refused {
             line: 0,
             why: Why::TooLong,
         });
     }
-    let script = read_lines(alloc, bytes)?;
+    let script = read_lines(alloc, text)?;
     Ok(script)
 }

@@ -1,5 +1,6 @@
 use std::alloc::Global;
 use std::test::Fail;
+use xc_data::Chunk;
 use xc_memhost::MemHost;
 use xc_model::{Phase, Rules};
 use xc_station::Station;
@@ -39,7 +40,7 @@ const RULES: Rules = Rules {
 
 // A station with this script, after the turns in which the first transaction of job 1 runs.
 fn first_ends(alloc: Global, script: &str) -> Result<Option<Station<MemHost>>, ParseErr> {
-    let script = parse(alloc, script.as_bytes())?;
+    let script = parse(alloc, &Chunk::new(alloc, script.as_bytes())?)?;
     let Ok(mut station) = Station::start(alloc, MemHost::new(alloc), script, RULES) else {
         return Ok(None);
     };

@@ -3,11 +3,13 @@ ghost use Rattle.std.specs.Prelude.{◌≡◌};
 use super::notes::Notes;
 use std::alloc::Global;
 use std::test::Fail;
+use xc_data::Chunk;
 use xc_model::Rules;
 use xc_turnstile::{Entered, Origin, Pass, Turnstile, enter_two};
 
 fn new_notes(alloc: Global) -> Result<Notes, Fail> {
-    let Ok(script) = xc_text::parse(alloc, b"job a\ntx\ncommit\nend\n") else {
+    let text = Chunk::new(alloc, b"job a\ntx\ncommit\nend\n")?;
+    let Ok(script) = xc_text::parse(alloc, &text) else {
         return Err("not parsed")?;
     };
     let rules = Rules {

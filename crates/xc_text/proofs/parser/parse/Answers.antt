@@ -3,7 +3,7 @@ use Rattle.xc_text.proofs.Keeping.{parsed, in_limits}
 use Rattle.xc_text.proofs.parser.parse.Goals as goal
 
 pub returns-clause-script : goal.returns-clause-script
-returns-clause-script c = parsed c.args.bytes.now c.in_ok-script.script (search rules)
+returns-clause-script c = parsed c.args.text.now c.in_ok-script.script (search rules)
 
 pub returns-clause-limits : goal.returns-clause-limits
-returns-clause-limits c = in_limits c.in_ok-script.script (parsed c.args.bytes.now c.in_ok-script.script (search rules))
+returns-clause-limits c = in_limits c.in_ok-script.script (parsed c.args.text.now c.in_ok-script.script (search rules))

@@ -8,7 +8,7 @@ use Rattle.xc_text.proofs.parser.read_lines.Given as goal
 abbrev pub invariant-loop-rest : goal.invariant-loop-rest
 invariant-loop-rest l =
     record {
-      same : read_from l.lines l.draft (lines_of l.rest) ≡ read_from 0 opening (lines_of l.bytes);
+      same : read_from l.lines l.draft (lines_of l.rest) ≡ read_from 0 opening (lines_of l.text);
       few : l.lines + length l.rest ≤ 1048576;
     }
 
