@@ -10,7 +10,7 @@ use Rattle.xc_data.specs.declared.claim.Mode.{Mode}
 use Rattle.xc_maps.proofs.Maps.{get-lookup}
 use Rattle.xc_wordlocks.specs.declared.key.Other.{Other}
 use Rattle.xc_wordlocks.specs.Keys.{holder_of, other_cmp, holder_cmp}
-use Rattle.xc_wordlocks.specs.Rows.{mode_among}
+use Rattle.xc_wordlocks.specs.Rows.{mode_among, with_mode}
 use Rattle.xc_wordlocks.specs.Hashed.{Row, is_other, AreApart, laid_out, others_of}
 use Rattle.xc_wordlocks.proofs.Orders.{other_total, other_exact, holder_total, holder_exact, same_other, others_apart}
 use Rattle.xc_wordlocks.proofs.Rows.{found_in, held_in, own, passed, two}
@@ -103,13 +103,21 @@ module _ (rows rows' : List Row) (t : map.FinMap holder_cmp Mode) (is : others_o
       by o n false e = ap (λ m. held_in m n) (changes o ∙ ap (λ b. cond b w (row_of rows o)) e)
 
   -- it gets a mode
-  pub put_mode : (tx : ℕ) (mode : Mode) → ((n : ℕ) → held_in w n ≡ cond (is_at (nat_cmp tx) n) (Some mode) (held_in (row_of rows k) n))
+  put_mode : (tx : ℕ) (mode : Mode) → ((n : ℕ) → held_in w n ≡ cond (is_at (nat_cmp tx) n) (Some mode) (held_in (row_of rows k) n))
       → others_of rows' ≡ map.insert t (holder_of k tx) mode
   put_mode tx mode at =
       seen_as rows' (map.insert t (holder_of k tx) mode) apart' (λ o n.
       one_changed rows rows' k tx w (Some mode) changes at o n
       ∙ ap (cond (eq_by_cmp holder_cmp (holder_of o n) (holder_of k tx)) (Some mode)) (got rows t is apart o n)
       ∙ sym (map.get-insert holder_total t (holder_of k tx) mode (holder_of o n)))
+
+  -- or the stronger one
+  pub put_raised : (tx : ℕ) (mode : Mode)
+      → ((n : ℕ) → held_in w n ≡ cond (is_at (nat_cmp tx) n) (Some (with_mode (held_in (row_of rows k) tx) mode)) (held_in (row_of rows k) n))
+      → others_of rows' ≡ map.insert t (holder_of k tx) (with_mode (map.get t (holder_of k tx)) mode)
+  put_raised tx mode at =
+      put_mode tx (with_mode (held_in (row_of rows k) tx) mode) at
+      ∙ ap (λ was. map.insert t (holder_of k tx) (with_mode was mode)) (got rows t is apart k tx)
 
   -- or has none any longer
   pub put_none : (tx : ℕ) → ((n : ℕ) → held_in w n ≡ cond (is_at (nat_cmp tx) n) None (held_in (row_of rows k) n))
@@ -124,7 +132,3 @@ module _ (rows rows' : List Row) (t : map.FinMap holder_cmp Mode) (is : others_o
   pub taken : (tx : ℕ) (was : List (ℕ × Mode)) → Some was ≡ row_of rows k
       → ((n : ℕ) → held_in w n ≡ cond (is_at (nat_cmp tx) n) None (mode_among was n)) → others_of rows' ≡ map.remove t (holder_of k tx)
   taken tx was there at = put_none tx (λ n. at n ∙ ap (λ m. cond (is_at (nat_cmp tx) n) None (held_in m n)) there)
-
--- a new row has its one holder
-pub new_row : (tx : ℕ) (mode : Mode) (n : ℕ) → mode_among ((tx, mode) ∷ []) n ≡ cond (is_at (nat_cmp tx) n) (Some mode) None
-new_row tx mode n = ap (λ b. cond b (Some mode) None) ((eq_by_cmp_equiv nat_cmp_total).symm n tx)

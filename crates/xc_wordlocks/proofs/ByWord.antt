@@ -14,7 +14,7 @@ use Rattle.std.proofs.lemmas.List.{set-get_or}
 use Rattle.xc_data.specs.declared.claim.Mode.{Mode}
 use Rattle.xc_maps.proofs.Maps.{get-lookup}
 use Rattle.xc_wordlocks.specs.Keys.{WordHolder, word_holder, word_holder_cmp}
-use Rattle.xc_wordlocks.specs.Rows.{mode_among, entries_at}
+use Rattle.xc_wordlocks.specs.Rows.{mode_among, with_mode, entries_at}
 use Rattle.xc_wordlocks.specs.Words.{entries_from, words_of}
 use Rattle.xc_wordlocks.proofs.Orders.{word_holder_total, word_holder_exact}
 use Rattle.xc_wordlocks.proofs.Rows.{found_in, held_in, own, passed}
@@ -121,12 +121,19 @@ module _ (ms : List (List (ℕ × Mode))) (t : map.FinMap word_holder_cmp Mode) 
       put_same e = ap (λ l. words_of (set ms i l)) (e ∙ read) ∙ ap words_of (set-get_or ms i m) ∙ is
 
       -- one that has a mode at a transaction
-      pub put_mode : (tx : ℕ) (mode : Mode) → ((n : ℕ) → mode_among k n ≡ cond (is_at (nat_cmp tx) n) (Some mode) (mode_among m n))
+      put_mode : (tx : ℕ) (mode : Mode) → ((n : ℕ) → mode_among k n ≡ cond (is_at (nat_cmp tx) n) (Some mode) (mode_among m n))
           → words_of (set ms i k) ≡ map.insert t (word_holder i tx) mode
       put_mode tx mode h =
           map.same_map word_holder_total word_holder_exact (words_of (set ms i k)) (map.insert (words_of ms) (word_holder i tx) mode)
           (λ q. changed ms i m k there tx (Some mode) h q ∙ sym (map.get-insert word_holder_total (words_of ms) (word_holder i tx) mode q))
           ∙ ap (λ s. map.insert s (word_holder i tx) mode) is
+
+      -- one that has the stronger mode there
+      pub put_raised : (tx : ℕ) (mode : Mode)
+          → ((n : ℕ) → mode_among k n ≡ cond (is_at (nat_cmp tx) n) (Some (with_mode (mode_among m tx) mode)) (mode_among m n))
+          → words_of (set ms i k) ≡ map.insert t (word_holder i tx) (with_mode (map.get t (word_holder i tx)) mode)
+      put_raised tx mode h =
+          put_mode tx (with_mode (mode_among m tx) mode) h ∙ ap (λ was. map.insert t (word_holder i tx) (with_mode was mode)) (sym (mode_there tx))
 
       -- one that has nothing at a transaction
       pub put_none : (tx : ℕ) → ((n : ℕ) → mode_among k n ≡ cond (is_at (nat_cmp tx) n) None (mode_among m n))

@@ -9,7 +9,8 @@ use Rattle.xc_data.specs.declared.object.Object.{Object}
 use Rattle.xc_data.specs.declared.claim.Mode.{Mode}
 use Rattle.xc_data.specs.declared.claim.Claim.{Claim}
 use Rattle.xc_data.specs.Claims.{is_object}
-use Rattle.xc_wordlocks.specs.Table.{has, Table, held_mode, set_mode, with_mode, claimed, KeepsOthers}
+use Rattle.xc_wordlocks.specs.Rows.{with_mode}
+use Rattle.xc_wordlocks.specs.Table.{has, Table, held_mode, set_mode, claimed, KeepsOthers}
 use Rattle.xc_data.proofs.Objects.{same_object, itself}
 use Rattle.xc_wordlocks.proofs.Modes.{mode_of-set, mode_of-set_other}
 
@@ -37,10 +38,10 @@ raised_by t tx c o true e = ap (λ (p : Object). Some (with_mode (held_mode t tx
 raised_by t tx c o false e = refl
 
 -- a claim on what is held gives it the stronger of both modes
-pub raised : (t : Table) (tx : ℕ) (c : Claim) (m : Mode) (o : Object) → m ≡ with_mode (held_mode t tx c.object) c.mode
-    → held_mode (set_mode t tx c.object (Some m)) tx o ≡ claimed (held_mode t tx o) (c ∷ []) o
-raised t tx c m o e =
-    mode_of-set t c.object o tx (Some m) ∙ ap (λ (x : Mode). cond (is_object c.object o) (Some x) (held_mode t tx o)) e
+pub raised : (t : Table) (tx : ℕ) (c : Claim) (o : Object)
+    → held_mode (set_mode t tx c.object (Some (with_mode (held_mode t tx c.object) c.mode))) tx o ≡ claimed (held_mode t tx o) (c ∷ []) o
+raised t tx c o =
+    mode_of-set t c.object o tx (Some (with_mode (held_mode t tx c.object) c.mode))
     ∙ raised_by t tx c o (is_object c.object o) refl ∙ sym (claimed_on (held_mode t tx o) c o (is_object c.object o) refl)
 
 -- what is held before a claim is held after it

@@ -8,7 +8,8 @@ use Rattle.xc_data.specs.declared.object.Object.{Object}
 use Rattle.xc_data.specs.declared.claim.Mode.{Mode}
 use Rattle.xc_data.specs.declared.claim.Claim.{Claim}
 use Rattle.xc_data.specs.Claims.{claim, is_object, stronger, merged, holding_one, holding, held_of, objects, AreOnceAtMost}
-use Rattle.xc_wordlocks.specs.Table.{has, with_mode, claimed, mode_in}
+use Rattle.xc_wordlocks.specs.Rows.{with_mode}
+use Rattle.xc_wordlocks.specs.Table.{has, claimed, mode_in}
 use Rattle.xc_data.proofs.Objects.{same_object, itself}
 use Rattle.xc_wordlocks.proofs.Modes.{none_there}
 use Rattle.xc_wordlocks.proofs.Claimed.{is_object-swap}

@@ -1,5 +1,5 @@
 -- What is found among the holders of objects that are laid out as entries of a map.
-use Rattle.std.proofs.Common.{◌≡◌, ◌≢◌, ℕ, Bool, true, false, cond, Option, Some, None, List, [], ◌∷◌, ◌++◌, refl, ap, sym, ◌∙◌}
+use Rattle.std.proofs.Common.{◌≡◌, ◌≢◌, ℕ, Bool, true, false, cond, Option, Some, None, unwrap_or, List, [], ◌∷◌, ◌++◌, refl, ap, sym, ◌∙◌}
 use Rattle.std.specs.declared.cmp.Ordering.{Ordering}
 use Rattle.std.specs.declared.cmp.Ordering.TheVariants.{Less, Equal, Greater}
 use Rattle.std.specs.Ordering.{nat_cmp, ordering_then, is_eq, eq_by_cmp}
@@ -16,6 +16,11 @@ use Rattle.xc_wordlocks.specs.Rows.{mode_among, entries_at}
 abbrev pub held_in : Option (List (ℕ × Mode)) → ℕ → Option Mode
 held_in None n = None
 held_in (Some m) n = mode_among m n
+
+-- where there are none, nobody is among them
+pub or_nobody : (row : Option (List (ℕ × Mode))) (n : ℕ) → mode_among (unwrap_or row []) n ≡ held_in row n
+or_nobody None n = refl
+or_nobody (Some m) n = refl
 
 module _ {K : Type 0} (R : K → K → Ordering) where
   -- by object, and then by transaction

@@ -9,7 +9,8 @@ use Rattle.xc_data.specs.declared.claim.Mode.TheVariants.{Shared, Exclusive}
 use Rattle.xc_data.specs.declared.claim.Claim.{Claim}
 use Rattle.xc_data.specs.Claims.{is_object, compatible, stronger}
 use Rattle.xc_wordlocks.specs.Met.{IsNotMet}
-use Rattle.xc_wordlocks.specs.Table.{Table, held_mode, with_mode, claimed, KeepsOthers, AreCompatible}
+use Rattle.xc_wordlocks.specs.Rows.{with_mode}
+use Rattle.xc_wordlocks.specs.Table.{Table, held_mode, claimed, KeepsOthers, AreCompatible}
 use Rattle.xc_data.proofs.Objects.{same_object}
 
 -- ---- modes

@@ -8,12 +8,13 @@ use Rattle.xc_data.specs.declared.object.Object.{Object}
 use Rattle.xc_data.specs.declared.claim.Mode.{Mode}
 use Rattle.xc_data.specs.declared.claim.Mode.TheVariants.{Shared}
 use Rattle.xc_data.specs.declared.claim.Claim.{Claim}
-use Rattle.xc_data.specs.Claims.{is_object, stronger}
+use Rattle.xc_data.specs.Claims.{is_object}
 use Rattle.xc_wordlocks.specs.declared.key.Kind.{Kind}
 use Rattle.xc_wordlocks.specs.declared.key.Kind.TheVariants as kind
 use Rattle.xc_wordlocks.specs.declared.holders.Holders.{Holders}
 use Rattle.xc_wordlocks.specs.Keys.{kind_of, holder_of, holder_cmp, word_holder, word_holder_cmp}
 use Rattle.xc_wordlocks.specs.Keys.{coded_holder, coded_word_holder, coded_mode}
+use Rattle.xc_wordlocks.specs.Rows.{with_mode}
 
 -- whether an object is in a list
 abbrev pub has : List Object → Object → Bool
@@ -52,11 +53,6 @@ set_at table n (kind.Other o) mode = record table { others = set_entry table.oth
 -- the table in which a transaction holds an object in a mode, or no longer
 abbrev pub set_mode : Table → ℕ → Object → Option Mode → Table
 set_mode table n o mode = set_at table n (kind_of o) mode
-
--- the mode of an object after a claim on it
-abbrev pub with_mode : Option Mode → Mode → Mode
-with_mode None mode = mode
-with_mode (Some was) mode = stronger was mode
 
 -- in which mode a transaction holds an object after claims, from the mode before them
 abbrev pub claimed : Option Mode → List Claim → Object → Option Mode

@@ -11,7 +11,7 @@ use std::sync::ledger::Ledger;
 use xc_data::{Mode, NoMemory, Object};
 
 /// Who holds which object, and in which mode: words by their places, all others by hash. Contracts see it by `held_mode`. It is looked
-/// up, put into and taken from, an object a call, and each call is a step.
+/// up, held in and taken from, an object a call, and each call is a step.
 #[derive(Drop)]
 pub struct Holders {
     words: Words,
@@ -20,7 +20,7 @@ pub struct Holders {
 
 impl Holders {
     ghost use Rattle.xc_wordlocks.specs.Table.{held_mode, set_mode};
-    ghost use Rattle.xc_wordlocks.specs.Rows.{mode_among};
+    ghost use Rattle.xc_wordlocks.specs.Rows.{mode_among, with_mode};
 
     /// Nobody holds anything. It takes no memory.
     pub fn new(alloc: Global) -> Self
@@ -57,35 +57,36 @@ impl Holders {
         }
     }
 
-    /// The transaction holds the object in this mode. Only a new holder can run out of memory.
-    pub fn put<L: Ledger>(
+    /// The transaction holds the object in this mode, or in the stronger one where it did already. Only a new holder can run out of
+    /// memory.
+    pub fn hold<L: Ledger>(
         &mut self,
         object: &Object,
         tx: u32,
         mode: Mode,
         steps: &mut Steps<L>,
     ) -> Result<(), NoMemory>
-        ensures ok { OnOk result (self.new ≡ set_mode self.old tx object.now (Some mode)) }
+        ensures ok { OnOk result (self.new ≡ set_mode self.old tx object.now (Some (with_mode (held_mode self.old tx object.now) mode))) }
         ensures err { OnErr result (self.new ≡ self.old) }
         ensures absent { OnErr result (held_mode self.old tx object.now ≡ None) }
         ensures cost { steps.new ≡ steps.old + 1 }
     {
         steps.tick();
         match object {
-            Object::Word(at) => self.words.insert(*at, tx, mode),
-            _ => self.put_by_kind(object, tx, mode),
+            Object::Word(at) => self.words.hold(*at, tx, mode),
+            _ => self.hold_by_kind(object, tx, mode),
         }
     }
 
     #[inline(never)]
-    fn put_by_kind(&mut self, object: &Object, tx: u32, mode: Mode) -> Result<(), NoMemory>
-        ensures ok { OnOk result (self.new ≡ set_mode self.old tx object.now (Some mode)) }
+    fn hold_by_kind(&mut self, object: &Object, tx: u32, mode: Mode) -> Result<(), NoMemory>
+        ensures ok { OnOk result (self.new ≡ set_mode self.old tx object.now (Some (with_mode (held_mode self.old tx object.now) mode))) }
         ensures err { OnErr result (self.new ≡ self.old) }
         ensures absent { OnErr result (held_mode self.old tx object.now ≡ None) }
     {
         match Kind::of(object) {
-            Kind::Word(at) => self.words.insert(at, tx, mode),
-            Kind::Other(object) => self.others.insert(object, tx, mode),
+            Kind::Word(at) => self.words.hold(at, tx, mode),
+            Kind::Other(object) => self.others.hold(object, tx, mode),
         }
     }
 

@@ -2,7 +2,7 @@ ghost use Rattle.std.specs.Prelude.{◌≡◌, ◌↔◌, ◌+◌, ℕ, [], ◌�
 ghost use Rattle.std.specs.Ordering.{nat_cmp};
 ghost use Rattle.std.specs.BTreeMap.{is_at};
 ghost use Rattle.xc_wordlocks.specs.First.{IsFirstFrom};
-ghost use Rattle.xc_wordlocks.specs.Rows.{mode_among};
+ghost use Rattle.xc_wordlocks.specs.Rows.{mode_among, with_mode};
 
 use std::alloc::Global;
 use std::collections::BTreeMap;
@@ -47,21 +47,28 @@ fn both(alloc: Global, one: (u32, Mode), two: (u32, Mode)) -> Result<BTreeMap<u3
     Ok(modes)
 }
 
+// A transaction holds the object too, or in the stronger mode.
+fn hold_among(modes: &mut BTreeMap<u32, Mode>, tx: u32, mode: Mode) -> Result<(), NoMemory>
+    ensures ok { OnOk result ((n : ℕ)
+        → mode_among modes.new.entries n
+        ≡ cond (is_at (nat_cmp tx) n) (Some (with_mode (mode_among modes.old.entries tx) mode)) (mode_among modes.old.entries n)) }
+    ensures err { OnErr result (modes.new.entries ≡ modes.old.entries) }
+    ensures absent { OnErr result (mode_among modes.old.entries tx ≡ None) }
+{
+    let mode = match modes.get(&tx) {
+        Some(held) => held.stronger(mode),
+        None => mode,
+    };
+    modes.insert(tx, mode)?;
+    Ok(())
+}
+
 impl ObjectHolders {
     /// No holder. It takes no memory.
     pub fn nobody() -> ObjectHolders
         ensures { result ≡ [] }
     {
         ObjectHolders { form: Form::Nobody }
-    }
-
-    /// One transaction alone. It takes no memory.
-    pub fn one(tx: u32, mode: Mode) -> ObjectHolders
-        ensures { result ≡ (tx, mode) ∷ [] }
-    {
-        ObjectHolders {
-            form: Form::One(tx, mode),
-        }
     }
 
     /// Whether nobody holds it.
@@ -86,21 +93,22 @@ impl ObjectHolders {
         }
     }
 
-    /// Only a new holder can run out of memory.
-    pub fn insert(&mut self, alloc: Global, tx: u32, mode: Mode) -> Result<(), NoMemory>
-        ensures ok { OnOk result ((n : ℕ) → mode_among self.new n ≡ cond (is_at (nat_cmp tx) n) (Some mode) (mode_among self.old n)) }
+    /// A transaction holds the object in this mode, or in the stronger one where it did already. Only a new holder can run out of
+    /// memory.
+    pub fn hold(&mut self, alloc: Global, tx: u32, mode: Mode) -> Result<(), NoMemory>
+        ensures ok { OnOk result ((n : ℕ)
+            → mode_among self.new n
+            ≡ cond (is_at (nat_cmp tx) n) (Some (with_mode (mode_among self.old tx) mode)) (mode_among self.old n)) }
         ensures err { OnErr result (self.new ≡ self.old) }
         ensures absent { OnErr result (mode_among self.old tx ≡ None) }
     {
         match &mut self.form {
             Form::Nobody => self.form = Form::One(tx, mode),
-            Form::One(holder, held) if *holder == tx => *held = mode,
+            Form::One(holder, held) if *holder == tx => *held = held.stronger(mode),
             Form::One(holder, held) => {
                 self.form = Form::Many(both(alloc, (*holder, *held), (tx, mode))?);
             }
-            Form::Many(modes) => {
-                modes.insert(tx, mode)?;
-            }
+            Form::Many(modes) => hold_among(modes, tx, mode)?,
         }
         Ok(())
     }

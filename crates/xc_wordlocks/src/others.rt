@@ -1,7 +1,7 @@
 ghost use Rattle.std.specs.Prelude.{◌≡◌, ℕ, None, IfSome, IfNone, OnOk, OnErr};
 ghost use Rattle.std.specs.FinMap as map;
 ghost use Rattle.xc_wordlocks.specs.Keys.{holder_of};
-ghost use Rattle.xc_wordlocks.specs.Rows.{mode_among};
+ghost use Rattle.xc_wordlocks.specs.Rows.{mode_among, with_mode};
 
 use crate::key::Other;
 use crate::object_holders::ObjectHolders;
@@ -52,19 +52,18 @@ impl Others {
         self.rows.get(&object)
     }
 
-    /// Only a new holder can run out of memory.
-    pub fn insert(&mut self, object: Other, tx: u32, mode: Mode) -> Result<(), NoMemory>
-        ensures ok { OnOk result (self.new ≡ map.insert self.old (holder_of object tx) mode) }
+    /// A transaction holds an object in this mode, or in the stronger one where it did already. Only a new holder can run out of memory.
+    pub fn hold(&mut self, object: Other, tx: u32, mode: Mode) -> Result<(), NoMemory>
+        ensures ok { OnOk result
+            (self.new ≡ map.insert self.old (holder_of object tx) (with_mode (map.get self.old (holder_of object tx)) mode)) }
         ensures err { OnErr result (self.new ≡ self.old) }
         ensures absent { OnErr result (map.get self.old (holder_of object tx) ≡ None) }
     {
-        if let Some(holders) = self.rows.get_mut(&object) {
-            return holders.insert(self.alloc, tx, mode);
-        }
-        match self.rows.insert(object, ObjectHolders::one(tx, mode)) {
-            Ok(_) => Ok(()),
-            Err(_) => Err(NoMemory),
-        }
+        let Ok(row) = self.rows.entry(object) else {
+            return Err(NoMemory);
+        };
+        let holders = row.or_insert(ObjectHolders::nobody());
+        holders.hold(self.alloc, tx, mode)
     }
 
     /// Gives the mode that was there. It takes no memory.

@@ -29,7 +29,7 @@ fn place<L: Ledger>(
         return Ok(());
     }
     added.reserve(1)?;
-    holders.put(&claim.object, tx, Mode::Shared, steps)?;
+    holders.hold(&claim.object, tx, Mode::Shared, steps)?;
     added.push_reserved(claim.object);
     Ok(())
 }

@@ -4,7 +4,6 @@ ghost use Rattle.xc_data.specs.declared.claim.Claim.{Claim};
 ghost use Rattle.xc_wordlocks.specs.Table.{KeepsOthers, claimed, held_mode};
 
 use crate::holders::Holders;
-use crate::reading::mode_held;
 use crate::steps::Steps;
 use std::sync::ledger::Ledger;
 use xc_data::{Claim, NoMemory};
@@ -21,15 +20,7 @@ pub fn hold_object<L: Ledger>(
     ensures err { OnErr result (holders.new ≡ holders.old) }
     ensures absent { OnErr result (held_mode holders.old tx claim.now.object ≡ None) }
 {
-    let was = mode_held(holders, &claim.object, tx, steps);
-    let mode = match was {
-        Some(was) => was.stronger(claim.mode),
-        None => claim.mode,
-    };
-    if was != Some(mode) {
-        holders.put(&claim.object, tx, mode, steps)?;
-    }
-    Ok(())
+    holders.hold(&claim.object, tx, claim.mode, steps)
 }
 
 // The transaction holds what it holds already in the stronger of both modes. It takes no memory.

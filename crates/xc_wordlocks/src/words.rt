@@ -1,7 +1,7 @@
 ghost use Rattle.std.specs.Prelude.{◌≡◌, ◌<◌, ◌≤◌, ℕ, length, None, IfSome, IfNone, OnOk, OnErr};
 ghost use Rattle.std.specs.FinMap as map;
 ghost use Rattle.xc_wordlocks.specs.Keys.{word_holder};
-ghost use Rattle.xc_wordlocks.specs.Rows.{mode_among};
+ghost use Rattle.xc_wordlocks.specs.Rows.{mode_among, with_mode};
 ghost use Rattle.xc_wordlocks.specs.Words.{words_of};
 
 use crate::object_holders::ObjectHolders;
@@ -61,14 +61,15 @@ impl Words {
         self.holders.get(at as usize)
     }
 
-    /// Only a new holder can run out of memory.
-    pub fn insert(&mut self, at: u32, tx: u32, mode: Mode) -> Result<(), NoMemory>
-        ensures ok { OnOk result (self.new ≡ map.insert self.old (word_holder at tx) mode) }
+    /// A transaction holds a word in this mode, or in the stronger one where it did already. Only a new holder can run out of memory.
+    pub fn hold(&mut self, at: u32, tx: u32, mode: Mode) -> Result<(), NoMemory>
+        ensures ok { OnOk result
+            (self.new ≡ map.insert self.old (word_holder at tx) (with_mode (map.get self.old (word_holder at tx)) mode)) }
         ensures err { OnErr result (self.new ≡ self.old) }
         ensures absent { OnErr result (map.get self.old (word_holder at tx) ≡ None) }
     {
         grow(&mut self.holders, at as usize)?;
-        self.holders[at as usize].insert(self.alloc, tx, mode)
+        self.holders[at as usize].hold(self.alloc, tx, mode)
     }
 
     /// A transaction holds a word no longer. Gives the mode in which it did. It takes no memory.

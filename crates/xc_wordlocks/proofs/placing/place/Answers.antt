@@ -1,6 +1,8 @@
-use Rattle.std.proofs.Common.{◌≡◌, ◌∷◌, ◌++◌, [], None, is_some, ap, sym, ◌∙◌, subst}
+use Rattle.std.proofs.Common.{◌≡◌, ◌∷◌, ◌++◌, [], Some, None, is_some, ap, sym, ◌∙◌, subst}
 use Rattle.xc_wordlocks.specs.Placing.{Placed}
-use Rattle.xc_wordlocks.specs.Table.{Table, held_mode}
+use Rattle.xc_data.specs.declared.claim.Mode.TheVariants.{Shared}
+use Rattle.xc_wordlocks.specs.Rows.{with_mode}
+use Rattle.xc_wordlocks.specs.Table.{Table, held_mode, set_mode}
 use Rattle.xc_wordlocks.proofs.Modes.{none_there}
 use Rattle.xc_wordlocks.proofs.Places.{placed_new}
 use Rattle.xc_wordlocks.proofs.placing.place.Goals as goal
@@ -10,8 +12,9 @@ returns-clause-ok g c =
     let was = c.args.holders.now in
     let claim = c.args.claim.now in
     let lacks : held_mode was c.args.tx claim.object ≡ None =
-    none_there (held_mode was c.args.tx claim.object) (ap is_some (sym c.mode_held.ensures) ∙ sym c.is_some.ensures ∙ c.if-is_some.false) in (
+    none_there (held_mode was c.args.tx claim.object) (ap is_some (sym c.mode_held.ensures) ∙ sym c.is_some.ensures ∙ c.if-is_some.false) in
+    let new = c.in_ok-hold.ensures.ok ∙ ap (λ m. set_mode was c.args.tx claim.object (Some (with_mode m Shared))) lacks in (
       claim.object ∷ [],
       c.push_reserved.ensures.items ∙ ap (λ xs. xs ++ claim.object ∷ []) c.reserve.ensures.items,
-      subst (λ (t : Table). Placed c.args.tx (claim ∷ []) was t (claim.object ∷ [])) (sym c.in_ok-put.ensures.ok) (placed_new c.args.tx claim was lacks),
+      subst (λ (t : Table). Placed c.args.tx (claim ∷ []) was t (claim.object ∷ [])) (sym new) (placed_new c.args.tx claim was lacks),
     )
