@@ -1,9 +1,8 @@
 -- The first newer record in the way of an older one.
-use Rattle.std.proofs.Common.{◌≡◌, ℕ, ◌+◌, Bool, true, false, cond, Option, None, Some, List, reverse, [], ◌∷◌, ap, refl, sym, ◌∙◌, arith}
+use Rattle.std.proofs.Common.{◌≡◌, ℕ, ◌+◌, Bool, true, false, cond, Option, Some, List, [], ◌∷◌, ap, refl, sym, ◌∙◌, arith}
 use Rattle.std.specs.Prelude.{not}
 use Rattle.std.specs.List.{list_any, position, position_from}
 use Rattle.std.proofs.lemmas.Bool.{or_parts}
-use Rattle.std.proofs.lemmas.List.Sorted.{IsPermutation-reverse, list_any-IsPermutation}
 use Rattle.std.specs.Option.{option_map}
 use Rattle.std.proofs.lemmas.Iterator.Adapters.{position_from-zero}
 use Rattle.xc_data.specs.declared.undo.Undo.{Undo}
@@ -35,14 +34,9 @@ blocks_none u newer (Undone faults) none = refl
 blocks_none u newer (Failed done faults) none = cc none
 blocks_none u newer (Blocked by) none = cc none
 
-blocker_none : (from : ℕ) (u : Undo) (rs : List Ending) → list_any hinders rs ≡ false → blocker from u rs ≡ None
-blocker_none from u [] none = refl
-blocker_none from u ((newer, end) ∷ rs) none =
-    let both = or_parts (not (is_undone end)) (list_any hinders rs) none in
-    ap (λ b. cond b (Some from) (blocker (from + 1) u rs)) (blocks_none u newer end both.0) ∙ blocker_none (from + 1) u rs both.1
-
 -- where none failed or was blocked, nothing stands in the way
-pub unhindered : (from : ℕ) (u : Undo) (newest_first : List Ending) → list_any hinders newest_first ≡ false
-    → blocker from u [] ≡ blocker from u (reverse newest_first)
-unhindered from u newest_first none = sym (blocker_none from u (reverse newest_first)
-    (sym (list_any-IsPermutation hinders newest_first (reverse newest_first) (IsPermutation-reverse newest_first)) ∙ none))
+pub unhindered : (from : ℕ) (u : Undo) (rs : List Ending) → list_any hinders rs ≡ false → blocker from u [] ≡ blocker from u rs
+unhindered from u [] none = refl
+unhindered from u ((newer, end) ∷ rs) none =
+    let both = or_parts (not (is_undone end)) (list_any hinders rs) none in
+    unhindered (from + 1) u rs both.1 ∙ ap (λ b. cond b (Some from) (blocker (from + 1) u rs)) (sym (blocks_none u newer end both.0))

@@ -1,4 +1,5 @@
-pub mod Trimming
+pub mod Listing
+pub mod Keeping
 pub mod Blocking
 pub mod Trying
 pub mod Calling

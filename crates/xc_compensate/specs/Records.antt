@@ -1,7 +1,7 @@
 -- Stored compensations: the records that a transaction's calls left, and how undoing them ends.
 use Rattle.std.specs.Prelude.{◌≡◌, ◌≢◌, ℕ, ◌+◌, ◌≤◌, ◌<◌, ◌^◌, ◌==◌, Bool, true, false, Option, IsTrue}
-use Rattle.std.specs.Prelude.{List, [], ◌∷◌, ◌++◌, length, if◌then◌else◌}
-use Rattle.std.specs.List.{All}
+use Rattle.std.specs.Prelude.{List, [], ◌∷◌, ◌++◌, length, map, take, drop, if◌then◌else◌}
+use Rattle.std.specs.List.{All, list_any}
 use Rattle.std.specs.declared.option.Option.TheVariants.{None}
 use Rattle.xc_data.specs.Counts.{RisesBy}
 use Rattle.xc_data.specs.Faults.{end_faults}
@@ -13,6 +13,7 @@ use Rattle.xc_world.specs.Effects.{undone_to, IsCovered}
 use Rattle.xc_host.specs.Contents.{Contents, contents_of, world_of}
 use Rattle.xc_host.specs.Model.{HostModel}
 use Rattle.xc_host.specs.Uses.{Uses, BacksFor}
+use Rattle.xc_compensate.specs.Hindered.{hinders}
 
 -- what contracts see of a stack; together the two lists are in the order of the calls
 pub record Records : Type 0 where
@@ -40,11 +41,16 @@ is_overwrite (Moved from to) = false
 is_overwrite (NewPipe num) = false
 is_overwrite (NewPair num) = false
 
--- what the lists and the room after them keep: each record has room for its end, and numbers are a u32's
-pub record IsStack (records : List Undo) (newest : List Ending) (spare : ℕ) : Type 0 where
-  pub kinds : All IsRecord records
-  pub room : length records ≤ spare
-  pub few : length records + length newest < 2 ^ 32
+-- what contracts see of records in the order of the calls, of which the first so many have no end yet
+abbrev pub records_of : List Ending → ℕ → Records
+records_of records pending = record { pending = map (λ r. r.0) (take pending records); ended = drop pending records }
+
+-- what is kept of them: numbers are a u32's, and it is known whether one failed or was blocked
+pub record IsStack (records : List Ending) (pending : ℕ) (hindered : Bool) : Type 0 where
+  pub within : pending ≤ length records
+  pub few : length records < 2 ^ 32
+  pub kinds : All IsRecord (records_of records pending).pending
+  pub known : hindered ≡ list_any hinders (drop pending records)
 
 -- how many bytes a record covers
 abbrev pub covers : Undo → ℕ

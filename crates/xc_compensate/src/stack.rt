@@ -1,4 +1,4 @@
-ghost use Rattle.std.specs.Prelude.{◌≡◌, ◌≢◌, ◌==◌, ◌≤◌, ◌<◌, ◌+◌, ◌++◌, ◌∷◌, [], ℕ, List, length, reverse, OnOk, OnErr, IsTrue};
+ghost use Rattle.std.specs.Prelude.{◌≡◌, ◌≢◌, ◌==◌, ◌≤◌, ◌<◌, ◌+◌, ◌++◌, ◌∷◌, [], ℕ, List, length, OnOk, OnErr, IsTrue};
 ghost use Rattle.std.specs.List.{list_any};
 ghost use Rattle.xc_data.specs.declared.undo.Undo.{Undo};
 ghost use Rattle.xc_data.specs.declared.undo.UndoEnd.{UndoEnd};
@@ -13,7 +13,6 @@ use std::alloc::Global;
 use std::marker::Model;
 use xc_data::{Items, NoMemory, RecordList, Undo, UndoEnd};
 use xc_host::Host;
-use xc_roomy::Roomy;
 
 /// What one turn of an undoing did.
 #[derive(Clone, Copy, PartialEq)]
@@ -27,29 +26,28 @@ pub enum UndoTurn {
 
 /// The records of a transaction's calls, numbered from 1 in the order of the calls.
 ///
-/// Room for each record's end is made with the record, so that undoing takes no memory.
+/// Each record lies beside the place of its end, so that undoing takes no memory.
 #[derive(Drop)]
 pub struct Stack {
     alloc: Global,
-    pending: Vec<Undo>,
-    // the newest first
-    ended: Roomy<(Undo, UndoEnd)>,
-    // Whether one of those failed or was blocked.
+    records: Vec<(Undo, UndoEnd)>,
+    // How many have no end yet, and `NO_END` in its place: the oldest ones.
+    pending: usize,
+    // Whether one of the others failed or was blocked.
     hindered: bool,
 }
 
+// Stands where a record has no end yet.
+const NO_END: UndoEnd = UndoEnd::Undone { faults: 0 };
+
 impl Model for Stack {
-    ghost use Rattle.std.specs.Prelude.{◌≡◌, reverse};
-    ghost use Rattle.std.specs.List.{list_any};
-    ghost use Rattle.xc_compensate.specs.Hindered.{hinders};
-    ghost use Rattle.xc_compensate.specs.Records.{Records, IsStack};
+    ghost use Rattle.xc_compensate.specs.Records.{Records, IsStack, records_of};
 
     ghost Value = { Records };
 
-    ghost view = { λ a. record { pending = a.pending.items; ended = reverse a.ended.items } };
+    ghost view = { λ a. records_of a.records.items a.pending };
 
-    ghost invariant = { λ a. IsStack a.pending.items a.ended.items a.ended.spare
-        × (a.hindered ≡ list_any hinders a.ended.items) };
+    ghost invariant = { λ a. IsStack a.records.items a.pending a.hindered };
 }
 
 // The record, covering its first n bytes.
@@ -74,13 +72,13 @@ fn turn_of(end: UndoEnd) -> UndoTurn
     }
 }
 
-// The records with an end among which one may stand in the way, the newest first: none, where none failed or was blocked.
-fn hindering(hindered: bool, newest_first: &[(Undo, UndoEnd)]) -> &[(Undo, UndoEnd)]
-    requires { hindered ≡ list_any hinders newest_first.now }
-    ensures few { length result.now ≤ length newest_first.now }
-    ensures way { (from : ℕ) (older : Undo) → blocker from older (reverse result.now) ≡ blocker from older (reverse newest_first.now) }
+// The records with an end among which one may stand in the way: none, where none failed or was blocked.
+fn hindering(hindered: bool, ended: &[(Undo, UndoEnd)]) -> &[(Undo, UndoEnd)]
+    requires { hindered ≡ list_any hinders ended.now }
+    ensures few { length result.now ≤ length ended.now }
+    ensures way { (from : ℕ) (older : Undo) → blocker from older result.now ≡ blocker from older ended.now }
 {
-    if hindered { newest_first } else { &[] }
+    if hindered { ended } else { &[] }
 }
 
 impl Stack {
@@ -90,8 +88,8 @@ impl Stack {
     {
         Stack {
             alloc,
-            pending: Vec::new(alloc),
-            ended: Roomy::new(alloc),
+            records: Vec::new(alloc),
+            pending: 0,
             hindered: false,
         }
     }
@@ -105,11 +103,12 @@ impl Stack {
         ensures err { OnErr result (self.new ≡ self.old) }
     {
         // never reached in memory
-        if self.pending.len() >= u32::MAX as usize {
+        if self.records.len() >= u32::MAX as usize {
             return Err(NoMemory);
         }
-        self.ended.reserve(self.pending.len() as u32 + 1)?;
-        Ok(self.pending.push(undo)?)
+        self.records.push((undo, NO_END))?;
+        self.pending = self.records.len();
+        Ok(())
     }
 
     /// The newest record covers its first n bytes alone; where n is 0 it goes. It takes no memory.
@@ -119,14 +118,13 @@ impl Stack {
         ensures { (older : List Undo) (u : Undo) → self.old.pending ≡ older ++ u ∷ []
             → self.new ≡ record self.old { pending = older ++ cut_to n u } }
     {
-        let Some(mut undo) = self.pending.pop() else {
-            return;
-        };
+        let newest = self.pending - 1;
         if n == 0 {
-            return;
+            self.records.remove(newest);
+            self.pending = newest;
+        } else {
+            cover(&mut self.records[newest].0, n);
         }
-        cover(&mut undo, n);
-        self.pending.push_reserved(undo);
     }
 
     /// Tries the newest record that has no end yet. It takes no memory.
@@ -141,14 +139,22 @@ impl Stack {
             → (t : IsTried H.model tries (record { host = host.old; undo = self.old }) (record { host = host.new; undo = self.new }))
             × (result ≡ turn_of t.end) }
     {
-        let Some(undo) = self.pending.pop() else {
+        let Some(newest) = self.pending.checked_sub(1) else {
             return UndoTurn::Ended;
         };
-        let number = self.pending.len() as u32 + 1;
-        let newer = hindering(self.hindered, self.ended.as_slice());
-        let end = try_one(self.alloc, host, number, &undo, newer, tries);
-        self.ended.enter((undo, end));
-        self.hindered = self.hindered || !is_undone(end);
+        let number = self.pending as u32;
+        let newer = hindering(self.hindered, &self.records[self.pending..]);
+        let end = try_one(
+            self.alloc,
+            host,
+            number,
+            &self.records[newest].0,
+            newer,
+            tries,
+        );
+        self.records[newest].1 = end;
+        self.pending = newest;
+        self.hindered = !is_undone(end) || self.hindered;
         turn_of(end)
     }
 
@@ -156,7 +162,7 @@ impl Stack {
     pub fn is_undone(&self) -> bool
         ensures { result ≡ (length self.now.pending == 0) }
     {
-        self.pending.is_empty()
+        self.pending == 0
     }
 
     /// Every record has its end. It takes no memory.
@@ -164,8 +170,6 @@ impl Stack {
         requires { self.pending ≡ [] }
         ensures { result ≡ self.ended }
     {
-        let mut records = self.ended.into_items().into_vec();
-        records.reverse();
-        Items::from_vec(records)
+        Items::from_vec(self.records).trimmed()
     }
 }

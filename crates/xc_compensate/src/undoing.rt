@@ -1,4 +1,4 @@
-ghost use Rattle.std.specs.Prelude.{◌≡◌, ◌≢◌, ◌≤◌, ◌<◌, ◌+◌, ◌^◌, ◌∷◌, [], ℕ, length, take, reverse, IsTrue};
+ghost use Rattle.std.specs.Prelude.{◌≡◌, ◌≢◌, ◌≤◌, ◌<◌, ◌+◌, ◌^◌, ◌∷◌, [], ℕ, length, take, IsTrue};
 ghost use Rattle.std.specs.declared.option.Option.TheVariants.{None};
 ghost use Rattle.std.specs.List.{list_any, position};
 ghost use Rattle.xc_data.specs.Counts.{RisesBy};
@@ -52,26 +52,18 @@ fn blocks(alloc: Global, older: &Undo, newer: &(Undo, UndoEnd)) -> bool
 }
 
 // How many records lie between an older one and the first that stands in its way.
-fn way(alloc: Global, older: &Undo, newest_first: &[(Undo, UndoEnd)]) -> Option<usize>
-    ensures { result ≡ position (blocks older.now) (reverse newest_first.now) }
+fn way(alloc: Global, older: &Undo, newer: &[(Undo, UndoEnd)]) -> Option<usize>
+    ensures { result ≡ position (blocks older.now) newer.now }
 {
-    newest_first
-        .iter()
-        .rev()
-        .position(|newer| blocks(alloc, older, newer))
+    newer.iter().position(|record| blocks(alloc, older, record))
 }
 
 // The smallest number of a newer record in the way of the one of this number.
-fn blocker(
-    alloc: Global,
-    number: u32,
-    older: &Undo,
-    newest_first: &[(Undo, UndoEnd)],
-) -> Option<u32>
-    requires { number + length newest_first.now < 2 ^ 32 }
-    ensures { result ≡ blocker (number + 1) older.now (reverse newest_first.now) }
+fn blocker(alloc: Global, number: u32, older: &Undo, newer: &[(Undo, UndoEnd)]) -> Option<u32>
+    requires { number + length newer.now < 2 ^ 32 }
+    ensures { result ≡ blocker (number + 1) older.now newer.now }
 {
-    match way(alloc, older, newest_first) {
+    match way(alloc, older, newer) {
         Some(between) => Some(number + 1 + between as u32),
         None => None,
     }
@@ -177,19 +169,19 @@ pub(crate) fn try_one<H: Host>(
     host: &mut H,
     number: u32,
     undo: &Undo,
-    newest_first: &[(Undo, UndoEnd)],
+    newer: &[(Undo, UndoEnd)],
     tries: u32,
 ) -> UndoEnd
-    requires few { number + length newest_first.now < 2 ^ 32 }
+    requires few { number + length newer.now < 2 ^ 32 }
     requires tries { 1 ≤ tries }
     requires record { IsRecord undo.now }
-    requires covered { IsTrue H.model.tells → blocker (number + 1) undo.now (reverse newest_first.now) ≡ None
+    requires covered { IsTrue H.model.tells → blocker (number + 1) undo.now newer.now ≡ None
         → IsCovered (world_of (H.model.contents host.old)) undo.now }
-    ensures legal { IsLegalEnd tries undo.now result (blocker (number + 1) undo.now (reverse newest_first.now)) }
+    ensures legal { IsLegalEnd tries undo.now result (blocker (number + 1) undo.now newer.now) }
     ensures undoes { Undoes H.model undo.now (record { old = host.old; new = host.new }) result }
-    ensures still { blocker (number + 1) undo.now (reverse newest_first.now) ≢ None → host.new ≡ host.old }
+    ensures still { blocker (number + 1) undo.now newer.now ≢ None → host.new ≡ host.old }
 {
-    match blocker(alloc, number, undo, newest_first) {
+    match blocker(alloc, number, undo, newer) {
         Some(by) => UndoEnd::Blocked { by },
         None => undo_one(host, undo, tries),
     }

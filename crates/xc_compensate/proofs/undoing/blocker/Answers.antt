@@ -1,9 +1,9 @@
-use Rattle.std.proofs.Common.{◌+◌, reverse}
+use Rattle.std.proofs.Common.{◌+◌}
 use Rattle.xc_compensate.proofs.Blocking.{blocker_is}
 use Rattle.xc_compensate.proofs.undoing.blocker.Goals as goal
 
 pub returns-in-Some : goal.returns-in-Some
-returns-in-Some c = blocker_is (c.args.number + 1) c.args.older.now (reverse c.args.newest_first.now) _ c.in-Some.ensures
+returns-in-Some c = blocker_is (c.args.number + 1) c.args.older.now c.args.newer.now _ c.in-Some.ensures
 
 pub returns-in-None : goal.returns-in-None
-returns-in-None c = blocker_is (c.args.number + 1) c.args.older.now (reverse c.args.newest_first.now) _ c.in-None.ensures
+returns-in-None c = blocker_is (c.args.number + 1) c.args.older.now c.args.newer.now _ c.in-None.ensures

@@ -1,25 +1,40 @@
-use Rattle.std.proofs.Common.{◌≡◌, ◌∙◌, ℕ, ap, reverse}
-use Rattle.xc_world.specs.Ends.{blocker}
-use Rattle.xc_compensate.proofs.Trying.{covered_now, tried_now}
+use Rattle.std.proofs.Common.{◌≡◌, ◌<◌, ◌+◌, ◌∙◌, ℕ, ◌∷◌, ◌||◌, not, length, ap, arith, sym}
+use Rattle.xc_world.specs.Ends.{Ending, blocker, is_undone}
+use Rattle.xc_compensate.proofs.Listing.{of, older, newer, older_count, newest, ended, rest, same_read}
+use Rattle.xc_compensate.proofs.Keeping.{keeps_ended}
+use Rattle.xc_compensate.proofs.Trying.{tried_now}
 use Rattle.xc_compensate.proofs.stack.Stack.undo_next.Goals as goal
+use Rattle.xc_compensate.proofs.stack.Stack.undo_next.Goals.{then-not-is_undone, else-not-is_undone}
 
-pub try_one-end-requires-clause-covered : goal.try_one-end-requires-clause-covered
-try_one-end-requires-clause-covered g c =
-    let u = c.in-Some.undo in
-    let newer = c.hindering-newer.result.now in
-    let ended = c.self.inside.ended.items in
-    let way : (from : ℕ) → blocker from u (reverse newer) ≡ blocker from u (reverse ended) =
-    λ from. c.hindering-newer.ensures.way from u ∙ ap (λ rs. blocker from u (reverse rs)) c.as_slice.ensures in
-    λ t. covered_now (g.H.Host.model.contents c.args.host.now) c.args.self.now _ c.pop.new.self.items ended u c.len.result newer c.self.view_is
-    c.in-Some.ensures.items (c.len.ensures ∙ c.pop.new.self.ok.0) way (c.requires.covered t)
+pub invariant_of-self : goal.invariant_of-self
+invariant_of-self g c =
+    let stack = c.self.invariant in
+    let at = c.in-Some.newest in
+    let after : c.self.inside.pending ≡ at + 1 = omega (arith, c.in-Some.ensures) in
+    let there : at < length c.self.inside.records.items = omega (arith, after, stack.within) in
+    let hindered = c.self.inside.hindered in
+    let next : c.if-not-is_undone.self ≡ (not (is_undone c.try_one-end.result) || hindered) = elim c.if-not-is_undone.branch [
+      | then-not-is_undone w ↦ w.self-is ∙ ap not w.if-not-is_undone.true
+          ∙ ap (λ b. b || hindered) (ap not (sym w.if-not-is_undone.true ∙ c.is_undone.ensures))
+      | else-not-is_undone w ↦ w.self-is ∙ ap (λ b. b || hindered) (ap not (sym w.if-not-is_undone.false ∙ c.is_undone.ensures))
+    ] in
+    keeps_ended _ at _ hindered c.index_mut.result.now there c.index_mut.ensures.value after stack (c.index_mut.result.now.0, c.try_one-end.result) _ next
 
 pub returns-clause-tried : goal.returns-clause-tried
 returns-clause-tried g c =
-    let u = c.in-Some.undo in
-    let newer = c.hindering-newer.result.now in
-    let ended = c.self.inside.ended.items in
-    let way : (from : ℕ) → blocker from u (reverse newer) ≡ blocker from u (reverse ended) =
-    λ from. c.hindering-newer.ensures.way from u ∙ ap (λ rs. blocker from u (reverse rs)) c.as_slice.ensures in
-    λ some. tried_now g.H.Host.model c.args.tries c.args.self.now _ c.pop.new.self.items ended _ _ _ u c.try_one-end.result _ c.len.result newer c.self.view_is
-    c.in-Some.ensures.items c.enter.ensures.items (c.len.ensures ∙ c.pop.new.self.ok.0) way c.try_one-end.ensures.legal c.try_one-end.ensures.undoes
-    c.try_one-end.ensures.still c.turn_of.ensures
+    let records = c.self.inside.records.items in
+    let at = c.in-Some.newest in
+    let r = c.index.result.now in
+    let end = c.try_one-end.result in
+    let tried = c.try_one-end.ensures in
+    let after : c.self.inside.pending ≡ at + 1 = omega (arith, c.in-Some.ensures) in
+    let there : at < length records = omega (arith, after, c.self.invariant.within) in
+    let view = sym (newest records at there r c.self.inside.pending c.index.ensures after) ∙ c.self.view_is in
+    let way : (from : ℕ) → blocker from r.0 c.hindering-newer.result.now ≡ blocker from r.0 (newer records at) =
+    λ from. c.hindering-newer.ensures.way from r.0 ∙ ap (blocker from r.0) (rest records c.deref.result.now at _ c.deref.ensures.value after) in
+    let same = same_read records at c.index_mut.result.now r there c.index_mut.ensures.value c.index.ensures in
+    let now = ended records at there (c.index_mut.result.now.0, end)
+    ∙ ap (λ (x : Ending). of (older records at) ((x.0, end) ∷ newer records at)) same in
+    λ some. tried_now c.args.self.now (older records at) (newer records at) c.hindering-newer.result.now r.0 c.self.inside.pending view
+    (after ∙ ap (λ k. k + 1) (sym (older_count records at there))) way
+    g.H.Host.model c.args.tries _ c.args.host.now _ end _ now tried.legal tried.undoes tried.still c.turn_of.ensures
