@@ -1,6 +1,7 @@
-ghost use Rattle.std.specs.Prelude.{◌≡◌, ◌++◌, ◌<◌, false, OnOk};
+ghost use Rattle.std.specs.Prelude.{◌≡◌, ◌++◌, ◌<◌, ◌≤◌, length, false, OnOk};
+ghost use Rattle.std.specs.List.{prefix_len};
 ghost use Rattle.std.specs.Fmt.{digit_glyph};
-ghost use Rattle.xc_print.specs.Bytes.{escaped_byte, escaped, bytes_text};
+ghost use Rattle.xc_print.specs.Bytes.{is_plain, escaped_byte, escaped, bytes_text};
 
 use crate::page::Page;
 use xc_data::NoMemory;
@@ -10,6 +11,28 @@ fn hex_digit(n: u8) -> u8
     ensures { result ≡ digit_glyph false n }
 {
     if n < 10 { b'0' + n } else { b'a' + (n - 10) }
+}
+
+// Whether a byte stands for itself between quotes.
+fn is_plain(b: u8) -> bool
+    ensures { result ≡ is_plain b }
+{
+    matches!(b, b' '..=b'~') && b != b'"' && b != b'\\'
+}
+
+// How many bytes in front stand for themselves.
+fn plain_len(bytes: &[u8]) -> usize
+    ensures value { result ≡ prefix_len is_plain bytes.now }
+    ensures bound { result ≤ length bytes.now }
+{
+    let mut n = 0;
+    while n < bytes.len() {
+        if !is_plain(bytes[n]) {
+            return n;
+        }
+        n += 1;
+    }
+    n
 }
 
 // A byte, or its escape.
@@ -26,13 +49,22 @@ fn push_escape(out: &mut Page, b: u8) -> Result<(), NoMemory>
 }
 
 /// Bytes between quotes.
+#[tactic(auto, using(crate::proofs::Runs::last_run, crate::proofs::Runs::next_run))]
 pub fn push_escaped(out: &mut Page, bytes: &[u8]) -> Result<(), NoMemory>
     ensures { OnOk result (out.new ≡ out.old ++ escaped bytes.now) }
 {
-    for b in bytes {
-        push_escape(out, *b)?;
+    let mut left = bytes;
+    'runs: loop {
+        let (plain, behind) = left.split_at(plain_len(left));
+        out.push(plain)?;
+        match behind.split_first() {
+            None => return Ok(()),
+            Some((b, further)) => {
+                push_escape(out, *b)?;
+                left = further;
+            }
+        }
     }
-    Ok(())
 }
 
 /// The bytes in quotes.

@@ -5,7 +5,7 @@ ghost use Rattle.xc_print.specs.Objects.{handle_text};
 ghost use Rattle.xc_print.specs.Calls.{slot_text, call_text};
 
 use crate::bytes::push_bytes;
-use crate::objects::push_handle;
+use crate::objects::push_handled;
 use crate::page::Page;
 use xc_data::{Boxed, Call, Chunk, Ident, NoMemory};
 
@@ -14,13 +14,6 @@ fn push_named(out: &mut Page, before: &str, name: &[u8]) -> Result<(), NoMemory>
 {
     out.text(before)?;
     out.push(name)
-}
-
-fn push_handled(out: &mut Page, before: &str, h: u16) -> Result<(), NoMemory>
-    ensures { OnOk result (out.new ≡ out.old ++ (before.now ++ handle_text h)) }
-{
-    out.text(before)?;
-    push_handle(out, h)
 }
 
 fn push_numbered(out: &mut Page, before: &str, h: u16, n: u64) -> Result<(), NoMemory>
@@ -84,48 +77,48 @@ fn push_written_late(
     push_slot(out, slot)
 }
 
-/// A call as its script word and its values, without the reply.
+/// A line's start: a call as its script word and its values, without the reply.
 pub fn push_call(out: &mut Page, call: &Call) -> Result<(), NoMemory>
-    ensures { OnOk result (out.new ≡ out.old ++ call_text call.now) }
+    ensures { OnOk result (out.new ≡ out.old ++ (codes "  " ++ call_text call.now)) }
 {
     match call {
-        Call::Load { at } => out.labelled("load ", *at),
+        Call::Load { at } => out.labelled("  load ", *at as u64),
         Call::Store { at, value } => {
-            out.labelled("store ", *at)?;
+            out.labelled("  store ", *at as u64)?;
             out.labelled(" ", *value)
         }
-        Call::XOpen { name } => push_named(out, "x_open ", name.value().as_slice()),
-        Call::XCreate { name } => push_named(out, "x_create ", name.value().as_slice()),
-        Call::XRead { h, n } => push_numbered(out, "x_read ", *h, *n),
-        Call::XWriteOvr { h, bytes } => push_written(out, "x_write_ovr ", *h, bytes),
-        Call::XWriteSeq { h, bytes } => push_written(out, "x_write_seq ", *h, bytes),
-        Call::XSeek { h, to } => push_numbered(out, "x_seek ", *h, *to),
-        Call::XLen { h } => push_handled(out, "x_len ", *h),
+        Call::XOpen { name } => push_named(out, "  x_open ", name.value().as_slice()),
+        Call::XCreate { name } => push_named(out, "  x_create ", name.value().as_slice()),
+        Call::XRead { h, n } => push_numbered(out, "  x_read ", *h, *n),
+        Call::XWriteOvr { h, bytes } => push_written(out, "  x_write_ovr ", *h, bytes),
+        Call::XWriteSeq { h, bytes } => push_written(out, "  x_write_seq ", *h, bytes),
+        Call::XSeek { h, to } => push_numbered(out, "  x_seek ", *h, *to),
+        Call::XLen { h } => push_handled(out, "  x_len ", *h),
         Call::XRename { from, to } => {
-            push_named(out, "x_rename ", from.value().as_slice())?;
+            push_named(out, "  x_rename ", from.value().as_slice())?;
             push_named(out, " ", to.value().as_slice())
         }
-        Call::XClose { h } => push_handled(out, "x_close ", *h),
-        Call::XPipe => out.text("x_pipe"),
-        Call::XReadPipe { h, n } => push_numbered(out, "x_read_pipe ", *h, *n),
-        Call::XPair => out.text("x_pair"),
-        Call::XRecvmsg { h } => push_handled(out, "x_recvmsg ", *h),
+        Call::XClose { h } => push_handled(out, "  x_close ", *h),
+        Call::XPipe => out.text("  x_pipe"),
+        Call::XReadPipe { h, n } => push_numbered(out, "  x_read_pipe ", *h, *n),
+        Call::XPair => out.text("  x_pair"),
+        Call::XRecvmsg { h } => push_handled(out, "  x_recvmsg ", *h),
         Call::XUnlink { name, slot } => push_named_late(
             out,
-            "x_unlink ",
+            "  x_unlink ",
             name.value().as_slice(),
             slot,
         ),
-        Call::XSync { h, slot } => push_handled_late(out, "x_sync ", *h, slot),
+        Call::XSync { h, slot } => push_handled_late(out, "  x_sync ", *h, slot),
         Call::XWritePipe { h, bytes, slot } => {
-            push_written_late(out, "x_write_pipe ", *h, bytes, slot)
+            push_written_late(out, "  x_write_pipe ", *h, bytes, slot)
         }
-        Call::XShutdown { h, slot } => push_handled_late(out, "x_shutdown ", *h, slot),
+        Call::XShutdown { h, slot } => push_handled_late(out, "  x_shutdown ", *h, slot),
         Call::XSendmsg { h, bytes, slot } => {
-            push_written_late(out, "x_sendmsg ", *h, bytes, slot)
+            push_written_late(out, "  x_sendmsg ", *h, bytes, slot)
         }
         Call::XThreadCreate { body, slot } => {
-            push_named_late(out, "x_thread_create ", body.value().as_slice(), slot)
+            push_named_late(out, "  x_thread_create ", body.value().as_slice(), slot)
         }
     }
 }

@@ -17,14 +17,14 @@ fn push_cause(out: &mut Page, cause: &Cause) -> Result<(), NoMemory>
         Cause::Conflict { object, holder, at } => {
             out.text("conflict ")?;
             push_object(out, object)?;
-            out.labelled(" holder t", *holder)?;
-            out.labelled(" at ", *at)
+            out.labelled(" holder t", *holder as u64)?;
+            out.labelled(" at ", *at as u64)
         }
         Cause::Revoked { object, by, at } => {
             out.text("revoked ")?;
             push_object(out, object)?;
-            out.labelled(" by t", *by)?;
-            out.labelled(" at ", *at)
+            out.labelled(" by t", *by as u64)?;
+            out.labelled(" at ", *at as u64)
         }
         Cause::NoMemory => out.text("no memory"),
     }
@@ -35,10 +35,10 @@ fn push_attempt(out: &mut Page, entry: &Entry) -> Result<(), NoMemory>
 {
     let (tx, job) = (entry.tx, entry.job);
     let (rank, began) = (entry.rank, entry.began);
-    out.labelled(" t", tx)?;
-    out.labelled(" job ", job)?;
-    out.labelled(" rank ", rank)?;
-    out.labelled(" began ", began)
+    out.labelled(" t", tx as u64)?;
+    out.labelled(" job ", job as u64)?;
+    out.labelled(" rank ", rank as u64)?;
+    out.labelled(" began ", began as u64)
 }
 
 fn push_word(out: &mut Page, outcome: &Outcome) -> Result<(), NoMemory>
@@ -74,9 +74,7 @@ fn push_head(out: &mut Page, entry: &Entry) -> Result<(), NoMemory>
 fn push_call_line(out: &mut Page, call: &Call, reply: &Reply) -> Result<(), NoMemory>
     ensures { OnOk result (out.new ≡ out.old ++ call_line call.now reply.now) }
 {
-    out.text("  ")?;
     push_call(out, call)?;
-    out.text(" = ")?;
     push_reply(out, reply)?;
     out.text("\n")
 }
@@ -96,7 +94,7 @@ fn push_calls(out: &mut Page, calls: &[Call], replies: &[Reply]) -> Result<(), N
 fn push_late(out: &mut Page, number: usize, end: LateEnd) -> Result<(), NoMemory>
     ensures { OnOk result (out.new ≡ out.old ++ late_line number end) }
 {
-    out.labelled("  late ", number)?;
+    out.labelled("  late ", number as u64)?;
     out.text(" = ")?;
     push_late_end(out, end)?;
     out.text("\n")

@@ -49,7 +49,7 @@ fn push_message(out: &mut Page, pair: Num, side: u8, bytes: &Chunk) -> Result<()
     ensures { OnOk result (out.new ≡ out.old ++ kept_line (Message pair side bytes.now)) }
 {
     push_labelled(out, "kept pair ", pair)?;
-    out.labelled(" side ", side)?;
+    out.labelled(" side ", side as u64)?;
     out.text(" ")?;
     push_bytes(out, bytes.as_slice())?;
     out.text("\n")

@@ -4,25 +4,35 @@ ghost use Rattle.xc_print.specs.Objects.{handle_text, num_text, object_text, mod
 use crate::page::Page;
 use xc_data::{Claim, Mode, NoMemory, Num, Object};
 
-/// `h` and the number; `h-` for handle 65,535, at which nothing is ever open.
-pub fn push_handle(out: &mut Page, h: u16) -> Result<(), NoMemory>
+// `h` and the number; `h-` for handle 65,535, at which nothing is ever open.
+fn push_handle(out: &mut Page, h: u16) -> Result<(), NoMemory>
     ensures { OnOk result (out.new ≡ out.old ++ handle_text h) }
 {
     if h == u16::MAX {
         return out.text("h-");
     }
-    out.labelled("h", h)
+    out.labelled("h", h as u64)
+}
+
+/// A handle after what stands before it.
+#[inline(always)]
+pub fn push_handled(out: &mut Page, before: &str, h: u16) -> Result<(), NoMemory>
+    ensures { OnOk result (out.new ≡ out.old ++ (before.now ++ handle_text h)) }
+{
+    out.text(before)?;
+    push_handle(out, h)
 }
 
 fn push_num(out: &mut Page, num: Num) -> Result<(), NoMemory>
     ensures { OnOk result (out.new ≡ out.old ++ num_text num) }
 {
     let Num { tx, k } = num;
-    out.number(tx)?;
-    out.labelled(".", k)
+    out.number(tx as u64)?;
+    out.labelled(".", k as u64)
 }
 
 /// A number after its label.
+#[inline(always)]
 pub fn push_labelled(out: &mut Page, label: &str, num: Num) -> Result<(), NoMemory>
     ensures { OnOk result (out.new ≡ out.old ++ (label.now ++ num_text num)) }
 {
@@ -35,7 +45,7 @@ pub fn push_object(out: &mut Page, object: &Object) -> Result<(), NoMemory>
     ensures { OnOk result (out.new ≡ out.old ++ object_text object.now) }
 {
     match object {
-        Object::Word(at) => out.labelled("word ", *at),
+        Object::Word(at) => out.labelled("word ", *at as u64),
         Object::Name(name) => {
             out.text("name ")?;
             out.push(name.as_slice())

@@ -1,10 +1,8 @@
-ghost use Rattle.std.specs.Prelude.{◌≡◌, ◌++◌, ◌∷◌, [], OnOk};
-ghost use Rattle.std.specs.Fmt.{AppendsText};
+ghost use Rattle.std.specs.Prelude.{◌≡◌, ◌<◌, ◌≤◌, ◌+◌, ◌/◌, ◌%◌, ◌++◌, ◌∷◌, [], OnOk, vec_len, vec_capacity};
+ghost use Rattle.std.specs.Fmt.{decimal};
 
 use itoa::{Buffer, Integer};
 use std::alloc::Global;
-use std::fmt::Display;
-use std::io::Write;
 use std::marker::Model;
 use xc_data::{NoMemory, Text};
 
@@ -40,6 +38,7 @@ impl Page {
     }
 
     /// These bytes, at the end of the page.
+    #[inline(always)]
     pub fn push(&mut self, bytes: &[u8]) -> Result<(), NoMemory>
         ensures { OnOk result (self.new ≡ self.old ++ bytes.now) }
     {
@@ -47,13 +46,15 @@ impl Page {
     }
 
     /// A byte, at the end of the page.
+    #[inline(always)]
     pub fn push_byte(&mut self, byte: u8) -> Result<(), NoMemory>
         ensures { OnOk result (self.new ≡ self.old ++ byte ∷ []) }
     {
         Ok(self.bytes.push(byte)?)
     }
 
-    /// This text, at the end of the page.
+    /// This text, at the end of the page. A constant one is written in place.
+    #[inline(always)]
     pub fn text(&mut self, text: &str) -> Result<(), NoMemory>
         ensures { OnOk result (self.new ≡ self.old ++ text.now) }
     {
@@ -61,7 +62,20 @@ impl Page {
     }
 
     /// A number in decimal digits, at the end of the page.
-    pub fn number<I: Integer>(&mut self, number: I) -> Result<(), NoMemory>
+    pub fn number(&mut self, number: u64) -> Result<(), NoMemory>
+        ensures { OnOk result (self.new ≡ self.old ++ decimal number) }
+    {
+        if number >= 10_000 {
+            return self.wide_number(number);
+        }
+        self.bytes.reserve(4)?;
+        put_number(&mut self.bytes, number);
+        Ok(())
+    }
+
+    /// A number of any width in decimal digits, at the end of the page. It is slower than `number`.
+    #[inline(never)]
+    pub fn wide_number<I: Integer>(&mut self, number: I) -> Result<(), NoMemory>
         ensures { OnOk result (self.new ≡ self.old ++ I.text number) }
     {
         let mut digits = Buffer::new();
@@ -69,18 +83,55 @@ impl Page {
     }
 
     /// A number after its label, at the end of the page.
-    pub fn labelled<I: Integer>(&mut self, label: &str, number: I) -> Result<(), NoMemory>
-        ensures { OnOk result (self.new ≡ self.old ++ (label.now ++ I.text number)) }
+    #[inline(always)]
+    pub fn labelled(&mut self, label: &str, number: u64) -> Result<(), NoMemory>
+        ensures { OnOk result (self.new ≡ self.old ++ (label.now ++ decimal number)) }
     {
         self.text(label)?;
         self.number(number)
     }
+}
 
-    // What `write!` calls. A vector refuses bytes for lack of memory alone.
-    /// What `write!` formats, at the end of the page. It is slower than `text` and `labelled`.
-    pub fn write_fmt<D: Display + Drop>(&mut self, text: D) -> Result<(), NoMemory>
-        ensures { OnOk result (AppendsText self.old self.new (D.output text)) }
-    {
-        self.bytes.write_fmt(text).map_err(|_| NoMemory)
+// A digit, where there is room for it.
+#[inline(always)]
+fn put_digit(bytes: &mut Vec<u8>, digit: u64)
+    requires { (digit < 10) × (vec_len bytes.old < vec_capacity bytes.old) }
+    ensures items { bytes.new.items ≡ bytes.old.items ++ (48 + digit) ∷ [] }
+    ensures len { vec_len bytes.new ≡ vec_len bytes.old + 1 }
+    ensures capacity { vec_capacity bytes.new ≡ vec_capacity bytes.old }
+{
+    bytes.push_reserved(b'0' + digit as u8);
+}
+
+// Two digits, where there is room for them.
+#[inline(always)]
+fn put_pair(bytes: &mut Vec<u8>, pair: u64)
+    requires { (pair < 100) × (vec_len bytes.old + 2 ≤ vec_capacity bytes.old) }
+    ensures items { bytes.new.items ≡ bytes.old.items ++ (48 + pair / 10) ∷ (48 + pair % 10) ∷ [] }
+    ensures len { vec_len bytes.new ≡ vec_len bytes.old + 2 }
+    ensures capacity { vec_capacity bytes.new ≡ vec_capacity bytes.old }
+{
+    put_digit(bytes, pair / 10);
+    put_digit(bytes, pair % 10);
+}
+
+// One to four digits, where there is room for four.
+#[inline(always)]
+#[tactic(auto, using(crate::proofs::Numbers::few_digits))]
+fn put_number(bytes: &mut Vec<u8>, number: u64)
+    requires { (number < 10000) × (vec_len bytes.old + 4 ≤ vec_capacity bytes.old) }
+    ensures { bytes.new.items ≡ bytes.old.items ++ decimal number }
+{
+    if number < 10 {
+        return put_digit(bytes, number);
     }
+    if number < 100 {
+        return put_pair(bytes, number);
+    }
+    if number < 1000 {
+        put_digit(bytes, number / 100);
+        return put_pair(bytes, number % 100);
+    }
+    put_pair(bytes, number / 100);
+    put_pair(bytes, number % 100);
 }

@@ -24,24 +24,24 @@ fn push_kind(out: &mut Page, undo: &Undo) -> Result<(), NoMemory>
 fn push_failed(out: &mut Page, done: u32, faults: u32) -> Result<(), NoMemory>
     ensures { OnOk result (out.new ≡ out.old ++ undo_end_text (UndoEnd.Failed done faults)) }
 {
-    out.labelled("failed restored ", done)?;
-    out.labelled(" faults ", faults)
+    out.labelled("failed restored ", done as u64)?;
+    out.labelled(" faults ", faults as u64)
 }
 
 fn push_undo_end(out: &mut Page, end: &UndoEnd) -> Result<(), NoMemory>
     ensures { OnOk result (out.new ≡ out.old ++ undo_end_text end.now) }
 {
     match end {
-        UndoEnd::Undone { faults } => out.labelled("done faults ", *faults),
+        UndoEnd::Undone { faults } => out.labelled("done faults ", *faults as u64),
         UndoEnd::Failed { done, faults } => push_failed(out, *done, *faults),
-        UndoEnd::Blocked { by } => out.labelled("blocked by ", *by),
+        UndoEnd::Blocked { by } => out.labelled("blocked by ", *by as u64),
     }
 }
 
 fn push_undo(out: &mut Page, number: usize, undo: &Undo, end: &UndoEnd) -> Result<(), NoMemory>
     ensures { OnOk result (out.new ≡ out.old ++ undo_line number (undo.now, end.now)) }
 {
-    out.labelled("  undo ", number)?;
+    out.labelled("  undo ", number as u64)?;
     out.text(" ")?;
     push_kind(out, undo)?;
     out.text(" ")?;
@@ -95,7 +95,7 @@ fn push_tail(out: &mut Page, file: Num, from: u32, bytes: &[u8]) -> Result<(), N
     ensures { OnOk result (out.new ≡ out.old ++ tail_text file from bytes.now) }
 {
     push_labelled(out, "tail file ", file)?;
-    out.labelled(" from ", from)?;
+    out.labelled(" from ", from as u64)?;
     out.text(" ")?;
     push_bytes(out, bytes)
 }

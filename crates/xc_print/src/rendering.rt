@@ -1,4 +1,5 @@
 ghost use Rattle.std.specs.Prelude.{◌≡◌, ◌++◌, ◌≤◌, length, IfOk, OnOk};
+ghost use Rattle.std.specs.Fmt.{decimal};
 ghost use Rattle.xc_print.specs.Text.{job_end_text, job_line, job_lines, word_line, word_lines, rendered};
 ghost use Rattle.xc_print.specs.Totals.{totals_line};
 
@@ -23,7 +24,7 @@ fn push_job_end(out: &mut Page, end: &JobEnd) -> Result<(), NoMemory>
 fn push_job(out: &mut Page, number: usize, job: &JobLine) -> Result<(), NoMemory>
     ensures { OnOk result (out.new ≡ out.old ++ job_line number job.now) }
 {
-    out.labelled("job ", number)?;
+    out.labelled("job ", number as u64)?;
     out.text(" ")?;
     out.push(job.block.as_slice())?;
     out.text(" ")?;
@@ -46,7 +47,7 @@ fn push_word(out: &mut Page, at: usize, value: u64) -> Result<(), NoMemory>
     if value == 0 {
         return Ok(());
     }
-    out.labelled("word ", at)?;
+    out.labelled("word ", at as u64)?;
     out.labelled(" ", value)?;
     out.text("\n")
 }
@@ -60,6 +61,13 @@ fn push_words(out: &mut Page, words: &[u64]) -> Result<(), NoMemory>
     Ok(())
 }
 
+fn push_wide(out: &mut Page, label: &str, number: u128) -> Result<(), NoMemory>
+    ensures { OnOk result (out.new ≡ out.old ++ (label.now ++ decimal number)) }
+{
+    out.text(label)?;
+    out.wide_number(number)
+}
+
 fn push_totals(out: &mut Page, totals: Totals) -> Result<(), NoMemory>
     ensures { OnOk result (out.new ≡ out.old ++ totals_line totals) }
 {
@@ -69,10 +77,10 @@ fn push_totals(out: &mut Page, totals: Totals) -> Result<(), NoMemory>
         faults,
         remains,
     } = totals;
-    out.labelled("total ", committed)?;
-    out.labelled(" committed, ", aborted)?;
-    out.labelled(" aborted, ", faults)?;
-    out.labelled(" faults, ", remains)?;
+    out.labelled("total ", committed as u64)?;
+    out.labelled(" committed, ", aborted as u64)?;
+    push_wide(out, " aborted, ", faults)?;
+    push_wide(out, " faults, ", remains)?;
     out.text(" remains\n")
 }
 

@@ -1,36 +1,38 @@
-ghost use Rattle.std.specs.Prelude.{◌≡◌, ◌++◌, OnOk};
+ghost use Rattle.std.specs.Prelude.{◌≡◌, ◌++◌, OnOk, codes};
 ghost use Rattle.xc_print.specs.Replies.{reply_text, late_end_text};
 
 use crate::bytes::push_bytes;
-use crate::objects::push_handle;
+use crate::objects::push_handled;
 use crate::page::Page;
 use xc_data::{LateEnd, NoMemory, Reply};
 
-/// A reply as a journal prints it after ` = `.
+/// A reply as a journal prints it, after ` = `.
 pub fn push_reply(out: &mut Page, reply: &Reply) -> Result<(), NoMemory>
-    ensures { OnOk result (out.new ≡ out.old ++ reply_text reply.now) }
+    ensures { OnOk result (out.new ≡ out.old ++ (codes " = " ++ reply_text reply.now)) }
 {
     match reply {
-        Reply::Number(n) => out.number(*n),
-        Reply::Got(bytes) => push_bytes(out, bytes.as_slice()),
-        Reply::Made(h) => push_handle(out, *h),
-        Reply::MadePair(h, g) => {
-            push_handle(out, *h)?;
-            out.text(" ")?;
-            push_handle(out, *g)
+        Reply::Number(n) => out.labelled(" = ", *n),
+        Reply::Got(bytes) => {
+            out.text(" = ")?;
+            push_bytes(out, bytes.as_slice())
         }
-        Reply::Done => out.text("done"),
-        Reply::End => out.text("end"),
-        Reply::Empty => out.text("empty"),
-        Reply::NoName => out.text("no name"),
-        Reply::Exists => out.text("exists"),
-        Reply::BadHandle => out.text("bad handle"),
-        Reply::PastEnd => out.text("past end"),
-        Reply::TooBig => out.text("too big"),
-        Reply::TooMuch => out.text("too much"),
-        Reply::BadWord => out.text("bad word"),
-        Reply::Fault(n) => out.labelled("fault ", *n),
-        Reply::Late => out.text("late"),
+        Reply::Made(h) => push_handled(out, " = ", *h),
+        Reply::MadePair(h, g) => {
+            push_handled(out, " = ", *h)?;
+            push_handled(out, " ", *g)
+        }
+        Reply::Done => out.text(" = done"),
+        Reply::End => out.text(" = end"),
+        Reply::Empty => out.text(" = empty"),
+        Reply::NoName => out.text(" = no name"),
+        Reply::Exists => out.text(" = exists"),
+        Reply::BadHandle => out.text(" = bad handle"),
+        Reply::PastEnd => out.text(" = past end"),
+        Reply::TooBig => out.text(" = too big"),
+        Reply::TooMuch => out.text(" = too much"),
+        Reply::BadWord => out.text(" = bad word"),
+        Reply::Fault(n) => out.labelled(" = fault ", *n as u64),
+        Reply::Late => out.text(" = late"),
     }
 }
 
@@ -40,11 +42,11 @@ pub fn push_late_end(out: &mut Page, end: LateEnd) -> Result<(), NoMemory>
 {
     match end {
         LateEnd::Done => out.text("done"),
-        LateEnd::Full(n) => out.labelled("full ", n),
+        LateEnd::Full(n) => out.labelled("full ", n as u64),
         LateEnd::Shut => out.text("shut"),
         LateEnd::NoName => out.text("no name"),
         LateEnd::NoScript => out.text("no script"),
-        LateEnd::Fault(n) => out.labelled("fault ", n),
-        LateEnd::NoMemory(n) => out.labelled("no memory ", n),
+        LateEnd::Fault(n) => out.labelled("fault ", n as u64),
+        LateEnd::NoMemory(n) => out.labelled("no memory ", n as u64),
     }
 }

@@ -13,9 +13,9 @@ returns c =
     let three = codes " aborted, " ++ decimal totals.faults in
     let four = codes " faults, " ++ decimal totals.remains in
     let end = codes " remains\n" in
-    let numbers : c.labelled-4.new.self ≡ out ++ one ++ two ++ three ++ four =
-    c.in_ok-labelled-4.ensures
-    ∙ ap (λ bs. bs ++ four) (c.in_ok-labelled-3.ensures
+    let numbers : c.push_wide-2.new.out ≡ out ++ one ++ two ++ three ++ four =
+    c.in_ok-push_wide-2.ensures
+    ∙ ap (λ bs. bs ++ four) (c.in_ok-push_wide.ensures
     ∙ ap (λ bs. bs ++ three) (c.in_ok-labelled-2.ensures
     ∙ ap (λ bs. bs ++ two) c.in_ok-labelled.ensures)) in
     let line = four_labelled out (codes "total ") (decimal totals.committed) (codes " committed, ") (decimal totals.aborted)
