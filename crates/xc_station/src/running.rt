@@ -74,7 +74,7 @@ struct Terms {
     patient: bool,
     // How long the journal is.
     at: u32,
-    // How many calls its transaction may have.
+    // For how many calls there is to be room: for as many as its transaction may have, before the first one.
     most: u32,
 }
 
@@ -256,6 +256,14 @@ fn count_wait(job: &mut Job, answer: &Turn)
     }
 }
 
+// How many calls its transaction may have, if it has done none.
+fn calls_ahead(job: &Job, script: &Script) -> u32 {
+    if !job.tx.calls.is_empty() {
+        return 0;
+    }
+    job.place.statements(script).min(MOST_CALLS) as u32
+}
+
 /// The turn of a job whose transaction runs: its next call, the entering of its commit, which writes its stores, or that
 /// of its rollback, as where it is marked. Where memory runs out it keeps what it claimed, and the record of what its call had done at
 /// the host. The journal has so many entries.
@@ -289,7 +297,7 @@ pub fn run<H: Host>(
     let terms = Terms {
         patient: job.busy < rules.patience,
         at: entered,
-        most: job.place.statements(script).min(MOST_CALLS) as u32,
+        most: calls_ahead(job, script),
     };
     let Job { place, tx, .. } = job;
     let answer = step_running(alloc, shared, script, terms, place, tx);
