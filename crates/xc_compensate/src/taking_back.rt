@@ -23,8 +23,8 @@ fn call_back<H: Host>(host: &mut H, undo: &Undo) -> Result<(), Fault>
 {
     match undo {
         Undo::Tail { file, from, .. } => host.cut(*file, *from),
-        Undo::Made { name, num } => host.uncreate(name, *num),
-        Undo::Moved { from, to } => host.name_back(from, to),
+        Undo::Made { name, num } => host.uncreate(name.value(), *num),
+        Undo::Moved { from, to } => host.name_back(from.value(), to.value()),
         Undo::NewPipe(num) => host.drop_pipe(*num),
         Undo::NewPair(num) => host.drop_pair(*num),
         Undo::Bytes { .. } => unreachable!(),

@@ -1,2 +1,3 @@
+mod Forever
 pub mod Lists
 pub mod Objects

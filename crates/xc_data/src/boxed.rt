@@ -7,8 +7,7 @@ use std::marker::Model;
 /// A value in a place of its own in memory, so that what names it stays small. Contracts see it as
 /// the value.
 ///
-/// A name has room for 64 bytes and an identifier for 32: unboxed, each would make every call and every
-/// statement as large as the largest.
+/// An identifier has room for 32 bytes: unboxed, it would make every call as large as the largest.
 #[derive(Debug, Drop)]
 pub struct Boxed<T> {
     value: Box<T>,

@@ -1,7 +1,7 @@
 ghost use Rattle.std.specs.Prelude.{◌≡◌};
 ghost use Rattle.xc_data.specs.Calls.{bytes_of, slot_of, is_late};
 
-use crate::{Boxed, Chunk, Ident, Name, Num, Object};
+use crate::{Boxed, Chunk, Ident, Num, Object, SharedName};
 
 /// A call as a transaction makes it. A handle is the number of a place of the job's; 65,535 stands
 /// for a variable that holds no handle.
@@ -15,10 +15,10 @@ pub enum Call {
         value: u64,
     },
     XOpen {
-        name: Boxed<Name>,
+        name: SharedName,
     },
     XCreate {
-        name: Boxed<Name>,
+        name: SharedName,
     },
     XRead {
         h: u16,
@@ -40,8 +40,8 @@ pub enum Call {
         h: u16,
     },
     XRename {
-        from: Boxed<Name>,
-        to: Boxed<Name>,
+        from: SharedName,
+        to: SharedName,
     },
     XClose {
         h: u16,
@@ -56,7 +56,7 @@ pub enum Call {
         h: u16,
     },
     XUnlink {
-        name: Boxed<Name>,
+        name: SharedName,
         slot: Option<Boxed<Ident>>,
     },
     XSync {
@@ -173,7 +173,7 @@ pub struct CallWithAnswer {
 /// A call that is done after the commit, on the object that was fixed when it was made.
 #[derive(Drop)]
 pub enum LateCall {
-    Unlink(Name),
+    Unlink(SharedName),
     Sync(Num),
     WritePipe(Num, Chunk),
     /// Of a pipe or a pair.

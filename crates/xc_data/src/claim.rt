@@ -32,13 +32,23 @@ impl Mode {
 }
 
 /// An object with the mode in which it is touched or held.
-#[derive(Clone, Copy, Debug, Default, PartialEq)]
+#[derive(Debug, Default, Drop, PartialEq)]
 pub struct Claim {
     pub object: Object,
     pub mode: Mode,
 }
 
 impl Claim {
+    /// The same claim. It takes no memory.
+    pub fn again(&self) -> Self
+        ensures { result ≡ self.now }
+    {
+        Claim {
+            object: self.object.again(),
+            mode: self.mode,
+        }
+    }
+
     /// This claim after a new one: of the same object it has the stronger mode of both, else it stays.
     pub fn merged(self, new: &Claim) -> Claim
         ensures { result ≡ merged new.now self }

@@ -27,7 +27,7 @@ pub type JobNumbers = Items<u32>;
 pub type Text = Items<u8>;
 
 /// Why a transaction was aborted. `at` is the length that the journal had then.
-#[derive(Clone, Copy, Debug, PartialEq)]
+#[derive(Debug, Drop, PartialEq)]
 pub enum Cause {
     /// The script said so.
     Asked,
@@ -47,7 +47,7 @@ pub enum Cause {
 }
 
 /// That a running transaction is to be revoked: an older one waits for what it holds.
-#[derive(Clone, Copy)]
+#[derive(Drop)]
 pub struct Mark {
     pub object: Object,
     /// The number of the older one.
@@ -114,7 +114,7 @@ pub struct Entry {
 }
 
 /// How a job ended.
-#[derive(Clone, Copy, Debug)]
+#[derive(Debug, Drop)]
 pub enum JobEnd {
     Done,
     /// After as many attempts at one transaction as are allowed, with the last one's cause.
@@ -124,7 +124,7 @@ pub enum JobEnd {
 }
 
 /// What a turn of a job answers.
-#[derive(Clone, Copy)]
+#[derive(Drop)]
 pub enum Turn {
     Went,
     /// The job waits for this object's holder.
@@ -134,7 +134,7 @@ pub enum Turn {
 }
 
 /// One event of the station.
-#[derive(Clone, Copy)]
+#[derive(Drop)]
 pub enum Event {
     /// A turn; no answer where the job wasn't live.
     Turned { job: u32, answer: Option<Turn> },
@@ -145,7 +145,7 @@ pub enum Event {
 }
 
 /// A job's block and end.
-#[derive(Clone, Copy, Debug)]
+#[derive(Debug, Drop)]
 pub struct JobLine {
     pub block: Ident,
     pub end: JobEnd,

@@ -53,7 +53,7 @@ impl Call {
             MatchOption found (late_call self.now me.now ≡ []) (λ late. late_call self.now me.now ≡ late ∷ [])) }
     {
         match self {
-            Call::XUnlink { name, .. } => Ok(Some(LateCall::Unlink(*name.value()))),
+            Call::XUnlink { name, .. } => Ok(Some(LateCall::Unlink(name.again()))),
             Call::XSync { h, .. } => Ok(sync_of(me.place(*h))),
             Call::XWritePipe { h, bytes, .. } => write_pipe_of(me.place(*h), bytes),
             Call::XShutdown { h, .. } => Ok(shutdown_of(me.place(*h))),

@@ -1,9 +1,10 @@
 //! Plain data of the runtime: names, objects, calls and replies, entries of the journal, prologues.
 //!
-//! Nothing here acts. Contracts see the list types as lists, a `Name`, an `Ident` and a `Chunk` as
-//! their bytes, a `Boxed` value as the value, and every other type as it stands.
+//! Nothing here acts. Contracts see the list types as lists, a `Name`, a `SharedName`, an `Ident` and
+//! a `Chunk` as their bytes, a `Boxed` value as the value, and every other type as it stands.
 #![tactic(auto)]
 
+mod again;
 mod boxed;
 mod call;
 mod chunk;
@@ -11,6 +12,7 @@ mod claim;
 mod entry;
 mod ident;
 mod items;
+mod lasting;
 mod late;
 mod limits;
 mod memory;
@@ -18,6 +20,7 @@ mod name;
 mod object;
 mod private;
 mod script;
+mod shared_name;
 mod undo;
 
 pub use boxed::Boxed;
@@ -39,4 +42,5 @@ pub use script::{
     CallNumbers, FaultLine, FaultList, IdentList, Kind, Opened, OpenedList, Outline, Prologue,
     WordList,
 };
+pub use shared_name::SharedName;
 pub use undo::{RecordList, Undo, UndoEnd};

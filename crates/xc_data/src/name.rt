@@ -90,7 +90,8 @@ impl Name {
 
     /// Its bytes, without the padding.
     pub fn as_slice(&self) -> &[u8]
-        ensures { result.now ≡ self.now }
+        ensures value { result.now ≡ self.now }
+        ensures name { IsTrue (is_name self.now) }
     {
         &self.bytes[..self.len as usize]
     }

@@ -1,7 +1,7 @@
 ghost use Rattle.std.specs.Prelude.{◌≡◌};
 ghost use Rattle.xc_data.specs.Remaining.{objects_of};
 
-use crate::{Chunk, Items, Name, Num, Object};
+use crate::{Chunk, Items, Num, Object, SharedName};
 use smallvec::SmallVec;
 use std::alloc::Global;
 
@@ -26,13 +26,13 @@ pub enum Undo {
     },
     /// A new file under a new name.
     Made {
-        name: Name,
+        name: SharedName,
         num: Num,
     },
     /// A file that went from one name to another.
     Moved {
-        from: Name,
-        to: Name,
+        from: SharedName,
+        to: SharedName,
     },
     NewPipe(Num),
     NewPair(Num),
@@ -63,12 +63,12 @@ impl Undo {
                 objects.push_reserved(Object::File(*file));
             }
             Undo::Made { name, num } => {
-                objects.push_reserved(Object::Name(*name));
+                objects.push_reserved(Object::Name(name.again()));
                 objects.push_reserved(Object::File(*num));
             }
             Undo::Moved { from, to } => {
-                objects.push_reserved(Object::Name(*from));
-                objects.push_reserved(Object::Name(*to));
+                objects.push_reserved(Object::Name(from.again()));
+                objects.push_reserved(Object::Name(to.again()));
             }
             Undo::NewPipe(num) => objects.push_reserved(Object::Pipe(*num)),
             Undo::NewPair(num) => objects.push_reserved(Object::Pair(*num)),

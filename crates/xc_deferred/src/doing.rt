@@ -12,21 +12,21 @@ ghost use Rattle.xc_deferred.specs.Queue.{is_late_fit};
 use crate::putting::write_pipe;
 use crate::sending::send;
 use xc_buffers::Kept;
-use xc_data::{LateCall, LateEnd, Name, Num, Object};
+use xc_data::{LateCall, LateEnd, Num, Object, SharedName};
 use xc_host::{Host, HostErr};
 
 // The host removes no name that is absent, so it is asked for the name first.
-fn unlink<H: Host>(host: &mut H, name: &Name) -> LateEnd
+fn unlink<H: Host>(host: &mut H, name: &SharedName) -> LateEnd
     ensures ends { EndsAt H.model (Unlink name.now) (record { old = host.old; new = host.new }) result }
     ensures keeps { IsTrue H.model.tells → KeepsData (H.model.contents host.old) (H.model.contents host.new) }
 {
-    match host.lookup(name) {
+    match host.lookup(name.value()) {
         Ok(Some(_)) => {}
         Ok(None) => return LateEnd::NoName,
         Err(HostErr::Fault) => return LateEnd::Fault(0),
         Err(HostErr::NoMemory) => return LateEnd::NoMemory(0),
     }
-    match host.unlink(name) {
+    match host.unlink(name.value()) {
         Ok(_) => LateEnd::Done,
         Err(_) => LateEnd::Fault(0),
     }

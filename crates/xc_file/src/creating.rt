@@ -7,7 +7,7 @@ ghost use Rattle.xc_file.specs.Calls.{IsFileCall, IsNewIn, PassedBy};
 ghost use Rattle.xc_file.specs.Naming.{CreatesOnce, IsAbsent, IsCreate, with_made};
 
 use xc_compensate::Stack;
-use xc_data::{MOST_MADE, Name, NoMemory, Num, Place, Private, Reply, Undo};
+use xc_data::{MOST_MADE, NoMemory, Num, Place, Private, Reply, SharedName, Undo};
 use xc_host::{Host, HostErr};
 
 // Makes a file under a name that is absent. The record of it is there before.
@@ -16,7 +16,7 @@ fn create_recorded<H: Host>(
     me: &Private,
     undo: &mut Stack,
     tx: u32,
-    name: &Name,
+    name: &SharedName,
     h: u16,
 ) -> Result<Reply, NoMemory>
     requires absent { IsTrue H.model.tells → IsAbsent (H.model.contents host.old) name.now }
@@ -29,8 +29,11 @@ fn create_recorded<H: Host>(
     ensures uses { Uses H.model (record { old = host.old; new = host.new }) (CreatesOnce result) }
 {
     let num = Num { tx, k: me.made };
-    undo.push(Undo::Made { name: *name, num })?;
-    let created = host.create(name, num);
+    undo.push(Undo::Made {
+        name: name.again(),
+        num,
+    })?;
+    let created = host.create(name.value(), num);
     if created.is_err() {
         undo.trim(0);
     }
@@ -47,7 +50,7 @@ fn create<H: Host>(
     me: &Private,
     undo: &mut Stack,
     tx: u32,
-    name: &Name,
+    name: &SharedName,
     h: u16,
 ) -> Result<Reply, NoMemory>
     requires new { IsTrue H.model.tells → IsNewIn (H.model.contents host.old) me.now tx }
@@ -58,7 +61,7 @@ fn create<H: Host>(
     }) result }
     ensures uses { Uses H.model (record { old = host.old; new = host.new }) (PassedBy (XCreate name.now) result) }
 {
-    match host.lookup(name) {
+    match host.lookup(name.value()) {
         Ok(None) => create_recorded(host, me, undo, tx, name, h),
         Ok(Some(_)) => Ok(Reply::Exists),
         Err(HostErr::Fault) => Ok(Reply::Fault(0)),
@@ -72,7 +75,7 @@ fn create_at<H: Host>(
     me: &mut Private,
     undo: &mut Stack,
     tx: u32,
-    name: &Name,
+    name: &SharedName,
     h: u16,
 ) -> Result<Reply, NoMemory>
     requires few { me.old.made < 16 }
@@ -103,7 +106,7 @@ pub fn x_create<H: Host>(
     me: &mut Private,
     undo: &mut Stack,
     tx: u32,
-    name: &Name,
+    name: &SharedName,
 ) -> Result<Reply, NoMemory>
     requires new { IsTrue H.model.tells → IsNewIn (H.model.contents host.old) me.old tx }
     requires none { undo.old.ended ≡ [] }

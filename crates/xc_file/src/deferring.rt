@@ -4,15 +4,15 @@ ghost use Rattle.xc_data.specs.declared.private.Private.{Private as PlainPrivate
 ghost use Rattle.xc_file.specs.Deferred.{IsDeferred};
 
 use crate::checks::file_at;
-use xc_data::{LateCall, Name, NoMemory, Private, Reply};
+use xc_data::{LateCall, NoMemory, Private, Reply, SharedName};
 use xc_deferred::Late;
 
 /// Keeps the removal of a name for the commit. Whether the name is there is seen then.
-pub fn x_unlink(late: &mut Late, name: &Name) -> Result<Reply, NoMemory>
+pub fn x_unlink(late: &mut Late, name: &SharedName) -> Result<Reply, NoMemory>
     ensures call { (me : PlainPrivate) (slot : Option (List ℕ)) → IfOk result (IsDeferred (XUnlink name.now slot) me late.old late.new) }
     ensures err { OnErr result (late.new ≡ late.old) }
 {
-    late.push(LateCall::Unlink(*name))?;
+    late.push(LateCall::Unlink(name.again()))?;
     Ok(Reply::Late)
 }
 

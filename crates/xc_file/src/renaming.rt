@@ -7,15 +7,15 @@ ghost use Rattle.xc_file.specs.Calls.{IsFileCall, PassedBy};
 ghost use Rattle.xc_file.specs.Naming.{IsAbsent, IsNamed, IsRename, RenamesOnce};
 
 use xc_compensate::Stack;
-use xc_data::{Name, NoMemory, Reply, Undo};
+use xc_data::{NoMemory, Reply, SharedName, Undo};
 use xc_host::{Host, HostErr};
 
 // Gives a file another name, which is absent. The record of it is there before.
 fn rename_recorded<H: Host>(
     host: &mut H,
     undo: &mut Stack,
-    from: &Name,
-    to: &Name,
+    from: &SharedName,
+    to: &SharedName,
 ) -> Result<Reply, NoMemory>
     requires there { IsTrue H.model.tells → IsNamed (H.model.contents host.old) from.now }
     requires absent { IsTrue H.model.tells → IsAbsent (H.model.contents host.old) to.now }
@@ -27,11 +27,11 @@ fn rename_recorded<H: Host>(
     }) result }
 {
     let record = Undo::Moved {
-        from: *from,
-        to: *to,
+        from: from.again(),
+        to: to.again(),
     };
     undo.push(record)?;
-    if host.rename(from, to).is_err() {
+    if host.rename(from.value(), to.value()).is_err() {
         undo.trim(0);
         return Ok(Reply::Fault(0));
     }
@@ -42,8 +42,8 @@ fn rename_recorded<H: Host>(
 fn rename<H: Host>(
     host: &mut H,
     undo: &mut Stack,
-    from: &Name,
-    to: &Name,
+    from: &SharedName,
+    to: &SharedName,
 ) -> Result<Reply, NoMemory>
     requires none { undo.old.ended ≡ [] }
     ensures uses { Uses H.model (record { old = host.old; new = host.new }) (PassedBy (XRename from.now to.now) result) }
@@ -52,13 +52,13 @@ fn rename<H: Host>(
       new = record { host = host.new; undo = undo.new };
     }) result }
 {
-    match host.lookup(from) {
+    match host.lookup(from.value()) {
         Ok(Some(_)) => {}
         Ok(None) => return Ok(Reply::NoName),
         Err(HostErr::Fault) => return Ok(Reply::Fault(0)),
         Err(HostErr::NoMemory) => return Err(NoMemory),
     }
-    match host.lookup(to) {
+    match host.lookup(to.value()) {
         Ok(None) => rename_recorded(host, undo, from, to),
         Ok(Some(_)) => Ok(Reply::Exists),
         Err(HostErr::Fault) => Ok(Reply::Fault(0)),
@@ -70,8 +70,8 @@ fn rename<H: Host>(
 pub fn x_rename<H: Host>(
     host: &mut H,
     undo: &mut Stack,
-    from: &Name,
-    to: &Name,
+    from: &SharedName,
+    to: &SharedName,
 ) -> Result<Reply, NoMemory>
     requires none { undo.old.ended ≡ [] }
     ensures call { (number : ℕ) (me : Private) → IsFileCall H.model (XRename from.now to.now)

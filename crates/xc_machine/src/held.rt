@@ -14,7 +14,7 @@ fn merge(held: &mut Vec<Claim>, claim: &Claim)
     ensures { held.new.items ≡ map (merged claim.now) held.old.items }
 {
     for h in held.iter_mut() {
-        *h = h.merged(claim);
+        *h = h.again().merged(claim);
     }
 }
 
@@ -25,7 +25,7 @@ fn hold_one(held: &mut Vec<Claim>, claim: &Claim) -> Result<(), NoMemory>
         merge(held, claim);
         return Ok(());
     }
-    held.push(*claim)?;
+    held.push(claim.again())?;
     Ok(())
 }
 

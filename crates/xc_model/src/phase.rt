@@ -1,3 +1,5 @@
+ghost use Rattle.std.specs.Prelude.{◌≡◌};
+
 use xc_data::Cause;
 
 /// What an active transaction does.
@@ -7,7 +9,7 @@ use xc_data::Cause;
 /// | Running | its stores wait; the job stands after its replies | the commit or abort asked, a conflict, lack of memory |
 /// | Committing | its stores are written | the Committed entry |
 /// | Undoing | its stores are dropped; its records are undone, the newest first | the Aborted entry |
-#[derive(Clone, Copy)]
+#[derive(Drop)]
 pub enum Phase {
     Running,
     Committing,
@@ -15,7 +17,7 @@ pub enum Phase {
 }
 
 /// Attempts at a job's next transaction that met a holder or were revoked.
-#[derive(Clone, Copy)]
+#[derive(Drop)]
 pub struct Attempts {
     /// The number of the first one, which is the transaction's rank.
     pub first: u32,
@@ -23,4 +25,17 @@ pub struct Attempts {
     pub failed: u32,
     /// Why the last one ended.
     pub last: Cause,
+}
+
+impl Phase {
+    /// The same phase. It takes no memory.
+    pub fn again(&self) -> Self
+        ensures { result ≡ self.now }
+    {
+        match self {
+            Phase::Running => Phase::Running,
+            Phase::Committing => Phase::Committing,
+            Phase::Undoing(cause) => Phase::Undoing(cause.again()),
+        }
+    }
 }

@@ -7,13 +7,20 @@ ghost use Rattle.xc_print.specs.Calls.{slot_text, call_text};
 use crate::bytes::push_bytes;
 use crate::objects::push_handled;
 use crate::page::Page;
-use xc_data::{Boxed, Call, Chunk, Ident, NoMemory};
+use xc_data::{Boxed, Call, Chunk, Ident, NoMemory, SharedName};
 
-fn push_named(out: &mut Page, before: &str, name: &[u8]) -> Result<(), NoMemory>
+fn push_named(out: &mut Page, before: &str, name: &SharedName) -> Result<(), NoMemory>
     ensures { OnOk result (out.new ≡ out.old ++ (before.now ++ name.now)) }
 {
     out.text(before)?;
-    out.push(name)
+    out.push(name.as_slice())
+}
+
+fn push_ident(out: &mut Page, before: &str, ident: &Boxed<Ident>) -> Result<(), NoMemory>
+    ensures { OnOk result (out.new ≡ out.old ++ (before.now ++ ident.now)) }
+{
+    out.text(before)?;
+    out.push(ident.value().as_slice())
 }
 
 fn push_numbered(out: &mut Page, before: &str, h: u16, n: u64) -> Result<(), NoMemory>
@@ -36,19 +43,31 @@ fn push_slot(out: &mut Page, slot: &Option<Boxed<Ident>>) -> Result<(), NoMemory
 {
     match slot {
         None => Ok(()),
-        Some(slot) => push_named(out, " slot ", slot.value().as_slice()),
+        Some(slot) => push_ident(out, " slot ", slot),
     }
 }
 
 fn push_named_late(
     out: &mut Page,
     before: &str,
-    name: &[u8],
+    name: &SharedName,
     slot: &Option<Boxed<Ident>>,
 ) -> Result<(), NoMemory>
     ensures { OnOk result (out.new ≡ out.old ++ (before.now ++ name.now ++ slot_text slot.now)) }
 {
     push_named(out, before, name)?;
+    push_slot(out, slot)
+}
+
+fn push_ident_late(
+    out: &mut Page,
+    before: &str,
+    ident: &Boxed<Ident>,
+    slot: &Option<Boxed<Ident>>,
+) -> Result<(), NoMemory>
+    ensures { OnOk result (out.new ≡ out.old ++ (before.now ++ ident.now ++ slot_text slot.now)) }
+{
+    push_ident(out, before, ident)?;
     push_slot(out, slot)
 }
 
@@ -87,28 +106,23 @@ pub fn push_call(out: &mut Page, call: &Call) -> Result<(), NoMemory>
             out.labelled("  store ", *at as u64)?;
             out.labelled(" ", *value)
         }
-        Call::XOpen { name } => push_named(out, "  x_open ", name.value().as_slice()),
-        Call::XCreate { name } => push_named(out, "  x_create ", name.value().as_slice()),
+        Call::XOpen { name } => push_named(out, "  x_open ", name),
+        Call::XCreate { name } => push_named(out, "  x_create ", name),
         Call::XRead { h, n } => push_numbered(out, "  x_read ", *h, *n),
         Call::XWriteOvr { h, bytes } => push_written(out, "  x_write_ovr ", *h, bytes),
         Call::XWriteSeq { h, bytes } => push_written(out, "  x_write_seq ", *h, bytes),
         Call::XSeek { h, to } => push_numbered(out, "  x_seek ", *h, *to),
         Call::XLen { h } => push_handled(out, "  x_len ", *h),
         Call::XRename { from, to } => {
-            push_named(out, "  x_rename ", from.value().as_slice())?;
-            push_named(out, " ", to.value().as_slice())
+            push_named(out, "  x_rename ", from)?;
+            push_named(out, " ", to)
         }
         Call::XClose { h } => push_handled(out, "  x_close ", *h),
         Call::XPipe => out.text("  x_pipe"),
         Call::XReadPipe { h, n } => push_numbered(out, "  x_read_pipe ", *h, *n),
         Call::XPair => out.text("  x_pair"),
         Call::XRecvmsg { h } => push_handled(out, "  x_recvmsg ", *h),
-        Call::XUnlink { name, slot } => push_named_late(
-            out,
-            "  x_unlink ",
-            name.value().as_slice(),
-            slot,
-        ),
+        Call::XUnlink { name, slot } => push_named_late(out, "  x_unlink ", name, slot),
         Call::XSync { h, slot } => push_handled_late(out, "  x_sync ", *h, slot),
         Call::XWritePipe { h, bytes, slot } => {
             push_written_late(out, "  x_write_pipe ", *h, bytes, slot)
@@ -118,7 +132,7 @@ pub fn push_call(out: &mut Page, call: &Call) -> Result<(), NoMemory>
             push_written_late(out, "  x_sendmsg ", *h, bytes, slot)
         }
         Call::XThreadCreate { body, slot } => {
-            push_named_late(out, "  x_thread_create ", body.value().as_slice(), slot)
+            push_ident_late(out, "  x_thread_create ", body, slot)
         }
     }
 }

@@ -137,8 +137,8 @@ fn push_effect(out: &mut Page, undo: &Undo, k: u32) -> Result<(), NoMemory>
             after,
             n,
         } => push_tail(out, *file, *from, covered(after, *n)),
-        Undo::Made { name, num } => push_made(out, name, *num),
-        Undo::Moved { from, to } => push_moved(out, from, to),
+        Undo::Made { name, num } => push_made(out, name.value(), *num),
+        Undo::Moved { from, to } => push_moved(out, from.value(), to.value()),
         Undo::NewPipe(num) => push_labelled(out, "pipe ", *num),
         Undo::NewPair(num) => push_labelled(out, "pair ", *num),
     }

@@ -167,9 +167,9 @@ fn form_ask(
     match form {
         CallForm::Load { at, .. } => Ok(Ask::Call(load(variables, *at))),
         CallForm::Store { at, value } => Ok(Ask::Call(store(variables, *at, *value))),
-        CallForm::Open { name, .. } => Ok(Ask::Call(open(alloc, name)?)),
-        CallForm::Create { name, .. } => Ok(Ask::Call(create(alloc, name)?)),
-        CallForm::Rename { from, to } => Ok(Ask::Call(rename(alloc, from, to)?)),
+        CallForm::Open { name, .. } => Ok(Ask::Call(open(name))),
+        CallForm::Create { name, .. } => Ok(Ask::Call(create(name))),
+        CallForm::Rename { from, to } => Ok(Ask::Call(rename(from, to))),
         CallForm::Read { handle, n, .. } => Ok(Ask::Call(read(variables, *handle, *n))),
         CallForm::Overwrite { handle, data } => overwrite(alloc, variables, stored, *handle, data),
         CallForm::Append { handle, data } => append(alloc, variables, stored, *handle, data),

@@ -7,7 +7,7 @@ ghost use Rattle.xc_script.specs.Values.{expression_value, handle_value, term_va
 use crate::terms::{expression_of, handle_in, value_of};
 use crate::value::Variables;
 use std::alloc::Global;
-use xc_data::{Boxed, Call, Ident, Name, NoMemory};
+use xc_data::{Boxed, Call, Ident, NoMemory, SharedName};
 use xc_text::{Expression, Place, Term};
 
 // The calls that carry no bytes, each from the words of its line.
@@ -28,27 +28,25 @@ pub fn store(variables: &Variables, at: Term<Place>, value: Expression<Place>) -
     }
 }
 
-pub fn open(alloc: Global, name: &Boxed<Name>) -> Result<Call, NoMemory>
-    ensures { IfOk result (λ call. call ≡ XOpen name.now) }
+pub fn open(name: &SharedName) -> Call
+    ensures { result ≡ XOpen name.now }
 {
-    let name = name.copied(alloc)?;
-    Ok(Call::XOpen { name })
+    Call::XOpen { name: name.again() }
 }
 
-pub fn create(alloc: Global, name: &Boxed<Name>) -> Result<Call, NoMemory>
-    ensures { IfOk result (λ call. call ≡ XCreate name.now) }
+pub fn create(name: &SharedName) -> Call
+    ensures { result ≡ XCreate name.now }
 {
-    let name = name.copied(alloc)?;
-    Ok(Call::XCreate { name })
+    Call::XCreate { name: name.again() }
 }
 
-pub fn rename(alloc: Global, from: &Boxed<Name>, to: &Boxed<Name>) -> Result<Call, NoMemory>
-    ensures { IfOk result (λ call. call ≡ XRename from.now to.now) }
+pub fn rename(from: &SharedName, to: &SharedName) -> Call
+    ensures { result ≡ XRename from.now to.now }
 {
-    Ok(Call::XRename {
-        from: from.copied(alloc)?,
-        to: to.copied(alloc)?,
-    })
+    Call::XRename {
+        from: from.again(),
+        to: to.again(),
+    }
 }
 
 pub fn read(variables: &Variables, handle: Place, n: Term<Place>) -> Call
@@ -102,13 +100,13 @@ pub fn close(variables: &Variables, handle: Place) -> Call
 pub fn unlink(
     alloc: Global,
     variables: &Variables,
-    name: &Boxed<Name>,
+    name: &SharedName,
     slot: Option<Place>,
 ) -> Result<Call, NoMemory>
     ensures { IfOk result (λ call. call ≡ XUnlink name.now (name_of_slot variables.now slot)) }
 {
     Ok(Call::XUnlink {
-        name: name.copied(alloc)?,
+        name: name.again(),
         slot: Boxed::new_optional(alloc, variables.slot_name(slot))?,
     })
 }

@@ -40,7 +40,7 @@ pub fn value_of(variables: &Variables, term: Term<Place>) -> u64
     ensures { result ≡ term_value variables.now term }
 {
     match term {
-        Term::Number(n) => n,
+        Term::Number(n) => n.number(),
         Term::Variable(at) => match variables.get(at) {
             Some(Value::Number(n)) => *n,
             Some(Value::Bytes(_) | Value::Handle(_)) | None => 0,

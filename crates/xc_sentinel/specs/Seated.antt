@@ -41,3 +41,7 @@ seat_by keys slots n = seat_at slots (map.get keys n)
 -- at each number's key is a seat of that number
 abbrev pub AreSeated : map.FinMap nat_cmp ℕ → Slab Slot → Type 0
 AreSeated keys slots = (n key : ℕ) → map.get keys n ≡ Some key → number_of (slot_at slots key) ≡ Some n
+
+-- no seat has a mark
+abbrev pub AreUnmarked : Slab Slot → Type 0
+AreUnmarked slots = (key : ℕ) (slot : Slot) → slot_at slots key ≡ Some slot → slot.seat.mark ≡ None

@@ -1,7 +1,9 @@
+ghost use Rattle.std.specs.Prelude.{◌≡◌};
+
 use xc_data::{Mark, Object};
 
 /// An active transaction: what others ask of it when they meet what it holds.
-#[derive(Clone, Copy)]
+#[derive(Drop)]
 pub struct Seat {
     /// The number of its first attempt: a smaller one is older.
     pub rank: u32,
@@ -12,14 +14,14 @@ pub struct Seat {
 }
 
 /// An active transaction with its number.
-#[derive(Clone, Copy)]
+#[derive(Drop)]
 pub struct Slot {
     pub tx: u32,
     pub seat: Seat,
 }
 
 /// What becomes of claims.
-#[derive(Clone, Copy)]
+#[derive(Drop)]
 pub enum Verdict {
     /// All is claimed.
     Granted,
@@ -29,4 +31,21 @@ pub enum Verdict {
     Conflict { object: Object, holder: u32 },
     /// No claim is met, but nothing is claimed.
     NoMemory,
+}
+
+impl Seat {
+    /// The same seat. It takes no memory.
+    pub fn again(&self) -> Self
+        ensures { result ≡ self.now }
+    {
+        let mark = match &self.mark {
+            Some(mark) => Some(mark.again()),
+            None => None,
+        };
+        Seat {
+            rank: self.rank,
+            running: self.running,
+            mark,
+        }
+    }
 }

@@ -11,10 +11,13 @@ use xc_data::{Mark, NoMemory, Object};
 pub struct Seats {
     slots: Slab<Slot>,
     keys: Keys,
+    // Whether a seat may have a mark: where none has, which is mostly so, no seat is looked up for its mark.
+    marked: bool,
 }
 
 impl Model for Seats {
-    ghost use Rattle.xc_sentinel.specs.Seated.{AreSeated, Seats as Table, coded_seats};
+    ghost use Rattle.std.specs.Prelude.{◌≡◌, false};
+    ghost use Rattle.xc_sentinel.specs.Seated.{AreSeated, AreUnmarked, Seats as Table, coded_seats};
 
     ghost Value = { Table };
 
@@ -22,12 +25,12 @@ impl Model for Seats {
 
     ghost view = { λ s. record { slots = s.slots; keys = s.keys } };
 
-    ghost invariant = { λ s. AreSeated s.keys s.slots };
+    ghost invariant = { λ s. AreSeated s.keys s.slots × (s.marked ≡ false → AreUnmarked s.slots) };
 }
 
 impl Seats {
     ghost use Rattle.std.specs.Prelude.{◌≡◌, ℕ, Some, None, OnOk, OnErr, IsSome, true, option_copied};
-    ghost use Rattle.xc_sentinel.specs.Asking.{changed, settled};
+    ghost use Rattle.xc_sentinel.specs.Asking.{changed, mark_of, settled};
     ghost use Rattle.xc_sentinel.specs.Seating.{KeepsSeats, SetsSeat, seat_in};
 
     /// No active transaction. It takes no memory.
@@ -37,6 +40,7 @@ impl Seats {
         Seats {
             slots: Slab::new(alloc),
             keys: Keys::new(alloc),
+            marked: false,
         }
     }
 
@@ -47,6 +51,26 @@ impl Seats {
         let key = self.keys.get(tx)?;
         let slot = self.slots.get(key)?;
         Some(&slot.seat)
+    }
+
+    /// The mark of an active transaction; `None` if it isn't active. It takes no memory.
+    #[inline(always)]
+    pub fn mark_of(&self, tx: u32) -> Option<&Mark>
+        ensures { option_copied result ≡ mark_of (seat_in self.now tx) }
+    {
+        if !self.marked {
+            return None;
+        }
+        self.find_mark(tx)
+    }
+
+    // The same, where a seat may have a mark. Apart, since mostly none has.
+    #[cold]
+    #[inline(never)]
+    fn find_mark(&self, tx: u32) -> Option<&Mark>
+        ensures { option_copied result ≡ mark_of (seat_in self.now tx) }
+    {
+        self.get(tx)?.mark.as_ref()
     }
 
     /// A transaction that isn't active becomes so: it runs, and has no mark.
@@ -77,6 +101,7 @@ impl Seats {
     {
         if let Some(key) = self.keys.get(tx) {
             if let Some(slot) = self.slots.get_mut(key) {
+                self.marked = self.marked || seat.mark.is_some();
                 slot.seat = seat;
             }
         }
@@ -99,6 +124,8 @@ impl Seats {
     {
         if let Some(key) = self.keys.remove(tx) {
             self.slots.try_remove(key);
+            // Where no seat is left, none has a mark.
+            self.marked = self.marked && !self.slots.is_empty();
         }
     }
 }

@@ -85,15 +85,14 @@ impl Sentinels {
                 let marked = Seat {
                     rank: seat.rank,
                     running: true,
-                    mark: Some(*mark),
+                    mark: Some(mark.again()),
                 };
                 self.seats.set(holder, marked);
             }
         }
     }
 
-    // What becomes of claims of which the first that is met is on this object. Apart, since most claims are granted, and objects are
-    // large.
+    // What becomes of claims of which the first that is met is on this object. Apart, since most claims are granted.
     #[cold]
     #[inline(never)]
     fn meet(&mut self, object: &Object, holder: u32, tx: u32, patient: bool, at: u32) -> Verdict
@@ -102,18 +101,18 @@ impl Sentinels {
     {
         if !patient || !self.is_younger(tx, holder) {
             return Verdict::Conflict {
-                object: *object,
+                object: object.again(),
                 holder,
             };
         }
         let mark = Mark {
-            object: *object,
+            object: object.again(),
             by: tx,
             at,
         };
         self.mark(holder, &mark);
         Verdict::Busy {
-            object: *object,
+            object: object.again(),
             holder,
         }
     }
@@ -132,10 +131,11 @@ impl Sentinels {
     }
 
     /// The mark of a transaction, which then has to give way. It takes no memory.
+    #[inline(always)]
     pub fn doomed(&self, tx: u32) -> Option<&Mark>
         ensures { option_copied result ≡ mark_of (seat_in self.now.seats tx) }
     {
-        self.seats.get(tx)?.mark.as_ref()
+        self.seats.mark_of(tx)
     }
 
     /// Whether a transaction has begun and not ended. It takes no memory.

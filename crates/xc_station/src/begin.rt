@@ -22,7 +22,7 @@ use xc_text::Script;
 const MOST_ENTRIES: usize = 10_000;
 
 // What keeps an idle job from its next transaction, memory aside.
-#[derive(Clone, Copy)]
+#[derive(Drop)]
 enum Halt {
     // The job ends.
     End(JobEnd),
@@ -37,7 +37,7 @@ fn given_up(rules: &Rules, attempts: &Option<Attempts>) -> Option<Cause>
         (λ c. (s : Setting) → s.rules ≡ rules.now → IsSpent s attempts.now c) }
 {
     match attempts {
-        Some(Attempts { failed, last, .. }) if *failed >= rules.attempts => Some(*last),
+        Some(Attempts { failed, last, .. }) if *failed >= rules.attempts => Some(last.again()),
         _ => None,
     }
 }
@@ -47,9 +47,9 @@ fn named_last(attempts: &Option<Attempts>) -> Option<(Object, u32)>
     ensures { IsNamedLast attempts.now result }
 {
     match attempts {
-        Some(attempts) => match attempts.last {
-            Cause::Conflict { object, holder, .. } => Some((object, holder)),
-            Cause::Revoked { object, by, .. } => Some((object, by)),
+        Some(attempts) => match &attempts.last {
+            Cause::Conflict { object, holder, .. } => Some((object.again(), *holder)),
+            Cause::Revoked { object, by, .. } => Some((object.again(), *by)),
             Cause::Asked | Cause::NoMemory => None,
         },
         None => None,
@@ -111,7 +111,7 @@ fn stop(job: &mut Job, halt: &Halt) -> Turn
         Halt::Wait { object, holder } => {
             job.wait();
             Turn::Busy {
-                object: *object,
+                object: object.again(),
                 holder: *holder,
             }
         }

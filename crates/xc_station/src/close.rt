@@ -122,8 +122,8 @@ fn cause_of(tx: &Tx) -> Cause
     requires { (c : PlainCause) × (tx.now.phase ≡ PlainPhase.Undoing c) }
     ensures { tx.now.phase ≡ PlainPhase.Undoing result }
 {
-    match tx.phase {
-        Phase::Undoing(cause) => cause,
+    match &tx.phase {
+        Phase::Undoing(cause) => cause.again(),
         // The contract leaves no other phase.
         _ => unreachable!(),
     }

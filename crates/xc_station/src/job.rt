@@ -62,7 +62,7 @@ pub enum Stage {
 fn phase_now(tx: &Tx) -> Stage
     ensures { result ≡ phase_stage (tx_view tx.now) tx.now.phase }
 {
-    match tx.phase {
+    match &tx.phase {
         Phase::Running => Stage::Running,
         Phase::Committing => {
             if tx.late.has_left() {
@@ -84,7 +84,7 @@ impl Job {
     pub fn stage(&self) -> Stage
         ensures { result ≡ stage_of (doing_of self.now) }
     {
-        match self.activity {
+        match &self.activity {
             Activity::Idle => Stage::Idle,
             Activity::Active => phase_now(&self.tx),
             Activity::Starved => Stage::Starved,
@@ -96,7 +96,7 @@ impl Job {
     pub fn is_live(&self) -> bool
         ensures { result ≡ is_live (job_view self.now) }
     {
-        !matches!(self.activity, Activity::Ended(_))
+        !matches!(&self.activity, Activity::Ended(_))
     }
 
     /// It was told to wait once more.
@@ -113,7 +113,7 @@ impl Job {
         ensures ended { (job_view self.new ≡ record (job_view self.old) { doing = Ended end.now }) × (result ≡ Turn.Ended end.now) }
         ensures children { self.new.children.items ≡ self.old.children.items }
     {
-        self.activity = Activity::Ended(*end);
-        Turn::Ended(*end)
+        self.activity = Activity::Ended(end.again());
+        Turn::Ended(end.again())
     }
 }

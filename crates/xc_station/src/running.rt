@@ -61,7 +61,7 @@ fn lose(tx: &mut Tx, object: &Object, holder: u32, at: u32)
     ensures begun { begun_of tx.new ≡ begun_of tx.old }
 {
     tx.phase = Phase::Undoing(Cause::Conflict {
-        object: *object,
+        object: object.again(),
         holder,
         at,
     });
@@ -221,7 +221,7 @@ fn settle(sentinels: &mut Sentinels, tx: &Tx)
     ensures own { (rank : ℕ) → seated_as (seat_in sentinels.old.seats tx.now.number) ≡ Some (rank, true)
         → seated_as (seat_in sentinels.new.seats tx.now.number) ≡ Some (rank, runs tx.now.phase) }
 {
-    match tx.phase {
+    match &tx.phase {
         Phase::Running => {}
         Phase::Committing | Phase::Undoing(_) => sentinels.settle(tx.number),
     }
@@ -236,7 +236,7 @@ fn revoke(tx: &mut Tx, mark: &Mark) -> Turn
     ensures answer { result ≡ Turn.Went }
 {
     tx.phase = Phase::Undoing(Cause::Revoked {
-        object: mark.object,
+        object: mark.object.again(),
         by: mark.by,
         at: mark.at,
     });

@@ -59,7 +59,7 @@ fn outcome_of(phase: &Phase, undo: Stack, late: Late) -> Outcome
 {
     match phase {
         Phase::Undoing(cause) => Outcome::Aborted(Report {
-            cause: *cause,
+            cause: cause.again(),
             records: undo.records(),
         }),
         // Only an undoing one aborts.

@@ -20,7 +20,7 @@ mod words;
 mod workers;
 
 use std::alloc::Global;
-use xc_data::{CallNumbers, Kind, Name, NoMemory, Num};
+use xc_data::{CallNumbers, Kind, Name, NoMemory, Num, SharedName};
 use xc_testhost::{Asked, TestHost};
 
 // The file `a` of a host for tests.
@@ -28,6 +28,11 @@ const FILE: Num = Num { tx: 0, k: 0 };
 
 fn name(bytes: &[u8]) -> Result<Name, NoMemory> {
     Name::new(bytes).ok_or(NoMemory)
+}
+
+// A name in a place of its own.
+fn shared_name(alloc: Global, bytes: &[u8]) -> Result<SharedName, NoMemory> {
+    SharedName::new(alloc, name(bytes)?)
 }
 
 // A host with a file of these bytes, at most 65,536.

@@ -10,6 +10,7 @@ ghost use Rattle.xc_text.specs.Steps.{after, after_tokens, after_bytes};
 
 use crate::block_names::BlockNames;
 use crate::counted::Counted;
+use crate::file_names::FileNames;
 use crate::grammar::{between_line, prologue_line};
 use crate::limits::{FIRST_WORDS, MOST_BLOCKS, MOST_TRANSACTIONS};
 use crate::line::{Line, Section};
@@ -32,6 +33,7 @@ mod statements;
 #[derive(Drop)]
 pub struct Draft {
     source: Source,
+    files: FileNames,
     section: Section,
     words: WordList,
     /// A `words` line came.
@@ -91,6 +93,7 @@ impl Draft {
     {
         Ok(Draft {
             source: Source::new(text),
+            files: FileNames::new(),
             section: Section::Prologue,
             words: zeros(alloc, FIRST_WORDS)?,
             sized: false,

@@ -10,7 +10,9 @@ mod block_names;
 mod calls;
 mod counted;
 mod draft;
+mod file_names;
 mod grammar;
+mod halves;
 mod kinds;
 mod limits;
 mod line;
@@ -26,6 +28,7 @@ mod source;
 mod term;
 mod written;
 
+pub use halves::Halves;
 pub use parse_err::ParseErr;
 pub use parser::parse;
 pub use script::{

@@ -1,12 +1,13 @@
 ghost use Rattle.std.specs.Prelude.{◌≡◌};
 
-use xc_data::{Boxed, Chunk, Ident, IdentList, Items, Name, Outline};
+use crate::halves::Halves;
+use xc_data::{Boxed, Chunk, Ident, IdentList, Items, Outline, SharedName};
 
 /// A number, the number in a variable, or one that tells how the last late call with a slot ended. Here and below a
 /// variable and a slot stand as an `N`.
 #[derive(Clone, Copy, Drop)]
 pub enum Term<N> {
-    Number(u64),
+    Number(Halves),
     Variable(N),
     Slot(N),
 }
@@ -56,17 +57,17 @@ pub enum CallForm<N> {
         value: Expression<N>,
     },
     Open {
-        name: Boxed<Name>,
+        name: SharedName,
         into: Option<N>,
     },
     /// Makes an empty file.
     Create {
-        name: Boxed<Name>,
+        name: SharedName,
         into: Option<N>,
     },
     Rename {
-        from: Boxed<Name>,
-        to: Boxed<Name>,
+        from: SharedName,
+        to: SharedName,
     },
     /// Reads up to n bytes through the handle in a variable.
     Read {
@@ -100,7 +101,7 @@ pub enum CallForm<N> {
     },
     /// Takes a file's name away at the commit. A slot takes the end where one is named.
     Unlink {
-        name: Boxed<Name>,
+        name: SharedName,
         slot: Option<N>,
     },
     /// Keeps for good, at the commit, what was written to the file whose handle is in a variable.

@@ -8,11 +8,12 @@ ghost use Rattle.xc_text.specs.Terms.{term as term_said, expression_of};
 ghost use Rattle.xc_tokens.specs.Views.{lexeme};
 ghost use Rattle.xc_tokens.specs.Words.{ident as ident_said, name as name_said};
 
+use crate::file_names::FileNames;
 use crate::script::{Expression, Term};
 use crate::term::{expression, term};
 use std::alloc::Global;
-use xc_data::{Boxed, Name, NoMemory};
-use xc_tokens::{IdentWord, Stop, Token, Why, both, ident_token, is_sign, name};
+use xc_data::{NoMemory, SharedName};
+use xc_tokens::{IdentWord, Stop, Token, Why, both, ident_token, is_sign};
 
 /// Nothing.
 pub fn bare(tokens: &[Token]) -> Result<(), Why>
@@ -99,12 +100,16 @@ pub fn parted<'t, 'a>(tokens: &'t [Token<'a>]) -> (&'t [Token<'a>], &'t [Token<'
     }
 }
 
-fn name_alone(tokens: &[Token]) -> Result<Name, Why>
-    ensures { result ≡ alone name_said (map lexeme tokens.now) }
+fn name_alone(
+    alloc: Global,
+    files: &mut FileNames,
+    tokens: &[Token],
+) -> Result<Result<SharedName, Why>, NoMemory>
+    ensures { IfOk result (λ read. read ≡ alone name_said (map lexeme tokens.now)) }
 {
     match tokens {
-        [file] => name(file),
-        _ => Err(Why::BadForm),
+        [file] => files.name(alloc, file),
+        _ => Ok(Err(Why::BadForm)),
     }
 }
 
@@ -164,43 +169,37 @@ pub fn variable_and_expression<'a>(
     }
 }
 
-// A name in a place of its own, so that it is small where it is handed on.
-#[inline(always)]
-fn boxed(alloc: Global, name: Result<Name, Why>) -> Result<Result<Boxed<Name>, Why>, NoMemory>
-    ensures { IfOk result (λ boxed. boxed ≡ name) }
-{
-    match name {
-        Ok(name) => Ok(Ok(Boxed::new(alloc, name)?)),
-        Err(why) => Ok(Err(why)),
-    }
-}
-
 /// `NAME`, `NAME -> V`
 #[inline(always)]
 pub fn name_into<'a>(
     alloc: Global,
+    files: &mut FileNames,
     tokens: &[Token<'a>],
-) -> Result<(Boxed<Name>, Option<IdentWord<'a>>), Stop>
+) -> Result<(SharedName, Option<IdentWord<'a>>), Stop>
     ensures { Gives (λ read. read) result (led name_said target_said (map lexeme tokens.now)) }
 {
     match tokens {
         [] => Err(Stop::Refused(Why::BadForm)),
         [first, behind @ ..] => {
-            let name = boxed(alloc, name(first))?;
+            let name = files.name(alloc, first)?;
             Ok(both(name, target(behind))?)
         }
     }
 }
 
 /// `NAME NAME`
-pub fn two_names(alloc: Global, tokens: &[Token]) -> Result<(Boxed<Name>, Boxed<Name>), Stop>
+pub fn two_names(
+    alloc: Global,
+    files: &mut FileNames,
+    tokens: &[Token],
+) -> Result<(SharedName, SharedName), Stop>
     ensures { Gives (λ read. read) result (led name_said (alone name_said) (map lexeme tokens.now)) }
 {
     match tokens {
         [] => Err(Stop::Refused(Why::BadForm)),
         [first, behind @ ..] => {
-            let from = boxed(alloc, name(first))?;
-            let to = boxed(alloc, name_alone(behind))?;
+            let from = files.name(alloc, first)?;
+            let to = name_alone(alloc, files, behind)?;
             Ok(both(from, to)?)
         }
     }
@@ -209,14 +208,15 @@ pub fn two_names(alloc: Global, tokens: &[Token]) -> Result<(Boxed<Name>, Boxed<
 /// `NAME`, `NAME slot S`
 pub fn name_and_slot<'a>(
     alloc: Global,
+    files: &mut FileNames,
     tokens: &[Token<'a>],
-) -> Result<(Boxed<Name>, Option<IdentWord<'a>>), Stop>
+) -> Result<(SharedName, Option<IdentWord<'a>>), Stop>
     ensures { Gives (λ read. read) result (led name_said slot_ending_said (map lexeme tokens.now)) }
 {
     match tokens {
         [] => Err(Stop::Refused(Why::BadForm)),
         [first, behind @ ..] => {
-            let name = boxed(alloc, name(first))?;
+            let name = files.name(alloc, first)?;
             Ok(both(name, slot_ending(behind))?)
         }
     }

@@ -17,6 +17,7 @@ use Rattle.xc_wordlocks.specs.Keys.{WordHolder, word_holder, word_holder_cmp}
 use Rattle.xc_wordlocks.specs.Rows.{mode_among, with_mode, entries_at}
 use Rattle.xc_wordlocks.specs.Words.{entries_from, words_of}
 use Rattle.xc_wordlocks.proofs.Orders.{word_holder_total, word_holder_exact}
+use Rattle.xc_wordlocks.proofs.Free.{same_modes}
 use Rattle.xc_wordlocks.proofs.Rows.{found_in, held_in, own, passed}
 
 -- ---- one entry of the map is one of the list at its word's place
@@ -114,6 +115,10 @@ module _ (ms : List (List (ℕ × Mode))) (t : map.FinMap word_holder_cmp Mode) 
     -- the modes of a word's holders are those of the list at its place
     pub mode_there : (n : ℕ) → map.get t (word_holder i n) ≡ mode_among m n
     mode_there n = ap (λ s. map.get s (word_holder i n)) (sym is) ∙ get-words_of ms i n ∙ ap (λ o. held_in o n) there
+
+    -- so the list's modes are those of all its holders
+    pub modes_there : mode_among m ≡ (λ n. map.get t (word_holder i n))
+    modes_there = same_modes (mode_among m) (λ n. map.get t (word_holder i n)) (λ n. sym (mode_there n))
 
     module _ (k : List (ℕ × Mode)) where
       -- the same list is put there

@@ -1,6 +1,6 @@
 -- Modes after claims, and loops over them.
 use Rattle.std.proofs.Common.{◌≡◌, ℕ, Bool, true, false, cond, ◌||◌, Option, Some, None, IsSome, List, [], ◌∷◌, ◌++◌, refl, ap, sym, ◌∙◌, subst}
-use Rattle.std.proofs.Common.{take, ◌+◌, ◌<◌, suc, length, get_or, drop, drop-cons, add-one}
+use Rattle.std.proofs.Common.{take, ◌+◌, ◌<◌, suc, length, get_or, drop, drop-cons, add-one, arith}
 use Rattle.std.specs.Prelude.{All, if◌then◌else◌}
 use Rattle.std.proofs.Math.Seq.{take-suc}
 use Rattle.std.proofs.lemmas.List.{take-append-drop}
@@ -26,6 +26,12 @@ take-more xs i x lt e = rw add-one (take-suc xs i x lt ∙ ap (λ y. take i xs +
 pub parts : {X : Type 0} (xs : List X) (i : ℕ) (x : X) → i < length xs → x ≡ get_or xs i x → xs ≡ take i xs ++ x ∷ drop (i + 1) xs
 parts xs i x lt e = sym (take-append-drop i xs) ∙ ap (λ ys. take i xs ++ ys) (left-cons xs i x lt e)
 
+-- a list of one element is that element
+pub alone : {X : Type 0} (xs : List X) (x : X) → length xs ≡ 1 → x ≡ get_or xs 0 x → x ∷ [] ≡ xs
+alone [] x one e = absurd (omega arith)
+alone (y ∷ []) x one e = ap (λ z. z ∷ []) e
+alone (y ∷ z ∷ zs) x one e = absurd (omega arith)
+
 -- ---- one claim
 -- an object that a claim isn't on keeps its mode
 pub claimed_on : (was : Option Mode) (c : Claim) (o : Object) (b : Bool) → is_object c.object o ≡ b
@@ -38,11 +44,23 @@ raised_by t tx c o true e = ap (λ (p : Object). Some (with_mode (held_mode t tx
 raised_by t tx c o false e = refl
 
 -- a claim on what is held gives it the stronger of both modes
-pub raised : (t : Table) (tx : ℕ) (c : Claim) (o : Object)
+raised : (t : Table) (tx : ℕ) (c : Claim) (o : Object)
     → held_mode (set_mode t tx c.object (Some (with_mode (held_mode t tx c.object) c.mode))) tx o ≡ claimed (held_mode t tx o) (c ∷ []) o
 raised t tx c o =
     mode_of-set t c.object o tx (Some (with_mode (held_mode t tx c.object) c.mode))
     ∙ raised_by t tx c o (is_object c.object o) refl ∙ sym (claimed_on (held_mode t tx o) c o (is_object c.object o) refl)
+
+-- of a table that a claim on one object was written into
+module _ (t u : Table) (tx : ℕ) (c : Claim) (written : u ≡ set_mode t tx c.object (Some (with_mode (held_mode t tx c.object) c.mode))) where
+  -- the transaction holds what is claimed too
+  pub claimed_own : (o : Object) → held_mode u tx o ≡ claimed (held_mode t tx o) (c ∷ []) o
+  claimed_own o = ap (λ (s : Table). held_mode s tx o) written ∙ raised t tx c o
+
+  -- and all others hold what they did
+  pub claimed_others : KeepsOthers tx t u
+  claimed_others n o ne =
+      ap (λ (s : Table). held_mode s n o) written
+      ∙ mode_of-set_other t c.object o tx n (Some (with_mode (held_mode t tx c.object) c.mode)) ne
 
 -- what is held before a claim is held after it
 still_held : (was : Option Mode) (c : Claim) (o : Object) → IsSome was → IsSome (claimed was (c ∷ []) o)

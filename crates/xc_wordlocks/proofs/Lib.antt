@@ -9,3 +9,4 @@ pub mod Places
 pub mod Whole
 pub mod Held
 pub mod Released
+pub mod Free

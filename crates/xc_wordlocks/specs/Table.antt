@@ -40,6 +40,10 @@ mode_at table n (kind.Other o) = map.get table.others (holder_of o n)
 abbrev pub held_mode : Table → ℕ → Object → Option Mode
 held_mode table n o = mode_at table n (kind_of o)
 
+-- in which mode each transaction holds an object
+abbrev pub modes_of : Table → Object → ℕ → Option Mode
+modes_of table o n = held_mode table n o
+
 -- a map with a mode at a key, or with nothing there
 abbrev pub set_entry : {K : Type 0} {R : K → K → Ordering} → map.FinMap R Mode → K → Option Mode → map.FinMap R Mode
 set_entry m k None = map.remove m k

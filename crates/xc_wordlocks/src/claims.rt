@@ -1,14 +1,16 @@
-ghost use Rattle.std.specs.Prelude.{◌≡◌, ◌<◌, ◌≤◌, ◌+◌, ℕ, length, All, MatchOption, MatchResult, None, OnOk, OnErr, IfErr, if◌then◌else◌};
+ghost use Rattle.std.specs.Prelude.{◌≡◌, ◌<◌, ◌≤◌, ◌+◌, ℕ, [], ◌∷◌, length, if◌then◌else◌};
+ghost use Rattle.std.specs.Prelude.{All, MatchOption, MatchResult, None, OnOk, OnErr, IfErr};
 ghost use Rattle.xc_data.specs.Claims.{objects};
 ghost use Rattle.xc_data.specs.declared.object.Object.{Object};
 ghost use Rattle.xc_wordlocks.specs.Table.{AreCompatible, Holds, KeepsOthers, claimed, has, held_mode};
 ghost use Rattle.xc_wordlocks.specs.Met.{IsCause, IsMet, IsNotMet};
 
-use crate::ClaimErr;
+use crate::claiming::claim_object;
 use crate::holders::Holders;
 use crate::holding::Holding;
 use crate::placing::hold_all;
-use crate::reading::first_other;
+use crate::reading::met_by;
+use crate::refusal::{ClaimErr, Refusal};
 use crate::releasing::take_all;
 use crate::steps::Steps;
 use std::alloc::Global;
@@ -53,12 +55,7 @@ impl Claims {
         ensures met { MatchOption result (IsNotMet self.now tx claim.now) (IsMet self.now claim.now tx) }
         ensures coherent { AreCompatible self.now }
     {
-        let (holder, mode) = first_other::<Brand>(&self.holders, &claim.object, tx, Blank::new(1))?;
-        if claim.mode.is_compatible(mode) {
-            None
-        } else {
-            Some(holder)
-        }
+        met_by::<Brand>(&self.holders, claim, tx, Blank::new(1))
     }
 
     // Whether a claim is met, and which is the first.
@@ -68,12 +65,31 @@ impl Claims {
         for claim in claims {
             if let Some(holder) = self.met(claim, tx) {
                 return Err(ClaimErr::Met {
-                    object: claim.object,
+                    object: claim.object.again(),
                     holder,
                 });
             }
         }
         Ok(())
+    }
+
+    // One claim, which most calls have: its object is looked up once.
+    fn claim_one(&mut self, claim: &Claim, tx: u32) -> Result<(), ClaimErr>
+        ensures unmet { OnOk result (All (IsNotMet self.old tx) (claim.now ∷ [])) }
+        ensures held { OnOk result ((o : Object) → held_mode self.new tx o ≡ claimed (held_mode self.old tx o) (claim.now ∷ []) o) }
+        ensures others { OnOk result (KeepsOthers tx self.old self.new) }
+        ensures err { OnErr result (self.new ≡ self.old) }
+        ensures cause { IfErr result (IsCause self.old (claim.now ∷ []) tx) }
+        ensures coherent { AreCompatible self.new }
+    {
+        match claim_object::<Brand>(&mut self.holders, claim, tx, Blank::new(1)) {
+            Ok(()) => Ok(()),
+            Err(Refusal::Met(holder)) => Err(ClaimErr::Met {
+                object: claim.object.again(),
+                holder,
+            }),
+            Err(Refusal::NoMemory) => Err(ClaimErr::NoMemory),
+        }
     }
 
     /// The transaction holds all claimed objects. One that it held already it holds in the stronger
@@ -86,6 +102,9 @@ impl Claims {
         ensures cause { IfErr result (IsCause self.old claims.now tx) }
         ensures coherent { AreCompatible self.new }
     {
+        if let [claim] = claims {
+            return self.claim_one(claim, tx);
+        }
         self.check(claims, tx)?;
         hold_all::<Brand>(&mut self.holders, self.alloc, claims, tx, Blank::new(1))?;
         Ok(())

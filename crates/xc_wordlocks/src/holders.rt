@@ -1,9 +1,10 @@
-ghost use Rattle.std.specs.Prelude.{◌≡◌, ◌+◌, ℕ, None, Some, IfSome, IfNone, OnOk, OnErr};
+ghost use Rattle.std.specs.Prelude.{◌≡◌, ◌+◌, ℕ, None, Some, IfSome, IfNone, IfErr, OnOk, OnErr};
 ghost use Rattle.xc_data.specs.declared.object.Object.{Object};
 
 use crate::key::Kind;
 use crate::object_holders::ObjectHolders;
 use crate::others::Others;
+use crate::refusal::Refusal;
 use crate::steps::Steps;
 use crate::words::Words;
 use std::alloc::Global;
@@ -11,7 +12,7 @@ use std::sync::ledger::Ledger;
 use xc_data::{Mode, NoMemory, Object};
 
 /// Who holds which object, and in which mode: words by their places, all others by hash. Contracts see it by `held_mode`. It is looked
-/// up, held in and taken from, an object a call, and each call is a step.
+/// up, held in, claimed in and taken from, an object a call, and each call is a step.
 #[derive(Drop)]
 pub struct Holders {
     words: Words,
@@ -19,7 +20,8 @@ pub struct Holders {
 }
 
 impl Holders {
-    ghost use Rattle.xc_wordlocks.specs.Table.{held_mode, set_mode};
+    ghost use Rattle.xc_wordlocks.specs.Table.{held_mode, modes_of, set_mode};
+    ghost use Rattle.xc_wordlocks.specs.Others.{IsFree, IsReason};
     ghost use Rattle.xc_wordlocks.specs.Rows.{mode_among, with_mode};
 
     /// Nobody holds anything. It takes no memory.
@@ -39,18 +41,6 @@ impl Holders {
         ensures cost { steps.new ≡ steps.old + 1 }
     {
         steps.tick();
-        match object {
-            Object::Word(at) => self.words.holders_of(*at),
-            _ => self.look_by_kind(object),
-        }
-    }
-
-    // Apart from the words, which are claimed most and need no key: a key is as large as the longest name.
-    #[inline(never)]
-    fn look_by_kind(&self, object: &Object) -> Option<&ObjectHolders>
-        ensures some { IfSome result (λ m. (n : ℕ) → held_mode self.now n object.now ≡ mode_among m.now n) }
-        ensures none { IfNone result ((n : ℕ) → held_mode self.now n object.now ≡ None) }
-    {
         match Kind::of(object) {
             Kind::Word(at) => self.words.holders_of(at),
             Kind::Other(object) => self.others.holders_of(object),
@@ -72,21 +62,30 @@ impl Holders {
         ensures cost { steps.new ≡ steps.old + 1 }
     {
         steps.tick();
-        match object {
-            Object::Word(at) => self.words.hold(*at, tx, mode),
-            _ => self.hold_by_kind(object, tx, mode),
-        }
-    }
-
-    #[inline(never)]
-    fn hold_by_kind(&mut self, object: &Object, tx: u32, mode: Mode) -> Result<(), NoMemory>
-        ensures ok { OnOk result (self.new ≡ set_mode self.old tx object.now (Some (with_mode (held_mode self.old tx object.now) mode))) }
-        ensures err { OnErr result (self.new ≡ self.old) }
-        ensures absent { OnErr result (held_mode self.old tx object.now ≡ None) }
-    {
         match Kind::of(object) {
             Kind::Word(at) => self.words.hold(at, tx, mode),
             Kind::Other(object) => self.others.hold(object, tx, mode),
+        }
+    }
+
+    /// The same, unless the smallest other holder has a mode that isn't compatible.
+    pub fn claim<L: Ledger>(
+        &mut self,
+        object: &Object,
+        tx: u32,
+        mode: Mode,
+        steps: &mut Steps<L>,
+    ) -> Result<(), Refusal>
+        ensures free { OnOk result (IsFree (modes_of self.old object.now) tx mode) }
+        ensures ok { OnOk result (self.new ≡ set_mode self.old tx object.now (Some (with_mode (held_mode self.old tx object.now) mode))) }
+        ensures err { OnErr result (self.new ≡ self.old) }
+        ensures reason { IfErr result (IsReason (modes_of self.old object.now) tx mode) }
+        ensures cost { steps.new ≡ steps.old + 1 }
+    {
+        steps.tick();
+        match Kind::of(object) {
+            Kind::Word(at) => self.words.claim(at, tx, mode),
+            Kind::Other(object) => self.others.claim(object, tx, mode),
         }
     }
 
@@ -102,17 +101,6 @@ impl Holders {
         ensures cost { steps.new ≡ steps.old + 1 }
     {
         steps.tick();
-        match object {
-            Object::Word(at) => self.words.remove(*at, tx),
-            _ => self.take_by_kind(object, tx),
-        }
-    }
-
-    #[inline(never)]
-    fn take_by_kind(&mut self, object: &Object, tx: u32) -> Option<Mode>
-        ensures value { result ≡ held_mode self.old tx object.now }
-        ensures removed { self.new ≡ set_mode self.old tx object.now None }
-    {
         match Kind::of(object) {
             Kind::Word(at) => self.words.remove(at, tx),
             Kind::Other(object) => self.others.remove(object, tx),

@@ -97,11 +97,11 @@ fn hold_one(held: &mut Roomy<Claim>, claim: &Claim)
 {
     match place_of(held.as_slice(), &claim.object) {
         Some(at) => {
-            let mut held_claim = *held.get(at);
+            let mut held_claim = held.get(at).again();
             held_claim.mode = held_claim.mode.stronger(claim.mode);
             held.set(at, held_claim);
         }
-        None => held.enter(*claim),
+        None => held.enter(claim.again()),
     }
 }
 

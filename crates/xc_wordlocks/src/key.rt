@@ -1,12 +1,12 @@
 ghost use Rattle.std.specs.Prelude.{◌≡◌};
 ghost use Rattle.xc_wordlocks.specs.Keys.{kind_of};
 
-use xc_data::{Name, Num, Object};
+use xc_data::{Num, Object, SharedName};
 
 /// An object that isn't a word. Contracts see them in an order: by kind, and then by what they name.
-#[derive(Clone, Copy, PartialEq, Eq, PartialOrd, Ord, Hash)]
+#[derive(Drop, PartialEq, Eq, PartialOrd, Ord, Hash)]
 pub enum Other {
-    Name(Name),
+    Name(SharedName),
     File(Num),
     Pipe(Num),
     Pair(Num),
@@ -14,7 +14,7 @@ pub enum Other {
 }
 
 /// An object as the table takes it: a word or another.
-#[derive(Clone, Copy)]
+#[derive(Drop)]
 pub enum Kind {
     Word(u32),
     Other(Other),
@@ -27,7 +27,7 @@ impl Kind {
     {
         match object {
             Object::Word(at) => Kind::Word(*at),
-            Object::Name(name) => Kind::Other(Other::Name(*name)),
+            Object::Name(name) => Kind::Other(Other::Name(name.again())),
             Object::File(num) => Kind::Other(Other::File(*num)),
             Object::Pipe(num) => Kind::Other(Other::Pipe(*num)),
             Object::Pair(num) => Kind::Other(Other::Pair(*num)),

@@ -1,6 +1,7 @@
 //! The table of claims: which transaction holds which object, and in which mode.
 #![tactic(auto)]
 
+mod claiming;
 mod claims;
 mod holders;
 mod holding;

@@ -1,9 +1,11 @@
-ghost use Rattle.std.specs.Prelude.{◌≡◌, ◌↔◌, ◌+◌, ℕ, [], ◌∷◌, Some, None, IsTrue, cond, IfOk, OnOk, OnErr};
+ghost use Rattle.std.specs.Prelude.{◌≡◌, ◌↔◌, ◌+◌, ℕ, [], ◌∷◌, Some, None, IsTrue, cond, IfOk, IfErr, OnOk, OnErr, MatchOption};
 ghost use Rattle.std.specs.Ordering.{nat_cmp};
 ghost use Rattle.std.specs.BTreeMap.{is_at};
 ghost use Rattle.xc_wordlocks.specs.First.{IsFirstFrom};
+ghost use Rattle.xc_wordlocks.specs.Others.{IsFirstBut, IsFree, IsMetBy, IsReason};
 ghost use Rattle.xc_wordlocks.specs.Rows.{mode_among, with_mode};
 
+use crate::refusal::Refusal;
 use std::alloc::Global;
 use std::collections::BTreeMap;
 use std::marker::Model;
@@ -113,6 +115,22 @@ impl ObjectHolders {
         Ok(())
     }
 
+    /// The same, unless the smallest other holder has a mode that isn't compatible.
+    pub fn claim(&mut self, alloc: Global, tx: u32, mode: Mode) -> Result<(), Refusal>
+        ensures free { OnOk result (IsFree (mode_among self.old) tx mode) }
+        ensures ok { OnOk result ((n : ℕ)
+            → mode_among self.new n
+            ≡ cond (is_at (nat_cmp tx) n) (Some (with_mode (mode_among self.old tx) mode)) (mode_among self.old n)) }
+        ensures err { OnErr result (self.new ≡ self.old) }
+        ensures reason { IfErr result (IsReason (mode_among self.old) tx mode) }
+    {
+        if let Some(holder) = self.met_by(tx, mode) {
+            return Err(Refusal::Met(holder));
+        }
+        self.hold(alloc, tx, mode)?;
+        Ok(())
+    }
+
     /// A transaction holds the object no longer. Gives the mode in which it did. It takes no memory.
     pub fn remove(&mut self, tx: u32) -> Option<Mode>
         ensures value { result ≡ mode_among self.old tx }
@@ -155,6 +173,32 @@ impl ObjectHolders {
                 Some((*holder, *mode))
             }
             Form::Nobody | Form::One(..) => None,
+        }
+    }
+
+    // The smallest holder but this one.
+    #[inline(always)]
+    fn first_but(&self, tx: u32) -> Option<(u32, Mode)>
+        ensures { IsFirstBut (mode_among self.now) tx result }
+    {
+        let (holder, mode) = self.first()?;
+        if holder == tx {
+            self.first_behind(tx)
+        } else {
+            Some((holder, mode))
+        }
+    }
+
+    /// The smallest holder but this one, if its mode isn't compatible with this mode.
+    #[inline(always)]
+    pub fn met_by(&self, tx: u32, mode: Mode) -> Option<u32>
+        ensures { MatchOption result (IsFree (mode_among self.now) tx mode) (IsMetBy (mode_among self.now) tx mode) }
+    {
+        let (holder, held) = self.first_but(tx)?;
+        if mode.is_compatible(held) {
+            None
+        } else {
+            Some(holder)
         }
     }
 }

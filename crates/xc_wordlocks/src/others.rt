@@ -1,16 +1,19 @@
-ghost use Rattle.std.specs.Prelude.{◌≡◌, ℕ, None, IfSome, IfNone, OnOk, OnErr};
+ghost use Rattle.std.specs.Prelude.{◌≡◌, ℕ, [], IsTrue, None, IfSome, IfNone, IfErr, OnOk, OnErr};
 ghost use Rattle.std.specs.FinMap as map;
 ghost use Rattle.xc_wordlocks.specs.Keys.{holder_of};
+ghost use Rattle.xc_wordlocks.specs.Others.{IsFree, IsReason};
 ghost use Rattle.xc_wordlocks.specs.Rows.{mode_among, with_mode};
 
 use crate::key::Other;
 use crate::object_holders::ObjectHolders;
+use crate::refusal::Refusal;
 use std::alloc::Global;
 use std::collections::HashMap;
 use std::marker::Model;
 use xc_data::{Mode, NoMemory};
 
-/// Who holds which object that isn't a word, and in which mode. An object has a row while somebody holds it.
+/// Who holds which object that isn't a word, and in which mode. What transactions made has a row while somebody holds it, and all
+/// else from its first claim on.
 #[derive(Drop)]
 pub struct Others {
     alloc: Global,
@@ -31,6 +34,22 @@ impl Model for Others {
     ghost view = { λ a. others_of a.rows.entries };
 
     ghost invariant = { λ a. AreApart a.rows.entries };
+}
+
+// Whether an object keeps its row: a script names only so many, and its prologue makes only so many. Those that transactions make have
+// new numbers each time, so their rows would only grow in number.
+fn has_lasting_row(object: &Other) -> bool {
+    match object {
+        Other::Name(_) | Other::Jobs => true,
+        Other::File(num) | Other::Pipe(num) | Other::Pair(num) => num.tx == 0,
+    }
+}
+
+// Whether the row of an object goes, which nobody may hold any longer.
+fn row_goes(object: &Other, holders: &ObjectHolders) -> bool
+    ensures { IsTrue result → holders.now ≡ [] }
+{
+    !has_lasting_row(object) && holders.is_empty()
 }
 
 impl Others {
@@ -66,6 +85,21 @@ impl Others {
         holders.hold(self.alloc, tx, mode)
     }
 
+    /// The same, unless the smallest other holder has a mode that isn't compatible.
+    pub fn claim(&mut self, object: Other, tx: u32, mode: Mode) -> Result<(), Refusal>
+        ensures free { OnOk result (IsFree (λ n. map.get self.old (holder_of object n)) tx mode) }
+        ensures ok { OnOk result
+            (self.new ≡ map.insert self.old (holder_of object tx) (with_mode (map.get self.old (holder_of object tx)) mode)) }
+        ensures err { OnErr result (self.new ≡ self.old) }
+        ensures reason { IfErr result (IsReason (λ n. map.get self.old (holder_of object n)) tx mode) }
+    {
+        let Ok(row) = self.rows.entry(object) else {
+            return Err(Refusal::NoMemory);
+        };
+        let holders = row.or_insert(ObjectHolders::nobody());
+        holders.claim(self.alloc, tx, mode)
+    }
+
     /// Gives the mode that was there. It takes no memory.
     pub fn remove(&mut self, object: Other, tx: u32) -> Option<Mode>
         ensures value { result ≡ map.get self.old (holder_of object tx) }
@@ -73,7 +107,7 @@ impl Others {
     {
         let holders = self.rows.get_mut(&object)?;
         let mode = holders.remove(tx);
-        if holders.is_empty() {
+        if row_goes(&object, holders) {
             self.rows.remove(&object);
         }
         mode

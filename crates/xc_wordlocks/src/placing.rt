@@ -4,7 +4,7 @@ ghost use Rattle.xc_wordlocks.specs.Table.{KeepsOthers, claimed, has, held_mode}
 ghost use Rattle.xc_wordlocks.specs.Placing.{Placed, PlacedBehind};
 
 use crate::holders::Holders;
-use crate::raising::{hold_object, raise_all};
+use crate::raising::raise_all;
 use crate::reading::mode_held;
 use crate::steps::Steps;
 use smallvec::SmallVec;
@@ -30,7 +30,7 @@ fn place<L: Ledger>(
     }
     added.reserve(1)?;
     holders.hold(&claim.object, tx, Mode::Shared, steps)?;
-    added.push_reserved(claim.object);
+    added.push_reserved(claim.object.again());
     Ok(())
 }
 
@@ -82,10 +82,6 @@ pub fn hold_all<L: Ledger>(
     ensures err { OnErr result (holders.new ≡ holders.old) }
 {
     let mut steps = Steps::<L>::new(blank);
-    // Most calls claim one object.
-    if let [claim] = claims {
-        return hold_object(holders, claim, tx, &mut steps);
-    }
     place_all(holders, alloc, claims, tx, &mut steps)?;
     raise_all(holders, claims, tx, &mut steps);
     Ok(())

@@ -1,4 +1,4 @@
-ghost use Rattle.std.specs.Prelude.{◌≡◌, [], ◌∷◌, All, IsSome, None, OnOk, OnErr};
+ghost use Rattle.std.specs.Prelude.{◌≡◌, [], ◌∷◌, All, IsSome};
 ghost use Rattle.xc_data.specs.declared.object.Object.{Object};
 ghost use Rattle.xc_data.specs.declared.claim.Claim.{Claim};
 ghost use Rattle.xc_wordlocks.specs.Table.{KeepsOthers, claimed, held_mode};
@@ -6,22 +6,7 @@ ghost use Rattle.xc_wordlocks.specs.Table.{KeepsOthers, claimed, held_mode};
 use crate::holders::Holders;
 use crate::steps::Steps;
 use std::sync::ledger::Ledger;
-use xc_data::{Claim, NoMemory};
-
-/// The transaction holds one object more, or in the stronger of both modes. Only an object that it doesn't hold can run out of memory.
-pub fn hold_object<L: Ledger>(
-    holders: &mut Holders,
-    claim: &Claim,
-    tx: u32,
-    steps: &mut Steps<L>,
-) -> Result<(), NoMemory>
-    ensures own { OnOk result ((o : Object) → held_mode holders.new tx o ≡ claimed (held_mode holders.old tx o) (claim.now ∷ []) o) }
-    ensures others { OnOk result (KeepsOthers tx holders.old holders.new) }
-    ensures err { OnErr result (holders.new ≡ holders.old) }
-    ensures absent { OnErr result (held_mode holders.old tx claim.now.object ≡ None) }
-{
-    holders.hold(&claim.object, tx, claim.mode, steps)
-}
+use xc_data::Claim;
 
 // The transaction holds what it holds already in the stronger of both modes. It takes no memory.
 fn raise<L: Ledger>(holders: &mut Holders, claim: &Claim, tx: u32, steps: &mut Steps<L>)
@@ -29,7 +14,7 @@ fn raise<L: Ledger>(holders: &mut Holders, claim: &Claim, tx: u32, steps: &mut S
     ensures own { (o : Object) → held_mode holders.new tx o ≡ claimed (held_mode holders.old tx o) (claim.now ∷ []) o }
     ensures others { KeepsOthers tx holders.old holders.new }
 {
-    let _ = hold_object(holders, claim, tx, steps);
+    let _ = holders.hold(&claim.object, tx, claim.mode, steps);
 }
 
 /// Gives what the transaction holds the modes of these claims. It takes no memory.

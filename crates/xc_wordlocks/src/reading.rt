@@ -1,11 +1,11 @@
 ghost use Rattle.std.specs.Prelude.{◌≡◌, ◌<◌, MatchOption};
-ghost use Rattle.xc_wordlocks.specs.Table.{held_mode};
-ghost use Rattle.xc_wordlocks.specs.Others.{HasNoOther, IsFirstOther};
+ghost use Rattle.xc_wordlocks.specs.Table.{held_mode, modes_of};
+ghost use Rattle.xc_wordlocks.specs.Others.{IsFree, IsMetBy};
 
 use crate::holders::Holders;
 use crate::steps::Steps;
 use std::sync::ledger::{Blank, Ledger};
-use xc_data::{Mode, Object};
+use xc_data::{Claim, Mode, Object};
 
 /// In which mode a transaction holds an object.
 pub fn mode_held<L: Ledger>(
@@ -19,24 +19,16 @@ pub fn mode_held<L: Ledger>(
     holders.look(object, steps)?.get(tx)
 }
 
-/// The smallest transaction but this one that holds an object, and its mode.
-pub fn first_other<L: Ledger>(
-    holders: &Holders,
-    object: &Object,
-    tx: u32,
-    blank: Blank,
-) -> Option<(u32, Mode)>
+/// The smallest other holder of a claimed object, if its mode isn't compatible with the claimed one.
+pub fn met_by<L: Ledger>(holders: &Holders, claim: &Claim, tx: u32, blank: Blank) -> Option<u32>
     requires name { blank.name ≡ L.name }
     requires parts { blank.parts ≡ L.parts }
     requires one { 0 < blank.parts }
-    ensures { MatchOption result (HasNoOther holders.now object.now tx) (λ h. IsFirstOther holders.now object.now tx h.0 h.1) }
+    ensures { MatchOption result (IsFree (modes_of holders.now claim.now.object) tx claim.now.mode)
+        (IsMetBy (modes_of holders.now claim.now.object) tx claim.now.mode) }
 {
     let mut steps = Steps::<L>::new(blank);
-    let row = holders.look(object, &mut steps)?;
-    let (holder, mode) = row.first()?;
-    if holder == tx {
-        row.first_behind(tx)
-    } else {
-        Some((holder, mode))
-    }
+    holders
+        .look(&claim.object, &mut steps)?
+        .met_by(tx, claim.mode)
 }

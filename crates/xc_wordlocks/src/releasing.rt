@@ -25,7 +25,7 @@ pub fn take_all<L: Ledger>(
 {
     let mut count = 0;
     for at in 0..claims.len() {
-        let mut claim = claims[at];
+        let mut claim = claims[at].again();
         if let Some(mode) = holders.take(&claim.object, tx, steps) {
             claim.mode = mode;
             claims[count] = claim;

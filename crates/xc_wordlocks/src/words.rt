@@ -1,10 +1,12 @@
-ghost use Rattle.std.specs.Prelude.{◌≡◌, ◌<◌, ◌≤◌, ℕ, length, None, IfSome, IfNone, OnOk, OnErr};
+ghost use Rattle.std.specs.Prelude.{◌≡◌, ◌<◌, ◌≤◌, ℕ, length, None, IfSome, IfNone, IfErr, OnOk, OnErr};
 ghost use Rattle.std.specs.FinMap as map;
 ghost use Rattle.xc_wordlocks.specs.Keys.{word_holder};
+ghost use Rattle.xc_wordlocks.specs.Others.{IsFree, IsReason};
 ghost use Rattle.xc_wordlocks.specs.Rows.{mode_among, with_mode};
 ghost use Rattle.xc_wordlocks.specs.Words.{words_of};
 
 use crate::object_holders::ObjectHolders;
+use crate::refusal::Refusal;
 use std::alloc::Global;
 use std::marker::Model;
 use xc_data::{Mode, NoMemory};
@@ -70,6 +72,18 @@ impl Words {
     {
         grow(&mut self.holders, at as usize)?;
         self.holders[at as usize].hold(self.alloc, tx, mode)
+    }
+
+    /// The same, unless the smallest other holder has a mode that isn't compatible.
+    pub fn claim(&mut self, at: u32, tx: u32, mode: Mode) -> Result<(), Refusal>
+        ensures free { OnOk result (IsFree (λ n. map.get self.old (word_holder at n)) tx mode) }
+        ensures ok { OnOk result
+            (self.new ≡ map.insert self.old (word_holder at tx) (with_mode (map.get self.old (word_holder at tx)) mode)) }
+        ensures err { OnErr result (self.new ≡ self.old) }
+        ensures reason { IfErr result (IsReason (λ n. map.get self.old (word_holder at n)) tx mode) }
+    {
+        grow(&mut self.holders, at as usize)?;
+        self.holders[at as usize].claim(self.alloc, tx, mode)
     }
 
     /// A transaction holds a word no longer. Gives the mode in which it did. It takes no memory.

@@ -9,7 +9,9 @@ ghost use Rattle.xc_world.specs.Modes.{mode_of, claims_of};
 
 use crate::checks::is_refused;
 use arrayvec::ArrayVec;
-use xc_data::{Call, Chunk, Claim, LateCall, Mode, Name, NoMemory, Num, Object, Place, Private};
+use xc_data::{
+    Call, Chunk, Claim, LateCall, Mode, NoMemory, Num, Object, Place, Private, SharedName,
+};
 
 // The five calls that only look.
 fn mode_of(call: &Call) -> Mode
@@ -23,7 +25,7 @@ fn mode_of(call: &Call) -> Mode
     }
 }
 
-// A claim is built where it is pushed: an object takes the room of the longest name, and each hand-over would copy that.
+// A claim is built where it is pushed, since each hand-over would copy it.
 fn push_word(claims: &mut ArrayVec<Claim, 2>, mode: Mode, at: u32)
     requires { array_vec_len claims.old + 1 ≤ 2 }
     ensures { claims.new.items ≡ claims.old.items ++ claim mode (object.Word at) ∷ [] }
@@ -34,18 +36,18 @@ fn push_word(claims: &mut ArrayVec<Claim, 2>, mode: Mode, at: u32)
     });
 }
 
-fn push_name(claims: &mut ArrayVec<Claim, 2>, mode: Mode, name: &Name)
+fn push_name(claims: &mut ArrayVec<Claim, 2>, mode: Mode, name: &SharedName)
     requires { array_vec_len claims.old + 1 ≤ 2 }
     ensures { claims.new.items ≡ claims.old.items ++ claim mode (object.Name name.now) ∷ [] }
 {
     claims.push(Claim {
-        object: Object::Name(*name),
+        object: Object::Name(name.again()),
         mode,
     });
 }
 
 // Two names, once where they are equal.
-fn push_names(claims: &mut ArrayVec<Claim, 2>, mode: Mode, from: &Name, to: &Name)
+fn push_names(claims: &mut ArrayVec<Claim, 2>, mode: Mode, from: &SharedName, to: &SharedName)
     requires { array_vec_len claims.old + 2 ≤ 2 }
     ensures { claims.new.items ≡ claims.old.items ++ map (claim mode)
         (if pointwise nat_eq from.now to.now then object.Name from.now ∷ [] else object.Name from.now ∷ object.Name to.now ∷ []) }
@@ -92,9 +94,9 @@ pub fn push_claims(claims: &mut ArrayVec<Claim, 2>, call: &Call, me: &Private, w
     match call {
         Call::Load { at } | Call::Store { at, .. } => push_word(claims, mode, *at as u32),
         Call::XOpen { name } | Call::XCreate { name } | Call::XUnlink { name, .. } => {
-            push_name(claims, mode, name.value());
+            push_name(claims, mode, name);
         }
-        Call::XRename { from, to } => push_names(claims, mode, from.value(), to.value()),
+        Call::XRename { from, to } => push_names(claims, mode, from, to),
         Call::XRead { h, .. } | Call::XWriteOvr { h, .. } => push_held(claims, mode, me, *h),
         Call::XWriteSeq { h, .. } | Call::XLen { h } => push_held(claims, mode, me, *h),
         Call::XReadPipe { h, .. } | Call::XRecvmsg { h } => push_held(claims, mode, me, *h),

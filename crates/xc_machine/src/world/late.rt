@@ -144,7 +144,7 @@ impl World {
         ensures err { OnErr result (self.new ≡ self.old) }
     {
         match call {
-            LateCall::Unlink(name) => Ok(self.unlink(*name)),
+            LateCall::Unlink(name) => Ok(self.unlink(*name.value())),
             LateCall::Sync(_) => Ok(LateEnd::Done),
             LateCall::WritePipe(num, bytes) => self.write_pipe(*num, bytes.as_slice()),
             LateCall::Shutdown(object) => self.shut_down(object),

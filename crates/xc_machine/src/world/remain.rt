@@ -118,8 +118,8 @@ impl World {
             Undo::Tail { file, after, n, .. } => {
                 self.put_behind(*file, &after.as_slice()[from as usize..*n as usize])
             }
-            Undo::Made { name, num } => self.add_named(*name, *num),
-            Undo::Moved { from, to } => self.give_name(*from, *to),
+            Undo::Made { name, num } => self.add_named(*name.value(), *num),
+            Undo::Moved { from, to } => self.give_name(*from.value(), *to.value()),
             Undo::NewPipe(num) => self.add_pipe(*num),
             Undo::NewPair(num) => self.pairs.insert(*num, PairBody::empty(self.alloc)),
         }

@@ -27,7 +27,7 @@ fn line_of(job: &Job) -> JobLine
     match &job.activity {
         Activity::Ended(end) => JobLine {
             block: job.block,
-            end: *end,
+            end: end.again(),
         },
         _ => unreachable!(),
     }

@@ -32,7 +32,7 @@ impl<H: Host> Station<H> {
     {
         self.note(Event::Turned {
             job,
-            answer: Some(*answer),
+            answer: Some(answer.again()),
         });
     }
 
@@ -132,6 +132,9 @@ impl<H: Host> Chronicle for Station<H> {
     }
 
     fn last(&self) -> Option<Event> {
-        self.last
+        match &self.last {
+            Some(event) => Some(event.again()),
+            None => None,
+        }
     }
 }

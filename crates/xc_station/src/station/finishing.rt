@@ -14,7 +14,7 @@ fn phase_of(job: &Job) -> Option<Phase>
     ensures { result ≡ phase_in (doing_of job.now) }
 {
     match job.activity {
-        Activity::Active => Some(job.tx.phase),
+        Activity::Active => Some(job.tx.phase.again()),
         Activity::Idle | Activity::Starved | Activity::Ended(_) => None,
     }
 }

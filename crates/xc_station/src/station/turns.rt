@@ -13,6 +13,7 @@ ghost use Rattle.xc_station.specs.Stations.{live_at, now_of, setting_of};
 
 use crate::Station;
 use crate::begin::begin;
+use crate::calls::Shared;
 use crate::close::{Closing, abort, commit, end_late, end_start, undo};
 use crate::job::Stage;
 use crate::places::block_at;
@@ -99,11 +100,8 @@ impl<H: Host> Station<H> {
         ensures quiet { KeepsEvents self.old self.new }
         ensures row { IsTurn (setting_of H.model self.old) at (now_of H.model self.old) PlainTurn.Went (now_of H.model self.new) }
     {
-        end_late(
-            &mut self.shared.host,
-            &self.shared.buffers,
-            &mut self.jobs[at],
-        );
+        let Shared { host, buffers, .. } = &mut self.shared;
+        end_late(host, buffers, &mut self.jobs[at]);
     }
 
     // Does the next late call of a committing transaction.
@@ -167,6 +165,9 @@ impl<H: Host> Station<H> {
         ensures quiet { KeepsEvents self.old self.new }
         ensures row { IsTurn (setting_of H.model self.old) at (now_of H.model self.old) result (now_of H.model self.new) }
     {
+        // The range of what the rules allow bounds the count of attempts, so one more can be counted.
+        let allowed = self.rules.attempts;
+        prove!(allowed >= 1);
         let entry = abort(
             self.alloc,
             at as u32 + 1,

@@ -1,7 +1,7 @@
 ghost use Rattle.std.specs.Prelude.{IfOk};
 ghost use Rattle.xc_compensate.specs.Records.{IsRecord};
 
-use super::{FILE, host_of, name};
+use super::{FILE, host_of, name, shared_name};
 use Kind::{Append, Create, Cut, DropPipe, NameBack, NewPipe, Rename, Restore, Uncreate};
 use std::alloc::Global;
 use std::test::Fail;
@@ -61,21 +61,21 @@ fn faults_of_a_turn_count_together(rt: HostRuntime) -> Result<(), Fail> {
     Ok(())
 }
 
-fn made() -> Result<Undo, NoMemory>
+fn made(alloc: Global) -> Result<Undo, NoMemory>
     ensures { IfOk result IsRecord }
 {
     Ok(Undo::Made {
-        name: name(b"made")?,
+        name: shared_name(alloc, b"made")?,
         num: MADE,
     })
 }
 
-fn moved() -> Result<Undo, NoMemory>
+fn moved(alloc: Global) -> Result<Undo, NoMemory>
     ensures { IfOk result IsRecord }
 {
     Ok(Undo::Moved {
-        from: name(b"made")?,
-        to: name(b"moved")?,
+        from: shared_name(alloc, b"made")?,
+        to: shared_name(alloc, b"moved")?,
     })
 }
 
@@ -93,8 +93,8 @@ fn tail(alloc: Global) -> Result<Undo, NoMemory>
 // The records of a file that was made, renamed from `made` to `moved`, and appended to.
 fn chain(alloc: Global) -> Result<Stack, NoMemory> {
     let mut stack = Stack::new(alloc);
-    stack.push(made()?)?;
-    stack.push(moved()?)?;
+    stack.push(made(alloc)?)?;
+    stack.push(moved(alloc)?)?;
     stack.push(tail(alloc)?)?;
     Ok(stack)
 }

@@ -1,4 +1,4 @@
-use super::{FILE, are_of, host_of, name};
+use super::{FILE, are_of, host_of, shared_name};
 use Kind::{Lookup, Sync, Unlink};
 use std::alloc::Global;
 use std::test::Fail;
@@ -10,7 +10,7 @@ use xc_testhost::TestHost;
 // An unlink of the name `a` and a sync of its file.
 fn late_calls(alloc: Global) -> Result<Late, NoMemory> {
     let mut late = Late::new(alloc);
-    late.push(LateCall::Unlink(name(b"a")?))?;
+    late.push(LateCall::Unlink(shared_name(alloc, b"a")?))?;
     late.push(LateCall::Sync(FILE))?;
     Ok(late)
 }

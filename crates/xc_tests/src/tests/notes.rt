@@ -29,7 +29,10 @@ impl Chronicle for Notes {
     }
 
     fn last(&self) -> Option<Event> {
-        self.last
+        match &self.last {
+            Some(event) => Some(event.again()),
+            None => None,
+        }
     }
 }
 

@@ -26,7 +26,7 @@ use crate::shapes::{
 };
 use crate::written::{written, written_with_slot};
 use std::alloc::Global;
-use xc_data::Boxed;
+use xc_data::{Boxed, SharedName};
 use xc_tokens::{Stop, Token, Why};
 
 impl Draft {
@@ -58,7 +58,7 @@ impl Draft {
     fn open(&mut self, alloc: Global, rest: &[Token]) -> Result<(), Stop>
         ensures { Gives (λ _. self.new) result (called self.old (name_form named.Open (map lexeme rest.now))) }
     {
-        let (name, into) = name_into(alloc, rest)?;
+        let (name, into) = name_into(alloc, &mut self.files, rest)?;
         let into = place_target(&mut self.names, &into)?;
         self.keep_call(CallForm::Open { name, into })
     }
@@ -66,7 +66,7 @@ impl Draft {
     fn create(&mut self, alloc: Global, rest: &[Token]) -> Result<(), Stop>
         ensures { Gives (λ _. self.new) result (called self.old (name_form named.Create (map lexeme rest.now))) }
     {
-        let (name, into) = name_into(alloc, rest)?;
+        let (name, into) = name_into(alloc, &mut self.files, rest)?;
         let into = place_target(&mut self.names, &into)?;
         self.keep_call(CallForm::Create { name, into })
     }
@@ -74,14 +74,14 @@ impl Draft {
     fn rename(&mut self, alloc: Global, rest: &[Token]) -> Result<(), Stop>
         ensures { Gives (λ _. self.new) result (called self.old (name_form named.Rename (map lexeme rest.now))) }
     {
-        let (from, to) = two_names(alloc, rest)?;
+        let (from, to) = two_names(alloc, &mut self.files, rest)?;
         self.keep_call(CallForm::Rename { from, to })
     }
 
     fn unlink(&mut self, alloc: Global, rest: &[Token]) -> Result<(), Stop>
         ensures { Gives (λ _. self.new) result (called self.old (name_form named.Unlink (map lexeme rest.now))) }
     {
-        let (name, slot) = name_and_slot(alloc, rest)?;
+        let (name, slot) = name_and_slot(alloc, &mut self.files, rest)?;
         let slot = place_ending(&mut self.names, &slot)?;
         self.keep_call(CallForm::Unlink { name, slot })
     }

@@ -10,5 +10,5 @@ loop-h-preserved c =
     let xs = c.args.held.now.items in
     let i = c.loop-h.h-index in
     let lt = subst (λ l. i < length l) c.deref_mut-h-items.ensures.value c.loop-h-test.true in
-    ap (slice_set c.loop-h.h-items i) (c.merged.ensures ∙ ap f (sym c.h-item.is))
+    ap (slice_set c.loop-h.h-items i) (c.merged.ensures ∙ ap f (c.again.ensures ∙ sym c.h-item.is))
     ∙ map_over_more f xs c.loop-h.h-items i c.h-item.result lt c.loop-h.invariant c.h-item.is

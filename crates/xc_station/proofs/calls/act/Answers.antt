@@ -40,7 +40,7 @@ returns-in-XCreate-clause-acted g c =
     let e = c.x_create.ensures in
     let same = c.deref_mut-in-XCreate.ensures.value in
     let stored = ap (λ (me : Private). me.stored) same in
-    file_acted_at g.H.Host.model _ _ _ _ _ _ same (c.in-XCreate.is ∙ ap call.XCreate (sym c.value-in-XCreate.ensures)) refl refl refl refl
+    file_acted_at g.H.Host.model _ _ _ _ _ _ same c.in-XCreate.is refl refl refl refl
     e.call refl (omega (arith, e.stored, stored, c.requires.may.stored)) e.now
 
 pub returns-in-XRead-clause-acted : goal.returns-in-XRead-clause-acted
@@ -83,7 +83,7 @@ pub returns-in-XRename-clause-acted : goal.returns-in-XRename-clause-acted
 returns-in-XRename-clause-acted g c =
     let e = c.x_rename.ensures in
     file_acted g.H.Host.model _ _ _ _ _
-    (c.in-XRename.is ∙ (λ i. call.XRename (sym c.value-in-XRename.ensures i) (sym c.value-in-XRename-2.ensures i))) refl refl refl refl
+    c.in-XRename.is refl refl refl refl
     (e.call c.args.tx.now.number c.args.tx.now.me.value) refl c.requires.may.stored e.now
 
 pub returns-in-XWriteSeq-clause-acted : goal.returns-in-XWriteSeq-clause-acted
@@ -96,7 +96,7 @@ pub returns-in-XUnlink-clause-acted : goal.returns-in-XUnlink-clause-acted
 returns-in-XUnlink-clause-acted g c =
     let e = c.x_unlink.ensures in
     kept_acted g.H.Host.model _ _ _ _ _
-    (c.in-XUnlink.is ∙ (λ i. call.XUnlink (sym c.value-in-XUnlink.ensures i) c.in-XUnlink.slot)) refl refl refl
+    c.in-XUnlink.is refl refl refl
     (e.call c.args.tx.now.me.value _) e.err c.requires.may.stored
 
 pub returns-in-XThreadCreate-clause-acted : goal.returns-in-XThreadCreate-clause-acted

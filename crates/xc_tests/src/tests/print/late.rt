@@ -28,7 +28,7 @@ fn ends(alloc: Global) -> Result<LateList, NoMemory> {
 
 fn held(alloc: Global) -> Result<Vec<Claim>, NoMemory> {
     let held = [exclusive(Object::Pipe(FIRST)), exclusive(Object::Jobs)];
-    Ok(held.to_vec(alloc)?)
+    Ok(Vec::from_array(alloc, held)?)
 }
 
 fn with_late_calls(alloc: Global) -> Result<Entry, NoMemory> {

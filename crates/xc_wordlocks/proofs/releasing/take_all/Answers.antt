@@ -1,7 +1,7 @@
 use Rattle.std.proofs.Common.{◌≡◌, ◌+◌, ◌<◌, ◌++◌, Option, length, take, drop, ap, ap₂, sym, ◌∙◌, subst, arith}
 use Rattle.std.proofs.lemmas.List.{append-nil, drop-set-lt, take_more_set}
 use Rattle.std.specs.Global.{Vec}
-use Rattle.std.proofs.Math.ListN.{set, length-set}
+use Rattle.std.proofs.Math.ListN.{get_or, set, length-set}
 use Rattle.xc_data.specs.declared.claim.Mode.{Mode}
 use Rattle.xc_data.specs.declared.claim.Claim.{Claim}
 use Rattle.xc_wordlocks.specs.Table.{Table}
@@ -14,11 +14,12 @@ loop-at-preserved g c =
     let items = c.loop-at.claims.items in
     let count = c.loop-at.count in
     let at = c.loop-at.at in
-    let item = c.index.result.now in
+    let item = c.again-claim.result in
+    let is : item ≡ get_or items at item = subst (λ (d : Claim). d ≡ get_or items at d) (sym c.again-claim.ensures) c.index.ensures in
     let t = c.loop-at.invariant.taking in
     let within : at < length items = omega (arith, c.args.claims.now.ok.0) in
     let front = λ (m : Option Mode). take count items ++ claim_in m item.object in
-    let more = taking_more c.args.tx c.args.holders.now c.loop-at.holders c.args.claims.now.items items at count t item within c.index.ensures in
+    let more = taking_more c.args.tx c.args.holders.now c.loop-at.holders c.args.claims.now.items items at count t item within is in
     record {
       taking =
           subst (λ (now : Table). Taking c.args.tx (record { old = c.args.holders.now; new = now })

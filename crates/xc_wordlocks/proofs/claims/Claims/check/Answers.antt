@@ -1,4 +1,4 @@
-use Rattle.std.proofs.Common.{◌+◌, List, take, drop, refl, sym, subst, take_all, arith}
+use Rattle.std.proofs.Common.{◌+◌, List, take, drop, sym, subst, take_all, arith}
 use Rattle.std.specs.Prelude.{All}
 use Rattle.std.proofs.lemmas.List.Elements.{All-push}
 use Rattle.xc_data.specs.declared.claim.Claim.{Claim}
@@ -14,7 +14,7 @@ returns-in-Some c =
       after = drop (c.loop-claim.claim-index + 1) c.args.claims.now;
       parts = parts c.args.claims.now c.loop-claim.claim-index c.claim-item.result c.loop-claim-test.true c.claim-item.is;
       free = c.loop-claim.invariant;
-      object_is = refl;
+      object_is = sym c.again.ensures;
       met = c.in-Some.ensures.met;
     }
 
