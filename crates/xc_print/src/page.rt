@@ -30,6 +30,16 @@ impl Page {
         }
     }
 
+    /// An empty page with room for so many bytes, where there is memory for them all. It grows if they don't do.
+    pub fn with_room(alloc: Global, room: usize) -> Page
+        ensures { result ≡ [] }
+    {
+        match Vec::with_capacity(alloc, room) {
+            Ok(bytes) => Page { bytes },
+            Err(_) => Page::new(alloc),
+        }
+    }
+
     /// The page as a text, without a copy. It takes no memory.
     pub fn into_text(self) -> Text
         ensures { result ≡ self }

@@ -102,6 +102,22 @@ fn push_text(
     push_totals(out, Totals::of(journal))
 }
 
+// About how long the text of an entry is, with its calls and what it held: two words and a file in their usual length.
+fn room_of(entry: &Entry) -> usize {
+    let calls = entry.calls.len().saturating_mul(24);
+    let held = entry.held.len().saturating_mul(12);
+    calls.saturating_add(held).saturating_add(48)
+}
+
+// About how long the text of a journal is. A text that has its room at once need not move.
+fn room_for(journal: &[Entry]) -> usize {
+    let mut room: usize = 0;
+    for entry in journal {
+        room = room.saturating_add(room_of(entry));
+    }
+    room
+}
+
 /// The text of a run: its journal, its jobs in the order of their numbers, its words, and the kept data in the order in which
 /// it is printed.
 pub fn render(
@@ -114,7 +130,7 @@ pub fn render(
     requires few { length journal.now ≤ 10000 }
     ensures { IfOk result (λ text. text ≡ rendered journal.now jobs.now words.now kept.now) }
 {
-    let mut out = Page::new(alloc);
+    let mut out = Page::with_room(alloc, room_for(journal));
     push_text(&mut out, journal, jobs, words, kept)?;
     Ok(out.into_text())
 }
