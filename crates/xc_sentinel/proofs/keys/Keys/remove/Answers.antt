@@ -1,15 +1,32 @@
 use Rattle.std.proofs.Common.{ap, sym, ◌∙◌}
-use Rattle.std.proofs.lemmas.Cmp.{nat_cmp_total}
-use Rattle.std.proofs.lemmas.Map.Lookups.{exact_unsigned}
 use Rattle.std.specs.FinMap as map
-use Rattle.xc_maps.proofs.Maps.{get-lookup, removed}
+use Rattle.xc_sentinel.specs.Keys.{with_key}
+use Rattle.xc_sentinel.proofs.Beside.{get_beside, get_other, take_beside, take_other}
 use Rattle.xc_sentinel.proofs.keys.Keys.remove.Goals as goal
 
-pub returns-clause-value : goal.returns-clause-value
-returns-clause-value c =
-    c.remove.ensures.value ∙ sym (get-lookup nat_cmp_total c.self.inside.entries.entries c.args.tx) ∙ ap (λ m. map.get m c.args.tx) c.self.view_is
+pub returns-in-Some-clause-value : goal.returns-in-Some-clause-value
+returns-in-Some-clause-value c =
+    let was = c.self.inside in
+    sym (get_beside was.tree was.beside c.in-Some.number c.in-Some.key c.args.tx c.in-Some.is c.if-number-tx.true)
+    ∙ ap (λ m. map.get m c.args.tx) c.self.view_is
 
-pub returns-clause-removed : goal.returns-clause-removed
-returns-clause-removed c =
-    removed nat_cmp_total exact_unsigned c.self.inside.entries.entries c.remove.new.self.entries c.args.tx c.remove.ensures.updates.0
+pub returns-in-Some-clause-removed : goal.returns-in-Some-clause-removed
+returns-in-Some-clause-removed c =
+    let was = c.self.inside in
+    c.remove-kept.ensures.removed
+    ∙ take_beside was.tree was.beside c.in-Some.number c.in-Some.key c.args.tx c.in-Some.is c.if-number-tx.true
+    ∙ ap (λ m. map.remove m c.args.tx) c.self.view_is
+
+pub returns-in_default-clause-value : goal.returns-in_default-clause-value
+returns-in_default-clause-value c =
+    let was = c.self.inside in
+    c.remove-kept.ensures.value
+    ∙ sym (get_other was.tree was.beside c.in-Some.number c.in-Some.key c.args.tx c.in-Some.is c.if-number-tx.false)
+    ∙ ap (λ m. map.get m c.args.tx) c.self.view_is
+
+pub returns-in_default-clause-removed : goal.returns-in_default-clause-removed
+returns-in_default-clause-removed c =
+    let was = c.self.inside in
+    ap (with_key was.beside) c.remove-kept.ensures.removed
+    ∙ take_other was.tree was.beside c.in-Some.number c.in-Some.key c.args.tx c.in-Some.is c.if-number-tx.false
     ∙ ap (λ m. map.remove m c.args.tx) c.self.view_is
