@@ -5,7 +5,7 @@ ghost use Rattle.xc_app.specs.Headline.{starves, gave_up, gives_up, leaves_effec
 
 use crate::Status;
 use xc_data::{Entry, JobEnd, JobLine, LateEnd, Outcome};
-use xc_print::Totals;
+use xc_print::remaining_effects;
 use xc_station::End;
 
 fn is_starved(job: &JobLine) -> bool
@@ -63,7 +63,7 @@ fn leaves_effects<H>(end: &End<H>) -> bool
     requires { length end.now.journal.items ≤ 10000 }
     ensures { result ≡ leaves_effects end.now }
 {
-    Totals::of(end.journal.as_slice()).remains > 0
+    remaining_effects(end.journal.as_slice()) > 0
 }
 
 /// The status that a run with this end is meant to have. Memory comes first: a run in which it was wanting has that status,

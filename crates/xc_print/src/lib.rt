@@ -17,4 +17,4 @@ mod replies;
 mod totals;
 
 pub use rendering::render;
-pub use totals::Totals;
+pub use totals::{Totals, remaining_effects};

@@ -31,30 +31,6 @@ fn is_abort(entry: &Entry) -> bool
     matches!(entry.outcome, Outcome::Aborted(_))
 }
 
-fn count_committed(journal: &[Entry]) -> usize
-    ensures { result ≡ count_by is_committed journal.now }
-{
-    let mut count = 0;
-    for entry in journal {
-        if is_commit(entry) {
-            count += 1;
-        }
-    }
-    count
-}
-
-fn count_aborted(journal: &[Entry]) -> usize
-    ensures { result ≡ count_by is_aborted journal.now }
-{
-    let mut count = 0;
-    for entry in journal {
-        if is_abort(entry) {
-            count += 1;
-        }
-    }
-    count
-}
-
 fn count_fault_replies(replies: &[Reply]) -> usize
     ensures { result ≡ count_by is_fault_reply replies.now }
 {
@@ -136,19 +112,9 @@ fn entry_remains_of(entry: &Entry) -> usize
     }
 }
 
-fn journal_faults(journal: &[Entry]) -> u128
-    requires { length journal.now ≤ 10000 }
-    ensures { result ≡ sum_by entry_faults journal.now }
-{
-    let mut faults = 0;
-    for entry in journal {
-        faults += entry_faults_of(entry);
-    }
-    faults
-}
-
-fn journal_remains(journal: &[Entry]) -> u128
-    requires { length journal.now ≤ 10000 }
+/// How many effects of a journal's aborted transactions stand.
+pub fn remaining_effects(journal: &[Entry]) -> u128
+    requires few { length journal.now ≤ 10000 }
     ensures { result ≡ sum_by entry_remains journal.now }
 {
     let mut remains = 0;
@@ -159,16 +125,28 @@ fn journal_remains(journal: &[Entry]) -> u128
 }
 
 impl Totals {
-    /// The totals of a journal: what its last line counts.
+    /// The totals of a journal: what its last line counts. They are taken in one walk over it.
     pub fn of(journal: &[Entry]) -> Totals
         requires few { length journal.now ≤ 10000 }
         ensures { result ≡ totals_of journal.now }
     {
+        let (mut committed, mut aborted) = (0, 0);
+        let (mut faults, mut remains) = (0, 0);
+        for entry in journal {
+            if is_commit(entry) {
+                committed += 1;
+            }
+            if is_abort(entry) {
+                aborted += 1;
+            }
+            faults += entry_faults_of(entry);
+            remains += entry_remains_of(entry) as u128;
+        }
         Totals {
-            committed: count_committed(journal),
-            aborted: count_aborted(journal),
-            faults: journal_faults(journal),
-            remains: journal_remains(journal),
+            committed,
+            aborted,
+            faults,
+            remains,
         }
     }
 }

@@ -1,6 +1,6 @@
 use Rattle.std.proofs.Common.{◌≡◌, ◌+◌, ◌*◌, ◌≤◌, ◌^◌, drop, sum_by}
 use Rattle.xc_print.specs.Totals.{entry_remains}
-use Rattle.xc_print.proofs.totals.journal_remains.Given as goal
+use Rattle.xc_print.proofs.totals.remaining_effects.Given as goal
 
 -- what is counted and what is left are all, and each one counted is below a bound
 abbrev pub invariant-loop-entry : goal.invariant-loop-entry

@@ -1,8 +1,0 @@
-use Rattle.std.proofs.Common.{◌≡◌, ◌+◌, ◌≤◌, drop, count_by}
-use Rattle.xc_print.specs.Totals.{is_aborted}
-use Rattle.xc_print.proofs.totals.count_aborted.Given as goal
-
--- what is counted and what is left are all
-abbrev pub invariant-loop-entry : goal.invariant-loop-entry
-invariant-loop-entry l = (l.count + count_by is_aborted (drop l.entry-index l.journal) ≡ count_by is_aborted l.journal)
-    × (l.count ≤ l.entry-index)
