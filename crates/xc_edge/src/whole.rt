@@ -8,7 +8,7 @@ use std::alloc::{AllocError, Global};
 use thiserror::Error;
 
 // How many bytes one read asks for.
-const BUFFER: usize = 1024;
+const BUFFER: usize = 16 * 1024;
 
 /// Why a source wasn't read.
 #[derive(Clone, Copy, Debug, PartialEq, Eq, Error)]
