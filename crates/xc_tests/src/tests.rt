@@ -1,26 +1,18 @@
-mod app;
 mod buffers;
 mod claims;
 mod compensate;
 mod data;
 mod deferred;
-mod edge;
 mod file;
-mod finishing;
 mod journal;
 mod machine;
 mod memhost;
-mod notes;
-mod pace;
 mod print;
-mod sentinels;
 mod testhost;
-mod turnstile;
 mod words;
-mod workers;
 
 use std::alloc::Global;
-use xc_data::{CallNumbers, Kind, Name, NoMemory, Num, SharedName};
+use xc_data::{Kind, Name, NoMemory, Num, SharedName};
 use xc_testhost::{Asked, TestHost};
 
 // The file `a` of a host for tests.
@@ -47,11 +39,4 @@ fn are_of(log: &[Asked], kinds: &[Kind]) -> bool {
             .iter()
             .zip(kinds)
             .all(|(asked, kind)| asked.kind == *kind)
-}
-
-// The call of this number alone.
-fn only(alloc: Global, number: u64) -> Result<CallNumbers, NoMemory> {
-    let mut numbers = CallNumbers::new(alloc);
-    numbers.push(number)?;
-    Ok(numbers)
 }
