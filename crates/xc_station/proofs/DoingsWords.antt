@@ -22,7 +22,7 @@ use Rattle.xc_world.specs.Fits.{fits, answer_of}
 use Rattle.xc_data.specs.Calls.{is_late, is_kept}
 use Rattle.xc_model.specs.PlainSteps.{StepsAsPlainIn, tx_parts, seen, stored_by}
 use Rattle.xc_model.specs.WordCalls.{is_word_call, word_reply, words_after}
-use Rattle.xc_station.specs.Acting.{Acting, HasActedAsPlain, HasDoneAsPlain, told_between, told_of}
+use Rattle.xc_station.specs.Acting.{Acting, HasActedAsPlain, HasDoneAsPlain, LeavesOff, told_between, told_of}
 use Rattle.xc_station.specs.Lent.{IsBacked}
 use Rattle.xc_station.proofs.Notes.{keeps_itself}
 use Rattle.xc_station.proofs.WordActs.{append_nil, word-act, word-after, word-checked, word-fine, word-quiet}
@@ -94,6 +94,19 @@ module _ {H : Type 0} (model : HostModel H) (c : Call) (old : Acting H) (writes 
         does = λ tells. does_words reply gives after;
       }
 
+-- for want of memory nothing was done
+pub nothing_left : {H : Type 0} (model : HostModel H) (c : Call) (old : Acting H) → LeavesOff model c old old
+nothing_left model c old =
+    record {
+      left = [];
+      one = omega arith;
+      tx = ap (λ us. record old.tx { undo = record old.tx.undo { pending = us } }) (sym (append_nil old.tx.undo.pending));
+      uses = record { made = []; named = inl refl; used = unused model old.host };
+      faults = refl;
+      keeps = λ tells. keeps_itself (model.contents old.host);
+      contents = λ tells. inl (refl, refl);
+    }
+
 -- a load has acted
 pub load_acted : {H : Type 0} (model : HostModel H) (c : Call) (at : ℕ) (old : Acting H) (reply : Reply) → c ≡ call.Load at
     → reply ≡ word_reply (overlaid old.words old.tx.writes) (call.Load at) → is_late reply ≡ false → old.tx.me.stored ≤ 16384
@@ -114,12 +127,4 @@ store_acted model c at value old writes (Ok reply) is gives stores after err now
     subst (λ d. HasDoneAsPlain model d old (storing old writes) reply) (sym is)
     (word_done model (call.Store at value) old writes refl reply gives stores after now stored)
 store_acted model c at value old writes (Err e) is gives stores after err now stored =
-    record {
-      left = [];
-      one = omega arith;
-      tx = λ i. record old.tx { writes = err i; undo = record old.tx.undo { pending = sym (append_nil old.tx.undo.pending) i } };
-      uses = record { made = []; named = inl refl; used = unused model old.host };
-      faults = refl;
-      keeps = λ tells. keeps_itself (model.contents old.host);
-      contents = λ tells. inl (refl, refl);
-    }
+    subst (λ ws. LeavesOff model c old (storing old ws)) (sym err) (nothing_left model c old)

@@ -1,5 +1,5 @@
 -- Memory is wanting for the variable that takes a call's reply: what the call took goes back to the front.
-use Rattle.std.proofs.Common.{◌≡◌, ◌⊎◌, inl, inr, ◌≤◌, ◌<◌, Bool, true, false, List, [], ◌∷◌, ◌++◌, length, refl, ap, sym, ◌∙◌, subst, IsTrue, arith}
+use Rattle.std.proofs.Common.{◌≡◌, ◌⊎◌, inl, inr, ◌≤◌, ◌<◌, ◌+◌, Bool, true, false, List, [], ◌∷◌, ◌++◌, length, refl, ap, sym, ◌∙◌, subst, IsTrue, arith}
 use Rattle.std.proofs.lemmas.List.{append-nil, length-append}
 use Rattle.std.proofs.lemmas.List.Elements.{All-head}
 use Rattle.std.specs.Prelude.{All, Contains}
@@ -64,6 +64,15 @@ module _ {H : Type 0} (model : HostModel H) (c : Call) (old new : Acting H) (rep
   nothing_taken shorter =
       let all = ap length noted_behind ∙ length-append old.tx.taken took in
       none_of took (omega (arith, all, shorter))
+
+  -- without its last it is what it was
+  pub taken_before : length old.tx.taken < length new.tx.taken → (items : List KeptItem)
+      → ((notes : List KeptItem) (last : KeptItem) → new.tx.taken ≡ notes ++ last ∷ [] → items ≡ notes)
+      → (items ≡ old.tx.taken) × (length new.tx.taken ≡ length old.tx.taken + 1)
+  taken_before longer items gave =
+      let last = last_taken longer in
+      let all = noted_behind ∙ ap (λ taken. old.tx.taken ++ taken) last.1 in
+      (gave old.tx.taken last.0 all, ap length all ∙ length-append old.tx.taken (last.0 ∷ []))
 
   -- the last note went back to the front
   pub given_undone : (lent : IsTrue model.tells → IsLentFor old.tx.me old.tx.number c (model.contents old.host) old.kept)

@@ -1,5 +1,6 @@
 -- A job and its active transaction as plain data, and what a turn of the job goes by.
-use Rattle.std.specs.Prelude.{◌≡◌, ℕ, Bool, true, false, List, [], ◌∷◌, map, slice_get, if◌then◌else◌}
+use Rattle.std.specs.Prelude.{◌≡◌, ℕ, Bool, true, false, Option, List, [], ◌∷◌, map, slice_get, if◌then◌else◌}
+use Rattle.std.specs.Global.{Box}
 use Rattle.std.specs.declared.option.Option.TheVariants.{None, Some}
 use Rattle.xc_data.specs.declared.call.LateCall.{LateCall}
 use Rattle.xc_data.specs.declared.call.LateEnd.{LateEnd}
@@ -40,9 +41,14 @@ tx_view tx =
       ends = tx.late.ends;
     }
 
+-- what was kept, or else this
+abbrev pub kept_or : Private → Option (Box Private) → Private
+kept_or me None = me
+kept_or me (Some kept) = kept.value
+
 -- the private state of its begin: it was kept where a call may have changed it
 abbrev pub begun_of : Tx → Private
-begun_of tx = if tx.changed then tx.begun.value else tx.me.value
+begun_of tx = if tx.changed then kept_or tx.me.value tx.begun else tx.me.value
 
 -- what a job with this transaction does
 abbrev pub doing_view : Tx → Activity → Doing

@@ -244,7 +244,7 @@ fn do_host_call<H: Host>(
     ensures acted { HasActedAsPlain H.model call.now (acting host.old buffers.old.kept words.now tx.old)
         (acting host.new buffers.new.kept words.now tx.new) result }
 {
-    tx.keep();
+    tx.keep(alloc)?;
     let before = state_before(&tx.me, call);
     let noted = buffers.noted();
     let reply = act(alloc, host, buffers, words, tx, call)?;

@@ -1,11 +1,11 @@
-ghost use Rattle.std.specs.Prelude.{◌≡◌, ◌≤◌, ◌+◌, ◌∷◌, ◌++◌, [], ℕ, length, true, false, IfOk, OnOk};
+ghost use Rattle.std.specs.Prelude.{◌≡◌, ◌≤◌, ◌+◌, ◌∷◌, ◌++◌, [], ℕ, length, true, false, IfOk, IsSome, OnOk};
 ghost use Rattle.xc_data.specs.Claims.{holding};
 ghost use Rattle.xc_data.specs.declared.entry.Cause.{Cause as PlainCause};
 ghost use Rattle.xc_world.specs.World.{beginning};
 ghost use Rattle.xc_model.specs.declared.phase.Phase.TheVariants as PlainPhase;
 ghost use Rattle.xc_model.specs.Entering.{entry_of};
 ghost use Rattle.xc_model.specs.IdleRows.{new_tx};
-ghost use Rattle.xc_station.specs.Jobs.{begun_of, outcome_in, tx_view};
+ghost use Rattle.xc_station.specs.Jobs.{begun_of, kept_or, outcome_in, tx_view};
 ghost use Rattle.xc_wordlocks.specs.Table.{Holds};
 ghost use Rattle.xc_station.specs.Acting.{HasRoom, HasNoteRoom};
 ghost use Rattle.xc_station.specs.Moments.{Frees};
@@ -48,8 +48,8 @@ pub struct Tx {
     pub late: Late,
     /// What its calls took from pipes and pairs.
     pub taken: Taken,
-    /// The handles of the begin, where one may have.
-    pub begun: Box<Private>,
+    /// The handles of the begin, where one may have. Their place is made when the first call of the job may change one.
+    pub begun: Option<Box<Private>>,
 }
 
 // The outcome of a transaction that ends in this phase, with the ends of its records or of its late calls.
@@ -81,7 +81,7 @@ impl Tx {
             phase: Phase::Running,
             me: Box::new(alloc, *me)?,
             changed: false,
-            begun: Box::new(alloc, *me)?,
+            begun: None,
             writes: WriteSet::new(alloc),
             undo: Stack::new(alloc),
             late: Late::new(alloc),
@@ -90,6 +90,16 @@ impl Tx {
             replies: Roomy::new(alloc),
             held: Holding::new(alloc),
         })
+    }
+
+    // The handles are those that were kept, if any were.
+    fn take_handles_back(&mut self)
+        ensures me { self.new.me.value ≡ kept_or self.old.me.value self.old.begun }
+        ensures rest { self.new ≡ record self.old { me = self.new.me; begun = self.new.begun } }
+    {
+        if let Some(begun) = &mut self.begun {
+            mem::swap(&mut self.me, begun);
+        }
     }
 
     /// Begins the next transaction, with the handles of the last one's end: those of its begin, where it was aborted. It
@@ -103,7 +113,7 @@ impl Tx {
         self.began = began;
         self.phase = Phase::Running;
         if self.changed {
-            mem::swap(&mut self.me, &mut self.begun);
+            self.take_handles_back();
         }
         self.changed = false;
         self.writes.clear();
@@ -115,17 +125,24 @@ impl Tx {
         self.held = Holding::new(alloc);
     }
 
-    /// Keeps the handles of the begin, before a call changes one.
-    pub fn keep(&mut self)
+    /// Keeps the handles of the begin, before a call changes one. Only the first time it takes memory; without it nothing is kept.
+    pub fn keep(&mut self, alloc: Global) -> Result<(), NoMemory>
         ensures tx { tx_view self.new ≡ tx_view self.old }
         ensures begun { begun_of self.new ≡ begun_of self.old }
-        ensures changed { self.new.changed ≡ true }
+        ensures changed { OnOk result (self.new.changed ≡ true) }
+        ensures kept { OnOk result (IsSome self.new.begun) }
         ensures notes { (self.new.calls ≡ self.old.calls) × (self.new.replies ≡ self.old.replies) }
     {
-        if !self.changed {
-            *self.begun = *self.me;
-            self.changed = true;
+        match &mut self.begun {
+            Some(begun) => {
+                if !self.changed {
+                    **begun = *self.me;
+                }
+            }
+            None => self.begun = Some(Box::new(alloc, *self.me)?),
         }
+        self.changed = true;
+        Ok(())
     }
 
     /// The next transaction begins with the handles as they are, and with nothing made or stored.

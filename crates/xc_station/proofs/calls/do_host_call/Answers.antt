@@ -4,15 +4,51 @@ use Rattle.xc_data.specs.declared.private.Private.{Private}
 use Rattle.xc_model.specs.Moment.{TxView}
 use Rattle.xc_world.specs.After.{IsMeAfter}
 use Rattle.xc_world.specs.Run.{given_back}
-use Rattle.xc_station.specs.Acting.{acting, HasActedAsPlain, HasDoneAsPlain}
+use Rattle.xc_station.specs.Acting.{acting, HasActedAsPlain, HasDoneAsPlain, LeavesOff}
 use Rattle.xc_station.specs.Lent.{Lent, StaysBacked}
 use Rattle.xc_station.specs.PutBack.{place_before}
 use Rattle.xc_station.specs.declared.calls.Before.{Before}
 use Rattle.xc_station.specs.declared.tx.Tx.{Tx}
-use Rattle.xc_station.proofs.DoingsStarved.{wants_value}
-use Rattle.xc_station.proofs.Unanswered.{given_undone, last_backed, nothing_undone}
+use Rattle.xc_station.proofs.DoingsStarved.{unanswered_so, wants_value}
+use Rattle.xc_station.proofs.DoingsWords.{nothing_left}
+use Rattle.xc_station.proofs.Unanswered.{given_undone, last_backed, nothing_undone, taken_before}
 use Rattle.xc_station.proofs.calls.do_host_call.Goals as goal
 use Rattle.xc_station.proofs.calls.do_host_call.Goals.{then-noted, else-noted}
+
+pub returns-in_err-keep-clause-acted : goal.returns-in_err-keep-clause-acted
+returns-in_err-keep-clause-acted g c =
+    let model = g.H.Host.model in
+    let old = acting c.args.host.now c.args.buffers.now.kept c.args.words.now c.args.tx.now in
+    unanswered_so model c.args.call.now old _ c.from_residual.result c.from_residual.ensures.0
+    (subst (λ (t : TxView). LeavesOff model c.args.call.now old (record old { tx = t })) (sym c.in_err-keep.ensures.tx)
+    (nothing_left model c.args.call.now old))
+
+pub returns-then-is_err-clause-noted : goal.returns-then-is_err-clause-noted
+returns-then-is_err-clause-noted g c =
+    let model = g.H.Host.model in
+    let call = c.args.call.now in
+    let reply = c.in_ok-reply.reply in
+    let old = acting c.args.host.now c.args.buffers.now.kept c.args.words.now c.args.tx.now in
+    let done = acting c.act.new.host c.act.new.buffers.kept c.args.words.now c.act.new.tx in
+    let did : HasDoneAsPlain model call old done reply =
+    subst (λ (t : TxView). HasDoneAsPlain model call (record old { tx = t }) done reply) c.keep.ensures.tx c.in_ok-reply.ensures.acted in
+    let held = ap (λ (t : TxView). length t.taken) c.keep.ensures.tx in
+    let counts = c.in_ok-reply.ensures.noted in
+    elim c.if-noted.branch [
+      | then-noted w ↦
+          let more = w.if-noted.true in
+          let back = taken_before model call old done reply did c.requires.may.sided (omega (arith, held, counts, more, c.noted.ensures, c.noted-noted.ensures))
+          w.give_last.new.taken.items (λ notes last is. (w.give_last.ensures.given notes last is).0) in
+          let gave = w.give_last.ensures.noted in
+          let kept = ap (λ (b : Lent). b.noted) w.buffers-is in
+          let taken = ap (λ (t : Tx). length t.taken.items) w.tx-is ∙ ap length back.0 in
+          let one = back.1 in
+          omega (arith, held, counts, gave, kept, taken, one)
+      | else-noted w ↦
+          let kept = ap (λ (b : Lent). b.noted) w.buffers-is in
+          let taken = ap (λ (t : Tx). length t.taken.items) w.tx-is in
+          omega (arith, held, counts, kept, taken)
+    ]
 
 pub returns-then-is_err-clause-acted : goal.returns-then-is_err-clause-acted
 returns-then-is_err-clause-acted g c =
