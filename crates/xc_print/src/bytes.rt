@@ -4,7 +4,9 @@ ghost use Rattle.std.specs.Fmt.{digit_glyph};
 ghost use Rattle.xc_print.specs.Bytes.{is_plain, escaped_byte, escaped, bytes_text};
 
 use crate::page::Page;
+use std::simd::prelude::*;
 use xc_data::NoMemory;
+use xc_lanes::{ByteKind, first_set, front_len};
 
 fn hex_digit(n: u8) -> u8
     requires { n < 16 }
@@ -13,26 +15,22 @@ fn hex_digit(n: u8) -> u8
     if n < 10 { b'0' + n } else { b'a' + (n - 10) }
 }
 
-// Whether a byte stands for itself between quotes.
-fn is_plain(b: u8) -> bool
-    ensures { result ≡ is_plain b }
-{
-    matches!(b, b' '..=b'~') && b != b'"' && b != b'\\'
-}
+// The bytes that stand for themselves between quotes.
+struct PlainBytes;
 
-// How many bytes in front stand for themselves.
-fn plain_len(bytes: &[u8]) -> usize
-    ensures value { result ≡ prefix_len is_plain bytes.now }
-    ensures bound { result ≤ length bytes.now }
-{
-    let mut n = 0;
-    while n < bytes.len() {
-        if !is_plain(bytes[n]) {
-            return n;
-        }
-        n += 1;
+impl ByteKind for PlainBytes {
+    ghost has = { is_plain };
+
+    fn is(byte: u8) -> bool {
+        matches!(byte, b' '..=b'~') && byte != b'"' && byte != b'\\'
     }
-    n
+
+    fn first_run(bytes: &[u8]) -> usize {
+        let first = u8x16::from_slice(bytes);
+        let outside = first.simd_lt(u8x16::splat(b' ')) | u8x16::splat(b'~').simd_lt(first);
+        let marks = first.simd_eq(u8x16::splat(b'"')) | first.simd_eq(u8x16::splat(b'\\'));
+        first_set((outside | marks).to_bitmask())
+    }
 }
 
 // A byte, or its escape.
@@ -55,7 +53,7 @@ pub fn push_escaped(out: &mut Page, bytes: &[u8]) -> Result<(), NoMemory>
 {
     let mut left = bytes;
     'runs: loop {
-        let (plain, behind) = left.split_at(plain_len(left));
+        let (plain, behind) = left.split_at(front_len::<PlainBytes>(left));
         out.push(plain)?;
         match behind.split_first() {
             None => return Ok(()),

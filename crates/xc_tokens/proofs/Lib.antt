@@ -1,6 +1,4 @@
-pub mod BitRuns
 pub mod FrontWords
-pub mod Lanes
 pub mod LineCuts
 pub mod LiteralLemmas
 pub mod NumberLemmas

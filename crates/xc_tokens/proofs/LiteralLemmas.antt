@@ -1,5 +1,6 @@
 -- What literals give.
-use Rattle.std.proofs.Common.{◌≡◌, ℕ, ◌+◌, ◌*◌, zero, suc, List, [], ◌++◌, length, refl, ap, sym, ◌∙◌, append_assoc, append-nil, arith, add-one, length-append}
+use Rattle.std.proofs.Common.{◌≡◌, ℕ, ◌+◌, ◌-◌, ◌*◌, zero, suc, List, [], ◌∷◌, ◌++◌, length, replicate, take, take_all}
+use Rattle.std.proofs.Common.{refl, ap, sym, ◌∙◌, append_assoc, append-nil, arith, add-one, length-append}
 use Rattle.std.proofs.Math.Nat.{suc-mul}
 use Rattle.std.specs.List.{repeat}
 
@@ -20,3 +21,15 @@ repeat_end (suc n) xs = append_assoc xs (repeat n xs) xs ∙ ap (λ ys. xs ++ ys
 -- once more at the end
 pub repeat_more : {A : Type 0} (n : ℕ) (xs : List A) → repeat (n + 1) xs ≡ repeat n xs ++ xs
 repeat_more n xs = rw add-one (sym (repeat_end n xs))
+
+-- one element so many times
+replicated : {A : Type 0} (n : ℕ) (x : A) → replicate n x ≡ repeat n (x ∷ [])
+replicated zero x = refl
+replicated (suc n) x = ap (λ xs. x ∷ xs) (replicated n x)
+
+-- a list that is filled up with one element
+pub filled_up : {A : Type 0} (xs : List A) (n m : ℕ) (x : A) → m ≡ length xs → take (m + n) xs ++ replicate (m + n - m) x ≡ xs ++ repeat n (x ∷ [])
+filled_up xs n m x long =
+    let more : m + n - m ≡ n = omega arith in
+    ap (λ ys. ys ++ replicate (m + n - m) x) (take_all (m + n) xs (omega (arith, long)))
+    ∙ ap (λ k. xs ++ replicate k x) more ∙ ap (λ ys. xs ++ ys) (replicated n x)

@@ -7,11 +7,11 @@ ghost use Rattle.xc_tokens.specs.Views.{lexeme};
 ghost use Rattle.xc_tokens.specs.Front.{is_mark, line_in, ReadOn};
 ghost use lib.Lanes.{mask_l};
 
-use crate::masks::{LANES, first_set, next_set};
 use crate::token::Token;
 use std::marker::Model;
 use std::simd::prelude::*;
 use xc_data::NoMemory;
+use xc_lanes::{LANES, first_set, next_set};
 
 /// The first bytes of a line, and what lanes tell of them: where blanks stand, and where none does, and how many bytes
 /// stand before the first quote or `#`.

@@ -7,7 +7,6 @@ mod front;
 mod limits;
 mod lines;
 mod literals;
-mod masks;
 mod numbers;
 mod reason;
 mod spelled;

@@ -2,9 +2,9 @@ ghost use Rattle.std.specs.Prelude.{◌≡◌, ◌≤◌, ◌<◌, ◌+◌, ◌�
 ghost use Rattle.std.specs.List.{list_all, prefix_len};
 ghost use Rattle.xc_tokens.specs.Lines.{lines_of, is_line_byte};
 
-use crate::masks::{LANES, first_set};
 use std::marker::Model;
 use std::simd::prelude::*;
+use xc_lanes::{ByteKind, first_set, front_len};
 
 /// A line of a text, without its LF. It knows whether its bytes may all stand in a line.
 #[derive(Drop)]
@@ -55,47 +55,26 @@ impl<'a> TextLine<'a> {
     }
 }
 
-fn is_line_byte_at(b: u8) -> bool
-    ensures { result ≡ is_line_byte b }
-{
-    if b' ' <= b && b <= b'~' {
-        return true;
-    }
-    b == b'\t'
-}
+// The bytes that may stand in a line. They are judged in the pass that looks for the end of the line; only a line with a bad
+// byte is read again.
+struct LineBytes;
 
-// How many bytes in front, of the first ones, may stand in a line. They are judged in the pass that looks for the end of
-// the line; only a line with a bad byte is read again.
-fn clean_run(bytes: &[u8]) -> usize
-    requires { LANES ≤ length bytes.now }
-    ensures { result ≡ prefix_len is_line_byte (take LANES bytes.now) }
-{
-    let first = u8x16::from_slice(bytes);
-    let is_control = first.simd_lt(u8x16::splat(b' ')) & first.simd_ne(u8x16::splat(b'\t'));
-    let stops = is_control | u8x16::splat(b'~').simd_lt(first);
-    first_set(stops.to_bitmask())
-}
+impl ByteKind for LineBytes {
+    ghost has = { is_line_byte };
 
-// How many bytes in front may stand in a line.
-fn clean_len(bytes: &[u8]) -> usize
-    ensures value { result ≡ prefix_len is_line_byte bytes.now }
-    ensures bound { result ≤ length bytes.now }
-{
-    let mut n = 0;
-    'by_lanes: while bytes.len() - n >= LANES {
-        let run = clean_run(&bytes[n..]);
-        if run < LANES {
-            return n + run;
+    fn is(byte: u8) -> bool {
+        if b' ' <= byte && byte <= b'~' {
+            return true;
         }
-        n += LANES;
+        byte == b'\t'
     }
-    while n < bytes.len() {
-        if !is_line_byte_at(bytes[n]) {
-            return n;
-        }
-        n += 1;
+
+    fn first_run(bytes: &[u8]) -> usize {
+        let first = u8x16::from_slice(bytes);
+        let is_control = first.simd_lt(u8x16::splat(b' ')) & first.simd_ne(u8x16::splat(b'\t'));
+        let stops = is_control | u8x16::splat(b'~').simd_lt(first);
+        first_set(stops.to_bitmask())
     }
-    n
 }
 
 fn are_line_bytes(bytes: &[u8]) -> bool
@@ -103,7 +82,7 @@ fn are_line_bytes(bytes: &[u8]) -> bool
 {
     let mut rest = bytes;
     while let [b, behind @ ..] = rest {
-        if !is_line_byte_at(*b) {
+        if !LineBytes::is(*b) {
             return false;
         }
         rest = behind;
@@ -152,7 +131,7 @@ pub fn first_line<'a>(bytes: &'a [u8]) -> (TextLine<'a>, &'a [u8])
     ensures cut { lines_of bytes.now ≡ result.0 ∷ lines_of result.1.now }
     ensures fewer { length result.1.now < length bytes.now }
 {
-    let n = clean_len(bytes);
+    let n = front_len::<LineBytes>(bytes);
     if n == bytes.len() {
         let line = TextLine {
             text: bytes,

@@ -59,10 +59,7 @@ pub fn is_within(most: u32, tokens: &[Token]) -> bool
 fn add_byte(bytes: &mut Vec<u8>, byte: u8, times: u32) -> Result<(), NoMemory>
     ensures { OnOk result (bytes.new.items ≡ bytes.old.items ++ repeat_of_list times (byte ∷ [])) }
 {
-    bytes.reserve(times as usize)?;
-    for _ in 0..times {
-        bytes.push(byte)?;
-    }
+    bytes.resize(bytes.len() + times as usize, byte)?;
     Ok(())
 }
 

@@ -14,11 +14,11 @@ use crate::escaped::Escaped;
 use crate::front::Front;
 use crate::limits::{MOST_LITERAL_BYTES, MOST_REPEAT};
 use crate::lines::TextLine;
-use crate::masks::{LANES, first_set};
 use crate::numbers::spelled_number;
 use crate::why::{Stop, Why};
 use std::simd::prelude::*;
 use xc_data::NoMemory;
+use xc_lanes::{ByteKind, LANES, first_set, front_len};
 
 /// A token of a line.
 #[derive(Debug, Drop)]
@@ -132,43 +132,21 @@ fn past_repeat(bytes: &[u8]) -> Option<(u32, &[u8])>
     Some((repeat, &behind[n..]))
 }
 
-// A byte of a literal that means itself.
-fn means_itself(b: u8) -> bool
-    ensures { result ≡ is_itself b }
-{
-    b != b'"' && b != b'\\'
-}
+// The bytes of a literal that mean themselves.
+struct PlainBytes;
 
-// How many bytes in front, of the first ones, mean themselves.
-fn plain_run(bytes: &[u8]) -> usize
-    requires { LANES ≤ length bytes.now }
-    ensures { result ≡ prefix_len is_itself (take LANES bytes.now) }
-{
-    let first = u8x16::from_slice(bytes);
-    let stops = first.simd_eq(u8x16::splat(b'"')) | first.simd_eq(u8x16::splat(b'\\'));
-    first_set(stops.to_bitmask())
-}
+impl ByteKind for PlainBytes {
+    ghost has = { is_itself };
 
-// How many bytes in front mean themselves.
-fn plain_len(bytes: &[u8]) -> usize
-    ensures value { result ≡ prefix_len is_itself bytes.now }
-    ensures bound { result ≤ length bytes.now }
-{
-    let mut n = 0;
-    'by_lanes: while bytes.len() - n >= LANES {
-        let run = plain_run(&bytes[n..]);
-        if run < LANES {
-            return n + run;
-        }
-        n += LANES;
+    fn is(byte: u8) -> bool {
+        byte != b'"' && byte != b'\\'
     }
-    while n < bytes.len() {
-        if !means_itself(bytes[n]) {
-            return n;
-        }
-        n += 1;
+
+    fn first_run(bytes: &[u8]) -> usize {
+        let first = u8x16::from_slice(bytes);
+        let stops = first.simd_eq(u8x16::splat(b'"')) | first.simd_eq(u8x16::splat(b'\\'));
+        first_set(stops.to_bitmask())
     }
-    n
 }
 
 // A literal without an escape whose first bytes are those, and what stands after it.
@@ -201,7 +179,7 @@ fn literal<'a>(bytes: &'a [u8]) -> Option<(Token<'a>, &'a [u8])>
     ensures value { ok_or (option_map (λ p. (lexeme p.0, p.1.now)) result) BadLiteral ≡ literal_from bytes.now }
     ensures fewer { IfSome result (λ p. length p.1.now ≤ length bytes.now) }
 {
-    let n = plain_len(bytes);
+    let n = front_len::<PlainBytes>(bytes);
     if n == bytes.len() || bytes[n] != b'"' {
         return escaped_literal(bytes);
     }

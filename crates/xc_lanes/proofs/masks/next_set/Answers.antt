@@ -1,7 +1,7 @@
 use Rattle.std.proofs.Common.{◌≡◌, ◌≤◌, ◌+◌, ◌-◌, ◌/◌, ◌^◌, ◌<◌, ap, drop, length, arith, length-drop}
 use Rattle.std.proofs.Math.Nat.{div-le_self}
-use Rattle.xc_tokens.proofs.BitRuns.{few_before, lane_shown, lanes_past, shifted}
-use Rattle.xc_tokens.proofs.masks.next_set.Goals as goal
+use Rattle.xc_lanes.proofs.BitRuns.{few_before, lane_shown, lanes_past, shifted}
+use Rattle.xc_lanes.proofs.masks.next_set.Goals as goal
 
 pub returns-clause-bound : goal.returns-clause-bound
 returns-clause-bound c =

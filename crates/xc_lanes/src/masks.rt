@@ -1,4 +1,4 @@
-//! Bytes that are looked at several at once.
+//! Masks: a bit for each lane.
 
 ghost use Rattle.std.specs.Int.{w64, trailing_zeros};
 ghost use Rattle.std.specs.Prelude.{◌≡◌, ◌≤◌, ◌<◌, ◌+◌, ◌==◌, not, map, drop, length, if◌then◌else◌, List, Bool, ℕ};

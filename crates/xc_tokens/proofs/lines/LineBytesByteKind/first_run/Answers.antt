@@ -2,8 +2,8 @@ use Rattle.std.proofs.Common.{ℕ, cond, ltb, refl, ◌∙◌}
 use Rattle.std.proofs.lemmas.Simd.{zip2_of_maps, zip2_splat, zip2_splat_left, length-chunk}
 use lib.Lanes.{chunk}
 use Rattle.xc_tokens.specs.Lines.{is_line_byte}
-use Rattle.xc_tokens.proofs.Lanes.{run_of}
-use Rattle.xc_tokens.proofs.lines.clean_run.Goals as goal
+use Rattle.xc_lanes.proofs.Lanes.{run_of}
+use Rattle.xc_tokens.proofs.lines.LineBytesByteKind.first_run.Goals as goal
 
 pub returns : goal.returns
 returns c =
