@@ -2,6 +2,7 @@
 use Rattle.std.specs.Prelude.{◌≡◌, ℕ, ◌<◌, Bool, true, false, All, List, Option, Some, None}
 use Rattle.xc_data.specs.declared.claim.Claim.{Claim}
 use Rattle.xc_data.specs.declared.object.Object.{Object}
+use Rattle.xc_data.specs.Claims.{holding}
 use Rattle.xc_data.specs.Step.{Step}
 use Rattle.xc_wordlocks.specs.Table.{KeepsOthers, claimed, held_mode}
 use Rattle.xc_wordlocks.specs.Met.{IsFirstMet, IsNotMet}
@@ -78,3 +79,10 @@ module _ (step : Step Sentinels) (tx : ℕ) (c : Claiming) where
   IsAnswer (verdict.Busy object holder) = IsBusy object holder
   IsAnswer (verdict.Conflict object holder) = IsConflict object holder
   IsAnswer verdict.NoMemory = All (IsNotMet step.old.claims tx) c.claims × (step.new ≡ step.old)
+
+-- what a transaction holds after its answer: what it claimed too, where that is granted
+abbrev pub held_after : Verdict → List Claim → List Claim → List Claim
+held_after verdict.Granted held claims = holding held claims
+held_after (verdict.Busy object holder) held claims = held
+held_after (verdict.Conflict object holder) held claims = held
+held_after verdict.NoMemory held claims = held

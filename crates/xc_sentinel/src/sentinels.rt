@@ -1,6 +1,7 @@
 ghost use Rattle.std.specs.Prelude.{◌≡◌, ◌≤◌, ◌+◌, ℕ, List, length, Some, None, OnOk, OnErr, is_some, option_copied, true};
 ghost use Rattle.xc_data.specs.declared.object.Object.{Object};
 ghost use Rattle.xc_data.specs.declared.claim.Claim.{Claim};
+ghost use Rattle.xc_wordlocks.specs.Held.{HasRoomFor};
 ghost use Rattle.xc_wordlocks.specs.Met.{IsFirstMet};
 ghost use Rattle.xc_wordlocks.specs.Table.{Holds, KeepsOthers, held_mode};
 
@@ -23,7 +24,7 @@ pub struct Sentinels {
 
 impl Sentinels {
     ghost use Rattle.xc_sentinel.specs.Seating.{KeepsSeats, SetsSeat, seat_in};
-    ghost use Rattle.xc_sentinel.specs.Asking.{IsAnswer, IsYounger, changed, mark_of, marked_seat, settled};
+    ghost use Rattle.xc_sentinel.specs.Asking.{IsAnswer, IsYounger, changed, held_after, mark_of, marked_seat, settled};
 
     /// Nothing is held, and nobody is active. It takes no memory.
     pub fn new(alloc: Global) -> Sentinels
@@ -118,12 +119,23 @@ impl Sentinels {
     }
 
     /// The transaction claims, at a place in the journal. The first claim that is met decides: where there is patience and the holder
-    /// is younger, the holder is marked, and the transaction waits for it. Of several marks a transaction keeps the first.
-    pub fn ask(&mut self, claims: &[Claim], tx: u32, patient: bool, at: u32) -> Verdict
-        ensures { IsAnswer (record { old = self.old; new = self.new }) tx
+    /// is younger, the holder is marked, and the transaction waits for it. Of several marks a transaction keeps the first. The list of
+    /// what it holds goes along, which has room for the claims.
+    pub fn ask(
+        &mut self,
+        claims: &[Claim],
+        tx: u32,
+        held: &mut Holding,
+        patient: bool,
+        at: u32,
+    ) -> Verdict
+        requires list { Holds self.old.claims tx held.old.items }
+        requires room { HasRoomFor held.old claims.now }
+        ensures answer { IsAnswer (record { old = self.old; new = self.new }) tx
             (record { claims = claims.now; patient = patient; at = at }) result }
+        ensures list { held.new.items ≡ held_after result held.old.items claims.now }
     {
-        match self.claims.claim(claims, tx) {
+        match self.claims.claim(claims, tx, held) {
             Ok(()) => Verdict::Granted,
             Err(ClaimErr::NoMemory) => Verdict::NoMemory,
             Err(ClaimErr::Met { object, holder }) => self.meet(&object, holder, tx, patient, at),

@@ -12,7 +12,6 @@ pub mod Elsewhere
 pub mod Ended
 pub mod Finishing
 pub mod Giving
-pub mod Granted
 pub mod Joined
 pub mod Leaving
 pub mod Lending

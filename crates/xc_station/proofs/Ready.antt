@@ -206,6 +206,7 @@ module _ {H : Type 0} (model : HostModel H) (shared : Shared H) (journal : List 
             let mine : notes_of (job_view was) ≡ length runs.tx.taken = ap notes_in (ap active_in runs.doing) in
             let all = rooms.noted in
             omega (arith, within, mine, all);
+        holds = λ o. (rooms.claims o).held at runs.tx active;
         ready = λ tells.
             let flying = steady.flying tells in
             record {

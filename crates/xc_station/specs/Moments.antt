@@ -227,3 +227,4 @@ pub record CanRun {H : Type 0} (script : Script) (model : HostModel H) (shared :
   pub ready : IsTrue model.tells → AreReadyFor tx (model.contents shared.host)
   pub needs : IsTrue model.tells → HasNeeds model shared tx
   pub noted : length tx.taken ≤ shared.buffers.noted
+  pub holds : Holds shared.sentinels.claims tx.number tx.held

@@ -16,6 +16,7 @@ ghost use Rattle.xc_station.specs.Jobs.{begun_of, job_view, tx_view};
 ghost use Rattle.xc_station.specs.Moments.{AreTerms, CanRun, HasClaimed, HasNeeds, HasTx, IsAt, IsRow, IsRunningRow, KeepsSeated, Lends};
 ghost use Rattle.xc_station.specs.Moments.{counted, front_of, marks_of, moved, runs, seated_as};
 ghost use Rattle.xc_sentinel.specs.Seating.{seat_in};
+ghost use Rattle.xc_wordlocks.specs.Table.{Holds};
 
 use crate::calls::{Shared, do_call};
 use crate::job::Job;
@@ -87,6 +88,7 @@ fn claim<H: Host>(
     call: &Call,
 ) -> Result<(), Turn>
     requires count { length shared.old.words ≤ 4096 }
+    requires holds { Holds shared.old.sentinels.claims tx.old.number tx.old.held.items }
     ensures same { (front_of shared.new ≡ front_of shared.old) × (shared.new.words ≡ shared.old.words) }
     ensures started { shared.new.started ≡ shared.old.started }
     ensures claimed { HasClaimed (record { old = shared.old.sentinels; new = shared.new.sentinels })
@@ -102,12 +104,9 @@ fn claim<H: Host>(
     }
     match shared
         .sentinels
-        .ask(claims, tx.number, terms.patient, terms.at)
+        .ask(claims, tx.number, &mut tx.held, terms.patient, terms.at)
     {
-        Verdict::Granted => {
-            tx.hold(claims);
-            Ok(())
-        }
+        Verdict::Granted => Ok(()),
         Verdict::Busy { object, holder } => Err(Turn::Busy { object, holder }),
         Verdict::Conflict { object, holder } => {
             lose(tx, &object, holder, terms.at);
@@ -134,6 +133,7 @@ fn try_call<H: Host>(
     requires ready { IsTrue H.model.tells → AreReadyFor (tx_view tx.old) (H.model.contents shared.old.host) }
     requires needs { IsTrue H.model.tells → HasNeeds H.model shared.old (tx_view tx.old) }
     requires noted { length tx.old.taken.items ≤ shared.old.buffers.noted }
+    requires holds { Holds shared.old.sentinels.claims tx.old.number tx.old.held.items }
     ensures words { shared.new.words ≡ shared.old.words }
     ensures started { shared.new.started ≡ shared.old.started }
     ensures plan { H.model.plan shared.new.host ≡ H.model.plan shared.old.host }
@@ -182,6 +182,7 @@ fn step_running<H: Host>(
     requires ready { IsTrue H.model.tells → AreReadyFor (tx_view tx.old) (H.model.contents shared.old.host) }
     requires needs { IsTrue H.model.tells → HasNeeds H.model shared.old (tx_view tx.old) }
     requires noted { length tx.old.taken.items ≤ shared.old.buffers.noted }
+    requires holds { Holds shared.old.sentinels.claims tx.old.number tx.old.held.items }
     ensures count { length shared.new.words ≡ length shared.old.words }
     ensures started { shared.new.started ≡ shared.old.started }
     ensures plan { H.model.plan shared.new.host ≡ H.model.plan shared.old.host }

@@ -1,5 +1,4 @@
 ghost use Rattle.std.specs.Prelude.{◌≡◌, ◌≤◌, ◌+◌, ◌∷◌, ◌++◌, [], ℕ, length, true, false, IfOk, IsSome, OnOk};
-ghost use Rattle.xc_data.specs.Claims.{holding};
 ghost use Rattle.xc_data.specs.declared.entry.Cause.{Cause as PlainCause};
 ghost use Rattle.xc_world.specs.World.{beginning};
 ghost use Rattle.xc_model.specs.declared.phase.Phase.TheVariants as PlainPhase;
@@ -177,16 +176,6 @@ impl Tx {
         self.calls.reserve(1)?;
         self.replies.reserve(1)?;
         self.held.reserve(claims)
-    }
-
-    /// Holds what is claimed, into the room for it. It takes no memory.
-    pub fn hold(&mut self, claims: &[Claim])
-        requires { HasRoom self.old claims.now }
-        ensures held { tx_view self.new ≡ record (tx_view self.old) { held = holding self.old.held.items claims.now } }
-        ensures room { HasNoteRoom self.new }
-        ensures begun { begun_of self.new ≡ begun_of self.old }
-    {
-        self.held.hold(claims);
     }
 
     /// Notes a call with its reply, into the room for them. It takes no memory.

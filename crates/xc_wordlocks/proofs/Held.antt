@@ -16,7 +16,7 @@ use Rattle.xc_wordlocks.proofs.Claimed.{is_object-swap}
 use Rattle.xc_wordlocks.proofs.Places.{or_last}
 
 -- ---- which objects have a mode
-first_here : (h : Claim) (hs : List Claim) (o : Object) (b : Bool) → is_object h.object o ≡ b → mode_in (h ∷ hs) o ≡ cond b (Some h.mode) (mode_in hs o)
+pub first_here : (h : Claim) (hs : List Claim) (o : Object) (b : Bool) → is_object h.object o ≡ b → mode_in (h ∷ hs) o ≡ cond b (Some h.mode) (mode_in hs o)
 first_here h hs o b e = ap (λ x. if x then Some h.mode else mode_in hs o) e
 
 seen_by : (h : Claim) (hs : List Claim) (o : Object) (b : Bool) → is_object h.object o ≡ b → is_some (mode_in hs o) ≡ has (objects hs) o

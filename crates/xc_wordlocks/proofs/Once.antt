@@ -1,6 +1,6 @@
 -- Lists with each object once: what is held after one claim more, and where a claim on an object stands.
 use Rattle.std.proofs.Common.{◌≡◌, ℕ, Bool, true, false, cond, ◌||◌, List, [], ◌∷◌, ◌++◌, map, refl, ap, sym, ◌∙◌, subst, arith}
-use Rattle.std.proofs.Common.{◌+◌, ◌≤◌, zero, suc, set, Some, append_assoc}
+use Rattle.std.proofs.Common.{◌+◌, ◌≤◌, zero, suc, set, Some, None, is_some, append_assoc}
 use Rattle.std.specs.Prelude.{All, Contains, count_by, slice_get, if◌then◌else◌}
 use Rattle.std.specs.List.{fold}
 use Rattle.std.proofs.lemmas.Bool.{false_from_ne_true}
@@ -8,11 +8,13 @@ use Rattle.std.proofs.lemmas.List.{append-nil}
 use Rattle.std.proofs.lemmas.List.Elements.{All-weaker, All-contains_itself}
 use Rattle.std.proofs.lemmas.List.Sums.{sum_by-append}
 use Rattle.xc_data.specs.declared.object.Object.{Object}
+use Rattle.xc_data.specs.declared.claim.Mode.{Mode}
 use Rattle.xc_data.specs.declared.claim.Claim.{Claim}
 use Rattle.xc_data.specs.Claims.{is_object, stronger, merged, holding_one, objects, AreOnceAtMost}
 use Rattle.xc_wordlocks.specs.Released.{with_one, each_once}
 use Rattle.xc_wordlocks.specs.Table.{has, mode_in}
-use Rattle.xc_wordlocks.proofs.Held.{any_counts, count_cons, once_rest, once_here, once_member}
+use Rattle.xc_wordlocks.proofs.Claimed.{is_object-swap}
+use Rattle.xc_wordlocks.proofs.Held.{any_counts, count_cons, first_here, mode_in-has, once_rest, once_here, once_member}
 use Rattle.xc_data.proofs.Objects.{same_object, itself}
 use Rattle.xc_wordlocks.proofs.Places.{or_last}
 use Rattle.xc_wordlocks.proofs.Released.{one_objects}
@@ -121,3 +123,41 @@ pub held_again : (c : Claim) (held : List Claim) (at : ℕ) (h : Claim) → AreO
 held_again c held at h once e on =
     merged_at c held at h once e on
     ∙ sym (ap (λ b. if b then map (merged c) held else held ++ c ∷ []) (ap (has (objects held)) (sym on) ∙ has_at held at h e))
+
+-- ---- a claim on an object whose mode in the list is known
+-- a claim in no stronger mode leaves each claim as it is
+merged_as_strong : (c : Claim) (held : List Claim) (was : Mode) → AreOnceAtMost (objects held) → mode_in held c.object ≡ Some was
+    → stronger was c.mode ≡ was → map (merged c) held ≡ held
+merged_as_strong c [] was once e strong = refl
+merged_as_strong c (h ∷ hs) was once e strong =
+    by (is_object c.object h.object) refl (λ its. merged_as_strong c hs was (once_rest h.object (objects hs) once) its strong)
+  where
+    step : (b : Bool) → is_object c.object h.object ≡ b
+        → map (merged c) (h ∷ hs) ≡ (if b then record h { mode = stronger h.mode c.mode } else h) ∷ map (merged c) hs
+    step b is = ap (λ b. (if b then record h { mode = stronger h.mode c.mode } else h) ∷ map (merged c) hs) is
+
+    -- the mode of the object in the list
+    mode : (b : Bool) → is_object c.object h.object ≡ b → cond b (Some h.mode) (mode_in hs c.object) ≡ Some was
+    mode b is = sym (first_here h hs c.object b (is_object-swap h.object c.object ∙ is)) ∙ e
+
+    by : (b : Bool) → is_object c.object h.object ≡ b → (mode_in hs c.object ≡ Some was → map (merged c) hs ≡ hs) → map (merged c) (h ∷ hs) ≡ h ∷ hs
+    by true is rest =
+        let its = mode true is in
+        let same : h.mode ≡ was = cc in
+        let lacks : has (objects hs) c.object ≡ false = false_from_ne_true (has (objects hs) c.object) (λ there.
+        once_here h.object (objects hs) once (ap (has (objects hs)) (sym (same_object c.object h.object is)) ∙ there)) in
+        step true is
+        ∙ ap (λ (m : Mode). record h { mode = m } ∷ map (merged c) hs) (ap (λ m. stronger m c.mode) same ∙ strong ∙ sym same)
+        ∙ ap (λ xs. h ∷ xs) (merged_apart c hs lacks)
+    by false is rest = step false is ∙ ap (λ xs. h ∷ xs) (rest (mode false is))
+
+-- so it leaves the list
+pub held_as_strong : (c : Claim) (held : List Claim) (was : Mode) → AreOnceAtMost (objects held) → mode_in held c.object ≡ Some was
+    → stronger was c.mode ≡ was → held ≡ holding_one held c
+held_as_strong c held was once e strong =
+    sym (ap (λ b. if b then map (merged c) held else held ++ c ∷ []) (sym (mode_in-has held c.object) ∙ ap is_some e)
+    ∙ merged_as_strong c held was once e strong)
+
+-- a claim on an object that isn't in the list comes after the others
+pub held_anew : (c : Claim) (held : List Claim) → mode_in held c.object ≡ None → held ++ c ∷ [] ≡ holding_one held c
+held_anew c held e = sym (ap (λ b. if b then map (merged c) held else held ++ c ∷ []) (sym (mode_in-has held c.object) ∙ ap is_some e))

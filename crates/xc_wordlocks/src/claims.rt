@@ -1,7 +1,8 @@
 ghost use Rattle.std.specs.Prelude.{◌≡◌, ◌<◌, ◌≤◌, ◌+◌, ℕ, [], ◌∷◌, length, if◌then◌else◌};
 ghost use Rattle.std.specs.Prelude.{All, MatchOption, MatchResult, None, OnOk, OnErr, IfErr};
-ghost use Rattle.xc_data.specs.Claims.{objects};
+ghost use Rattle.xc_data.specs.Claims.{holding, objects};
 ghost use Rattle.xc_data.specs.declared.object.Object.{Object};
+ghost use Rattle.xc_wordlocks.specs.Held.{HasRoomFor};
 ghost use Rattle.xc_wordlocks.specs.Table.{AreCompatible, Holds, KeepsOthers, claimed, has, held_mode};
 ghost use Rattle.xc_wordlocks.specs.Met.{IsCause, IsMet, IsNotMet};
 
@@ -73,17 +74,24 @@ impl Claims {
         Ok(())
     }
 
-    // One claim, which most calls have: its object is looked up once.
-    fn claim_one(&mut self, claim: &Claim, tx: u32) -> Result<(), ClaimErr>
+    // One claim, which most calls have: its object is looked up once, and what is held is walked only where the mode rises.
+    fn claim_one(&mut self, claim: &Claim, tx: u32, held: &mut Holding) -> Result<(), ClaimErr>
+        requires list { Holds self.old tx held.old.items }
+        requires room { 1 ≤ held.old.spare }
         ensures unmet { OnOk result (All (IsNotMet self.old tx) (claim.now ∷ [])) }
         ensures held { OnOk result ((o : Object) → held_mode self.new tx o ≡ claimed (held_mode self.old tx o) (claim.now ∷ []) o) }
         ensures others { OnOk result (KeepsOthers tx self.old self.new) }
         ensures err { OnErr result (self.new ≡ self.old) }
         ensures cause { IfErr result (IsCause self.old (claim.now ∷ []) tx) }
         ensures coherent { AreCompatible self.new }
+        ensures list { OnOk result (held.new.items ≡ holding held.old.items (claim.now ∷ [])) }
+        ensures unlisted { OnErr result (held.new ≡ held.old) }
     {
         match claim_object::<Brand>(&mut self.holders, claim, tx, Blank::new(1)) {
-            Ok(()) => Ok(()),
+            Ok(was) => {
+                held.follow(claim, was);
+                Ok(())
+            }
             Err(Refusal::Met(holder)) => Err(ClaimErr::Met {
                 object: claim.object.again(),
                 holder,
@@ -92,21 +100,26 @@ impl Claims {
         }
     }
 
-    /// The transaction holds all claimed objects. One that it held already it holds in the stronger
-    /// of both modes.
-    pub fn claim(&mut self, claims: &[Claim], tx: u32) -> Result<(), ClaimErr>
+    /// The transaction holds all claimed objects. One that it held already it holds in the stronger of both modes. The list of what it
+    /// holds goes along, which has room for the claims.
+    pub fn claim(&mut self, claims: &[Claim], tx: u32, held: &mut Holding) -> Result<(), ClaimErr>
+        requires list { Holds self.old tx held.old.items }
+        requires room { HasRoomFor held.old claims.now }
         ensures unmet { OnOk result (All (IsNotMet self.old tx) claims.now) }
         ensures held { OnOk result ((o : Object) → held_mode self.new tx o ≡ claimed (held_mode self.old tx o) claims.now o) }
         ensures others { OnOk result (KeepsOthers tx self.old self.new) }
         ensures err { OnErr result (self.new ≡ self.old) }
         ensures cause { IfErr result (IsCause self.old claims.now tx) }
         ensures coherent { AreCompatible self.new }
+        ensures list { OnOk result (held.new.items ≡ holding held.old.items claims.now) }
+        ensures unlisted { OnErr result (held.new ≡ held.old) }
     {
         if let [claim] = claims {
-            return self.claim_one(claim, tx);
+            return self.claim_one(claim, tx, held);
         }
         self.check(claims, tx)?;
         hold_all::<Brand>(&mut self.holders, self.alloc, claims, tx, Blank::new(1))?;
+        held.hold(claims);
         Ok(())
     }
 

@@ -1,4 +1,4 @@
-ghost use Rattle.std.specs.Prelude.{◌≡◌, ◌+◌, ℕ, None, Some, IfSome, IfNone, IfErr, OnOk, OnErr};
+ghost use Rattle.std.specs.Prelude.{◌≡◌, ◌+◌, ℕ, None, Some, IfSome, IfNone, IfOk, IfErr, OnOk, OnErr};
 ghost use Rattle.xc_data.specs.declared.object.Object.{Object};
 
 use crate::key::Kind;
@@ -68,14 +68,16 @@ impl Holders {
         }
     }
 
-    /// The same, unless the smallest other holder has a mode that isn't compatible.
+    /// The same, unless the smallest other holder has a mode that isn't compatible. Gives the mode in which the transaction held the
+    /// object before.
     pub fn claim<L: Ledger>(
         &mut self,
         object: &Object,
         tx: u32,
         mode: Mode,
         steps: &mut Steps<L>,
-    ) -> Result<(), Refusal>
+    ) -> Result<Option<Mode>, Refusal>
+        ensures was { IfOk result (λ was. was ≡ held_mode self.old tx object.now) }
         ensures free { OnOk result (IsFree (modes_of self.old object.now) tx mode) }
         ensures ok { OnOk result (self.new ≡ set_mode self.old tx object.now (Some (with_mode (held_mode self.old tx object.now) mode))) }
         ensures err { OnErr result (self.new ≡ self.old) }

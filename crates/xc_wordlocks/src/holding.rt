@@ -1,14 +1,15 @@
-ghost use Rattle.std.specs.Prelude.{◌≡◌, ◌<◌, ◌≤◌, ◌+◌, ◌^◌, [], length, OnOk};
+ghost use Rattle.std.specs.Prelude.{◌≡◌, ◌<◌, ◌≤◌, ◌+◌, ◌^◌, ◌∷◌, [], length, OnOk};
 ghost use Rattle.xc_data.specs.Claims.{AreOnceAtMost, is_object, holding, holding_one, objects};
 ghost use Rattle.xc_wordlocks.specs.Held.{HasRoomFor, IsPlaceOf};
+ghost use Rattle.xc_wordlocks.specs.Table.{mode_in};
 
 use std::alloc::Global;
 use std::marker::Model;
-use xc_data::{Claim, NoMemory, Object};
+use xc_data::{Claim, Mode, NoMemory, Object};
 use xc_roomy::Roomy;
 
 /// What the claims of a transaction's calls hold: each object once, where it was first claimed, in the strongest mode in which it
-/// was. So a release costs what is held, however often it was claimed; a claim walks what is held already.
+/// was. So a release costs what is held, however often it was claimed. One claim walks what is held only where its mode rises.
 #[derive(Drop)]
 pub struct Holding {
     claims: Roomy<Claim>,
@@ -53,11 +54,25 @@ impl Holding {
     }
 
     /// Holds what is claimed, into the room for it. It takes no memory.
-    pub fn hold(&mut self, claims: &[Claim])
+    pub(crate) fn hold(&mut self, claims: &[Claim])
         requires { HasRoomFor self.old claims.now }
         ensures { self.new.items ≡ holding self.old.items claims.now }
     {
         hold_each(&mut self.claims, claims);
+    }
+
+    /// Holds what is claimed of one object, which was held in this mode before, into the room for it. Only where the mode rises it walks
+    /// what is held. It takes no memory.
+    pub(crate) fn follow(&mut self, claim: &Claim, was: Option<Mode>)
+        requires room { 1 ≤ self.old.spare }
+        requires was { was ≡ mode_in self.old.items claim.now.object }
+        ensures { self.new.items ≡ holding self.old.items (claim.now ∷ []) }
+    {
+        match was {
+            None => self.claims.enter(claim.again()),
+            Some(mode) if mode.stronger(claim.mode) == mode => {}
+            Some(_) => hold_one(&mut self.claims, claim),
+        }
     }
 
     /// The claims themselves. It takes no memory.

@@ -49,8 +49,13 @@ fn both(alloc: Global, one: (u32, Mode), two: (u32, Mode)) -> Result<BTreeMap<u3
     Ok(modes)
 }
 
-// A transaction holds the object too, or in the stronger mode.
-fn hold_among(modes: &mut BTreeMap<u32, Mode>, tx: u32, mode: Mode) -> Result<(), NoMemory>
+// A transaction holds the object too, or in the stronger mode. Gives the mode in which it did before.
+fn hold_among(
+    modes: &mut BTreeMap<u32, Mode>,
+    tx: u32,
+    mode: Mode,
+) -> Result<Option<Mode>, NoMemory>
+    ensures was { IfOk result (λ was. was ≡ mode_among modes.old.entries tx) }
     ensures ok { OnOk result ((n : ℕ)
         → mode_among modes.new.entries n
         ≡ cond (is_at (nat_cmp tx) n) (Some (with_mode (mode_among modes.old.entries tx) mode)) (mode_among modes.old.entries n)) }
@@ -61,8 +66,7 @@ fn hold_among(modes: &mut BTreeMap<u32, Mode>, tx: u32, mode: Mode) -> Result<()
         Some(held) => held.stronger(mode),
         None => mode,
     };
-    modes.insert(tx, mode)?;
-    Ok(())
+    Ok(modes.insert(tx, mode)?)
 }
 
 impl ObjectHolders {
@@ -95,9 +99,10 @@ impl ObjectHolders {
         }
     }
 
-    /// A transaction holds the object in this mode, or in the stronger one where it did already. Only a new holder can run out of
-    /// memory.
-    pub fn hold(&mut self, alloc: Global, tx: u32, mode: Mode) -> Result<(), NoMemory>
+    /// A transaction holds the object in this mode, or in the stronger one where it did already. Gives the mode in which it did
+    /// before. Only a new holder can run out of memory.
+    pub fn hold(&mut self, alloc: Global, tx: u32, mode: Mode) -> Result<Option<Mode>, NoMemory>
+        ensures was { IfOk result (λ was. was ≡ mode_among self.old tx) }
         ensures ok { OnOk result ((n : ℕ)
             → mode_among self.new n
             ≡ cond (is_at (nat_cmp tx) n) (Some (with_mode (mode_among self.old tx) mode)) (mode_among self.old n)) }
@@ -105,18 +110,26 @@ impl ObjectHolders {
         ensures absent { OnErr result (mode_among self.old tx ≡ None) }
     {
         match &mut self.form {
-            Form::Nobody => self.form = Form::One(tx, mode),
-            Form::One(holder, held) if *holder == tx => *held = held.stronger(mode),
+            Form::Nobody => {
+                self.form = Form::One(tx, mode);
+                Ok(None)
+            }
+            Form::One(holder, held) if *holder == tx => {
+                let was = *held;
+                *held = was.stronger(mode);
+                Ok(Some(was))
+            }
             Form::One(holder, held) => {
                 self.form = Form::Many(both(alloc, (*holder, *held), (tx, mode))?);
+                Ok(None)
             }
-            Form::Many(modes) => hold_among(modes, tx, mode)?,
+            Form::Many(modes) => hold_among(modes, tx, mode),
         }
-        Ok(())
     }
 
     /// The same, unless the smallest other holder has a mode that isn't compatible.
-    pub fn claim(&mut self, alloc: Global, tx: u32, mode: Mode) -> Result<(), Refusal>
+    pub fn claim(&mut self, alloc: Global, tx: u32, mode: Mode) -> Result<Option<Mode>, Refusal>
+        ensures was { IfOk result (λ was. was ≡ mode_among self.old tx) }
         ensures free { OnOk result (IsFree (mode_among self.old) tx mode) }
         ensures ok { OnOk result ((n : ℕ)
             → mode_among self.new n
@@ -127,8 +140,7 @@ impl ObjectHolders {
         if let Some(holder) = self.met_by(tx, mode) {
             return Err(Refusal::Met(holder));
         }
-        self.hold(alloc, tx, mode)?;
-        Ok(())
+        Ok(self.hold(alloc, tx, mode)?)
     }
 
     /// A transaction holds the object no longer. Gives the mode in which it did. It takes no memory.

@@ -1,4 +1,4 @@
-ghost use Rattle.std.specs.Prelude.{◌≡◌, ℕ, [], IsTrue, None, IfSome, IfNone, IfErr, OnOk, OnErr};
+ghost use Rattle.std.specs.Prelude.{◌≡◌, ℕ, [], IsTrue, None, IfSome, IfNone, IfOk, IfErr, OnOk, OnErr};
 ghost use Rattle.std.specs.FinMap as map;
 ghost use Rattle.xc_wordlocks.specs.Keys.{holder_of};
 ghost use Rattle.xc_wordlocks.specs.Others.{IsFree, IsReason};
@@ -82,11 +82,14 @@ impl Others {
             return Err(NoMemory);
         };
         let holders = row.or_insert(ObjectHolders::nobody());
-        holders.hold(self.alloc, tx, mode)
+        holders.hold(self.alloc, tx, mode)?;
+        Ok(())
     }
 
-    /// The same, unless the smallest other holder has a mode that isn't compatible.
-    pub fn claim(&mut self, object: Other, tx: u32, mode: Mode) -> Result<(), Refusal>
+    /// The same, unless the smallest other holder has a mode that isn't compatible. Gives the mode in which the transaction held the
+    /// object before.
+    pub fn claim(&mut self, object: Other, tx: u32, mode: Mode) -> Result<Option<Mode>, Refusal>
+        ensures was { IfOk result (λ was. was ≡ map.get self.old (holder_of object tx)) }
         ensures free { OnOk result (IsFree (λ n. map.get self.old (holder_of object n)) tx mode) }
         ensures ok { OnOk result
             (self.new ≡ map.insert self.old (holder_of object tx) (with_mode (map.get self.old (holder_of object tx)) mode)) }

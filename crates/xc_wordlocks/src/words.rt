@@ -1,4 +1,4 @@
-ghost use Rattle.std.specs.Prelude.{◌≡◌, ◌<◌, ◌≤◌, ℕ, length, None, IfSome, IfNone, IfErr, OnOk, OnErr};
+ghost use Rattle.std.specs.Prelude.{◌≡◌, ◌<◌, ◌≤◌, ℕ, length, None, IfSome, IfNone, IfOk, IfErr, OnOk, OnErr};
 ghost use Rattle.std.specs.FinMap as map;
 ghost use Rattle.xc_wordlocks.specs.Keys.{word_holder};
 ghost use Rattle.xc_wordlocks.specs.Others.{IsFree, IsReason};
@@ -71,11 +71,14 @@ impl Words {
         ensures absent { OnErr result (map.get self.old (word_holder at tx) ≡ None) }
     {
         grow(&mut self.holders, at as usize)?;
-        self.holders[at as usize].hold(self.alloc, tx, mode)
+        self.holders[at as usize].hold(self.alloc, tx, mode)?;
+        Ok(())
     }
 
-    /// The same, unless the smallest other holder has a mode that isn't compatible.
-    pub fn claim(&mut self, at: u32, tx: u32, mode: Mode) -> Result<(), Refusal>
+    /// The same, unless the smallest other holder has a mode that isn't compatible. Gives the mode in which the transaction held the
+    /// word before.
+    pub fn claim(&mut self, at: u32, tx: u32, mode: Mode) -> Result<Option<Mode>, Refusal>
+        ensures was { IfOk result (λ was. was ≡ map.get self.old (word_holder at tx)) }
         ensures free { OnOk result (IsFree (λ n. map.get self.old (word_holder at n)) tx mode) }
         ensures ok { OnOk result
             (self.new ≡ map.insert self.old (word_holder at tx) (with_mode (map.get self.old (word_holder at tx)) mode)) }

@@ -1,10 +1,10 @@
-ghost use Rattle.std.specs.Prelude.{◌≡◌, ◌<◌};
-ghost use Rattle.xc_wordlocks.specs.Table.{Holds};
+ghost use Rattle.std.specs.Prelude.{◌≡◌, ◌<◌, ◌^◌, length};
+ghost use Rattle.xc_wordlocks.specs.Table.{Holds, KeepsOthers};
 
 use std::marker::Brand;
 use std::sync::ledger::{Blank, Ledger};
 use std::test::Fail;
-use xc_data::{Claim, HeldList, Mode, Object};
+use xc_data::{Claim, HeldList, Mode, NoMemory, Object};
 use xc_sentinel::{Sentinels, Verdict};
 use xc_wordlocks::{Holding, Steps};
 
@@ -15,29 +15,41 @@ fn word(at: u32) -> [Claim; 1] {
     }]
 }
 
+// A transaction claims, with room in the list of what it holds.
+fn ask(
+    sentinels: &mut Sentinels,
+    claims: &[Claim],
+    tx: u32,
+    held: &mut Holding,
+    patient: bool,
+) -> Result<Verdict, NoMemory>
+    requires holds { Holds sentinels.old.claims tx held.old.items }
+    requires few { length claims.now < 2 ^ 32 }
+    ensures holds { Holds sentinels.new.claims tx held.new.items }
+    ensures others { KeepsOthers tx sentinels.old.claims sentinels.new.claims }
+{
+    held.make_room(claims.len() as u32)?;
+    Ok(sentinels.ask(claims, tx, held, patient, 0))
+}
+
 #[test]
 fn an_older_one_waits_and_the_younger_is_marked(rt: HostRuntime) -> Result<(), Fail> {
     let alloc = rt.alloc();
     let mut sentinels = Sentinels::new(alloc);
     assert!(rt; sentinels.begin(1, 1).is_ok());
     assert!(rt; sentinels.begin(2, 2).is_ok());
-    assert!(rt; matches!(sentinels.ask(&word(0), 2, true, 0), Verdict::Granted));
-    assert!(rt;
-        matches!(
-            sentinels.ask(&word(0), 1, true, 0),
-            Verdict::Busy { holder: 2, .. }
-        )
-    );
+    let mut older = Holding::new(alloc);
+    let mut younger = Holding::new(alloc);
+    let granted = ask(&mut sentinels, &word(0), 2, &mut younger, true)?;
+    assert!(rt; matches!(granted, Verdict::Granted));
+    let busy = ask(&mut sentinels, &word(0), 1, &mut older, true)?;
+    assert!(rt; matches!(busy, Verdict::Busy { holder: 2, .. }));
     assert!(rt; matches!(sentinels.doomed(2), Some(mark) if mark.by == 1));
     assert!(rt; sentinels.doomed(1).is_none());
     sentinels.settle(2);
     assert!(rt; sentinels.active(2));
-    assert!(rt;
-        matches!(
-            sentinels.ask(&word(0), 1, false, 0),
-            Verdict::Conflict { holder: 2, .. }
-        )
-    );
+    let conflict = ask(&mut sentinels, &word(0), 1, &mut older, false)?;
+    assert!(rt; matches!(conflict, Verdict::Conflict { holder: 2, .. }));
     Ok(())
 }
 

@@ -1,6 +1,11 @@
+ghost use Rattle.std.specs.Prelude.{◌<◌, ◌^◌, length};
+
+use std::alloc::Global;
+use std::marker::Model;
 use std::process::Abort;
 use std::test::Fail;
-use xc_data::{Claim, Mode, NoMemory, Num, Object};
+use std::{mem, slice};
+use xc_data::{Claim, HeldList, Mode, NoMemory, Num, Object};
 use xc_wordlocks::{ClaimErr, Claims, Holding};
 
 const WORD_0: Object = Object::Word(0);
@@ -25,6 +30,58 @@ const fn writes(object: Object) -> Claim {
     }
 }
 
+// The table of claims, and at the place of each transaction's number the list of what it holds.
+#[derive(Drop)]
+struct Listed {
+    claims: Claims,
+    lists: Vec<Holding>,
+}
+
+impl Model for Listed {
+    ghost use Rattle.xc_wordlocks.specs.Table.{Table, coded_table};
+    ghost use Rattle.xc_tests.specs.Lists.{AreLists};
+
+    ghost Value = { Table };
+
+    ghost coded = { coded_table };
+
+    ghost view = { λ a. a.claims };
+
+    ghost invariant = { λ a. AreLists a.claims a.lists.items };
+}
+
+impl Listed {
+    // Nobody holds anything, of so many transactions.
+    fn new(alloc: Global, count: u32) -> Result<Listed, NoMemory> {
+        let mut lists = Vec::new(alloc);
+        for _ in 0..count {
+            lists.push(Holding::new(alloc))?;
+        }
+        Ok(Listed {
+            claims: Claims::new(alloc),
+            lists,
+        })
+    }
+
+    // A transaction claims.
+    fn claim(&mut self, claims: &[Claim], tx: u32) -> Result<(), ClaimErr>
+        requires { length claims.now < 2 ^ 32 }
+    {
+        let Some(held) = self.lists.get_mut(tx as usize) else {
+            return Err(ClaimErr::NoMemory);
+        };
+        held.reserve(claims)?;
+        self.claims.claim(claims, tx, held)
+    }
+
+    // It ends. Gives what it held.
+    fn end(&mut self, alloc: Global, tx: u32) -> Option<HeldList> {
+        let list = self.lists.get_mut(tx as usize)?;
+        let held = mem::replace(list, Holding::new(alloc));
+        Some(self.claims.release_all(tx, held))
+    }
+}
+
 // What a transaction does, and what is answered.
 #[derive(Drop)]
 enum Step {
@@ -36,29 +93,19 @@ fn met(object: Object, holder: u32) -> Result<(), ClaimErr> {
     Err(ClaimErr::Met { object, holder })
 }
 
-fn play(rt: &impl Abort, claims: &mut Claims, steps: &[Step]) {
+fn play(rt: &impl Abort, table: &mut Listed, steps: &[Step]) {
     for step in steps {
         match step {
-            Step::Claims(tx, listed, meant) => assert_eq!(rt; claims.claim(listed, *tx), *meant),
-            Step::Asks(tx, claim, meant) => assert_eq!(rt; claims.met(claim, *tx), *meant),
+            Step::Claims(tx, claims, meant) => assert_eq!(rt; table.claim(claims, *tx), *meant),
+            Step::Asks(tx, claim, meant) => assert_eq!(rt; table.claims.met(claim, *tx), *meant),
         }
     }
 }
 
-// A transaction ends: the claims of its calls, in their order, and what it held.
-fn end(
-    rt: &(impl Abort + AllocGlobal),
-    claims: &mut Claims,
-    tx: u32,
-    log: &[Claim],
-    meant: &[Claim],
-) -> Result<(), NoMemory> {
-    assert!(rt; log.len() <= 256);
-    let mut held = Holding::new(rt.alloc());
-    held.reserve(log)?;
-    held.hold(log);
-    assert_eq!(rt; claims.release_all(tx, held).as_slice(), meant);
-    Ok(())
+// A transaction ends, and this is what it held.
+fn end(rt: &(impl Abort + AllocGlobal), table: &mut Listed, tx: u32, meant: &[Claim]) {
+    let held = table.end(rt.alloc(), tx);
+    assert_eq!(rt; held.as_ref().map(HeldList::as_slice), Some(meant));
 }
 
 #[test]
@@ -108,20 +155,60 @@ fn readers_share_and_writers_are_alone(rt: HostRuntime) -> Result<(), Fail> {
         Step::Claims(2, [writes(WORD_0), writes(PIPE)], Ok(())),
         Step::Asks(1, reads(WORD_0), Some(2)),
     ];
-    let mut claims = Claims::new(rt.alloc());
-    play(&rt, &mut claims, &beside);
-    play(&rt, &mut claims, &between);
-    let twice = [reads(WORD_0), reads(WORD_0)];
-    end(&rt, &mut claims, 5, &twice, &[reads(WORD_0)])?;
-    play(&rt, &mut claims, &gone);
-    let both = [reads(WORD_0), reads(FILE)];
-    end(&rt, &mut claims, 3, &both, &both)?;
-    play(&rt, &mut claims, &freed);
-    end(&rt, &mut claims, 9, &twice, &[reads(WORD_0)])?;
-    play(&rt, &mut claims, &alone);
-    let log = [reads(WORD_0), reads(PIPE), writes(WORD_0), reads(WORD_0)];
-    end(&rt, &mut claims, 7, &log, &[writes(WORD_0), reads(PIPE)])?;
-    play(&rt, &mut claims, &after);
+    let mut table = Listed::new(rt.alloc(), 10)?;
+    play(&rt, &mut table, &beside);
+    play(&rt, &mut table, &between);
+    end(&rt, &mut table, 5, &[reads(WORD_0)]);
+    play(&rt, &mut table, &gone);
+    end(&rt, &mut table, 3, &[reads(WORD_0), reads(FILE)]);
+    play(&rt, &mut table, &freed);
+    end(&rt, &mut table, 9, &[reads(WORD_0)]);
+    play(&rt, &mut table, &alone);
+    end(&rt, &mut table, 7, &[writes(WORD_0), reads(PIPE)]);
+    play(&rt, &mut table, &after);
+    Ok(())
+}
+
+// A transaction claims one object after another, and this is what it held.
+fn follows(rt: &(impl Abort + AllocGlobal), table: &mut Listed, claims: &[Claim], meant: &[Claim]) {
+    for claim in claims {
+        assert_eq!(rt; table.claim(slice::from_ref(claim), 1), Ok(()));
+    }
+    end(rt, table, 1, meant);
+}
+
+#[test]
+fn a_list_follows_claims_of_one_object(rt: HostRuntime) -> Result<(), Fail> {
+    let mut table = Listed::new(rt.alloc(), 2)?;
+    follows(&rt, &mut table, &[reads(WORD_0)], &[reads(WORD_0)]);
+    follows(&rt, &mut table, &[writes(FILE)], &[writes(FILE)]);
+    // In the same mode again.
+    follows(
+        &rt,
+        &mut table,
+        &[reads(WORD_0), reads(WORD_0)],
+        &[reads(WORD_0)],
+    );
+    follows(
+        &rt,
+        &mut table,
+        &[writes(FILE), writes(FILE)],
+        &[writes(FILE)],
+    );
+    // A mode rises where the object stands.
+    follows(
+        &rt,
+        &mut table,
+        &[reads(WORD_0), reads(FILE), writes(WORD_0), writes(FILE)],
+        &[writes(WORD_0), writes(FILE)],
+    );
+    // A weaker one changes nothing.
+    follows(
+        &rt,
+        &mut table,
+        &[writes(WORD_0), writes(FILE), reads(FILE), reads(WORD_0)],
+        &[writes(WORD_0), writes(FILE)],
+    );
     Ok(())
 }
 
@@ -131,17 +218,18 @@ fn a_transaction_holds_many(rt: HostRuntime) -> Result<(), Fail> {
     for at in 0..256 {
         listed.push(writes(Object::Word(at)))?;
     }
-    let mut claims = Claims::new(rt.alloc());
-    assert_eq!(rt; claims.claim(&listed, 1), Ok(()));
-    assert_eq!(rt; claims.claim(&[], 2), Ok(()));
+    assert!(rt; listed.len() == 256);
+    let mut table = Listed::new(rt.alloc(), 3)?;
+    assert_eq!(rt; table.claim(&listed, 1), Ok(()));
+    assert_eq!(rt; table.claim(&[], 2), Ok(()));
     for at in 0..256 {
-        assert_eq!(rt; claims.met(&reads(Object::Word(at)), 2), Some(1));
+        assert_eq!(rt; table.claims.met(&reads(Object::Word(at)), 2), Some(1));
     }
-    assert_eq!(rt; claims.claim(&[writes(Object::Word(256))], 2), Ok(()));
-    end(&rt, &mut claims, 1, &listed, &listed)?;
+    assert_eq!(rt; table.claim(&[writes(Object::Word(256))], 2), Ok(()));
+    end(&rt, &mut table, 1, &listed);
     for at in 0..256 {
-        assert_eq!(rt; claims.met(&writes(Object::Word(at)), 3), None);
+        assert_eq!(rt; table.claims.met(&writes(Object::Word(at)), 3), None);
     }
-    assert_eq!(rt; claims.met(&reads(Object::Word(256)), 3), Some(2));
+    assert_eq!(rt; table.claims.met(&reads(Object::Word(256)), 3), Some(2));
     Ok(())
 }

@@ -1,6 +1,7 @@
 use Rattle.std.proofs.Common.{◌≡◌, ℕ, true, Some, refl, subst, sym, ap, ◌∙◌}
 use Rattle.std.specs.Prelude.{option_copied}
 use Rattle.xc_sentinel.specs.Seating.{seat_in}
+use Rattle.xc_wordlocks.specs.Table.{Holds}
 use Rattle.xc_model.specs.Setting.{setting}
 use Rattle.xc_model.specs.Moment.{TxView, JobView}
 use Rattle.xc_model.specs.Movers.{with_tx, mover}
@@ -83,6 +84,11 @@ returns-clause-lends g c tx is =
       lends_from g.H.Host.model _ (record { old = tx_view job.tx; new = tx_view new }) tx (tx_view new)
           (sym (ap (λ (t : TxView). t.taken) (its_active job tx is))) refl c.step_running-answer.ensures.lends,
     )
+
+pub step_running-answer-requires-clause-holds : goal.step_running-answer-requires-clause-holds
+step_running-answer-requires-clause-holds g c =
+    let was = c.requires.running in
+    subst (λ (x : TxView). Holds c.args.shared.now.sentinels.claims x.number x.held) (sym (its_active c.args.job.now was.tx was.doing)) was.holds
 
 pub step_running-answer-requires-clause-needs : goal.step_running-answer-requires-clause-needs
 step_running-answer-requires-clause-needs g c =

@@ -4,8 +4,8 @@ use Rattle.xc_wordlocks.specs.Table.{Table}
 use Rattle.xc_sentinel.specs.Asking.{IsAnswer}
 use Rattle.xc_sentinel.proofs.sentinels.Sentinels.ask.Goals as goal
 
-pub returns-in-Err-Met : goal.returns-in-Err-Met
-returns-in-Err-Met c =
+pub returns-in-Err-Met-clause-answer : goal.returns-in-Err-Met-clause-answer
+returns-in-Err-Met-clause-answer c =
     let was = c.in-Err-Met.ensures.err in
     let met : IsFirstMet c.args.self.now.claims c.args.claims.now c.args.tx c.in-Err-Met.object c.in-Err-Met.holder =
     subst (IsCause c.args.self.now.claims c.args.claims.now c.args.tx) c.in-Err-Met.field-0-is c.in-Err-Met.ensures.cause in

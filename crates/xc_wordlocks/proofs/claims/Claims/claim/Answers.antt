@@ -12,7 +12,7 @@ returns-in-len1-clause-unmet c =
     subst (λ (claims : List Claim). OnOk c.claim_one.result (All (IsNotMet c.args.self.now c.args.tx) claims))
     (alone c.args.claims.now c.claim-item.result (omega arith) c.claim-item.is) c.claim_one.ensures.unmet
 
-coherent : (c : goal.In_ok-hold_all) → AreCompatible c.hold_all.new.holders
+coherent : (c : goal.After-hold) → AreCompatible c.hold_all.new.holders
 coherent c =
     coherent_claim c.self.inside.holders c.hold_all.new.holders c.args.tx c.args.claims.now c.self.invariant
     (subst (λ (t : Table). All (IsNotMet t c.args.tx) c.args.claims.now) (sym c.self.view_is) c.in_ok-check.ensures)

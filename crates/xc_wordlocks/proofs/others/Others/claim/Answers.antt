@@ -3,7 +3,7 @@ use Rattle.std.specs.Ordering.{nat_cmp}
 use Rattle.std.specs.BTreeMap.{is_at}
 use Rattle.std.specs.FinMap as map
 use Rattle.std.specs.HashMap.Entry.{map_with_value}
-use Rattle.std.proofs.lemmas.Result.{on_ok_weaker, on_err_weaker}
+use Rattle.std.proofs.lemmas.Result.{IfOk-weaker, on_ok_weaker, on_err_weaker}
 use Rattle.xc_data.specs.declared.claim.Mode.{Mode}
 use Rattle.xc_wordlocks.specs.Keys.{holder_of}
 use Rattle.xc_wordlocks.specs.Others.{IsFree, IsReason}
@@ -29,6 +29,13 @@ seen : (c : goal.After-self-3-1) → mode_among c.or_insert-holders.result.now �
 seen c =
     same_modes (mode_among c.or_insert-holders.result.now) (λ n. map.get c.args.self.now (holder_of c.args.object n))
     (λ n. there c n ∙ got c.self.inside.rows.entries c.args.self.now c.self.view_is c.self.invariant c.args.object n)
+
+pub returns-clause-was : goal.returns-clause-was
+returns-clause-was c =
+    IfOk-weaker c.claim.result (λ was. was ≡ mode_among c.or_insert-holders.result.now c.args.tx)
+    (λ was. was ≡ map.get c.args.self.now (holder_of c.args.object c.args.tx))
+    (λ was is. is ∙ ap (λ (modes : ℕ → Option Mode). modes c.args.tx) (seen c))
+    c.claim.ensures.was
 
 pub returns-clause-free : goal.returns-clause-free
 returns-clause-free c = subst (λ (modes : ℕ → Option Mode). OnOk c.claim.result (IsFree modes c.args.tx c.args.mode)) (seen c) c.claim.ensures.free

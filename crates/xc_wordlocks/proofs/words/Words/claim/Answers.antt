@@ -1,10 +1,11 @@
-use Rattle.std.proofs.Common.{ℕ, Option, OnOk, IfErr, rules, subst, ◌∙◌}
+use Rattle.std.proofs.Common.{◌≡◌, ℕ, Option, OnOk, IfErr, rules, sym, subst, ◌∙◌}
 use Rattle.std.specs.FinMap as map
-use Rattle.std.proofs.lemmas.Result.{on_ok_weaker, on_err_weaker}
+use Rattle.std.proofs.lemmas.Result.{IfOk-weaker, on_ok_weaker, on_err_weaker}
 use Rattle.xc_data.specs.declared.claim.Mode.{Mode}
 use Rattle.xc_wordlocks.specs.Keys.{word_holder}
 use Rattle.xc_wordlocks.specs.Others.{IsFree, IsReason}
-use Rattle.xc_wordlocks.proofs.ByWord.{none_beyond, modes_there, put_same, put_raised}
+use Rattle.xc_wordlocks.specs.Rows.{mode_among}
+use Rattle.xc_wordlocks.proofs.ByWord.{none_beyond, mode_there, modes_there, put_same, put_raised}
 use Rattle.xc_wordlocks.proofs.Free.{free_none}
 use Rattle.xc_wordlocks.proofs.words.Words.claim.Goals as goal
 
@@ -14,6 +15,14 @@ returns-in_err-grow-clause-reason c =
     free_none (λ n. map.get c.args.self.now (word_holder c.args.at n)) c.args.tx c.args.mode
     (λ n. none_beyond c.grow.new.holders.items c.args.self.now (c.in_err-grow.ensures.same ∙ c.self.view_is) c.args.at n c.in_err-grow.ensures.beyond) in
     search (rules, free)
+
+pub returns-clause-was : goal.returns-clause-was
+returns-clause-was c =
+    IfOk-weaker c.claim.result (λ was. was ≡ mode_among c.index_mut.result.now c.args.tx)
+    (λ was. was ≡ map.get c.args.self.now (word_holder c.args.at c.args.tx))
+    (λ was is. is ∙ sym (mode_there c.grow.new.holders.items c.args.self.now (c.in_ok-grow.ensures.same ∙ c.self.view_is) c.args.at c.index_mut.result.now
+    c.in_ok-grow.ensures.reach c.index_mut.ensures.value c.args.tx))
+    c.claim.ensures.was
 
 pub returns-clause-free : goal.returns-clause-free
 returns-clause-free c =

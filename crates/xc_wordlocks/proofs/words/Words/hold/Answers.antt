@@ -1,5 +1,4 @@
 use Rattle.std.proofs.Common.{◌∙◌}
-use Rattle.std.proofs.lemmas.Result.{on_ok_weaker, on_err_weaker}
 use Rattle.xc_wordlocks.proofs.Modes.{on_err}
 use Rattle.xc_wordlocks.proofs.ByWord.{none_beyond, mode_there, put_same, put_raised}
 use Rattle.xc_wordlocks.proofs.words.Words.hold.Goals as goal
@@ -11,22 +10,17 @@ returns-in_err-grow-clause-absent c =
 
 pub returns-clause-ok : goal.returns-clause-ok
 returns-clause-ok c =
-    on_ok_weaker c.hold.result
-    (put_raised c.grow.new.holders.items c.args.self.now (c.in_ok-grow.ensures.same ∙ c.self.view_is) c.args.at c.index_mut.result.now
-    c.in_ok-grow.ensures.reach c.index_mut.ensures.value c.hold.new.self c.args.tx c.args.mode)
-    c.hold.ensures.ok
+    put_raised c.grow.new.holders.items c.args.self.now (c.in_ok-grow.ensures.same ∙ c.self.view_is) c.args.at c.index_mut.result.now
+    c.in_ok-grow.ensures.reach c.index_mut.ensures.value c.hold.new.self c.args.tx c.args.mode c.in_ok-hold.ensures.ok
 
-pub returns-clause-err : goal.returns-clause-err
-returns-clause-err c =
-    on_err_weaker c.hold.result
+pub returns-in_err-hold-clause-err : goal.returns-in_err-hold-clause-err
+returns-in_err-hold-clause-err c =
+    on_err c.from_residual-in_err-hold.result
     (put_same c.grow.new.holders.items c.args.self.now (c.in_ok-grow.ensures.same ∙ c.self.view_is) c.args.at c.index_mut.result.now
-    c.in_ok-grow.ensures.reach c.index_mut.ensures.value c.hold.new.self)
-    c.hold.ensures.err
+    c.in_ok-grow.ensures.reach c.index_mut.ensures.value c.hold.new.self c.in_err-hold.ensures.err)
 
-pub returns-clause-absent : goal.returns-clause-absent
-returns-clause-absent c =
-    on_err_weaker c.hold.result
-    (λ none.
-    mode_there c.grow.new.holders.items c.args.self.now (c.in_ok-grow.ensures.same ∙ c.self.view_is) c.args.at c.index_mut.result.now
-    c.in_ok-grow.ensures.reach c.index_mut.ensures.value c.args.tx ∙ none)
-    c.hold.ensures.absent
+pub returns-in_err-hold-clause-absent : goal.returns-in_err-hold-clause-absent
+returns-in_err-hold-clause-absent c =
+    on_err c.from_residual-in_err-hold.result
+    (mode_there c.grow.new.holders.items c.args.self.now (c.in_ok-grow.ensures.same ∙ c.self.view_is) c.args.at c.index_mut.result.now
+    c.in_ok-grow.ensures.reach c.index_mut.ensures.value c.args.tx ∙ c.in_err-hold.ensures.absent)
