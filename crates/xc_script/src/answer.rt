@@ -1,12 +1,13 @@
 ghost use Rattle.std.specs.Prelude.{◌≡◌, ◌≤◌, ◌+◌, ◌<◌, ◌^◌, length, IfOk, OnOk, OnErr, IsOk, None};
 ghost use Rattle.xc_script.specs.Walks.{bytes_got, fails_check, stored_after};
-ghost use Rattle.xc_script.specs.Answers.{value_in, one_target, two_targets, form_target, target_of};
+ghost use Rattle.xc_script.specs.Answers.{value_in, one_target, two_targets, target_of};
+ghost use Rattle.xc_text.specs.Kept.{said_by};
 ghost use Rattle.xc_script.specs.Answers.{handles_in, bound_both, bound, refuses};
 ghost use Rattle.xc_script.specs.declared.answer.Target.TheVariants.{Nowhere};
 
 use crate::value::{Value, Variables};
 use xc_data::{NoMemory, Reply};
-use xc_text::{CallForm, Place, Statement};
+use xc_text::{Form, KeptStatement, Place};
 
 /// The variables that take what a reply brings: none, one, or one for each side of a pair.
 #[derive(Clone, Copy)]
@@ -63,34 +64,34 @@ fn two_targets(into: Option<(Place, Place)>) -> Target
     }
 }
 
-fn form_target(form: &CallForm<Place>) -> Target
-    ensures { result ≡ form_target form.now }
+fn form_target(form: &Form) -> Target
+    ensures { result ≡ target_of (said_by form.now) }
 {
     match form {
-        CallForm::Load { into, .. } | CallForm::Read { into, .. } => one_target(*into),
-        CallForm::Open { into, .. } | CallForm::Create { into, .. } => one_target(*into),
-        CallForm::Length { into, .. } => one_target(*into),
-        CallForm::Pipe { into } | CallForm::ReadPipe { into, .. } => one_target(*into),
-        CallForm::Pair { into } => two_targets(*into),
-        CallForm::Receive { into, .. } => one_target(*into),
-        CallForm::Store { .. } | CallForm::Rename { .. } => Target::Nowhere,
-        CallForm::Overwrite { .. } | CallForm::Append { .. } => Target::Nowhere,
-        CallForm::Seek { .. } | CallForm::Close { .. } => Target::Nowhere,
-        CallForm::Unlink { .. } | CallForm::Sync { .. } => Target::Nowhere,
-        CallForm::WritePipe { .. } | CallForm::Shutdown { .. } => Target::Nowhere,
-        CallForm::Send { .. } | CallForm::Start { .. } => Target::Nowhere,
+        Form::Load { into, .. } | Form::Read { into, .. } => one_target(*into),
+        Form::Open { into, .. } | Form::Create { into, .. } => one_target(*into),
+        Form::Length { into, .. } => one_target(*into),
+        Form::Pipe { into } | Form::ReadPipe { into, .. } => one_target(*into),
+        Form::Pair { into } => two_targets(*into),
+        Form::Receive { into, .. } => one_target(*into),
+        Form::Store { .. } | Form::StoreSum { .. } => Target::Nowhere,
+        Form::StoreDifference { .. } | Form::Rename { .. } => Target::Nowhere,
+        Form::Overwrite { .. } | Form::Append { .. } => Target::Nowhere,
+        Form::Seek { .. } | Form::Close { .. } => Target::Nowhere,
+        Form::Unlink { .. } | Form::Sync { .. } => Target::Nowhere,
+        Form::WritePipe { .. } | Form::Shutdown { .. } => Target::Nowhere,
+        Form::Send { .. } | Form::Start { .. } => Target::Nowhere,
+        Form::Let { .. } | Form::LetSum { .. } => Target::Nowhere,
+        Form::LetDifference { .. } | Form::Abort => Target::Nowhere,
+        Form::AbortIf { .. } | Form::Require => Target::Nowhere,
     }
 }
 
 /// The variables that take a statement's reply.
-pub fn target_of(statement: &Statement<Place>) -> Target
+pub fn target_of(statement: &KeptStatement) -> Target
     ensures { result ≡ target_of statement.now }
 {
-    match statement {
-        Statement::Call(form) => form_target(form),
-        Statement::Let { .. } | Statement::Abort => Target::Nowhere,
-        Statement::AbortIf { .. } | Statement::Require => Target::Nowhere,
-    }
+    form_target(statement.form())
 }
 
 // Two variables take the handles of a pair, the second one last, or lose their own. It takes no memory.

@@ -3,8 +3,9 @@ ghost use Rattle.xc_data.specs.declared.call.Call.TheVariants.{XSendmsg, XWriteO
 ghost use Rattle.xc_script.specs.Walks.{is_over};
 ghost use Rattle.xc_script.specs.Asking.{unless_over};
 ghost use Rattle.xc_script.specs.Values.{data_of, handle_value};
-ghost use Rattle.xc_script.specs.Asking.{name_of_slot, form_ask, ask_of};
+ghost use Rattle.xc_script.specs.Asking.{name_of_slot, ask_of};
 ghost use Rattle.xc_script.specs.Walks.{carried_by};
+ghost use Rattle.xc_text.specs.Kept.{said_by};
 
 use crate::calls::{
     close, create, load, measure, open, read, read_pipe, receive, rename, seek, shutdown, start,
@@ -15,7 +16,7 @@ use crate::terms::handle_in;
 use crate::value::Variables;
 use std::alloc::Global;
 use xc_data::{Boxed, Call, Chunk, Ident, MOST_STORED, NoMemory};
-use xc_text::{CallForm, Data, Place, Statement};
+use xc_text::{Data, Expression, Form, KeptStatement, Place};
 
 /// What a job is asked to do next.
 #[derive(Drop)]
@@ -155,43 +156,53 @@ fn send(
     }
 }
 
-// What a line that is a call asks, after so many stored bytes.
+// What a statement in this form asks that isn't silent, after so many stored bytes.
 fn form_ask(
     alloc: Global,
     variables: &Variables,
     stored: u128,
-    form: &CallForm<Place>,
+    form: &Form,
 ) -> Result<Ask, NoMemory>
-    ensures { IfOk result (λ ask. ask ≡ form_ask variables.now stored form.now) }
+    ensures { IfOk result (λ ask. ask ≡ ask_of variables.now stored (said_by form.now)) }
 {
     match form {
-        CallForm::Load { at, .. } => Ok(Ask::Call(load(variables, *at))),
-        CallForm::Store { at, value } => Ok(Ask::Call(store(variables, *at, *value))),
-        CallForm::Open { name, .. } => Ok(Ask::Call(open(name))),
-        CallForm::Create { name, .. } => Ok(Ask::Call(create(name))),
-        CallForm::Rename { from, to } => Ok(Ask::Call(rename(from, to))),
-        CallForm::Read { handle, n, .. } => Ok(Ask::Call(read(variables, *handle, *n))),
-        CallForm::Overwrite { handle, data } => overwrite(alloc, variables, stored, *handle, data),
-        CallForm::Append { handle, data } => append(alloc, variables, stored, *handle, data),
-        CallForm::Seek { handle, to } => Ok(Ask::Call(seek(variables, *handle, *to))),
-        CallForm::Length { handle, .. } => Ok(Ask::Call(measure(variables, *handle))),
-        CallForm::Close { handle } => Ok(Ask::Call(close(variables, *handle))),
-        CallForm::Unlink { name, slot } => Ok(Ask::Call(unlink(alloc, variables, name, *slot)?)),
-        CallForm::Sync { handle, slot } => Ok(Ask::Call(sync(alloc, variables, *handle, *slot)?)),
-        CallForm::Pipe { .. } => Ok(Ask::Call(Call::XPipe)),
-        CallForm::ReadPipe { handle, n, .. } => Ok(Ask::Call(read_pipe(variables, *handle, *n))),
-        CallForm::WritePipe { handle, data, slot } => {
+        Form::Load { at, .. } => Ok(Ask::Call(load(variables, *at))),
+        Form::Store { at, value } => {
+            Ok(Ask::Call(store(variables, *at, Expression::Term(*value))))
+        }
+        Form::StoreSum { at, left, right } => {
+            Ok(Ask::Call(store(variables, *at, Expression::Sum(*left, *right))))
+        }
+        Form::StoreDifference { at, left, right } => {
+            Ok(Ask::Call(store(variables, *at, Expression::Difference(*left, *right))))
+        }
+        Form::Open { name, .. } => Ok(Ask::Call(open(name))),
+        Form::Create { name, .. } => Ok(Ask::Call(create(name))),
+        Form::Rename { from, to } => Ok(Ask::Call(rename(from, to))),
+        Form::Read { handle, n, .. } => Ok(Ask::Call(read(variables, *handle, *n))),
+        Form::Overwrite { handle, data } => overwrite(alloc, variables, stored, *handle, data),
+        Form::Append { handle, data } => append(alloc, variables, stored, *handle, data),
+        Form::Seek { handle, to } => Ok(Ask::Call(seek(variables, *handle, *to))),
+        Form::Length { handle, .. } => Ok(Ask::Call(measure(variables, *handle))),
+        Form::Close { handle } => Ok(Ask::Call(close(variables, *handle))),
+        Form::Unlink { slot, name } => Ok(Ask::Call(unlink(alloc, variables, name, *slot)?)),
+        Form::Sync { handle, slot } => Ok(Ask::Call(sync(alloc, variables, *handle, *slot)?)),
+        Form::Pipe { .. } => Ok(Ask::Call(Call::XPipe)),
+        Form::ReadPipe { handle, n, .. } => Ok(Ask::Call(read_pipe(variables, *handle, *n))),
+        Form::WritePipe { handle, slot, data } => {
             write_pipe(alloc, variables, stored, *handle, data, *slot)
         }
-        CallForm::Shutdown { handle, slot } => {
+        Form::Shutdown { handle, slot } => {
             Ok(Ask::Call(shutdown(alloc, variables, *handle, *slot)?))
         }
-        CallForm::Pair { .. } => Ok(Ask::Call(Call::XPair)),
-        CallForm::Receive { handle, .. } => Ok(Ask::Call(receive(variables, *handle))),
-        CallForm::Send { handle, data, slot } => {
+        Form::Pair { .. } => Ok(Ask::Call(Call::XPair)),
+        Form::Receive { handle, .. } => Ok(Ask::Call(receive(variables, *handle))),
+        Form::Send { handle, slot, data } => {
             send(alloc, variables, stored, *handle, data, *slot)
         }
-        CallForm::Start { block, slot } => Ok(Ask::Call(start(alloc, variables, block, *slot)?)),
+        Form::Start { slot, block } => Ok(Ask::Call(start(alloc, variables, block, *slot)?)),
+        Form::Let { .. } | Form::LetSum { .. } | Form::LetDifference { .. } => Ok(Ask::Abort),
+        Form::Abort | Form::AbortIf { .. } | Form::Require => Ok(Ask::Abort),
     }
 }
 
@@ -200,15 +211,11 @@ pub fn ask_of(
     alloc: Global,
     variables: &Variables,
     stored: u128,
-    statement: &Statement<Place>,
+    statement: &KeptStatement,
 ) -> Result<Ask, NoMemory>
     ensures { IfOk result (λ ask. ask ≡ ask_of variables.now stored statement.now) }
 {
-    match statement {
-        Statement::Call(form) => form_ask(alloc, variables, stored, form),
-        Statement::Let { .. } | Statement::Abort => Ok(Ask::Abort),
-        Statement::AbortIf { .. } | Statement::Require => Ok(Ask::Abort),
-    }
+    form_ask(alloc, variables, stored, statement.form())
 }
 
 // How many bytes the data of a write has, where the transaction may store so many more.
@@ -222,32 +229,31 @@ fn data_carried(variables: &Variables, stored: u128, items: &Data<Place>) -> usi
     }
 }
 
-fn form_carried(variables: &Variables, stored: u128, form: &CallForm<Place>) -> usize
-    ensures value { result ≡ carried_by (form_ask variables.now stored form.now) }
+fn form_carried(variables: &Variables, stored: u128, form: &Form) -> usize
+    ensures value { result ≡ carried_by (ask_of variables.now stored (said_by form.now)) }
     ensures bound { result ≤ 1024 }
 {
     match form {
-        CallForm::Overwrite { data, .. } => data_carried(variables, stored, data),
-        CallForm::Append { data, .. } => data_carried(variables, stored, data),
-        CallForm::WritePipe { data, .. } => data_carried(variables, stored, data),
-        CallForm::Send { data, .. } => data_carried(variables, stored, data),
-        CallForm::Load { .. } | CallForm::Store { .. } | CallForm::Open { .. } => 0,
-        CallForm::Create { .. } | CallForm::Rename { .. } | CallForm::Read { .. } => 0,
-        CallForm::Seek { .. } | CallForm::Length { .. } | CallForm::Close { .. } => 0,
-        CallForm::Unlink { .. } | CallForm::Sync { .. } => 0,
-        CallForm::Pipe { .. } | CallForm::ReadPipe { .. } | CallForm::Shutdown { .. } => 0,
-        CallForm::Pair { .. } | CallForm::Receive { .. } | CallForm::Start { .. } => 0,
+        Form::Overwrite { data, .. } => data_carried(variables, stored, data),
+        Form::Append { data, .. } => data_carried(variables, stored, data),
+        Form::WritePipe { data, .. } => data_carried(variables, stored, data),
+        Form::Send { data, .. } => data_carried(variables, stored, data),
+        Form::Load { .. } | Form::Store { .. } | Form::StoreSum { .. } => 0,
+        Form::StoreDifference { .. } | Form::Open { .. } => 0,
+        Form::Create { .. } | Form::Rename { .. } | Form::Read { .. } => 0,
+        Form::Seek { .. } | Form::Length { .. } | Form::Close { .. } => 0,
+        Form::Unlink { .. } | Form::Sync { .. } => 0,
+        Form::Pipe { .. } | Form::ReadPipe { .. } | Form::Shutdown { .. } => 0,
+        Form::Pair { .. } | Form::Receive { .. } | Form::Start { .. } => 0,
+        Form::Let { .. } | Form::LetSum { .. } | Form::LetDifference { .. } => 0,
+        Form::Abort | Form::AbortIf { .. } | Form::Require => 0,
     }
 }
 
 /// How many bytes the call carries that a statement asks. It takes no memory.
-pub fn carried(variables: &Variables, stored: u128, statement: &Statement<Place>) -> usize
+pub fn carried(variables: &Variables, stored: u128, statement: &KeptStatement) -> usize
     ensures value { result ≡ carried_by (ask_of variables.now stored statement.now) }
     ensures bound { result ≤ 1024 }
 {
-    match statement {
-        Statement::Call(form) => form_carried(variables, stored, form),
-        Statement::Let { .. } | Statement::Abort => 0,
-        Statement::AbortIf { .. } | Statement::Require => 0,
-    }
+    form_carried(variables, stored, statement.form())
 }

@@ -17,7 +17,7 @@ use crate::values::Values;
 use std::alloc::Global;
 use std::marker::Model;
 use xc_data::{Call, LateEnd, NoMemory, Reply};
-use xc_text::{Place, Script, Statement};
+use xc_text::{KeptStatement, Place, Script};
 
 /// A job's place in its block, and its variables. What each call reads stands after what only a begin and an end do.
 #[derive(Drop)]
@@ -57,7 +57,7 @@ impl Model for JobState {
 }
 
 // The statements of a transaction of a block.
-fn body_at(script: &Script, block: usize, next: usize) -> Option<&[Statement<Place>]>
+fn body_at(script: &Script, block: usize, next: usize) -> Option<&[KeptStatement]>
     ensures { option_copied result ≡ slice_get (transactions_at script.now block) next }
 {
     let Some(block) = script.blocks.get(block) else {

@@ -1,9 +1,11 @@
 ghost use Rattle.std.specs.Prelude.{◌≡◌, ◌≤◌, ℕ, true, drop};
+ghost use Rattle.xc_text.specs.declared.script.Statement.TheVariants.{Let};
+ghost use Rattle.xc_text.specs.Kept.{said_by};
 ghost use Rattle.xc_script.specs.Walks.{holds, is_silent, set_by, past_silent, none_silent_first};
 
 use crate::terms::{expression_of, value_of};
 use crate::value::{Value, Variables};
-use xc_text::{Place, Statement, Test};
+use xc_text::{Expression, Form, KeptStatement, Place, Test};
 
 fn holds(test: Test, left: u64, right: u64) -> bool
     ensures { result ≡ holds test left right }
@@ -18,40 +20,65 @@ fn holds(test: Test, left: u64, right: u64) -> bool
     }
 }
 
-// The statement asks nothing, where the last call was refused or not.
-fn is_silent(variables: &Variables, refused: bool, statement: &Statement<Place>) -> bool
-    ensures { result ≡ is_silent variables.now refused statement.now }
+// A statement in this form asks nothing, where the last call was refused or not.
+fn is_silent(variables: &Variables, refused: bool, form: &Form) -> bool
+    ensures { result ≡ is_silent variables.now refused (said_by form.now) }
 {
-    match statement {
-        Statement::Call(_) | Statement::Abort => false,
-        Statement::Let { .. } => true,
-        Statement::AbortIf { left, test, right } => {
+    match form {
+        Form::Load { .. } | Form::Store { .. } | Form::StoreSum { .. } => false,
+        Form::StoreDifference { .. } | Form::Open { .. } | Form::Create { .. } => false,
+        Form::Rename { .. } | Form::Read { .. } | Form::Overwrite { .. } => false,
+        Form::Append { .. } | Form::Seek { .. } | Form::Length { .. } => false,
+        Form::Close { .. } | Form::Unlink { .. } | Form::Sync { .. } => false,
+        Form::Pipe { .. } | Form::ReadPipe { .. } | Form::WritePipe { .. } => false,
+        Form::Shutdown { .. } | Form::Pair { .. } | Form::Receive { .. } => false,
+        Form::Send { .. } | Form::Start { .. } | Form::Abort => false,
+        Form::Let { .. } | Form::LetSum { .. } | Form::LetDifference { .. } => true,
+        Form::AbortIf { left, test, right } => {
             !holds(
                 *test,
                 value_of(variables, *left),
                 value_of(variables, *right),
             )
         }
-        Statement::Require => !refused,
+        Form::Require => !refused,
     }
 }
 
-// Sets the variable of a `let`.
-fn set(variables: &mut Variables, statement: &Statement<Place>)
-    ensures { variables.new ≡ set_by variables.old statement.now }
+// Sets a variable to a number.
+fn set_number(variables: &mut Variables, into: Place, value: Expression<Place>)
+    ensures { variables.new ≡ set_by variables.old (Let into value) }
 {
-    match statement {
-        Statement::Let { into, value } => {
-            let number = expression_of(variables, *value);
-            variables.set(*into, Some(Value::Number(number)));
+    let number = expression_of(variables, value);
+    variables.set(into, Some(Value::Number(number)));
+}
+
+// Sets the variable of a `let`.
+fn set(variables: &mut Variables, form: &Form)
+    ensures { variables.new ≡ set_by variables.old (said_by form.now) }
+{
+    match form {
+        Form::Let { into, value } => set_number(variables, *into, Expression::Term(*value)),
+        Form::LetSum { into, left, right } => {
+            set_number(variables, *into, Expression::Sum(*left, *right));
         }
-        Statement::Call(_) | Statement::Abort => {}
-        Statement::AbortIf { .. } | Statement::Require => {}
+        Form::LetDifference { into, left, right } => {
+            set_number(variables, *into, Expression::Difference(*left, *right));
+        }
+        Form::Load { .. } | Form::Store { .. } | Form::StoreSum { .. } => {}
+        Form::StoreDifference { .. } | Form::Open { .. } | Form::Create { .. } => {}
+        Form::Rename { .. } | Form::Read { .. } | Form::Overwrite { .. } => {}
+        Form::Append { .. } | Form::Seek { .. } | Form::Length { .. } => {}
+        Form::Close { .. } | Form::Unlink { .. } | Form::Sync { .. } => {}
+        Form::Pipe { .. } | Form::ReadPipe { .. } | Form::WritePipe { .. } => {}
+        Form::Shutdown { .. } | Form::Pair { .. } | Form::Receive { .. } => {}
+        Form::Send { .. } | Form::Start { .. } => {}
+        Form::Abort | Form::AbortIf { .. } | Form::Require => {}
     }
 }
 
 /// Passes the silent statements that come next. It takes no memory.
-pub fn settle(variables: &mut Variables, at: &mut usize, refused: bool, body: &[Statement<Place>])
+pub fn settle(variables: &mut Variables, at: &mut usize, refused: bool, body: &[KeptStatement])
     ensures walk { (stored : ℕ) → past_silent variables.new stored refused (drop at.new body.now)
         ≡ past_silent variables.old stored refused (drop at.old body.now) }
     ensures slots { variables.new.slots ≡ variables.old.slots }
@@ -61,10 +88,11 @@ pub fn settle(variables: &mut Variables, at: &mut usize, refused: bool, body: &[
         × (at.new ≡ at.old) }
 {
     while let Some(statement) = body.get(*at) {
-        if !is_silent(variables, refused, statement) {
+        let form = statement.form();
+        if !is_silent(variables, refused, form) {
             return;
         }
-        set(variables, statement);
+        set(variables, form);
         *at += 1;
     }
 }

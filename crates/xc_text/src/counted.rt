@@ -1,6 +1,7 @@
 ghost use Rattle.std.specs.Prelude.{◌≡◌, ◌≤◌, ◌++◌, ◌∷◌, [], count_by, IfOk, OnOk, OnErr};
 ghost use Rattle.xc_text.specs.Steps.{is_call, has_few_calls};
 
+use crate::kept::KeptStatement;
 use crate::limits::MOST_CALLS;
 use crate::script::{Body, Place, Statement};
 use std::alloc::Global;
@@ -10,7 +11,7 @@ use xc_data::{Items, NoMemory};
 /// The statements of a transaction, and how many of them are calls.
 #[derive(Drop)]
 pub struct Counted {
-    statements: Vec<Statement<Place>>,
+    statements: Vec<KeptStatement>,
     calls: u32,
 }
 
@@ -65,7 +66,7 @@ impl Counted {
         ensures err { OnErr result (self.new ≡ self.old) }
     {
         let counts = is_call(&statement);
-        self.statements.push(statement)?;
+        self.statements.push(KeptStatement::of(statement))?;
         if counts {
             self.calls += 1;
         }

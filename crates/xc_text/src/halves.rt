@@ -2,12 +2,50 @@ ghost use Rattle.std.specs.Prelude.{◌≡◌, ◌<◌, ◌+◌, ◌*◌, ◌/�
 
 use std::marker::Model;
 
-/// A number in two halves. They lie on four bytes, so that a term has 12 bytes and a statement 56: with a `u64` they would have 16
-/// and 72. Contracts see the number.
+/// A number of 32 bits in two halves.
+#[derive(Clone, Copy)]
+struct ShortHalves {
+    low: u16,
+    high: u16,
+}
+
+impl Model for ShortHalves {
+    ghost use Rattle.std.specs.Prelude.{ℕ, ◌+◌, ◌*◌, ◌/◌, ◌%◌, ◌^◌, ◌<◌};
+
+    ghost Value = { ℕ };
+
+    ghost view = { λ a. a.high * 2 ^ 16 + a.low };
+
+    ghost invariant = { λ a. (a.low < 2 ^ 16) × (a.high < 2 ^ 16) };
+
+    ghost inverse = { λ n. record { low = n % 2 ^ 16; high = n / 2 ^ 16 } };
+}
+
+impl ShortHalves {
+    #[inline(always)]
+    fn of(number: u32) -> ShortHalves
+        ensures { result ≡ number }
+    {
+        ShortHalves {
+            low: (number % (1 << 16)) as u16,
+            high: (number >> 16) as u16,
+        }
+    }
+
+    #[inline(always)]
+    fn number(&self) -> u32
+        ensures { result ≡ self.now }
+    {
+        (self.high as u32) * (1 << 16) + self.low as u32
+    }
+}
+
+/// A number in four parts. They lie on two bytes, so that a term has 10 bytes and a statement 32: with a `u64` a term would have 16.
+/// Contracts see the number.
 #[derive(Clone, Copy)]
 pub struct Halves {
-    high: u32,
-    low: u32,
+    low: ShortHalves,
+    high: ShortHalves,
 }
 
 impl Model for Halves {
@@ -17,20 +55,20 @@ impl Model for Halves {
 
     ghost view = { λ a. a.high * 2 ^ 32 + a.low };
 
-    ghost invariant = { λ a. a.low < 2 ^ 32 };
+    ghost invariant = { λ a. (a.low < 2 ^ 32) × (a.high < 2 ^ 32) };
 
-    ghost inverse = { λ n. record { high = n / 2 ^ 32; low = n % 2 ^ 32 } };
+    ghost inverse = { λ n. record { low = n % 2 ^ 32; high = n / 2 ^ 32 } };
 }
 
 impl Halves {
-    /// The halves of a number.
+    /// The parts of a number.
     #[inline(always)]
     pub fn of(number: u64) -> Halves
         ensures { result ≡ number }
     {
         Halves {
-            high: (number >> 32) as u32,
-            low: (number % (1 << 32)) as u32,
+            low: ShortHalves::of((number % (1 << 32)) as u32),
+            high: ShortHalves::of((number >> 32) as u32),
         }
     }
 
@@ -39,6 +77,6 @@ impl Halves {
     pub fn number(&self) -> u64
         ensures { result ≡ self.now }
     {
-        (self.high as u64) * (1 << 32) + self.low as u64
+        (self.high.number() as u64) * (1 << 32) + self.low.number() as u64
     }
 }

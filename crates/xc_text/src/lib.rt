@@ -13,6 +13,7 @@ mod draft;
 mod file_names;
 mod grammar;
 mod halves;
+mod kept;
 mod kinds;
 mod limits;
 mod line;
@@ -29,6 +30,7 @@ mod term;
 mod written;
 
 pub use halves::Halves;
+pub use kept::{Form, KeptStatement};
 pub use parse_err::ParseErr;
 pub use parser::parse;
 pub use script::{

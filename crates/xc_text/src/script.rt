@@ -1,6 +1,7 @@
 ghost use Rattle.std.specs.Prelude.{◌≡◌};
 
 use crate::halves::Halves;
+use crate::kept::KeptStatement;
 use xc_data::{Boxed, Chunk, Ident, IdentList, Items, Outline, SharedName};
 
 /// A number, the number in a variable, or one that tells how the last late call with a slot ended. Here and below a
@@ -177,7 +178,7 @@ pub enum Statement<N> {
 pub type Place = u16;
 
 /// The statements of one transaction, in order.
-pub type Body = Items<Statement<Place>>;
+pub type Body = Items<KeptStatement>;
 
 /// A `job` or a `body` block and its transactions, in order.
 #[derive(Drop)]
