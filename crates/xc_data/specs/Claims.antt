@@ -7,6 +7,9 @@ use Rattle.xc_data.specs.contracts.object.ObjectPartialEq.TheImpl as same_object
 use Rattle.xc_data.specs.declared.claim.Mode.{Mode}
 use Rattle.xc_data.specs.declared.claim.Mode.TheVariants.{Shared, Exclusive}
 use Rattle.xc_data.specs.declared.claim.Claim.{Claim}
+use Rattle.xc_data.specs.declared.kept_claim.Form.{Form}
+use Rattle.xc_data.specs.declared.kept_claim.Form.TheVariants as kept
+use Rattle.xc_data.specs.declared.object.Object.TheVariants as object
 
 -- two objects are one
 abbrev pub is_object : Object → Object → Bool
@@ -15,6 +18,15 @@ is_object = same_object.ghosts.eq
 -- the claim on an object in a mode
 abbrev pub claim : Mode → Object → Claim
 claim m o = record { object = o; mode = m }
+
+-- the claim that lies in memory in such a form
+abbrev pub claim_of : Form → Claim
+claim_of (kept.Word m at) = claim m (object.Word at)
+claim_of (kept.Name m name) = claim m (object.Name name)
+claim_of (kept.File m num) = claim m (object.File num)
+claim_of (kept.Pipe m num) = claim m (object.Pipe num)
+claim_of (kept.Pair m num) = claim m (object.Pair num)
+claim_of (kept.Jobs m) = claim m object.Jobs
 
 -- a mode that keeps all others away
 abbrev pub is_exclusive : Mode → Bool

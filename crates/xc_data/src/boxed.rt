@@ -56,26 +56,6 @@ impl<T: Copy + Drop> Boxed<T> {
     {
         Boxed::new(alloc, *self.value())
     }
-
-    /// A place for the value, where there is one.
-    pub fn new_optional(alloc: Global, value: Option<T>) -> Result<Option<Self>, NoMemory>
-        ensures { IfOk result (λ boxed. boxed ≡ value) }
-    {
-        match value {
-            Some(value) => Ok(Some(Boxed::new(alloc, value)?)),
-            None => Ok(None),
-        }
-    }
-
-    /// The value, where there is one.
-    pub fn optional_value(boxed: &Option<Self>) -> Option<T>
-        ensures { result ≡ boxed.now }
-    {
-        match boxed {
-            Some(boxed) => Some(*boxed.value()),
-            None => None,
-        }
-    }
 }
 
 impl<T: Clone + Drop> Clone for Boxed<T> {

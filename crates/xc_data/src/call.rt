@@ -1,7 +1,7 @@
 ghost use Rattle.std.specs.Prelude.{◌≡◌};
 ghost use Rattle.xc_data.specs.Calls.{bytes_of, slot_of, is_late};
 
-use crate::{Boxed, Chunk, Ident, Num, Object, SharedName};
+use crate::{Boxed, Chunk, Ident, Num, Object, SharedName, SlotName};
 
 /// A call as a transaction makes it. A handle is the number of a place of the job's; 65,535 stands
 /// for a variable that holds no handle.
@@ -57,31 +57,34 @@ pub enum Call {
     },
     XUnlink {
         name: SharedName,
-        slot: Option<Boxed<Ident>>,
+        slot: SlotName,
     },
     XSync {
         h: u16,
-        slot: Option<Boxed<Ident>>,
+        slot: SlotName,
     },
     XWritePipe {
         h: u16,
         bytes: Chunk,
-        slot: Option<Boxed<Ident>>,
+        slot: SlotName,
     },
     XShutdown {
         h: u16,
-        slot: Option<Boxed<Ident>>,
+        slot: SlotName,
     },
     XSendmsg {
         h: u16,
         bytes: Chunk,
-        slot: Option<Boxed<Ident>>,
+        slot: SlotName,
     },
     XThreadCreate {
         body: Boxed<Ident>,
-        slot: Option<Boxed<Ident>>,
+        slot: SlotName,
     },
 }
+
+// A journal has many, one for each call that was made.
+const _: () = prove!(size_of::<Call>() == 24);
 
 impl Call {
     /// The bytes that it carries.
@@ -105,13 +108,9 @@ impl Call {
         ensures { result ≡ slot_of self.now }
     {
         match self {
-            Call::XUnlink { slot, .. } | Call::XSync { slot, .. } => Boxed::optional_value(slot),
-            Call::XWritePipe { slot, .. } | Call::XShutdown { slot, .. } => Boxed::optional_value(
-                slot,
-            ),
-            Call::XSendmsg { slot, .. } | Call::XThreadCreate { slot, .. } => Boxed::optional_value(
-                slot,
-            ),
+            Call::XUnlink { slot, .. } | Call::XSync { slot, .. } => slot.name().copied(),
+            Call::XWritePipe { slot, .. } | Call::XShutdown { slot, .. } => slot.name().copied(),
+            Call::XSendmsg { slot, .. } | Call::XThreadCreate { slot, .. } => slot.name().copied(),
             Call::Load { .. } | Call::Store { .. } | Call::XOpen { .. } => None,
             Call::XCreate { .. } | Call::XRead { .. } | Call::XWriteOvr { .. } => None,
             Call::XWriteSeq { .. } | Call::XSeek { .. } | Call::XLen { .. } => None,

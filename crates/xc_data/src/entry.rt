@@ -3,7 +3,7 @@ ghost use Rattle.std.specs.List.{list_any};
 ghost use Rattle.xc_data.specs.Remaining.{leaves};
 
 use crate::{
-    Call, Chunk, Claim, Ident, Items, LateEnd, Num, Object, RecordList, Reply, Undo, UndoEnd,
+    Call, Chunk, Ident, Items, KeptClaim, LateEnd, Num, Object, RecordList, Reply, Undo, UndoEnd,
 };
 
 /// The calls of a transaction, in the order in which they were made.
@@ -12,7 +12,7 @@ pub type CallList = Items<Call>;
 /// The replies to the calls of a transaction, one for each.
 pub type ReplyList = Items<Reply>;
 /// Objects in the order in which they were first touched, each with the mode in which it is held.
-pub type HeldList = Items<Claim>;
+pub type HeldList = Items<KeptClaim>;
 /// The ends of the late calls, in the order of the calls.
 pub type LateList = Items<LateEnd>;
 /// Job lines in the order of the jobs' numbers.

@@ -1,7 +1,8 @@
 //! Plain data of the runtime: names, objects, calls and replies, entries of the journal, prologues.
 //!
 //! Nothing here acts. Contracts see the list types as lists, a `Name`, a `SharedName`, an `Ident` and
-//! a `Chunk` as their bytes, a `Boxed` value as the value, and every other type as it stands.
+//! a `Chunk` as their bytes, a `SlotName` as them, if it has any, a `Boxed` value as the value, a `KeptClaim`
+//! as the claim, and every other type as it stands.
 #![tactic(auto)]
 
 mod again;
@@ -12,6 +13,7 @@ mod claim;
 mod entry;
 mod ident;
 mod items;
+mod kept_claim;
 mod lasting;
 mod late;
 mod limits;
@@ -21,6 +23,8 @@ mod object;
 mod private;
 mod script;
 mod shared_name;
+mod slot_name;
+mod slot_names;
 mod undo;
 
 pub use boxed::Boxed;
@@ -33,6 +37,7 @@ pub use entry::{
 };
 pub use ident::Ident;
 pub use items::Items;
+pub use kept_claim::KeptClaim;
 pub use limits::{MOST_CALL_BYTES, MOST_FILE_BYTES, MOST_MADE, MOST_STORED};
 pub use memory::NoMemory;
 pub use name::Name;
@@ -43,4 +48,6 @@ pub use script::{
     WordList,
 };
 pub use shared_name::SharedName;
+pub use slot_name::SlotName;
+pub use slot_names::SlotNames;
 pub use undo::{RecordList, Undo, UndoEnd};

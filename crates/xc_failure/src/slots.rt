@@ -1,16 +1,16 @@
-ghost use Rattle.std.specs.Prelude.{◌≡◌, IfOk, nat_eq, position};
+ghost use Rattle.std.specs.Prelude.{◌≡◌, None, IfOk, nat_eq, position};
 ghost use Rattle.std.specs.Cmp.Lexicographic.{pointwise};
 ghost use Rattle.xc_failure.specs.Slots.{end_number, no_slots, slot_number, slot_name, unset, with_slot};
 
 use std::alloc::Global;
 use std::marker::Model;
-use xc_data::{Ident, LateEnd, NoMemory};
+use xc_data::{Ident, LateEnd, NoMemory, SlotName, SlotNames};
 
 /// A job's slots: their names, and how the last late call with each of them ended. A slot that no late call has set is
 /// as one whose call was done.
 #[derive(Drop)]
 pub struct Slots {
-    names: Vec<Ident>,
+    names: SlotNames,
     ends: Vec<LateEnd>,
 }
 
@@ -21,7 +21,7 @@ impl Model for Slots {
 
     ghost coded = { coded_slots };
 
-    ghost view = { λ s. record { names = s.names.items; ends = s.ends.items } };
+    ghost view = { λ s. record { names = s.names; ends = s.ends.items } };
 }
 
 // An end as a number.
@@ -39,12 +39,6 @@ fn end_number(end: &LateEnd) -> u64
     }
 }
 
-fn copied_names(alloc: Global, names: &[Ident]) -> Result<Vec<Ident>, NoMemory>
-    ensures { IfOk result (λ copy. copy.items ≡ names.now) }
-{
-    Ok(names.to_vec(alloc)?)
-}
-
 fn place_of(names: &[Ident], name: Ident) -> Option<usize>
     ensures { result ≡ position (λ other. pointwise nat_eq other name) names.now }
 {
@@ -52,22 +46,12 @@ fn place_of(names: &[Ident], name: Ident) -> Option<usize>
 }
 
 impl Slots {
-    /// No slot at all. It takes no memory.
-    pub fn new(alloc: Global) -> Slots
-        ensures { result ≡ no_slots }
-    {
-        Slots {
-            names: Vec::new(alloc),
-            ends: Vec::new(alloc),
-        }
-    }
-
     /// The slots of these names, each unset. Room for their ends is made here, once for the whole job.
-    pub fn unset(alloc: Global, names: &[Ident]) -> Result<Slots, NoMemory>
+    pub fn unset(alloc: Global, names: &SlotNames) -> Result<Slots, NoMemory>
         ensures { IfOk result (λ slots. slots ≡ unset names.now) }
     {
         Ok(Slots {
-            names: copied_names(alloc, names)?,
+            names: names.copied(alloc)?,
             ends: vec![in alloc; LateEnd::Done; names.len()]?,
         })
     }
@@ -76,7 +60,7 @@ impl Slots {
     pub fn set(&mut self, name: Ident, end: LateEnd)
         ensures { self.new ≡ with_slot self.old name end }
     {
-        let Some(at) = place_of(&self.names, name) else {
+        let Some(at) = place_of(self.names.as_slice(), name) else {
             return;
         };
         if at < self.ends.len() {
@@ -95,10 +79,25 @@ impl Slots {
         }
     }
 
-    /// The name of the slot at a place.
-    pub fn name(&self, at: u16) -> Option<Ident>
+    /// The name of the slot at a place, as calls share it. It takes no memory.
+    pub fn name(&self, at: u16) -> SlotName
         ensures { result ≡ slot_name self.now at }
     {
-        self.names.get(at as usize).copied()
+        self.names.at(at as usize)
+    }
+
+    /// What stands for no slot. It takes no memory.
+    pub fn no_name(&self) -> SlotName
+        ensures { result ≡ None }
+    {
+        self.names.none()
+    }
+
+    /// No slot is left. It takes no memory.
+    pub fn clear(&mut self)
+        ensures { self.new ≡ no_slots }
+    {
+        self.names.clear();
+        self.ends.clear();
     }
 }

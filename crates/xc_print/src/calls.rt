@@ -7,7 +7,7 @@ ghost use Rattle.xc_print.specs.Calls.{slot_text, call_text};
 use crate::bytes::push_bytes;
 use crate::objects::push_handled;
 use crate::page::Page;
-use xc_data::{Boxed, Call, Chunk, Ident, NoMemory, SharedName};
+use xc_data::{Call, Chunk, Ident, NoMemory, SharedName, SlotName};
 
 fn push_named(out: &mut Page, before: &str, name: &SharedName) -> Result<(), NoMemory>
     ensures { OnOk result (out.new ≡ out.old ++ (before.now ++ name.now)) }
@@ -16,11 +16,11 @@ fn push_named(out: &mut Page, before: &str, name: &SharedName) -> Result<(), NoM
     out.push(name.as_slice())
 }
 
-fn push_ident(out: &mut Page, before: &str, ident: &Boxed<Ident>) -> Result<(), NoMemory>
+fn push_ident(out: &mut Page, before: &str, ident: &Ident) -> Result<(), NoMemory>
     ensures { OnOk result (out.new ≡ out.old ++ (before.now ++ ident.now)) }
 {
     out.text(before)?;
-    out.push(ident.value().as_slice())
+    out.push(ident.as_slice())
 }
 
 fn push_numbered(out: &mut Page, before: &str, h: u16, n: u64) -> Result<(), NoMemory>
@@ -38,10 +38,10 @@ fn push_written(out: &mut Page, before: &str, h: u16, bytes: &Chunk) -> Result<(
     push_bytes(out, bytes.as_slice())
 }
 
-fn push_slot(out: &mut Page, slot: &Option<Boxed<Ident>>) -> Result<(), NoMemory>
+fn push_slot(out: &mut Page, slot: &SlotName) -> Result<(), NoMemory>
     ensures { OnOk result (out.new ≡ out.old ++ slot_text slot.now) }
 {
-    match slot {
+    match slot.name() {
         None => Ok(()),
         Some(slot) => push_ident(out, " slot ", slot),
     }
@@ -51,7 +51,7 @@ fn push_named_late(
     out: &mut Page,
     before: &str,
     name: &SharedName,
-    slot: &Option<Boxed<Ident>>,
+    slot: &SlotName,
 ) -> Result<(), NoMemory>
     ensures { OnOk result (out.new ≡ out.old ++ (before.now ++ name.now ++ slot_text slot.now)) }
 {
@@ -62,8 +62,8 @@ fn push_named_late(
 fn push_ident_late(
     out: &mut Page,
     before: &str,
-    ident: &Boxed<Ident>,
-    slot: &Option<Boxed<Ident>>,
+    ident: &Ident,
+    slot: &SlotName,
 ) -> Result<(), NoMemory>
     ensures { OnOk result (out.new ≡ out.old ++ (before.now ++ ident.now ++ slot_text slot.now)) }
 {
@@ -71,12 +71,7 @@ fn push_ident_late(
     push_slot(out, slot)
 }
 
-fn push_handled_late(
-    out: &mut Page,
-    before: &str,
-    h: u16,
-    slot: &Option<Boxed<Ident>>,
-) -> Result<(), NoMemory>
+fn push_handled_late(out: &mut Page, before: &str, h: u16, slot: &SlotName) -> Result<(), NoMemory>
     ensures { OnOk result (out.new ≡ out.old ++ (before.now ++ handle_text h ++ slot_text slot.now)) }
 {
     push_handled(out, before, h)?;
@@ -88,7 +83,7 @@ fn push_written_late(
     before: &str,
     h: u16,
     bytes: &Chunk,
-    slot: &Option<Boxed<Ident>>,
+    slot: &SlotName,
 ) -> Result<(), NoMemory>
     ensures { OnOk result (out.new ≡ out.old ++ (before.now ++ handle_text h ++ codes " " ++ bytes_text bytes.now ++ slot_text slot.now)) }
 {
@@ -132,7 +127,7 @@ pub fn push_call(out: &mut Page, call: &Call) -> Result<(), NoMemory>
             push_written_late(out, "  x_sendmsg ", *h, bytes, slot)
         }
         Call::XThreadCreate { body, slot } => {
-            push_ident_late(out, "  x_thread_create ", body, slot)
+            push_ident_late(out, "  x_thread_create ", body.value(), slot)
         }
     }
 }

@@ -2,7 +2,7 @@ ghost use Rattle.std.specs.Prelude.{◌≡◌, ◌++◌, OnOk};
 ghost use Rattle.xc_print.specs.Objects.{handle_text, num_text, object_text, mode_text, claim_text, further_claims, held_line};
 
 use crate::page::Page;
-use xc_data::{Claim, Mode, NoMemory, Num, Object};
+use xc_data::{KeptClaim, Mode, NoMemory, Num, Object};
 
 // `h` and the number; `h-` for handle 65,535, at which nothing is ever open.
 fn push_handle(out: &mut Page, h: u16) -> Result<(), NoMemory>
@@ -66,14 +66,14 @@ fn push_mode(out: &mut Page, mode: Mode) -> Result<(), NoMemory>
     }
 }
 
-fn push_claim(out: &mut Page, claim: &Claim) -> Result<(), NoMemory>
+fn push_claim(out: &mut Page, claim: &KeptClaim) -> Result<(), NoMemory>
     ensures { OnOk result (out.new ≡ out.old ++ claim_text claim.now) }
 {
-    push_object(out, &claim.object)?;
-    push_mode(out, claim.mode)
+    push_object(out, &claim.object())?;
+    push_mode(out, claim.mode())
 }
 
-fn push_further(out: &mut Page, claims: &[Claim]) -> Result<(), NoMemory>
+fn push_further(out: &mut Page, claims: &[KeptClaim]) -> Result<(), NoMemory>
     ensures { OnOk result (out.new ≡ out.old ++ further_claims claims.now) }
 {
     for claim in claims {
@@ -84,7 +84,7 @@ fn push_further(out: &mut Page, claims: &[Claim]) -> Result<(), NoMemory>
 }
 
 /// The line `held`, with its objects in the order of their claims; nothing if none is held.
-pub fn push_held(out: &mut Page, held: &[Claim]) -> Result<(), NoMemory>
+pub fn push_held(out: &mut Page, held: &[KeptClaim]) -> Result<(), NoMemory>
     ensures { OnOk result (out.new ≡ out.old ++ held_line held.now) }
 {
     match held {

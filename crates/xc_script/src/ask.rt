@@ -15,7 +15,7 @@ use crate::data::{data_in, data_len};
 use crate::terms::handle_in;
 use crate::value::Variables;
 use std::alloc::Global;
-use xc_data::{Boxed, Call, Chunk, Ident, MOST_STORED, NoMemory};
+use xc_data::{Call, Chunk, MOST_STORED, NoMemory, SlotName};
 use xc_text::{Data, Expression, Form, KeptStatement, Place};
 
 /// What a job is asked to do next.
@@ -102,16 +102,13 @@ fn late_data(
     stored: u128,
     items: &Data<Place>,
     slot: Option<Place>,
-) -> Result<Option<(Chunk, Option<Boxed<Ident>>)>, NoMemory>
+) -> Result<Option<(Chunk, SlotName)>, NoMemory>
     ensures { let bytes = data_of variables.now items.now in
         IfOk result (λ found. found
         ≡ (if is_over stored (length bytes) then None else Some (bytes, name_of_slot variables.now slot))) }
 {
     match data_within(alloc, variables, stored, items)? {
-        Some(bytes) => {
-            let slot = Boxed::new_optional(alloc, variables.slot_name(slot))?;
-            Ok(Some((bytes, slot)))
-        }
+        Some(bytes) => Ok(Some((bytes, variables.slot_name(slot)))),
         None => Ok(None),
     }
 }
@@ -185,16 +182,14 @@ fn form_ask(
         Form::Seek { handle, to } => Ok(Ask::Call(seek(variables, *handle, *to))),
         Form::Length { handle, .. } => Ok(Ask::Call(measure(variables, *handle))),
         Form::Close { handle } => Ok(Ask::Call(close(variables, *handle))),
-        Form::Unlink { slot, name } => Ok(Ask::Call(unlink(alloc, variables, name, *slot)?)),
-        Form::Sync { handle, slot } => Ok(Ask::Call(sync(alloc, variables, *handle, *slot)?)),
+        Form::Unlink { slot, name } => Ok(Ask::Call(unlink(variables, name, *slot))),
+        Form::Sync { handle, slot } => Ok(Ask::Call(sync(variables, *handle, *slot))),
         Form::Pipe { .. } => Ok(Ask::Call(Call::XPipe)),
         Form::ReadPipe { handle, n, .. } => Ok(Ask::Call(read_pipe(variables, *handle, *n))),
         Form::WritePipe { handle, slot, data } => {
             write_pipe(alloc, variables, stored, *handle, data, *slot)
         }
-        Form::Shutdown { handle, slot } => {
-            Ok(Ask::Call(shutdown(alloc, variables, *handle, *slot)?))
-        }
+        Form::Shutdown { handle, slot } => { Ok(Ask::Call(shutdown(variables, *handle, *slot))) }
         Form::Pair { .. } => Ok(Ask::Call(Call::XPair)),
         Form::Receive { handle, .. } => Ok(Ask::Call(receive(variables, *handle))),
         Form::Send { handle, slot, data } => {

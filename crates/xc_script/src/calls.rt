@@ -97,46 +97,31 @@ pub fn close(variables: &Variables, handle: Place) -> Call
     Call::XClose { h }
 }
 
-pub fn unlink(
-    alloc: Global,
-    variables: &Variables,
-    name: &SharedName,
-    slot: Option<Place>,
-) -> Result<Call, NoMemory>
-    ensures { IfOk result (λ call. call ≡ XUnlink name.now (name_of_slot variables.now slot)) }
+pub fn unlink(variables: &Variables, name: &SharedName, slot: Option<Place>) -> Call
+    ensures { result ≡ XUnlink name.now (name_of_slot variables.now slot) }
 {
-    Ok(Call::XUnlink {
+    Call::XUnlink {
         name: name.again(),
-        slot: Boxed::new_optional(alloc, variables.slot_name(slot))?,
-    })
+        slot: variables.slot_name(slot),
+    }
 }
 
-pub fn sync(
-    alloc: Global,
-    variables: &Variables,
-    handle: Place,
-    slot: Option<Place>,
-) -> Result<Call, NoMemory>
-    ensures { IfOk result (λ call. call ≡ XSync (handle_value variables.now handle) (name_of_slot variables.now slot)) }
+pub fn sync(variables: &Variables, handle: Place, slot: Option<Place>) -> Call
+    ensures { result ≡ XSync (handle_value variables.now handle) (name_of_slot variables.now slot) }
 {
-    Ok(Call::XSync {
+    Call::XSync {
         h: handle_in(variables, handle),
-        slot: Boxed::new_optional(alloc, variables.slot_name(slot))?,
-    })
+        slot: variables.slot_name(slot),
+    }
 }
 
-pub fn shutdown(
-    alloc: Global,
-    variables: &Variables,
-    handle: Place,
-    slot: Option<Place>,
-) -> Result<Call, NoMemory>
-    ensures { IfOk result (λ call. call ≡ XShutdown (handle_value variables.now handle) (name_of_slot variables.now slot)) }
+pub fn shutdown(variables: &Variables, handle: Place, slot: Option<Place>) -> Call
+    ensures { result ≡ XShutdown (handle_value variables.now handle) (name_of_slot variables.now slot) }
 {
-    Ok(Call::XShutdown {
+    Call::XShutdown {
         h: handle_in(variables, handle),
-        slot: Boxed::new_optional(alloc, variables.slot_name(slot))?,
-    })
+        slot: variables.slot_name(slot),
+    }
 }
 
 pub fn start(
@@ -149,6 +134,6 @@ pub fn start(
 {
     Ok(Call::XThreadCreate {
         body: block.copied(alloc)?,
-        slot: Boxed::new_optional(alloc, variables.slot_name(slot))?,
+        slot: variables.slot_name(slot),
     })
 }

@@ -76,8 +76,7 @@ impl JobState {
         requires { IsScript script.now }
         ensures { IfOk result (λ job. job ≡ at_begin (fresh_job script.now block)) }
     {
-        let slots = script.slots.as_slice();
-        let mut variables = Variables::unset(alloc, script.variables.len(), slots)?;
+        let mut variables = Variables::unset(alloc, script.variables.len(), &script.slots)?;
         variables.hold(script.handles.as_slice());
         Ok(JobState {
             alloc,
@@ -100,9 +99,7 @@ impl JobState {
           variables = handed_on script.now self.now.variables;
         })) }
     {
-        let variables = self
-            .variables
-            .handed_on(self.alloc, script.slots.as_slice())?;
+        let variables = self.variables.handed_on(self.alloc, &script.slots)?;
         Ok(JobState {
             alloc: self.alloc,
             block,
@@ -182,7 +179,7 @@ impl JobState {
     {
         match self.begun.take() {
             Some(values) => self.variables.take_values(values),
-            None => self.variables = Variables::nothing(self.alloc),
+            None => self.variables.clear(),
         }
         self.rewind();
     }

@@ -11,7 +11,7 @@ ghost use Rattle.xc_script.specs.Slots.{with_end};
 use crate::values::Values;
 use std::alloc::Global;
 use std::marker::Model;
-use xc_data::{Chunk, Ident, LateEnd, NoMemory};
+use xc_data::{Chunk, Ident, LateEnd, NoMemory, SlotName, SlotNames};
 use xc_failure::Slots;
 use xc_text::Place;
 
@@ -42,18 +42,8 @@ impl Model for Variables {
 }
 
 impl Variables {
-    /// No variable, and no slot. It takes no memory.
-    pub fn nothing(alloc: Global) -> Variables
-        ensures { result ≡ nothing_kept }
-    {
-        Variables {
-            slots: Slots::new(alloc),
-            values: Values::new(alloc),
-        }
-    }
-
     /// So many variables that hold nothing, and each of these slots unset.
-    pub fn unset(alloc: Global, variables: usize, slots: &[Ident]) -> Result<Variables, NoMemory>
+    pub fn unset(alloc: Global, variables: usize, slots: &SlotNames) -> Result<Variables, NoMemory>
         ensures { IfOk result (λ known. known ≡ record { values = replicate variables None; slots = unset slots.now }) }
     {
         Ok(Variables {
@@ -63,7 +53,7 @@ impl Variables {
     }
 
     /// The same values, whose bytes are shared, and each of these slots unset.
-    pub fn handed_on(&self, alloc: Global, slots: &[Ident]) -> Result<Variables, NoMemory>
+    pub fn handed_on(&self, alloc: Global, slots: &SlotNames) -> Result<Variables, NoMemory>
         ensures { IfOk result (λ known. known ≡ record { values = self.now.values; slots = unset slots.now }) }
     {
         Ok(Variables {
@@ -86,13 +76,13 @@ impl Variables {
         self.slots.number(at)
     }
 
-    /// The name of a slot, where one is wanted.
-    pub fn slot_name(&self, slot: Option<Place>) -> Option<Ident>
+    /// The name of a slot, where one is wanted. It takes no memory.
+    pub fn slot_name(&self, slot: Option<Place>) -> SlotName
         ensures { result ≡ name_of_slot self.now slot }
     {
         match slot {
             Some(at) => self.slots.name(at),
-            None => None,
+            None => self.slots.no_name(),
         }
     }
 
@@ -132,5 +122,13 @@ impl Variables {
         ensures { self.new ≡ record self.old { values = values } }
     {
         self.values = values;
+    }
+
+    /// No variable is left, and no slot. It takes no memory.
+    pub fn clear(&mut self)
+        ensures { self.new ≡ nothing_kept }
+    {
+        self.slots.clear();
+        self.values.clear();
     }
 }

@@ -28,15 +28,6 @@ impl Model for Values {
 }
 
 impl Values {
-    /// No variable at all. It takes no memory.
-    pub fn new(alloc: Global) -> Values
-        ensures { result ≡ [] }
-    {
-        Values {
-            held: Vec::new(alloc),
-        }
-    }
-
     /// So many variables that hold nothing.
     pub fn unset(alloc: Global, n: usize) -> Result<Values, NoMemory>
         ensures { IfOk result (λ values. values ≡ replicate n None) }
@@ -83,5 +74,12 @@ impl Values {
         Ok(Values {
             held: self.held.clone()?,
         })
+    }
+
+    /// No variable is left. It takes no memory.
+    pub fn clear(&mut self)
+        ensures { self.new ≡ [] }
+    {
+        self.held.clear();
     }
 }

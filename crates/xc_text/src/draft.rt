@@ -102,7 +102,7 @@ impl Draft {
             faults: Items::new(alloc),
             grain: None,
             handles: Items::new(alloc),
-            names: Names::new(alloc),
+            names: Names::new(alloc)?,
             block_names: BlockNames::new(alloc),
             blocks: Items::new(alloc),
             transactions: Items::new(alloc),

@@ -12,13 +12,13 @@ mod counted;
 mod draft;
 mod file_names;
 mod grammar;
-mod halves;
 mod kept;
 mod kinds;
 mod limits;
 mod line;
 mod names;
 mod objects;
+mod packed;
 mod parse_err;
 mod parser;
 mod pieces;
@@ -29,8 +29,8 @@ mod source;
 mod term;
 mod written;
 
-pub use halves::Halves;
 pub use kept::{Form, KeptStatement};
+pub use packed::PackedU64;
 pub use parse_err::ParseErr;
 pub use parser::parse;
 pub use script::{

@@ -8,14 +8,14 @@ use crate::limits::MOST_NAMES;
 use crate::script::Place;
 use std::alloc::Global;
 use std::marker::Model;
-use xc_data::{Ident, IdentList, Items, NoMemory};
+use xc_data::{Ident, IdentList, Items, NoMemory, SlotNames};
 use xc_tokens::{IdentWord, spells};
 
 /// The names of a script's variables and of its slots, each once.
 #[derive(Drop)]
 pub struct Names {
     pub variables: IdentList,
-    pub slots: IdentList,
+    pub slots: SlotNames,
 }
 
 impl Model for Names {
@@ -27,14 +27,14 @@ impl Model for Names {
 }
 
 impl Names {
-    /// No name yet. It takes no memory.
-    pub fn new(alloc: Global) -> Self
-        ensures { result ≡ no_names }
+    /// No name yet.
+    pub fn new(alloc: Global) -> Result<Self, NoMemory>
+        ensures { IfOk result (λ names. names ≡ no_names) }
     {
-        Names {
+        Ok(Names {
             variables: Items::new(alloc),
-            slots: Items::new(alloc),
-        }
+            slots: SlotNames::new(alloc)?,
+        })
     }
 
     /// There are no more of either kind than a script may have.
@@ -55,31 +55,64 @@ fn place_of(names: &[Ident], name: &[u8]) -> Option<usize>
         .position(|other| spells(other.as_slice(), name))
 }
 
-// A name that is new takes the next place. It is the rare case.
+// A name, whose bytes are those of an identifier.
+fn ident_of(name: &[u8]) -> Ident
+    requires { IsTrue (is_ident name.now) }
+    ensures { result ≡ name.now }
+{
+    match Ident::new(name) {
+        Some(ident) => ident,
+        None => unreachable!(),
+    }
+}
+
+// A variable that is new takes the next place. It is the rare case.
 #[cold]
-fn add(names: &mut IdentList, name: &[u8]) -> Result<usize, NoMemory>
+fn add_variable(names: &mut IdentList, name: &[u8]) -> Result<usize, NoMemory>
     requires { IsTrue (is_ident name.now) }
     ensures names { OnOk result (names.new ≡ names.old ++ name.now ∷ []) }
     ensures at { IfOk result (λ at. at ≡ length names.old) }
 {
     let at = names.len();
-    match Ident::new(name) {
-        Some(ident) => names.push(ident)?,
-        None => unreachable!(),
-    }
+    names.push(ident_of(name))?;
     Ok(at)
 }
 
-// The place of a name, which takes the next one where it has none.
+// A slot that is new takes the next place.
+#[cold]
+fn add_slot(names: &mut SlotNames, name: &[u8]) -> Result<usize, NoMemory>
+    requires { IsTrue (is_ident name.now) }
+    ensures names { OnOk result (names.new ≡ names.old ++ name.now ∷ []) }
+    ensures at { IfOk result (λ at. at ≡ length names.old) }
+{
+    let at = names.len();
+    names.push(ident_of(name))?;
+    Ok(at)
+}
+
+// The place of a variable, which takes the next one where it has none.
 #[inline(always)]
-fn take(names: &mut IdentList, name: &IdentWord) -> Result<usize, NoMemory>
+fn take_variable(names: &mut IdentList, name: &IdentWord) -> Result<usize, NoMemory>
     ensures names { OnOk result (names.new ≡ (taken names.old name.now).0) }
     ensures at { IfOk result (λ at. at ≡ (taken names.old name.now).1) }
 {
     let name = name.bytes();
     match place_of(names.as_slice(), name) {
         Some(at) => Ok(at),
-        None => add(names, name),
+        None => add_variable(names, name),
+    }
+}
+
+// The place of a slot, which takes the next one where it has none.
+#[inline(always)]
+fn take_slot(names: &mut SlotNames, name: &IdentWord) -> Result<usize, NoMemory>
+    ensures names { OnOk result (names.new ≡ (taken names.old name.now).0) }
+    ensures at { IfOk result (λ at. at ≡ (taken names.old name.now).1) }
+{
+    let name = name.bytes();
+    match place_of(names.as_slice(), name) {
+        Some(at) => Ok(at),
+        None => add_slot(names, name),
     }
 }
 
@@ -100,7 +133,7 @@ impl Names {
         ensures names { OnOk result (self.new ≡ (variable self.old name.now).0) }
         ensures at { IfOk result (λ at. at ≡ (variable self.old name.now).1) }
     {
-        narrow(take(&mut self.variables, name)?)
+        narrow(take_variable(&mut self.variables, name)?)
     }
 
     /// The places of two variables, the first one first.
@@ -123,6 +156,6 @@ impl Names {
         ensures names { OnOk result (self.new ≡ (slot self.old name.now).0) }
         ensures at { IfOk result (λ at. at ≡ (slot self.old name.now).1) }
     {
-        narrow(take(&mut self.slots, name)?)
+        narrow(take_slot(&mut self.slots, name)?)
     }
 }

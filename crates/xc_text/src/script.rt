@@ -1,14 +1,14 @@
 ghost use Rattle.std.specs.Prelude.{◌≡◌};
 
-use crate::halves::Halves;
 use crate::kept::KeptStatement;
-use xc_data::{Boxed, Chunk, Ident, IdentList, Items, Outline, SharedName};
+use crate::packed::PackedU64;
+use xc_data::{Boxed, Chunk, Ident, IdentList, Items, Outline, SharedName, SlotNames};
 
 /// A number, the number in a variable, or one that tells how the last late call with a slot ended. Here and below a
 /// variable and a slot stand as an `N`.
 #[derive(Clone, Copy, Drop)]
 pub enum Term<N> {
-    Number(Halves),
+    Number(PackedU64),
     Variable(N),
     Slot(N),
 }
@@ -196,7 +196,7 @@ pub struct Script {
     /// The names of its variables, each once, in the order in which they come first.
     pub variables: IdentList,
     /// The names of its slots, likewise.
-    pub slots: IdentList,
+    pub slots: SlotNames,
     /// The variables that each job has the prologue's handles in, by the numbers of the handles.
     pub handles: Items<Place>,
 }

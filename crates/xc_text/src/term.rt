@@ -2,7 +2,7 @@ ghost use Rattle.std.specs.Prelude.{◌≡◌, ◌∷◌, [], map};
 ghost use Rattle.xc_text.specs.Terms.{term as term_of_token, term_in, test as test_of_token, test_in, expression_of};
 ghost use Rattle.xc_tokens.specs.Views.{lexeme};
 
-use crate::halves::Halves;
+use crate::packed::PackedU64;
 use crate::script::{Expression, Term, Test};
 use xc_tokens::{
     IdentWord, Token, Why, both, by_word, ident_word, is_digit_byte, is_sign, number_word,
@@ -14,7 +14,7 @@ pub fn term_word<'a>(word: &'a [u8]) -> Result<Term<IdentWord<'a>>, Why>
     ensures { result ≡ term_in word.now }
 {
     match word {
-        [first, ..] if is_digit_byte(*first) => Ok(Term::Number(Halves::of(number_word(word)?))),
+        [first, ..] if is_digit_byte(*first) => Ok(Term::Number(PackedU64::of(number_word(word)?))),
         [b'?', slot @ ..] => Ok(Term::Slot(ident_word(slot)?)),
         _ => Ok(Term::Variable(ident_word(word)?)),
     }

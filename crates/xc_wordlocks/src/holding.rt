@@ -1,18 +1,18 @@
 ghost use Rattle.std.specs.Prelude.{◌≡◌, ◌<◌, ◌≤◌, ◌+◌, ◌^◌, ◌∷◌, [], length, OnOk};
-ghost use Rattle.xc_data.specs.Claims.{AreOnceAtMost, is_object, holding, holding_one, objects};
+ghost use Rattle.xc_data.specs.Claims.{AreOnceAtMost, holding, holding_one, objects};
 ghost use Rattle.xc_wordlocks.specs.Held.{HasRoomFor, IsPlaceOf};
 ghost use Rattle.xc_wordlocks.specs.Table.{mode_in};
 
 use std::alloc::Global;
 use std::marker::Model;
-use xc_data::{Claim, Mode, NoMemory, Object};
+use xc_data::{Claim, KeptClaim, Mode, NoMemory, Object};
 use xc_roomy::Roomy;
 
 /// What the claims of a transaction's calls hold: each object once, where it was first claimed, in the strongest mode in which it
 /// was. So a release costs what is held, however often it was claimed. One claim walks what is held only where its mode rises.
 #[derive(Drop)]
 pub struct Holding {
-    claims: Roomy<Claim>,
+    claims: Roomy<KeptClaim>,
 }
 
 impl Model for Holding {
@@ -69,14 +69,14 @@ impl Holding {
         ensures { self.new.items ≡ holding self.old.items (claim.now ∷ []) }
     {
         match was {
-            None => self.claims.enter(claim.again()),
+            None => self.claims.enter(KeptClaim::of(claim)),
             Some(mode) if mode.stronger(claim.mode) == mode => {}
             Some(_) => hold_one(&mut self.claims, claim),
         }
     }
 
     /// The claims themselves. It takes no memory.
-    pub(crate) fn into_claims(self) -> Vec<Claim>
+    pub(crate) fn into_claims(self) -> Vec<KeptClaim>
         ensures items { result.items ≡ self.items }
         ensures once { AreOnceAtMost (objects result.items) }
     {
@@ -84,18 +84,12 @@ impl Holding {
     }
 }
 
-fn is_on(claim: &Claim, object: &Object) -> bool
-    ensures { result ≡ is_object object.now claim.now.object }
-{
-    *object == claim.object
-}
-
 // Where a claim on an object stands in what is held.
-fn place_of(held: &[Claim], object: &Object) -> Option<usize>
+fn place_of(held: &[KeptClaim], object: &Object) -> Option<usize>
     ensures { IsPlaceOf held.now object.now result }
 {
     for at in 0..held.len() {
-        if is_on(&held[at], object) {
+        if held[at].is_on(object) {
             return Some(at);
         }
     }
@@ -103,7 +97,7 @@ fn place_of(held: &[Claim], object: &Object) -> Option<usize>
 }
 
 // One claim more is held, into the room for it.
-fn hold_one(held: &mut Roomy<Claim>, claim: &Claim)
+fn hold_one(held: &mut Roomy<KeptClaim>, claim: &Claim)
     requires once { AreOnceAtMost (objects held.old.items) }
     requires room { 1 ≤ held.old.spare }
     ensures items { held.new.items ≡ holding_one held.old.items claim.now }
@@ -112,16 +106,17 @@ fn hold_one(held: &mut Roomy<Claim>, claim: &Claim)
 {
     match place_of(held.as_slice(), &claim.object) {
         Some(at) => {
-            let mut held_claim = held.get(at).again();
-            held_claim.mode = held_claim.mode.stronger(claim.mode);
-            held.set(at, held_claim);
+            let held_claim = held.get(at);
+            let mode = held_claim.mode().stronger(claim.mode);
+            let risen = held_claim.with_mode(mode);
+            held.set(at, risen);
         }
-        None => held.enter(claim.again()),
+        None => held.enter(KeptClaim::of(claim)),
     }
 }
 
 // More claims are held, into the room for them.
-fn hold_each(held: &mut Roomy<Claim>, claims: &[Claim])
+fn hold_each(held: &mut Roomy<KeptClaim>, claims: &[Claim])
     requires once { AreOnceAtMost (objects held.old.items) }
     requires room { length claims.now ≤ held.old.spare }
     ensures items { held.new.items ≡ holding held.old.items claims.now }

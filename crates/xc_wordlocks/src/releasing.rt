@@ -7,13 +7,13 @@ ghost use Rattle.xc_wordlocks.specs.Table.{KeepsOthers, has, held_mode};
 use crate::holders::Holders;
 use crate::steps::Steps;
 use std::sync::ledger::Ledger;
-use xc_data::Claim;
+use xc_data::KeptClaim;
 
 /// Takes out of the table what the claims are on. Leaves each object once, at its first claim, in the mode in which it was held.
 /// A step for each claim. It takes no memory.
 pub fn take_all<L: Ledger>(
     holders: &mut Holders,
-    claims: &mut Vec<Claim>,
+    claims: &mut Vec<KeptClaim>,
     tx: u32,
     steps: &mut Steps<L>,
 )
@@ -25,10 +25,10 @@ pub fn take_all<L: Ledger>(
 {
     let mut count = 0;
     for at in 0..claims.len() {
-        let mut claim = claims[at].again();
-        if let Some(mode) = holders.take(&claim.object, tx, steps) {
-            claim.mode = mode;
-            claims[count] = claim;
+        let claim = &claims[at];
+        if let Some(mode) = holders.take(&claim.object(), tx, steps) {
+            let held = claim.with_mode(mode);
+            claims[count] = held;
             count += 1;
         }
     }

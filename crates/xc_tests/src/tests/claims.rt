@@ -102,10 +102,21 @@ fn play(rt: &impl Abort, table: &mut Listed, steps: &[Step]) {
     }
 }
 
+// The list has these claims, in their order.
+fn are_claims(held: &HeldList, meant: &[Claim]) -> bool {
+    if held.len() != meant.len() {
+        return false;
+    }
+    held.as_slice()
+        .iter()
+        .zip(meant)
+        .all(|(kept, claim)| kept.claim() == *claim)
+}
+
 // A transaction ends, and this is what it held.
 fn end(rt: &(impl Abort + AllocGlobal), table: &mut Listed, tx: u32, meant: &[Claim]) {
     let held = table.end(rt.alloc(), tx);
-    assert_eq!(rt; held.as_ref().map(HeldList::as_slice), Some(meant));
+    assert!(rt; held.is_some_and(|held| are_claims(&held, meant)));
 }
 
 #[test]

@@ -78,8 +78,7 @@ fn is_copied(alloc: Global, boxed: &Boxed<u64>) -> Result<bool, NoMemory> {
 
 #[test]
 fn values_are_boxed(rt: HostRuntime) -> Result<(), Fail> {
-    let boxed = Boxed::new_optional(rt.alloc(), Some(7))?;
-    let boxed = boxed.ok_or(NoMemory)?;
+    let boxed = Boxed::new(rt.alloc(), 7)?;
     assert!(rt; is_copied(rt.alloc(), &boxed)?);
     Ok(())
 }

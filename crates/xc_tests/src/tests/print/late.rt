@@ -2,7 +2,8 @@ use super::{FIRST, commit, exclusive, is_text, tell};
 use std::alloc::Global;
 use std::test::Fail;
 use xc_data::{
-    Boxed, Call, Chunk, Claim, Entry, Ident, Items, LateEnd, LateList, NoMemory, Object, Reply,
+    Boxed, Call, Chunk, Entry, Ident, Items, KeptClaim, LateEnd, LateList, NoMemory, Object, Reply,
+    SlotName,
 };
 
 fn ident(text: &[u8]) -> Result<Ident, NoMemory> {
@@ -11,13 +12,13 @@ fn ident(text: &[u8]) -> Result<Ident, NoMemory> {
 
 fn write_pipe(alloc: Global) -> Result<Call, NoMemory> {
     let bytes = Chunk::new(alloc, b"ab")?;
-    let slot = None;
+    let slot = SlotName::new(alloc, None)?;
     Ok(Call::XWritePipe { h: 0, bytes, slot })
 }
 
 fn start(alloc: Global) -> Result<Call, NoMemory> {
     let body = Boxed::new(alloc, ident(b"none")?)?;
-    let slot = None;
+    let slot = SlotName::new(alloc, None)?;
     Ok(Call::XThreadCreate { body, slot })
 }
 
@@ -26,8 +27,11 @@ fn ends(alloc: Global) -> Result<LateList, NoMemory> {
     Ok(Items::from_vec(ends.to_vec(alloc)?))
 }
 
-fn held(alloc: Global) -> Result<Vec<Claim>, NoMemory> {
-    let held = [exclusive(Object::Pipe(FIRST)), exclusive(Object::Jobs)];
+fn held(alloc: Global) -> Result<Vec<KeptClaim>, NoMemory> {
+    let held = [
+        KeptClaim::of(&exclusive(Object::Pipe(FIRST))),
+        KeptClaim::of(&exclusive(Object::Jobs)),
+    ];
     Ok(Vec::from_array(alloc, held)?)
 }
 

@@ -11,7 +11,7 @@ use Rattle.xc_wordlocks.proofs.holding.Holding.follow.Goals as goal
 
 pub returns-in-None : goal.returns-in-None
 returns-in-None c =
-    c.enter.ensures.items ∙ ap (λ (d : Claim). c.self.inside.claims.items ++ d ∷ []) c.again.ensures
+    c.enter.ensures.items ∙ ap (λ (d : Claim). c.self.inside.claims.items ++ d ∷ []) c.of.ensures
     ∙ ap (λ (h : Held). h.items ++ c.args.claim.now ∷ []) c.self.view_is
     ∙ held_anew c.args.claim.now c.args.self.now.items (sym c.requires.was ∙ c.in-None.is)
 

@@ -2,14 +2,14 @@ ghost use Rattle.std.specs.Prelude.{◌≡◌, ◌<◌, ◌+◌, ◌*◌, ◌/�
 
 use std::marker::Model;
 
-/// A number of 32 bits in two halves.
+/// A number of 32 bits that lies on two bytes.
 #[derive(Clone, Copy)]
-struct ShortHalves {
+struct PackedU32 {
     low: u16,
     high: u16,
 }
 
-impl Model for ShortHalves {
+impl Model for PackedU32 {
     ghost use Rattle.std.specs.Prelude.{ℕ, ◌+◌, ◌*◌, ◌/◌, ◌%◌, ◌^◌, ◌<◌};
 
     ghost Value = { ℕ };
@@ -21,12 +21,12 @@ impl Model for ShortHalves {
     ghost inverse = { λ n. record { low = n % 2 ^ 16; high = n / 2 ^ 16 } };
 }
 
-impl ShortHalves {
+impl PackedU32 {
     #[inline(always)]
-    fn of(number: u32) -> ShortHalves
+    fn of(number: u32) -> PackedU32
         ensures { result ≡ number }
     {
-        ShortHalves {
+        PackedU32 {
             low: (number % (1 << 16)) as u16,
             high: (number >> 16) as u16,
         }
@@ -40,15 +40,15 @@ impl ShortHalves {
     }
 }
 
-/// A number in four parts. They lie on two bytes, so that a term has 10 bytes and a statement 32: with a `u64` a term would have 16.
-/// Contracts see the number.
+/// A number of 64 bits that lies on two bytes, so that a term has 10 bytes and a statement 32: with a `u64` a term would
+/// have 16. Contracts see the number.
 #[derive(Clone, Copy)]
-pub struct Halves {
-    low: ShortHalves,
-    high: ShortHalves,
+pub struct PackedU64 {
+    low: PackedU32,
+    high: PackedU32,
 }
 
-impl Model for Halves {
+impl Model for PackedU64 {
     ghost use Rattle.std.specs.Prelude.{ℕ, ◌+◌, ◌*◌, ◌/◌, ◌%◌, ◌^◌, ◌<◌};
 
     ghost Value = { ℕ };
@@ -60,15 +60,15 @@ impl Model for Halves {
     ghost inverse = { λ n. record { low = n % 2 ^ 32; high = n / 2 ^ 32 } };
 }
 
-impl Halves {
+impl PackedU64 {
     /// The parts of a number.
     #[inline(always)]
-    pub fn of(number: u64) -> Halves
+    pub fn of(number: u64) -> PackedU64
         ensures { result ≡ number }
     {
-        Halves {
-            low: ShortHalves::of((number % (1 << 32)) as u32),
-            high: ShortHalves::of((number >> 32) as u32),
+        PackedU64 {
+            low: PackedU32::of((number % (1 << 32)) as u32),
+            high: PackedU32::of((number >> 32) as u32),
         }
     }
 
