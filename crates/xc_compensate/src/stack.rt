@@ -94,6 +94,15 @@ impl Stack {
         }
     }
 
+    /// No record is left, and the place for records stays. It takes no memory.
+    pub fn clear(&mut self)
+        ensures { self.new ≡ record { pending = []; ended = [] } }
+    {
+        self.records.clear();
+        self.pending = 0;
+        self.hindered = false;
+    }
+
     /// Made before the host is called.
     /// `NoMemory` also past 2^32 records; a transaction has at most 256 calls.
     pub fn push(&mut self, undo: Undo) -> Result<(), NoMemory>

@@ -16,6 +16,7 @@ use crate::value::Variables;
 use crate::values::Values;
 use std::alloc::Global;
 use std::marker::Model;
+use std::mem;
 use xc_data::{Call, LateEnd, NoMemory, Reply};
 use xc_text::{KeptStatement, Place, Script};
 
@@ -25,6 +26,8 @@ pub struct JobState {
     alloc: Global,
     // What the variables held at the begin of the transaction. The slots change at its commit alone.
     begun: Option<Values>,
+    // The list for the next begin.
+    spare: Values,
     variables: Variables,
     block: usize,
     next: usize,
@@ -87,6 +90,7 @@ impl JobState {
             refused: false,
             variables,
             begun: None,
+            spare: Values::new(alloc),
         })
     }
 
@@ -109,6 +113,7 @@ impl JobState {
             refused: false,
             variables,
             begun: None,
+            spare: Values::new(self.alloc),
         })
     }
 
@@ -117,7 +122,9 @@ impl JobState {
         ensures ok { OnOk result (self.new ≡ record self.old { begun = self.old.variables }) }
         ensures err { OnErr result (self.new ≡ self.old) }
     {
-        self.begun = Some(self.variables.values_copied()?);
+        let mut values = mem::replace(&mut self.spare, Values::new(self.alloc));
+        self.variables.keep_values(&mut values)?;
+        self.begun = Some(values);
         Ok(())
     }
 
@@ -178,7 +185,10 @@ impl JobState {
         ensures { self.new ≡ at_begin (record { block = self.old.block; next = self.old.next; variables = self.old.begun }) }
     {
         match self.begun.take() {
-            Some(values) => self.variables.take_values(values),
+            Some(values) => {
+                self.spare = self.variables.take_values(values);
+                self.spare.clear();
+            }
             None => self.variables.clear(),
         }
         self.rewind();
@@ -201,8 +211,8 @@ impl JobState {
           begun = nothing_kept;
         } }
     {
-        self.begun = None;
         set_ends(&mut self.variables, calls, replies, ends);
+        self.forget_begin();
     }
 
     // Stands before its transaction, with the variables as they are.
@@ -212,7 +222,17 @@ impl JobState {
         self.at = 0;
         self.stored = 0;
         self.refused = false;
-        self.begun = None;
+        self.forget_begin();
+    }
+
+    // What was kept for an abort is dropped, and its list stays.
+    fn forget_begin(&mut self)
+        ensures { self.new ≡ record self.old { begun = nothing_kept } }
+    {
+        if let Some(mut values) = self.begun.take() {
+            values.clear();
+            self.spare = values;
+        }
     }
 }
 

@@ -1,4 +1,4 @@
-ghost use Rattle.std.specs.Prelude.{◌≡◌, ◌≤◌, ◌^◌, IfOk, None, length, replicate};
+ghost use Rattle.std.specs.Prelude.{◌≡◌, ◌≤◌, ◌^◌, IfOk, OnOk, None, length, replicate};
 ghost use Rattle.std.specs.Option.{option_copied};
 ghost use Rattle.xc_failure.specs.Slots.{slot_number, unset};
 ghost use Rattle.xc_script.specs.Asking.{name_of_slot};
@@ -11,6 +11,7 @@ ghost use Rattle.xc_script.specs.Slots.{with_end};
 use crate::values::Values;
 use std::alloc::Global;
 use std::marker::Model;
+use std::mem;
 use xc_data::{Chunk, Ident, LateEnd, NoMemory, SlotName, SlotNames};
 use xc_failure::Slots;
 use xc_text::Place;
@@ -110,18 +111,18 @@ impl Variables {
         }
     }
 
-    /// What the variables hold. Their bytes are shared.
-    pub fn values_copied(&self) -> Result<Values, NoMemory>
-        ensures { IfOk result (λ copy. copy ≡ self.now.values) }
+    /// Puts what the variables hold into a list. Their bytes are shared.
+    pub fn keep_values(&self, kept: &mut Values) -> Result<(), NoMemory>
+        ensures { OnOk result (kept.new ≡ self.now.values) }
     {
-        self.values.copied()
+        kept.share(&self.values)
     }
 
-    /// The variables hold this, and the slots stay. It takes no memory.
-    pub fn take_values(&mut self, values: Values)
+    /// The variables hold this, and the slots stay. The list of what they held is handed back. It takes no memory.
+    pub fn take_values(&mut self, values: Values) -> Values
         ensures { self.new ≡ record self.old { values = values } }
     {
-        self.values = values;
+        mem::replace(&mut self.values, values)
     }
 
     /// No variable is left, and no slot. It takes no memory.

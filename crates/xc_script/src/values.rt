@@ -1,4 +1,4 @@
-ghost use Rattle.std.specs.Prelude.{◌≡◌, ◌≤◌, ◌^◌, IfOk, [], None, length, replicate, slice_set};
+ghost use Rattle.std.specs.Prelude.{◌≡◌, ◌≤◌, ◌^◌, IfOk, OnOk, [], None, length, replicate, slice_set};
 ghost use Rattle.std.specs.Option.{option_copied};
 ghost use Rattle.xc_script.specs.Values.{value_at};
 ghost use Rattle.xc_script.specs.Ask.{with_handles};
@@ -28,6 +28,15 @@ impl Model for Values {
 }
 
 impl Values {
+    /// No variable at all. It takes no memory.
+    pub fn new(alloc: Global) -> Values
+        ensures { result ≡ [] }
+    {
+        Values {
+            held: Vec::new(alloc),
+        }
+    }
+
     /// So many variables that hold nothing.
     pub fn unset(alloc: Global, n: usize) -> Result<Values, NoMemory>
         ensures { IfOk result (λ values. values ≡ replicate n None) }
@@ -74,6 +83,15 @@ impl Values {
         Ok(Values {
             held: self.held.clone()?,
         })
+    }
+
+    /// These hold from now on what others do. Their bytes are shared. It takes memory only where there was never room for so many.
+    pub fn share(&mut self, others: &Values) -> Result<(), NoMemory>
+        ensures { OnOk result (self.new ≡ others.now) }
+    {
+        self.held.clear();
+        self.held.extend_from_slice(others.held.as_slice())?;
+        Ok(())
     }
 
     /// No variable is left. It takes no memory.

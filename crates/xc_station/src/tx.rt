@@ -51,15 +51,16 @@ pub struct Tx {
     pub begun: Option<Box<Private>>,
 }
 
-// The outcome of a transaction that ends in this phase, with the ends of its records or of its late calls.
-fn outcome_of(phase: &Phase, undo: Stack, late: Late) -> Outcome
-    requires { (c : PlainCause) → phase.now ≡ PlainPhase.Undoing c → undo.pending ≡ [] }
-    ensures { result ≡ outcome_in phase.now undo.ended late.ends }
+// The outcome of a transaction that ends in this phase, with the ends of its records or of its late calls. Records that
+// aren't reported stay.
+fn outcome_of(alloc: Global, phase: &Phase, undo: &mut Stack, late: Late) -> Outcome
+    requires { (c : PlainCause) → phase.now ≡ PlainPhase.Undoing c → undo.old.pending ≡ [] }
+    ensures { result ≡ outcome_in phase.now undo.old.ended late.ends }
 {
     match phase {
         Phase::Undoing(cause) => Outcome::Aborted(Report {
             cause: cause.again(),
-            records: undo.records(),
+            records: mem::replace(undo, Stack::new(alloc)).records(),
         }),
         // Only an undoing one aborts.
         _ => Outcome::Committed {
@@ -116,7 +117,7 @@ impl Tx {
         }
         self.changed = false;
         self.writes.clear();
-        self.undo = Stack::new(alloc);
+        self.undo.clear();
         self.late = Late::new(alloc);
         self.taken = Taken::new(alloc);
         self.calls = Roomy::new(alloc);
@@ -201,10 +202,10 @@ impl Tx {
         ensures begun { begun_of self.new ≡ begun_of self.old }
         ensures freed { Frees sentinels.old sentinels.new self.old.number }
     {
-        let undo = mem::replace(&mut self.undo, Stack::new(alloc));
         let late = mem::replace(&mut self.late, Late::new(alloc));
         let held = mem::replace(&mut self.held, Holding::new(alloc));
-        let outcome = outcome_of(&self.phase, undo, late);
+        let outcome = outcome_of(alloc, &self.phase, &mut self.undo, late);
+        self.undo.clear();
         self.writes.clear();
         Entry {
             tx: self.number,
