@@ -36,6 +36,9 @@ bytes_of (call.XUnlink name slot) = []
 bytes_of (call.XSync h slot) = []
 bytes_of (call.XShutdown h slot) = []
 bytes_of (call.XThreadCreate body slot) = []
+bytes_of call.Save = []
+bytes_of call.Keep = []
+bytes_of call.Back = []
 
 -- ---- calls that are kept for the commit
 -- whether a call is kept for the commit: it touches no host before its transaction has committed
@@ -46,6 +49,9 @@ is_kept (call.XWritePipe h bytes slot) = true
 is_kept (call.XShutdown h slot) = true
 is_kept (call.XSendmsg h bytes slot) = true
 is_kept (call.XThreadCreate body slot) = true
+is_kept call.Save = false
+is_kept call.Keep = false
+is_kept call.Back = false
 is_kept (call.Load at) = false
 is_kept (call.Store at value) = false
 is_kept (call.XOpen name) = false
@@ -70,6 +76,9 @@ slot_of (call.XWritePipe h bytes slot) = slot
 slot_of (call.XShutdown h slot) = slot
 slot_of (call.XSendmsg h bytes slot) = slot
 slot_of (call.XThreadCreate body slot) = slot
+slot_of call.Save = None
+slot_of call.Keep = None
+slot_of call.Back = None
 slot_of (call.Load at) = None
 slot_of (call.Store at value) = None
 slot_of (call.XOpen name) = None
@@ -104,10 +113,14 @@ is_late reply.TooBig = false
 is_late reply.TooMuch = false
 is_late reply.BadWord = false
 is_late (reply.Fault n) = false
+is_late (reply.Undone n) = false
 
 -- ---- the block of the job that a call would start, where it would start one
 abbrev pub thread_asked : Call → Option (List ℕ)
 thread_asked (call.XThreadCreate block slot) = Some block
+thread_asked call.Save = None
+thread_asked call.Keep = None
+thread_asked call.Back = None
 thread_asked (call.Load at) = None
 thread_asked (call.Store at value) = None
 thread_asked (call.XOpen name) = None
@@ -175,6 +188,9 @@ late_call (call.XWritePipe h bytes slot) me = write_pipe_of (place_of me.places 
 late_call (call.XShutdown h slot) me = shutdown_of (place_of me.places h)
 late_call (call.XSendmsg h bytes slot) me = send_of (place_of me.places h) bytes
 late_call (call.XThreadCreate body slot) me = Thread body ∷ []
+late_call call.Save me = []
+late_call call.Keep me = []
+late_call call.Back me = []
 late_call (call.Load at) me = []
 late_call (call.Store at value) me = []
 late_call (call.XOpen name) me = []

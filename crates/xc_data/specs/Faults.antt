@@ -47,6 +47,13 @@ abbrev pub outcome_faults : Outcome → ℕ
 outcome_faults (Committed late) = count_by is_fault_end late
 outcome_faults (Aborted report) = sum_by undo_faults report.records
 
--- the fault replies, the late calls that ended in a fault and the faults of the compensations
+-- the faults that a reply tells of: its own, or those of a way back
+abbrev pub reply_faults : Reply → ℕ
+reply_faults (reply.Fault n) = 1
+reply_faults (reply.Undone faults) = faults
+-- any other reply tells of none, also one yet to come
+reply_faults _ = 0
+
+-- the faults that the replies tell of, the late calls that ended in a fault and the faults of the compensations
 abbrev pub entry_faults : Entry → ℕ
-entry_faults entry = count_by is_fault_reply entry.replies + outcome_faults entry.outcome
+entry_faults entry = sum_by reply_faults entry.replies + outcome_faults entry.outcome

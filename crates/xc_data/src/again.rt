@@ -22,6 +22,7 @@ impl Cause {
                 at: *at,
             },
             Cause::NoMemory => Cause::NoMemory,
+            Cause::Stuck { failed } => Cause::Stuck { failed: *failed },
         }
     }
 }

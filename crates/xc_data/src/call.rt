@@ -81,6 +81,12 @@ pub enum Call {
         body: Boxed<Ident>,
         slot: SlotName,
     },
+    /// An inner block begins.
+    Save,
+    /// It ends, and what it did stays.
+    Keep,
+    /// It goes back to where it began.
+    Back,
 }
 
 // A journal has many, one for each call that was made.
@@ -99,7 +105,7 @@ impl Call {
             Call::XLen { .. } | Call::XRename { .. } | Call::XClose { .. } => &[],
             Call::XPipe | Call::XReadPipe { .. } | Call::XPair | Call::XRecvmsg { .. } => &[],
             Call::XUnlink { .. } | Call::XSync { .. } | Call::XShutdown { .. } => &[],
-            Call::XThreadCreate { .. } => &[],
+            Call::XThreadCreate { .. } | Call::Save | Call::Keep | Call::Back => &[],
         }
     }
 
@@ -116,6 +122,7 @@ impl Call {
             Call::XWriteSeq { .. } | Call::XSeek { .. } | Call::XLen { .. } => None,
             Call::XRename { .. } | Call::XClose { .. } | Call::XPipe => None,
             Call::XReadPipe { .. } | Call::XPair | Call::XRecvmsg { .. } => None,
+            Call::Save | Call::Keep | Call::Back => None,
         }
     }
 }
@@ -144,6 +151,8 @@ pub enum Reply {
     Fault(u32),
     /// The call is kept until the commit.
     Late,
+    /// The block went back; so many faults were met on the way.
+    Undone(u32),
 }
 
 impl Reply {
@@ -155,11 +164,13 @@ impl Reply {
     }
 }
 
-/// What a call met at the host. `Fault` has the number of bytes that were done.
+/// What a call met at the host. `Fault` has the number of bytes that were done, `Undone` that of the faults on
+/// a way back.
 #[derive(Clone, Copy)]
 pub enum Answer {
     Fine,
     Fault(u32),
+    Undone(u32),
 }
 
 /// A call, and what it met at the host.

@@ -44,6 +44,10 @@ pub enum Cause {
         at: u32,
     },
     NoMemory,
+    /// On the way back of an inner block the compensation of this record failed.
+    Stuck {
+        failed: u32,
+    },
 }
 
 /// That a running transaction is to be revoked: an older one waits for what it holds.

@@ -64,6 +64,7 @@ impl Call {
             Call::XWriteSeq { .. } | Call::XSeek { .. } | Call::XLen { .. } => Ok(None),
             Call::XRename { .. } | Call::XClose { .. } | Call::XPipe => Ok(None),
             Call::XReadPipe { .. } | Call::XPair | Call::XRecvmsg { .. } => Ok(None),
+            Call::Save | Call::Keep | Call::Back => Ok(None),
         }
     }
 }

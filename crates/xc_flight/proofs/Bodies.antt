@@ -7,7 +7,8 @@ use Rattle.xc_data.specs.declared.call.CallWithAnswer.{CallWithAnswer}
 use Rattle.xc_data.specs.declared.call.Reply.{Reply}
 use Rattle.xc_world.specs.Act.{act}
 use Rattle.xc_world.specs.Fits.{fits, answer_of}
-use Rattle.xc_world.specs.Run.{BodyResult, step, goes_on, body_fits, asked_of}
+use Rattle.xc_world.specs.Run.{BlockState, step, block_step, runs_on, fits_on, asked_of}
+use Rattle.xc_world.proofs.Blocks.{marked_replies}
 
 -- two tests that hold
 pub both_true : (a b : Bool) → a ≡ true → b ≡ true → (a && b) ≡ true
@@ -15,13 +16,13 @@ both_true true b p q = q
 both_true false b p q = p
 
 -- its answer fits where the body ended
-pub fits_more : (tx : ℕ) (r : BodyResult) (asked : List CallWithAnswer) (c : CallWithAnswer) → IsTrue (body_fits r.world r.me tx asked)
-    → IsTrue (fits (goes_on tx r asked).world (goes_on tx r asked).me tx c.call c.answer) → IsTrue (body_fits r.world r.me tx (asked ++ c ∷ []))
-fits_more tx r [] c before fit = both_true (fits r.world r.me tx c.call c.answer) true fit refl
-fits_more tx r (d ∷ asked) c before fit =
-    let s = step tx r d in
-    let parts = and_parts (fits r.world r.me tx d.call d.answer) (body_fits s.world s.me tx asked) before in
-    both_true (fits r.world r.me tx d.call d.answer) (body_fits s.world s.me tx (asked ++ c ∷ [])) parts.0 (fits_more tx s asked c parts.1 fit)
+pub fits_more : (tx : ℕ) (b : BlockState) (asked : List CallWithAnswer) (c : CallWithAnswer) → IsTrue (fits_on tx b asked)
+    → IsTrue (fits (runs_on tx b asked).now.world (runs_on tx b asked).now.me tx c.call c.answer) → IsTrue (fits_on tx b (asked ++ c ∷ []))
+fits_more tx b [] c before fit = both_true (fits b.now.world b.now.me tx c.call c.answer) true fit refl
+fits_more tx b (d ∷ asked) c before fit =
+    let s = block_step tx b d in
+    let parts = and_parts (fits b.now.world b.now.me tx d.call d.answer) (fits_on tx s asked) before in
+    both_true (fits b.now.world b.now.me tx d.call d.answer) (fits_on tx s (asked ++ c ∷ [])) parts.0 (fits_more tx s asked c parts.1 fit)
 
 -- one call more with its reply
 pub asked_more : (calls : List Call) (replies : List Reply) (c : Call) (r : Reply) → length calls ≡ length replies
@@ -37,10 +38,11 @@ push_count [] x = refl
 push_count (y ∷ ys) x = ap suc (push_count ys x)
 
 -- a body gives a reply for each call
-pub replies_count : (tx : ℕ) (r : BodyResult) (asked : List CallWithAnswer) → length (goes_on tx r asked).replies ≡ length r.replies + length asked
-replies_count tx r [] = omega arith
-replies_count tx r (c ∷ asked) = (let more = replies_count tx (step tx r c) asked in let one = push_count r.replies
-    (act r.world r.me tx c.call c.answer).reply in omega (arith, more, one))
+pub replies_count : (tx : ℕ) (b : BlockState) (asked : List CallWithAnswer) → length (runs_on tx b asked).now.replies ≡ length b.now.replies + length asked
+replies_count tx b [] = omega arith
+replies_count tx b (c ∷ asked) = (let more = replies_count tx (block_step tx b c) asked in let one = push_count b.now.replies
+    (act b.now.world b.now.me tx c.call c.answer).reply in let same = ap length (marked_replies c.call b.saved (step tx b.now c)) in omega
+    (arith, more, one, same))
 
 -- there are as many answers as calls
 pub asked_count : (calls : List Call) (replies : List Reply) → length (asked_of calls replies) ≡ length calls

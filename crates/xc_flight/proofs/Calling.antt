@@ -1,5 +1,5 @@
 -- What a running transaction sees, and a call that it makes.
-use Rattle.std.proofs.Common.{◌≡◌, ◌≢◌, ℕ, inl, inr, ⊎_elim, List, [], ◌∷◌, ◌++◌, length, Some, ap, ap₂, sym, ◌∙◌, subst, refl, arith}
+use Rattle.std.proofs.Common.{◌≡◌, ◌≢◌, ℕ, inl, inr, ⊎_elim, List, [], ◌∷◌, ◌++◌, length, Some, ap, ap₂, sym, ◌∙◌, subst, refl, arith, Option, None}
 use Rattle.std.specs.Prelude.{All, Contains, IsTrue, map, slice_get}
 use Rattle.std.proofs.lemmas.List.{append-nil}
 use Rattle.std.proofs.lemmas.List.Elements.{Contains-append_cases}
@@ -15,7 +15,7 @@ use Rattle.xc_world.specs.World.{World}
 use Rattle.xc_world.specs.Touch.{touch, made_by}
 use Rattle.xc_world.specs.Late.{kept_call}
 use Rattle.xc_world.specs.Fits.{fits}
-use Rattle.xc_world.specs.Run.{BodyResult, begins, step, goes_on, body, body_fits, asked_of}
+use Rattle.xc_world.specs.Run.{BodyResult, BlockState, step, marked, block_step, runs_on, opens, body_state, body_fits, asked_of}
 use Rattle.xc_world.specs.Ends.{Ending}
 use Rattle.xc_world.specs.Modes.{claims_of}
 use Rattle.xc_world.specs.Laws.{AgreeAt}
@@ -24,10 +24,14 @@ use Rattle.xc_world.proofs.Objects.{agree_back, agree_on}
 use Rattle.xc_world.proofs.Calls.{keeps_itself, fits_alike}
 use Rattle.xc_world.proofs.Bodies.{Alike, Within, step_alike, call_agreed, keeps_more, objects_append, owned_append}
 use Rattle.xc_world.proofs.Joined.{body_last}
-use Rattle.xc_flight.specs.Active.{Tx, Phase, Running, Has, Own, Covers}
-use Rattle.xc_flight.specs.Flight.{noted, ran, asked, left, returned, IsRunning, IsPhase, Inside, Flight}
+use Rattle.xc_world.proofs.Blocks.{marked_now}
+use Rattle.xc_data.specs.declared.call.Call.{Call}
+use Rattle.xc_data.specs.declared.call.Call.TheVariants as call
+use Rattle.xc_data.specs.declared.private.Private.{Private}
+use Rattle.xc_flight.specs.Active.{Saved, Tx, Phase, Running, Has, Own, Covers}
+use Rattle.xc_flight.specs.Flight.{stood, IsCopy, IsSaved, IsSourced, noted, ran, asked, left, returned, IsRunning, IsPhase, Inside, Flight}
 use Rattle.xc_flight.specs.State.{FlightState, IsActive, InFlight, OwnAt, turned}
-use Rattle.xc_flight.specs.Turns.{seen, did, leaving, taking, noting, after_call, MayDo, IsNoted}
+use Rattle.xc_flight.specs.Turns.{copy_of, saved_by, seen, did, leaving, taking, noting, after_call, MayDo, IsNoted}
 use Rattle.xc_flight.proofs.Basics.{own_decide, owns_has, owns_own}
 use Rattle.xc_flight.proofs.Worlds.{overlaid_alike, overlaid_count}
 use Rattle.xc_flight.proofs.Frames.{ran_keeps, left_keeps, words_there}
@@ -88,7 +92,7 @@ module _ (s : FlightState) (job : ℕ) (t : Tx) (h : InFlight s) (active : IsAct
 
   -- no call of its is without a reply
   pub all_noted : ran s.state t ≡ noted s.state t
-  all_noted = ap (goes_on t.number (noted s.state t)) is_running.all_noted
+  all_noted = ap (λ l. (runs_on t.number (stood s.state t) l).now) is_running.all_noted
 
 -- ---- claims one after another
 pub covers_both : (held a b : List Claim) → Covers held a → Covers held b → Covers held (a ++ b)
@@ -175,7 +179,7 @@ module _ (s : FlightState) (job : ℕ) (t : Tx) (c : CallWithAnswer) (h : InFlig
   -- the answer fits its body
   pub fits_then : IsTrue (body_fits s.state t.began t.number (asked_of t.calls t.replies ++ c ∷ []))
   fits_then =
-      fits_more t.number (begins s.state t.began) (asked_of t.calls t.replies) c
+      fits_more t.number (opens s.state t.began) (asked_of t.calls t.replies) c
       (subst (λ l. IsTrue (body_fits s.state t.began t.number l)) (append-nil (asked_of t.calls t.replies))
       (subst (λ l. IsTrue (body_fits s.state t.began t.number (asked_of t.calls t.replies ++ l)))
       (is_running s job t h active phase).all_noted inside.fits))
@@ -207,26 +211,39 @@ module _ (s : FlightState) (job : ℕ) (t : Tx) (c : CallWithAnswer) (h : InFlig
       reworded (did s.now t c).world x s.now.words s.state.words o (agree_back x (did s.now t c).world o (steps.agree o has))
       (λ at e. words_now at (subst (Has t) e has))
 
+-- ---- what a save of the call keeps
+saved_marked : (w : World) (number : ℕ) (held : List Claim) (c : Call) (b : Option BodyResult) (kept : Option Saved) (r : BodyResult) (copy : Saved)
+    → IsSaved w number held b kept
+    → IsCopy w number held r copy → IsSaved w number held (marked c b r).saved (saved_by c kept copy)
+saved_marked w number held call.Save b kept r copy so is = is
+saved_marked w number held call.Keep b kept r copy so is = tt
+saved_marked w number held call.Back b kept r copy so is = tt
+saved_marked w number held _ b kept r copy so is = so
+
 -- ---- it is noted
 module _ (s : FlightState) (job : ℕ) (t : Tx) (c : CallWithAnswer) (writes : List (ℕ × ℕ)) (h : InFlight s) (active : IsActive s job t)
     (phase : t.phase ≡ Running)
     (k : MayDo s.now t c) (d : IsNoted s.now t c writes) where
-  noted_more : noted s.state (noting s.now t c writes) ≡ step t.number (noted s.state t) c
-  noted_more =
+  stood_more : stood s.state (noting s.now t c writes) ≡ block_step t.number (stood s.state t) c
+  stood_more =
       let calls = asked_count t.calls t.replies in
-      let bodies = replies_count t.number (begins s.state t.began) (asked_of t.calls t.replies) in
+      let bodies = replies_count t.number (opens s.state t.began) (asked_of t.calls t.replies) in
       let same = ap length (inside s job t c h active phase k).replies in
-      ap (body s.state t.began t.number) (asked_more t.calls t.replies c.call (did s.now t c).reply (omega (arith, calls, bodies, same))
+      ap (body_state s.state t.began t.number) (asked_more t.calls t.replies c.call (did s.now t c).reply (omega (arith, calls, bodies, same))
       ∙ ap (λ a. asked_of t.calls t.replies ++ record { call = c.call; answer = a } ∷ []) d.told)
       ∙ body_last s.state t.began t.number (asked_of t.calls t.replies) c
 
+  noted_more : noted s.state (noting s.now t c writes) ≡ step t.number (noted s.state t) c
+  noted_more =
+      ap (λ (b : BlockState). b.now) stood_more ∙ marked_now c.call (stood s.state t).saved (step t.number (noted s.state t) c) k.ahead
+
   ran_more : ran s.state (noting s.now t c writes) ≡ step t.number (noted s.state t) c
-  ran_more = ap (goes_on t.number (noted s.state (noting s.now t c writes))) (is_running s job t h active phase).all_noted ∙ noted_more
+  ran_more = ap (λ l. (runs_on t.number (stood s.state (noting s.now t c writes)) l).now) (is_running s job t h active phase).all_noted ∙ noted_more
 
   asked_now : asked (noting s.now t c writes) ≡ asked_of t.calls t.replies ++ c ∷ []
   asked_now =
       let calls = asked_count t.calls t.replies in
-      let bodies = replies_count t.number (begins s.state t.began) (asked_of t.calls t.replies) in
+      let bodies = replies_count t.number (opens s.state t.began) (asked_of t.calls t.replies) in
       let same = ap length (inside s job t c h active phase k).replies in
       ap₂ (λ l m. l ++ m) (asked_more t.calls t.replies c.call (did s.now t c).reply (omega (arith, calls, bodies, same))
       ∙ ap (λ a. asked_of t.calls t.replies ++ record { call = c.call; answer = a } ∷ []) d.told) (is_running s job t h active phase).all_noted
@@ -241,6 +258,25 @@ module _ (s : FlightState) (job : ℕ) (t : Tx) (c : CallWithAnswer) (writes : L
       d.stored
       (λ at has. (steps s job t c h active phase k).agree (object.Word at) has ∙ ap (λ ws. slice_get ws at) (sym d.words)
       ∙ overlaid_alike s.now.words s.state.words writes at ((words_now s job t c h active phase k) at has))
+
+  -- what a save would keep
+  copy_then : IsCopy s.state t.number t.held (step t.number (noted s.state t) c) (copy_of (noting s.now t c writes))
+  copy_then =
+      let so = (steps s job t c h active phase k).gave in
+      record {
+        places = ap (λ (m : Private). m.places) so.me;
+        late = so.late ∙ ap (λ l. l ++ kept_call c.call t.me (did s.now t c).reply) (inside s job t c h active phase k).late;
+        trail = so.trail ∙ ap (λ us. us ++ leaving s.now t c) (old_trail s job t c h active phase k);
+        taken = step_taken s job t c h active phase k;
+        words = sym (ap (λ (r : BodyResult). r.world.words) ran_more) ∙ words_then;
+        stored = d.stored;
+      }
+
+  saved_then : IsSaved s.state t.number t.held (stood s.state (noting s.now t c writes)).saved (noting s.now t c writes).saved
+  saved_then =
+      subst (λ (b : BlockState). IsSaved s.state t.number t.held b.saved (noting s.now t c writes).saved) (sym stood_more)
+      (saved_marked s.state t.number t.held c.call (stood s.state t).saved t.saved (step t.number (noted s.state t) c)
+      (copy_of (noting s.now t c writes)) (inside s job t c h active phase k).saved copy_then)
 
   noted_inside : Inside s.state (noting s.now t c writes)
   noted_inside =
@@ -258,6 +294,7 @@ module _ (s : FlightState) (job : ℕ) (t : Tx) (c : CallWithAnswer) (writes : L
         covers = subst (λ (r : BodyResult). Covers t.held r.touched) (sym ran_more) (step_covers s job t c h active phase k);
         phase = subst (IsPhase s.state (noting s.now t c writes)) (sym phase)
             (record { none = p.none; all_noted = p.all_noted; no_late_ends = p.no_late_ends; words = words_then; stored = d.stored });
+        saved = saved_then;
       }
 
   -- a call that is noted keeps all
@@ -269,4 +306,5 @@ module _ (s : FlightState) (job : ℕ) (t : Tx) (c : CallWithAnswer) (writes : L
             (left s.state (noting s.now t c writes) p)) (sym phase)
             (λ o e. subst (λ (r : BodyResult). AgreeAt (after_call s.now t c) (record r.world { words = s.state.words }) o) (sym ran_more)
             ((step_stands s job t c h active phase k) o (owns_has t o e)));
+        sources = subst (IsSourced s.state (after_call s.now t c) (noting s.now t c writes)) (sym phase) tt;
       })

@@ -21,8 +21,10 @@ use Rattle.xc_data.proofs.Objects.{same_object}
 use Rattle.xc_world.proofs.Calls.{keeps_itself}
 use Rattle.xc_world.proofs.Bodies.{objects_append, owned_append}
 use Rattle.xc_world.proofs.Holding.{has, held_seen, held_owned}
-use Rattle.xc_flight.specs.Active.{Tx, Running, Has, Own, Covers, HoldTheSame, IsBelow}
-use Rattle.xc_flight.specs.Flight.{ran, left, returned, IsPhase}
+use Rattle.xc_world.specs.Run.{BodyResult}
+use Rattle.xc_world.specs.World.{World}
+use Rattle.xc_flight.specs.Active.{Tx, Running, Has, Own, Covers, HoldTheSame, IsBelow, Saved}
+use Rattle.xc_flight.specs.Flight.{ran, left, returned, IsPhase, stood, IsCopy, IsSaved, IsSourced}
 use Rattle.xc_flight.specs.State.{FlightState, active_at, IsActive, HasSome, OwnSome, HasAt, OwnAt, InFlight, turned}
 use Rattle.xc_flight.specs.Turns.{claiming, GoTogether, IsGranted, AreCompatible}
 use Rattle.xc_flight.proofs.Basics.{own_decide, owns_has}
@@ -30,6 +32,23 @@ use Rattle.xc_flight.proofs.Frames.{left_keeps}
 use Rattle.xc_flight.proofs.Moving.{has_it, own_it, it_owns}
 use Rattle.xc_flight.proofs.Rows.{goes_on_with}
 use Rattle.xc_flight.proofs.Calling.{is_running, covers_both}
+
+-- ---- what a block's save kept stays its own
+still_saved : (w : World) (t t' : Tx) → ((o : Object) → Own t o → Own t' o) → (b : Option BodyResult) (kept : Option Saved) → IsSaved w t.number t.held b kept
+    → IsSaved w t'.number t'.held b kept
+still_saved w t t' more None None so = tt
+still_saved w t t' more (Some r) (Some kept) so =
+    record {
+      places = so.places;
+      late = so.late;
+      trail = so.trail;
+      taken = so.taken;
+      words = so.words;
+      stored = All-weaker (λ (x : ℕ × ℕ). Own t (object.Word x.0)) (λ (x : ℕ × ℕ). Own t' (object.Word x.0)) (λ x e. more (object.Word x.0) e) kept.writes
+          so.stored;
+    }
+still_saved w t t' more None (Some kept) so = absurd so
+still_saved w t t' more (Some r) None so = absurd so
 
 -- ---- what is held with new claims
 pub front_held : (a b : List Claim) → Covers (a ++ b) a
@@ -232,12 +251,14 @@ module _ (s : FlightState) (job : ℕ) (t : Tx) (claims held : List Claim) (h : 
             stored = All-weaker (λ (x : ℕ × ℕ). Own t (object.Word x.0)) (λ (x : ℕ × ℕ). Own t' (object.Word x.0))
                 (λ x e. own_more (object.Word x.0) e) t.writes p.stored;
           });
+          saved = still_saved w t t' own_more (stood w t).saved t.saved i.saved;
         };
         owns = subst (λ q. AgreeOn (Own t') (returned s.now t' q) (left w t' q)) (sym phase)
             (λ o e. ⊎_elim (λ (own : Own t o). owns o own)
             (λ (lacks : Own t o → ⊥). agree_on s.now w (left w t Running) o (was_free o lacks
             (⊎_elim (λ (own : Own t o). absurd (lacks own)) (λ (new : Contains (owned claims) o). new) (own_before o e)))
             ((left_keeps w t i Running).others o lacks)) (own_decide t o));
+        sources = subst (IsSourced w s.now t') (sym phase) tt;
       })
 
 -- ---- claims of two transactions that go together

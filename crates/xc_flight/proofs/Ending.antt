@@ -11,7 +11,7 @@ use Rattle.xc_data.specs.declared.call.LateAnswer.{LateAnswer}
 use Rattle.xc_world.specs.World.{World}
 use Rattle.xc_world.specs.Late.{late}
 use Rattle.xc_world.specs.Fits.{late_fits, late_answer_of}
-use Rattle.xc_world.specs.Run.{BodyResult, goes_on as body_goes_on, lates, lates_fit, late_asked_of}
+use Rattle.xc_world.specs.Run.{BodyResult, runs_on, lates, lates_fit, late_asked_of}
 use Rattle.xc_world.specs.Laws.{AgreeAt, EndsAlike, late_objects}
 use Rattle.xc_world.specs.Own.{AgreeOn, LooksWithin}
 use Rattle.xc_world.proofs.Objects.{agree_back}
@@ -19,7 +19,7 @@ use Rattle.xc_world.proofs.LocalLate.{late_alike}
 use Rattle.xc_world.proofs.Calls.{agreed, still_agree, keeps_itself}
 use Rattle.xc_world.proofs.Runs.{late_keeps, late_fits_alike}
 use Rattle.xc_flight.specs.Active.{Tx, Running, Committing, Has, Own}
-use Rattle.xc_flight.specs.Flight.{noted, ran, late_done, left, returned, IsCommitting, IsPhase, Inside}
+use Rattle.xc_flight.specs.Flight.{noted, ran, late_done, left, returned, IsCommitting, IsPhase, Inside, stood, IsSourced}
 use Rattle.xc_flight.specs.State.{FlightState, IsActive, InFlight, turned, entered}
 use Rattle.xc_flight.specs.Turns.{seen, in_phase, IsDoneLate, with_end, after_commit}
 use Rattle.xc_flight.proofs.Basics.{owns_has}
@@ -64,9 +64,11 @@ commits s job t h active phase =
           ends = none (λ ends. (lates (ran w t).world (late_asked_of (take (length ends) (ran w t).late) ends)).ends ≡ ends) refl;
           fits = none (λ ends. IsTrue (lates_fit (ran w t).world (late_asked_of (take (length ends) (ran w t).late) ends))) refl;
         };
+        saved = i.saved;
       };
       owns = λ o e. none (λ ends. AgreeAt (seen s.now t) (lates (ran w t).world (late_asked_of (take (length ends) (ran w t).late) ends)).world o)
           (agree_back (ran w t).world (seen s.now t) o (sees s job t h active phase o (owns_has t o e)));
+      sources = tt;
     })
 
 -- ---- late calls one after another
@@ -129,7 +131,7 @@ is_committing w t i phase = subst (IsPhase w t) phase i.phase
 -- its late calls are those that its body left
 pub ran_late : (w : World) (t : Tx) → Inside w t → t.phase ≡ Committing → (ran w t).late ≡ t.late
 ran_late w t i phase =
-    ap (λ (r : BodyResult). r.late) (ap (λ l. body_goes_on t.number (noted w t) l) (is_committing w t i phase).all_noted) ∙ i.late
+    ap (λ (r : BodyResult). r.late) (ap (λ l. (runs_on t.number (stood w t) l).now) (is_committing w t i phase).all_noted) ∙ i.late
 
 -- what it left so far is in the station
 pub left_there : (s : FlightState) (job : ℕ) (t : Tx) → InFlight s → IsActive s job t → t.phase ≡ Committing
@@ -201,6 +203,7 @@ module _ (s : FlightState) (job : ℕ) (t : Tx) (c : LateCall) (a : LateAnswer) 
               (both_true (lates_fit x (late_done s.state t)) (late_fits (left s.state t Committing) c a) p.fits
               (subst IsTrue (sym (late_fits_alike (left s.state t Committing) s.now c a agree)) k.fit)));
         });
+        saved = i.saved;
       }
 
   -- a late call keeps all
@@ -215,6 +218,7 @@ module _ (s : FlightState) (job : ℕ) (t : Tx) (c : LateCall) (a : LateAnswer) 
             subst (λ v. AgreeAt (late s.now c a).world v o) (sym (ap (λ l. (lates x l).world) one_more ∙ more.world))
             (agree_back y.world (late s.now c a).world o (still_agree (Has t) (left s.state t Committing) s.now y.world (late s.now c a).world
             (late_objects c) late_both.worlds there o (owns_has t o e))));
+        sources = subst (IsSourced s.state (late s.now c a).world (with_end t (late s.now c a).end)) (sym phase) tt;
       })
 
 -- ---- a committed transaction whose late calls are all done enters
@@ -222,7 +226,7 @@ module _ (s : FlightState) (job : ℕ) (t : Tx) (c : LateCall) (a : LateAnswer) 
 pub left_run : (w : World) (t : Tx) → Inside w t → t.phase ≡ Committing → length t.late_ends ≡ length t.late
     → left w t Committing ≡ after_commit w t
 left_run w t i phase all =
-    let same : ran w t ≡ noted w t = ap (λ l. body_goes_on t.number (noted w t) l) (is_committing w t i phase).all_noted in
+    let same : ran w t ≡ noted w t = ap (λ l. (runs_on t.number (stood w t) l).now) (is_committing w t i phase).all_noted in
     let done : take (length t.late_ends) (ran w t).late ≡ (ran w t).late = take_all (length t.late_ends) (ran w t).late
     (let e = ap length (ran_late w t i phase) in omega (arith, e, all)) in
     ap (λ l. (lates (ran w t).world (late_asked_of l t.late_ends)).world) done ∙ ap

@@ -11,12 +11,13 @@ use Rattle.xc_data.specs.declared.call.LateCall.{LateCall}
 use Rattle.xc_data.specs.declared.call.LateEnd.{LateEnd}
 use Rattle.xc_data.specs.declared.call.LateAnswer.{LateAnswer}
 use Rattle.xc_data.specs.declared.call.LateAnswer.TheVariants as late_answer
+use Rattle.xc_data.specs.declared.private.Private.{Private}
 use Rattle.xc_data.specs.declared.undo.Undo.{Undo}
 use Rattle.xc_data.specs.Remaining.{objects_of, remains_from}
 use Rattle.xc_txmem.specs.Overlay.{overlaid}
 use Rattle.xc_world.specs.World.{World}
 use Rattle.xc_world.specs.Fits.{late_answer_of}
-use Rattle.xc_world.specs.Run.{BodyResult, begins, step, body, body_fits, lates, lates_fit, asked_of, late_asked_of}
+use Rattle.xc_world.specs.Run.{BodyResult, BlockState, block_step, runs_on, opens, body, body_fits, lates, lates_fit, asked_of, late_asked_of}
 use Rattle.xc_world.specs.Ends.{Ending, standing_of, remains}
 use Rattle.xc_world.specs.Effects.{whole}
 use Rattle.xc_world.specs.Laws.{AgreeAt, late_objects}
@@ -25,19 +26,20 @@ use Rattle.xc_data.specs.Claims.{objects}
 use Rattle.xc_world.specs.Own.{Sees, Owns, AgreeOn, KeepsBut, LooksWithin, SpeaksOfOwn, late_changes}
 use Rattle.xc_world.proofs.Objects.{agree_back, agree_on, words_same}
 use Rattle.xc_world.proofs.LocalParts.{agree_itself}
-use Rattle.xc_world.proofs.Bodies.{Alike, begin_alike, goes_on_alike, on_fits_alike, keeps_touched, keeps_more, keeps_on, body_keeps}
+use Rattle.xc_world.proofs.Bodies.{Alike, StateAlike, SavedAlike, CopiesAlike, opens_alike, runs_alike, runs_fit_alike, runs_touched, runs_owned, keeps_more}
+use Rattle.xc_world.proofs.Bodies.{keeps_on, body_keeps}
 use Rattle.xc_world.proofs.Records.{IsOf, remains_agree, remains_keep}
 use Rattle.xc_world.proofs.Runs.{Within, EndAlike, lates_alike, lates_keep}
 use Rattle.xc_world.proofs.Trails.{body_speaks}
-use Rattle.xc_flight.specs.Active.{Tx, Phase, Running, Committing, Undoing, Has, Own, Covers, num}
-use Rattle.xc_flight.specs.Flight.{noted, ran, asked, late_done, effects, left, returned, IsPhase, Inside, Flight}
+use Rattle.xc_flight.specs.Active.{Tx, Saved, Phase, Running, Committing, Undoing, Has, Own, Covers, num}
+use Rattle.xc_flight.specs.Flight.{stood, noted, ran, asked, late_done, effects, left, returned, IsPhase, IsCopy, IsSaved, Source, IsSourced, Inside, Flight}
 use Rattle.xc_flight.proofs.Basics.{has_decide, owns_has, sees_has, owns_own}
 use Rattle.xc_flight.proofs.Worlds.{words_agree, overlaid_other, overlaid_alike}
 use Rattle.xc_world.proofs.GivenBack.{given_alike}
 
 -- ---- what a body left, by what its transaction has and owns
 pub ran_whole : (w : World) (t : Tx) → body w t.began t.number (asked t) ≡ ran w t
-ran_whole w t = fold-append (step t.number) (begins w t.began) (asked_of t.calls t.replies) t.unnoted
+ran_whole w t = ap (λ (b : BlockState). b.now) (fold-append (block_step t.number) (opens w t.began) (asked_of t.calls t.replies) t.unnoted)
 
 -- it changes only what it owns
 pub ran_keeps : (w : World) (t : Tx) → Covers t.held (ran w t).touched → KeepsBut (Own t) w (ran w t).world
@@ -148,18 +150,21 @@ words_there w x t stores keeps stored there =
 
 -- ---- two states that agree on what it has
 module _ (w v : World) (t : Tx) (count : length w.words ≡ length v.words) (blocks : w.blocks ≡ v.blocks) (agree : AgreeOn (Has t) w v) (i : Inside w t) where
+  stood_alike : StateAlike (Has t) t.number (w, v) (stood w t) (stood v t)
+  stood_alike =
+      runs_alike (Has t) t.number w v (opens w t.began) (opens v t.began) (asked_of t.calls t.replies)
+      (opens_alike (Has t) t.number w v t.began count agree)
+      (λ o at. inl (i.covers.objects o (runs_touched t.number (stood w t) t.unnoted o at))) (λ o e. inr e)
+
   noted_alike : Alike (Has t) t.number (w, v) (noted w t) (noted v t)
-  noted_alike =
-      goes_on_alike (Has t) t.number w v (begins w t.began) (begins v t.began) (asked_of t.calls t.replies)
-      (begin_alike (Has t) t.number w v t.began count agree)
-      (λ o at. inl (i.covers.objects o (keeps_touched t.number (noted w t) t.unnoted o at))) (λ o e. inr e)
+  noted_alike = stood_alike.now
 
   ran_alike : Alike (Has t) t.number (w, v) (ran w t) (ran v t)
-  ran_alike = goes_on_alike (Has t) t.number w v (noted w t) (noted v t) t.unnoted noted_alike (λ o at. inl (i.covers.objects o at)) (λ o e. inr e)
+  ran_alike = (runs_alike (Has t) t.number w v (stood w t) (stood v t) t.unnoted stood_alike (λ o at. inl (i.covers.objects o at)) (λ o e. inr e)).now
 
   fits_alike : body_fits w t.began t.number (asked t) ≡ body_fits v t.began t.number (asked t)
   fits_alike =
-      on_fits_alike (Has t) t.number w v (begins w t.began) (begins v t.began) (asked t) (begin_alike (Has t) t.number w v t.began count agree)
+      runs_fit_alike (Has t) t.number w v (opens w t.began) (opens v t.began) (asked t) (opens_alike (Has t) t.number w v t.began count agree)
       (λ o at. inl (i.covers.objects o (subst (λ (r : BodyResult). Contains (objects r.touched) o) (ran_whole w t) at))) (λ o e. inr e)
 
   ends_alike : EndAlike (Has t) (Own t) (ran w t).world (ran v t).world (late_done w t)
@@ -199,6 +204,41 @@ module _ (w v : World) (t : Tx) (count : length w.words ≡ length v.words) (blo
       }
   phase_alike Undoing h = h
 
+  -- what its block's save kept is so in both
+  copy_alike : (r q : BodyResult) (kept : Saved) → CopiesAlike (Has t) t.number (w, v) (r, q) (noted w t, noted v t) → IsCopy w t.number t.held r kept
+      → IsCopy v t.number t.held q kept
+  copy_alike r q kept both so =
+      let one = both.alike in
+      let own : (o : Object) → Owns t.number q.touched o → Own t o =
+      λ o e. owns_own t (noted v t).touched (noted_covers v covers_alike) o (both.right o e) in
+      record {
+        places = ap (λ (m : Private). m.places) (sym one.gave.me) ∙ so.places;
+        late = sym one.gave.late ∙ so.late;
+        trail = sym one.gave.trail ∙ so.trail;
+        taken = sym one.gave.taken ∙ so.taken;
+        words = words_there v q.world t kept.writes (keeps_more (Owns t.number q.touched) (Own t) v q.world own one.right) so.stored
+            (λ at e. sym (one.agree (object.Word at) e) ∙ ap (λ ws. slice_get ws at) so.words ∙ overlaid_alike w.words v.words kept.writes at
+            (agree (object.Word at) e));
+        stored = so.stored;
+      }
+    where
+      noted_covers : (x : World) → Covers t.held (ran x t).touched → Covers t.held (noted x t).touched
+      noted_covers x covers =
+          record {
+            objects = λ o at. covers.objects o (runs_touched t.number (stood x t) t.unnoted o at);
+            owned = λ o at. covers.owned o (runs_owned t.number (stood x t) t.unnoted o at);
+          }
+
+  saved_alike : (a b : Option BodyResult) (kept : Option Saved) → SavedAlike (Has t) t.number (w, v) a b (noted w t) (noted v t)
+      → IsSaved w t.number t.held a kept
+      → IsSaved v t.number t.held b kept
+  saved_alike None None None both so = tt
+  saved_alike (Some r) (Some q) (Some kept) both so = copy_alike r q kept both so
+  saved_alike None None (Some kept) both so = absurd so
+  saved_alike (Some r) (Some q) None both so = absurd so
+  saved_alike None (Some q) kept both so = absurd both
+  saved_alike (Some r) None kept both so = absurd both
+
   -- it is inside the other as it is in the one, where that has no object with its number either
   inside_alike : ((k : ℕ) → IsFree v (num t.number k)) → Inside v t
   inside_alike new =
@@ -212,6 +252,7 @@ module _ (w v : World) (t : Tx) (count : length w.words ≡ length v.words) (blo
         taken = sym ran_alike.gave.taken ∙ i.taken;
         covers = covers_alike;
         phase = phase_alike t.phase i.phase;
+        saved = saved_alike (stood w t).saved (stood v t).saved t.saved stood_alike.saved i.saved;
       }
 
   returned_alike : (now now' : World) → AgreeOn (Own t) now now' → (p : Phase) → AgreeOn (Own t) (returned now t p) (returned now' t p)
@@ -225,6 +266,13 @@ module _ (w v : World) (t : Tx) (count : length w.words ≡ length v.words) (blo
       let x = returned now t p in
       let y = returned now' t p in
       agree_on y x (left v t p) o (agree_back x y o (returned_alike now now' same p o e)) (agree_on x (left w t p) (left v t p) o (owns o e) (left_alike p o e))
+
+  sources_alike : (now now' : World) → AgreeOn (Own t) now now' → (p : Phase) → IsSourced w now t p → IsSourced v now' t p
+  sources_alike now now' same Running so = tt
+  sources_alike now now' same Committing so = tt
+  sources_alike now now' same Undoing so = λ o e.
+      agree_on now' now (left v t Running) o (agree_back now now' o (same o e.0))
+      (agree_on now (left w t Running) (left v t Running) o (so o e) (left_alike Running o e.0))
 
 -- ---- the move of another
 free_alike : (w v : World) (t : Tx) → AgreeOn (Has t) w v → ((k : ℕ) → IsFree w (num t.number k))
@@ -246,4 +294,6 @@ flight_kept own w v now now' t state host apart f =
     record {
       inside = inside_alike w v t (sym state.count) (sym state.blocks) agree i (free_alike w v t agree i.new);
       owns = owns_alike w v t (sym state.count) (sym state.blocks) agree i now now' (λ o e. host.others o (λ q. apart o q (owns_has t o e))) t.phase f.owns;
+      sources = sources_alike w v t (sym state.count) (sym state.blocks) agree i now now' (λ o e. host.others o (λ q. apart o q (owns_has t o e))) t.phase
+          f.sources;
     }

@@ -1,7 +1,6 @@
 -- The late calls of a transaction are ready: their objects are there. A run with its late calls keeps all sound.
 use Rattle.std.proofs.Common.{◌≡◌, ◌≢◌, ℕ, List, [], ◌∷◌, ◌++◌, length, take, ap, sym, ◌∙◌, subst, refl}
 use Rattle.std.specs.Prelude.{All, IsTrue, is_some}
-use Rattle.std.proofs.lemmas.Bool.{and_parts}
 use Rattle.std.proofs.lemmas.List.Elements.{All-head, All-tail, All-weaker, All-nil, All-append, All-contains, All-take}
 use Rattle.xc_data.specs.declared.object.Object.{Object}
 use Rattle.xc_data.specs.declared.object.Object.TheVariants as object
@@ -14,8 +13,7 @@ use Rattle.xc_data.specs.declared.private.Private.{Private}
 use Rattle.xc_world.specs.World.{World}
 use Rattle.xc_world.specs.Act.{act}
 use Rattle.xc_world.specs.Late.{late, kept_call}
-use Rattle.xc_world.specs.Fits.{fits}
-use Rattle.xc_world.specs.Run.{BodyResult, begins, step, goes_on, body, body_fits, lates, run, late_asked_of}
+use Rattle.xc_world.specs.Run.{BodyResult, step, opens, body, body_fits, lates, run, late_asked_of}
 use Rattle.xc_world.specs.Sound.{IsFit, IsSound, IsReady, is_there, names_there}
 use Rattle.xc_world.specs.Laws.{AgreeAt, late_objects}
 use Rattle.xc_world.specs.Own.{LooksWithin}
@@ -23,7 +21,8 @@ use Rattle.xc_world.proofs.Calls.{agreed}
 use Rattle.xc_world.proofs.Sound.{act_sound}
 use Rattle.xc_world.proofs.SoundLate.{late_fit, late_sound}
 use Rattle.xc_world.proofs.SoundReady.{act_keeps_ready, act_leaves_ready, late_keeps_ready}
-use Rattle.xc_world.proofs.EffectsBody.{body-sound, body-others_sound}
+use Rattle.xc_world.proofs.EffectsBody.{back_sound, body-sound, body-others_sound}
+use Rattle.xc_world.proofs.Blocks.{Fits, fit_all, runs_keep}
 use Rattle.xc_flight.specs.Active.{Tx, Committing, Has, Own}
 use Rattle.xc_flight.specs.Flight.{asked, ran, late_done, done_late, left, Inside}
 use Rattle.xc_flight.specs.State.{FlightState, IsActive, InFlight}
@@ -31,18 +30,30 @@ use Rattle.xc_flight.proofs.Frames.{ran_whole, answered, late_within}
 use Rattle.xc_flight.proofs.Ending.{one_of, ran_late, left_there}
 
 -- ---- of a body
--- those that it leaves are ready at its end
-leaves_ready : (tx : ℕ) (r : BodyResult) (asked : List CallWithAnswer) → IsSound r.world r.me tx → IsTrue (body_fits r.world r.me tx asked)
-    → All (IsReady r.world) r.late
-    → All (IsReady (goes_on tx r asked).world) (goes_on tx r asked).late
-leaves_ready tx r [] sound fit ready = ready
-leaves_ready tx r (c ∷ asked) sound fit ready =
+-- it is sound, and its late calls are ready
+record Readies (tx : ℕ) (r : BodyResult) : Type 0 where
+  sound : IsSound r.world r.me tx
+  ready : All (IsReady r.world) r.late
+
+step_readies : (tx : ℕ) (r : BodyResult) (c : CallWithAnswer) → Fits tx r c → Readies tx r → Readies tx (step tx r c)
+step_readies tx r c fit so =
     let s = act r.world r.me tx c.call c.answer in
-    let both = and_parts (fits r.world r.me tx c.call c.answer) (body_fits s.world s.me tx asked) fit in
-    leaves_ready tx (step tx r c) asked (act_sound r.world r.me tx c.call c.answer both.0 sound) both.1
-    (All-append (IsReady s.world) r.late (kept_call c.call r.me s.reply)
-    (All-weaker (IsReady r.world) (IsReady s.world) (λ d. act_keeps_ready r.world r.me tx c.call c.answer d both.0 sound) r.late ready)
-    (act_leaves_ready r.world r.me tx c.call c.answer both.0 sound))
+    record {
+      sound = act_sound r.world r.me tx c.call c.answer fit so.sound;
+      ready = All-append (IsReady s.world) r.late (kept_call c.call r.me s.reply)
+          (All-weaker (IsReady r.world) (IsReady s.world) (λ d. act_keeps_ready r.world r.me tx c.call c.answer d fit so.sound) r.late so.ready)
+          (act_leaves_ready r.world r.me tx c.call c.answer fit so.sound);
+    }
+
+-- those that it leaves are ready at its end
+leaves_ready : (w : World) (me : Private) (tx : ℕ) (asked : List CallWithAnswer) → IsSound w me tx → IsTrue (body_fits w me tx asked)
+    → All (IsReady (body w me tx asked).world) (body w me tx asked).late
+leaves_ready w me tx asked sound fit =
+    (runs_keep tx (Fits tx) (Readies tx) (record {
+      plain = step_readies tx;
+      back = λ s calls fits was is. record { sound = back_sound tx s calls fits was.sound is.sound; ready = was.ready };
+    }) (opens w me) asked (fit_all tx (opens w me) asked fit)
+    (record { now = record { sound = sound; ready = All-nil (IsReady w) }; saved = tt })).now.ready
 
 -- ---- several, one after another
 abbrev AllReady : World → List (LateCall × LateAnswer) → Type 0
@@ -82,7 +93,7 @@ pub run_sound : (w : World) (me you : Private) (tx ty : ℕ) (asked : List CallW
 run_sound w me you tx ty asked ends sound fit other =
     let r = body w me tx asked in
     lates_sound r.world you ty (late_asked_of r.late ends) (answered (IsReady r.world) r.late ends
-    (leaves_ready tx (begins w me) asked sound fit (All-nil (IsReady w)))) other
+    (leaves_ready w me tx asked sound fit)) other
 
 -- ---- of a transaction
 module _ (w : World) (t : Tx) (i : Inside w t) (sound : IsSound w t.began t.number) where
@@ -90,7 +101,7 @@ module _ (w : World) (t : Tx) (i : Inside w t) (sound : IsSound w t.began t.numb
   ran_ready : All (IsReady (ran w t).world) (ran w t).late
   ran_ready =
       subst (λ (r : BodyResult). All (IsReady r.world) r.late) (ran_whole w t)
-      (leaves_ready t.number (begins w t.began) (asked t) sound i.fits (All-nil (IsReady w)))
+      (leaves_ready w t.began t.number (asked t) sound i.fits)
 
   done_ready : AllReady (ran w t).world (late_done w t)
   done_ready =

@@ -1,4 +1,5 @@
 pub mod Basics
+pub mod Backing
 pub mod Worlds
 pub mod Frames
 pub mod Moving

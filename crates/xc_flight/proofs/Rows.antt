@@ -132,6 +132,7 @@ starts_inside w n began new =
         stored = All-nil
             (λ (s : ℕ × ℕ). Own (starting n began) (object.Word s.0));
       };
+      saved = tt;
     }
 
 none_held : (n : ℕ) (began : Private) (o : Object) → Has (starting n began) o → IsNumbered n o
@@ -154,6 +155,7 @@ begins s job began h lt idle =
     let flight : Flight s.state s.now t = record {
       inside = starts_inside s.state s.next began (λ k. h.future s.next k (omega arith));
       owns = λ o e. h.free o (λ j q. unseen o j (none_owned s.next began o e) (own_at_has s j o q));
+      sources = tt;
     } in
     moved s s' job h (record {
       state = keeps_itself (OwnAt s job) s.state;

@@ -74,6 +74,9 @@ of_call w me (call.XWritePipe h bytes slot) known = at_place w (place_of me.plac
 of_call w me (call.XShutdown h slot) known = at_place w (place_of me.places h) (known h)
 of_call w me (call.XSendmsg h bytes slot) known = at_place w (place_of me.places h) (known h)
 of_call w me (call.XThreadCreate body slot) known = one_there w object.Jobs refl
+of_call w me call.Save known = All-nil (IsThere w)
+of_call w me call.Keep known = All-nil (IsThere w)
+of_call w me call.Back known = All-nil (IsThere w)
 
 touch_there : (w : World) (me : Private) (c : Call) (words : ℕ) → ((h : ℕ) → IsKnown w (place_of me.places h)) → (o : Object)
     → Contains (touch c me words) o → IsThere w o

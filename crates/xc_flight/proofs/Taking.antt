@@ -23,7 +23,7 @@ use Rattle.xc_data.specs.declared.private.Private.{Private}
 use Rattle.xc_data.specs.Private.{place_of}
 use Rattle.xc_data.specs.Remaining.{objects_of}
 use Rattle.xc_world.specs.World.{World, Pipe, Pair, pipe_of, pair_of, empty_pipe, empty_pair, waiting, with_waiting}
-use Rattle.xc_world.specs.Run.{BodyResult, begins, step, goes_on, bytes_taken, message_taken, taken_by, item_object, gives, given_back}
+use Rattle.xc_world.specs.Run.{BodyResult, BlockState, runs_on, opens, bytes_taken, message_taken, taken_by, item_object, gives, given_back}
 use Rattle.xc_world.specs.Trail.{recorded, with_effect, move_name, overwrite_record, append_record, create_record, rename_record, pipe_record, pair_record}
 use Rattle.xc_world.specs.Ends.{with_remains}
 use Rattle.xc_world.specs.Effects.{whole}
@@ -32,6 +32,7 @@ use Rattle.xc_world.specs.Laws.{AgreeAt}
 use Rattle.xc_world.specs.Own.{IsNumbered}
 use Rattle.xc_world.proofs.Records.{remains_keep}
 use Rattle.xc_world.proofs.Taken.{body_returns}
+use Rattle.xc_world.proofs.Blocks.{Any, State, any_all, runs_keep}
 use Rattle.xc_world.proofs.EffectsParts.{remains-words}
 use Rattle.xc_flight.specs.Active.{Tx, Own, num}
 use Rattle.xc_flight.specs.Flight.{ran, asked, Inside}
@@ -64,9 +65,12 @@ taken_solid (call.XReadPipe h n) me (reply.Got bytes) = bytes_solid (place_of me
 taken_solid (call.XRecvmsg h) me (reply.Got bytes) = message_solid (place_of me.places h) bytes
 taken_solid _ me _ = All-nil Solid
 
-all_solid : (tx : ℕ) (r : BodyResult) (asked : List CallWithAnswer) → All Solid r.taken → All Solid (goes_on tx r asked).taken
-all_solid tx r [] solid = solid
-all_solid tx r (c ∷ asked) solid = all_solid tx (step tx r c) asked (All-append Solid r.taken _ solid (taken_solid c.call r.me _))
+all_solid : (tx : ℕ) (b : BlockState) (asked : List CallWithAnswer) → State tx Any (λ r. All Solid r.taken) b → All Solid (runs_on tx b asked).now.taken
+all_solid tx b asked so =
+    (runs_keep tx Any (λ r. All Solid r.taken) (record {
+      plain = λ r c fit solid. All-append Solid r.taken _ solid (taken_solid c.call r.me _);
+      back = λ s calls fit was is. was;
+    }) b asked (any_all tx b asked) so).now
 
 -- ---- how much is in the pipe or the pair of an item
 abbrev pub filled : World → KeptItem → ℕ
@@ -228,17 +232,22 @@ recorded_coined w me tx call.XPipe r = pipe_coined me tx r
 recorded_coined w me tx call.XPair r = pair_coined me tx r
 recorded_coined w me tx _ r = All-nil (Coined tx)
 
-all_coined : (tx : ℕ) (r : BodyResult) (asked : List CallWithAnswer) → All (Coined tx) r.trail → All (Coined tx) (goes_on tx r asked).trail
-all_coined tx r [] coined = coined
-all_coined tx r (c ∷ asked) coined = all_coined tx (step tx r c) asked (All-append (Coined tx) r.trail _ coined (recorded_coined r.world r.me tx c.call _))
+all_coined : (tx : ℕ) (b : BlockState) (asked : List CallWithAnswer) → State tx Any (λ r. All (Coined tx) r.trail) b
+    → All (Coined tx) (runs_on tx b asked).now.trail
+all_coined tx b asked so =
+    (runs_keep tx Any (λ r. All (Coined tx) r.trail) (record {
+      plain = λ r c fit coined. All-append (Coined tx) r.trail _ coined (recorded_coined r.world r.me tx c.call _);
+      back = λ s calls fit was is. was;
+    }) b asked (any_all tx b asked) so).now
 
 -- of a whole body
 pub trail_coined : (w : World) (t : Tx) → All (Coined t.number) (ran w t).trail
 trail_coined w t = subst (λ (r : BodyResult). All (Coined t.number) r.trail) (ran_whole w t)
-    (all_coined t.number (begins w t.began) (asked t) (All-nil (Coined t.number)))
+    (all_coined t.number (opens w t.began) (asked t) (record { now = All-nil (Coined t.number); saved = tt }))
 
 -- ---- giving back, and words
-given_reworded : (x : World) (words : List ℕ) (ts : List KeptItem) → given_back (record x { words = words }) ts ≡ record (given_back x ts) { words = words }
+-- giving back leaves the words
+pub given_reworded : (x : World) (words : List ℕ) (ts : List KeptItem) → given_back (record x { words = words }) ts ≡ record (given_back x ts) { words = words }
 given_reworded x words [] = refl
 given_reworded x words (Bytes num bytes ∷ ts) = ap (λ v. gives v (Bytes num bytes)) (given_reworded x words ts)
 given_reworded x words (Message num side bytes ∷ ts) = ap (λ v. gives v (Message num side bytes)) (given_reworded x words ts)
@@ -258,7 +267,8 @@ module _ (w : World) (t : Tx) (i : Inside w t) (sound : IsSound w t.began t.numb
 
   fuller : All (IsFuller (ran w t).world (with_remains w (whole (ran w t).trail))) (ran w t).taken
   fuller =
-      let solid = subst (λ (r : BodyResult). All Solid r.taken) (ran_whole w t) (all_solid t.number (begins w t.began) (asked t) (All-nil Solid)) in
+      let solid = subst (λ (r : BodyResult). All Solid r.taken) (ran_whole w t)
+      (all_solid t.number (opens w t.began) (asked t) (record { now = All-nil Solid; saved = tt })) in
       All-weaker (IsFuller (ran w t).world (given_back (ran w t).world (ran w t).taken)) (IsFuller (ran w t).world (with_remains w (whole (ran w t).trail)))
       (λ k lt. same_filled k (ap (λ x. filled x k) returns) lt) (ran w t).taken (all_fuller (ran w t).world (ran w t).taken solid)
     where

@@ -1,5 +1,5 @@
 -- A call with its claims in one turn; and what keeps all sound.
-use Rattle.std.proofs.Common.{◌≡◌, ◌≢◌, ℕ, ◌+◌, ◌<◌, List, [], ◌∷◌, ◌++◌, length, Option, Some, zero, suc, ap, sym, ◌∙◌, subst, refl, arith}
+use Rattle.std.proofs.Common.{false, ◌≡◌, ◌≢◌, ℕ, ◌+◌, ◌<◌, List, [], ◌∷◌, ◌++◌, length, Option, Some, zero, suc, ap, sym, ◌∙◌, subst, refl, arith}
 use Rattle.std.specs.Prelude.{All, Contains, IsTrue, map, replicate, slice_set}
 use mathlib.Core.Logic.{dite}
 use native.Mathlib.Decide.{ℕ_discrete}
@@ -15,7 +15,7 @@ use Rattle.xc_data.specs.declared.private.Place.TheVariants as place
 use Rattle.xc_data.specs.Private.{place_of}
 use Rattle.xc_data.specs.Claims.{claim}
 use Rattle.xc_world.specs.World.{World, beginning, no_handles}
-use Rattle.xc_world.specs.Fits.{fits}
+use Rattle.xc_world.specs.Fits.{is_back, fits}
 use Rattle.xc_world.specs.Touch.{touch}
 use Rattle.xc_world.specs.Modes.{mode_of, claims_of}
 use Rattle.xc_world.specs.Sound.{IsSound, IsFit, IsKnown}
@@ -59,17 +59,22 @@ call_granted s job t c words h active phase sound alone =
 -- a call whose claims have no rival is done and noted in one turn
 pub called_with_claims : (s : FlightState) (job : ℕ) (t : Tx) (asked : CallWithAnswer) (held : List Claim) (writes : List (ℕ × ℕ)) → InFlight s
     → IsActive s job t
-    → t.phase ≡ Running → IsSound s.state t.began t.number
+    → t.phase ≡ Running → IsSound s.state t.began t.number → is_back asked.call ≡ false
     → All (HasNoRival s job) (claims_of asked.call t.me (length s.now.words)) → HoldTheSame held (t.held ++ claims_of asked.call t.me (length s.now.words))
     → IsTrue (fits (seen s.now t) t.me t.number asked.call asked.answer) → IsNoted s.now (claiming t held) asked writes
     → InFlight (turned s job (Some (noting s.now (claiming t held) asked writes)) (after_call s.now t asked))
-called_with_claims s job t asked held writes h active phase sound alone same fit noted =
+called_with_claims s job t asked held writes h active phase sound ahead alone same fit noted =
     let claims = claims_of asked.call t.me (length s.now.words) in
     let t1 = claiming t held in
     let s1 = turned s job (Some t1) s.now in
     let first = claimed s job t claims held h active (call_granted s job t asked.call (length s.now.words) h active phase sound alone) same phase in
     let is : IsActive s1 job t1 = get_set_same s.active job (Some t1) (is_inside s.active job t active) in
-    let may : MayDo s.now t1 asked = record { fit = fit; covers = covers_through held (t.held ++ claims) claims same.left (back_held t.held claims) } in
+    let may : MayDo s.now t1 asked = record {
+      ahead = ahead;
+      fit = fit;
+      covers = covers_through held (t.held ++ claims) claims same.left
+          (back_held t.held claims);
+    } in
     subst InFlight (two_turns s job (Some t1) (Some (noting s.now t1 asked writes)) s.now (after_call s.now t asked))
     (called s1 job t1 asked writes first is phase may noted)
 

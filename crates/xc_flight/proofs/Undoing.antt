@@ -1,5 +1,5 @@
 -- A turn back, lack of memory after a call, a compensation, and the entry of an abort.
-use Rattle.std.proofs.Common.{◌≡◌, ◌≢◌, ℕ, ⊎_elim, List, [], ◌∷◌, ◌++◌, length, Some, append_assoc, ap, sym, ◌∙◌, subst, refl}
+use Rattle.std.proofs.Common.{◌≡◌, ◌≢◌, ℕ, ⊎_elim, List, [], ◌∷◌, ◌++◌, length, Some, append_assoc, ap, sym, ◌∙◌, subst, refl, Bool, true, false, ◌||◌}
 use Rattle.std.specs.Prelude.{All, Contains, map}
 use Rattle.std.proofs.lemmas.List.{append-nil}
 use Rattle.std.proofs.lemmas.List.Elements.{All-nil, All-cons, All-head, All-tail, All-weaker, All-contains, All-contains_itself}
@@ -14,7 +14,7 @@ use Rattle.xc_data.specs.declared.undo.Undo.TheVariants as undo
 use Rattle.xc_data.specs.declared.undo.UndoEnd.{UndoEnd}
 use Rattle.xc_data.specs.Remaining.{objects_of}
 use Rattle.xc_world.specs.World.{World}
-use Rattle.xc_world.specs.Run.{given_back, item_object}
+use Rattle.xc_world.specs.Run.{given_back, item_object, BodyResult, step}
 use Rattle.xc_world.specs.Ends.{Ending, remains, with_remains}
 use Rattle.xc_world.specs.Effects.{whole, undone_to}
 use Rattle.xc_world.specs.Sound.{IsSound}
@@ -23,8 +23,11 @@ use Rattle.xc_world.specs.Own.{IsNumbered, AgreeOn}
 use Rattle.xc_world.proofs.Objects.{agree_back, agree_on, decide}
 use Rattle.xc_world.proofs.Calls.{keeps_itself}
 use Rattle.xc_world.proofs.Records.{undone_to_alike}
-use Rattle.xc_flight.specs.Active.{Tx, Running, Undoing, Own}
-use Rattle.xc_flight.specs.Flight.{ran, effects, left, returned, IsPhase, Inside}
+use Rattle.xc_data.specs.Claims.{is_object}
+use Rattle.xc_data.proofs.Objects.{same_object, itself}
+use Rattle.xc_world.proofs.Blocks.{marked_now}
+use Rattle.xc_flight.specs.Active.{Tx, Running, Undoing, Own, Has, Covers}
+use Rattle.xc_flight.specs.Flight.{ran, effects, left, returned, IsPhase, Inside, stood, noted, is_source, IsSourced}
 use Rattle.xc_flight.specs.State.{FlightState, IsActive, InFlight, turned, entered}
 use Rattle.xc_flight.specs.Turns.{in_phase, MayDo, wanting, after_call, with_undone}
 use Rattle.xc_flight.proofs.Basics.{owns_has}
@@ -33,6 +36,38 @@ use Rattle.xc_flight.proofs.Frames.{trail_own, left_keeps, all_front}
 use Rattle.xc_flight.proofs.Rows.{goes_on, ends}
 use Rattle.xc_flight.proofs.Calling.{is_running, running_left, after_keeps, fits_then, step_trail, step_taken, step_covers, step_stands}
 use Rattle.xc_flight.proofs.Taking.{Coined, trail_coined, returns_left, taken_own, taken_elsewhere}
+
+-- ---- the objects from which it took
+-- what is so of the object of each item is so of the one that an item was taken from
+pub a_source : (items : List KeptItem) (o : Object) (Q : Object → Type 0) → is_source items o ≡ true → All (λ k. Q (item_object k)) items → Q o
+a_source [] o Q is all = cc
+a_source (k ∷ items) o Q is all =
+    by_test (is_object (item_object k) o) refl
+    (λ rest. a_source items o Q rest (All-tail (λ (x : KeptItem). Q (item_object x)) k items all))
+  where
+    later : (b : Bool) → b ≡ false → (b || is_source items o) ≡ true → is_source items o ≡ true
+    later true e f = cc
+    later false e f = f
+
+    by_test : (b : Bool) → is_object (item_object k) o ≡ b → (is_source items o ≡ true → Q o) → Q o
+    by_test true e rest = subst Q (same_object (item_object k) o e) (All-head (λ (x : KeptItem). Q (item_object x)) k items all)
+    by_test false e rest = rest (later (is_object (item_object k) o) e is)
+
+-- what no item was taken from isn't one
+pub no_source : (items : List KeptItem) (o : Object) → is_source items o ≡ false → All (λ k. item_object k ≢ o) items
+no_source [] o none = All-nil (λ (k : KeptItem). item_object k ≢ o)
+no_source (k ∷ items) o none =
+    let parts = neither (is_object (item_object k) o) (is_source items o) none in
+    All-cons (λ (x : KeptItem). item_object x ≢ o) k items
+    (λ e. let yes : is_object (item_object k) o ≡ true = subst (λ x. is_object (item_object k) x ≡ true) e (itself (item_object k)) in cc (yes, parts.0))
+    (no_source items o parts.1)
+  where
+    neither : (b c : Bool) → (b || c) ≡ false → (b ≡ false) × (c ≡ false)
+    neither true c e = cc
+    neither false c e = (refl, e)
+
+not_a_source : (items : List KeptItem) (o : Object) → is_source items o ≡ true → All (λ k. item_object k ≢ o) items → ⊥
+not_a_source items o is away = a_source items o (λ p. p ≢ o) is away refl
 
 -- ---- a transaction that turns back
 -- none of its records has an end yet: all stand whole
@@ -66,10 +101,12 @@ turns_back s job t h active phase sound =
       taken = i.taken;
       covers = i.covers;
       phase = p.no_late_ends;
+      saved = i.saved;
     } in
     goes_on s job t (in_phase t Undoing) s.now h active refl refl (keeps_itself (Own t) s.now) (record {
       inside = i';
       owns = turn s.state s.now (in_phase t Undoing) i' sound p.none (λ o e. running_left s job t h active phase o (owns_has t o e));
+      sources = λ o e. running_left s job t h active phase o (owns_has t o e.0);
     })
 
 -- the call did its part, and then memory ran out
@@ -80,20 +117,27 @@ wants s job t c h active phase k sound =
     let i = (h.flights job t active).inside in
     let p = is_running s job t h active phase in
     let t' = wanting s.now t c in
+    let is : ran s.state t' ≡ step t.number (noted s.state t) c =
+    marked_now c.call (stood s.state t).saved (step t.number (noted s.state t) c) k.ahead in
     let i' : Inside s.state t' = record {
       new = i.new;
       fits = fits_then s job t c h active phase k;
       replies = i.replies;
       me = i.me;
       late = i.late;
-      trail = step_trail s job t c h active phase k;
-      taken = step_taken s job t c h active phase k;
-      covers = step_covers s job t c h active phase k;
+      trail = ap (λ (r : BodyResult). r.trail) is ∙ step_trail s job t c h active phase k;
+      taken = ap (λ (r : BodyResult). r.taken) is ∙ step_taken s job t c h active phase k;
+      covers = subst (λ (r : BodyResult). Covers t.held r.touched) (sym is) (step_covers s job t c h active phase k);
       phase = p.no_late_ends;
+      saved = i.saved;
     } in
+    let stands : AgreeOn (Has t) (after_call s.now t c) (record (ran s.state t').world { words = s.state.words }) =
+    λ o e. subst (λ (r : BodyResult). AgreeAt (after_call s.now t c) (record r.world { words = s.state.words }) o) (sym is)
+    (step_stands s job t c h active phase k o e) in
     goes_on s job t t' (after_call s.now t c) h active refl refl (after_keeps s job t c h active phase k) (record {
       inside = i';
-      owns = turn s.state (after_call s.now t c) t' i' sound p.none (λ o e. step_stands s job t c h active phase k o (owns_has t o e));
+      owns = turn s.state (after_call s.now t c) t' i' sound p.none (λ o e. stands o (owns_has t o e));
+      sources = λ o e. stands o (owns_has t o e.0);
     })
 
 -- ---- a compensation
@@ -115,7 +159,8 @@ not_the_pipe n k pipe own elsewhere e = elsewhere (subst (IsNumbered n) (sym e) 
 not_the_pair : (n : ℕ) (k : KeptItem) (pair : Num) → pair.tx ≡ n → (IsNumbered n (item_object k) → ⊥) → item_object k ≢ object.Pair pair
 not_the_pair n k pair own elsewhere e = elsewhere (subst (IsNumbered n) (sym e) own)
 
-all_away : (n : ℕ) (u : Undo) (k : KeptItem) → Coined n u → (IsNumbered n (item_object k) → ⊥) → All (λ p. item_object k ≢ p) (objects_of u)
+-- no record speaks of what was taken
+pub all_away : (n : ℕ) (u : Undo) (k : KeptItem) → Coined n u → (IsNumbered n (item_object k) → ⊥) → All (λ p. item_object k ≢ p) (objects_of u)
 all_away n (undo.Bytes file at before after m) k coined elsewhere = one_away k (object.File file) (not_a_file k file)
 all_away n (undo.Tail file from after m) k coined elsewhere = one_away k (object.File file) (not_a_file k file)
 all_away n (undo.Made name file) k coined elsewhere =
@@ -202,9 +247,14 @@ module _ (s : FlightState) (job : ℕ) (t : Tx) (older : List Undo) (u : Undo) (
           taken = i.taken;
           covers = i.covers;
           phase = subst (IsPhase s.state t') (sym phase) (subst (IsPhase s.state t) phase i.phase);
+          saved = i.saved;
         };
         owns = subst (λ p. AgreeOn (Own t) (returned now' t' p) (left s.state t' p)) (sym phase)
             (subst (λ x. AgreeOn (Own t) (given_back now' t.taken) x) law undone_there);
+        sources = subst (IsSourced s.state now' t') (sym phase) (λ o e.
+            agree_on now' s.now (left s.state t Running) o
+            (agree_back s.now now' o (both.left.others o (λ at. not_a_source t.taken o e.1 (not_taken o at))))
+            (subst (IsSourced s.state s.now t) phase (h.flights job t active).sources o e));
       })
 
 -- ---- an aborted transaction, each of whose records has its end, gives back what it took and enters

@@ -1,5 +1,6 @@
 -- An active transaction as plain data, and what it has and owns.
-use Rattle.std.specs.Prelude.{ℕ, ◌<◌, List, Contains}
+use Rattle.std.specs.Prelude.{ℕ, ◌<◌, List, Contains, Option}
+use Rattle.xc_data.specs.declared.private.Place.{Place}
 use Rattle.xc_data.specs.declared.object.Num.{Num}
 use Rattle.xc_data.specs.declared.object.Object.{Object}
 use Rattle.xc_data.specs.declared.object.Object.TheVariants as object
@@ -21,6 +22,14 @@ pub data Phase : Type 0 where
   Running : Phase
   Committing : Phase
   Undoing : Phase
+
+-- what an open block's save keeps: the handles, the stores, the late calls, the records and what was taken
+pub record Saved : Type 0 where
+  pub places : List Place
+  pub writes : List (ℕ × ℕ)
+  pub late : List LateCall
+  pub trail : List Undo
+  pub taken : List KeptItem
 
 -- an active transaction
 pub record Tx : Type 0 where
@@ -45,6 +54,8 @@ pub record Tx : Type 0 where
   -- its late calls, and the ends of the first of them
   pub late : List LateCall
   pub late_ends : List LateEnd
+  -- in an open block what its save kept
+  pub saved : Option Saved
 
 -- what it has: it holds the object, or the object has its number
 abbrev pub Has : Tx → Object → Type 0

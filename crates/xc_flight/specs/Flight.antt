@@ -1,5 +1,10 @@
 -- One active transaction in flight: against the journal's state w, and the station's world `now`.
-use Rattle.std.specs.Prelude.{◌≡◌, ℕ, ◌≤◌, List, [], ◌++◌, length, take, map, All, IsTrue}
+use Rattle.std.specs.Prelude.{◌≡◌, ℕ, ◌≤◌, Bool, true, List, [], ◌++◌, length, take, map, All, IsTrue, Option}
+use Rattle.std.specs.List.{list_any}
+use Rattle.std.specs.declared.option.Option.TheVariants.{None, Some}
+use Rattle.xc_data.specs.declared.object.Object.{Object}
+use Rattle.xc_data.specs.declared.entry.KeptItem.{KeptItem}
+use Rattle.xc_data.specs.Claims.{is_object}
 use Rattle.xc_data.specs.declared.object.Object.TheVariants as object
 use Rattle.xc_data.specs.declared.call.CallWithAnswer.{CallWithAnswer}
 use Rattle.xc_data.specs.declared.call.LateCall.{LateCall}
@@ -7,21 +12,27 @@ use Rattle.xc_data.specs.declared.call.LateAnswer.{LateAnswer}
 use Rattle.xc_data.specs.declared.undo.Undo.{Undo}
 use Rattle.xc_txmem.specs.Overlay.{overlaid}
 use Rattle.xc_world.specs.World.{World}
-use Rattle.xc_world.specs.Run.{BodyResult, LateResult, goes_on, body, body_fits, given_back, lates, lates_fit, asked_of, late_asked_of}
+use Rattle.xc_world.specs.Run.{BodyResult, BlockState, LateResult, runs_on, body_state, body_fits, given_back, item_object, lates}
+use Rattle.xc_world.specs.Run.{lates_fit, asked_of, late_asked_of}
 use Rattle.xc_world.specs.Ends.{remains, with_remains}
 use Rattle.xc_world.specs.Effects.{whole}
 use Rattle.xc_world.specs.Sound.{IsFree}
-use Rattle.xc_world.specs.Own.{AgreeOn}
-use Rattle.xc_flight.specs.Active.{Tx, Phase, Running, Committing, Undoing, Own, Covers, num}
+use Rattle.xc_world.specs.Own.{AgreeOn, Owns}
+use Rattle.xc_data.specs.declared.claim.Claim.{Claim}
+use Rattle.xc_flight.specs.Active.{Tx, Saved, Phase, Running, Committing, Undoing, Own, Covers, num}
 
 -- ---- its body on a world
+-- its calls that have a reply, and in an open block its save
+abbrev pub stood : World → Tx → BlockState
+stood w t = body_state w t.began t.number (asked_of t.calls t.replies)
+
 -- its calls that have a reply
 abbrev pub noted : World → Tx → BodyResult
-noted w t = body w t.began t.number (asked_of t.calls t.replies)
+noted w t = (stood w t).now
 
 -- all that it did
 abbrev pub ran : World → Tx → BodyResult
-ran w t = goes_on t.number (noted w t) t.unnoted
+ran w t = (runs_on t.number (stood w t) t.unnoted).now
 
 -- all its calls with their answers
 abbrev pub asked : Tx → List CallWithAnswer
@@ -77,6 +88,37 @@ IsPhase w t Running = IsRunning w t
 IsPhase w t Committing = IsCommitting w t
 IsPhase w t Undoing = t.late_ends ≡ []
 
+-- ---- an open block
+-- what the save kept is what the body was there; the words are those that the stores before it give
+pub record IsCopy (w : World) (number : ℕ) (held : List Claim) (was : BodyResult) (kept : Saved) : Type 0 where
+  pub places : was.me.places ≡ kept.places
+  pub late : was.late ≡ kept.late
+  pub trail : was.trail ≡ kept.trail
+  pub taken : was.taken ≡ kept.taken
+  pub words : was.world.words ≡ overlaid w.words kept.writes
+  pub stored : All (λ s. Owns number held (object.Word s.0)) kept.writes
+
+-- a block is open in the body where one is open in the station
+abbrev pub IsSaved : World → ℕ → List Claim → Option BodyResult → Option Saved → Type 0
+IsSaved w number held None None = Unit {0}
+IsSaved w number held (Some was) (Some kept) = IsCopy w number held was kept
+IsSaved w number held _ _ = ⊥
+
+-- ---- what it took from
+-- whether an item was taken from the object
+abbrev pub is_source : List KeptItem → Object → Bool
+is_source items o = list_any (λ k. is_object (item_object k) o) items
+
+-- an object of its own from which it took
+abbrev pub Source : Tx → Object → Type 0
+Source t o = Own t o × (is_source t.taken o ≡ true)
+
+-- while it undoes, that object is in the station as its body left it: no compensation speaks of it
+abbrev pub IsSourced : World → World → Tx → Phase → Type 0
+IsSourced w now t Undoing = AgreeOn (Source t) now (left w t Running)
+IsSourced w now t Running = Unit {0}
+IsSourced w now t Committing = Unit {0}
+
 -- ---- the flight
 -- what a transaction is, free of the station's world
 pub record Inside (w : World) (t : Tx) : Type 0 where
@@ -92,9 +134,11 @@ pub record Inside (w : World) (t : Tx) : Type 0 where
   -- it holds what its body claims
   pub covers : Covers t.held (ran w t).touched
   pub phase : IsPhase w t t.phase
+  pub saved : IsSaved w t.number t.held (stood w t).saved t.saved
 
 -- a transaction in flight
 pub record Flight (w now : World) (t : Tx) : Type 0 where
   pub inside : Inside w t
   -- what it owns is in the station as it left it
   pub owns : AgreeOn (Own t) (returned now t t.phase) (left w t t.phase)
+  pub sources : IsSourced w now t t.phase

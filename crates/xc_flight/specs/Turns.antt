@@ -1,5 +1,9 @@
 -- The turns of one transaction: what it is afterwards, and what each turn has to show.
-use Rattle.std.specs.Prelude.{◌≡◌, ◌≢◌, ℕ, List, [], ◌∷◌, ◌++◌, All, IsTrue, length}
+use Rattle.std.specs.Prelude.{◌≡◌, ◌≢◌, ℕ, false, List, [], ◌∷◌, ◌++◌, All, IsTrue, length, Option}
+use Rattle.std.specs.declared.option.Option.TheVariants.{None, Some}
+use Rattle.xc_data.specs.declared.call.Call.{Call}
+use Rattle.xc_data.specs.declared.call.Call.TheVariants as call
+use Rattle.xc_data.specs.declared.call.Reply.TheVariants as reply
 use Rattle.xc_data.specs.declared.object.Object.{Object}
 use Rattle.xc_data.specs.declared.object.Object.TheVariants as object
 use Rattle.xc_data.specs.declared.claim.Claim.{Claim}
@@ -17,13 +21,13 @@ use Rattle.xc_world.specs.World.{World}
 use Rattle.xc_world.specs.Act.{act}
 use Rattle.xc_world.specs.Act.Step.{Stepped}
 use Rattle.xc_world.specs.Late.{kept_call, late}
-use Rattle.xc_world.specs.Fits.{fits, late_fits, answer_of, late_answer_of}
+use Rattle.xc_world.specs.Fits.{is_back, fits, late_fits, answer_of, late_answer_of}
 use Rattle.xc_world.specs.Trail.{recorded}
 use Rattle.xc_world.specs.Modes.{claims_of}
 use Rattle.xc_world.specs.Run.{run, asked_of, taken_by}
 use Rattle.xc_world.specs.Ends.{remains, with_remains}
 use Rattle.xc_world.specs.Own.{IsNumbered}
-use Rattle.xc_flight.specs.Active.{Tx, Phase, Running, Undoing, Has, Own, Covers, IsBelow}
+use Rattle.xc_flight.specs.Active.{Tx, Saved, Phase, Running, Undoing, Has, Own, Covers, IsBelow}
 use Rattle.xc_flight.specs.State.{FlightState, IsActive}
 
 -- ---- it begins
@@ -45,6 +49,7 @@ starting number began =
       taken = [];
       late = [];
       late_ends = [];
+      saved = None;
     }
 
 -- ---- it claims
@@ -94,26 +99,43 @@ leaving now t asked = recorded (seen now t) t.me t.number asked.call (did now t 
 abbrev pub taking : World → Tx → CallWithAnswer → List KeptItem
 taking now t asked = taken_by asked.call t.me (did now t asked).reply
 
+-- what a save keeps of it
+abbrev pub copy_of : Tx → Saved
+copy_of t = record { places = t.me.places; writes = t.writes; late = t.late; trail = t.pending; taken = t.taken }
+
+-- the block that a call opens or closes: a save's copy is that of the transaction after it
+abbrev pub saved_by : Call → Option Saved → Saved → Option Saved
+saved_by call.Save kept copy = Some copy
+saved_by call.Keep kept copy = None
+saved_by call.Back kept copy = None
+-- any other call is made in the block that is open, also one yet to come
+saved_by _ kept copy = kept
+
 -- the transaction with the call noted, and with these stores
 abbrev pub noting : World → Tx → CallWithAnswer → List (ℕ × ℕ) → Tx
 noting now t asked writes =
     let s = did now t asked in
+    let pending = t.pending ++ leaving now t asked in
+    let taken = t.taken ++ taking now t asked in
+    let late = t.late ++ kept_call asked.call t.me s.reply in
     record t {
       me = s.me;
       calls = t.calls ++ asked.call ∷ [];
       replies = t.replies ++ s.reply ∷ [];
       writes = writes;
-      pending = t.pending ++ leaving now t asked;
-      taken = t.taken ++ taking now t asked;
-      late = t.late ++ kept_call asked.call t.me s.reply;
+      pending = pending;
+      taken = taken;
+      late = late;
+      saved = saved_by asked.call t.saved (record { places = s.me.places; writes = writes; late = late; trail = pending; taken = taken });
     }
 
 -- the station's world after it: its stores wait
 abbrev pub after_call : World → Tx → CallWithAnswer → World
 after_call now t asked = record (did now t asked).world { words = now.words }
 
--- a call may be made: its answer fits, and its claims are held
+-- a call may be made: it doesn't go back, its answer fits, and its claims are held
 pub record MayDo (now : World) (t : Tx) (asked : CallWithAnswer) : Type 0 where
+  pub ahead : is_back asked.call ≡ false
   pub fit : IsTrue (fits (seen now t) t.me t.number asked.call asked.answer)
   pub covers : Covers t.held (claims_of asked.call t.me (length now.words))
 
@@ -154,6 +176,31 @@ pub record IsDoneLate (now : World) (t : Tx) (call : LateCall) (answer : LateAns
 -- the newest record without an end has this one
 abbrev pub with_undone : Tx → List Undo → Undo → UndoEnd → Tx
 with_undone t older u end = record t { pending = older; ended = (u, end) ∷ t.ended }
+
+-- ---- its block went back
+-- all is as the save kept it, and the back is noted, with so many faults on the way
+abbrev pub went_back : Tx → Saved → ℕ → Tx
+went_back t kept faults =
+    record t {
+      phase = Running;
+      me = record t.me { places = kept.places };
+      calls = t.calls ++ call.Back ∷ [];
+      replies = t.replies ++ reply.Undone faults ∷ [];
+      writes = kept.writes;
+      pending = kept.trail;
+      ended = [];
+      taken = kept.taken;
+      late = kept.late;
+      saved = None;
+    }
+
+-- a block may end its way back: each of its records is undone, none of the older ones is begun, and all that it took is given back
+pub record IsWayBack (t : Tx) (kept : Saved) (back : List KeptItem) : Type 0 where
+  pub block : t.saved ≡ Some kept
+  pub noted : t.unnoted ≡ []
+  pub older : t.pending ≡ kept.trail
+  pub none : remains t.ended ≡ []
+  pub taken : t.taken ≡ kept.taken ++ back
 
 -- ---- its entry
 -- S after the entry of a commit: its body and its late calls are run

@@ -1,4 +1,4 @@
-ghost use Rattle.std.specs.Prelude.{map, ◌≡◌, ◌<◌, ◌≤◌, ◌+◌, ◌++◌, ◌∷◌, [], ℕ, List, IsTrue, All, Contains, None, Some, length};
+ghost use Rattle.std.specs.Prelude.{map, false, ◌≡◌, ◌<◌, ◌≤◌, ◌+◌, ◌++◌, ◌∷◌, [], ℕ, List, IsTrue, All, Contains, None, Some, length};
 ghost use Rattle.xc_data.specs.declared.object.Object.{Object};
 ghost use Rattle.xc_world.specs.Own.{AgreeOn};
 ghost use Rattle.xc_data.specs.declared.call.CallWithAnswer.{CallWithAnswer};
@@ -6,12 +6,15 @@ ghost use Rattle.xc_data.specs.declared.claim.Claim.{Claim};
 ghost use Rattle.xc_data.specs.declared.call.Call.{Call};
 ghost use Rattle.xc_world.specs.Touch.{touch};
 ghost use Rattle.xc_world.specs.Modes.{claims_of};
-ghost use Rattle.xc_world.specs.Fits.{fits};
+ghost use Rattle.xc_world.specs.Fits.{fits, is_back};
 ghost use Rattle.xc_world.specs.Sound.{IsFree, IsReady};
 ghost use Rattle.xc_data.specs.Claims.{holding, held_of};
-ghost use Rattle.xc_flight.specs.Active.{Tx, num, Own, Has, HoldTheSame, Running, Committing, Undoing};
+ghost use Rattle.xc_flight.specs.Active.{Tx, Saved, num, Own, Has, HoldTheSame, Running, Committing, Undoing};
 ghost use Rattle.xc_flight.specs.Turns.{starting, seen, claiming, IsGranted, IsOpen, HasNoRival, AreCompatible, MayDo, IsNoted, noting};
-ghost use Rattle.xc_flight.specs.Turns.{after_call, in_phase, IsDoneLate, with_end, wanting, with_undone, after_commit, after_abort};
+ghost use Rattle.xc_flight.specs.Turns.{went_back, IsWayBack, after_call, in_phase, IsDoneLate, with_end, wanting, with_undone};
+ghost use Rattle.xc_flight.specs.Turns.{after_commit, after_abort};
+ghost use Rattle.xc_data.specs.declared.entry.KeptItem.{KeptItem};
+ghost use Rattle.xc_world.specs.Run.{given_back};
 ghost use Rattle.xc_data.specs.declared.undo.Undo.{Undo};
 ghost use Rattle.xc_data.specs.declared.undo.UndoEnd.{UndoEnd};
 ghost use Rattle.xc_world.specs.Ends.{IsLegalEnd, blocker, with_remains};
@@ -81,7 +84,7 @@ pub fn a_call_keeps_all()
 pub fn a_call_with_claims_keeps_all()
     ensures { (s : FlightState) (job : ℕ) (t : Tx) (asked : CallWithAnswer) (held : List Claim) (writes : List (ℕ × ℕ))
         → Flies s job t Running
-        → IsSoundFor s.state t → All (HasNoRival s job) (claims_of asked.call t.me (length s.now.words))
+        → IsSoundFor s.state t → is_back asked.call ≡ false → All (HasNoRival s job) (claims_of asked.call t.me (length s.now.words))
         → HoldTheSame held (t.held ++ claims_of asked.call t.me (length s.now.words))
         → IsTrue (fits (seen s.now t) t.me t.number asked.call asked.answer) → IsNoted s.now (claiming t held) asked writes
         → InFlight (turned s job (Some (noting s.now (claiming t held) asked writes)) (after_call s.now t asked)) }
@@ -153,4 +156,12 @@ pub fn a_recorded_compensation_keeps_all()
 pub fn an_abort_enters()
     ensures { (s : FlightState) (job : ℕ) (t : Tx) → Flies s job t Undoing → IsSoundFor s.state t → t.pending ≡ []
         → InFlight (entered s job (after_abort s.state t) (returned s.now t Undoing)) }
+{}
+
+/// A block each of whose records is undone ends its way back: what it took is given back, and its
+/// transaction runs on from the save, with the back noted.
+pub fn a_way_back_keeps_all()
+    ensures { (s : FlightState) (job : ℕ) (t : Tx) (kept : Saved) (back : List KeptItem) (faults : ℕ) → Flies s job t Undoing
+        → IsSoundFor s.state t → IsWayBack t kept back
+        → InFlight (turned s job (Some (went_back t kept faults)) (given_back s.now back)) }
 {}

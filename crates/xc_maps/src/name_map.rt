@@ -1,4 +1,4 @@
-ghost use Rattle.std.specs.Prelude.{◌≡◌, OnOk, OnErr, None, Some, is_some, true};
+ghost use Rattle.std.specs.Prelude.{◌≡◌, IfOk, OnOk, OnErr, None, Some, is_some, true};
 ghost use Rattle.std.specs.Option.{option_copied};
 ghost use Rattle.std.specs.FinMap as map;
 ghost use Rattle.xc_maps.specs.Keys.{name_cmp};
@@ -102,5 +102,18 @@ impl<V: Drop> NameMap<V> {
         ensures { self.new ≡ self.old }
     {
         put_away(&mut self.moved, &mut self.entries);
+    }
+}
+
+impl<V: Clone + Drop> NameMap<V> {
+    /// Another map with the same entries, whose values' clones are equal to them.
+    pub fn copied(&self) -> Result<Self, NoMemory>
+        requires { (a : V) (b : V) → V.is_clone a b → b ≡ a }
+        ensures { IfOk result (λ copy. copy ≡ self.now) }
+    {
+        let entries = self.entries.clone()?;
+        let mut moved = self.moved.clone()?;
+        moved.reserve(entries.len())?;
+        Ok(NameMap { entries, moved })
     }
 }

@@ -1,4 +1,4 @@
-ghost use Rattle.std.specs.Prelude.{◌≡◌, OnOk, OnErr, None, is_some, true};
+ghost use Rattle.std.specs.Prelude.{◌≡◌, IfOk, OnOk, OnErr, None, is_some, true};
 ghost use Rattle.std.specs.Option.{option_copied};
 ghost use Rattle.std.specs.FinMap as map;
 ghost use Rattle.xc_maps.specs.Keys.{num_cmp};
@@ -77,5 +77,17 @@ impl<V: Drop> NumMap<V> {
         ensures undone { (m : _) (x : _) → map.get m num ≡ None → self.old ≡ map.insert m num x → self.new ≡ m }
     {
         self.entries.remove(&num)
+    }
+}
+
+impl<V: Clone + Drop> NumMap<V> {
+    /// Another map with the same entries, whose values' clones are equal to them.
+    pub fn copied(&self) -> Result<Self, NoMemory>
+        requires { (a : V) (b : V) → V.is_clone a b → b ≡ a }
+        ensures { IfOk result (λ copy. copy ≡ self.now) }
+    {
+        Ok(NumMap {
+            entries: self.entries.clone()?,
+        })
     }
 }

@@ -1,5 +1,5 @@
 -- A whole body: what it depends on and changes, by induction from one call.
-use Rattle.std.proofs.Common.{◌≡◌, inl, inr, ℕ, ◌≤◌, arith, ◌&&◌, List, [], ◌∷◌, ◌++◌, length, ap, ap₂, sym, ◌∙◌, subst, refl}
+use Rattle.std.proofs.Common.{◌≡◌, inl, inr, ℕ, ◌≤◌, arith, ◌&&◌, List, [], ◌∷◌, ◌++◌, length, Option, None, Some, ap, ap₂, sym, ◌∙◌, subst, refl}
 use Rattle.std.specs.Prelude.{All, Contains}
 use Rattle.std.specs.FinMap as map
 use Rattle.std.proofs.lemmas.List.{map-append}
@@ -7,6 +7,8 @@ use Rattle.std.proofs.lemmas.List.Elements.{All-contains, All-weaker, All-contai
 use Rattle.std.proofs.lemmas.List.Elements.{Contains-append_cases}
 use Rattle.xc_data.specs.declared.object.Object.{Object}
 use Rattle.xc_data.specs.declared.object.Object.TheVariants as object
+use Rattle.xc_data.specs.declared.call.Call.{Call}
+use Rattle.xc_data.specs.declared.call.Call.TheVariants as call
 use Rattle.xc_data.specs.declared.private.Private.{Private}
 use Rattle.xc_world.specs.World.{World}
 use Rattle.xc_world.specs.Act.{act}
@@ -22,7 +24,9 @@ use Rattle.xc_data.specs.declared.claim.Claim.{Claim}
 use Rattle.xc_data.specs.declared.call.CallWithAnswer.{CallWithAnswer}
 use Rattle.xc_data.specs.Claims.{objects, owned, owned_object}
 use Rattle.xc_world.specs.Modes.{mode_of, claims_of}
-use Rattle.xc_world.specs.Run.{BodyResult, begins, taken_by, step, goes_on, body, body_fits}
+use Rattle.xc_world.specs.Run.{BodyResult, BlockState, begins, taken_by, step, goes_on, plain_fits, gone_back, back_from, marked, block_step, runs_on, opens}
+use Rattle.xc_world.specs.Run.{fits_on, body, body_fits}
+use Rattle.xc_world.proofs.Blocks.{marked_by}
 use Rattle.xc_world.specs.Own.{IsNumbered, Sees, Owns, AgreeOn, KeepsBut, GaveAlike, RanAlike}
 use Rattle.xc_world.proofs.Objects.{agree_on}
 use Rattle.xc_world.proofs.Calls.{objects_of_claims, made_numbered, recorded_alike, fits_alike, agreed, still_agree, keeps_itself, act_keeps}
@@ -171,7 +175,7 @@ goes_on_alike P tx w v r q (c ∷ asked) so touched numbered =
 -- the same answers fit the calls of both
 pub on_fits_alike : (P : Object → Type 0) (tx : ℕ) (w v : World) (r q : BodyResult) (asked : List CallWithAnswer) → Alike P tx (w, v) r q
     → ((o : Object) → Contains (objects (goes_on tx r asked).touched) o → P o) → ((o : Object) → IsNumbered tx o → P o)
-    → body_fits r.world r.me tx asked ≡ body_fits q.world q.me tx asked
+    → plain_fits r.world r.me tx asked ≡ plain_fits q.world q.me tx asked
 on_fits_alike P tx w v r q [] so touched numbered = refl
 on_fits_alike P tx w v r q (c ∷ asked) so touched numbered =
     let within = next_within P tx r c asked touched numbered in
@@ -179,6 +183,131 @@ on_fits_alike P tx w v r q (c ∷ asked) so touched numbered =
     (fits_alike r.world q.world r.me tx c.call c.answer so.count (call_agreed P tx r q c so.agree within)
     ∙ ap (λ m. fits q.world m tx c.call c.answer) so.gave.me)
     (on_fits_alike P tx w v (step tx r c) (step tx q c) asked (step_alike P tx w v r q c so within) touched numbered)
+
+-- ---- with inner blocks
+-- two copies are alike, and what they own is owned still
+pub record CopiesAlike (P : Object → Type 0) (tx : ℕ) (starts : World × World) (copies now : BodyResult × BodyResult) : Type 0 where
+  pub alike : Alike P tx starts copies.0 copies.1
+  pub left : (o : Object) → Owns tx copies.0.touched o → Owns tx now.0.touched o
+  pub right : (o : Object) → Owns tx copies.1.touched o → Owns tx now.1.touched o
+
+module _ (P : Object → Type 0) (tx : ℕ) (starts : World × World) where
+  abbrev pub SavedAlike : Option BodyResult → Option BodyResult → BodyResult → BodyResult → Type 0
+  SavedAlike None None r q = Unit {0}
+  SavedAlike (Some s) (Some t) r q = CopiesAlike P tx starts (s, t) (r, q)
+  SavedAlike _ _ r q = ⊥
+
+  pub record StateAlike (b d : BlockState) : Type 0 where
+    pub now : Alike P tx starts b.now d.now
+    pub saved : SavedAlike b.saved d.saved b.now d.now
+
+  -- the claims of one call more
+  saved_more : (s t : Option BodyResult) (r q r' q' : BodyResult) → ((o : Object) → Owns tx r.touched o → Owns tx r'.touched o)
+      → ((o : Object) → Owns tx q.touched o → Owns tx q'.touched o) → SavedAlike s t r q → SavedAlike s t r' q'
+  saved_more None None r q r' q' left right so = tt
+  saved_more (Some s) (Some t) r q r' q' left right so =
+      record { alike = so.alike; left = λ o own. left o (so.left o own); right = λ o own. right o (so.right o own) }
+  saved_more None (Some t) r q r' q' left right so = absurd so
+  saved_more (Some s) None r q r' q' left right so = absurd so
+
+  back_alike : (s t : Option BodyResult) (r q : BodyResult) → Alike P tx starts r q → SavedAlike s t r q → Alike P tx starts (back_from s r) (back_from t q)
+  back_alike None None r q so saved = so
+  back_alike (Some s) (Some t) r q so saved =
+      let was = saved.alike in
+      record {
+        gave = record {
+          me = ap₂ (λ (m n : Private). record m { places = n.places }) so.gave.me was.gave.me;
+          replies = so.gave.replies;
+          late = was.gave.late;
+          trail = was.gave.trail;
+          taken = was.gave.taken;
+          touched = so.gave.touched;
+        };
+        agree = was.agree;
+        count = was.count;
+        left = keeps_more (Owns tx s.touched) (Owns tx r.touched) starts.0 s.world saved.left was.left;
+        right = keeps_more (Owns tx t.touched) (Owns tx q.touched) starts.1 t.world saved.right was.right;
+      }
+  back_alike None (Some t) r q so saved = absurd saved
+  back_alike (Some s) None r q so saved = absurd saved
+
+  -- by what a call does to the block of both
+  both_marked : (c : Call) (s t : Option BodyResult) (r q : BodyResult) → Alike P tx starts r q → SavedAlike s t r q → StateAlike (marked c s r) (marked c t q)
+  both_marked call.Save s t r q so saved = record { now = so; saved = record { alike = so; left = λ o own. own; right = λ o own. own } }
+  both_marked call.Keep s t r q so saved = record { now = so; saved = tt }
+  both_marked call.Back s t r q so saved = record { now = back_alike s t r q so saved; saved = tt }
+  both_marked _ s t r q so saved = record { now = so; saved = saved }
+
+-- two bodies stay alike over one call on objects of P
+pub block_step_alike : (P : Object → Type 0) (tx : ℕ) (w v : World) (b d : BlockState) (c : CallWithAnswer) → StateAlike P tx (w, v) b d → Within P tx b.now c
+    → StateAlike P tx (w, v) (block_step tx b c) (block_step tx d c)
+block_step_alike P tx w v b d c so within =
+    both_marked P tx (w, v) c.call b.saved d.saved (step tx b.now c) (step tx d.now c) (step_alike P tx w v b.now d.now c so.now within)
+    (saved_more P tx (w, v) b.saved d.saved b.now d.now (step tx b.now c) (step tx d.now c)
+    (owns_in_front tx b.now.touched (claims_of c.call b.now.me (length b.now.world.words)))
+    (owns_in_front tx d.now.touched (claims_of c.call d.now.me (length d.now.world.words))) so.saved)
+
+-- a mark leaves the claims
+back_touched : (saved : Option BodyResult) (r : BodyResult) → (back_from saved r).touched ≡ r.touched
+back_touched None r = refl
+back_touched (Some s) r = refl
+
+marked_touched : (c : Call) (saved : Option BodyResult) (r : BodyResult) → (marked c saved r).now.touched ≡ r.touched
+marked_touched c saved r = marked_by (λ b. b.now.touched ≡ r.touched) c saved r refl refl (back_touched saved r) refl
+
+-- what was touched stays touched
+pub runs_touched : (tx : ℕ) (b : BlockState) (asked : List CallWithAnswer) (o : Object) → Contains (objects b.now.touched) o
+    → Contains (objects (runs_on tx b asked).now.touched) o
+runs_touched tx b [] o at = at
+runs_touched tx b (c ∷ asked) o at =
+    runs_touched tx (block_step tx b c) asked o
+    (subst (λ l. Contains (objects l) o) (sym (marked_touched c.call b.saved (step tx b.now c)))
+    (in_front b.now.touched (claims_of c.call b.now.me (length b.now.world.words)) o at))
+
+-- and what it owned
+pub runs_owned : (tx : ℕ) (b : BlockState) (asked : List CallWithAnswer) (o : Object) → Contains (owned b.now.touched) o
+    → Contains (owned (runs_on tx b asked).now.touched) o
+runs_owned tx b [] o at = at
+runs_owned tx b (c ∷ asked) o at =
+    let now = claims_of c.call b.now.me (length b.now.world.words) in
+    runs_owned tx (block_step tx b c) asked o
+    (subst (λ l. Contains (owned l) o) (sym (marked_touched c.call b.saved (step tx b.now c)))
+    (subst (λ l. Contains l o) (sym (owned_append b.now.touched now)) (Contains-append_left (owned b.now.touched) (owned now) o at)))
+
+-- the next call's objects are among those of the body
+next_runs_within : (P : Object → Type 0) (tx : ℕ) (b : BlockState) (c : CallWithAnswer) (asked : List CallWithAnswer)
+    → ((o : Object) → Contains (objects (runs_on tx b (c ∷ asked)).now.touched) o → P o)
+    → ((o : Object) → IsNumbered tx o → P o) → Within P tx b.now c
+next_runs_within P tx b c asked touched numbered =
+    record {
+      claimed = λ o at. touched o (runs_touched tx (block_step tx b c) asked o
+          (subst (λ l. Contains (objects l) o) (sym (marked_touched c.call b.saved (step tx b.now c)))
+          (behind b.now.touched (claims_of c.call b.now.me (length b.now.world.words)) o at)));
+      numbered = numbered;
+    }
+
+-- two bodies stay alike over calls on objects of P
+pub runs_alike : (P : Object → Type 0) (tx : ℕ) (w v : World) (b d : BlockState) (asked : List CallWithAnswer) → StateAlike P tx (w, v) b d
+    → ((o : Object) → Contains (objects (runs_on tx b asked).now.touched) o → P o) → ((o : Object) → IsNumbered tx o → P o)
+    → StateAlike P tx (w, v) (runs_on tx b asked) (runs_on tx d asked)
+runs_alike P tx w v b d [] so touched numbered = so
+runs_alike P tx w v b d (c ∷ asked) so touched numbered =
+    runs_alike P tx w v (block_step tx b c) (block_step tx d c) asked (block_step_alike P tx w v b d c so (next_runs_within P tx b c asked touched numbered))
+    touched numbered
+
+-- the same answers fit the calls of both
+pub runs_fit_alike : (P : Object → Type 0) (tx : ℕ) (w v : World) (b d : BlockState) (asked : List CallWithAnswer) → StateAlike P tx (w, v) b d
+    → ((o : Object) → Contains (objects (runs_on tx b asked).now.touched) o → P o) → ((o : Object) → IsNumbered tx o → P o)
+    → fits_on tx b asked ≡ fits_on tx d asked
+runs_fit_alike P tx w v b d [] so touched numbered = refl
+runs_fit_alike P tx w v b d (c ∷ asked) so touched numbered =
+    let within = next_runs_within P tx b c asked touched numbered in
+    let r = b.now in
+    let q = d.now in
+    ap₂ (λ x y. x && y)
+    (fits_alike r.world q.world r.me tx c.call c.answer so.now.count (call_agreed P tx r q c so.now.agree within)
+    ∙ ap (λ m. fits q.world m tx c.call c.answer) so.now.gave.me)
+    (runs_fit_alike P tx w v (block_step tx b c) (block_step tx d c) asked (block_step_alike P tx w v b d c so within) touched numbered)
 
 -- ---- from the begin
 pub begin_alike : (P : Object → Type 0) (tx : ℕ) (w v : World) (me : Private) → length w.words ≡ length v.words → AgreeOn P w v
@@ -191,6 +320,11 @@ begin_alike P tx w v me count agree =
       left = keeps_itself _ w;
       right = keeps_itself _ v;
     }
+
+-- in no block
+pub opens_alike : (P : Object → Type 0) (tx : ℕ) (w v : World) (me : Private) → length w.words ≡ length v.words → AgreeOn P w v
+    → StateAlike P tx (w, v) (opens w me) (opens v me)
+opens_alike P tx w v me count agree = record { now = begin_alike P tx w v me count agree; saved = tt }
 
 -- no object has the transaction's number, so both worlds have the same there
 pub free_agree : (tx : ℕ) (w v : World) → ((k : ℕ) → IsFree w (record { tx = tx; k = k })) → ((k : ℕ) → IsFree v (record { tx = tx; k = k }))
@@ -221,8 +355,8 @@ body_alike w v me tx asked count touched numbered =
     let claims = (body w me tx asked).touched in
     let P = Sees tx claims in
     let so =
-    goes_on_alike P tx w v (begins w me) (begins v me) asked (begin_alike P tx w v me count (seen_agree tx w v claims touched numbered)) (λ o at. inl at)
-    (λ o e. inr e) in
+    (runs_alike P tx w v (opens w me) (opens v me) asked (opens_alike P tx w v me count (seen_agree tx w v claims touched numbered)) (λ o at. inl at)
+    (λ o e. inr e)).now in
     record { gave = so.gave; agree = so.agree; left = so.left; right = so.right }
 
 -- the same answers fit a body in worlds that agree on what it touches and on its numbers
@@ -232,7 +366,7 @@ pub body_fits_alike : (w v : World) (me : Private) (tx : ℕ) (asked : List Call
 body_fits_alike w v me tx asked count touched numbered =
     let claims = (body w me tx asked).touched in
     let P = Sees tx claims in
-    on_fits_alike P tx w v (begins w me) (begins v me) asked (begin_alike P tx w v me count (seen_agree tx w v claims touched numbered)) (λ o at. inl at)
+    runs_fit_alike P tx w v (opens w me) (opens v me) asked (opens_alike P tx w v me count (seen_agree tx w v claims touched numbered)) (λ o at. inl at)
     (λ o e. inr e)
 
 -- what it changes, whatever other world there is

@@ -123,6 +123,7 @@ recorded_alike w v me tx c a agree =
 pub fits_alike : (w v : World) (me : Private) (tx : ℕ) (c : Call) (a : Answer) → length w.words ≡ length v.words
     → All (AgreeAt w v) (touch c me (length w.words) ++ made_by c me tx) → fits w me tx c a ≡ fits v me tx c a
 fits_alike w v me tx c answer.Fine count agree = refl
+fits_alike w v me tx c (answer.Undone n) count agree = refl
 fits_alike w v me tx c (answer.Fault n) count agree = by_check (is_refused c me (length w.words)) refl
   where
     of_reply : Bool → Reply → Bool

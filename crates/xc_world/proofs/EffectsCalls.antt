@@ -25,7 +25,7 @@ use Rattle.xc_world.specs.Act.{fine, faulty, done, act}
 use Rattle.xc_world.specs.Trail.{done_of, overwrite_record, append_record, create_record, rename_record, pipe_record, pair_record, recorded, move_name}
 use Rattle.xc_world.specs.Ends.{with_remains}
 use Rattle.xc_world.specs.Effects.{whole, takes_data}
-use Rattle.xc_world.proofs.UndoingBody.{refusal-none, act-cases}
+use Rattle.xc_world.proofs.UndoingBody.{refusal-none, act-cases, undone-none}
 use Rattle.xc_world.proofs.EffectsParts.{with_words}
 
 -- from w to v by these records, outside the words
@@ -189,12 +189,13 @@ faulty-leads w me tx (call.XWriteOvr h bytes) n = overwrite_short-leads w me h b
 faulty-leads w me tx (call.XWriteSeq h bytes) n = append_short-leads w me h bytes n (place_of me.places h)
 faulty-leads w me tx _ n = refl
 
+refused-leads : (w : World) (us : List Undo) → us ≡ [] → Leads w w us
+refused-leads w us e = subst (Leads w w) (sym e) refl
+
 done-leads : (w : World) (me : Private) (tx : ℕ) (c : Call) (a : Answer) → takes_data c ≡ false → LeadsCall w me tx c (done w me tx c a)
 done-leads w me tx c answer.Fine e = fine-leads w me tx c e
 done-leads w me tx c (answer.Fault n) e = faulty-leads w me tx c n
-
-refused-leads : (w : World) (us : List Undo) → us ≡ [] → Leads w w us
-refused-leads w us e = subst (Leads w w) (sym e) refl
+done-leads w me tx c (answer.Undone n) e = refused-leads w _ (undone-none w me tx c n)
 
 -- but for the words, a call that takes no data leaves the world with the effect of its record
 pub act-leads : (w : World) (me : Private) (tx : ℕ) (c : Call) (a : Answer) → takes_data c ≡ false

@@ -26,7 +26,7 @@ use Rattle.xc_world.specs.Fits.{fits, is_done}
 use Rattle.xc_world.specs.Trail.{done_of, overwrite_record, append_record, create_record, rename_record, pipe_record, pair_record, recorded}
 use Rattle.xc_world.specs.Effects.{AreMadeIn}
 use Rattle.xc_world.proofs.UndoingCalls.{Stops, done-inside}
-use Rattle.xc_world.proofs.UndoingBody.{refusal-none, act-cases, next_free, stops}
+use Rattle.xc_world.proofs.UndoingBody.{refusal-none, act-cases, next_free, stops, undone-none}
 
 -- ---- one overwrite
 abbrev pub MakesOverwrite : World → List ℕ → Place → Stepped → Type 0
@@ -154,13 +154,14 @@ faulty-made w me tx (call.XWriteSeq h bytes) n sound fit =
     append_short-made w me h bytes n (place_of me.places h) (sound.handles h) (stops w me tx (call.XWriteSeq h bytes) n fit)
 faulty-made w me tx _ n sound fit = tt
 
+refused-made : (w : World) (us : List Undo) → us ≡ [] → AreMadeIn w us
+refused-made w us e = subst (AreMadeIn w) (sym e) tt
+
 done-made : (w : World) (me : Private) (tx : ℕ) (c : Call) (a : Answer) → IsSound w me tx → IsTrue (fits w me tx c a)
     → MakesCall w me tx c (done w me tx c a)
 done-made w me tx c answer.Fine sound fit = fine-made w me tx c sound
 done-made w me tx c (answer.Fault n) sound fit = faulty-made w me tx c n sound fit
-
-refused-made : (w : World) (us : List Undo) → us ≡ [] → AreMadeIn w us
-refused-made w us e = subst (AreMadeIn w) (sym e) tt
+done-made w me tx c (answer.Undone n) sound fit = refused-made w _ (undone-none w me tx c n)
 
 -- a call's record is made in the world before it
 pub act-made : (w : World) (me : Private) (tx : ℕ) (c : Call) (a : Answer) → IsSound w me tx → IsTrue (fits w me tx c a)

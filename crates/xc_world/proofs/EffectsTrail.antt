@@ -2,7 +2,7 @@
 use Rattle.std.proofs.Common.{◌≡◌, ℕ, ◌+◌, false, Option, Some, None, List, [], ◌∷◌, length, drop, take, unwrap_or, ◌++◌, refl, ap, sym, ◌∙◌, subst}
 use Rattle.std.specs.Prelude.{IsTrue, ◌==◌, Contains}
 use Rattle.std.specs.FinMap as finite
-use Rattle.std.proofs.lemmas.Bool.{and_parts, cond_both}
+use Rattle.std.proofs.lemmas.Bool.{cond_both}
 use Rattle.std.proofs.lemmas.List.Elements.{All-weaker, All-contains_itself}
 use Rattle.xc_data.specs.declared.object.Num.{Num}
 use Rattle.xc_data.specs.declared.object.Object.{Object}
@@ -27,14 +27,14 @@ use Rattle.xc_world.specs.Act.Files.{overwritten}
 use Rattle.xc_world.specs.Act.Pipes.{read_pipe_at, received, receive_at}
 use Rattle.xc_world.specs.Act.{done, act}
 use Rattle.xc_world.specs.Fits.{fits}
-use Rattle.xc_world.specs.Run.{BodyResult, body, body_fits}
+use Rattle.xc_world.specs.Run.{BodyResult, step, goes_on, gone_back, opens, body, body_fits}
 use Rattle.xc_world.specs.Trail.{move_name, recorded, with_effect}
 use Rattle.xc_world.specs.Ends.{with_remains}
 use Rattle.xc_world.specs.Effects.{whole, takes_data, AreMadeIn}
-use Rattle.xc_world.proofs.Joined.{body_first}
-use Rattle.xc_world.proofs.Sound.{act_sound}
+use Rattle.xc_world.proofs.Blocks.{FitEach, Fits, fit_all, runs_keep}
+use Rattle.xc_world.proofs.EffectsBody.{step_sound, back_sound}
 use Rattle.xc_world.proofs.UndoingBody.{act-cases}
-use Rattle.xc_world.proofs.EffectsParts.{absent_before, absent_both, made-append}
+use Rattle.xc_world.proofs.EffectsParts.{absent_before, absent_both, made-append, whole-append, remains-append}
 use Rattle.xc_world.proofs.EffectsCalls.{act-leads}
 use Rattle.xc_world.proofs.EffectsApart.{LeavesRoom, made_there}
 use Rattle.xc_world.proofs.EffectsMade.{act-made}
@@ -90,10 +90,12 @@ receive_at-room w me (Pipe num) = room_itself w
 read_pipe-room : (w : World) (me : Private) (tx h n : ℕ) (a : Answer) → LeavesIts w (done w me tx (call.XReadPipe h n) a)
 read_pipe-room w me tx h n answer.Fine = read_pipe_at-room w me n (place_of me.places h)
 read_pipe-room w me tx h n (answer.Fault k) = room_itself w
+read_pipe-room w me tx h n (answer.Undone k) = room_itself w
 
 recvmsg-room : (w : World) (me : Private) (tx h : ℕ) (a : Answer) → LeavesIts w (done w me tx (call.XRecvmsg h) a)
 recvmsg-room w me tx h answer.Fine = receive_at-room w me (place_of me.places h)
 recvmsg-room w me tx h (answer.Fault n) = room_itself w
+recvmsg-room w me tx h (answer.Undone n) = room_itself w
 
 -- ---- every call
 abbrev pub LeavesRecorded : World → Private → ℕ → Call → Stepped → Type 0
@@ -135,6 +137,9 @@ act-room w me tx (call.XWritePipe h bytes slot) a = led-room w me tx (call.XWrit
 act-room w me tx (call.XShutdown h slot) a = led-room w me tx (call.XShutdown h slot) a refl
 act-room w me tx (call.XSendmsg h bytes slot) a = led-room w me tx (call.XSendmsg h bytes slot) a refl
 act-room w me tx (call.XThreadCreate body slot) a = led-room w me tx (call.XThreadCreate body slot) a refl
+act-room w me tx call.Save a = led-room w me tx call.Save a refl
+act-room w me tx call.Keep a = led-room w me tx call.Keep a refl
+act-room w me tx call.Back a = led-room w me tx call.Back a refl
 
 -- ---- all calls of a body
 moved-room : (v w : World) (from to : List ℕ) (o : Option Num) → HasRoom v w → HasRoom (move_name v from to o) (move_name w from to o)
@@ -199,16 +204,45 @@ made-in v w (u ∷ us) room made = (
   made-in (with_effect v u 0) (with_effect w u 0) us (effect-room v w u room) made.1,
 )
 
+room_through : (u v w : World) → HasRoom u v → HasRoom v w → HasRoom u w
+room_through u v w first later =
+    record {
+      names = first.names ∙ later.names;
+      files = first.files ∙ later.files;
+      pipes = λ q none. later.pipes q (first.pipes q none);
+      pairs = λ q none. later.pairs q (first.pairs q none);
+    }
+
+remains-room : (v w : World) (us : List Undo) → HasRoom v w → HasRoom (with_remains v (whole us)) (with_remains w (whole us))
+remains-room v w [] room = room
+remains-room v w (u ∷ us) room = remains-room (with_effect v u 0) (with_effect w u 0) us (effect-room v w u room)
+
+-- the records of a body were made one after another, and its world has the names and files that they leave
+pub record Traces (w : World) (tx : ℕ) (r : BodyResult) : Type 0 where
+  pub sound : IsSound r.world r.me tx
+  pub room : HasRoom r.world (with_remains w (whole r.trail))
+  pub made : AreMadeIn w r.trail
+
+step_traces : (w : World) (tx : ℕ) (r : BodyResult) (c : CallWithAnswer) → Fits tx r c → Traces w tx r → Traces w tx (step tx r c)
+step_traces w tx r c fit so =
+    let s = act r.world r.me tx c.call c.answer in
+    let us = recorded r.world r.me tx c.call s.reply in
+    let led = with_remains w (whole r.trail) in
+    record {
+      sound = step_sound tx r c fit so.sound;
+      room = subst (HasRoom s.world) (sym (ap (with_remains w) (whole-append r.trail us) ∙ remains-append w (whole r.trail) (whole us)))
+          (room_through s.world (with_remains r.world (whole us)) (with_remains led (whole us)) (act-room r.world r.me tx c.call c.answer)
+          (remains-room r.world led us so.room));
+      made = made-append w r.trail us so.made (made-in r.world led us so.room (act-made r.world r.me tx c.call c.answer so.sound fit));
+    }
+
+back_traces : (w : World) (tx : ℕ) (s : BodyResult) (calls : List CallWithAnswer) → FitEach tx (Fits tx) s calls → Traces w tx s
+    → Traces w tx (goes_on tx s calls) → Traces w tx (gone_back s (goes_on tx s calls))
+back_traces w tx s calls fit was is = record { sound = back_sound tx s calls fit was.sound is.sound; room = was.room; made = was.made }
+
 -- each record of a body was made in the world that the ones before it left
 pub body-made : (w : World) (me : Private) (tx : ℕ) (asked : List CallWithAnswer) → IsSound w me tx → IsTrue (body_fits w me tx asked)
     → AreMadeIn w (body w me tx asked).trail
-body-made w me tx [] sound fit = tt
-body-made w me tx (c ∷ asked) sound fit =
-    let s = act w me tx c.call c.answer in
-    let us = recorded w me tx c.call s.reply in
-    let rest = body s.world s.me tx asked in
-    let both = and_parts (fits w me tx c.call c.answer) (body_fits s.world s.me tx asked) fit in
-    let later = body-made s.world s.me tx asked (act_sound w me tx c.call c.answer both.0 sound) both.1 in
-    subst (λ (r : BodyResult). AreMadeIn w r.trail) (sym (body_first w me tx c asked))
-    (made-append w us rest.trail (act-made w me tx c.call c.answer sound both.0)
-    (made-in s.world (with_remains w (whole us)) rest.trail (act-room w me tx c.call c.answer) later))
+body-made w me tx asked sound fit =
+    (runs_keep tx (Fits tx) (Traces w tx) (record { plain = step_traces w tx; back = back_traces w tx }) (opens w me) asked (fit_all tx (opens w me) asked fit)
+    (record { now = record { sound = sound; room = room_itself w; made = tt }; saved = tt })).now.made

@@ -196,6 +196,9 @@ module _ (me : Private) (words : ℕ) where
   touches_no_data (call.XUnlink name slot) is = touched_by (call.XUnlink name slot) (one (object.Name name) (name_has_none name))
   touches_no_data (call.XSync h slot) is = touched_file (call.XSync h slot) h refl refl
   touches_no_data (call.XThreadCreate body slot) is = touched_by (call.XThreadCreate body slot) (one object.Jobs jobs_have_none)
+  touches_no_data call.Save is = touched_by call.Save (All-nil HasNoData)
+  touches_no_data call.Keep is = touched_by call.Keep (All-nil HasNoData)
+  touches_no_data call.Back is = touched_by call.Back (All-nil HasNoData)
   touches_no_data call.XPipe is = cc is
   touches_no_data (call.XReadPipe h n) is = cc is
   touches_no_data call.XPair is = cc is

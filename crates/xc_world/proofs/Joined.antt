@@ -12,7 +12,8 @@ use Rattle.xc_data.specs.declared.claim.Claim.{Claim}
 use Rattle.xc_data.specs.declared.call.CallWithAnswer.{CallWithAnswer}
 use Rattle.xc_data.specs.declared.entry.KeptItem.{KeptItem}
 use Rattle.xc_world.specs.Fits.{fits}
-use Rattle.xc_world.specs.Run.{BodyResult, begins, step, goes_on, body, body_fits}
+use Rattle.xc_world.specs.Run.{BodyResult, BlockState, begins, step, goes_on, plain_body, plain_fits, block_step, runs_on, opens, body_state, fits_on}
+use Rattle.xc_world.specs.Run.{body_fits}
 use Rattle.xc_world.specs.Joined.{behind}
 
 -- bodies of the same parts are the same
@@ -33,32 +34,33 @@ step_behind tx r c b =
     (append_assoc r.taken _ b.taken) (append_assoc r.touched _ b.touched)
 
 -- a body that goes on has the later body after it
-pub goes_on_behind : (tx : ℕ) (r : BodyResult) (asked : List CallWithAnswer) → goes_on tx r asked ≡ behind r (body r.world r.me tx asked)
+pub goes_on_behind : (tx : ℕ) (r : BodyResult) (asked : List CallWithAnswer) → goes_on tx r asked ≡ behind r (plain_body r.world r.me tx asked)
 goes_on_behind tx r [] = behind_nothing r
 goes_on_behind tx r (c ∷ asked) =
     let one = step tx (begins r.world r.me) c in
-    goes_on_behind tx (step tx r c) asked ∙ step_behind tx r c (body one.world one.me tx asked) ∙ ap (behind r) (sym (goes_on_behind tx one asked))
+    goes_on_behind tx (step tx r c) asked ∙ step_behind tx r c (plain_body one.world one.me tx asked) ∙ ap (behind r) (sym (goes_on_behind tx one asked))
 
 -- a body is its first call with the rest after it
-pub body_first : (w : World) (me : Private) (tx : ℕ) (c : CallWithAnswer) (asked : List CallWithAnswer)
-    → body w me tx (c ∷ asked) ≡ behind (step tx (begins w me) c) (body (act w me tx c.call c.answer).world (act w me tx c.call c.answer).me tx asked)
-body_first w me tx c asked = goes_on_behind tx (step tx (begins w me) c) asked
+pub plain_first : (w : World) (me : Private) (tx : ℕ) (c : CallWithAnswer) (asked : List CallWithAnswer)
+    → plain_body w me tx (c ∷ asked) ≡ behind (step tx (begins w me) c)
+    (plain_body (act w me tx c.call c.answer).world (act w me tx c.call c.answer).me tx asked)
+plain_first w me tx c asked = goes_on_behind tx (step tx (begins w me) c) asked
 
 -- a body in two parts
-pub body_append : (w : World) (me : Private) (tx : ℕ) (front rest : List CallWithAnswer)
-    → body w me tx (front ++ rest) ≡ behind (body w me tx front) (body (body w me tx front).world (body w me tx front).me tx rest)
-body_append w me tx front rest = fold-append (step tx) (begins w me) front rest ∙ goes_on_behind tx (body w me tx front) rest
+pub plain_append : (w : World) (me : Private) (tx : ℕ) (front rest : List CallWithAnswer)
+    → plain_body w me tx (front ++ rest) ≡ behind (plain_body w me tx front) (plain_body (plain_body w me tx front).world (plain_body w me tx front).me tx rest)
+plain_append w me tx front rest = fold-append (step tx) (begins w me) front rest ∙ goes_on_behind tx (plain_body w me tx front) rest
 
 -- a body with one call more is a step more
-pub body_last : (w : World) (me : Private) (tx : ℕ) (asked : List CallWithAnswer) (c : CallWithAnswer)
-    → body w me tx (asked ++ c ∷ []) ≡ step tx (body w me tx asked) c
-body_last w me tx asked c = fold_push (step tx) (begins w me) asked c
+pub plain_last : (w : World) (me : Private) (tx : ℕ) (asked : List CallWithAnswer) (c : CallWithAnswer)
+    → plain_body w me tx (asked ++ c ∷ []) ≡ step tx (plain_body w me tx asked) c
+plain_last w me tx asked c = fold_push (step tx) (begins w me) asked c
 
 -- ---- one call more of a body that is run
-pub body_more : (w : World) (me : Private) (tx : ℕ) (asked : List CallWithAnswer) (i : ℕ) (c : CallWithAnswer) → i < length asked → c ≡ get_or asked i c
-    → body w me tx (take (i + 1) asked) ≡ step tx (body w me tx (take i asked)) c
-body_more w me tx asked i c lt e =
-    ap (body w me tx) (take_more asked i c lt ∙ ap (λ x. take i asked ++ x ∷ []) (sym e)) ∙ body_last w me tx (take i asked) c
+pub plain_more : (w : World) (me : Private) (tx : ℕ) (asked : List CallWithAnswer) (i : ℕ) (c : CallWithAnswer) → i < length asked → c ≡ get_or asked i c
+    → plain_body w me tx (take (i + 1) asked) ≡ step tx (plain_body w me tx (take i asked)) c
+plain_more w me tx asked i c lt e =
+    ap (plain_body w me tx) (take_more asked i c lt ∙ ap (λ x. take i asked ++ x ∷ []) (sym e)) ∙ plain_last w me tx (take i asked) c
 
 -- ---- what fits a body in two parts
 and_assoc : (a b c : Bool) → (a && (b && c)) ≡ ((a && b) && c)
@@ -70,18 +72,41 @@ and_true true = refl
 and_true false = refl
 
 -- what fits the first part, and what fits the other where that ended
-pub body_fits_append : (w : World) (me : Private) (tx : ℕ) (front rest : List CallWithAnswer)
-    → body_fits w me tx (front ++ rest) ≡ (body_fits w me tx front && body_fits (body w me tx front).world (body w me tx front).me tx rest)
-body_fits_append w me tx [] rest = refl
-body_fits_append w me tx (c ∷ front) rest =
+pub plain_fits_append : (w : World) (me : Private) (tx : ℕ) (front rest : List CallWithAnswer)
+    → plain_fits w me tx (front ++ rest) ≡ (plain_fits w me tx front && plain_fits (plain_body w me tx front).world (plain_body w me tx front).me tx rest)
+plain_fits_append w me tx [] rest = refl
+plain_fits_append w me tx (c ∷ front) rest =
     let s = act w me tx c.call c.answer in
-    ap (λ x. fits w me tx c.call c.answer && x) (body_fits_append s.world s.me tx front rest)
-    ∙ and_assoc (fits w me tx c.call c.answer) (body_fits s.world s.me tx front) _
-    ∙ ap (λ (r : BodyResult). body_fits w me tx (c ∷ front) && body_fits r.world r.me tx rest) (sym (body_first w me tx c front))
+    ap (λ x. fits w me tx c.call c.answer && x) (plain_fits_append s.world s.me tx front rest)
+    ∙ and_assoc (fits w me tx c.call c.answer) (plain_fits s.world s.me tx front) _
+    ∙ ap (λ (r : BodyResult). plain_fits w me tx (c ∷ front) && plain_fits r.world r.me tx rest) (sym (plain_first w me tx c front))
 
 -- what fits a body with one call more
+pub plain_fits_last : (w : World) (me : Private) (tx : ℕ) (asked : List CallWithAnswer) (c : CallWithAnswer)
+    → plain_fits w me tx (asked ++ c ∷ []) ≡
+    (plain_fits w me tx asked && fits (plain_body w me tx asked).world (plain_body w me tx asked).me tx c.call c.answer)
+plain_fits_last w me tx asked c =
+    plain_fits_append w me tx asked (c ∷ [])
+    ∙ ap (λ x. plain_fits w me tx asked && x) (and_true (fits (plain_body w me tx asked).world (plain_body w me tx asked).me tx c.call c.answer))
+
+-- ---- a body with inner blocks, of one call more
+pub body_last : (w : World) (me : Private) (tx : ℕ) (asked : List CallWithAnswer) (c : CallWithAnswer)
+    → body_state w me tx (asked ++ c ∷ []) ≡ block_step tx (body_state w me tx asked) c
+body_last w me tx asked c = fold_push (block_step tx) (opens w me) asked c
+
+-- what fits in two parts
+pub fits_on_append : (tx : ℕ) (b : BlockState) (front rest : List CallWithAnswer)
+    → fits_on tx b (front ++ rest) ≡ (fits_on tx b front && fits_on tx (runs_on tx b front) rest)
+fits_on_append tx b [] rest = refl
+fits_on_append tx b (c ∷ front) rest =
+    ap (λ x. fits b.now.world b.now.me tx c.call c.answer && x) (fits_on_append tx (block_step tx b c) front rest)
+    ∙ and_assoc (fits b.now.world b.now.me tx c.call c.answer) (fits_on tx (block_step tx b c) front) _
+
+-- and with one call more
 pub body_fits_last : (w : World) (me : Private) (tx : ℕ) (asked : List CallWithAnswer) (c : CallWithAnswer)
-    → body_fits w me tx (asked ++ c ∷ []) ≡ (body_fits w me tx asked && fits (body w me tx asked).world (body w me tx asked).me tx c.call c.answer)
+    → body_fits w me tx (asked ++ c ∷ [])
+    ≡ (body_fits w me tx asked && fits (body_state w me tx asked).now.world (body_state w me tx asked).now.me tx c.call c.answer)
 body_fits_last w me tx asked c =
-    body_fits_append w me tx asked (c ∷ [])
-    ∙ ap (λ x. body_fits w me tx asked && x) (and_true (fits (body w me tx asked).world (body w me tx asked).me tx c.call c.answer))
+    let r = (body_state w me tx asked).now in
+    fits_on_append tx (opens w me) asked (c ∷ [])
+    ∙ ap (λ x. body_fits w me tx asked && x) (and_true (fits r.world r.me tx c.call c.answer))

@@ -1,3 +1,5 @@
+pub mod Blocks
+pub mod BlocksTaken
 pub mod Bodies
 pub mod Calls
 pub mod EffectsApart

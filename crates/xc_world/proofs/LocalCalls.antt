@@ -294,6 +294,9 @@ fine_alike w v me tx call.XPipe agree = new_pipe_alike _ w v me tx (lowest_vacan
 fine_alike w v me tx (call.XReadPipe h n) agree = read_pipe_alike _ w v me n (place_of me.places h) (has_it (place_of me.places h) []) agree
 fine_alike w v me tx call.XPair agree = new_pair_alike _ w v me tx (lowest_vacant me.places) (first_in (object.Pair (next_num me tx)) []) agree
 fine_alike w v me tx (call.XRecvmsg h) agree = receive_alike _ w v me (place_of me.places h) (has_it (place_of me.places h) []) agree
+fine_alike w v me tx call.Save agree = quiet _ w v me reply.Done agree
+fine_alike w v me tx call.Keep agree = quiet _ w v me reply.Done agree
+fine_alike w v me tx call.Back agree = quiet _ w v me (reply.Undone 0) agree
 fine_alike w v me tx _ agree = quiet _ w v me reply.Late agree
 
 faulty_alike : (w v : World) (me : Private) (tx : ℕ) (c : Call) (n : ℕ) → AgreeOfCall w v me tx c
@@ -308,3 +311,4 @@ pub done_alike : (w v : World) (me : Private) (tx : ℕ) (c : Call) (a : Answer)
     → ActsAlike (all_of_call me tx c) w v (done w me tx c a) (done v me tx c a)
 done_alike w v me tx c answer.Fine agree = fine_alike w v me tx c agree
 done_alike w v me tx c (answer.Fault n) agree = faulty_alike w v me tx c n agree
+done_alike w v me tx c (answer.Undone n) agree = quiet _ w v me (reply.Undone n) agree

@@ -46,14 +46,19 @@ open_leaves w me (Some num) (Some h) = refl
 done_leaves : (w : World) (me : Private) (tx : ℕ) (c : Call) (a : Answer) → mode_of c ≡ Shared → Leaves w (done w me tx c a)
 done_leaves w me tx (call.Load at) answer.Fine shared = refl
 done_leaves w me tx (call.Load at) (answer.Fault n) shared = refl
+done_leaves w me tx (call.Load at) (answer.Undone k) shared = refl
 done_leaves w me tx (call.XOpen name) answer.Fine shared = open_leaves w me (map.get w.names name) (lowest_vacant me.places)
 done_leaves w me tx (call.XOpen name) (answer.Fault n) shared = refl
+done_leaves w me tx (call.XOpen name) (answer.Undone k) shared = refl
 done_leaves w me tx (call.XRead h n) answer.Fine shared = read_leaves w me h n (place_of me.places h)
 done_leaves w me tx (call.XRead h n) (answer.Fault k) shared = refl
+done_leaves w me tx (call.XRead h n) (answer.Undone k) shared = refl
 done_leaves w me tx (call.XLen h) answer.Fine shared = len_leaves w me (place_of me.places h)
 done_leaves w me tx (call.XLen h) (answer.Fault n) shared = refl
+done_leaves w me tx (call.XLen h) (answer.Undone k) shared = refl
 done_leaves w me tx (call.XSync h slot) answer.Fine shared = refl
 done_leaves w me tx (call.XSync h slot) (answer.Fault n) shared = refl
+done_leaves w me tx (call.XSync h slot) (answer.Undone k) shared = refl
 done_leaves w me tx c a shared = cc
 
 -- a call that claims nothing exclusively leaves the world as it is

@@ -126,6 +126,7 @@ faulty_refused w me _ n = λ _. refl
 done_refused : (w : World) (me : Private) (tx : ℕ) (c : Call) (a : Answer) → StaysRefused w (done w me tx c a)
 done_refused w me tx c answer.Fine = fine_refused w me tx c
 done_refused w me tx c (answer.Fault n) = faulty_refused w me c n
+done_refused w me tx c (answer.Undone n) = λ _. refl
 
 -- a refused call leaves the world as it is
 pub act_refused : (w : World) (me : Private) (tx : ℕ) (c : Call) (a : Answer) → IsTrue (is_refusal (act w me tx c a).reply) → (act w me tx c a).world ≡ w

@@ -64,6 +64,9 @@ fine_well w me tx (call.XReadPipe h n) few s = read_pipe_well w me tx n (place_o
 fine_well w me tx call.XPair few s =
     new_pair_well w me tx (lowest_vacant me.places) (two_vacant me few) (few_made me (nat_lt (count_by is_vacant me.places) 2) few) s
 fine_well w me tx (call.XRecvmsg h) few s = receive_well w me tx (place_of me.places h) (s.handles h) s
+fine_well w me tx call.Save few s = quiet w me tx 0 reply.Done (omega arith) s
+fine_well w me tx call.Keep few s = quiet w me tx 0 reply.Done (omega arith) s
+fine_well w me tx call.Back few s = quiet w me tx 0 (reply.Undone 0) (omega arith) s
 fine_well w me tx _ few s = quiet w me tx 0 reply.Late (omega arith) s
 
 -- what a fault's number says of a write
@@ -101,6 +104,7 @@ pub done_well : (w : World) (me : Private) (tx : ℕ) (c : Call) (a : Answer) �
     → StepsWell w tx me (read_size c) (done w me tx c a)
 done_well w me tx c answer.Fine fit few s = fine_well w me tx c few s
 done_well w me tx c (answer.Fault n) fit few s = faulty_well w me tx c n fit s
+done_well w me tx c (answer.Undone n) fit few s = quiet w me tx (read_size c) (reply.Undone n) (omega arith) s
 
 -- ---- what is stored
 replied_sound : (w : World) (me : Private) (tx : ℕ) (r : Reply) → me.stored + got_length r ≤ 16384 → IsSound w me tx → IsSound w (storing_reply r me) tx

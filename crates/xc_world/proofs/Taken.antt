@@ -4,7 +4,6 @@ use Rattle.std.proofs.Common.{ap₂, sym, ◌∙◌, subst, refl, arith}
 use Rattle.std.specs.Prelude.{All, IsTrue, ◌==◌, if◌then◌else◌}
 use Rattle.std.specs.FinMap as map
 use Rattle.std.proofs.Math.Dec.{eqb-suc-zero}
-use Rattle.std.proofs.lemmas.Bool.{and_parts}
 use Rattle.std.proofs.lemmas.List.{append-nil, take-append-drop}
 use Rattle.std.proofs.lemmas.List.Elements.{All-nil, All-cons, All-append, All-weaker}
 use Rattle.xc_data.specs.declared.object.Num.{Num}
@@ -37,7 +36,10 @@ use Rattle.xc_world.proofs.EffectsCalls.{act-leads}
 use Rattle.xc_data.specs.declared.call.CallWithAnswer.{CallWithAnswer}
 use Rattle.xc_data.specs.declared.entry.KeptItem.{KeptItem}
 use Rattle.xc_data.specs.declared.entry.KeptItem.TheVariants.{Bytes, Message}
-use Rattle.xc_world.specs.Run.{BodyResult, begins, bytes_taken, message_taken, taken_by, gives, given_back, step, goes_on, body, body_fits}
+use Rattle.xc_world.specs.Run.{BodyResult, begins, bytes_taken, message_taken, taken_by, gives, given_back, step, goes_on, gone_back, opens, body_state, body}
+use Rattle.xc_world.specs.Run.{body_fits}
+use Rattle.xc_world.proofs.Blocks.{FitEach, Fits, Kept, State, fit_all, runs_keep}
+use Rattle.xc_world.proofs.EffectsBody.{back_sound}
 use Rattle.xc_world.proofs.TakenApart.{IsInFront, stands_on, pipe_there, pair_there, AllApart, given_words, given_remains}
 use Rattle.xc_world.proofs.TakenApart.{given_append, recorded_apart}
 
@@ -163,11 +165,13 @@ pipe_answered : (w : World) (me : Private) (tx h n : ℕ) (a : Answer) → IsKno
     → TakesBack w me (call.XReadPipe h n) (done w me tx (call.XReadPipe h n) a)
 pipe_answered w me tx h n answer.Fine known = read_pipe_back w me h n (place_of me.places h) refl known
 pipe_answered w me tx h n (answer.Fault k) known = takes_nothing w me (call.XReadPipe h n) (reply.Fault k) me refl
+pipe_answered w me tx h n (answer.Undone k) known = takes_nothing w me (call.XReadPipe h n) (reply.Undone k) me refl
 
 pair_answered : (w : World) (me : Private) (tx h : ℕ) (a : Answer) → IsKnown w (place_of me.places h)
     → TakesBack w me (call.XRecvmsg h) (done w me tx (call.XRecvmsg h) a)
 pair_answered w me tx h answer.Fine known = receive_back w me h (place_of me.places h) refl known
 pair_answered w me tx h (answer.Fault k) known = takes_nothing w me (call.XRecvmsg h) (reply.Fault k) me refl
+pair_answered w me tx h (answer.Undone k) known = takes_nothing w me (call.XRecvmsg h) (reply.Undone k) me refl
 
 answered : (w : World) (me : Private) (tx : ℕ) (c : Call) (a : Answer) → takes_data c ≡ true → KnowsHandle w me c → TakesBack w me c (done w me tx c a)
 answered w me tx (call.XReadPipe h n) a takes known = pipe_answered w me tx h n a known
@@ -267,16 +271,28 @@ step_returns w tx r c fit so = by_kind (takes_data c.call) refl
     by_kind true e = taking_returns w tx r c e fit so
     by_kind false e = quiet_returns w tx r c e fit so
 
-goes_on_returns : (w : World) (tx : ℕ) (r : BodyResult) (asked : List CallWithAnswer) → IsTrue (body_fits r.world r.me tx asked) → Returns w tx r
-    → Returns w tx (goes_on tx r asked)
-goes_on_returns w tx r [] fit so = so
-goes_on_returns w tx r (c ∷ asked) fit so =
-    let both = and_parts (fits r.world r.me tx c.call c.answer) (body_fits (step tx r c).world (step tx r c).me tx asked) fit in
-    goes_on_returns w tx (step tx r c) asked both.1 (step_returns w tx r c both.0 so)
+-- a block that went back
+back_returns : (w : World) (tx : ℕ) (s : BodyResult) (calls : List CallWithAnswer) → FitEach tx (Fits tx) s calls → Returns w tx s
+    → Returns w tx (goes_on tx s calls) → Returns w tx (gone_back s (goes_on tx s calls))
+back_returns w tx s calls fit was is = record { sound = back_sound tx s calls fit was.sound is.sound; there = was.there; back = was.back }
+
+-- what was taken and recorded is kept by all calls
+pub kept_returns : (w : World) (tx : ℕ) → Kept tx (Fits tx) (Returns w tx)
+kept_returns w tx = record { plain = step_returns w tx; back = back_returns w tx }
+
+-- a begin
+pub begins_returns : (w : World) (me : Private) (tx : ℕ) → IsSound w me tx → Returns w tx (begins w me)
+begins_returns w me tx sound = record { sound = sound; there = All-nil (IsInFront w); back = refl }
+
+-- a body, and its open block's save
+pub state_returns : (w : World) (me : Private) (tx : ℕ) (asked : List CallWithAnswer) → IsSound w me tx → IsTrue (body_fits w me tx asked)
+    → State tx (Fits tx) (Returns w tx) (body_state w me tx asked)
+state_returns w me tx asked sound fit =
+    runs_keep tx (Fits tx) (Returns w tx) (kept_returns w tx) (opens w me) asked (fit_all tx (opens w me) asked fit)
+    (record { now = begins_returns w me tx sound; saved = tt })
 
 -- but for the words, what a body took, given back, leaves the world with the effects of its records
 pub body_returns : (w : World) (me : Private) (tx : ℕ) (asked : List CallWithAnswer) → IsSound w me tx → IsTrue (body_fits w me tx asked)
     → given_back (body w me tx asked).world (body w me tx asked).taken
     ≡ record (with_remains w (whole (body w me tx asked).trail)) { words = (body w me tx asked).world.words }
-body_returns w me tx asked sound fit =
-    (goes_on_returns w tx (begins w me) asked fit (record { sound = sound; there = All-nil (IsInFront w); back = refl })).back
+body_returns w me tx asked sound fit = (state_returns w me tx asked sound fit).now.back

@@ -1,7 +1,8 @@
 -- What a body leaves speaks of its own objects: its records, and its late calls.
-use Rattle.std.proofs.Common.{◌≡◌, inl, inr, ℕ, List, [], ◌∷◌, ◌++◌, length, sym, ◌∙◌, subst, refl}
+use Rattle.std.proofs.Common.{◌≡◌, inl, inr, ℕ, List, [], ◌∷◌, ◌++◌, length, sym, ◌∙◌, subst, refl, append_assoc}
 use Rattle.std.specs.Prelude.{All, Contains, ◌==◌, nat_eq, if◌then◌else◌}
 use Rattle.std.specs.Cmp.Lexicographic.{pointwise, same_text}
+use Rattle.std.proofs.lemmas.List.{append-nil}
 use Rattle.std.proofs.lemmas.List.Elements.{All-nil, All-cons, All-append, All-weaker}
 use Rattle.xc_data.specs.declared.object.Object.{Object}
 use Rattle.xc_data.specs.declared.object.Object.TheVariants as object
@@ -35,7 +36,8 @@ use Rattle.xc_data.specs.declared.claim.Claim.{Claim}
 use Rattle.xc_data.specs.declared.call.CallWithAnswer.{CallWithAnswer}
 use Rattle.xc_data.specs.Claims.{objects, owned}
 use Rattle.xc_world.specs.Modes.{mode_of, claims_of}
-use Rattle.xc_world.specs.Run.{BodyResult, begins, step, goes_on, body}
+use Rattle.xc_world.specs.Run.{BodyResult, step, goes_on, gone_back, opens, body}
+use Rattle.xc_world.proofs.Blocks.{Any, any_all, runs_keep}
 use Rattle.xc_world.specs.Own.{IsNumbered, Sees, Owns, LooksWithin, late_changes, SpeaksOfOwn}
 use Rattle.xc_world.proofs.Calls.{act_cases, touched_all, objects_of_claims, owned_of_call}
 use Rattle.xc_world.proofs.Bodies.{in_front, behind, owned_behind, owns_in_front}
@@ -246,11 +248,39 @@ step_speaks tx r c so =
       late = All-append (LooksWithin (Sees tx all) (Owns tx all)) r.late (kept_call c.call r.me s.reply) kept one.late;
     }
 
-goes_on_speaks : (tx : ℕ) (r : BodyResult) (asked : List CallWithAnswer) → SpeaksOfOwn tx r → SpeaksOfOwn tx (goes_on tx r asked)
-goes_on_speaks tx r [] so = so
-goes_on_speaks tx r (c ∷ asked) so = goes_on_speaks tx (step tx r c) asked (step_speaks tx r c so)
+-- the claims that later calls add
+touched_on : (tx : ℕ) (r : BodyResult) (asked : List CallWithAnswer) → (more : List Claim) × ((goes_on tx r asked).touched ≡ r.touched ++ more)
+touched_on tx r [] = ([], sym (append-nil r.touched))
+touched_on tx r (c ∷ asked) =
+    let now = claims_of c.call r.me (length r.world.words) in
+    let rest = touched_on tx (step tx r c) asked in
+    (now ++ rest.0, rest.1 ∙ append_assoc r.touched now rest.0)
+
+-- with more claims the same records and late calls speak of its own
+speaks_with : (tx : ℕ) (r : BodyResult) (more : List Claim) → SpeaksOfOwn tx r → (all : List Claim) → all ≡ r.touched ++ more
+    → CallSpeaks (Sees tx all) (Owns tx all) r.trail r.late
+speaks_with tx r more so all e =
+    subst (λ l. CallSpeaks (Sees tx l) (Owns tx l) r.trail r.late) (sym e)
+    (record {
+      trail = All-weaker (Speaks (Owns tx r.touched)) (Speaks (Owns tx (r.touched ++ more)))
+          (λ u of. All-weaker (Owns tx r.touched) (Owns tx (r.touched ++ more)) (owns_in_front tx r.touched more) (objects_of u) of) r.trail so.trail;
+      late = All-weaker (LooksWithin (Sees tx r.touched) (Owns tx r.touched)) (LooksWithin (Sees tx (r.touched ++ more)) (Owns tx (r.touched ++ more)))
+          (λ l of. record {
+            looks = All-weaker (Sees tx r.touched) (Sees tx (r.touched ++ more)) (sees_in_front tx r.touched more) (late_objects l) of.looks;
+            changes = All-weaker (Owns tx r.touched) (Owns tx (r.touched ++ more)) (owns_in_front tx r.touched more) (late_changes l) of.changes;
+          }) r.late so.late;
+    })
+
+back_speaks : (tx : ℕ) (s : BodyResult) (calls : List CallWithAnswer) → SpeaksOfOwn tx s → SpeaksOfOwn tx (gone_back s (goes_on tx s calls))
+back_speaks tx s calls so =
+    let more = touched_on tx s calls in
+    let with_more = speaks_with tx s more.0 so (goes_on tx s calls).touched more.1 in
+    record { trail = with_more.trail; late = with_more.late }
 
 -- the records and the late calls of a body speak of its own
 pub body_speaks : (w : World) (me : Private) (tx : ℕ) (asked : List CallWithAnswer) → SpeaksOfOwn tx (body w me tx asked)
 body_speaks w me tx asked =
-    goes_on_speaks tx (begins w me) asked (record { trail = All-nil (Speaks (Owns tx [])); late = All-nil (LooksWithin (Sees tx []) (Owns tx [])) })
+    (runs_keep tx Any (SpeaksOfOwn tx) (record { plain = λ r c fit so. step_speaks tx r c so; back = λ s calls fit was is. back_speaks tx s calls was })
+    (opens w me) asked
+    (any_all tx (opens w me) asked)
+    (record { now = record { trail = All-nil (Speaks (Owns tx [])); late = All-nil (LooksWithin (Sees tx []) (Owns tx [])) }; saved = tt })).now

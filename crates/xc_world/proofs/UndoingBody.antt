@@ -22,16 +22,16 @@ use Rattle.xc_data.specs.Calls.{bytes_of}
 use Rattle.xc_world.specs.Act.Step.{Stepped, step_to, counted}
 use Rattle.xc_world.specs.Act.{fine, faulty, done, act}
 use Rattle.xc_world.specs.Fits.{fits, asks_host, may_stop, is_write, is_done}
-use Rattle.xc_world.specs.Run.{BodyResult, body, body_fits}
+use Rattle.xc_world.specs.Run.{BodyResult, step, goes_on, gone_back, opens, body, body_fits}
 use Rattle.xc_data.specs.declared.call.CallWithAnswer.{CallWithAnswer}
-use Rattle.xc_world.proofs.Joined.{body_first}
+use Rattle.xc_world.proofs.Blocks.{FitEach, Fits, fit_all, runs_keep}
+use Rattle.xc_world.proofs.EffectsBody.{step_sound, back_sound}
 use Rattle.xc_world.specs.Trail.{overwrite_record, append_record, recorded, undone, all_undone}
 use Rattle.xc_world.specs.Undoing.{BroughtBack}
 use Rattle.xc_world.proofs.UndoingParts.{same-back}
 use Rattle.xc_world.proofs.UndoingCalls.{Undoes, Stops, as_is, overwrite_at-undoes, overwrite_short-undoes, append_at-undoes, append_short-undoes}
 use Rattle.xc_world.proofs.UndoingCalls.{created-undoes, renamed-undoes, opened-undoes, read_at-undoes, seek_at-undoes, len_at-undoes, new_pipe-undoes}
 use Rattle.xc_world.proofs.UndoingCalls.{new_pair-undoes, read_pipe_at-undoes, receive_at-undoes}
-use Rattle.xc_world.proofs.Sound.{act_sound}
 
 -- what a call with its reply records brings the world before it back
 abbrev pub UndoesCall : World → Private → ℕ → Call → Stepped → Type 0
@@ -120,10 +120,17 @@ faulty-undoes w me tx (call.XWriteOvr h bytes) n sound fit =
 faulty-undoes w me tx (call.XWriteSeq h bytes) n sound fit = append_short-undoes w me h bytes n (place_of me.places h) (sound.handles h)
 faulty-undoes w me tx _ n sound fit = as_is w
 
+-- faults on a way back record nothing
+pub undone-none : (w : World) (me : Private) (tx : ℕ) (c : Call) (n : ℕ) → recorded w me tx c (reply.Undone n) ≡ []
+undone-none w me tx (call.XWriteOvr h bytes) n = overwrite_record-none w bytes (place_of me.places h)
+undone-none w me tx (call.XWriteSeq h bytes) n = append_record-none w bytes (place_of me.places h)
+undone-none w me tx _ n = refl
+
 done-undoes : (w : World) (me : Private) (tx : ℕ) (c : Call) (a : Answer) → IsSound w me tx → IsTrue (fits w me tx c a)
     → UndoesCall w me tx c (done w me tx c a)
 done-undoes w me tx c answer.Fine sound fit = fine-undoes w me tx c sound
 done-undoes w me tx c (answer.Fault n) sound fit = faulty-undoes w me tx c n sound fit
+done-undoes w me tx c (answer.Undone n) sound fit = refused-undoes w _ (undone-none w me tx c n)
 
 -- a call is refused by a check, or is done
 pub act-cases : (w : World) (me : Private) (tx : ℕ) (c : Call) (a : Answer) (P : Stepped → Type 0)
@@ -148,16 +155,29 @@ all_undone-append : (w : World) (us vs : List Undo) → all_undone w (us ++ vs) 
 all_undone-append w [] vs = refl
 all_undone-append w (u ∷ us) vs = ap (λ v. undone v u) (all_undone-append w us vs)
 
+-- undone in what was brought back to a body's world, its records bring back its begin
+pub record Rewinds (w : World) (tx : ℕ) (r : BodyResult) : Type 0 where
+  pub sound : IsSound r.world r.me tx
+  pub back : (v : World) → BroughtBack r.world v → BroughtBack w (all_undone v r.trail)
+
+step_rewinds : (w : World) (tx : ℕ) (r : BodyResult) (c : CallWithAnswer) → Fits tx r c → Rewinds w tx r → Rewinds w tx (step tx r c)
+step_rewinds w tx r c fit so =
+    let us = recorded r.world r.me tx c.call (act r.world r.me tx c.call c.answer).reply in
+    record {
+      sound = step_sound tx r c fit so.sound;
+      back = λ v brought. subst (BroughtBack w) (sym (all_undone-append v r.trail us))
+          (so.back (all_undone v us) (act-undoes r.world r.me tx c.call c.answer so.sound fit v brought));
+    }
+
+back_rewinds : (w : World) (tx : ℕ) (s : BodyResult) (calls : List CallWithAnswer) → FitEach tx (Fits tx) s calls → Rewinds w tx s
+    → Rewinds w tx (goes_on tx s calls) → Rewinds w tx (gone_back s (goes_on tx s calls))
+back_rewinds w tx s calls fit was is = record { sound = back_sound tx s calls fit was.sound is.sound; back = was.back }
+
 -- all records of a body undone bring its world back
 pub body-undoes : (w : World) (me : Private) (tx : ℕ) (asked : List CallWithAnswer) → IsSound w me tx → IsTrue (body_fits w me tx asked)
     → BroughtBack w (all_undone (body w me tx asked).world (body w me tx asked).trail)
-body-undoes w me tx [] sound fit = same-back w
-body-undoes w me tx (c ∷ asked) sound fit =
-    let s = act w me tx c.call c.answer in
-    let rest = body s.world s.me tx asked in
-    let both = and_parts (fits w me tx c.call c.answer) (body_fits s.world s.me tx asked) fit in
-    let later : BroughtBack s.world (all_undone rest.world rest.trail) =
-    body-undoes s.world s.me tx asked (act_sound w me tx c.call c.answer both.0 sound) both.1 in
-    subst (λ (r : BodyResult). BroughtBack w (all_undone r.world r.trail)) (sym (body_first w me tx c asked))
-    (subst (BroughtBack w) (sym (all_undone-append rest.world (recorded w me tx c.call s.reply) rest.trail))
-    (act-undoes w me tx c.call c.answer sound both.0 (all_undone rest.world rest.trail) later))
+body-undoes w me tx asked sound fit =
+    let r = body w me tx asked in
+    (runs_keep tx (Fits tx) (Rewinds w tx) (record { plain = step_rewinds w tx; back = back_rewinds w tx }) (opens w me) asked
+    (fit_all tx (opens w me) asked fit)
+    (record { now = record { sound = sound; back = λ v brought. brought }; saved = tt })).now.back r.world (same-back r.world)

@@ -43,6 +43,9 @@ fine w me tx (call.XWritePipe h bytes slot) = step_to w me reply.Late
 fine w me tx (call.XShutdown h slot) = step_to w me reply.Late
 fine w me tx (call.XSendmsg h bytes slot) = step_to w me reply.Late
 fine w me tx (call.XThreadCreate body slot) = step_to w me reply.Late
+fine w me tx call.Save = step_to w me reply.Done
+fine w me tx call.Keep = step_to w me reply.Done
+fine w me tx call.Back = step_to w me (reply.Undone 0)
 
 -- a call that passed the checks, where the host fails after n bytes
 abbrev pub faulty : World → Private → Call → ℕ → Stepped
@@ -67,11 +70,15 @@ faulty w me (call.XWritePipe h bytes slot) n = step_to w me (reply.Fault n)
 faulty w me (call.XShutdown h slot) n = step_to w me (reply.Fault n)
 faulty w me (call.XSendmsg h bytes slot) n = step_to w me (reply.Fault n)
 faulty w me (call.XThreadCreate body slot) n = step_to w me (reply.Fault n)
+faulty w me call.Save n = step_to w me (reply.Fault n)
+faulty w me call.Keep n = step_to w me (reply.Fault n)
+faulty w me call.Back n = step_to w me (reply.Fault n)
 
 -- what a call does that its private checks pass, as the host answers it
 abbrev pub done : World → Private → ℕ → Call → Answer → Stepped
 done w me tx call answer.Fine = fine w me tx call
 done w me tx call (answer.Fault n) = faulty w me call n
+done w me tx call (answer.Undone n) = step_to w me (reply.Undone n)
 
 -- what a call does: the private checks refuse it, or it is done
 abbrev pub act : World → Private → ℕ → Call → Answer → Stepped

@@ -49,3 +49,6 @@ is_on_data (call.XClose h) = false
 is_on_data (call.XUnlink name slot) = false
 is_on_data (call.XSync h slot) = false
 is_on_data (call.XThreadCreate body slot) = false
+is_on_data call.Save = false
+is_on_data call.Keep = false
+is_on_data call.Back = false

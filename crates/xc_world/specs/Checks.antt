@@ -50,6 +50,9 @@ is_bad_handle call.XPipe me = false
 is_bad_handle call.XPair me = false
 is_bad_handle (call.XUnlink name slot) me = false
 is_bad_handle (call.XThreadCreate body slot) me = false
+is_bad_handle call.Save me = false
+is_bad_handle call.Keep me = false
+is_bad_handle call.Back me = false
 
 -- bytes or a read of more than 1,024, a seek past 65,536
 abbrev pub is_too_big : Call → Bool
@@ -90,6 +93,9 @@ is_too_much (call.XUnlink name slot) me = false
 is_too_much (call.XSync h slot) me = false
 is_too_much (call.XShutdown h slot) me = false
 is_too_much (call.XThreadCreate body slot) me = false
+is_too_much call.Save me = false
+is_too_much call.Keep me = false
+is_too_much call.Back me = false
 
 -- there is no such word
 abbrev pub is_bad_word : Call → ℕ → Bool
@@ -114,6 +120,9 @@ is_bad_word (call.XWritePipe h bytes slot) words = false
 is_bad_word (call.XShutdown h slot) words = false
 is_bad_word (call.XSendmsg h bytes slot) words = false
 is_bad_word (call.XThreadCreate body slot) words = false
+is_bad_word call.Save words = false
+is_bad_word call.Keep words = false
+is_bad_word call.Back words = false
 
 -- one of the checks refuses the call
 abbrev pub is_refused : Call → Private → ℕ → Bool
@@ -135,13 +144,16 @@ refusal_of call me =
     else if is_too_much call me then Some reply.TooMuch
     else None
 
--- replies that only these checks give; an append is too big also where the file has no room for it
+-- replies that a call never gives which these checks let pass: their own, and that of a way back. But an append is too big also
+-- where the file has no room for it, and a back tells of its way
 abbrev pub is_check_reply : Call → Reply → Bool
 is_check_reply (call.XWriteSeq h bytes) reply.TooBig = false
+is_check_reply call.Back (reply.Undone faults) = false
+is_check_reply call (reply.Undone faults) = true
 is_check_reply call reply.BadHandle = true
 is_check_reply call reply.TooBig = true
 is_check_reply call reply.TooMuch = true
--- no other reply is given by these checks, nor one yet to come
+-- any other reply may come, also one yet to come
 is_check_reply call _ = false
 
 -- refused exactly where one of them refuses the call, with its reply

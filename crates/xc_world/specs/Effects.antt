@@ -42,6 +42,9 @@ takes_data (call.XWritePipe h bytes slot) = false
 takes_data (call.XShutdown h slot) = false
 takes_data (call.XSendmsg h bytes slot) = false
 takes_data (call.XThreadCreate body slot) = false
+takes_data call.Save = false
+takes_data call.Keep = false
+takes_data call.Back = false
 
 -- ---- records that were made one after another, each in the world that the ones before it left
 module _ (w : World) where

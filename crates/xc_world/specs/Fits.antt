@@ -43,6 +43,9 @@ asks_host (call.XWritePipe h bytes slot) = false
 asks_host (call.XShutdown h slot) = false
 asks_host (call.XSendmsg h bytes slot) = false
 asks_host (call.XThreadCreate body slot) = false
+asks_host call.Save = false
+asks_host call.Keep = false
+asks_host call.Back = false
 
 -- whether a call writes to a file
 abbrev pub is_write : Call → Bool
@@ -67,6 +70,9 @@ is_write (call.XWritePipe h bytes slot) = false
 is_write (call.XShutdown h slot) = false
 is_write (call.XSendmsg h bytes slot) = false
 is_write (call.XThreadCreate body slot) = false
+is_write call.Save = false
+is_write call.Keep = false
+is_write call.Back = false
 
 -- whether a reply is `Done`
 abbrev pub is_done : Reply → Bool
@@ -78,11 +84,19 @@ is_done _ = false
 abbrev pub may_stop : World → Private → ℕ → Call → ℕ → Bool
 may_stop w me tx call n = is_write call && is_done (fine w me tx call).reply && nat_lt n (length (bytes_of call))
 
--- a fault fits what passes the private checks: with no byte done, what asks the host; else such a write
+-- whether a call goes back
+abbrev pub is_back : Call → Bool
+is_back call.Back = true
+-- no other call does
+is_back _ = false
+
+-- faults on a way back fit that call alone; a fault fits what passes the private checks: with no byte done, what asks the host; else such
+-- a write
 abbrev pub fits : World → Private → ℕ → Call → Answer → Bool
 fits w me tx call answer.Fine = true
 fits w me tx call (answer.Fault n) =
     not (is_refused call me (length w.words)) && (if n == 0 then asks_host call else may_stop w me tx call n)
+fits w me tx call (answer.Undone n) = is_back call
 
 -- ---- late calls
 abbrev pub is_thread : LateCall → Bool
@@ -121,6 +135,7 @@ is_within c answer = nat_le (late_done answer) (length (late_bytes_of c))
 -- ---- the answers that an entry records
 abbrev pub answer_of : Reply → Answer
 answer_of (reply.Fault n) = answer.Fault n
+answer_of (reply.Undone n) = answer.Undone n
 -- any other reply tells of no fault, also one yet to come
 answer_of _ = answer.Fine
 

@@ -29,6 +29,7 @@ is_refusal (reply.Made h) = false
 is_refusal (reply.MadePair h g) = false
 is_refusal reply.Done = false
 is_refusal reply.Late = false
+is_refusal (reply.Undone n) = false
 
 -- two worlds have the same at an object
 abbrev pub AgreeAt : World → World → Object → Type 0

@@ -16,4 +16,5 @@ pub mod Undoing
 pub mod Modes
 pub mod Joined
 pub mod Own
+pub mod Inner
 pub mod Beside

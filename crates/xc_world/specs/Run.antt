@@ -1,5 +1,6 @@
 -- A transaction run whole on the plain machine: its body, then its late calls.
-use Rattle.std.specs.Prelude.{ℕ, ◌==◌, ◌&&◌, Bool, true, List, [], ◌∷◌, ◌++◌, length, if◌then◌else◌}
+use Rattle.std.specs.Prelude.{ℕ, ◌==◌, ◌&&◌, Bool, true, List, [], ◌∷◌, ◌++◌, length, Option, if◌then◌else◌}
+use Rattle.std.specs.declared.option.Option.TheVariants.{None, Some}
 use Rattle.std.specs.List.{fold}
 use Rattle.xc_data.specs.declared.call.Call.{Call}
 use Rattle.xc_data.specs.declared.call.Call.TheVariants as call
@@ -65,6 +66,9 @@ taken_by (call.XWritePipe h bytes slot) me r = []
 taken_by (call.XShutdown h slot) me r = []
 taken_by (call.XSendmsg h bytes slot) me r = []
 taken_by (call.XThreadCreate body slot) me r = []
+taken_by call.Save me r = []
+taken_by call.Keep me r = []
+taken_by call.Back me r = []
 
 -- ---- the same given back, in front of what is there now
 -- the object that it was taken from
@@ -114,20 +118,81 @@ stepped tx ran call s =
 abbrev pub step : ℕ → BodyResult → CallWithAnswer → BodyResult
 step tx ran asked = stepped tx ran asked.call (act ran.world ran.me tx asked.call asked.answer)
 
--- the calls one after another
+-- calls one after another, none of which opens or closes a block
 abbrev pub goes_on : ℕ → BodyResult → List CallWithAnswer → BodyResult
 goes_on tx ran asked = fold (step tx) ran asked
 
--- the calls of a body, one after another from its begin
-abbrev pub body : World → Private → ℕ → List CallWithAnswer → BodyResult
-body w me tx asked = goes_on tx (begins w me) asked
+-- such calls from a begin
+abbrev pub plain_body : World → Private → ℕ → List CallWithAnswer → BodyResult
+plain_body w me tx asked = goes_on tx (begins w me) asked
 
 -- each answer fits its call where it is made
-abbrev pub body_fits : World → Private → ℕ → List CallWithAnswer → Bool
-body_fits w me tx [] = true
-body_fits w me tx (c ∷ asked) =
+abbrev pub plain_fits : World → Private → ℕ → List CallWithAnswer → Bool
+plain_fits w me tx [] = true
+plain_fits w me tx (c ∷ asked) =
     let s = act w me tx c.call c.answer in
-    fits w me tx c.call c.answer && body_fits s.world s.me tx asked
+    fits w me tx c.call c.answer && plain_fits s.world s.me tx asked
+
+-- ---- inner blocks
+-- where a body stands, and in an open block what it was at the block's save
+pub record BlockState : Type 0 where
+  pub now : BodyResult
+  pub saved : Option BodyResult
+
+-- it is what it was at the save, with all replies and claims; what it made and stored counts on
+abbrev pub gone_back : BodyResult → BodyResult → BodyResult
+gone_back saved now =
+    record {
+      world = saved.world;
+      me = record now.me { places = saved.me.places };
+      replies = now.replies;
+      late = saved.late;
+      trail = saved.trail;
+      taken = saved.taken;
+      touched = now.touched;
+    }
+
+-- the same where a block is open
+abbrev pub back_from : Option BodyResult → BodyResult → BodyResult
+back_from None now = now
+back_from (Some saved) now = gone_back saved now
+
+-- a save keeps a copy, a keep drops it, and a back goes back to it and drops it
+abbrev pub marked : Call → Option BodyResult → BodyResult → BlockState
+marked call.Save saved now = record { now = now; saved = Some now }
+marked call.Keep saved now = record { now = now; saved = None }
+marked call.Back saved now = record { now = back_from saved now; saved = None }
+-- any other call is made in the block that is open, also one yet to come
+marked _ saved now = record { now = now; saved = saved }
+
+-- one call more
+abbrev pub block_step : ℕ → BlockState → CallWithAnswer → BlockState
+block_step tx s asked = marked asked.call s.saved (step tx s.now asked)
+
+-- calls one after another
+abbrev pub runs_on : ℕ → BlockState → List CallWithAnswer → BlockState
+runs_on tx s asked = fold (block_step tx) s asked
+
+-- a body that has made no call yet, in no block
+abbrev pub opens : World → Private → BlockState
+opens w me = record { now = begins w me; saved = None }
+
+-- the calls of a body, one after another from its begin
+abbrev pub body_state : World → Private → ℕ → List CallWithAnswer → BlockState
+body_state w me tx asked = runs_on tx (opens w me) asked
+
+-- and what it gives
+abbrev pub body : World → Private → ℕ → List CallWithAnswer → BodyResult
+body w me tx asked = (body_state w me tx asked).now
+
+-- each answer fits its call where it is made
+abbrev pub fits_on : ℕ → BlockState → List CallWithAnswer → Bool
+fits_on tx s [] = true
+fits_on tx s (c ∷ asked) = fits s.now.world s.now.me tx c.call c.answer && fits_on tx (block_step tx s c) asked
+
+-- from its begin
+abbrev pub body_fits : World → Private → ℕ → List CallWithAnswer → Bool
+body_fits w me tx asked = fits_on tx (opens w me) asked
 
 -- the claims that a body holds at its end
 abbrev pub held_by : World → Private → ℕ → List CallWithAnswer → List Claim

@@ -43,6 +43,9 @@ objects_of_call (call.XWritePipe h bytes slot) me = object_at (place_of me.place
 objects_of_call (call.XShutdown h slot) me = object_at (place_of me.places h)
 objects_of_call (call.XSendmsg h bytes slot) me = object_at (place_of me.places h)
 objects_of_call (call.XThreadCreate body slot) me = object.Jobs ∷ []
+objects_of_call call.Save me = []
+objects_of_call call.Keep me = []
+objects_of_call call.Back me = []
 
 -- a refused call touches nothing
 abbrev pub touch : Call → Private → ℕ → List Object
@@ -71,3 +74,6 @@ made_by (call.XWritePipe h bytes slot) me tx = []
 made_by (call.XShutdown h slot) me tx = []
 made_by (call.XSendmsg h bytes slot) me tx = []
 made_by (call.XThreadCreate body slot) me tx = []
+made_by call.Save me tx = []
+made_by call.Keep me tx = []
+made_by call.Back me tx = []

@@ -83,6 +83,9 @@ recorded w me tx (call.XWritePipe h bytes slot) reply = []
 recorded w me tx (call.XShutdown h slot) reply = []
 recorded w me tx (call.XSendmsg h bytes slot) reply = []
 recorded w me tx (call.XThreadCreate body slot) reply = []
+recorded w me tx call.Save reply = []
+recorded w me tx call.Keep reply = []
+recorded w me tx call.Back reply = []
 
 -- ---- what stands of a record: its effect, of its covered bytes from the k-th on
 abbrev pub move_name : World → List ℕ → List ℕ → Option Num → World

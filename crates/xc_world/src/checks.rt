@@ -38,7 +38,7 @@ pub fn is_bad_handle(call: &Call, me: &Private) -> bool
         Call::XShutdown { h, .. } => !(is_pipe(me.place(*h)) || is_pair(me.place(*h))),
         Call::Load { .. } | Call::Store { .. } | Call::XOpen { .. } | Call::XCreate { .. } => false,
         Call::XRename { .. } | Call::XPipe | Call::XPair | Call::XUnlink { .. } => false,
-        Call::XThreadCreate { .. } => false,
+        Call::XThreadCreate { .. } | Call::Save | Call::Keep | Call::Back => false,
     }
 }
 
@@ -92,6 +92,7 @@ pub fn is_too_much(call: &Call, me: &Private) -> bool
         Call::Load { .. } | Call::Store { .. } | Call::XSeek { .. } | Call::XLen { .. } => false,
         Call::XRename { .. } | Call::XClose { .. } | Call::XUnlink { .. } => false,
         Call::XSync { .. } | Call::XShutdown { .. } | Call::XThreadCreate { .. } => false,
+        Call::Save | Call::Keep | Call::Back => false,
     }
 }
 
@@ -107,6 +108,7 @@ pub fn is_bad_word(call: &Call, words: u64) -> bool
         Call::XReadPipe { .. } | Call::XPair | Call::XRecvmsg { .. } => false,
         Call::XUnlink { .. } | Call::XSync { .. } | Call::XWritePipe { .. } => false,
         Call::XShutdown { .. } | Call::XSendmsg { .. } | Call::XThreadCreate { .. } => false,
+        Call::Save | Call::Keep | Call::Back => false,
     }
 }
 

@@ -104,5 +104,6 @@ pub fn push_claims(claims: &mut ArrayVec<Claim, 2>, call: &Call, me: &Private, w
         Call::XShutdown { h, .. } | Call::XSendmsg { h, .. } => push_held(claims, mode, me, *h),
         Call::XThreadCreate { .. } => push_jobs(claims, mode),
         Call::XSeek { .. } | Call::XClose { .. } | Call::XPipe | Call::XPair => {}
+        Call::Save | Call::Keep | Call::Back => {}
     }
 }

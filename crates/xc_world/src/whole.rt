@@ -26,7 +26,7 @@ ghost use Rattle.xc_data.specs.declared.claim.Claim.{Claim};
 ghost use Rattle.xc_data.specs.declared.claim.Mode.TheVariants.{Shared};
 ghost use Rattle.xc_data.specs.Claims.{AreOnceAtMost, held_of, objects, owned};
 ghost use Rattle.xc_world.specs.Modes.{mode_of};
-ghost use Rattle.xc_world.specs.Run.{body, body_fits, run, run_fits, step};
+ghost use Rattle.xc_world.specs.Run.{plain_body, block_step, body_state, body, body_fits, run, run_fits};
 ghost use Rattle.xc_world.specs.Joined.{behind};
 ghost use Rattle.xc_world.specs.Own.{AgreeOn, IsNumbered, KeepsBut, Owns, Sees, RanAlike, RunAlike, SpeaksOfOwn, late_changes};
 
@@ -144,7 +144,7 @@ pub fn what_remains_changes_its_objects_alone()
 /// One call more is one step more.
 pub fn a_call_more_is_a_step_more()
     ensures { (w : World) (me : Private) (tx : ℕ) (asked : List CallWithAnswer) (call : CallWithAnswer)
-        → body w me tx (asked ++ call ∷ []) ≡ step tx (body w me tx asked) call }
+        → body_state w me tx (asked ++ call ∷ []) ≡ block_step tx (body_state w me tx asked) call }
 {}
 
 /// What fits a body of a call more: what fits the body, and an answer that fits after it.
@@ -154,10 +154,11 @@ pub fn what_fits_a_call_more()
         ≡ (body_fits w me tx asked && fits (body w me tx asked).world (body w me tx asked).me tx call.call call.answer) }
 {}
 
-/// A body in two parts is the first with the second after it, which begins where the first ended.
+/// Calls that open and close no block, in two parts, are the first with the second after it, which begins where the first ended.
 pub fn a_body_in_two_parts()
     ensures { (w : World) (me : Private) (tx : ℕ) (front rest : List CallWithAnswer)
-        → body w me tx (front ++ rest) ≡ behind (body w me tx front) (body (body w me tx front).world (body w me tx front).me tx rest) }
+        → plain_body w me tx (front ++ rest)
+        ≡ behind (plain_body w me tx front) (plain_body (plain_body w me tx front).world (plain_body w me tx front).me tx rest) }
 {}
 
 /// What is held are the objects that were claimed.

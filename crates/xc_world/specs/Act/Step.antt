@@ -44,6 +44,9 @@ storing_call (call.XUnlink name slot) me = me
 storing_call (call.XSync h slot) me = me
 storing_call (call.XShutdown h slot) me = me
 storing_call (call.XThreadCreate body slot) me = me
+storing_call call.Save me = me
+storing_call call.Keep me = me
+storing_call call.Back me = me
 
 -- the bytes of a reply are stored
 abbrev pub storing_reply : Reply → Private → Private
