@@ -1,4 +1,5 @@
-ghost use Rattle.std.specs.Prelude.{◌≡◌, ◌≤◌, ◌+◌, ◌-◌, ◌^◌, ◌++◌, ◌∷◌, [], true, min, length, List, All, OnOk, OnErr};
+ghost use Rattle.std.specs.Prelude.{◌≡◌, ◌≤◌, ◌+◌, ◌-◌, ◌^◌, ◌++◌, ◌∷◌, [], true, min, length, take, drop, List, All, MatchOption, OnOk};
+ghost use Rattle.std.specs.Prelude.{OnErr};
 ghost use Rattle.xc_data.specs.declared.entry.KeptItem.{KeptItem as PlainItem};
 ghost use Rattle.xc_buffers.specs.Changes.{PutsAll, PutsFront};
 ghost use Rattle.xc_buffers.specs.Items.{AreKept, is_fit};
@@ -74,6 +75,39 @@ impl Taken {
         ensures in_order { AreKept kept.old.items → AreKept kept.new.items }
     {
         if let Some(item) = self.notes.pop() {
+            kept.give(item);
+        }
+    }
+
+    /// How many notes there are, as a mark. It takes no memory.
+    pub fn mark(&self) -> u32
+        ensures { result ≡ min (length self.now.items) (2 ^ 32 - 1) }
+    {
+        capped(self.notes.len())
+    }
+
+    // Takes the newest note where there are more than these. It takes no memory.
+    fn pop_above(&mut self, mark: u32) -> Option<KeptItem>
+        ensures { MatchOption result ((self.new ≡ self.old) × (length self.old.items ≤ mark)) (λ item.
+            (self.old.items ≡ self.new.items ++ item ∷ []) × (mark ≤ length self.new.items) × (is_fit item ≡ true)) }
+    {
+        if (mark as usize) < self.notes.len() {
+            self.notes.pop()
+        } else {
+            None
+        }
+    }
+
+    /// Gives back what was noted above a mark, the newest first, so that the oldest of it stands in front as before it was
+    /// taken. It takes no memory.
+    pub fn give_to(&mut self, kept: &mut Kept, mark: u32)
+        requires { length (drop mark self.old.items) ≤ kept.old.spare }
+        ensures given { PutsAll (drop mark self.old.items) kept.old.items kept.new.items }
+        ensures spare { kept.old.spare ≡ kept.new.spare + length (drop mark self.old.items) }
+        ensures left { self.new.items ≡ take mark self.old.items }
+        ensures in_order { AreKept kept.old.items → AreKept kept.new.items }
+    {
+        while let Some(item) = self.pop_above(mark) {
             kept.give(item);
         }
     }

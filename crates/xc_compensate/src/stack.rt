@@ -1,8 +1,10 @@
-ghost use Rattle.std.specs.Prelude.{◌≡◌, ◌≢◌, ◌==◌, ◌≤◌, ◌<◌, ◌+◌, ◌++◌, ◌∷◌, [], ℕ, List, length, OnOk, OnErr, IsTrue};
+ghost use Rattle.std.specs.Prelude.{true, All, ◌-◌, ◌^◌, min, sum_by, ◌≡◌, ◌≢◌, ◌==◌, ◌≤◌, ◌<◌, ◌+◌, ◌++◌, ◌∷◌, [], ℕ, List, length, OnOk};
+ghost use Rattle.std.specs.Prelude.{OnErr, IsTrue};
 ghost use Rattle.std.specs.List.{list_any};
 ghost use Rattle.xc_data.specs.declared.undo.Undo.{Undo};
 ghost use Rattle.xc_data.specs.declared.undo.UndoEnd.{UndoEnd};
-ghost use Rattle.xc_world.specs.Ends.{blocker};
+ghost use Rattle.xc_data.specs.Faults.{end_faults, undo_faults};
+ghost use Rattle.xc_world.specs.Ends.{blocker, is_undone};
 ghost use Rattle.xc_compensate.specs.Hindered.{hinders};
 ghost use Rattle.xc_compensate.specs.declared.stack.UndoTurn.TheVariants.{Ended};
 ghost use Rattle.xc_compensate.specs.Records.{Records, IsRecord, IsTried, NextIsCovered, covers, covered, cut_to};
@@ -69,6 +71,16 @@ fn turn_of(end: UndoEnd) -> UndoTurn
         UndoEnd::Undone { faults } => UndoTurn::Undone { faults },
         UndoEnd::Failed { done, faults } => UndoTurn::Failed { done, faults },
         UndoEnd::Blocked { by } => UndoTurn::Blocked { by },
+    }
+}
+
+// The faults that a compensation met.
+fn faults_of(end: &UndoEnd) -> u32
+    ensures { result ≡ end_faults end.now }
+{
+    match end {
+        UndoEnd::Undone { faults } | UndoEnd::Failed { faults, .. } => *faults,
+        UndoEnd::Blocked { .. } => 0,
     }
 }
 
@@ -165,6 +177,56 @@ impl Stack {
         self.pending = newest;
         self.hindered = !is_undone(end) || self.hindered;
         turn_of(end)
+    }
+
+    /// How many records there are. It takes no memory.
+    pub fn mark(&self) -> u32
+        ensures { result ≡ length self.now.pending + length self.now.ended }
+    {
+        self.records.len() as u32
+    }
+
+    /// How many records have no end yet: the number of the one that is tried next. It takes no memory.
+    pub fn left(&self) -> u32
+        ensures { result ≡ length self.now.pending }
+    {
+        self.pending as u32
+    }
+
+    /// How many faults the compensations so far met, at most 2^32 - 1. It takes no memory.
+    pub fn faults(&self) -> u32
+        ensures { result ≡ min (sum_by undo_faults self.now.ended) (2 ^ 32 - 1) }
+    {
+        let mut faults: u32 = 0;
+        for (_, end) in &self.records[self.pending..] {
+            faults = faults.saturating_add(faults_of(end));
+        }
+        faults
+    }
+
+    /// Tries the newest record that has no end yet, as `undo_next` does, but none of the first so many. It takes no memory.
+    pub fn undo_to<H: Host>(&mut self, host: &mut H, tries: u32, mark: u32) -> UndoTurn
+        requires tries { 1 ≤ tries }
+        requires covered { IsTrue H.model.tells → NextIsCovered (H.model.contents host.old) self.old }
+        ensures ended { length self.old.pending ≤ mark → (result ≡ Ended) × (self.new ≡ self.old) × (host.new ≡ host.old) }
+        ensures tried { mark < length self.old.pending
+            → (t : IsTried H.model tries (record { host = host.old; undo = self.old }) (record { host = host.new; undo = self.new }))
+            × (result ≡ turn_of t.end) }
+    {
+        if self.pending <= mark as usize {
+            return UndoTurn::Ended;
+        }
+        self.undo_next(host, tries)
+    }
+
+    /// Drops the records after the first so many, each of which is undone. It takes no memory.
+    pub fn forget(&mut self, mark: u32)
+        requires above { length self.old.pending ≡ mark }
+        requires undone { All (λ e. is_undone e.1 ≡ true) self.old.ended }
+        ensures { self.new ≡ record { pending = self.old.pending; ended = [] } }
+    {
+        self.records.truncate(mark as usize);
+        self.hindered = false;
     }
 
     /// Whether every record has its end.

@@ -1,4 +1,4 @@
-ghost use Rattle.std.specs.Prelude.{◌≡◌, ◌<◌, ◌++◌, ◌∷◌, [], List, true, length, None, MatchBool, OnOk, OnErr, IsTrue};
+ghost use Rattle.std.specs.Prelude.{◌-◌, ◌^◌, min, take, ◌≡◌, ◌<◌, ◌++◌, ◌∷◌, [], List, true, length, None, MatchBool, OnOk, OnErr, IsTrue};
 ghost use Rattle.xc_data.specs.Calls.{thread_in};
 ghost use Rattle.xc_data.specs.declared.call.LateCall.{LateCall as PlainCall};
 ghost use Rattle.xc_deferred.specs.Does.{EndsNext, IsThereFor};
@@ -71,6 +71,21 @@ impl Late {
         self.calls.reserve(1)?;
         self.calls.enter(call);
         Ok(())
+    }
+
+    /// How many calls there are. It takes no memory.
+    pub fn count(&self) -> u32
+        ensures { result ≡ min (length self.now.calls) (2 ^ 32 - 1) }
+    {
+        self.calls.len().min(u32::MAX as usize) as u32
+    }
+
+    /// Keeps the first so many calls, none of which is done. It takes no memory.
+    pub fn cut(&mut self, n: u32)
+        requires { self.old.ends ≡ [] }
+        ensures { self.new ≡ record { calls = take n self.old.calls; ends = [] } }
+    {
+        self.calls.cut(n as usize);
     }
 
     /// Whether a call has no end yet.

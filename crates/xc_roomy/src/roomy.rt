@@ -1,4 +1,5 @@
-ghost use Rattle.std.specs.Prelude.{◌≡◌, ◌↔◌, ◌++◌, ◌∷◌, [], ◌+◌, ◌≤◌, ◌<◌, length, slice_get, slice_set, Some, IsTrue, IsOk, OnOk, OnErr};
+ghost use Rattle.std.specs.Prelude.{◌≡◌, ◌↔◌, ◌++◌, ◌∷◌, [], ◌+◌, ◌≤◌, ◌<◌, length, take, slice_get, slice_set, Some, IsTrue, IsOk, OnOk};
+ghost use Rattle.std.specs.Prelude.{OnErr};
 
 use std::alloc::Global;
 use std::marker::Model;
@@ -103,6 +104,14 @@ impl<T: Drop> Roomy<T> {
         ensures spare { self.new.spare + 1 ≡ self.old.spare }
     {
         self.items.push_reserved(item);
+    }
+
+    /// Keeps the first so many items, and the room of the others. It takes no memory.
+    pub fn cut(&mut self, n: usize)
+        ensures items { self.new.items ≡ take n self.old.items }
+        ensures spare { self.old.spare ≤ self.new.spare }
+    {
+        self.items.truncate(n);
     }
 
     /// Puts another item in the place of one. It takes no memory.

@@ -1,1 +1,3 @@
 pub mod Overlay
+pub mod Saves
+pub mod Views

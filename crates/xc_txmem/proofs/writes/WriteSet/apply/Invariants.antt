@@ -6,7 +6,7 @@ use Rattle.xc_txmem.proofs.writes.WriteSet.apply.Given as goal
 abbrev pub invariant-loop-at : goal.invariant-loop-at
 invariant-loop-at l =
     record {
-      rest : overlaid l.words (drop l.at-index l.self) ≡ overlaid l.fn.words l.self;
-      within : AreWithin (length l.words) (drop l.at-index l.self);
+      rest : overlaid l.words (drop l.at-index l.self.stores) ≡ overlaid l.fn.words l.self.stores;
+      within : AreWithin (length l.words) (drop l.at-index l.self.stores);
       count : length l.words ≡ length l.fn.words;
     }

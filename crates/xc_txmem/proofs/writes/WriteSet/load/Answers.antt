@@ -8,8 +8,8 @@ pub returns-in-Some : goal.returns-in-Some
 returns-in-Some c =
     let before = slice_index c.args.words.now c.args.at in
     late_found c.self.inside.newest c.self.inside.stores.items c.args.at before c.in-Some.value.now
-    c.self.invariant (sym c.get.ensures.value ∙ ap option_copied c.in-Some.is)
-    ∙ ap (left_at c.args.at before) c.self.view_is ∙ index-overlaid c.args.words.now c.args.self.now c.args.at c.requires
+    c.self.invariant.0 (sym c.get.ensures.value ∙ ap option_copied c.in-Some.is)
+    ∙ ap (λ v. left_at c.args.at before v.stores) c.self.view_is ∙ index-overlaid c.args.words.now c.args.self.now.stores c.args.at c.requires
 
 pub returns-in-None : goal.returns-in-None
 returns-in-None c =
@@ -20,5 +20,5 @@ returns-in-None c =
     ∙ ap (λ n. left_at c.args.at before (take n c.deref.result.now)) count
     ∙ ap (λ s. left_at c.args.at before (take (min 8 (length c.self.inside.stores.items)) s)) c.deref.ensures.value
     ∙ early_found c.self.inside.newest c.self.inside.stores.items c.args.at before
-    c.self.invariant (sym c.get.ensures.value ∙ ap option_copied c.in-None.is)
-    ∙ ap (left_at c.args.at before) c.self.view_is ∙ index-overlaid c.args.words.now c.args.self.now c.args.at c.requires
+    c.self.invariant.0 (sym c.get.ensures.value ∙ ap option_copied c.in-None.is)
+    ∙ ap (λ v. left_at c.args.at before v.stores) c.self.view_is ∙ index-overlaid c.args.words.now c.args.self.now.stores c.args.at c.requires

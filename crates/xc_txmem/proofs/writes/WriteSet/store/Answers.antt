@@ -1,5 +1,7 @@
-use Rattle.std.proofs.Common.{◌≡◌, [], ◌∷◌, ◌++◌, ◌<◌, ◌≤◌, length, ap, sym, subst, drop, ◌∙◌, arith}
+use Rattle.std.proofs.Common.{◌≡◌, ℕ, [], ◌∷◌, ◌++◌, ◌<◌, ◌≤◌, length, ap, sym, subst, drop, ◌∙◌, arith}
 use Rattle.xc_txmem.specs.Overlay.{overlaid, IsNewest}
+use Rattle.xc_txmem.specs.Saves.{IsSaved}
+use Rattle.xc_txmem.proofs.Saved.{saved_more, saved_same, seen_as, writes_of}
 use Rattle.xc_txmem.proofs.Overlays.{early_adds, late_adds, overlay_adds}
 use Rattle.xc_txmem.proofs.writes.WriteSet.store.Goals.{then-len-ge-WALKED+in_ok-insert, else-len-ge-WALKED}
 use Rattle.xc_txmem.proofs.writes.WriteSet.store.Goals as goal
@@ -18,20 +20,40 @@ pushed c =
 pub invariant_of-self-2 : goal.invariant_of-self-2
 invariant_of-self-2 c =
     let stores = c.self.inside.stores.items in
+    let saved = subst (λ s. IsSaved c.self.inside.saved s) (sym (pushed c))
+    (saved_more c.self.inside.saved stores (c.args.at, c.args.value) c.self.invariant.1) in
     elim c.if-len-ge-WALKED.branch [
       | then-len-ge-WALKED+in_ok-insert w ↦
           let many : 8 ≤ length stores = omega arith in
-          subst (λ i. IsNewest i.newest (drop 8 c.push_reserved.new.self.items)) (sym w.self-inside-is)
-          (subst (λ s. IsNewest w.insert.new.self (drop 8 s)) (sym (pushed c))
-          (late_adds c.self.inside.newest w.insert.new.self stores c.args.at c.args.value many c.self.invariant w.in_ok-insert.ensures.updates))
+          subst (λ i. IsNewest i.newest (drop 8 c.push_reserved.new.self.items) × IsSaved i.saved c.push_reserved.new.self.items) (sym w.self-inside-is) (
+            subst (λ s. IsNewest w.insert.new.self (drop 8 s)) (sym (pushed c))
+                (late_adds c.self.inside.newest w.insert.new.self stores c.args.at c.args.value many c.self.invariant.0 w.in_ok-insert.ensures.updates),
+            saved,
+          )
       | else-len-ge-WALKED w ↦
           let few : length stores < 8 = omega arith in
-          subst (λ i. IsNewest i.newest (drop 8 c.push_reserved.new.self.items)) (sym w.self-inside-is)
-          (subst (λ s. IsNewest c.self.inside.newest (drop 8 s)) (sym (pushed c))
-          (early_adds c.self.inside.newest stores c.args.at c.args.value few c.self.invariant))
+          subst (λ i. IsNewest i.newest (drop 8 c.push_reserved.new.self.items) × IsSaved i.saved c.push_reserved.new.self.items) (sym w.self-inside-is) (
+            subst (λ s. IsNewest c.self.inside.newest (drop 8 s)) (sym (pushed c))
+                (early_adds c.self.inside.newest stores c.args.at c.args.value few c.self.invariant.0),
+            saved,
+          )
     ]
 
 pub returns-clause-over : goal.returns-clause-over
 returns-clause-over c = λ words.
-    ap (overlaid words) (pushed c ∙ ap (λ s. s ++ (c.args.at, c.args.value) ∷ []) c.self.view_is)
-    ∙ overlay_adds words c.args.self.now c.args.at c.args.value
+    ap (overlaid words) (pushed c ∙ ap (λ s. s.stores ++ (c.args.at, c.args.value) ∷ []) c.self.view_is)
+    ∙ overlay_adds words c.args.self.now.stores c.args.at c.args.value
+
+pub returns-clause-ok : goal.returns-clause-ok
+returns-clause-ok c =
+    let stores = c.self.inside.stores.items in
+    let store : ℕ × ℕ = (c.args.at, c.args.value) in
+    let kept : c.if-len-ge-WALKED.self-inside.saved ≡ c.self.inside.saved
+    = elim c.if-len-ge-WALKED.branch [
+      | then-len-ge-WALKED+in_ok-insert w ↦ ap (λ i. i.saved) w.self-inside-is
+      | else-len-ge-WALKED w ↦ ap (λ i. i.saved) w.self-inside-is
+    ] in
+    ap (seen_as c.push_reserved.new.self.items) kept
+    ∙ ap (λ s. seen_as s c.self.inside.saved) (pushed c)
+    ∙ ap (writes_of (stores ++ store ∷ [])) (saved_same c.self.inside.saved stores store c.self.invariant.1)
+    ∙ ap (λ v. writes_of (v.stores ++ store ∷ []) v.saved) c.self.view_is
