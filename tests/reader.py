@@ -56,16 +56,28 @@ OTHERS = {
     "let": ["VARIABLE TERM", "VARIABLE TERM SIGN TERM"],
     "abort": ["", "if TERM OP TERM"],
     "require": [""],
-    "commit": [""],
 }
+OUTSIDE = {"save": [""], "commit": [""]}
+INSIDE = {"keep": [""], "back": ["", "if TERM OP TERM"]}
+COUNTED = {*CALLS, "save", "keep", "back"}
 # The lines of each place, and the place that follows a line, if it is another one.
 PLACES = {
     "prologue": {**PROLOGUE, **BLOCKS},
     "block": TRANSACTIONS,
-    "transaction": {**CALLS, **OTHERS},
+    "transaction": {**CALLS, **OTHERS, **OUTSIDE},
+    "inner block": {**CALLS, **OTHERS, **INSIDE},
     "after": BLOCKS,
 }
-NEXT = {"job": "block", "body": "block", "tx": "transaction", "commit": "block", "end": "after"}
+NEXT = {
+    "job": "block",
+    "body": "block",
+    "tx": "transaction",
+    "save": "inner block",
+    "keep": "transaction",
+    "commit": "block",
+    "end": "after",
+}
+MAY_END = ("prologue", "after")
 KINDS = """lookup create len read_at write_at append rename unlink sync new_pipe pipe_state take put
 new_pair pair_state recv send shut restore cut uncreate name_back drop_pipe drop_pair any"""
 # Places for one of some words, and places for several tokens: at least so many, and at most so many.
@@ -214,7 +226,7 @@ class Reader:
         elif first == "tx":
             self.transactions += 1
             self.calls = 0
-        elif first in CALLS:
+        elif first in COUNTED:
             self.calls += 1
 
     def is_too_many(self, first, rest):
@@ -240,4 +252,4 @@ def read(data):
         reason = reader.reason(line)
         if reason:
             return number, reason
-    return (len(lines), "unclosed") if reader.place in ("block", "transaction") else None
+    return None if reader.place in MAY_END else (len(lines), "unclosed")

@@ -123,6 +123,9 @@ form_grows names (form.Receive handle into) = handled_grows names handle (λ n. 
 form_grows names (form.Send handle items into) =
     two_grow names (placed_written names handle items) (λ n. placed_ending n into) (written_grows names handle items) (λ n. ending_grows n into)
 form_grows names (form.Start block into) = ending_grows names into
+form_grows names form.Save = omega arith
+form_grows names form.Keep = omega arith
+form_grows names form.Back = omega arith
 
 -- a statement more
 pub placed_grows : (names : Names) (s : named.Statement) → Grows names (placed names s).0
@@ -132,3 +135,5 @@ placed_grows names statement.Abort = omega arith
 placed_grows names (statement.AbortIf left test right) =
     two_grow names (placed_term names left) (λ n. placed_term n right) (term_grows names left) (λ n. term_grows n right)
 placed_grows names statement.Require = omega arith
+placed_grows names (statement.BackIf left test right) =
+    two_grow names (placed_term names left) (λ n. placed_term n right) (term_grows names left) (λ n. term_grows n right)

@@ -13,6 +13,7 @@ use Rattle.xc_text.specs.declared.line.Line.{Line}
 use Rattle.xc_tokens.specs.declared.why.Why.{Why}
 use Rattle.xc_text.specs.Refusals.{Refusal}
 use Rattle.xc_text.specs.Grammar.{line_of}
+use Rattle.xc_text.specs.Inner.{is_open}
 use Rattle.xc_tokens.specs.Lines.{lines_of, is_line_byte}
 use Rattle.xc_text.specs.Said.{Said, opening}
 use Rattle.xc_text.specs.Sections.{is_outside}
@@ -27,14 +28,14 @@ use Rattle.xc_text.proofs.KeepingBlocks.{outside_names, after-keeps}
 use Rattle.xc_text.proofs.FitLines.{IsFitLineOf, said_fits}
 use Rattle.xc_text.proofs.Results.{for_any, then_keeps}
 
-after_any-keeps : (r : Said) (says : Option Line) → IsFitLineOf r.section says → IsSound r → Keeps (after_any r says)
+after_any-keeps : (r : Said) (says : Option Line) → IsFitLineOf r.section (is_open r.body) says → IsSound r → Keeps (after_any r says)
 after_any-keeps r (Some says) first k = after-keeps r says first k
 after_any-keeps r None first k = k
 
 after_tokens-keeps : (r : Said) (tokens : List Lexeme) → IsSound r → Keeps (after_tokens r tokens)
 after_tokens-keeps r tokens k =
-    then_keeps (IsFitLineOf r.section) IsSound (line_of r.section tokens) (λ (says : Option Line). after_any r says)
-    (said_fits r.section tokens) (λ says first. after_any-keeps r says first k)
+    then_keeps (IsFitLineOf r.section (is_open r.body)) IsSound (line_of r.section (is_open r.body) tokens) (λ (says : Option Line). after_any r says)
+    (said_fits r.section (is_open r.body) tokens) (λ says first. after_any-keeps r says first k)
 
 abbrev Any : {A : Type 0} → A → Type 0
 Any x = Unit {0}

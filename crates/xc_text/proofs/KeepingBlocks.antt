@@ -1,5 +1,5 @@
 -- A line of a block, and one between blocks, keeps what is sound.
-use Rattle.std.proofs.Common.{◌≡◌, ℕ, ◌+◌, ◌<◌, ◌≤◌, true, false, List, ◌++◌, length, Result, IfOk, IfSome}
+use Rattle.std.proofs.Common.{◌≡◌, ℕ, ◌+◌, ◌<◌, ◌≤◌, Bool, true, false, List, ◌++◌, length, Result, IfOk, IfSome}
 use Rattle.std.proofs.Common.{refl, subst, arith, nat_le, ◌&&◌}
 use Rattle.std.specs.Prelude.{IsPermutation}
 use Rattle.std.proofs.lemmas.Bool.{cond_both, leb-false, leb-true, and_parts}
@@ -11,8 +11,10 @@ use Rattle.xc_text.specs.declared.line.Line.TheVariants as line
 use Rattle.xc_text.specs.declared.line.Section.{Section}
 use Rattle.xc_text.specs.declared.line.Section.TheVariants.{Prologue, Between, Block, Transaction}
 use Rattle.xc_tokens.specs.declared.why.Why.{Why}
+use Rattle.xc_text.specs.Inner.{is_open, may_stand}
 use Rattle.xc_text.specs.Kinds.{kind}
-use Rattle.xc_text.specs.Said.{Said}
+use Rattle.xc_text.specs.Named as named
+use Rattle.xc_text.specs.Said.{Names, Said}
 use Rattle.xc_text.specs.Sections.{block_in, transaction_in, is_outside}
 use Rattle.xc_text.specs.Scripts.{names_of, IsBlock}
 use Rattle.xc_text.specs.Steps.{are_few, has_few_calls, is_among}
@@ -22,18 +24,25 @@ use Rattle.xc_tokens.specs.Words.{name}
 use Rattle.xc_text.proofs.Growing.{Grows, placed_grows}
 use Rattle.xc_text.proofs.Indexing.{job_among, body_among, distinct_job, distinct_body}
 use Rattle.xc_text.proofs.Results.{seen_keeps}
-use Rattle.xc_text.proofs.Sound.{CountFits, IsBody, AreUnderWay, all_names, IsSound, Keeps, count_at, names_at}
+use Rattle.xc_text.proofs.Standing.{stand-push, inner_where_closed}
+use Rattle.xc_text.proofs.Sound.{CountFits, IsBody, HasInner, AreUnderWay, all_names, IsSound, Keeps, count_at, names_at}
 use Rattle.xc_text.proofs.KeepingPrologue.{sized-keeps, valued-keeps, filed-keeps, kept_within, piped-keeps, paired-keeps}
 use Rattle.xc_text.proofs.KeepingPrologue.{faulted-keeps, grained-keeps}
 
-stated-keeps : (s : Said) (p : Placed Statement) → Grows s.names p.0 → IsSound s → Keeps (stated_as s p)
-stated-keeps s p grows k =
+stated-keeps : (s : Said) (p : Placed Statement) → Grows s.names p.0 → may_stand (is_open s.body) p.1 ≡ true → IsSound s → Keeps (stated_as s p)
+stated-keeps s p grows may k =
     cond_both (has_few_calls s.body p.1 && are_few p.0) _ _ Keeps (λ few.
     record {
       words = k.words;
       opening = k.opening;
       begun = k.begun;
-      under_way = record { count = k.under_way.count; calls = k.under_way.calls; body = leb-true _ _ (and_parts _ _ few).0 };
+      under_way = record {
+        count = k.under_way.count;
+        calls = k.under_way.calls;
+        inner = k.under_way.inner;
+        body = leb-true _ _ (and_parts _ _ few).0;
+        stand = stand-push false s.body p.1 k.under_way.stand may;
+      };
       each_block = k.each_block;
       names = record {
         variables = leb-true _ _ (and_parts _ _ (and_parts _ _ few).1).0;
@@ -52,17 +61,23 @@ begun-keeps r (Block name) e k =
       words = k.words;
       opening = k.opening;
       begun = record { named = names_at r (Block name) e k; few = k.begun.few; distinct = k.begun.distinct };
-      under_way = record { count = leb-false _ _ room; calls = k.under_way.calls; body = k.under_way.body };
+      under_way = record {
+        count = leb-false _ _ room;
+        calls = k.under_way.calls;
+        inner = k.under_way.inner;
+        body = k.under_way.body;
+        stand = k.under_way.stand;
+      };
       each_block = k.each_block;
       names = k.names;
       handles = k.handles;
     })
 
-committed-keeps : (r : Said) (p : Section) → r.section ≡ p → IsSound r → Keeps (committed r (transaction_in p))
-committed-keeps r Prologue e k = tt
-committed-keeps r Between e k = tt
-committed-keeps r (Block name) e k = tt
-committed-keeps r (Transaction name) e k =
+committed-keeps : (r : Said) (p : Section) → r.section ≡ p → is_open r.body ≡ false → IsSound r → Keeps (committed r (transaction_in p))
+committed-keeps r Prologue e closed k = tt
+committed-keeps r Between e closed k = tt
+committed-keeps r (Block name) e closed k = tt
+committed-keeps r (Transaction name) e closed k =
     record {
       words = k.words;
       opening = k.opening;
@@ -70,7 +85,9 @@ committed-keeps r (Transaction name) e k =
       under_way = record {
         count = rw length-append (omega (arith, count_at r (Transaction name) e k));
         calls = All-push IsBody r.transactions r.body k.under_way.calls k.under_way.body;
+        inner = All-push HasInner r.transactions r.body k.under_way.inner (inner_where_closed false r.body k.under_way.stand closed);
         body = omega arith;
+        stand = refl;
       };
       each_block = k.each_block;
       names = k.names;
@@ -86,20 +103,36 @@ ended-keeps r (Block name) e k =
       words = k.words;
       opening = k.opening;
       begun = record { named = rw map-append (names_at r (Block name) e k); few = k.begun.few; distinct = k.begun.distinct };
-      under_way = record { count = refl; calls = All-nil IsBody; body = k.under_way.body };
-      each_block =
-          All-push IsBlock r.blocks _ k.each_block (record { transactions = count_at r (Block name) e k; calls = k.under_way.calls });
+      under_way = record {
+        count = refl;
+        calls = All-nil IsBody;
+        inner = All-nil HasInner;
+        body = k.under_way.body;
+        stand = k.under_way.stand;
+      };
+      each_block = All-push IsBlock r.blocks _ k.each_block (record {
+        transactions = count_at r (Block name) e k;
+        calls = k.under_way.calls;
+        inner = k.under_way.inner;
+      });
       names = k.names;
       handles = k.handles;
     }
 
--- a line that may stand in a section: a block begins outside of the others, and a file and a pipe aren't too long
-abbrev pub IsFitLine : Section → Line → Type 0
-IsFitLine p (line.Job block) = is_outside p ≡ true
-IsFitLine p (line.Body block) = is_outside p ≡ true
-IsFitLine p (line.File file bytes) = IfSome bytes (λ bs. length bs ≤ 65536)
-IsFitLine p (line.Pipe handle bytes) = IfSome bytes (λ bs. length bs ≤ 4096)
-IsFitLine p _ = Unit {0}
+-- a statement that may stand where an inner block is open or not
+abbrev pub IsFitStatement : Bool → named.Statement → Type 0
+IsFitStatement within s = (names : Names) → may_stand within (placed names s).1 ≡ true
+
+-- a line that may stand in a section, and where an inner block is open or not: a block begins outside of the others, a
+-- file and a pipe aren't too long, a statement may stand there, and a transaction ends outside of inner blocks
+abbrev pub IsFitLine : Section → Bool → Line → Type 0
+IsFitLine p within (line.Job block) = is_outside p ≡ true
+IsFitLine p within (line.Body block) = is_outside p ≡ true
+IsFitLine p within (line.File file bytes) = IfSome bytes (λ bs. length bs ≤ 65536)
+IsFitLine p within (line.Pipe handle bytes) = IfSome bytes (λ bs. length bs ≤ 4096)
+IsFitLine p within (line.Statement s) = IsFitStatement within s
+IsFitLine p within line.Commit = within ≡ false
+IsFitLine p within _ = Unit {0}
 
 none_under_way : (p : Section) (n : ℕ) → is_outside p ≡ true → CountFits p n → n ≡ 0
 none_under_way Prologue n outside c = c
@@ -134,7 +167,9 @@ block_opens r name outside k =
     record {
       count = omega (arith, none_under_way r.section (length r.transactions) outside k.under_way.count);
       calls = k.under_way.calls;
+      inner = k.under_way.inner;
       body = k.under_way.body;
+      stand = k.under_way.stand;
     }
 
 started-keeps : (r : Said) (name : List ℕ) → is_outside r.section ≡ true → IsSound r → Keeps (started r name)
@@ -172,7 +207,7 @@ bodied-keeps r name outside k =
     })
 
 -- each line that fits its place keeps it
-pub after-keeps : (r : Said) (says : Line) → IsFitLine r.section says → IsSound r → Keeps (after r says)
+pub after-keeps : (r : Said) (says : Line) → IsFitLine r.section (is_open r.body) says → IsSound r → Keeps (after r says)
 after-keeps r (line.Words n) first k = sized-keeps r n k
 after-keeps r (line.Word at value) first k = valued-keeps r at value k
 after-keeps r (line.File file bytes) first k = filed-keeps r file bytes first k
@@ -183,6 +218,6 @@ after-keeps r (line.Grain n) first k = grained-keeps r n k
 after-keeps r (line.Job name) first k = started-keeps r name first k
 after-keeps r (line.Body name) first k = bodied-keeps r name first k
 after-keeps r line.Begin first k = begun-keeps r r.section refl k
-after-keeps r (line.Statement s) first k = stated-keeps r (placed r.names s) (placed_grows r.names s) k
-after-keeps r line.Commit first k = committed-keeps r r.section refl k
+after-keeps r (line.Statement s) first k = stated-keeps r (placed r.names s) (placed_grows r.names s) (first r.names) k
+after-keeps r line.Commit first k = committed-keeps r r.section refl first k
 after-keeps r line.End first k = ended-keeps r r.section refl k

@@ -2,6 +2,7 @@ pub mod Checked
 pub mod FilesByName
 pub mod FirstLines
 pub mod FitLines
+pub mod FitStatements
 pub mod Forms
 pub mod Growing
 pub mod Indexing
@@ -13,3 +14,4 @@ pub mod Results
 pub mod PlacedItems
 pub mod PlacedParts
 pub mod Sound
+pub mod Standing

@@ -3,7 +3,6 @@ use Rattle.std.proofs.Common.{◌≡◌, arith, Result, Ok, Err, ap, ◌∙◌, 
 use Rattle.xc_text.specs.declared.script.CallForm.TheVariants as form
 use Rattle.xc_text.specs.declared.line.Line.TheVariants as line
 use Rattle.xc_text.specs.declared.script.Statement.TheVariants as statement
-use Rattle.xc_text.specs.declared.script.Test.{Test}
 use Rattle.xc_text.specs.Named as named
 use Rattle.xc_text.specs.Places.{Placed, one, placed_form, placed_term, placed_expression}
 use Rattle.xc_text.specs.Said.{Names, Said}
@@ -35,12 +34,6 @@ pub store_kept : (s : Said) (at : named.Term) (value : named.Expression) (n m : 
     n ≡ (placed_term s.names at).0 → a ≡ (placed_term s.names at).1 → m ≡ (placed_expression n value).0 → v ≡ (placed_expression n value).1 →
     stated s (statement.Call (form.Store at value)) ≡ stated_as s (m, statement.Call (form.Store a v))
 store_kept s at value n m a v names placed names' placed' = rw (names', placed', names, placed) refl
-
--- a test, whose left side takes its place first
-pub test_kept : (s : Said) (left : named.Term) (test : Test) (right : named.Term) (n m : Names) (a b : Term) →
-    n ≡ (placed_term s.names left).0 → a ≡ (placed_term s.names left).1 → m ≡ (placed_term n right).0 → b ≡ (placed_term n right).1 →
-    stated s (statement.AbortIf left test right) ≡ stated_as s (m, statement.AbortIf a test b)
-test_kept s left test right n m a b names placed names' placed' = rw (names', placed', names, placed) refl
 
 -- a line of a transaction that is a statement adds it
 pub statement_says : (s : Said) (said : Result named.Statement Why) →

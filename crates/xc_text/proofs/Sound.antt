@@ -1,5 +1,5 @@
 -- What is sound between two lines of a script.
-use Rattle.std.proofs.Common.{◌≡◌, ℕ, ◌+◌, ◌<◌, ◌≤◌, List, [], ◌∷◌, ◌++◌, length, Result, IfOk}
+use Rattle.std.proofs.Common.{◌≡◌, ℕ, ◌+◌, ◌<◌, ◌≤◌, true, false, List, [], ◌∷◌, ◌++◌, length, Result, IfOk}
 use Rattle.std.proofs.Common.{refl, subst, arith, lit≤}
 use Rattle.std.specs.Prelude.{All, IsPermutation, count_by, nat_eq}
 use Rattle.std.specs.Cmp.Lexicographic.{pointwise}
@@ -14,10 +14,12 @@ use Rattle.xc_text.specs.Stated.{Statement}
 use Rattle.xc_text.specs.declared.line.Section.{Section}
 use Rattle.xc_text.specs.declared.line.Section.TheVariants.{Prologue, Between, Block, Transaction}
 use Rattle.xc_tokens.specs.declared.why.Why.{Why}
+use Rattle.xc_text.specs.Inner.{are_inner}
 use Rattle.xc_text.specs.Said.{Names, Said, opening}
 use Rattle.xc_text.specs.Scripts.{names_of, IsBlock, AreCalls, handle_count, prologue_of}
 use Rattle.xc_text.specs.Steps.{is_call}
 use Rattle.xc_tokens.specs.Words.{name}
+use Rattle.xc_text.proofs.Standing.{all_stand}
 
 -- how many transactions of the block under way have ended
 abbrev pub CountFits : Section → ℕ → Type 0
@@ -29,6 +31,10 @@ CountFits (Transaction name) transactions = transactions < 1000
 -- the statements of one transaction are few
 abbrev pub IsBody : List Statement → Type 0
 IsBody body = count_by is_call body ≤ 256
+
+-- its inner blocks are closed, and none stands in another
+abbrev pub HasInner : List Statement → Type 0
+HasInner body = are_inner false body ≡ true
 
 -- the objects that a host is opened with, so far
 pub record AreObjects (objects : List Opened) : Type 0 where
@@ -69,7 +75,9 @@ pub record AreBegun (p : Section) (jobs bodies : List (List ℕ)) (blocks : List
 pub record AreUnderWay (p : Section) (transactions : List (List Statement)) (current : List Statement) : Type 0 where
   pub count : CountFits p (length transactions)
   pub calls : All IsBody transactions
+  pub inner : All HasInner transactions
   pub body : IsBody current
+  pub stand : all_stand false current ≡ true
 
 -- the names of variables and of slots are few
 pub record AreFew (names : Names) : Type 0 where
@@ -118,7 +126,7 @@ opening-keeps =
         grain = tt;
       };
       begun = record { named = IsPermutation-refl []; few = omega arith; distinct = none_alike };
-      under_way = record { count = refl; calls = All-nil IsBody; body = omega arith };
+      under_way = record { count = refl; calls = All-nil IsBody; inner = All-nil HasInner; body = omega arith; stand = refl };
       each_block = All-nil IsBlock;
       names = record { variables = omega arith; slots = omega arith };
       handles = record { count = refl; each = All-nil _ };

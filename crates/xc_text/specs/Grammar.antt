@@ -1,4 +1,4 @@
--- What a line says, by the section that it stands in.
+-- What a line says, by the section that it stands in and, in a transaction, by whether an inner block is open.
 use Rattle.std.specs.Prelude.{ℕ, Bool, true, false, List, [], ◌∷◌, codes, Option, Some, None, Result, Ok, Err, if◌then◌else◌}
 use Rattle.xc_data.specs.declared.script.Kind.{Kind}
 use Rattle.xc_text.specs.declared.line.Line.{Line}
@@ -11,7 +11,7 @@ use Rattle.xc_tokens.specs.Answers.{both, seen}
 use Rattle.xc_text.specs.Kinds.{kind}
 use Rattle.xc_tokens.specs.Literals.{only_literals, contents}
 use Rattle.xc_text.specs.Shapes.{bare}
-use Rattle.xc_text.specs.Statements.{statement_line}
+use Rattle.xc_text.specs.Statements.{outer_statement, inner_statement}
 use Rattle.xc_tokens.specs.Words.{spells, number, ident, name}
 use Rattle.xc_tokens.specs.Tokens.{Lexeme, Word, Literal}
 
@@ -112,25 +112,35 @@ block_line word rest =
     else if spells word (codes "end") then seen (λ _. line.End) (bare rest)
     else Err UnknownLine
 
--- a line in a transaction
-abbrev pub transaction_line : List ℕ → List Lexeme → Result Line Why
-transaction_line word rest =
+-- a line in a transaction, outside of its inner blocks
+abbrev pub outer_line : List ℕ → List Lexeme → Result Line Why
+outer_line word rest =
     if spells word (codes "commit") then seen (λ _. line.Commit) (bare rest)
-    else seen line.Statement (statement_line word rest)
+    else seen line.Statement (outer_statement word rest)
 
--- a line that begins with a word
-abbrev pub worded_line : Section → List ℕ → List Lexeme → Result Line Why
-worded_line Prologue word rest = prologue_line word rest
-worded_line Between word rest = between_line word rest
-worded_line (Block name) word rest = block_line word rest
-worded_line (Transaction name) word rest = transaction_line word rest
+-- a line in an inner block of a transaction
+abbrev pub inner_line : List ℕ → List Lexeme → Result Line Why
+inner_line word rest = seen line.Statement (inner_statement word rest)
+
+-- a line in a transaction, where an inner block is open or not
+abbrev pub transaction_line : Bool → List ℕ → List Lexeme → Result Line Why
+transaction_line false word rest = outer_line word rest
+transaction_line true word rest = inner_line word rest
+
+-- a line that begins with a word, by its section and whether an inner block is open
+abbrev pub worded_line : Section → Bool → List ℕ → List Lexeme → Result Line Why
+worded_line Prologue within word rest = prologue_line word rest
+worded_line Between within word rest = between_line word rest
+worded_line (Block name) within word rest = block_line word rest
+worded_line (Transaction name) within word rest = transaction_line within word rest
 
 -- a line whose first token is a literal is unknown
-abbrev pub first_line : Section → Lexeme → List Lexeme → Result Line Why
-first_line section (Word word) rest = worded_line section word rest
-first_line section (Literal meant times) rest = Err UnknownLine
+abbrev pub first_line : Section → Bool → Lexeme → List Lexeme → Result Line Why
+first_line section within (Word word) rest = worded_line section within word rest
+first_line section within (Literal meant times) rest = Err UnknownLine
 
--- what the tokens of a line say, by the section that it stands in; a line without tokens says nothing
-abbrev pub line_of : Section → List Lexeme → Result (Option Line) Why
-line_of section [] = Ok None
-line_of section (first ∷ rest) = seen Some (first_line section first rest)
+-- what the tokens of a line say, by the section that it stands in and whether an inner block is open; a line without
+-- tokens says nothing
+abbrev pub line_of : Section → Bool → List Lexeme → Result (Option Line) Why
+line_of section within [] = Ok None
+line_of section within (first ∷ rest) = seen Some (first_line section within first rest)

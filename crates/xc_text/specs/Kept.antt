@@ -37,3 +37,7 @@ said_by (kept.LetDifference into left right) = statement.Let into (Difference le
 said_by kept.Abort = statement.Abort
 said_by (kept.AbortIf left test right) = statement.AbortIf left test right
 said_by kept.Require = statement.Require
+said_by kept.Save = statement.Call form.Save
+said_by kept.Keep = statement.Call form.Keep
+said_by kept.Back = statement.Call form.Back
+said_by (kept.BackIf left test right) = statement.BackIf left test right

@@ -1,5 +1,6 @@
 pub mod Calls
 pub mod Grammar
+pub mod Inner
 pub mod Kept
 pub mod Kinds
 pub mod Named

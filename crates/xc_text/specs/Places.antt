@@ -130,11 +130,19 @@ placed_form names (form.Receive handle into) = two form.Receive (variable names 
 placed_form names (form.Send handle items into) =
     two (λ p s. form.Send p.0 p.1 s) (placed_written names handle items) (λ behind. placed_ending behind into)
 placed_form names (form.Start block into) = one (form.Start block) (placed_ending names into)
+placed_form names form.Save = (names, form.Save)
+placed_form names form.Keep = (names, form.Keep)
+placed_form names form.Back = (names, form.Back)
 
 -- a test of two terms
 abbrev pub placed_test : Names → named.Term → Test → named.Term → Placed Statement
 placed_test names left test right =
     two (λ a b. statement.AbortIf a test b) (placed_term names left) (λ behind. placed_term behind right)
+
+-- the same of a back
+abbrev pub placed_back_test : Names → named.Term → Test → named.Term → Placed Statement
+placed_back_test names left test right =
+    two (λ a b. statement.BackIf a test b) (placed_term names left) (λ behind. placed_term behind right)
 
 -- a statement: its variables and slots, read or written, in the order in which they stand there
 abbrev pub placed : Names → named.Statement → Placed Statement
@@ -143,3 +151,4 @@ placed names (statement.Let into value) = two statement.Let (variable names into
 placed names statement.Abort = (names, statement.Abort)
 placed names (statement.AbortIf left test right) = placed_test names left test right
 placed names statement.Require = (names, statement.Require)
+placed names (statement.BackIf left test right) = placed_back_test names left test right

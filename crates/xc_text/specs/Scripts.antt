@@ -1,6 +1,6 @@
 -- What a script says, and what a script that was read keeps to.
 use Rattle.std.specs.Prelude.{◌≡◌, ℕ, ◌+◌, ◌*◌, ◌<◌, ◌≤◌, List, [], ◌∷◌, ◌++◌, length, map, All, IsPermutation, count_by, nat_eq}
-use Rattle.std.specs.Prelude.{nat_lt, Result, Ok, Err, if◌then◌else◌}
+use Rattle.std.specs.Prelude.{false, true, nat_lt, Result, Ok, Err, if◌then◌else◌}
 use Rattle.std.specs.Cmp.Lexicographic.{pointwise}
 use Rattle.std.specs.List.{IsDistinct}
 use Rattle.xc_data.specs.declared.script.FaultLine.{FaultLine}
@@ -16,6 +16,7 @@ use Rattle.xc_text.specs.Refusals.{Refusal}
 use Rattle.xc_tokens.specs.Lines.{lines_of}
 use Rattle.xc_text.specs.Said.{Said, opening}
 use Rattle.xc_text.specs.Sections.{is_outside}
+use Rattle.xc_text.specs.Inner.{are_inner}
 use Rattle.xc_text.specs.Steps.{is_call, after_bytes}
 
 -- a reason against the line of that number
@@ -63,6 +64,7 @@ parse_of bytes = if nat_lt 1048576 (length bytes) then Err (0, TooLong) else rea
 pub record IsBlock (b : OneBlock) : Type 0 where
   pub transactions : length b.transactions ≤ 1000
   pub calls : All (λ body. count_by is_call body ≤ 256) b.transactions
+  pub inner : All (λ body. are_inner false body ≡ true) b.transactions
 
 -- how many handles objects have at the opening: a pipe has one, and a pair has two
 abbrev pub handle_count : List Opened → ℕ

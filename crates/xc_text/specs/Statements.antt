@@ -1,6 +1,7 @@
 -- What a line between `tx` and `commit` says.
-use Rattle.std.specs.Prelude.{ℕ, List, [], ◌∷◌, codes, Result, Ok, Err, if◌then◌else◌}
-use Rattle.xc_text.specs.declared.script.Statement.TheVariants.{Let, Abort, AbortIf, Require}
+use Rattle.std.specs.Prelude.{ℕ, List, [], ◌∷◌, codes, Option, Some, None, Result, Ok, Err, if◌then◌else◌}
+use Rattle.xc_text.specs.declared.script.CallForm.TheVariants.{Save, Keep, Back}
+use Rattle.xc_text.specs.declared.script.Statement.TheVariants.{Call, Let, Abort, AbortIf, Require, BackIf}
 use Rattle.xc_text.specs.declared.script.Test.{Test}
 use Rattle.xc_text.specs.Calls.{call_kinds, call_line}
 use Rattle.xc_text.specs.Shapes.{bare, led}
@@ -17,23 +18,62 @@ use Rattle.xc_tokens.specs.Words.{spells, is_sign, ident}
 abbrev pub let_line : List Lexeme → Result Statement Why
 let_line rest = seen (λ (p : List ℕ × Expression). Let p.0 p.1) (led ident expression_of rest)
 
+-- a term, and the test with another one
+abbrev pub Condition : Type 0
+Condition = Term × (Test × Term)
+
+-- nothing, or `if T OP T`
+abbrev pub condition : List Lexeme → Result (Option Condition) Why
+condition [] = Ok None
+condition (word ∷ left ∷ sign ∷ right ∷ []) =
+    if is_sign word (codes "if") then seen Some (both (term left) (both (test sign) (term right))) else Err BadForm
+condition _ = Err BadForm
+
+-- an abort, always or where a test holds
+abbrev pub abort_where : Option Condition → Statement
+abort_where None = Abort
+abort_where (Some c) = AbortIf c.0 c.1.0 c.1.1
+
 -- `abort`, `abort if T OP T`
 abbrev pub abort_line : List Lexeme → Result Statement Why
-abort_line [] = Ok Abort
-abort_line (word ∷ left ∷ sign ∷ right ∷ []) =
-    if is_sign word (codes "if") then
-    seen (λ (p : Term × (Test × Term)). AbortIf p.0 p.1.0 p.1.1) (both (term left) (both (test sign) (term right)))
-    else Err BadForm
-abort_line _ = Err BadForm
+abort_line rest = seen abort_where (condition rest)
 
 -- `require`
 abbrev pub require_line : List Lexeme → Result Statement Why
 require_line rest = seen (λ _. Require) (bare rest)
 
--- a statement
+-- `save`
+abbrev pub save_line : List Lexeme → Result Statement Why
+save_line rest = seen (λ _. Call Save) (bare rest)
+
+-- `keep`
+abbrev pub keep_line : List Lexeme → Result Statement Why
+keep_line rest = seen (λ _. Call Keep) (bare rest)
+
+-- a back, always or where a test holds
+abbrev pub back_where : Option Condition → Statement
+back_where None = Call Back
+back_where (Some c) = BackIf c.0 c.1.0 c.1.1
+
+-- `back`, `back if T OP T`
+abbrev pub back_line : List Lexeme → Result Statement Why
+back_line rest = seen back_where (condition rest)
+
+-- a statement that may stand in an inner block and outside of it
 abbrev pub statement_line : List ℕ → List Lexeme → Result Statement Why
 statement_line word rest =
     if spells word (codes "let") then let_line rest
     else if spells word (codes "abort") then abort_line rest
     else if spells word (codes "require") then require_line rest
     else call_line (by_word call_kinds word) rest
+
+-- a statement outside of inner blocks
+abbrev pub outer_statement : List ℕ → List Lexeme → Result Statement Why
+outer_statement word rest = if spells word (codes "save") then save_line rest else statement_line word rest
+
+-- a statement in an inner block
+abbrev pub inner_statement : List ℕ → List Lexeme → Result Statement Why
+inner_statement word rest =
+    if spells word (codes "keep") then keep_line rest
+    else if spells word (codes "back") then back_line rest
+    else statement_line word rest

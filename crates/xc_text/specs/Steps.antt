@@ -15,6 +15,7 @@ use Rattle.xc_tokens.specs.declared.why.Why.{Why}
 use Rattle.xc_tokens.specs.declared.why.Why.TheVariants.{BadByte, UnknownLine, BadNumber, Twice, TooMany}
 use Rattle.xc_tokens.specs.Answers.{and_then, seen}
 use Rattle.xc_text.specs.Grammar.{line_of}
+use Rattle.xc_text.specs.Inner.{is_open}
 use Rattle.xc_tokens.specs.Lines.{is_line_byte}
 use Rattle.xc_text.specs.Said.{Names, Said}
 use Rattle.xc_text.specs.Named.{CallForm as NamedCallForm, Statement as NamedStatement}
@@ -30,6 +31,7 @@ is_call (statement.Let into value) = false
 is_call statement.Abort = false
 is_call (statement.AbortIf left test right) = false
 is_call statement.Require = false
+is_call (statement.BackIf left test right) = true
 
 -- one of the names is this one
 abbrev pub is_among : List ℕ → List (List ℕ) → Bool
@@ -190,7 +192,7 @@ after_any s None = Ok s
 
 -- what the tokens of a line add
 abbrev pub after_tokens : Said → List Lexeme → Result Said Why
-after_tokens s tokens = and_then (line_of s.section tokens) (λ (says : Option Line). after_any s says)
+after_tokens s tokens = and_then (line_of s.section (is_open s.body) tokens) (λ (says : Option Line). after_any s says)
 
 -- what the bytes of a line add: bytes are judged first, and then literals
 abbrev pub after_bytes : Said → List ℕ → Result Said Why

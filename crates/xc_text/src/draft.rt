@@ -1,7 +1,9 @@
 ghost use Rattle.std.specs.Prelude.{◌≡◌, ◌≤◌, ◌++◌, false, map, replicate, IfOk, IsOk, IsTrue};
 ghost use Rattle.xc_tokens.specs.Answers.{Gives, and_then};
 ghost use Rattle.xc_tokens.specs.Views.{lexeme};
-ghost use Rattle.xc_text.specs.Grammar.{prologue_line, between_line, block_line, transaction_line, worded_line, first_line, is_plain};
+ghost use Rattle.xc_text.specs.Grammar.{prologue_line, between_line, block_line, outer_line, inner_line, transaction_line, worded_line};
+ghost use Rattle.xc_text.specs.Grammar.{first_line, is_plain};
+ghost use Rattle.xc_text.specs.Inner.{is_open};
 ghost use Rattle.xc_text.specs.Said.{opening};
 ghost use Rattle.xc_text.specs.Scripts.{script_of};
 ghost use Rattle.xc_text.specs.Sections.{block_in, is_outside, transaction_in};
@@ -271,25 +273,43 @@ impl Draft {
         Err(Stop::Refused(Why::UnknownLine))
     }
 
+    // A line of a transaction, outside of its inner blocks.
+    fn read_outer(&mut self, alloc: Global, word: &[u8], rest: &[Token]) -> Result<(), Stop>
+        ensures { Gives (λ _. self.new) result (and_then (outer_line word.now (map lexeme rest.now)) (λ says. after self.old says)) }
+    {
+        if spells(word, b"commit") {
+            bare(rest)?;
+            return self.commit(alloc);
+        }
+        self.read_outer_statement(alloc, word, rest)
+    }
+
+    // A line of an inner block.
+    fn read_inner(&mut self, alloc: Global, word: &[u8], rest: &[Token]) -> Result<(), Stop>
+        ensures { Gives (λ _. self.new) result (and_then (inner_line word.now (map lexeme rest.now)) (λ says. after self.old says)) }
+    {
+        self.read_inner_statement(alloc, word, rest)
+    }
+
     fn read_in_transaction(
         &mut self,
         alloc: Global,
         word: &[u8],
         rest: &[Token],
     ) -> Result<(), Stop>
-        ensures { Gives (λ _. self.new) result (and_then (transaction_line word.now (map lexeme rest.now)) (λ says. after self.old says)) }
+        ensures { Gives (λ _. self.new) result
+            (and_then (transaction_line (is_open self.old.body) word.now (map lexeme rest.now)) (λ says. after self.old says)) }
     {
-        if spells(word, b"commit") {
-            bare(rest)?;
-            return self.commit(alloc);
+        if self.body.is_open() {
+            return self.read_inner(alloc, word, rest);
         }
-        self.read_statement(alloc, word, rest)
+        self.read_outer(alloc, word, rest)
     }
 
     // A line that begins with a word, by the section that it stands in.
     fn read_word(&mut self, alloc: Global, word: &[u8], rest: &[Token]) -> Result<(), Stop>
         ensures { Gives (λ _. self.new) result
-            (and_then (worded_line self.old.section word.now (map lexeme rest.now)) (λ says. after self.old says)) }
+            (and_then (worded_line self.old.section (is_open self.old.body) word.now (map lexeme rest.now)) (λ says. after self.old says)) }
     {
         match self.section {
             Section::Prologue => self.read_in_prologue(alloc, word, rest),
@@ -301,7 +321,8 @@ impl Draft {
 
     fn read_first(&mut self, alloc: Global, first: &Token, rest: &[Token]) -> Result<(), Stop>
         ensures { Gives (λ _. self.new) result
-            (and_then (first_line self.old.section (lexeme first.now) (map lexeme rest.now)) (λ says. after self.old says)) }
+            (and_then (first_line self.old.section (is_open self.old.body) (lexeme first.now) (map lexeme rest.now))
+            (λ says. after self.old says)) }
     {
         match first {
             Token::Word(word) => self.read_word(alloc, word, rest),

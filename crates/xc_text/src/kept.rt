@@ -127,6 +127,14 @@ pub enum Form {
         right: Term<Place>,
     },
     Require,
+    Save,
+    Keep,
+    Back,
+    BackIf {
+        left: Term<Place>,
+        test: Test,
+        right: Term<Place>,
+    },
 }
 
 /// A statement as a script keeps it. Contracts see the statement.
@@ -197,6 +205,9 @@ fn call(call: CallForm<Place>) -> Form
         CallForm::Receive { handle, into } => Form::Receive { handle, into },
         CallForm::Send { handle, slot, data } => Form::Send { handle, slot, data },
         CallForm::Start { slot, block } => Form::Start { slot, block },
+        CallForm::Save => Form::Save,
+        CallForm::Keep => Form::Keep,
+        CallForm::Back => Form::Back,
     }
 }
 
@@ -212,6 +223,7 @@ impl KeptStatement {
             Statement::Abort => Form::Abort,
             Statement::AbortIf { left, test, right } => Form::AbortIf { left, test, right },
             Statement::Require => Form::Require,
+            Statement::BackIf { left, test, right } => Form::BackIf { left, test, right },
         };
         KeptStatement { form }
     }

@@ -151,6 +151,12 @@ pub enum CallForm<N> {
         block: Boxed<Ident>,
         slot: Option<N>,
     },
+    /// Opens an inner block.
+    Save,
+    /// Closes the inner block.
+    Keep,
+    /// Goes back to the inner block's start, and on behind its end.
+    Back,
 }
 
 /// A line of a transaction between its `tx` and its `commit`.
@@ -172,6 +178,12 @@ pub enum Statement<N> {
     },
     /// It aborts itself where its last call was refused.
     Require,
+    /// It goes back to the inner block's start, and on behind its end, where the test holds.
+    BackIf {
+        left: Term<N>,
+        test: Test,
+        right: Term<N>,
+    },
 }
 
 /// The place of a variable or of a slot among the names of a script.
