@@ -3,3 +3,5 @@ pub mod SlotEnds
 pub mod Blocks
 pub mod Handles
 pub mod Settling
+pub mod Backs
+pub mod Opened

@@ -25,7 +25,8 @@ silent_or variables stored refused s rest true e same =
     absurd (same_length behind s rest (settled-length (set_by variables s) stored refused rest)
     (same ∙ ap (λ silent. (if silent then behind else record { variables = variables; stored = stored; refused = refused; left = s ∷ rest }).left) e))
 
-remains_from : (variables : Variables) (stored : ℕ) (refused : Bool) (left : List Statement) →
+-- statements that stay as they are begin with none that is silent
+pub remains_from : (variables : Variables) (stored : ℕ) (refused : Bool) (left : List Statement) →
     left ≡ (past_silent variables stored refused left).left → none_silent_first variables refused left ≡ true
 remains_from variables stored refused [] same = refl
 remains_from variables stored refused (s ∷ rest) same = silent_or variables stored refused s rest (is_silent variables refused s) refl same

@@ -36,6 +36,7 @@ value_in reply.TooMuch = None
 value_in reply.BadWord = None
 value_in (reply.Fault n) = None
 value_in reply.Late = None
+value_in (reply.Undone n) = None
 
 -- a variable takes what the reply has for it, and loses its own where that is nothing
 abbrev pub bound_to : Variables → ℕ → Reply → Variables
@@ -59,6 +60,7 @@ handles_in reply.TooMuch = None
 handles_in reply.BadWord = None
 handles_in (reply.Fault n) = None
 handles_in reply.Late = None
+handles_in (reply.Undone n) = None
 
 -- two variables take these handles, one after the other, and lose their own where there are none
 abbrev pub bound_both : Variables → ℕ → ℕ → Option (ℕ × ℕ) → Variables
@@ -104,6 +106,9 @@ form_target (form.Pair into) = two_targets into
 form_target (form.Receive h into) = one_target into
 form_target (form.Send h items slot) = target.Nowhere
 form_target (form.Start block slot) = target.Nowhere
+form_target form.Save = target.Nowhere
+form_target form.Keep = target.Nowhere
+form_target form.Back = target.Nowhere
 
 -- the variables that take a statement's reply, where it names some
 abbrev pub target_of : Statement → Target
@@ -112,6 +117,7 @@ target_of (statement.Let into e) = target.Nowhere
 target_of statement.Abort = target.Nowhere
 target_of (statement.AbortIf left test right) = target.Nowhere
 target_of statement.Require = target.Nowhere
+target_of (statement.BackIf left test right) = target.Nowhere
 
 -- a call was refused whose reply is none of these: a number, bytes, handles, done, or kept for the commit
 abbrev pub refuses : Reply → Bool
@@ -131,6 +137,7 @@ refuses reply.TooMuch = true
 refuses reply.BadWord = true
 refuses (reply.Fault n) = true
 refuses reply.Late = false
+refuses (reply.Undone n) = false
 
 -- A transaction goes on after the reply to the call that its first statement asked. Where it asked none, no
 -- reply comes, and it stays.

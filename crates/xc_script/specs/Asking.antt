@@ -51,6 +51,9 @@ form_ask variables stored (form.Receive h into) = ask.Call (call.XRecvmsg (handl
 form_ask variables stored (form.Send h items slot) =
     unless_over stored (call.XSendmsg (handle_value variables h) (data_of variables items) (name_of_slot variables slot))
 form_ask variables stored (form.Start block slot) = ask.Call (call.XThreadCreate block (name_of_slot variables slot))
+form_ask variables stored form.Save = ask.Call call.Save
+form_ask variables stored form.Keep = ask.Call call.Keep
+form_ask variables stored form.Back = ask.Call call.Back
 
 -- what a statement asks that isn't silent: a call, or the transaction's own abort. A `let` is always silent.
 abbrev pub ask_of : Variables → ℕ → Statement → Ask
@@ -59,6 +62,7 @@ ask_of variables stored (statement.Let into e) = ask.Abort
 ask_of variables stored statement.Abort = ask.Abort
 ask_of variables stored (statement.AbortIf left test right) = ask.Abort
 ask_of variables stored statement.Require = ask.Abort
+ask_of variables stored (statement.BackIf left test right) = ask.Call call.Back
 
 -- the transaction asks what its next statement does, and after the last one the commit
 abbrev pub asks_of : Variables → ℕ → List Statement → Ask

@@ -2,6 +2,7 @@ pub mod Answers
 pub mod Ask
 pub mod Asking
 pub mod Handles
+pub mod Blocks
 pub mod Position
 pub mod Slots
 pub mod Values

@@ -20,7 +20,7 @@ use Rattle.xc_script.specs.Asking.{asks}
 use Rattle.xc_script.specs.Answers.{target_of}
 
 -- the block, the transaction and the statement in it; what the transaction has stored, and whether its last
--- call was refused; the variables there, and those at the transaction's begin
+-- call was refused; the variables there, those at the transaction's begin, and what they held at the save that is open
 pub record Position : Type 0 where
   pub block : ℕ
   pub next : ℕ
@@ -29,6 +29,7 @@ pub record Position : Type 0 where
   pub refused : Bool
   pub variables : Variables
   pub begun : Variables
+  pub saved : Option Values
 
 -- ---- codes of values and of places
 abbrev pub value_parts : Value → ℕ ⊎ (List ℕ ⊎ ℕ)
@@ -61,9 +62,10 @@ coded_variables =
 -- a place's code, that of its fields as a tuple
 abbrev pub coded_position : Coded Position
 coded_position =
-    code_by (ℕ × (ℕ × (ℕ × (ℕ × (Bool × (Variables × Variables))))))
-    (coded× coded_ℕ (coded× coded_ℕ (coded× coded_ℕ (coded× coded_ℕ (coded× coded_bool (coded× coded_variables coded_variables))))))
-    (λ p. (p.block, (p.next, (p.at, (p.stored, (p.refused, (p.variables, p.begun)))))))
+    code_by (ℕ × (ℕ × (ℕ × (ℕ × (Bool × (Variables × (Variables × Option Values)))))))
+    (coded× coded_ℕ (coded× coded_ℕ (coded× coded_ℕ (coded× coded_ℕ (coded× coded_bool (coded× coded_variables
+    (coded× coded_variables (coded_option (coded_list (coded_option coded_value))))))))))
+    (λ p. (p.block, (p.next, (p.at, (p.stored, (p.refused, (p.variables, (p.begun, p.saved))))))))
     (λ p. record {
       block = p.0;
       next = p.1.0;
@@ -71,7 +73,8 @@ coded_position =
       stored = p.1.1.1.0;
       refused = p.1.1.1.1.0;
       variables = p.1.1.1.1.1.0;
-      begun = p.1.1.1.1.1.1;
+      begun = p.1.1.1.1.1.1.0;
+      saved = p.1.1.1.1.1.1.1;
     })
     (λ _. refl)
 
@@ -105,7 +108,16 @@ kept_values (Some values) slots = record { values = values; slots = slots }
 -- a job before its next transaction: none has begun
 abbrev pub at_begin : Job → Position
 at_begin job =
-    record { block = job.block; next = job.next; at = 0; stored = 0; refused = false; variables = job.variables; begun = nothing_kept }
+    record {
+      block = job.block;
+      next = job.next;
+      at = 0;
+      stored = 0;
+      refused = false;
+      variables = job.variables;
+      begun = nothing_kept;
+      saved = None;
+    }
 
 -- the transaction asks a call
 abbrev pub is_call : Ask → Bool

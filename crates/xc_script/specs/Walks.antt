@@ -45,6 +45,7 @@ bytes_got reply.TooMuch = []
 bytes_got reply.BadWord = []
 bytes_got (reply.Fault n) = []
 bytes_got reply.Late = []
+bytes_got (reply.Undone n) = []
 
 -- A call that carried so many bytes failed a private check. Longer data than a call takes is asked of no call, so
 -- one that carries bytes is too big only for its file, which an append finds after the checks.
@@ -65,6 +66,7 @@ fails_check carried reply.TooMuch = true
 fails_check carried reply.BadWord = true
 fails_check carried (reply.Fault n) = false
 fails_check carried reply.Late = false
+fails_check carried (reply.Undone n) = false
 
 -- a call that passed the private checks stores its bytes and its reply's
 abbrev pub stored_after : ℕ → ℕ → Reply → ℕ
@@ -88,13 +90,14 @@ holds test.AtMost a b = nat_le a b
 holds test.Greater a b = nat_lt b a
 holds test.AtLeast a b = nat_le b a
 
--- silent are a `let`, an `abort if` whose test fails, and a `require` unless the last call was refused
+-- silent are a `let`, an `abort if` or a `back if` whose test fails, and a `require` unless the last call was refused
 abbrev pub is_silent : Variables → Bool → Statement → Bool
 is_silent variables refused (statement.Call f) = false
 is_silent variables refused (statement.Let into e) = true
 is_silent variables refused statement.Abort = false
 is_silent variables refused (statement.AbortIf left test right) = not (holds test (term_value variables left) (term_value variables right))
 is_silent variables refused statement.Require = not refused
+is_silent variables refused (statement.BackIf left test right) = not (holds test (term_value variables left) (term_value variables right))
 
 -- the variables where the one at a place holds this, or nothing
 abbrev pub set_to : Variables → ℕ → Option Value → Variables
@@ -107,6 +110,7 @@ set_by variables (statement.Call f) = variables
 set_by variables statement.Abort = variables
 set_by variables (statement.AbortIf left test right) = variables
 set_by variables statement.Require = variables
+set_by variables (statement.BackIf left test right) = variables
 
 -- a transaction before these statements: the silent ones in front are passed, one after another
 abbrev pub past_silent : Variables → ℕ → Bool → List Statement → Walk

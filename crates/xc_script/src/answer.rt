@@ -29,7 +29,7 @@ fn value_in(reply: &Reply) -> Result<Option<Value>, NoMemory>
         Reply::MadePair(_, _) | Reply::Done | Reply::End | Reply::Empty => Ok(None),
         Reply::NoName | Reply::Exists | Reply::BadHandle | Reply::PastEnd => Ok(None),
         Reply::TooBig | Reply::TooMuch | Reply::BadWord => Ok(None),
-        Reply::Fault(_) | Reply::Late => Ok(None),
+        Reply::Fault(_) | Reply::Late | Reply::Undone(_) => Ok(None),
     }
 }
 
@@ -43,6 +43,7 @@ fn handles_in(reply: &Reply) -> Option<(u16, u16)>
         Reply::End | Reply::Empty | Reply::NoName | Reply::Exists => None,
         Reply::BadHandle | Reply::PastEnd | Reply::TooBig | Reply::TooMuch => None,
         Reply::BadWord | Reply::Fault(_) | Reply::Late => None,
+        Reply::Undone(_) => None,
     }
 }
 
@@ -84,6 +85,7 @@ fn form_target(form: &Form) -> Target
         Form::Let { .. } | Form::LetSum { .. } => Target::Nowhere,
         Form::LetDifference { .. } | Form::Abort => Target::Nowhere,
         Form::AbortIf { .. } | Form::Require => Target::Nowhere,
+        Form::Save | Form::Keep | Form::Back | Form::BackIf { .. } => Target::Nowhere,
     }
 }
 
@@ -135,7 +137,7 @@ pub fn refuses(reply: &Reply) -> bool
 {
     match reply {
         Reply::Number(_) | Reply::Got(_) | Reply::Made(_) | Reply::MadePair(_, _) => false,
-        Reply::Done | Reply::Late => false,
+        Reply::Done | Reply::Late | Reply::Undone(_) => false,
         Reply::End | Reply::Empty | Reply::NoName | Reply::Exists => true,
         Reply::BadHandle | Reply::PastEnd | Reply::TooBig => true,
         Reply::TooMuch | Reply::BadWord | Reply::Fault(_) => true,
@@ -152,6 +154,7 @@ fn fails_check(carried: usize, reply: &Reply) -> bool
         Reply::Number(_) | Reply::Got(_) | Reply::Made(_) | Reply::MadePair(_, _) => false,
         Reply::Done | Reply::End | Reply::Empty | Reply::NoName => false,
         Reply::Exists | Reply::PastEnd | Reply::Fault(_) | Reply::Late => false,
+        Reply::Undone(_) => false,
     }
 }
 
@@ -165,6 +168,7 @@ fn got(reply: &Reply) -> usize
         Reply::Done | Reply::End | Reply::Empty | Reply::NoName => 0,
         Reply::Exists | Reply::BadHandle | Reply::PastEnd | Reply::TooBig => 0,
         Reply::TooMuch | Reply::BadWord | Reply::Fault(_) | Reply::Late => 0,
+        Reply::Undone(_) => 0,
     }
 }
 

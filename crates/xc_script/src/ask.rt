@@ -198,6 +198,9 @@ fn form_ask(
         Form::Start { slot, block } => Ok(Ask::Call(start(alloc, variables, block, *slot)?)),
         Form::Let { .. } | Form::LetSum { .. } | Form::LetDifference { .. } => Ok(Ask::Abort),
         Form::Abort | Form::AbortIf { .. } | Form::Require => Ok(Ask::Abort),
+        Form::Save => Ok(Ask::Call(Call::Save)),
+        Form::Keep => Ok(Ask::Call(Call::Keep)),
+        Form::Back | Form::BackIf { .. } => Ok(Ask::Call(Call::Back)),
     }
 }
 
@@ -242,6 +245,7 @@ fn form_carried(variables: &Variables, stored: u128, form: &Form) -> usize
         Form::Pair { .. } | Form::Receive { .. } | Form::Start { .. } => 0,
         Form::Let { .. } | Form::LetSum { .. } | Form::LetDifference { .. } => 0,
         Form::Abort | Form::AbortIf { .. } | Form::Require => 0,
+        Form::Save | Form::Keep | Form::Back | Form::BackIf { .. } => 0,
     }
 }
 

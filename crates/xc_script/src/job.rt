@@ -1,9 +1,11 @@
-ghost use Rattle.std.specs.Prelude.{◌≡◌, ◌≤◌, ◌<◌, is_some, ◌+◌, ◌^◌, slice_get, length, None, MatchOption, IfOk, IsOk, OnOk, OnErr};
+ghost use Rattle.std.specs.Prelude.{◌≡◌, ◌≤◌, ◌<◌, is_some, ◌+◌, ◌^◌, slice_get, length, None, Some, MatchOption};
+ghost use Rattle.std.specs.Prelude.{IsSome, IfOk, IsOk, OnOk, OnErr};
 ghost use Rattle.std.specs.Option.{option_copied};
 ghost use Rattle.xc_text.specs.Scripts.{IsScript};
 ghost use Rattle.xc_script.specs.Ask.{asks_from, next_body, transactions_at, fresh_job, handed_on};
 ghost use Rattle.xc_script.specs.Answers.{answered, value_in};
-ghost use Rattle.xc_script.specs.Slots.{kept_of, with_ends};
+ghost use Rattle.xc_script.specs.Blocks.{back_to, kept_calls};
+ghost use Rattle.xc_script.specs.Slots.{with_ends};
 ghost use Rattle.xc_script.specs.Position.{Position, job_of, walk_of, at_begin, nothing_kept, IsPastSilent, IsAskedCall, target_at};
 ghost use Rattle.xc_script.specs.declared.answer.Target.TheVariants.{Nowhere};
 
@@ -11,6 +13,7 @@ use crate::Ask;
 use crate::answer::{bind, refuses, stored_after, target_of};
 use crate::ask::{ask_of, carried};
 use crate::ends::set_ends;
+use crate::inner::pass_keep;
 use crate::silent::settle;
 use crate::value::Variables;
 use crate::values::Values;
@@ -28,6 +31,10 @@ pub struct JobState {
     begun: Option<Values>,
     // The list for the next begin.
     spare: Values,
+    // What they held at the save that is open, where one is.
+    saved: Option<Values>,
+    // The list for the next save.
+    unused: Values,
     variables: Variables,
     block: usize,
     next: usize,
@@ -54,6 +61,7 @@ impl Model for JobState {
       refused = j.refused;
       variables = j.variables;
       begun = kept_values j.begun j.variables.slots;
+      saved = j.saved;
     } };
 
     ghost invariant = { λ j. j.stored ≤ j.at * 2 ^ 64 };
@@ -91,6 +99,8 @@ impl JobState {
             variables,
             begun: None,
             spare: Values::new(alloc),
+            saved: None,
+            unused: Values::new(alloc),
         })
     }
 
@@ -114,6 +124,8 @@ impl JobState {
             variables,
             begun: None,
             spare: Values::new(self.alloc),
+            saved: None,
+            unused: Values::new(self.alloc),
         })
     }
 
@@ -136,6 +148,7 @@ impl JobState {
         ensures settled { OnOk result (IsPastSilent script.now self.new) }
         ensures same { (self.new.block ≡ self.old.block) × (self.new.next ≡ self.old.next) }
         ensures begun { self.new.begun ≡ self.old.begun }
+        ensures saved { self.new.saved ≡ self.old.saved }
         ensures noted { (self.new.stored ≡ self.old.stored) × (self.new.refused ≡ self.old.refused) }
         ensures at { self.old.at ≤ self.new.at }
 
@@ -159,6 +172,7 @@ impl JobState {
         ensures ok { OnOk result (walk_of script.now self.new ≡ answered (walk_of script.now self.old) reply.now) }
         ensures same { (self.new.block ≡ self.old.block) × (self.new.next ≡ self.old.next) }
         ensures begun { self.new.begun ≡ self.old.begun }
+        ensures saved { self.new.saved ≡ self.old.saved }
         ensures at { OnOk result (self.new.at ≡ self.old.at + 1) }
         ensures err { OnErr result (self.new ≡ self.old) }
 
@@ -178,6 +192,48 @@ impl JobState {
         self.refused = refuses(reply);
         self.at += 1;
         Ok(())
+    }
+
+    /// Keeps what the variables hold for a back. Their bytes are shared.
+    pub fn save(&mut self) -> Result<(), NoMemory>
+        ensures ok { OnOk result (self.new ≡ record self.old { saved = Some self.old.variables.values }) }
+        ensures err { OnErr result (self.new ≡ self.old) }
+    {
+        let mut values = mem::replace(&mut self.unused, Values::new(self.alloc));
+        self.variables.keep_values(&mut values)?;
+        self.saved = Some(values);
+        Ok(())
+    }
+
+    /// What was kept for a back is dropped. It takes no memory.
+    pub fn keep(&mut self)
+        requires { IsSome self.old.saved }
+        ensures { self.new ≡ record self.old { saved = None } }
+    {
+        self.forget_save();
+    }
+
+    /// Answers the back that was asked: goes on behind the block's keep, with what the variables held at the save. It takes no
+    /// memory.
+    pub fn unsave(&mut self, script: &Script)
+        requires open { IsSome self.old.saved }
+        requires asked { IsAskedCall script.now self.old }
+        requires settled { IsPastSilent script.now self.old }
+        ensures walk { walk_of script.now self.new ≡ back_to (walk_of script.now self.old) self.old.saved }
+        ensures same { (self.new.block ≡ self.old.block) × (self.new.next ≡ self.old.next) }
+        ensures begun { self.new.begun ≡ self.old.begun }
+        ensures saved { self.new.saved ≡ None }
+        ensures at { self.old.at < self.new.at }
+    {
+        let Some(body) = body_at(script, self.block, self.next) else {
+            return;
+        };
+        if let Some(values) = self.saved.take() {
+            self.unused = self.variables.take_values(values);
+            self.unused.clear();
+        }
+        self.refused = false;
+        pass_keep(&mut self.at, body);
     }
 
     /// Goes back to the begin of the transaction, with its variables. It takes no memory.
@@ -203,11 +259,11 @@ impl JobState {
         self.rewind();
     }
 
-    /// The slots of the calls that were kept for a commit take their ends, in order. What was kept for an abort is dropped.
-    /// It takes no memory.
+    /// The slots of the calls that were kept for a commit, and that no back dropped, take their ends, in order. What was kept
+    /// for an abort is dropped. It takes no memory.
     pub fn set_ends(&mut self, calls: &[Call], replies: &[Reply], ends: &[LateEnd])
         ensures { self.new ≡ record self.old {
-          variables = with_ends self.old.variables (kept_of calls.now replies.now) ends.now;
+          variables = with_ends self.old.variables (kept_calls calls.now replies.now) ends.now;
           begun = nothing_kept;
         } }
     {
@@ -223,6 +279,17 @@ impl JobState {
         self.stored = 0;
         self.refused = false;
         self.forget_begin();
+        self.forget_save();
+    }
+
+    // What was kept for a back is dropped, and its list stays.
+    fn forget_save(&mut self)
+        ensures { self.new ≡ record self.old { saved = None } }
+    {
+        if let Some(mut values) = self.saved.take() {
+            values.clear();
+            self.unused = values;
+        }
     }
 
     // What was kept for an abort is dropped, and its list stays.

@@ -1,7 +1,10 @@
 //! What the variables hold at the opening. Each function does nothing: its contract is the law.
 
-ghost use Rattle.std.specs.Prelude.{◌≡◌, ℕ, Some, None, length};
-ghost use Rattle.xc_script.specs.Ask.{opening_variables};
+ghost use Rattle.std.specs.Prelude.{◌≡◌, ℕ, List, Some, None, length, is_some, true};
+ghost use Rattle.xc_data.specs.declared.call.Reply.{Reply};
+ghost use Rattle.xc_script.specs.Asking.{asks};
+ghost use Rattle.xc_script.specs.Blocks.{ask_fits, block_from, all_replied};
+ghost use Rattle.xc_script.specs.Ask.{Job, opening_variables};
 ghost use Rattle.xc_script.specs.Values.{value_at};
 ghost use Rattle.xc_script.specs.Handles.{IsIn, IsLastIn};
 ghost use Rattle.xc_script.specs.declared.value.Value.TheVariants.{Handle};
@@ -23,4 +26,11 @@ pub fn a_variable_holds_its_last_handle()
 /// A variable that no handle is in holds nothing.
 pub fn other_variables_hold_nothing()
     ensures { (script : Script) (v : ℕ) → ((h : ℕ) → IsIn script.handles h v → ⊥) → value_at (opening_variables script).values v ≡ None }
+{}
+
+/// A save is asked only where no block is open, and a keep and a back only in one.
+pub fn what_is_asked_fits_its_block()
+    ensures { (script : Script) (job : Job) (replies : List Reply) → IsScript script
+        → ask_fits (is_some (all_replied (block_from script job) replies).saved)
+        (asks (all_replied (block_from script job) replies).walk) ≡ true }
 {}

@@ -6,6 +6,7 @@ mod ask;
 mod calls;
 mod data;
 mod ends;
+mod inner;
 mod job;
 mod laws;
 mod silent;
@@ -14,7 +15,9 @@ mod value;
 mod values;
 
 pub use ask::Ask;
+pub use ends::goes_back;
 pub use job::JobState;
 pub use laws::{
     a_variable_holds_its_last_handle, each_handle_is_in_a_variable, other_variables_hold_nothing,
+    what_is_asked_fits_its_block,
 };

@@ -33,8 +33,9 @@ fn is_silent(variables: &Variables, refused: bool, form: &Form) -> bool
         Form::Pipe { .. } | Form::ReadPipe { .. } | Form::WritePipe { .. } => false,
         Form::Shutdown { .. } | Form::Pair { .. } | Form::Receive { .. } => false,
         Form::Send { .. } | Form::Start { .. } | Form::Abort => false,
+        Form::Save | Form::Keep | Form::Back => false,
         Form::Let { .. } | Form::LetSum { .. } | Form::LetDifference { .. } => true,
-        Form::AbortIf { left, test, right } => {
+        Form::AbortIf { left, test, right } | Form::BackIf { left, test, right } => {
             !holds(
                 *test,
                 value_of(variables, *left),
@@ -74,6 +75,7 @@ fn set(variables: &mut Variables, form: &Form)
         Form::Shutdown { .. } | Form::Pair { .. } | Form::Receive { .. } => {}
         Form::Send { .. } | Form::Start { .. } => {}
         Form::Abort | Form::AbortIf { .. } | Form::Require => {}
+        Form::Save | Form::Keep | Form::Back | Form::BackIf { .. } => {}
     }
 }
 
