@@ -10,15 +10,18 @@ use Rattle.xc_data.specs.declared.entry.Cause.TheVariants as cause
 use Rattle.xc_data.specs.declared.entry.Entry.{Entry}
 use Rattle.xc_data.specs.declared.entry.Outcome.{Outcome}
 use Rattle.xc_data.specs.declared.entry.Outcome.TheVariants.{Committed, Aborted}
+use Rattle.xc_data.specs.declared.call.Call.TheVariants as call
 use Rattle.xc_script.specs.declared.ask.Ask.{Ask}
 use Rattle.xc_script.specs.declared.ask.Ask.TheVariants as ask
 use Rattle.xc_script.specs.Position.{is_call}
-use Rattle.xc_script.specs.Slots.{kept_of}
+use Rattle.xc_script.specs.Blocks.{kept_calls}
+use Rattle.xc_world.specs.Ends.{Ending}
 use Rattle.xc_world.specs.Fits.{late_answer_of}
 use Rattle.xc_world.specs.Late.{late}
 use Rattle.xc_world.specs.World.{World}
 use Rattle.xc_model.specs.Grounds.{Scene, Ground, Part, Revocation, scene_of}
 use Rattle.xc_model.specs.Progress.{Progress, body_of, following_of, progress_of}
+use Rattle.xc_model.specs.RecordCounts.{no_records, all_records, IsStuckIn}
 use Rattle.xc_model.specs.Setting.{Setting}
 use Rattle.xc_model.specs.Truth.{asked_behind, part_of, entry_parts}
 
@@ -48,7 +51,7 @@ module _ (a : Account) where
   -- tells, the plain machine's
   pub record HasCommitted (ends : List LateEnd) : Type 0 where
     pub asked : a.next ≡ ask.Commit
-    pub each : length ends ≡ length (kept_of a.entry.calls a.entry.replies)
+    pub each : length ends ≡ length (kept_calls a.entry.calls a.entry.replies)
     pub late : IsTrue a.setting.tells
         → AreLateEnds (body_of a.before.state a.entry).world (body_of a.before.state a.entry).late ends
 
@@ -61,19 +64,22 @@ module _ (a : Account) where
   own_scene = scene_of a.setting.tells (entry_parts a.setting a.journal) []
 
   -- after its calls a transaction was asked an abort; or a call, which met what another one held; an older one revoked
-  -- it; or memory ran out
-  abbrev pub HasCause : Cause → Type 0
-  HasCause cause.Asked = a.next ≡ ask.Abort
-  HasCause (cause.Conflict object holder at) =
+  -- it; memory ran out; or it was asked to go back, and these records tell where that failed in its open block
+  abbrev pub HasCause : List Ending → Cause → Type 0
+  HasCause records cause.Asked = a.next ≡ ask.Abort
+  HasCause records (cause.Conflict object holder at) =
       (is_call a.next ≡ true) × Ground own_scene a.place own_part (record { object = object; number = holder; at = at })
-  HasCause (cause.Revoked object by at) =
+  HasCause records (cause.Revoked object by at) =
       Revocation own_scene a.place own_part (record { object = object; number = by; at = at })
-  HasCause cause.NoMemory = Unit {0}
+  HasCause records cause.NoMemory = Unit {0}
+  HasCause records (cause.Stuck failed) =
+      (a.next ≡ ask.Call call.Back)
+      × IsStuckIn (all_records no_records a.entry.calls a.entry.replies) 1 records (cause.Stuck failed)
 
   -- it committed so, or was aborted with a cause
   abbrev pub IsAccounted : Outcome → Type 0
   IsAccounted (Committed ends) = HasCommitted ends
-  IsAccounted (Aborted report) = HasCause report.cause
+  IsAccounted (Aborted report) = HasCause report.records report.cause
 
 -- what the entries before this place led to
 abbrev pub progress_before : Setting → List Entry → ℕ → Progress

@@ -1,12 +1,12 @@
 -- The faults that are recorded, in the journal and in active transactions.
 use Rattle.std.specs.Prelude.{ℕ, ◌+◌, count_by, sum_by}
 use Rattle.xc_data.specs.Counts.{RisesBy}
-use Rattle.xc_data.specs.Faults.{entry_faults, is_fault_reply, is_fault_end, undo_faults}
+use Rattle.xc_data.specs.Faults.{entry_faults, reply_faults, is_fault_end, undo_faults}
 use Rattle.xc_model.specs.Moment.{TxView, Moment, actives}
 
 -- those of an active transaction
 abbrev pub tx_faults : TxView → ℕ
-tx_faults tx = count_by is_fault_reply tx.replies + (sum_by undo_faults tx.undo.ended + count_by is_fault_end tx.ends)
+tx_faults tx = sum_by reply_faults tx.replies + (sum_by undo_faults tx.undo.ended + count_by is_fault_end tx.ends)
 
 -- all that are recorded
 abbrev pub recorded_faults : Moment → ℕ

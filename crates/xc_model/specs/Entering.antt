@@ -8,7 +8,8 @@ use Rattle.xc_data.specs.declared.entry.Entry.{Entry}
 use Rattle.xc_data.specs.declared.entry.Outcome.{Outcome}
 use Rattle.xc_text.specs.declared.script.Script.{Script}
 use Rattle.xc_script.specs.Position.{at_begin}
-use Rattle.xc_script.specs.Slots.{kept_of, with_ends}
+use Rattle.xc_script.specs.Slots.{with_ends}
+use Rattle.xc_script.specs.Blocks.{kept_calls}
 use Rattle.xc_world.specs.World.{beginning}
 use Rattle.xc_model.specs.declared.phase.Attempts.{Attempts}
 use Rattle.xc_model.specs.LateCalls.{started_late}
@@ -42,7 +43,7 @@ behind_commit job tx =
       place = at_begin (record {
         block = job.place.block;
         next = job.place.next + 1;
-        variables = with_ends job.place.variables (kept_of tx.calls tx.replies) tx.ends;
+        variables = with_ends job.place.variables (kept_calls tx.calls tx.replies) tx.ends;
       });
       attempts = None;
       busy = 0;
@@ -57,6 +58,13 @@ attempts_with attempts tx c = record { first = tx.rank; failed = failures attemp
 -- one that met a holder or was revoked is tried again; for lack of memory nothing more is asked
 abbrev pub behind_abort : JobView → TxView → Cause → JobView
 behind_abort job tx cause.Asked =
+    record job {
+      place = at_begin (record { block = job.place.block; next = job.place.next + 1; variables = job.place.begun });
+      attempts = None;
+      busy = 0;
+      doing = Idle;
+    }
+behind_abort job tx (cause.Stuck failed) =
     record job {
       place = at_begin (record { block = job.place.block; next = job.place.next + 1; variables = job.place.begun });
       attempts = None;

@@ -26,6 +26,7 @@ Names (cause.Conflict met holder at) object number = (met ≡ object) × (holder
 Names (cause.Revoked met by at) object number = (met ≡ object) × (by ≡ number)
 Names cause.Asked object number = ⊥
 Names cause.NoMemory object number = ⊥
+Names (cause.Stuck failed) object number = ⊥
 
 -- the last attempt's does, where one failed
 abbrev pub NamesLast : Option Attempts → Object → ℕ → Type 0
@@ -72,6 +73,7 @@ new_tx number rank began me =
       held = [];
       late = [];
       ends = [];
+      saved = None;
     }
 
 -- the job at the begin of its next transaction, whose number is the next

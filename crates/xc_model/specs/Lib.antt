@@ -17,6 +17,7 @@ pub mod Opened
 pub mod PlainSteps
 pub mod Played
 pub mod Progress
+pub mod RecordCounts
 pub mod Rivals
 pub mod Rows
 pub mod RunningRows
@@ -26,6 +27,7 @@ pub mod Started
 pub mod Stories
 pub mod Truth
 pub mod UndoingRows
+pub mod BackingRows
 pub mod Waiting
 pub mod WordCalls
 pub mod Words

@@ -4,20 +4,21 @@ use Rattle.xc_text.specs.declared.script.Block.{Block}
 use Rattle.xc_text.specs.Stated.{Statement}
 use Rattle.xc_script.specs.Ask.{transactions_at}
 use Rattle.xc_model.specs.declared.phase.Phase.{Phase}
-use Rattle.xc_model.specs.declared.phase.Phase.TheVariants.{Running, Committing, Undoing}
+use Rattle.xc_model.specs.declared.phase.Phase.TheVariants.{Running, Committing, Undoing, Backing}
 use Rattle.xc_model.specs.Setting.{Setting}
 use Rattle.xc_model.specs.Moment.{TxView, JobView, Doing, Idle, Active, Starved, Ended, Moment, failures, late_left}
 
 -- an attempt at a transaction: three turns for each statement, which may leave a record and a late call, its begin, the
 -- entering of its commit or abort, and its entry; and so often as patience lasts it waits, while it runs and after it
 abbrev pub attempt_turns : Setting → List Statement → ℕ
-attempt_turns s body = 3 * length body + 4 + 2 * s.rules.patience
+attempt_turns s body = 3 * length body + 5 + 2 * s.rules.patience
 
 -- what is left of an attempt of so many statements, after so many of them
 abbrev pub phase_turns : ℕ → ℕ → TxView → Phase → ℕ
-phase_turns statements at tx Running = 3 * (statements - at) + length tx.undo.pending + length (late_left tx) + 3
+phase_turns statements at tx Running = 3 * (statements - at) + length tx.undo.pending + length (late_left tx) + 4
 phase_turns statements at tx Committing = length (late_left tx) + 2
 phase_turns statements at tx (Undoing c) = length tx.undo.pending + 2
+phase_turns statements at tx Backing = 3 * (statements - at) + length tx.undo.pending + length (late_left tx) + 3
 
 -- transactions, each tried as often as the rules allow
 abbrev pub bodies_turns : Setting → List (List Statement) → ℕ

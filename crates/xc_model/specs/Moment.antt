@@ -13,6 +13,7 @@ use Rattle.xc_data.specs.declared.entry.Entry.{Entry}
 use Rattle.xc_data.specs.declared.entry.JobEnd.{JobEnd}
 use Rattle.xc_data.specs.declared.entry.KeptItem.{KeptItem}
 use Rattle.xc_data.specs.declared.private.Private.{Private}
+use Rattle.xc_data.specs.declared.undo.Undo.{Undo}
 use Rattle.xc_data.specs.declared.script.Kind.{Kind}
 use Rattle.xc_compensate.specs.Records.{Records}
 use Rattle.xc_deferred.specs.Queue.{Queue, left}
@@ -20,7 +21,17 @@ use Rattle.xc_host.specs.Contents.{Contents}
 use Rattle.xc_script.specs.Position.{Position}
 use Rattle.xc_model.specs.declared.phase.Attempts.{Attempts}
 use Rattle.xc_data.specs.declared.entry.Mark.{Mark}
+use Rattle.xc_data.specs.declared.private.Place.{Place}
 use Rattle.xc_model.specs.declared.phase.Phase.{Phase}
+
+-- what an open block's save keeps: the handles, the stores, the records, what was taken and the late calls; the job's place
+-- keeps what the variables held
+pub record SavedView : Type 0 where
+  pub places : List Place
+  pub writes : List (ℕ × ℕ)
+  pub trail : List Undo
+  pub taken : List KeptItem
+  pub late : List LateCall
 
 -- an active transaction, with what its entry will say
 pub record TxView : Type 0 where
@@ -43,6 +54,8 @@ pub record TxView : Type 0 where
   -- its calls that are kept for the commit, each on the object that was fixed at the call, and the ends of the first of them
   pub late : List LateCall
   pub ends : List LateEnd
+  -- in an open block what its save kept
+  pub saved : Option SavedView
 
 -- what a job does: it has no active transaction; it has one; its last one was aborted for lack of memory; it has ended
 pub data Doing : Type 0 where

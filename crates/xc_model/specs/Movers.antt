@@ -32,6 +32,7 @@ pub record IsSameBegin (old new : Position) : Type 0 where
 pub record IsSamePosition (s : Setting) (old new : Position) : Type 0 where
   pub begin : IsSameBegin old new
   pub walk : walk_of s.script new ≡ walk_of s.script old
+  pub saved : new.saved ≡ old.saved
   pub at : old.at ≤ new.at
 
 -- the job with its transaction like this, at this place

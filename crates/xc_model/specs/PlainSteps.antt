@@ -1,7 +1,8 @@
 -- A call of a transaction as the plain machine does it, and the transaction after it.
-use Rattle.std.specs.Prelude.{◌≡◌, ◌⊎◌, ℕ, ◌+◌, true, false, List, [], ◌∷◌, ◌++◌, length}
+use Rattle.std.specs.Prelude.{◌≡◌, ◌⊎◌, ℕ, true, false, List, [], ◌∷◌, ◌++◌, length, Option}
 use Rattle.std.specs.Prelude.{IsTrue}
 use Rattle.std.specs.Prelude.{nat_lt, if◌then◌else◌}
+use Rattle.std.specs.declared.option.Option.TheVariants.{None, Some}
 use Rattle.xc_data.specs.Claims.{holding}
 use Rattle.xc_data.specs.Step.{Step}
 use Rattle.xc_data.specs.declared.call.Answer.{Answer}
@@ -25,14 +26,14 @@ use Rattle.xc_world.specs.World.{World}
 use Rattle.xc_world.specs.Act.{act}
 use Rattle.xc_world.specs.Act.Step.{step_to}
 use Rattle.xc_world.specs.Effects.{takes_data}
-use Rattle.xc_world.specs.Fits.{fits, answer_of}
+use Rattle.xc_world.specs.Fits.{is_back, fits, answer_of}
 use Rattle.xc_world.specs.Late.{kept_call}
 use Rattle.xc_data.specs.Calls.{is_late, is_kept}
 use Rattle.xc_world.specs.Modes.{claims_of}
 use Rattle.xc_world.specs.Run.{taken_by}
 use Rattle.xc_world.specs.Trail.{recorded}
 use Rattle.xc_model.specs.declared.phase.Phase.TheVariants.{Undoing}
-use Rattle.xc_model.specs.Moment.{TxView, Moment}
+use Rattle.xc_model.specs.Moment.{TxView, SavedView, Moment}
 
 -- ---- a running transaction makes the call that is asked
 -- what a call works on beside the host: its transaction's number, the private state, the stores that wait, the records
@@ -64,8 +65,8 @@ tx_parts tx = record { number = tx.number; me = tx.me; stores = tx.writes; undo 
 
 -- the transaction after a call: noted with its reply, what it claimed held, what it took from a pipe or a pair noted,
 -- and kept for the commit where it replied so
-abbrev pub noting : TxView → Call → Reply → List Claim → Parts → TxView
-noting tx call reply claims parts =
+abbrev pub noting_plain : TxView → Call → Reply → List Claim → Parts → TxView
+noting_plain tx call reply claims parts =
     record tx {
       me = parts.me;
       writes = parts.stores;
@@ -76,6 +77,31 @@ noting tx call reply claims parts =
       held = holding tx.held claims;
       late = tx.late ++ kept_call call tx.me reply;
     }
+
+-- what a save keeps of a transaction
+abbrev pub copied : TxView → SavedView
+copied tx =
+    record {
+      places = tx.me.places;
+      writes = tx.writes;
+      trail = tx.undo.pending;
+      taken = tx.taken;
+      late = tx.late;
+    }
+
+-- the block that a call opens or closes: what a save keeps is a copy of what is there after it
+abbrev pub saved_by : {X : Type 0} → Call → Option X → X → Option X
+saved_by call.Save kept copy = Some copy
+saved_by call.Keep kept copy = None
+saved_by call.Back kept copy = None
+-- any other call is made in the block that is open, also one yet to come
+saved_by _ kept copy = kept
+
+-- the same, and where the call opens or closes a block
+abbrev pub noting : TxView → Call → Reply → List Claim → Parts → TxView
+noting tx call reply claims parts =
+    let u = noting_plain tx call reply claims parts in
+    record u { saved = saved_by call tx.saved (copied u) }
 
 -- the stores that a call adds, over so many words
 abbrev pub stored_by : ℕ → Call → List (ℕ × ℕ)
@@ -93,9 +119,10 @@ pub record IsReplyInTime (me : Private) (number : ℕ) (call : Call) (reply : Re
   pub kept : is_kept call ≡ true → (w : World) → reply ≡ (act w me number call answer.Fine).reply
   pub now : is_kept call ≡ false → is_late reply ≡ false
 
--- One that takes data gives it back, and did nothing
+-- One that takes data gives it back, and did nothing; and a back did nothing
 pub record LeavesAsPlain (worlds : Step World) (parts : Parts) (asked : CallWithAnswer) (left : List Undo) : Type 0 where
   pub untaken : takes_data asked.call ≡ false
+  pub ahead : is_back asked.call ≡ false
   pub fits : IsTrue (fits worlds.old parts.me parts.number asked.call asked.answer)
   pub world : worlds.new ≡ (act worlds.old parts.me parts.number asked.call asked.answer).world
   pub records : left

@@ -16,9 +16,10 @@ use Rattle.xc_data.specs.declared.entry.Outcome.TheVariants.{Committed, Aborted}
 use Rattle.xc_data.specs.declared.entry.Entry.{Entry}
 use Rattle.xc_data.specs.declared.private.Private.{Private}
 use Rattle.xc_text.specs.declared.script.Script.{Script}
-use Rattle.xc_script.specs.Ask.{Job, handed_on, passed, fresh_job, block_place}
+use Rattle.xc_script.specs.Ask.{Job, handed_on, fresh_job, block_place}
+use Rattle.xc_script.specs.Blocks.{passed_blocks, kept_calls}
 use Rattle.xc_script.specs.Values.{Variables}
-use Rattle.xc_script.specs.Slots.{kept_of, with_ends}
+use Rattle.xc_script.specs.Slots.{with_ends}
 use Rattle.xc_world.specs.World.{State, beginning, no_handles}
 use Rattle.xc_world.specs.Run.{BodyResult, Run, body, run, asked_of}
 use Rattle.xc_world.specs.Ends.{remains, with_remains}
@@ -113,12 +114,13 @@ started_job script starter since block =
 -- the job after a commit: at its next transaction, where the slots of the kept calls have taken their ends
 abbrev pub committed_job : Script → Job → List Call → List Reply → List LateEnd → Job
 committed_job script job calls replies late =
-    let behind = passed script job replies in record behind { variables = with_ends behind.variables (kept_of calls replies) late }
+    let behind = passed_blocks script job replies in
+    record behind { variables = with_ends behind.variables (kept_calls calls replies) late }
 
 -- what a committed entry of a job leads to
 abbrev pub after_commit : Script → Progress → Following → Entry → List LateEnd → Progress
 after_commit script p f e late =
-    let blocks = started_blocks (kept_of e.calls e.replies) late in
+    let blocks = started_blocks (kept_calls e.calls e.replies) late in
     let job = committed_job script f.job e.calls e.replies late in
     record {
       state = committed_state p.state e.job (run_of p.state e late) blocks;
@@ -130,6 +132,7 @@ after_commit script p f e late =
 -- ---- after an abort: the world with what remains, and the variables of the begin
 abbrev pub following_abort : ℕ → Following → Entry → Cause → Following
 following_abort entered f e cause.Asked = untried f.block (record f.job { next = f.job.next + 1 }) (entered + 1)
+following_abort entered f e (cause.Stuck failed) = untried f.block (record f.job { next = f.job.next + 1 }) (entered + 1)
 following_abort entered f e cause.NoMemory = record f { starved = true; since = entered + 1 }
 following_abort entered f e c = record f { first = Some (unwrap_or f.first e.tx); failed = f.failed ++ c ∷ []; since = entered + 1 }
 

@@ -1,5 +1,5 @@
 -- Claims of a running transaction against what others hold.
-use Rattle.std.specs.Prelude.{◌≡◌, ◌≢◌, ℕ, ◌+◌, ◌≤◌, List, ◌∷◌, ◌++◌}
+use Rattle.std.specs.Prelude.{◌≡◌, ◌≢◌, ℕ, ◌≤◌, List, ◌∷◌, ◌++◌}
 use Rattle.std.specs.Prelude.{All, Contains}
 use Rattle.xc_data.specs.Claims.{Clash}
 use Rattle.xc_data.specs.declared.claim.Claim.{Claim}

@@ -5,7 +5,7 @@ use Rattle.xc_data.specs.declared.entry.JobEnd.TheVariants as job_end
 use Rattle.xc_data.specs.declared.entry.Turn.{Turn}
 use Rattle.xc_data.specs.declared.entry.Turn.TheVariants as turn
 use Rattle.xc_model.specs.declared.phase.Phase.{Phase}
-use Rattle.xc_model.specs.declared.phase.Phase.TheVariants.{Running, Committing, Undoing}
+use Rattle.xc_model.specs.declared.phase.Phase.TheVariants.{Running, Committing, Undoing, Backing}
 use Rattle.xc_model.specs.Setting.{Setting}
 use Rattle.xc_model.specs.Moment.{TxView, JobView, Doing, Idle, Active, Starved, Ended, Moment}
 use Rattle.xc_model.specs.Moment.{with_job}
@@ -14,6 +14,7 @@ use Rattle.xc_model.specs.IdleRows.{IdleTurn}
 use Rattle.xc_model.specs.RunningRows.{MarkedTurn}
 use Rattle.xc_model.specs.CommittingRows.{CommittingTurn}
 use Rattle.xc_model.specs.UndoingRows.{UndoingTurn}
+use Rattle.xc_model.specs.BackingRows.{MarkedBack}
 
 -- ---- all rows
 module _ (m : Mover) where
@@ -27,6 +28,7 @@ module _ (m : Mover) where
   ActiveTurn tx Running answer new = MarkedTurn m tx (m.old.marks tx.number) answer new
   ActiveTurn tx Committing answer new = CommittingTurn m tx answer new
   ActiveTurn tx (Undoing c) answer new = UndoingTurn m tx c answer new
+  ActiveTurn tx Backing answer new = MarkedBack m tx (m.old.marks tx.number) answer new
 
   -- by what the job does; one that has ended has no turn
   abbrev pub TurnOf : Doing → Turn → Moment → Type 0

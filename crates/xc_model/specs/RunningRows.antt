@@ -1,13 +1,16 @@
 -- The rows of a running transaction: it makes its call, waits, meets a conflict, is revoked, is out of memory, or turns to its end.
-use Rattle.std.specs.Prelude.{◌≡◌, ◌⊎◌, ℕ, ◌+◌, ◌<◌, ◌≤◌, List, [], ◌++◌, length}
-use Rattle.std.specs.Prelude.{All, IsTrue}
+use Rattle.std.specs.Prelude.{◌≡◌, ◌⊎◌, ℕ, ◌<◌, ◌≤◌, List, [], ◌++◌, length}
+use Rattle.std.specs.Prelude.{All, IsTrue, IsSome, Bool, true, false}
 use Rattle.std.specs.Prelude.{Option, nat_eq, if◌then◌else◌}
 use Rattle.std.specs.declared.option.Option.TheVariants.{None, Some}
 use Rattle.xc_data.specs.Claims.{holding}
 use Rattle.xc_data.specs.Counts.{CountsFault}
 use Rattle.xc_data.specs.Faults.{is_fault_reply}
 use Rattle.xc_data.specs.declared.call.Call.{Call}
+use Rattle.xc_data.specs.declared.call.Call.TheVariants as call
 use Rattle.xc_data.specs.declared.call.Reply.{Reply}
+use Rattle.xc_data.specs.declared.call.Reply.TheVariants as reply
+use Rattle.xc_script.specs.Values.{Values}
 use Rattle.xc_data.specs.declared.claim.Claim.{Claim}
 use Rattle.xc_data.specs.declared.object.Object.{Object}
 use Rattle.xc_data.specs.declared.entry.Cause.TheVariants as cause
@@ -26,24 +29,46 @@ use Rattle.xc_world.specs.Checks.{IsChecked, refusal_of}
 use Rattle.xc_world.specs.Trail.{recorded}
 use Rattle.xc_data.specs.declared.entry.Mark.{Mark}
 use Rattle.xc_model.specs.declared.phase.Phase.{Phase}
-use Rattle.xc_model.specs.declared.phase.Phase.TheVariants.{Running, Committing, Undoing}
+use Rattle.xc_model.specs.declared.phase.Phase.TheVariants.{Running, Committing, Undoing, Backing}
 use Rattle.xc_model.specs.WordCalls.{IsWordStep}
 use Rattle.xc_model.specs.Moment.{TxView, Moment}
 use Rattle.xc_model.specs.Moment.{with_job}
 use Rattle.xc_model.specs.Moment.{revoked, waiting, Touches}
 use Rattle.xc_model.specs.Movers.{asked_at, IsSameBegin, IsSamePosition, with_tx, Mover, HasCalled}
 use Rattle.xc_model.specs.Rivals.{HasNoRival, IsFirstRival}
-use Rattle.xc_model.specs.PlainSteps.{Parts, StepsAsPlainIn, tx_parts, noting, stored_by, claims_at, IsReplyInTime, StopsAt}
+use Rattle.xc_model.specs.PlainSteps.{Parts, StepsAsPlainIn, tx_parts, noting, stored_by, claims_at, IsReplyInTime, StopsAt, saved_by}
 use Rattle.xc_model.specs.PlainSteps.{IsLeft, wanting}
 
 -- what becomes of a transaction's mark: a running one without a mark takes this one
 abbrev pub mark_behind : Phase → Option Mark → Mark → Option Mark
 mark_behind Running None new = Some new
+mark_behind Backing None new = Some new
 mark_behind phase kept new = kept
 
 -- the marks, where this transaction takes this one
 abbrev pub marked : (ℕ → Option Mark) → TxView → Mark → ℕ → Option Mark
 marked marks tx new n = if nat_eq n tx.number then mark_behind tx.phase (marks n) new else marks n
+
+-- the values of the variables where the next call is asked
+abbrev pub values_at : Mover → Values
+values_at m = (walk_of m.setting.script m.job.place).variables.values
+
+-- a reply that tells of a way back
+abbrev pub is_way_back : Reply → Bool
+is_way_back (reply.Undone faults) = true
+-- no other reply does
+is_way_back _ = false
+
+-- a call that opens a block, or closes one
+abbrev pub opens_or_closes : Call → Bool
+opens_or_closes call.Save = true
+opens_or_closes call.Keep = true
+-- no other call does; a back is none of these
+opens_or_closes _ = false
+
+-- there a call was done
+abbrev pub IsDoneWhere : Bool → Reply → Type 0
+IsDoneWhere b r = b ≡ true → r ≡ reply.Done
 
 module _ (m : Mover) (tx : TxView) where
   -- the call is done and noted
@@ -58,6 +83,8 @@ module _ (m : Mover) (tx : TxView) where
     pub begin : IsSameBegin m.job.place place
     pub walk : walk_of m.setting.script place ≡ answered (walk_of m.setting.script m.job.place) reply
     pub nearer : m.job.place.at < place.at
+    -- a save keeps what the variables held where it was asked
+    pub saved : place.saved ≡ saved_by call m.job.place.saved (values_at m)
     -- it is kept for the commit or done now
     pub in_time : IsReplyInTime tx.me tx.number call reply
     -- over every host: refused exactly where a private check refuses it, with its reply, and its handles, what it made and stored
@@ -74,6 +101,10 @@ module _ (m : Mover) (tx : TxView) where
     pub undo : parts.undo ≡ record tx.undo { pending = tx.undo.pending ++ made }
     -- its stores wait after the older ones
     pub stores : parts.stores ≡ tx.writes ++ stored_by (length m.old.words) call
+    -- it tells of no way back
+    pub no_way_back : is_way_back reply ≡ false
+    -- a save and a keep are done
+    pub blocks : IsDoneWhere (opens_or_closes call) reply
     -- on words its reply and its effect are those of the words with the transaction's stores, over every host
     pub spoken : IsWordStep (overlaid m.old.words tx.writes) (overlaid m.old.words parts.stores) call reply
     -- a fault exactly where the host's count rose
@@ -118,6 +149,14 @@ module _ (m : Mover) (tx : TxView) where
     pub behind : new
         ≡ record (with_job m.old m.at (with_tx m.job place (record tx { phase = Committing }))) { words = overlaid m.old.words tx.writes }
 
+  -- the script asks it to go back to its block's begin
+  pub record BeginsBack (new : Moment) : Type 0 where
+    pub place : Position
+    pub same : IsSamePosition m.setting m.job.place place
+    pub settled : IsPastSilent m.setting.script place
+    pub opened : IsSome tx.saved
+    pub behind : new ≡ with_job m.old m.at (with_tx m.job place (record tx { phase = Backing }))
+
   -- the script asks its abort
   pub record TurnsBack (new : Moment) : Type 0 where
     pub place : Position
@@ -151,9 +190,14 @@ module _ (m : Mover) (tx : TxView) where
     pub uses : HasCalled (StopsAt (asked_at m.setting m.job.place)) m.old new
     pub contents : IsTrue m.setting.tells → IsLeft m.old new (tx_parts tx) (asked_at m.setting m.job.place) left
 
+  -- by the call that is asked
+  abbrev pub CalledTurn : Call → Moment → Type 0
+  CalledTurn call.Back new = BeginsBack m tx new
+  CalledTurn call new = Calls m tx call new ⊎ Conflicts m tx call new
+
   -- by what is asked
   abbrev pub AskedTurn : Ask → Moment → Type 0
-  AskedTurn (ask.Call call) new = Calls m tx call new ⊎ Conflicts m tx call new
+  AskedTurn (ask.Call call) new = CalledTurn call new
   AskedTurn ask.Commit new = Commits m tx new
   AskedTurn ask.Abort new = TurnsBack m tx new
   AskedTurn ask.End new = ⊥

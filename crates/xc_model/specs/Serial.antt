@@ -32,9 +32,10 @@ pub record IsSerial (journal : List Entry) : Type 0 where
   pub jobs : JobsRise journal
 
 -- ---- how transactions ended
--- an abort that the script asked
+-- an abort that the script asked, or after which the next transaction is asked as after one
 abbrev pub is_asked : Cause → Bool
 is_asked cause.Asked = true
+is_asked (cause.Stuck failed) = true
 -- no other cause is, nor one yet to come
 is_asked _ = false
 

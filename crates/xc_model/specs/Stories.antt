@@ -1,34 +1,38 @@
 -- What is true between two turns of the stories of all jobs.
 use Rattle.std.specs.Prelude.{◌≡◌, ℕ, ◌+◌, ◌<◌, ◌≤◌, true, false, List, [], ◌∷◌, ◌++◌, length, map, slice_get, unwrap_or}
-use Rattle.std.specs.Prelude.{All, IsSome, IsPermutation, Contains}
+use Rattle.std.specs.Prelude.{All, IsSome, IsPermutation, Contains, is_some}
 use Rattle.std.specs.Prelude.{Option}
 use Rattle.std.specs.declared.option.Option.TheVariants.{None, Some}
 use Rattle.xc_data.specs.declared.claim.Claim.{Claim}
+use Rattle.xc_data.specs.declared.undo.Undo.{Undo}
 use Rattle.xc_data.specs.declared.entry.Cause.{Cause}
 use Rattle.xc_data.specs.declared.entry.Entry.{Entry}
 use Rattle.xc_script.specs.declared.ask.Ask.{Ask}
 use Rattle.xc_script.specs.declared.ask.Ask.TheVariants as ask
 use Rattle.xc_script.specs.Asking.{asks}
-use Rattle.xc_script.specs.Answers.{all_answered}
-use Rattle.xc_script.specs.Ask.{walk_from, next_body}
+use Rattle.xc_script.specs.Blocks.{KeptCalls, all_replied, block_from, none_kept, all_kept}
+use Rattle.xc_data.specs.declared.call.Call.{Call}
+use Rattle.xc_data.specs.declared.call.Call.TheVariants as call
+use Rattle.xc_data.specs.declared.call.LateCall.{LateCall}
+use Rattle.xc_script.specs.Ask.{next_body}
 use Rattle.xc_script.specs.Position.{Position, at_begin, walk_of, IsPastSilent}
 use Rattle.xc_world.specs.World.{beginning}
-use Rattle.xc_world.specs.Ends.{AreLegal}
+use Rattle.xc_world.specs.Ends.{AreLegal, is_undone}
 use Rattle.xc_world.specs.Modes.{claims_of}
 use Rattle.xc_model.specs.declared.phase.Attempts.{Attempts}
 use Rattle.xc_data.specs.declared.entry.Mark.{Mark}
 use Rattle.xc_model.specs.declared.phase.Phase.{Phase}
-use Rattle.xc_model.specs.declared.phase.Phase.TheVariants.{Running, Committing, Undoing}
+use Rattle.xc_model.specs.declared.phase.Phase.TheVariants.{Running, Committing, Undoing, Backing}
 use Rattle.xc_model.specs.Setting.{Setting}
 use Rattle.xc_model.specs.Grounds.{Part, AreGrounded, Scene, scene_of}
-use Rattle.xc_script.specs.Slots.{kept_of}
 use Rattle.xc_model.specs.Progress.{Following, opening_progress, progress_of}
 use Rattle.xc_model.specs.Truth.{AsksEach, AreTrue, IsCauseOf, counting, next_of, entry_parts}
 use Rattle.xc_model.specs.Ending.{IsEnd}
 use Rattle.xc_model.specs.InTime.{AreInTime}
+use Rattle.xc_model.specs.RecordCounts.{RecordCount, no_records, all_records, AreFewFaults, HasRecords, IsStuckIn}
 use Rattle.xc_data.specs.Calls.{thread_asked, thread_in}
 use Rattle.xc_data.specs.Private.{IsSided}
-use Rattle.xc_model.specs.Moment.{TxView, JobView, Doing, Idle, Active, Starved, Ended, actives, active_of, revoked}
+use Rattle.xc_model.specs.Moment.{TxView, SavedView, JobView, Doing, Idle, Active, Starved, Ended, actives, active_of, revoked}
 
 -- ---- an active transaction, as a part of its job's story
 -- the job stands in its next transaction, and keeps the variables of its begin
@@ -39,13 +43,25 @@ pub record IsInNextTx (f : Following) (place : Position) : Type 0 where
 
 -- the job stands after its transaction's replies
 abbrev pub IsAhead : Setting → Following → Position → TxView → Type 0
-IsAhead s f place tx = walk_of s.script place ≡ all_answered (walk_from s.script f.job) tx.replies
+IsAhead s f place tx =
+    record { walk = walk_of s.script place; saved = place.saved } ≡ all_replied (block_from s.script f.job) tx.replies
+
+-- the records at an open block's save are among those that have no end
+abbrev pub IsWithinSave : Option SavedView → List Undo → Type 0
+IsWithinSave None pending = Unit {0}
+IsWithinSave (Some kept) pending = length kept.trail ≤ length pending
+
+-- its handles of pairs are open at one of two sides
+abbrev pub IsSidedSave : Option SavedView → Type 0
+IsSidedSave None = Unit {0}
+IsSidedSave (Some kept) = All IsSided kept.places
 
 -- a running one: no compensation was tried
 pub record IsRunning (s : Setting) (f : Following) (place : Position) (tx : TxView) : Type 0 where
   pub ahead : IsAhead s f place tx
   pub none : tx.undo.ended ≡ []
   pub no_ends : tx.ends ≡ []
+  pub within : IsWithinSave tx.saved tx.undo.pending
 
 -- a committing one: its commit was asked, and the job stands where its walk does
 pub record IsCommitting (s : Setting) (f : Following) (place : Position) (tx : TxView) : Type 0 where
@@ -59,6 +75,23 @@ pub record IsCommitting (s : Setting) (f : Following) (place : Position) (tx : T
 pub record IsUndoing (s : Setting) (f : Following) (tx : TxView) (c : Cause) : Type 0 where
   pub caused : IsCauseOf c (next_of s.script f tx.replies)
   pub legal : AreLegal s.rules.undo_tries (length tx.undo.pending + 1) tx.undo.ended
+  pub stuck : IsStuckIn (all_records no_records tx.calls tx.replies) (length tx.undo.pending + 1) tx.undo.ended c
+  pub no_ends : tx.ends ≡ []
+
+-- as many records as at the save have no end yet, or more
+abbrev pub IsAboveSave : Option SavedView → List Undo → Type 0
+IsAboveSave None pending = ⊥
+IsAboveSave (Some kept) pending = length kept.trail ≤ length pending
+
+-- one whose block goes back: the back is asked, and each compensation so far undid its record
+pub record IsBacking (s : Setting) (f : Following) (place : Position) (tx : TxView) : Type 0 where
+  pub ahead : IsAhead s f place tx
+  pub asked : asks (walk_of s.script place) ≡ ask.Call call.Back
+  pub settled : IsPastSilent s.script place
+  pub legal : AreLegal s.rules.undo_tries (length tx.undo.pending + 1) tx.undo.ended
+  pub undone : All (λ e. is_undone e.1 ≡ true) tx.undo.ended
+  -- none of the records before the save was tried
+  pub within : IsAboveSave tx.saved tx.undo.pending
   pub no_ends : tx.ends ≡ []
 
 -- by its phase
@@ -66,6 +99,35 @@ abbrev pub IsInPhase : Setting → Following → Position → TxView → Phase �
 IsInPhase s f place tx Running = IsRunning s f place tx
 IsInPhase s f place tx Committing = IsCommitting s f place tx
 IsInPhase s f place tx (Undoing c) = IsUndoing s f tx c
+IsInPhase s f place tx Backing = IsBacking s f place tx
+
+-- those at a save start the same blocks as the calls that were kept there
+abbrev pub AreKeptAtSave : Option SavedView → Option (List Call) → Type 0
+AreKeptAtSave None None = Unit {0}
+AreKeptAtSave (Some saved) (Some kept) = map thread_in saved.late ≡ map thread_asked kept
+AreKeptAtSave _ _ = ⊥
+
+-- the late calls, and those at an open block's save, start the same blocks as the calls that were kept
+abbrev pub AreKeptSo : List LateCall → Option SavedView → KeptCalls → Type 0
+AreKeptSo late saved k = (map thread_in late ≡ map thread_asked k.kept) × AreKeptAtSave saved k.saved
+
+-- the records at an open block's save are as many as the calls before it left
+abbrev pub IsCountedSave : Option SavedView → Option ℕ → Type 0
+IsCountedSave None None = Unit {0}
+IsCountedSave (Some kept) (Some count) = length kept.trail ≡ count
+IsCountedSave _ _ = ⊥
+
+-- its records, with an end and without, are as many as its calls left; without memory one of the next call may stand last
+abbrev pub HasRecordsIn : RecordCount → Phase → ℕ → Type 0
+HasRecordsIn k Running n = n ≡ k.now
+HasRecordsIn k Committing n = n ≡ k.now
+HasRecordsIn k Backing n = n ≡ k.now
+HasRecordsIn k (Undoing c) n = HasRecords k c n
+
+-- the records of a transaction are those of its calls, and so were those at its save
+pub record IsCounted (tx : TxView) (k : RecordCount) : Type 0 where
+  pub now : HasRecordsIn k tx.phase (length tx.undo.pending + length tx.undo.ended)
+  pub saved : IsCountedSave tx.saved k.saved
 
 -- the active transaction of a job that the journal tells so far as f
 pub record IsUnderway (s : Setting) (f : Following) (place : Position) (tx : TxView) : Type 0 where
@@ -77,13 +139,18 @@ pub record IsUnderway (s : Setting) (f : Following) (place : Position) (tx : TxV
   pub since : f.since ≤ tx.began
   pub standing : IsInNextTx f place
   -- its calls are the script's, and its late calls are as many as were kept for the commit, and start the same blocks
-  pub asked : AsksEach (walk_from s.script f.job) tx.calls tx.replies
-  pub kept : map thread_in tx.late ≡ map thread_asked (kept_of tx.calls tx.replies)
+  pub asked : AsksEach (block_from s.script f.job) tx.calls tx.replies
+  pub kept : AreKeptSo tx.late tx.saved (all_kept none_kept tx.calls tx.replies)
   -- those replied late, and no others
   pub in_time : AreInTime tx.calls tx.replies
   pub stored : tx.me.stored ≤ 16384
   -- a pair is open at one of its two sides
   pub sided : All IsSided tx.me.places
+  pub saved_sided : IsSidedSave tx.saved
+  -- a block is open in the script just where it is in the transaction
+  pub together : is_some place.saved ≡ is_some tx.saved
+  pub counted : IsCounted tx (all_records no_records tx.calls tx.replies)
+  pub faults : AreFewFaults s.rules.undo_tries no_records tx.calls tx.replies
   pub phase : IsInPhase s f place tx tx.phase
 
 -- ---- a job
@@ -138,8 +205,10 @@ wanted_by words tx _ = []
 -- why it undoes, or will at its next turn where it is marked
 abbrev pub cause_of_phase : Option Mark → Phase → Option Cause
 cause_of_phase (Some m) Running = Some (revoked m)
+cause_of_phase (Some m) Backing = Some (revoked m)
 cause_of_phase mark (Undoing c) = Some c
 cause_of_phase None Running = None
+cause_of_phase None Backing = None
 cause_of_phase mark Committing = None
 
 -- what it is asked after its replies

@@ -7,22 +7,23 @@ use Rattle.std.specs.declared.option.Option.TheVariants.{None, Some}
 use Rattle.xc_data.specs.Claims.{held_of}
 use Rattle.xc_data.specs.declared.call.Answer.{Answer}
 use Rattle.xc_data.specs.declared.call.Call.{Call}
+use Rattle.xc_data.specs.declared.call.Call.TheVariants as call
 use Rattle.xc_data.specs.declared.call.Reply.{Reply}
 use Rattle.xc_data.specs.declared.call.LateEnd.{LateEnd}
 use Rattle.xc_data.specs.declared.claim.Claim.{Claim}
 use Rattle.xc_data.specs.declared.entry.Cause.{Cause}
 use Rattle.xc_data.specs.declared.entry.Cause.TheVariants as cause
 use Rattle.xc_data.specs.declared.entry.Outcome.{Outcome}
+use Rattle.xc_data.specs.declared.entry.Report.{Report}
 use Rattle.xc_data.specs.declared.entry.Outcome.TheVariants.{Committed, Aborted}
 use Rattle.xc_data.specs.declared.entry.Entry.{Entry}
 use Rattle.xc_data.specs.declared.undo.Undo.{Undo}
 use Rattle.xc_text.specs.declared.script.Script.{Script}
 use Rattle.xc_script.specs.declared.ask.Ask.{Ask}
 use Rattle.xc_script.specs.declared.ask.Ask.TheVariants as ask
-use Rattle.xc_script.specs.Walks.{Walk}
 use Rattle.xc_script.specs.Asking.{asks}
-use Rattle.xc_script.specs.Answers.{answered, all_answered}
-use Rattle.xc_script.specs.Ask.{walk_from, next_body}
+use Rattle.xc_script.specs.Blocks.{BlockWalk, replied, all_replied, block_from, kept_calls}
+use Rattle.xc_script.specs.Ask.{next_body}
 use Rattle.xc_script.specs.Position.{is_call}
 use Rattle.xc_world.specs.Act.{act}
 use Rattle.xc_world.specs.Fits.{fits}
@@ -34,21 +35,20 @@ use Rattle.xc_model.specs.Setting.{Setting}
 use Rattle.xc_model.specs.Grounds.{Part, AreGrounded, scene_of}
 use Rattle.xc_model.specs.InTime.{AreInTime}
 use Rattle.xc_model.specs.WordCalls.{AreWordReplies}
-use Rattle.xc_script.specs.Slots.{kept_of}
+use Rattle.xc_model.specs.RecordCounts.{RecordCount, no_records, all_records, AreFewFaults, HasRecords, IsStuckIn}
 use Rattle.xc_model.specs.Progress.{Following, Progress, opening_progress, private_of}
-use Rattle.xc_script.specs.Slots.{kept_of}
 use Rattle.xc_model.specs.Progress.{body_of, run_of, following_of, after_entry}
 
 -- ---- an entry's part in its job's story
 -- each call is the one that is asked after the replies before it
-abbrev pub AsksEach : Walk → List Call → List Reply → Type 0
-AsksEach walk [] replies = replies ≡ []
-AsksEach walk (call ∷ calls) [] = ⊥
-AsksEach walk (call ∷ calls) (reply ∷ replies) = (asks walk ≡ ask.Call call) × AsksEach (answered walk reply) calls replies
+abbrev pub AsksEach : BlockWalk → List Call → List Reply → Type 0
+AsksEach b [] replies = replies ≡ []
+AsksEach b (call ∷ calls) [] = ⊥
+AsksEach b (call ∷ calls) (reply ∷ replies) = (asks b.walk ≡ ask.Call call) × AsksEach (replied b reply) calls replies
 
 -- what a job is asked after these replies of its next transaction
 abbrev pub next_of : Script → Following → List Reply → Ask
-next_of script f replies = asks (all_answered (walk_from script f.job) replies)
+next_of script f replies = asks (all_replied (block_from script f.job) replies).walk
 
 -- what an aborted transaction is asked: an abort, a call where it met a holder, or whatever comes next where it was
 -- revoked or memory ran out
@@ -57,12 +57,21 @@ IsCauseOf cause.Asked next = next ≡ ask.Abort
 IsCauseOf (cause.Conflict object holder at) next = is_call next ≡ true
 IsCauseOf cause.NoMemory next = Unit {0}
 IsCauseOf (cause.Revoked object by at) next = Unit {0}
+IsCauseOf (cause.Stuck failed) next = next ≡ ask.Call call.Back
+
+-- what a report says of records, where the calls left so many: each has its record, the compensations have legal ends, and a way
+-- back got stuck at a record of its block
+pub record IsReport (tries : ℕ) (k : RecordCount) (report : Report) : Type 0 where
+  pub count : HasRecords k report.cause (length report.records)
+  pub legal : AreLegal tries 1 report.records
+  pub stuck : IsStuckIn k 1 report.records report.cause
 
 -- what is asked after the last reply: a committed transaction's commit, with an end for each call that was
--- kept; or what led to the abort, whose compensations each have a legal end
+-- kept; or what led to the abort
 abbrev pub IsAskedFor : ℕ → Entry → Ask → Outcome → Type 0
-IsAskedFor tries e next (Committed late) = (next ≡ ask.Commit) × (length late ≡ length (kept_of e.calls e.replies))
-IsAskedFor tries e next (Aborted report) = IsCauseOf report.cause next × AreLegal tries 1 report.records
+IsAskedFor tries e next (Committed late) = (next ≡ ask.Commit) × (length late ≡ length (kept_calls e.calls e.replies))
+IsAskedFor tries e next (Aborted report) =
+    IsCauseOf report.cause next × IsReport tries (all_records no_records e.calls e.replies) report
 
 -- an attempt that is to be tried again
 abbrev pub is_tried_again : Cause → Bool
@@ -70,6 +79,7 @@ is_tried_again (cause.Conflict object holder at) = true
 is_tried_again (cause.Revoked object by at) = true
 is_tried_again cause.Asked = false
 is_tried_again cause.NoMemory = false
+is_tried_again (cause.Stuck failed) = false
 
 -- how many attempts of its transaction failed, this one among them
 abbrev pub failures_with : Following → Outcome → ℕ
@@ -88,8 +98,10 @@ pub record IsStory (s : Setting) (p : Progress) (f : Following) (e : Entry) : Ty
   pub rank : e.rank ≡ unwrap_or f.first e.tx
   pub failures : failures_with f e.outcome ≤ s.rules.attempts
   -- its calls are the script's
-  pub calls : AsksEach (walk_from s.script f.job) e.calls e.replies
+  pub calls : AsksEach (block_from s.script f.job) e.calls e.replies
   pub asked : IsAskedFor s.rules.undo_tries e (next_of s.script f e.replies) e.outcome
+  -- a way back tells of no more faults than its block's records can have met
+  pub faults : AreFewFaults s.rules.undo_tries no_records e.calls e.replies
 
 -- ---- an entry on the plain machine
 -- a part of a list, in its order

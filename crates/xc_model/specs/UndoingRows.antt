@@ -1,5 +1,5 @@
 -- The rows of an undoing transaction: its compensations, one a turn, and its entry.
-use Rattle.std.specs.Prelude.{◌≡◌, ◌+◌, List, [], ◌∷◌, ◌++◌}
+use Rattle.std.specs.Prelude.{◌≡◌, List, [], ◌∷◌, ◌++◌}
 use Rattle.std.specs.Prelude.{IsTrue}
 use Rattle.xc_data.specs.Counts.{RisesBy}
 use Rattle.xc_data.specs.Faults.{end_faults}

@@ -8,12 +8,14 @@ use xc_data::Cause;
 /// |---|---|---|
 /// | Running | its stores wait; the job stands after its replies | the commit or abort asked, a conflict, lack of memory |
 /// | Committing | its stores are written | the Committed entry |
+/// | Backing | a block goes back; its records are undone, the newest first | the back's reply, a compensation that fails, a mark |
 /// | Undoing | its stores are dropped; its records are undone, the newest first | the Aborted entry |
 #[derive(Drop)]
 pub enum Phase {
     Running,
     Committing,
     Undoing(Cause),
+    Backing,
 }
 
 /// Attempts at a job's next transaction that met a holder or were revoked.
@@ -36,6 +38,7 @@ impl Phase {
             Phase::Running => Phase::Running,
             Phase::Committing => Phase::Committing,
             Phase::Undoing(cause) => Phase::Undoing(cause.again()),
+            Phase::Backing => Phase::Backing,
         }
     }
 }

@@ -2,13 +2,13 @@
 use Rattle.std.proofs.Common.{◌≡◌, ℕ, true, ◌++◌, Some, map, subst}
 use Rattle.std.specs.Prelude.{slice_get, IsTrue}
 use Rattle.std.proofs.lemmas.Bool.{and_parts}
-use Rattle.xc_world.specs.Run.{asked_of, body, body_fits}
+use Rattle.xc_world.specs.Run.{asked_of, body_state, opens, fits_on, body_fits}
 use Rattle.xc_world.specs.Effects.{AreMadeIn}
-use Rattle.xc_world.proofs.Joined.{body_fits_append}
+use Rattle.xc_world.proofs.Joined.{fits_on_append}
 use Rattle.xc_model.specs.Setting.{Setting}
 use Rattle.xc_model.specs.Moment.{TxView, JobView, Moment, active_of}
 use Rattle.xc_flight.specs.State.{IsActive, IsSoundFor}
-use Rattle.xc_flight.specs.Flight.{noted, Flight}
+use Rattle.xc_flight.specs.Flight.{stood, Flight}
 use Rattle.xc_flight.proofs.Aborting.{records_made}
 use Rattle.xc_refines.specs.InFlight.{flown, state_of, flight_state, AreInFlight}
 use Rattle.xc_refines.proofs.FlownLists.{flown_there, is_active}
@@ -29,21 +29,19 @@ module _ (s : Setting) (now : Moment) (all : AreInFlight s now) (at : ℕ) (job 
   sound_there = all.sound at (flown job.me (all.unnoted at) tx) flies_there
 
   both_fit : (body_fits (state_of s now).world job.me tx.number (asked_of tx.calls tx.replies) ≡ true)
-      × (body_fits (noted (state_of s now).world (flown job.me (all.unnoted at) tx)).world
-      (noted (state_of s now).world (flown job.me (all.unnoted at) tx)).me tx.number (all.unnoted at) ≡ true)
+      × (fits_on tx.number (stood (state_of s now).world (flown job.me (all.unnoted at) tx)) (all.unnoted at) ≡ true)
   both_fit =
       let w = (state_of s now).world in
-      let body_so = body w job.me tx.number (asked_of tx.calls tx.replies) in
-      and_parts (body_fits w job.me tx.number (asked_of tx.calls tx.replies)) (body_fits body_so.world body_so.me tx.number (all.unnoted at))
-      (subst IsTrue (body_fits_append w job.me tx.number (asked_of tx.calls tx.replies) (all.unnoted at)) flight_there.inside.fits)
+      let body_so = body_state w job.me tx.number (asked_of tx.calls tx.replies) in
+      and_parts (body_fits w job.me tx.number (asked_of tx.calls tx.replies)) (fits_on tx.number body_so (all.unnoted at))
+      (subst IsTrue (fits_on_append tx.number (opens w job.me) (asked_of tx.calls tx.replies) (all.unnoted at)) flight_there.inside.fits)
 
   -- the answers of its body fit
   pub fits_there : IsTrue (body_fits (state_of s now).world job.me tx.number (asked_of tx.calls tx.replies))
   fits_there = both_fit.0
 
   -- and that of the call that isn't noted, where the body ended
-  pub rest_fits : IsTrue (body_fits (noted (state_of s now).world (flown job.me (all.unnoted at) tx)).world
-      (noted (state_of s now).world (flown job.me (all.unnoted at) tx)).me tx.number (all.unnoted at))
+  pub rest_fits : IsTrue (fits_on tx.number (stood (state_of s now).world (flown job.me (all.unnoted at) tx)) (all.unnoted at))
   rest_fits = both_fit.1
 
   -- its records were made one after another

@@ -24,3 +24,4 @@ pub mod TurnRows
 pub mod TurnStart
 pub mod TurnTable
 pub mod TurnWants
+pub mod TurnWayBack

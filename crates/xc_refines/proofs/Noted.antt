@@ -15,11 +15,12 @@ use Rattle.xc_world.specs.World.{World, beginning, no_handles}
 use Rattle.xc_world.specs.Act.{act}
 use Rattle.xc_world.specs.Ends.{Ending}
 use Rattle.xc_world.specs.Fits.{fits}
-use Rattle.xc_world.specs.Run.{BodyResult, asked_of, body, body_fits, goes_on, lates, lates_fit, late_asked_of}
+use Rattle.xc_world.specs.Run.{BodyResult, BlockState, step, runs_on, body_state, body, body_fits, asked_of, fits_on, lates, lates_fit, late_asked_of}
+use Rattle.xc_world.proofs.Blocks.{marked_now}
 use Rattle.xc_world.specs.Trail.{recorded}
 use Rattle.xc_world.proofs.Bodies.{body_keeps}
 use Rattle.xc_model.specs.declared.phase.Phase.{Phase}
-use Rattle.xc_model.specs.declared.phase.Phase.TheVariants.{Running, Committing, Undoing}
+use Rattle.xc_model.specs.declared.phase.Phase.TheVariants.{Running, Committing, Undoing, Backing}
 use Rattle.xc_model.specs.Setting.{Setting}
 use Rattle.xc_model.specs.Progress.{progress_of, private_of}
 use Rattle.xc_model.specs.Played.{HoldsFor, IsPlayedSoFar, RecordsFor, done_late, late_done}
@@ -45,22 +46,25 @@ none_left r tx ask.End = refl
 all_told : (r : BodyResult) (tx : ℕ) (next : Ask) (p : Phase) (records : List Undo) → records ≡ r.trail → RecordsFor r tx next p records
 all_told r tx next Running records e = e
 all_told r tx next Committing records e = e
+all_told r tx next Backing records e = e
+all_told r tx next (Undoing (cause.Stuck failed)) records e = e
 all_told r tx next (Undoing cause.Asked) records e = e
 all_told r tx next (Undoing (cause.Conflict object holder at)) records e = e
 all_told r tx next (Undoing (cause.Revoked object by at)) records e = e
 all_told r tx next (Undoing cause.NoMemory) records e = ([], none_left r tx next, e ∙ sym (append-nil r.trail))
 
 -- they are those of a body's calls, and of the one that isn't noted
-records_for : (tx : ℕ) (r : BodyResult) (p : Phase) (next : Ask) (us : List CallWithAnswer) (records : List Undo) → IsUnnoted p next us
-    → IsTrue (body_fits r.world r.me tx us) → (goes_on tx r us).trail ≡ records → RecordsFor r tx next p records
-records_for tx r p next [] records was fit e = all_told r tx next p records (sym e)
-records_for tx r (Undoing cause.NoMemory) (ask.Call call) (a ∷ []) records was fit e = (
-  recorded r.world r.me tx a.call (act r.world r.me tx a.call a.answer).reply,
-  subst (λ c. AreLeftBy r tx c (recorded r.world r.me tx a.call (act r.world r.me tx a.call a.answer).reply)) was
-      (inr (a.answer, (and_parts (fits r.world r.me tx a.call a.answer) true fit).0, refl)),
-  sym e,
-)
-records_for tx r p next (a ∷ us) records was fit e = absurd was
+records_for : (tx : ℕ) (b : BlockState) (p : Phase) (next : Ask) (us : List CallWithAnswer) (records : List Undo) → IsUnnoted p next us
+    → IsTrue (fits_on tx b us) → (runs_on tx b us).now.trail ≡ records → RecordsFor b.now tx next p records
+records_for tx b p next [] records was fit e = all_told b.now tx next p records (sym e)
+records_for tx b (Undoing cause.NoMemory) (ask.Call call) (a ∷ []) records was fit e =
+    let r = b.now in (
+      recorded r.world r.me tx a.call (act r.world r.me tx a.call a.answer).reply,
+      subst (λ c. AreLeftBy r tx c (recorded r.world r.me tx a.call (act r.world r.me tx a.call a.answer).reply)) was.0
+          (inr (a.answer, (and_parts (fits r.world r.me tx a.call a.answer) true fit).0, refl)),
+      sym e ∙ ap (λ (q : BodyResult). q.trail) (marked_now a.call b.saved (step tx r a) was.1),
+    )
+records_for tx b p next (a ∷ us) records was fit e = absurd was
 
 -- ---- the late calls that are done
 abbrev EndSo : BodyResult → TxView → Type 0
@@ -75,8 +79,11 @@ none_done r tx none =
 end_so : (w : World) (began : Private) (us : List CallWithAnswer) (tx : TxView) (p : Phase) → IsPhase w (flown began us tx) (flown_phase p)
     → EndSo (ran_at w began tx) tx
 end_so w began us tx Running i = none_done (ran_at w began tx) tx i.no_late_ends
-end_so w began us tx Committing i = subst (λ (r : BodyResult). EndSo r tx) (ap (goes_on tx.number (ran_at w began tx)) i.all_noted) (i.ends, i.fits)
+end_so w began us tx Committing i =
+    subst (λ (r : BodyResult). EndSo r tx) (ap (λ l. (runs_on tx.number (body_state w began tx.number (asked_of tx.calls tx.replies)) l).now) i.all_noted)
+    (i.ends, i.fits)
 end_so w began us tx (Undoing c) none = none_done (ran_at w began tx) tx none
+end_so w began us tx Backing none = none_done (ran_at w began tx) tx none
 
 module _ (s : Setting) (now : Moment) (told : StoriesHold s (length now.words) now.marks now.journal now.jobs) (all : AreInFlight s now) (at : ℕ)
     (job : JobView) (tx : TxView)
@@ -116,7 +123,7 @@ module _ (s : Setting) (now : Moment) (told : StoriesHold s (length now.words) n
         ends = ended.0;
         late_fits = ended.1;
         records = subst (λ me. RecordsFor (body w me tx.number asked) tx.number next tx.phase records) private
-            (records_for tx.number (body w job.me tx.number asked) tx.phase next (all.unnoted at) records (all.was_asked at tx (job, there, active))
+            (records_for tx.number (body_state w job.me tx.number asked) tx.phase next (all.unnoted at) records (all.was_asked at tx (job, there, active))
             (rest_fits s now all at job tx there active) i.trail);
         holds = subst (λ me. HoldsFor (body w me tx.number asked) next tx.phase tx.held) private (all.holds at job tx there active);
         count = ap (λ me. length (body w me tx.number asked).world.words) (sym private) ∙ (body_keeps w job.me tx.number asked).count

@@ -38,7 +38,7 @@ use Rattle.xc_refines.proofs.StartedWorld.{remains_base}
 use Rattle.xc_refines.proofs.TurnParts.{Flying, flight_in, world_in, airfield}
 
 -- ---- what is given back is given back to the host's contents alone
-given_in : (w : World) (words : List ℕ) (contents : Contents) (started : List (List ℕ)) (items : List KeptItem)
+pub given_in : (w : World) (words : List ℕ) (contents : Contents) (started : List (List ℕ)) (items : List KeptItem)
     → given_back (world_in w words contents started) items ≡ world_in w words (with_kept contents items) started
 given_in w words contents started [] = refl
 given_in w words contents started (Bytes' pipe bytes ∷ items) = ap (λ v. gives v (Bytes' pipe bytes)) (given_in w words contents started items)

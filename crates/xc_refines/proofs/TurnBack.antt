@@ -24,7 +24,7 @@ use Rattle.xc_world.specs.Ends.{IsLegalEnd}
 use Rattle.xc_world.specs.Run.{BodyResult}
 use Rattle.xc_world.specs.Trail.{move_name, undone}
 use Rattle.xc_model.specs.declared.phase.Phase.{Phase}
-use Rattle.xc_model.specs.declared.phase.Phase.TheVariants.{Running, Committing, Undoing}
+use Rattle.xc_model.specs.declared.phase.Phase.TheVariants.{Running, Committing, Undoing, Backing}
 use Rattle.xc_model.specs.Setting.{Setting}
 use Rattle.xc_model.specs.Progress.{Progress}
 use Rattle.xc_model.specs.Played.{HoldsFor}
@@ -47,6 +47,8 @@ use Rattle.xc_refines.proofs.TurnParts.{Flying, world_in, flight_in, asked_same,
 pub holds_at : (ran : BodyResult) (next : Ask) (p : Phase) (held : List Claim) → held ≡ held_of ran.touched → HoldsFor ran next p held
 holds_at ran next Running held e = e
 holds_at ran next Committing held e = e
+holds_at ran next Backing held e = e
+holds_at ran next (Undoing (cause.Stuck failed)) held e = e
 holds_at ran next (Undoing cause.Asked) held e = e
 holds_at ran next (Undoing (cause.Conflict object holder at)) held e = e
 holds_at ran next (Undoing (cause.Revoked object by at)) held e = e
@@ -132,6 +134,15 @@ module _ (s : Setting) (p : Progress) (words : List ℕ) (contents : Contents) (
       (turns_back flight_now at tx_flown f.flies active (running runs) (f.sound at tx_flown active))
       (none_unnoted (Undoing c) (asked_of_tx s (slice_get p.jobs at) (record tx { phase = Undoing c })) (f.unnoted at) (noted_so runs))
       (holds_at ran (asked_of_tx s (slice_get p.jobs at) (record tx { phase = Undoing c })) (Undoing c) tx.held (held runs))
+
+  -- its block goes back
+  pub begins_back_keeps : tx.phase ≡ Running
+      → Flying s p (airfield words contents started (slice_set jobs at (with_tx job place (record tx { phase = Backing }))) next)
+  begins_back_keeps runs =
+      goes_on s p words words contents contents started started jobs next at (f.unnoted at) job place tx (record tx { phase = Backing }) there doing refl f
+      (turns_back flight_now at tx_flown f.flies active (running runs) (f.sound at tx_flown active))
+      (none_unnoted Backing (asked_of_tx s (slice_get p.jobs at) (record tx { phase = Backing })) (f.unnoted at) (noted_so runs))
+      (held runs)
 
   -- it commits
   pub commit_keeps : tx.phase ≡ Running

@@ -1,5 +1,5 @@
 -- A call that is done and noted keeps all flights.
-use Rattle.std.proofs.Common.{◌≡◌, ℕ, inl, inr, Bool, true, false, List, [], ◌∷◌, ◌++◌, length, refl, ap, sym, ◌∙◌, subst, arith, Some, suc}
+use Rattle.std.proofs.Common.{◌≡◌, ℕ, inl, inr, Bool, true, false, List, [], ◌∷◌, ◌++◌, length, refl, ap, sym, ◌∙◌, subst, arith, Some, suc, Option}
 use Rattle.std.specs.Prelude.{All, Contains, map, slice_get, slice_set, nat_lt, nat_le, if◌then◌else◌}
 use Rattle.std.proofs.lemmas.List.Elements.{All-nil, All-cons, All-weaker, All-append, Contains-append_left, Contains-append_right, filter_map-append}
 use Rattle.std.proofs.lemmas.Bool.Decides.{nat_tests}
@@ -16,15 +16,15 @@ use Rattle.xc_data.specs.declared.object.Object.TheVariants as object
 use Rattle.xc_data.specs.declared.private.Private.{Private}
 use Rattle.xc_data.specs.Claims.{claim, owned, owned_object, holding, holding_one, held_of}
 use Rattle.xc_host.specs.Contents.{Contents}
-use Rattle.xc_script.specs.Walks.{Walk}
-use Rattle.xc_script.specs.Answers.{answered}
+use Rattle.xc_script.specs.Blocks.{BlockWalk, replied}
 use Rattle.xc_script.specs.Position.{Position}
 use Rattle.xc_world.specs.World.{World}
 use Rattle.xc_world.specs.Act.Step.{Stepped, step_to}
-use Rattle.xc_world.specs.Fits.{answer_of}
+use Rattle.xc_world.specs.Fits.{is_back, answer_of}
 use Rattle.xc_world.specs.Late.{kept_call}
 use Rattle.xc_world.specs.Modes.{claims_of}
-use Rattle.xc_world.specs.Run.{BodyResult, asked_of, body, step, taken_by}
+use Rattle.xc_world.specs.Run.{BodyResult, BlockState, asked_of, body_state, step, taken_by}
+use Rattle.xc_world.proofs.Blocks.{marked_now}
 use Rattle.xc_world.specs.Trail.{recorded}
 use Rattle.xc_world.proofs.Bodies.{body_keeps}
 use Rattle.xc_world.proofs.Joined.{body_last}
@@ -34,11 +34,11 @@ use Rattle.xc_model.specs.Played.{HoldsFor}
 use Rattle.xc_model.specs.Stories.{asked_of_tx}
 use Rattle.xc_model.specs.Truth.{AsksEach}
 use Rattle.xc_model.specs.declared.phase.Phase.TheVariants.{Running}
-use Rattle.xc_model.specs.Moment.{TxView, JobView, Active, active_in}
+use Rattle.xc_model.specs.Moment.{SavedView, TxView, JobView, Active, active_in}
 use Rattle.xc_model.specs.Rivals.{HasNoRival}
-use Rattle.xc_model.specs.PlainSteps.{Parts, StepsAsPlain, noting, tx_parts, stored_by, seen}
+use Rattle.xc_model.specs.PlainSteps.{copied, saved_by, noting_plain, Parts, StepsAsPlain, noting, tx_parts, stored_by, seen}
 use Rattle.xc_model.specs.Movers.{with_tx}
-use Rattle.xc_flight.specs.Active.{Tx, Own, HoldTheSame}
+use Rattle.xc_flight.specs.Active.{Tx, Saved, Own, HoldTheSame}
 use Rattle.xc_flight.specs.Active as flight
 use Rattle.xc_flight.specs.Flight.{IsRunning, IsPhase}
 use Rattle.xc_flight.specs.State.{FlightState, InFlight, IsActive, turned}
@@ -46,16 +46,16 @@ use Rattle.xc_flight.specs.Turns.{claiming, IsNoted, noting as noting_in_flight,
 use Rattle.xc_flight.specs.Turns as turns
 use Rattle.xc_flight.proofs.Claiming.{merged_held}
 use Rattle.xc_flight.proofs.Together.{called_with_claims}
-use Rattle.xc_refines.specs.InFlight.{flown, flown_phase, ran_at}
+use Rattle.xc_refines.specs.InFlight.{flown, flown_saved, flown_phase, ran_at}
 use Rattle.xc_refines.proofs.FlownLists.{flown_there, none_unnoted}
 use Rattle.xc_refines.proofs.TurnParts.{Flying, world_in, flight_in, goes_on, airfield}
 use Rattle.xc_refines.proofs.TurnRivals.{no_rivals}
 
 -- ---- a call more
-pub asks-count : (walk : Walk) (calls : List Call) (replies : List Reply) → AsksEach walk calls replies → length calls ≡ length replies
+pub asks-count : (walk : BlockWalk) (calls : List Call) (replies : List Reply) → AsksEach walk calls replies → length calls ≡ length replies
 asks-count walk [] replies h = ap length (sym h)
 asks-count walk (d ∷ calls) [] h = absurd h
-asks-count walk (d ∷ calls) (q ∷ replies) h = ap suc (asks-count (answered walk q) calls replies h.1)
+asks-count walk (d ∷ calls) (q ∷ replies) h = ap suc (asks-count (replied walk q) calls replies h.1)
 
 -- the call that is asked last
 abbrev pub asked_with : Call → Reply → CallWithAnswer
@@ -87,14 +87,25 @@ stored_own me count (call.Store at value) own within = by_test (nat_lt at count)
     by_test false e = All-nil (λ (s : ℕ × ℕ). own (object.Word s.0))
 stored_own me count c own within = All-nil (λ (s : ℕ × ℕ). own (object.Word s.0))
 
+-- ---- what a save keeps
+abbrev pub flown_copy : SavedView → Saved
+flown_copy kept = record { places = kept.places; writes = kept.writes; late = kept.late; trail = kept.trail; taken = kept.taken }
+
+saved_flown : (c : Call) (kept : Option SavedView) (copy : SavedView)
+    → turns.saved_by c (flown_saved kept) (flown_copy copy) ≡ flown_saved (saved_by c kept copy)
+saved_flown call.Save kept copy = refl
+saved_flown call.Keep kept copy = refl
+saved_flown call.Back kept copy = refl
+saved_flown _ kept copy = refl
+
 -- ---- the transaction after its call
 -- what the step to it shows
 pub record Stepping (worlds : Step World) (tx : TxView) (c : Call) (reply : Reply) (parts : Parts) : Type 0 where
   pub does : StepsAsPlain worlds (record { old = tx_parts tx; new = parts }) c reply
   pub ended : parts.undo.ended ≡ tx.undo.ended
 
-module _ (w : World) (words : List ℕ) (was is : Contents) (started : List (List ℕ)) (us : List CallWithAnswer) (job : JobView) (tx : TxView) (c : Call)
-    (reply : Reply) (parts : Parts)
+module _ (w : World) (words : List ℕ) (was is : Contents) (started : List (List ℕ)) (us : List CallWithAnswer) (job : JobView) (tx : TxView)
+    (c : Call) (reply : Reply) (parts : Parts)
     (go : Stepping (record {
       old = seen (record w { words = words; started = started }) was tx.writes;
       new = seen (record w { words = words; started = started }) is parts.stores;
@@ -115,22 +126,8 @@ module _ (w : World) (words : List ℕ) (was is : Contents) (started : List (Lis
   acts = go.does.step
 
   noted_so : noting_in_flight now (claiming t after.held) (asked_with c reply) parts.stores ≡ flown job.me us after
-  noted_so = λ i. record {
-    number = tx.number;
-    phase = flown_phase tx.phase;
-    began = job.me;
-    me = (ap (λ (s : Stepped). s.me) acts) i;
-    calls = tx.calls ++ c ∷ [];
-    replies = tx.replies ++ (ap (λ (s : Stepped). s.reply) acts) i ∷ [];
-    unnoted = us;
-    held = after.held;
-    writes = parts.stores;
-    pending = pending i;
-    ended = sym go.ended i;
-    taken = taken i;
-    late = late i;
-    late_ends = tx.ends;
-  }
+  noted_so = noted_but ∙ ap (λ kept. record (flown job.me us after) { saved = kept })
+      (saved_flown c tx.saved (copied (noting_plain tx c reply claims parts)))
     where
       pending : tx.undo.pending ++ recorded (turns.seen now t) tx.me tx.number c (did now (claiming t after.held) (asked_with c reply)).reply
           ≡ parts.undo.pending
@@ -142,6 +139,34 @@ module _ (w : World) (words : List ℕ) (was is : Contents) (started : List (Lis
       late : tx.late ++ kept_call c tx.me (did now (claiming t after.held) (asked_with c reply)).reply ≡ tx.late ++ kept_call c tx.me reply
       late = ap (λ (s : Stepped). tx.late ++ kept_call c tx.me s.reply) acts
 
+      noted_but : noting_in_flight now (claiming t after.held) (asked_with c reply) parts.stores
+          ≡ record (flown job.me us after) {
+            saved = turns.saved_by c (flown_saved tx.saved) (flown_copy (copied (noting_plain tx c reply claims parts)));
+          }
+      noted_but = λ i. record {
+        number = tx.number;
+        phase = flown_phase tx.phase;
+        began = job.me;
+        me = (ap (λ (s : Stepped). s.me) acts) i;
+        calls = tx.calls ++ c ∷ [];
+        replies = tx.replies ++ (ap (λ (s : Stepped). s.reply) acts) i ∷ [];
+        unnoted = us;
+        held = after.held;
+        writes = parts.stores;
+        pending = pending i;
+        ended = sym go.ended i;
+        taken = taken i;
+        late = late i;
+        late_ends = tx.ends;
+        saved = turns.saved_by c (flown_saved tx.saved) (record {
+          places = (ap (λ (s : Stepped). s.me.places) acts) i;
+          writes = parts.stores;
+          late = late i;
+          trail = pending i;
+          taken = taken i;
+        });
+      }
+
   moved_so : after_call now t (asked_with c reply) ≡ world_in w words is started
   moved_so = ap (λ (s : Stepped). record s.world { words = words }) acts
 
@@ -152,7 +177,8 @@ holding-more a b = sym (fold-append holding_one [] a b)
 -- ---- the turn
 module _ (s : Setting) (p : Progress) (words : List ℕ) (was is : Contents) (started : List (List ℕ)) (jobs : List JobView) (next at : ℕ) (job : JobView)
     (place : Position) (tx : TxView)
-    (c : Call) (reply : Reply) (parts : Parts) (there : slice_get jobs at ≡ Some job) (doing : job.doing ≡ Active tx) (runs : tx.phase ≡ Running)
+    (c : Call) (reply : Reply) (parts : Parts) (ahead : is_back c ≡ false) (there : slice_get jobs at ≡ Some job)
+    (doing : job.doing ≡ Active tx) (runs : tx.phase ≡ Running)
     (go : Stepping (record {
       old = seen (record p.state.world { words = words; started = started }) was tx.writes;
       new = seen (record p.state.world { words = words; started = started }) is parts.stores;
@@ -214,7 +240,8 @@ module _ (s : Setting) (p : Progress) (words : List ℕ) (was is : Contents) (st
         words = sym (ap (λ (x : Stepped). x.world.words) did_so);
         stored = stored stores;
       } in
-      let done = called_with_claims flight_now at tx_flown (asked_with c reply) behind.held parts.stores f.flies active running (f.sound at tx_flown active)
+      let done = called_with_claims flight_now at tx_flown (asked_with c reply) behind.held parts.stores f.flies active running
+      (f.sound at tx_flown active) ahead
       (no_rivals w flight_now.now f.unnoted jobs next at claimed alone) same go.does.fits noted in
       subst (λ x. InFlight (turned flight_now at (Some (flown job.me (f.unnoted at) behind)) x))
       (moved_so w words was is started (f.unnoted at) job tx c reply parts go)
@@ -225,8 +252,11 @@ module _ (s : Setting) (p : Progress) (words : List ℕ) (was is : Contents) (st
   held_behind count =
       let w = p.state.world in
       let asked = asked_of tx.calls tx.replies in
+      let state = body_state w job.me tx.number asked in
       let stepped : ran_at w job.me behind ≡ step tx.number ran (asked_with c reply) =
-      ap (body w job.me tx.number) (asked-more tx.calls tx.replies c reply count) ∙ body_last w job.me tx.number asked (asked_with c reply) in
+      ap (λ (b : BlockState). b.now) (ap (body_state w job.me tx.number) (asked-more tx.calls tx.replies c reply count)
+      ∙ body_last w job.me tx.number asked (asked_with c reply))
+      ∙ marked_now c state.saved (step tx.number state.now (asked_with c reply)) ahead in
       let me : ran.me ≡ tx.me = (f.flies.flights at tx_flown active).inside.me in
       let many : length ran.world.words ≡ length words = (body_keeps w job.me tx.number asked).count ∙ sym f.flies.count in
       let touches : claimed ≡ claims_of c ran.me (length ran.world.words) = λ i. claims_of c (sym me i) (sym many i) in

@@ -13,11 +13,11 @@ use Rattle.xc_script.specs.declared.ask.Ask.TheVariants as ask
 use Rattle.xc_world.specs.World.{World}
 use Rattle.xc_world.specs.Modes.{claims_of}
 use Rattle.xc_world.specs.Own.{Sees, Owns}
-use Rattle.xc_world.specs.Run.{BodyResult, asked_of, goes_on}
-use Rattle.xc_world.proofs.Bodies.{keeps_touched}
+use Rattle.xc_world.specs.Run.{BodyResult, asked_of, body_state, runs_on}
+use Rattle.xc_world.proofs.Bodies.{runs_touched}
 use Rattle.xc_world.proofs.Runs.{other_run_apart}
 use Rattle.xc_model.specs.declared.phase.Phase.{Phase}
-use Rattle.xc_model.specs.declared.phase.Phase.TheVariants.{Running, Committing, Undoing}
+use Rattle.xc_model.specs.declared.phase.Phase.TheVariants.{Running, Committing, Undoing, Backing}
 use Rattle.xc_model.specs.Setting.{Setting}
 use Rattle.xc_model.specs.Progress.{Progress}
 use Rattle.xc_model.specs.Played.{HoldsFor}
@@ -62,7 +62,9 @@ pub record GivesSame (r q : BodyResult) : Type 0 where
 holds_alike : (r q : BodyResult) (next : Ask) (p : Phase) (held : List Claim) → GivesSame r q → HoldsFor r next p held → HoldsFor q next p held
 holds_alike r q next Running held g e = e ∙ ap held_of g.touched
 holds_alike r q next Committing held g e = e ∙ ap held_of g.touched
+holds_alike r q next Backing held g e = e ∙ ap held_of g.touched
 holds_alike r q next (Undoing cause.Asked) held g e = e ∙ ap held_of g.touched
+holds_alike r q next (Undoing (cause.Stuck failed)) held g e = e ∙ ap held_of g.touched
 holds_alike r q next (Undoing (cause.Conflict object holder at)) held g e = e ∙ ap held_of g.touched
 holds_alike r q next (Undoing (cause.Revoked object by at)) held g e = e ∙ ap held_of g.touched
 holds_alike r q next (Undoing cause.NoMemory) held g e =
@@ -169,7 +171,7 @@ apart_of s p words contents started jobs next at j job other tx u there doing he
     has_so : Covers u.held (ran p.state.world (flown other.me (f.unnoted j) u)).touched → Sees u.number (ran_at p.state.world other.me u).touched o
         → Has (flown other.me (f.unnoted j) u) o
     has_so covers (inl at) =
-        inl (covers.objects o (keeps_touched u.number (ran_at p.state.world other.me u) (f.unnoted j) o at))
+        inl (covers.objects o (runs_touched u.number (body_state p.state.world other.me u.number (asked_of u.calls u.replies)) (f.unnoted j) o at))
     has_so covers (inr numbered) = inr numbered
 
 -- ---- a commit enters
@@ -196,7 +198,7 @@ module _ (s : Setting) (p : Progress) (words : List ℕ) (contents : Contents) (
   all_noted commits =
       let phase : IsCommitting p.state.world tx_flown =
       subst (IsPhase p.state.world tx_flown) (ap flown_phase commits) (f.flies.flights at tx_flown active).inside.phase in
-      ap (goes_on tx.number run_body) phase.all_noted
+      ap (λ l. (runs_on tx.number (body_state p.state.world job.me tx.number (asked_of tx.calls tx.replies)) l).now) phase.all_noted
 
   own_so : tx.phase ≡ Committing → (o : Object) → Owns tx.number run_body.touched o → Own tx_flown o
   own_so commits o owns =

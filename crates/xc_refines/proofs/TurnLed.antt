@@ -19,7 +19,7 @@ use Rattle.xc_model.specs.LateCalls.{started_late}
 use Rattle.xc_data.specs.Calls.{thread_asked, thread_in}
 use Rattle.xc_model.specs.Entering.{entry_of, started_job as seen_started}
 use Rattle.xc_model.proofs.StartedCalls.{started_same}
-use Rattle.xc_script.specs.Slots.{kept_of}
+use Rattle.xc_script.specs.Blocks.{kept_calls}
 use Rattle.xc_refines.proofs.Grown.{started_handles}
 use Rattle.std.proofs.lemmas.List.{map-append}
 use Rattle.xc_flight.specs.Turns.{after_commit as world_after_commit, after_abort as world_after_abort}
@@ -76,7 +76,8 @@ module _ (script : Script) (p : Progress) (f : Following) (jobs : List JobView) 
       ∙ ap (λ m. (run p.state.world m tx.number (asked_of tx.calls tx.replies) tx.ends).late.world) private_is
 
   -- the handles are those of its end
-  pub commit_handles : (job' : JobView) → map thread_in tx.late ≡ map thread_asked (kept_of tx.calls tx.replies) → (ran_at p.state.world job.me tx).me ≡ tx.me
+  pub commit_handles : (job' : JobView) → map thread_in tx.late ≡ map thread_asked (kept_calls tx.calls tx.replies)
+      → (ran_at p.state.world job.me tx).me ≡ tx.me
       → job'.me.places ≡ tx.me.places → (after_entry script p committed).state.handles
       ≡ map (λ (job : JobView). job.me.places) (slice_set jobs at job' ++ map (seen_started script job') (started_late tx.late tx.ends))
   commit_handles job' kept me places =
@@ -84,7 +85,7 @@ module _ (script : Script) (p : Progress) (f : Following) (jobs : List JobView) 
       let mine : end (private_of p.state (at + 1)) ≡ job'.me.places = ap end private_is ∙ ap (λ (m : Private). m.places) me ∙ sym places in
       ap (λ (q : Progress). q.state.handles) (led_by (Committed tx.ends))
       ∙ (λ i. slice_set (handles i) (back_one at i) (mine i)
-      ++ replicate (length (sym (started_same tx.late (kept_of tx.calls tx.replies) tx.ends kept) i)) (mine i))
+      ++ replicate (length (sym (started_same tx.late (kept_calls tx.calls tx.replies) tx.ends kept) i)) (mine i))
       ∙ ap₂ (λ a b. a ++ b) (sym (map_set places_of jobs at job')) (started_handles script job' (started_late tx.late tx.ends))
       ∙ sym (map-append places_of (slice_set jobs at job') (map (seen_started script job') (started_late tx.late tx.ends)))
 

@@ -1,7 +1,7 @@
 -- Each row of the table of turns keeps the flights of all.
 use Rattle.std.proofs.Common.{◌≡◌, ℕ, ◌+◌, List, [], ◌∷◌, ◌++◌, length, refl, ap, sym, ◌∙◌, subst, arith, IsTrue, Option, Some, None}
 use Rattle.std.proofs.Common.{length-append, length-drop}
-use Rattle.std.specs.Prelude.{slice_get, slice_set}
+use Rattle.std.specs.Prelude.{slice_get, slice_set, nat_lt, ◌≤◌, false}
 use Rattle.xc_data.specs.declared.call.Call.{Call}
 use Rattle.xc_data.specs.declared.call.LateCall.{LateCall}
 use Rattle.xc_data.specs.declared.entry.Cause.{Cause}
@@ -12,27 +12,30 @@ use Rattle.xc_compensate.specs.Records.{Records}
 use Rattle.xc_host.specs.Contents.{Contents}
 use Rattle.xc_host.specs.Kept.{with_kept}
 use Rattle.xc_script.specs.Asking.{asks}
-use Rattle.xc_script.specs.Ask.{walk_from}
+use Rattle.xc_script.specs.Blocks.{BlockWalk, block_from}
 use Rattle.xc_script.specs.Position.{Position}
 use Rattle.xc_txmem.specs.Overlay.{overlaid}
 use Rattle.xc_data.specs.declared.entry.Mark.{Mark}
-use Rattle.xc_model.specs.declared.phase.Phase.TheVariants.{Running, Committing, Undoing}
+use Rattle.xc_model.specs.declared.phase.Phase.TheVariants.{Running, Committing, Undoing, Backing}
 use Rattle.xc_model.specs.Setting.{Setting}
 use Rattle.xc_model.specs.Progress.{Progress, progress_of, after_entry}
-use Rattle.xc_model.specs.Stories.{asked_of_tx, StoriesHold, IsCommitting, IsDoing, IsInPhase, IsRunning, IsUnderway}
-use Rattle.xc_model.specs.Moment.{TxView, JobView, Doing, Active, Moment, active_in, active_of, actives, begun_count, entering, late_left, rank_of}
+use Rattle.xc_model.specs.Stories.{asked_of_tx, StoriesHold, IsAboveSave, IsBacking, IsCommitting, IsDoing, IsInPhase, IsRunning, IsUnderway}
+use Rattle.xc_model.specs.Moment.{TxView, SavedView, JobView, Doing, Active, Moment, active_in, active_of, actives, begun_count, entering, late_left, rank_of}
 use Rattle.xc_model.specs.Moment.{revoked, with_job}
 use Rattle.xc_model.specs.Movers.{asked_at, with_tx}
 use Rattle.xc_model.specs.Entering.{behind_abort, behind_commit, entry_of}
 use Rattle.xc_model.specs.IdleRows.{beginning_at, beginning_job}
 use Rattle.xc_model.specs.PlainSteps.{claims_at, noting, seen, wanting}
-use Rattle.xc_model.specs.RunningRows.{Calls, Conflicts, Revokes, Commits, TurnsBack, Wants}
+use Rattle.xc_model.specs.RunningRows.{Calls, Conflicts, Revokes, Commits, BeginsBack, TurnsBack, Wants}
 use Rattle.xc_model.specs.UndoingRows.{Compensates, EntersAborted}
 use Rattle.xc_model.specs.CommittingRows.{EndsLate}
 use Rattle.xc_refines.specs.InFlight.{AreInFlight, flown}
 use Rattle.xc_refines.proofs.TurnAborts.{abort_leads}
 use Rattle.xc_refines.proofs.FlownLists.{flown_there}
-use Rattle.xc_refines.proofs.TurnBack.{back_keeps, commit_keeps, tried_keeps}
+use Rattle.xc_refines.proofs.TurnBack.{back_keeps, begins_back_keeps, commit_keeps, tried_keeps}
+use Rattle.xc_refines.proofs.TurnWayBack.{cut_keeps, backs_one_keeps, ends_back_keeps}
+use Rattle.xc_model.specs.BackingRows.{phase_after, backed, BacksOne, EndsBack}
+use Rattle.xc_world.specs.Fits.{is_back}
 use Rattle.xc_refines.proofs.TurnCalls.{Stepping, asks-count, calls_keep}
 use Rattle.xc_refines.proofs.TurnEnters.{commit_leads, enters}
 use Rattle.xc_refines.proofs.Grown.{idle_actives, started_new, started_their_blocks}
@@ -93,6 +96,7 @@ abort_left job tx cause.Asked = record { none = refl; block = refl; me = refl }
 abort_left job tx cause.NoMemory = record { none = refl; block = refl; me = refl }
 abort_left job tx (cause.Conflict object holder when) = record { none = refl; block = refl; me = refl }
 abort_left job tx (cause.Revoked object by when) = record { none = refl; block = refl; me = refl }
+abort_left job tx (cause.Stuck failed) = record { none = refl; block = refl; me = refl }
 
 -- ---- of one job
 module _ (s : Setting) (old : Moment) (at : ℕ) (job : JobView) (there : slice_get old.jobs at ≡ Some job)
@@ -145,7 +149,7 @@ module _ (s : Setting) (old : Moment) (at : ℕ) (job : JobView) (there : slice_
     asked_here : tx.phase ≡ Running → asked_of_tx s (slice_get before.jobs at) tx ≡ asked_at s job.place
     asked_here runs =
         let running : IsRunning s follows.following job.place tx = subst (IsInPhase s follows.following job.place tx) runs underway.phase in
-        ap (λ o. asked_of_tx s o tx) follows.at_place ∙ ap asks (sym running.ahead)
+        ap (λ o. asked_of_tx s o tx) follows.at_place ∙ ap (λ (b : BlockWalk). asks b.walk) (sym running.ahead)
 
     as_new : (new : Moment) (jobs : List JobView) → new.words ≡ old.words → new.started ≡ old.started
         → Flying s before (airfield old.words new.contents old.started jobs (begun_count old + 1))
@@ -160,8 +164,9 @@ module _ (s : Setting) (old : Moment) (at : ℕ) (job : JobView) (there : slice_
     kept new place tx' = row_kept s old new at job (with_tx job place tx') there (sym one)
 
     -- a call
-    pub row_calls : (new : Moment) (c : Call) → IsTrue s.tells → tx.phase ≡ Running → Calls (mover s at old job) tx c new → AreInFlight s new
-    row_calls new c tells runs row =
+    pub row_calls : (new : Moment) (c : Call) → is_back c ≡ false → IsTrue s.tells → tx.phase ≡ Running → Calls (mover s at old job) tx c new
+        → AreInFlight s new
+    row_calls new c ahead tells runs row =
         let w = before.state.world in
         let at_words = record w { words = old.words; started = old.started } in
         let go : Stepping (record { old = seen at_words old.contents tx.writes; new = seen at_words new.contents row.parts.stores }) tx c row.reply row.parts
@@ -169,9 +174,9 @@ module _ (s : Setting) (old : Moment) (at : ℕ) (job : JobView) (there : slice_
           does = row.does tells at_words refl;
           ended = ap (λ (u : Records). u.ended) row.undo;
         } in
-        let count = asks-count (walk_from s.script follows.following.job) tx.calls tx.replies underway.asked in
+        let count = asks-count (block_from s.script follows.following.job) tx.calls tx.replies underway.asked in
         let done = calls_keep s before old.words old.contents new.contents old.started old.jobs (begun_count old + 1) at job row.place tx c row.reply
-        row.parts there doing
+        row.parts ahead there doing
         runs go f row.free row.stores count in
         let next : TxView = noting tx c row.reply (claims_at old tx c) row.parts in
         kept new row.place next (ap (λ (n : Moment). n.journal) row.behind) (ap (λ (n : Moment). n.jobs) row.behind)
@@ -195,6 +200,48 @@ module _ (s : Setting) (old : Moment) (at : ℕ) (job : JobView) (there : slice_
     -- where the abort is asked
     pub row_turns_back : (new : Moment) → tx.phase ≡ Running → TurnsBack (mover s at old job) tx new → AreInFlight s new
     row_turns_back new runs row = subst (AreInFlight s) (sym row.behind) (row_back cause.Asked row.place runs)
+
+    -- its block goes back
+    pub row_begins_back : (new : Moment) → tx.phase ≡ Running → BeginsBack (mover s at old job) tx new → AreInFlight s new
+    row_begins_back new runs row = subst (AreInFlight s) (sym row.behind)
+        (kept (with_job old at (with_tx job row.place (record tx { phase = Backing }))) row.place (record tx { phase = Backing }) refl refl
+        (begins_back_keeps s before old.words old.contents old.started old.jobs (begun_count old + 1) at job row.place tx there doing f runs))
+
+    -- a mark cuts its way back short
+    pub row_cuts_back : (new : Moment) (m : Mark) → tx.phase ≡ Backing → Revokes (mover s at old job) tx m new → AreInFlight s new
+    row_cuts_back new m backing row = subst (AreInFlight s) (sym row)
+        (kept (with_job old at (with_tx job job.place (record tx { phase = Undoing (revoked m) }))) job.place (record tx { phase = Undoing (revoked m) })
+        refl refl
+        (cut_keeps s before old.words old.contents old.started old.jobs (begun_count old + 1) at job job.place tx there doing f backing (Undoing (revoked m))
+        refl))
+
+    -- a record of the block is tried
+    pub row_backs_one : (new : Moment) (kept_there : SavedView) → IsTrue s.tells → tx.phase ≡ Backing → BacksOne (mover s at old job) tx kept_there new
+        → AreInFlight s new
+    row_backs_one new kept_there tells backing row =
+        let tx' : TxView = record tx {
+          phase = phase_after (length row.older + 1) row.end;
+          undo = record { pending = row.older; ended = (row.tried, row.end) ∷ tx.undo.ended };
+        } in
+        kept new job.place tx' (ap (λ (n : Moment). n.journal) row.behind) (ap (λ (n : Moment). n.jobs) row.behind)
+        (as_new new (slice_set old.jobs at (with_tx job job.place tx')) (ap (λ (n : Moment). n.words) row.behind) (ap (λ (n : Moment). n.started) row.behind)
+        (backs_one_keeps s before old.words old.contents old.started old.jobs (begun_count old + 1) at job job.place tx there doing f backing row.older
+        row.tried row.end new.contents (length row.older + 1) row.newest row.legal (row.effect tells)))
+
+    backing_so : tx.phase ≡ Backing → IsBacking s follows.following job.place tx
+    backing_so backing = subst (IsInPhase s follows.following job.place tx) backing underway.phase
+
+    -- its block has gone back
+    pub row_ends_back : (new : Moment) (saved : SavedView) → IsTrue s.tells → tx.phase ≡ Backing → tx.saved ≡ Some saved
+        → nat_lt (length saved.trail) (length tx.undo.pending) ≡ false → EndsBack (mover s at old job) tx saved new → AreInFlight s new
+    row_ends_back new saved tells backing is few row =
+        let b = backing_so backing in
+        let within : length saved.trail ≤ length tx.undo.pending = subst (λ o. IsAboveSave o tx.undo.pending) is b.within in
+        let tx' : TxView = backed tx saved in
+        kept new row.place tx' (ap (λ (n : Moment). n.journal) row.behind) (ap (λ (n : Moment). n.jobs) row.behind)
+        (as_new new (slice_set old.jobs at (with_tx job row.place tx')) (ap (λ (n : Moment). n.words) row.behind) (ap (λ (n : Moment). n.started) row.behind)
+        (ends_back_keeps s before old.words old.contents old.started old.jobs (begun_count old + 1) at job row.place tx there doing f backing saved new.contents
+        is (grind (arith, few, within)) b.undone (row.returned tells)))
 
     -- a commit
     pub row_commits : (new : Moment) → tx.phase ≡ Running → Commits (mover s at old job) tx new → AreInFlight s new
@@ -286,7 +333,7 @@ module _ (s : Setting) (old : Moment) (at : ℕ) (job : JobView) (there : slice_
         (enters s before (after_entry s.script before e) old.words old.contents old.contents old.started old.jobs more next at job job' there refl f
         (commit_leads s before old.words old.contents old.started old.jobs next at job tx there doing f (after_entry s.script before e) job' more commits done
         (commit_world s.script before g old.jobs at job tx there follows.at_place fresh f.handles (f.unnoted at))
-        (commit_handles s.script before g old.jobs at job tx there follows.at_place fresh f.handles job' underway.kept me refl)
+        (commit_handles s.script before g old.jobs at job tx there follows.at_place fresh f.handles job' underway.kept.0 me refl)
         (λ j ne low. commit_followings s.script before g old.jobs at job tx there follows.at_place fresh f.handles j ne (omega (arith, low, many))) refl refl
         (started_their_blocks s.script job' blocks) (started_new s.script job' blocks)))
 

@@ -1,6 +1,6 @@
 -- A turn keeps the flights of all, whatever its row.
 use Rattle.std.proofs.Common.{◌≡◌, ℕ, inl, inr, List, [], ◌∷◌, length, refl, ap, sym, ◌∙◌, subst, IsTrue, None, Some}
-use Rattle.std.specs.Prelude.{Option, slice_get, slice_set}
+use Rattle.std.specs.Prelude.{Option, Bool, true, false, nat_lt, slice_get, slice_set}
 use Rattle.xc_data.specs.declared.call.LateCall.{LateCall}
 use Rattle.xc_data.specs.declared.call.LateCall.TheVariants.{Thread}
 use Rattle.xc_data.specs.declared.entry.Cause.{Cause}
@@ -12,20 +12,24 @@ use Rattle.xc_script.specs.declared.ask.Ask.{Ask}
 use Rattle.xc_script.specs.declared.ask.Ask.TheVariants as ask
 use Rattle.xc_data.specs.declared.entry.Mark.{Mark}
 use Rattle.xc_model.specs.declared.phase.Phase.{Phase}
-use Rattle.xc_model.specs.declared.phase.Phase.TheVariants.{Running, Committing, Undoing}
+use Rattle.xc_model.specs.declared.phase.Phase.TheVariants.{Running, Committing, Undoing, Backing}
 use Rattle.xc_model.specs.Setting.{Setting}
 use Rattle.xc_model.specs.Stories.{StoriesHold}
-use Rattle.xc_model.specs.Moment.{TxView, JobView, Doing, Idle, Active, Starved, Ended, Moment, active_in, late_left, waiting}
+use Rattle.xc_model.specs.Moment.{TxView, SavedView, JobView, Doing, Idle, Active, Starved, Ended, Moment, active_in, late_left, waiting}
 use Rattle.xc_model.specs.Movers.{with_tx}
 use Rattle.xc_model.specs.Rows.{IsTurn, TurnOf, ActiveTurn}
 use Rattle.xc_model.specs.IdleRows.{IdleTurn}
-use Rattle.xc_model.specs.RunningRows.{MarkedTurn, RunningTurn, AskedTurn}
+use Rattle.xc_model.specs.RunningRows.{MarkedTurn, RunningTurn, CalledTurn, AskedTurn}
+use Rattle.xc_model.specs.BackingRows.{BackingRow, OpenRow, MarkedBack}
+use Rattle.xc_data.specs.declared.call.Call.{Call}
+use Rattle.xc_data.specs.declared.call.Call.TheVariants as call
 use Rattle.xc_model.specs.CommittingRows.{CommittingTurn, LateTurn, NextLate}
 use Rattle.xc_model.specs.UndoingRows.{UndoingTurn, BackTurn}
 use Rattle.xc_model.specs.Rows.{StarvedTurn}
 use Rattle.xc_model.specs.Movers.{mover}
 use Rattle.xc_refines.specs.InFlight.{AreInFlight}
 use Rattle.xc_refines.proofs.TurnRows.{row_begins, row_ends, row_calls, row_conflicts, row_turns_back, row_commits, row_wants, row_waits, row_revokes}
+use Rattle.xc_refines.proofs.TurnRows.{row_begins_back, row_cuts_back, row_backs_one, row_ends_back}
 use Rattle.xc_refines.proofs.TurnRows.{row_compensates, row_ends_late, row_starts, row_commit_enters, row_abort_enters}
 
 -- only a job and the marks changed
@@ -54,9 +58,13 @@ module _ (s : Setting) (old : Moment) (at : ℕ) (job : JobView) (there : slice_
   starved_flies turn.NoMemory doing row = absurd row
 
   module _ (tx : TxView) (doing : job.doing ≡ Active tx) where
+    called_flies : (c : Call) → tx.phase ≡ Running → CalledTurn (mover s at old job) tx c new → AreInFlight s new
+    called_flies call.Back runs row = row_begins_back s old at job there told flying tx doing new runs row
+    called_flies c runs (inl row) = row_calls s old at job there told flying tx doing new c refl tells runs row
+    called_flies c runs (inr row) = row_conflicts s old at job there told flying tx doing new c runs row
+
     asked_flies : (a : Ask) → tx.phase ≡ Running → AskedTurn (mover s at old job) tx a new → AreInFlight s new
-    asked_flies (ask.Call c) runs (inl row) = row_calls s old at job there told flying tx doing new c tells runs row
-    asked_flies (ask.Call c) runs (inr row) = row_conflicts s old at job there told flying tx doing new c runs row
+    asked_flies (ask.Call c) runs row = called_flies c runs row
     asked_flies ask.Commit runs row = row_commits s old at job there told flying tx doing new runs row
     asked_flies ask.Abort runs row = row_turns_back s old at job there told flying tx doing new runs row
     asked_flies ask.End runs row = absurd row
@@ -102,10 +110,31 @@ module _ (s : Setting) (old : Moment) (at : ℕ) (job : JobView) (there : slice_
     undoing_flies c (turn.Busy object holder) undoes row = absurd row
     undoing_flies c (turn.Ended end) undoes row = absurd row
 
+    backing_row_flies : (saved : SavedView) (b : Bool) → tx.phase ≡ Backing → tx.saved ≡ Some saved
+        → nat_lt (length saved.trail) (length tx.undo.pending) ≡ b → BackingRow (mover s at old job) tx saved b new → AreInFlight s new
+    backing_row_flies saved true backing is test row = row_backs_one s old at job there told flying tx doing new saved tells backing row
+    backing_row_flies saved false backing is test row = row_ends_back s old at job there told flying tx doing new saved tells backing is test row
+
+    open_flies : (o : Option SavedView) → tx.phase ≡ Backing → tx.saved ≡ o → OpenRow (mover s at old job) tx o new → AreInFlight s new
+    open_flies None backing is row = absurd row
+    open_flies (Some saved) backing is row =
+        backing_row_flies saved (nat_lt (length saved.trail) (length tx.undo.pending)) backing is refl row
+
+    backing_flies : (m : Option Mark) (answer : Turn) → tx.phase ≡ Backing → MarkedBack (mover s at old job) tx m answer new → AreInFlight s new
+    backing_flies None turn.Went backing row = open_flies tx.saved backing refl row
+    backing_flies None turn.NoMemory backing row = absurd row
+    backing_flies None (turn.Busy object holder) backing row = absurd row
+    backing_flies None (turn.Ended end) backing row = absurd row
+    backing_flies (Some m) turn.Went backing row = row_cuts_back s old at job there told flying tx doing new m backing row
+    backing_flies (Some m) turn.NoMemory backing row = absurd row
+    backing_flies (Some m) (turn.Busy object holder) backing row = absurd row
+    backing_flies (Some m) (turn.Ended end) backing row = absurd row
+
     active_flies : (p : Phase) (answer : Turn) → tx.phase ≡ p → ActiveTurn (mover s at old job) tx p answer new → AreInFlight s new
     active_flies Running answer is row = marked_flies (old.marks tx.number) answer is row
     active_flies Committing answer is row = committing_flies answer is row
     active_flies (Undoing c) answer is row = undoing_flies c answer is row
+    active_flies Backing answer is row = backing_flies (old.marks tx.number) answer is row
 
   doing_flies : (d : Doing) (answer : Turn) → job.doing ≡ d → TurnOf (mover s at old job) d answer new → AreInFlight s new
   doing_flies Idle answer doing row = idle_flies answer doing row

@@ -162,7 +162,7 @@ module _ (s : Setting) (p : Progress) (words : List ℕ) (contents : Contents) (
       asked_last = asked_by c answer
 
       may : MayDo mid.now claimant asked_last
-      may = record { fit = does.fits; covers = covers_through all_held (tx.held ++ claims) claims same.left (back_held tx.held claims) }
+      may = record { ahead = does.ahead; fit = does.fits; covers = covers_through all_held (tx.held ++ claims) claims same.left (back_held tx.held claims) }
 
       did_part : InFlight (turned flight_now at (Some (wanting_in_flight mid.now claimant asked_last)) (after_call mid.now claimant asked_last))
       did_part =
@@ -187,7 +187,8 @@ module _ (s : Setting) (p : Progress) (words : List ℕ) (contents : Contents) (
           wanter_keeps left (asked_last ∷ []) contents'
           (subst (λ v. InFlight (turned flight_now at (Some (flown job.me (asked_last ∷ []) wanter)) v)) part_there
           (subst (λ t. InFlight (turned flight_now at (Some t) (after_call mid.now claimant asked_last))) wanter_is did_part))
-          (subst (λ a. IsUnnoted (Undoing cause.NoMemory) a (asked_last ∷ [])) (sym asks ∙ asked_same s (slice_get p.jobs at) tx wanter refl) refl)
+          (subst (λ a. IsUnnoted (Undoing cause.NoMemory) a (asked_last ∷ [])) (sym asks ∙ asked_same s (slice_get p.jobs at) tx wanter refl)
+          (refl, does.ahead))
 
 -- ---- whatever it left
 module _ (s : Setting) (p : Progress) (old new : Moment) (next at : ℕ) (job : JobView) (place : Position) (tx : TxView)

@@ -1,6 +1,7 @@
 -- What is true of a station between two turns over a host that tells: each active transaction flies over the plain
 -- machine's world, where the journal left it.
-use Rattle.std.specs.Prelude.{◌≡◌, ℕ, suc, ◌+◌, ◌++◌, List, [], ◌∷◌, map, slice_get, Option}
+use Rattle.xc_world.specs.Fits.{is_back}
+use Rattle.std.specs.Prelude.{◌≡◌, false, ℕ, suc, ◌+◌, ◌++◌, List, [], ◌∷◌, map, slice_get, Option}
 use Rattle.std.specs.declared.option.Option.TheVariants.{None, Some}
 use Rattle.xc_data.specs.declared.call.CallWithAnswer.{CallWithAnswer}
 use Rattle.xc_data.specs.declared.entry.Cause.TheVariants as cause
@@ -18,9 +19,9 @@ use Rattle.xc_model.specs.Setting.{Setting}
 use Rattle.xc_model.specs.Progress.{progress_of}
 use Rattle.xc_model.specs.Played.{HoldsFor}
 use Rattle.xc_model.specs.Stories.{asked_of_tx}
-use Rattle.xc_model.specs.Moment.{TxView, JobView, Doing, Active, Moment, active_of, begun_count}
+use Rattle.xc_model.specs.Moment.{TxView, SavedView, JobView, Doing, Active, Moment, active_of, begun_count}
 use Rattle.xc_model.specs.Movers.{IsActiveAt}
-use Rattle.xc_flight.specs.Active.{Tx, Phase, Running, Committing, Undoing}
+use Rattle.xc_flight.specs.Active.{Tx, Saved, Phase, Running, Committing, Undoing}
 use Rattle.xc_flight.specs.State.{FlightState, InFlight, AreSound, IsIdleSound}
 
 -- ---- a station's jobs as transactions in flight
@@ -29,12 +30,20 @@ abbrev pub flown_phase : TurnPhase → Phase
 flown_phase phase.Running = Running
 flown_phase phase.Committing = Committing
 flown_phase (phase.Undoing c) = Undoing
+-- a block goes back as a transaction does
+flown_phase phase.Backing = Undoing
 
 -- what an active transaction did that isn't noted: nothing, or where it undoes for lack of memory the call that was asked
 abbrev pub IsUnnoted : TurnPhase → Ask → List CallWithAnswer → Type 0
 IsUnnoted p next [] = Unit {0}
-IsUnnoted (phase.Undoing cause.NoMemory) (ask.Call call) (asked ∷ []) = asked.call ≡ call
+IsUnnoted (phase.Undoing cause.NoMemory) (ask.Call call) (asked ∷ []) = (asked.call ≡ call) × (is_back asked.call ≡ false)
 IsUnnoted p next unnoted = ⊥
+
+-- what an open block's save kept
+abbrev pub flown_saved : Option SavedView → Option Saved
+flown_saved None = None
+flown_saved (Some kept) =
+    Some (record { places = kept.places; writes = kept.writes; late = kept.late; trail = kept.trail; taken = kept.taken })
 
 -- an active transaction whose job's private state at the begin was this, with what isn't noted
 abbrev pub flown : Private → List CallWithAnswer → TxView → Tx
@@ -54,6 +63,7 @@ flown began unnoted tx =
       taken = tx.taken;
       late = tx.late;
       late_ends = tx.ends;
+      saved = flown_saved tx.saved;
     }
 
 -- a job's active transaction, where it has one

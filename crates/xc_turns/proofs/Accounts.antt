@@ -11,6 +11,7 @@ use Rattle.xc_data.specs.declared.entry.Cause.TheVariants as cause
 use Rattle.xc_data.specs.declared.entry.Entry.{Entry}
 use Rattle.xc_data.specs.declared.entry.Outcome.{Outcome}
 use Rattle.xc_data.specs.declared.entry.Outcome.TheVariants.{Committed, Aborted}
+use Rattle.xc_world.specs.Ends.{Ending}
 use Rattle.xc_world.specs.Fits.{late_answer_of}
 use Rattle.xc_world.specs.Late.{late}
 use Rattle.xc_world.specs.Run.{lates, late_asked_of}
@@ -18,6 +19,7 @@ use Rattle.xc_world.specs.World.{World}
 use Rattle.xc_model.specs.Accounted.{Account, AreAccounted, AreLateEnds, HasCause, IsAccounted, IsLateEnd, account_of, own_part, own_scene, progress_before}
 use Rattle.xc_model.specs.Grounds.{IsGrounded}
 use Rattle.xc_model.specs.Progress.{Progress, after_entry, body_of, opening_progress}
+use Rattle.xc_model.specs.RecordCounts.{no_records, all_records, IsStuckIn}
 use Rattle.xc_model.specs.Setting.{Setting}
 use Rattle.xc_model.specs.Truth.{AreTrue, IsAskedFor, IsCauseOf, IsPlayedOutcome, IsTrueEntry, IsTrueJournal, asked_behind, cause_in, next_of}
 use Rattle.xc_model.specs.Truth.{part_of, parts_from}
@@ -42,11 +44,13 @@ module _ (a : Account) where
   abbrev HasGround : Option Cause → Type 0
   HasGround c = IsGrounded (own_scene a) a.place (own_part a) c
 
-  cause_accounts : (c : Cause) → IsCauseOf c a.next → HasGround (Some c) → HasCause a c
-  cause_accounts cause.Asked caused ground = caused
-  cause_accounts (cause.Conflict object holder at) caused ground = (caused, ground)
-  cause_accounts (cause.Revoked object by at) caused ground = ground
-  cause_accounts cause.NoMemory caused ground = tt
+  cause_accounts : (records : List Ending) (c : Cause) → IsCauseOf c a.next
+      → IsStuckIn (all_records no_records a.entry.calls a.entry.replies) 1 records c → HasGround (Some c) → HasCause a records c
+  cause_accounts records (cause.Stuck failed) caused stuck ground = (caused, stuck)
+  cause_accounts records cause.Asked caused stuck ground = caused
+  cause_accounts records (cause.Conflict object holder at) caused stuck ground = (caused, ground)
+  cause_accounts records (cause.Revoked object by at) caused stuck ground = ground
+  cause_accounts records cause.NoMemory caused stuck ground = tt
 
   outcome_accounts : (o : Outcome) → IsAskedFor a.setting.rules.undo_tries a.entry a.next o
       → (IsTrue a.setting.tells → IsPlayedOutcome a.before a.next a.entry o) → HasGround (cause_in o) → IsAccounted a o
@@ -56,7 +60,7 @@ module _ (a : Account) where
         each = asked.1;
         late = λ tells. ends_are (body_of a.before.state a.entry).world (body_of a.before.state a.entry).late ends (played tells).ends;
       }
-  outcome_accounts (Aborted report) asked played ground = cause_accounts report.cause asked.0 ground
+  outcome_accounts (Aborted report) asked played ground = cause_accounts report.records report.cause asked.0 asked.1.stuck ground
 
 entry_accounts : (s : Setting) (journal : List Entry) (place : ℕ) (e : Entry) → IsTrueEntry s (progress_before s journal place) e
     → HasGround (account_of s journal place e) (cause_in e.outcome) → IsAccounted (account_of s journal place e) e.outcome

@@ -93,6 +93,7 @@ grounded_logged : (tells : Bool) (log : List Part) (active : List (Option Part))
     → IsGrounded (scene_of tells log active) place e c → IsGrounded (scene_of tells log []) place e c
 unfolding other_logged
 grounded_logged tells log active place e None none h = h
+grounded_logged tells log active place e (Some (cause.Stuck failed)) none h = h
 grounded_logged tells log active place e (Some cause.Asked) none h = h
 grounded_logged tells log active place e (Some (cause.Conflict object holder at)) none g =
     record {

@@ -17,7 +17,7 @@ use Rattle.xc_data.specs.declared.entry.Outcome.TheVariants.{Committed, Aborted}
 use Rattle.xc_text.specs.declared.script.Script.{Script}
 use Rattle.xc_script.specs.Ask.{Job, fresh_job, block_place, next_body, transactions_at}
 use Rattle.xc_model.specs.Setting.{Setting}
-use Rattle.xc_script.specs.Slots.{kept_of}
+use Rattle.xc_script.specs.Blocks.{kept_calls}
 use Rattle.xc_model.specs.Progress.{Following, Progress, untried, opening_progress, progress_of, started_blocks, started_job, following_abort, committed_job}
 use Rattle.xc_model.specs.Progress.{after_entry, after_following, after_outcome, following_of, with_job}
 use Rattle.xc_model.specs.Truth.{AreTrue, is_tried_again}
@@ -79,6 +79,7 @@ one_if b = cond b 1 0
 
 cause_passes : (p : Progress) (f : Following) (e : Entry) (c : Cause) → following_of p e ≡ Some f
     → passed_by (with_job p.jobs e.job (following_abort p.entered f e c)) ≡ passed_by p.jobs + one_if (is_asked c)
+cause_passes p f e (cause.Stuck failed) started = omega (arith, passed_set p.jobs (e.job - 1) f (following_abort p.entered f e (cause.Stuck failed)) started)
 cause_passes p f e cause.Asked started = omega (arith, passed_set p.jobs (e.job - 1) f (following_abort p.entered f e cause.Asked) started)
 cause_passes p f e cause.NoMemory started = omega (arith, passed_set p.jobs (e.job - 1) f (following_abort p.entered f e cause.NoMemory) started)
 cause_passes p f e (cause.Conflict object holder at) started =
@@ -91,7 +92,7 @@ outcome_passes : (script : Script) (p : Progress) (f : Following) (e : Entry) (o
 outcome_passes script p f e (Committed late) started =
     let job : Job = committed_job script f.job e.calls e.replies late in
     let mine : Following = untried f.block job (p.entered + 1) in
-    let blocks : List (List ℕ) = started_blocks (kept_of e.calls e.replies) late in
+    let blocks : List (List ℕ) = started_blocks (kept_calls e.calls e.replies) late in
     let both = sum_by-append (λ (g : Following). g.job.next) (with_job p.jobs e.job mine) (map (started_job script job (p.entered + 1)) blocks) in
     omega (arith, both, passed_none (started_job script job (p.entered + 1)) blocks (λ b. refl), passed_set p.jobs (e.job - 1) f mine started)
 outcome_passes script p f e (Aborted r) started = cause_passes p f e r.cause started
@@ -120,6 +121,8 @@ some_within (x ∷ xs) (suc n) some = let less = some_within xs n some in omega 
 
 cause_within : (script : Script) (p : Progress) (f : Following) (e : Entry) (c : Cause) → f.job.next < length (transactions_at script f.job.block)
     → AllByRecursion (IsWithin script) p.jobs → AllByRecursion (IsWithin script) (with_job p.jobs e.job (following_abort p.entered f e c))
+cause_within script p f e (cause.Stuck failed) less each =
+    each_set (IsWithin script) p.jobs (e.job - 1) (following_abort p.entered f e (cause.Stuck failed)) each (omega arith)
 cause_within script p f e cause.Asked less each =
     each_set (IsWithin script) p.jobs (e.job - 1) (following_abort p.entered f e cause.Asked) each (omega arith)
 cause_within script p f e cause.NoMemory less each =
@@ -134,7 +137,7 @@ outcome_within : (script : Script) (p : Progress) (f : Following) (e : Entry) (o
 outcome_within script p f e (Committed late) less each =
     let job : Job = committed_job script f.job e.calls e.replies late in
     let mine : Following = untried f.block job (p.entered + 1) in
-    let blocks : List (List ℕ) = started_blocks (kept_of e.calls e.replies) late in
+    let blocks : List (List ℕ) = started_blocks (kept_calls e.calls e.replies) late in
     each_append (IsWithin script) (with_job p.jobs e.job mine) (map (started_job script job (p.entered + 1)) blocks)
     (each_set (IsWithin script) p.jobs (e.job - 1) mine each (omega arith))
     (each_map (IsWithin script) (started_job script job (p.entered + 1)) blocks (λ b. omega arith))
@@ -158,6 +161,8 @@ GoesOn f = f.starved ≡ false
 cause_goes : (p : Progress) (f : Following) (e : Entry) (c : Cause) → following_of p e ≡ Some f → GoesOn f
     → AllByRecursion GoesOn (with_job p.jobs e.job (following_abort p.entered f e c))
     → AllByRecursion GoesOn p.jobs × ((is_asked c || is_tried_again c) ≡ true)
+cause_goes p f e (cause.Stuck failed) started goes each =
+    (each_unset GoesOn p.jobs (e.job - 1) f (following_abort p.entered f e (cause.Stuck failed)) started goes each, refl)
 cause_goes p f e cause.Asked started goes each =
     (each_unset GoesOn p.jobs (e.job - 1) f (following_abort p.entered f e cause.Asked) started goes each, refl)
 cause_goes p f e cause.NoMemory started goes each =
@@ -172,7 +177,7 @@ outcome_goes : (script : Script) (p : Progress) (f : Following) (e : Entry) (o :
 outcome_goes script p f e (Committed late) started goes each =
     let job : Job = committed_job script f.job e.calls e.replies late in
     let mine : Following = untried f.block job (p.entered + 1) in
-    let blocks : List (List ℕ) = started_blocks (kept_of e.calls e.replies) late in (
+    let blocks : List (List ℕ) = started_blocks (kept_calls e.calls e.replies) late in (
       each_unset GoesOn p.jobs (e.job - 1) f mine started goes
           (each_front GoesOn (with_job p.jobs e.job mine) (map (started_job script job (p.entered + 1)) blocks) each),
       refl,

@@ -1,11 +1,14 @@
 -- Each row of the table of turns keeps the count of the host's faults that of the recorded ones.
 use Rattle.std.proofs.Common.{◌≡◌, ℕ, ◌+◌, length, inl, inr, None, Some, List, [], ◌∷◌, ◌++◌, refl, ap, sym, ◌∙◌, subst, arith, cond}
-use Rattle.std.specs.Prelude.{Option, slice_get, slice_set, count_by, sum_by}
+use Rattle.std.specs.Prelude.{Option, Bool, true, false, nat_lt, slice_get, slice_set, count_by, sum_by}
 use Rattle.std.proofs.lemmas.List.Sums.{sum_by-cons, sum_by_push}
 use Rattle.xc_compensate.specs.Records.{Records}
 use Rattle.xc_data.specs.Counts.{RisesBy}
-use Rattle.xc_data.specs.Faults.{entry_faults, is_fault_reply, is_fault_end, undo_faults, end_faults}
+use Rattle.xc_data.specs.Faults.{entry_faults, reply_faults, is_fault_reply, is_fault_end, undo_faults, end_faults}
 use Rattle.xc_data.specs.declared.call.Call.{Call}
+use Rattle.xc_data.specs.declared.call.Call.TheVariants as call
+use Rattle.xc_data.specs.declared.call.Reply.{Reply}
+use Rattle.xc_data.specs.declared.call.Reply.TheVariants as reply
 use Rattle.xc_data.specs.declared.call.LateCall.{LateCall}
 use Rattle.xc_data.specs.declared.entry.Cause.{Cause}
 use Rattle.xc_data.specs.declared.entry.Cause.TheVariants as cause
@@ -21,16 +24,18 @@ use Rattle.xc_host.specs.Contents.{Contents}
 use Rattle.xc_host.proofs.Called.{rises_sum}
 use Rattle.xc_data.specs.declared.entry.Mark.{Mark}
 use Rattle.xc_model.specs.declared.phase.Phase.{Phase}
-use Rattle.xc_model.specs.declared.phase.Phase.TheVariants.{Running, Committing, Undoing}
+use Rattle.xc_model.specs.declared.phase.Phase.TheVariants.{Running, Committing, Undoing, Backing}
 use Rattle.xc_model.specs.Setting.{Setting}
 use Rattle.xc_model.specs.Progress.{Following, progress_of}
-use Rattle.xc_model.specs.Moment.{TxView, JobView, Doing, Idle, Active, Starved, Ended, Moment, active_in, active_of, actives, late_left, revoked, waiting}
+use Rattle.xc_model.specs.Moment.{TxView, SavedView, JobView, Doing, Idle, Active, Starved, Ended, Moment}
+use Rattle.xc_model.specs.Moment.{active_in, active_of, actives, late_left, revoked, waiting}
 use Rattle.xc_model.specs.Moment.{with_job, entering}
 use Rattle.xc_model.specs.Movers.{asked_at, with_tx}
 use Rattle.xc_model.specs.IdleRows.{beginning_job}
 use Rattle.xc_model.specs.PlainSteps.{claims_at, noting, wanting}
 use Rattle.xc_model.specs.Entering.{entry_of, behind_commit, behind_abort}
-use Rattle.xc_model.specs.RunningRows.{Calls}
+use Rattle.xc_model.specs.RunningRows.{Calls, CalledTurn, is_way_back}
+use Rattle.xc_model.specs.BackingRows.{phase_after, backed, BacksOne, EndsBack, BackingRow, OpenRow, MarkedBack}
 use Rattle.xc_model.specs.CommittingRows.{LateTurn}
 use Rattle.xc_model.specs.UndoingRows.{Compensates}
 use Rattle.xc_model.specs.Entering.{started_jobs}
@@ -74,6 +79,12 @@ none_late s at now job tx c stands is undoes told =
     let phase = in_phase s at now job tx stands is told in
     let undoing : IsUndoing s phase.0 tx c = subst (IsInPhase s phase.0 job.place tx) undoes phase.1 in
     undoing.no_ends
+
+-- a reply that tells of no way back tells of a fault, or of none
+plain_faults : (r : Reply) → is_way_back r ≡ false → reply_faults r ≡ cond (is_fault_reply r) 1 0
+plain_faults (reply.Fault n) e = refl
+plain_faults (reply.Undone n) e = cc e
+plain_faults _ e = refl
 
 -- ---- what moves
 moved : (a b x y n m k : ℕ) → b + x ≡ a + y → m + y ≡ n + x + k → n + a + k ≡ m + b
@@ -144,18 +155,22 @@ module _ (s : Setting) (at from : ℕ) (old : Moment) (job : JobView) (new : Mom
     call_counted call row =
         let tx' = noting tx call row.reply (claims_at old tx call) row.parts in
         let one = cond (is_fault_reply row.reply) 1 0 in
-        let replies : count_by is_fault_reply (tx.replies ++ row.reply ∷ []) ≡ count_by is_fault_reply tx.replies + one =
-        sum_by_push (λ r. cond (is_fault_reply r) 1 0) tx.replies row.reply in
+        let replies : sum_by reply_faults (tx.replies ++ row.reply ∷ []) ≡ sum_by reply_faults tx.replies + one =
+        sum_by_push reply_faults tx.replies row.reply ∙ ap (λ n. sum_by reply_faults tx.replies + n) (plain_faults row.reply row.no_way_back) in
         let ended : sum_by undo_faults row.parts.undo.ended ≡ sum_by undo_faults tx.undo.ended = ap (λ (u : Records). sum_by undo_faults u.ended) row.undo in
         let sums : sum_by entry_faults new.journal ≡ sum_by entry_faults old.journal = ap (λ (n : Moment). sum_by entry_faults n.journal) row.behind in
         let was = recorded in
         more_counted (with_tx job row.place tx') one (ap (λ (n : Moment). actives n.jobs) row.behind) (omega (arith, replies, ended, sums, was))
         (fault_as_count (is_fault_reply row.reply) old.faults new.faults row.cause)
 
-    by_ask : (a : Ask) → AskedTurn (mover s at old job) tx a new → AreCounted from new
-    by_ask (ask.Call call) (inl row) = call_counted call row
-    by_ask (ask.Call call) (inr row) =
+    by_call : (c : Call) → CalledTurn (mover s at old job) tx c new → AreCounted from new
+    by_call call.Back row = with_counted (with_tx job row.place (record tx { phase = Backing })) row.behind recorded
+    by_call c (inl row) = call_counted c row
+    by_call c (inr row) =
         with_counted (with_tx job row.place (record tx { phase = Undoing (cause.Conflict row.object row.holder (length old.journal)) })) row.behind recorded
+
+    by_ask : (a : Ask) → AskedTurn (mover s at old job) tx a new → AreCounted from new
+    by_ask (ask.Call c) row = by_call c row
     by_ask ask.Commit row =
         let is = row.behind in
         still_counted (with_tx job row.place (record tx { phase = Committing })) (ap (λ (n : Moment). n.jobs) is) (ap (λ (n : Moment). n.journal) is)
@@ -230,10 +245,48 @@ module _ (s : Setting) (at from : ℕ) (old : Moment) (job : JobView) (new : Mom
     by_undoing c undoes turn.NoMemory row = absurd row
     by_undoing c undoes (turn.Ended end) row = absurd row
 
+    -- ---- one whose block goes back
+    backs_one_counted : (kept : SavedView) → BacksOne (mover s at old job) tx kept new → AreCounted from new
+    backs_one_counted kept row =
+        let undo : Records = record { pending = row.older; ended = (row.tried, row.end) ∷ tx.undo.ended } in
+        let ended : sum_by undo_faults ((row.tried, row.end) ∷ tx.undo.ended) ≡ end_faults row.end + sum_by undo_faults tx.undo.ended =
+        sum_by-cons undo_faults (row.tried, row.end) tx.undo.ended in
+        let sums : sum_by entry_faults new.journal ≡ sum_by entry_faults old.journal = ap (λ (n : Moment). sum_by entry_faults n.journal) row.behind in
+        let was = recorded in
+        more_counted (with_tx job job.place (record tx { phase = phase_after (length row.older + 1) row.end; undo = undo })) (end_faults row.end)
+        (ap (λ (n : Moment). actives n.jobs) row.behind) (omega (arith, ended, sums, was)) row.faults
+
+    ends_back_counted : (kept : SavedView) → EndsBack (mover s at old job) tx kept new → AreCounted from new
+    ends_back_counted kept row =
+        let faults = sum_by undo_faults tx.undo.ended in
+        let replies : sum_by reply_faults (tx.replies ++ reply.Undone faults ∷ []) ≡ sum_by reply_faults tx.replies + faults =
+        sum_by_push reply_faults tx.replies (reply.Undone faults) in
+        let sums : sum_by entry_faults new.journal ≡ sum_by entry_faults old.journal = ap (λ (n : Moment). sum_by entry_faults n.journal) row.behind in
+        let was = recorded in
+        more_counted (with_tx job row.place (backed tx kept)) 0 (ap (λ (n : Moment). actives n.jobs) row.behind) (omega (arith, replies, sums, was))
+        (ap (λ (n : Moment). n.faults) row.behind)
+
+    by_block : (kept : SavedView) (b : Bool) → BackingRow (mover s at old job) tx kept b new → AreCounted from new
+    by_block kept true row = backs_one_counted kept row
+    by_block kept false row = ends_back_counted kept row
+
+    by_open : (o : Option SavedView) → OpenRow (mover s at old job) tx o new → AreCounted from new
+    by_open None row = absurd row
+    by_open (Some kept) row = by_block kept (nat_lt (length kept.trail) (length tx.undo.pending)) row
+
+    by_backing : (m : Option Mark) (answer : Turn) → MarkedBack (mover s at old job) tx m answer new → AreCounted from new
+    by_backing None turn.Went row = by_open tx.saved row
+    by_backing None turn.NoMemory row = absurd row
+    by_backing None (turn.Busy object holder) row = absurd row
+    by_backing None (turn.Ended end) row = absurd row
+    by_backing (Some m) turn.Went row = with_counted (with_tx job job.place (record tx { phase = Undoing (revoked m) })) row recorded
+    by_backing (Some m) _ row = absurd row
+
     by_phase : (p : Phase) → tx.phase ≡ p → (answer : Turn) → ActiveTurn (mover s at old job) tx p answer new → AreCounted from new
     by_phase Running e answer row = by_mark (old.marks tx.number) answer row
     by_phase Committing e answer row = by_committing e answer row
     by_phase (Undoing c) e answer row = by_undoing c e answer row
+    by_phase Backing e answer row = by_backing (old.marks tx.number) answer row
 
   by_doing : (d : Doing) → job.doing ≡ d → (answer : Turn) → TurnOf (mover s at old job) d answer new → AreCounted from new
   by_doing Idle is answer row = by_idle is answer row

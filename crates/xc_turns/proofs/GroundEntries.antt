@@ -4,8 +4,6 @@ use Rattle.std.proofs.Common.{arith, length-set}
 use Rattle.std.specs.Prelude.{IsTrue, Option, slice_get, slice_set}
 use Rattle.std.specs.declared.option.Option.TheVariants.{None, Some}
 use Rattle.std.proofs.lemmas.Option.{slice_get_cases}
-use borrow.Author.Tests.{eq-eqb, ne_eqb}
-use native.Mathlib.Decide.{ℕ_discrete}
 use Rattle.xc_data.specs.declared.claim.Claim.{Claim}
 use Rattle.xc_data.specs.declared.entry.Entry.{Entry}
 use Rattle.xc_data.specs.declared.entry.Mark.{Mark}

@@ -1,5 +1,5 @@
 -- A turn in which no transaction waits or enters keeps each conflict and each revocation grounded.
-use Rattle.std.proofs.Common.{◌≡◌, ◌≢◌, inl, inr, ℕ, ◌+◌, ◌-◌, ◌≤◌, Bool, List, ◌∷◌, ◌++◌, length, get_or, refl, ap, sym, ◌∙◌, subst}
+use Rattle.std.proofs.Common.{◌≡◌, ◌≢◌, inl, inr, ℕ, ◌+◌, ◌≤◌, Bool, List, ◌∷◌, ◌++◌, length, get_or, refl, ap, sym, ◌∙◌, subst}
 use Rattle.std.proofs.Common.{arith}
 use Rattle.std.specs.Prelude.{Contains, Option, slice_get, slice_set, if◌then◌else◌}
 use Rattle.std.specs.declared.option.Option.TheVariants.{None, Some}
@@ -14,12 +14,15 @@ use Rattle.xc_data.specs.declared.object.Object.{Object}
 use Rattle.xc_data.specs.declared.entry.Cause.{Cause}
 use Rattle.xc_data.specs.declared.entry.Cause.TheVariants as cause
 use Rattle.xc_data.specs.declared.call.Call.{Call}
+use Rattle.xc_data.specs.declared.call.Call.TheVariants as call
 use Rattle.xc_script.specs.declared.ask.Ask.{Ask}
 use Rattle.xc_script.specs.declared.ask.Ask.TheVariants as ask
 use Rattle.xc_script.specs.Asking.{asks}
+use Rattle.xc_script.specs.Blocks.{BlockWalk}
+use Rattle.std.proofs.Common.{[]}
 use Rattle.xc_script.specs.Position.{Position}
 use Rattle.xc_data.specs.declared.entry.Mark.{Mark}
-use Rattle.xc_model.specs.declared.phase.Phase.TheVariants.{Running}
+use Rattle.xc_model.specs.declared.phase.Phase.TheVariants.{Running, Backing}
 use Rattle.xc_model.specs.Setting.{Setting}
 use Rattle.xc_model.specs.Moment.{TxView, JobView, Doing, Idle, Active, Starved, Ended, Moment, active_in, active_of, unmarked}
 use Rattle.xc_model.specs.Movers.{IsActiveAt, asked_at, mover}
@@ -28,7 +31,7 @@ use Rattle.xc_model.specs.PlainSteps.{claims_at}
 use Rattle.xc_model.specs.Grounds.{Part, Other, Holds, Ground, IsGrounded, AreGrounded, scene_of}
 use Rattle.xc_model.specs.Progress.{Following, Progress, progress_of}
 use Rattle.xc_model.specs.Truth.{next_of, entry_parts}
-use Rattle.xc_model.specs.Stories.{StoriesHold, IsDoing, IsUnderway, IsInPhase, IsRunning, active_begin, active_part, active_parts, part_under_way}
+use Rattle.xc_model.specs.Stories.{StoriesHold, IsDoing, IsUnderway, IsInPhase, IsRunning, IsBacking, active_begin, active_part, active_parts, part_under_way}
 use Rattle.xc_model.specs.Stories.{asked_of_tx, cause_of_phase, wanted_by, reading}
 use Rattle.xc_turns.proofs.Lists.{contains_first, get_beside, not_both}
 use Rattle.xc_data.proofs.Lists.{get_set_same, get_set_other}
@@ -40,7 +43,7 @@ use Rattle.xc_turns.proofs.GivenNumbers.{given_by_now}
 use Rattle.xc_turns.proofs.GroundReads.{part_read, part_elsewhere}
 use Rattle.xc_turns.proofs.KindsOfTurns.{AsksOn, HoldsOn, IsNoConflict, MeetsRival, CauseOn, same, free, meets, cause_on}
 use Rattle.xc_turns.proofs.TurnKinds.{undoing_is}
-use Rattle.xc_turns.proofs.KindsOfTurns.{Rests, Begins, Moves, begins}
+use Rattle.xc_turns.proofs.KindsOfTurns.{Rests, Begins, Moves}
 
 -- ---- marks
 pub unmarked_other : (marks : ℕ → Option Mark) (number n : ℕ) → (n ≡ number → ⊥) → unmarked marks number n ≡ marks n
@@ -62,7 +65,14 @@ asked_there : (s : Setting) (f : Following) (place : Position) (was : TxView) �
     → next_of s.script f was.replies ≡ asked_at s place
 asked_there s f place was told running =
     let at : IsRunning s f place was = subst (IsInPhase s f place was) running told.phase in
-    sym (ap asks at.ahead)
+    sym (ap (λ (b : BlockWalk). asks b.walk) at.ahead)
+
+-- and one whose block goes back is asked the back
+back_asked : (s : Setting) (f : Following) (place : Position) (was : TxView) → IsUnderway s f place was → was.phase ≡ Backing
+    → next_of s.script f was.replies ≡ ask.Call call.Back
+back_asked s f place was told backs =
+    let at : IsBacking s f place was = subst (IsInPhase s f place was) backs told.phase in
+    ap (λ (b : BlockWalk). asks b.walk) (sym at.ahead) ∙ at.asked
 
 -- ---- a turn of the job in this place
 module _ (s : Setting) (at : ℕ) (old new : Moment) (job : JobView) (stands : slice_get old.jobs at ≡ Some job)
@@ -216,6 +226,15 @@ module _ (s : Setting) (at : ℕ) (old new : Moment) (job : JobView) (stands : s
       ∙ ap (λ (o : Option Following). wanted_by words was (asked_of_tx s o was)) f.1
       ∙ ap (wanted_by words was) (asked_there s f.0 job.place was going running ∙ asked)
 
+  -- a back claims nothing
+  back_wants : (was : TxView) → active_of job ≡ Some was → was.phase ≡ Backing → wanted_by words was (asked_of_tx s led_here was) ≡ []
+  back_wants was active backs =
+      let f = following in
+      let there = told.jobs_told at f.0 job f.1 stands in
+      let going = underway s _ f.0 job was job.doing active there.doing in
+      ap (λ (o : Option Following). wanted_by words was (asked_of_tx s o was)) f.1
+      ∙ ap (wanted_by words was) (back_asked s f.0 job.place was going backs)
+
   -- the claim that meets is one of those
   pub met_listed : (claims : List Claim) (object : Object) (holder : ℕ) → (met : IsFirstRival old.jobs at claims object holder) → Contains claims met.met
   met_listed claims object holder met =
@@ -271,7 +290,13 @@ module _ (s : Setting) (at : ℕ) (old new : Moment) (job : JobView) (stands : s
       let b = part_here old.marks tx in
       covered_parts a.held a.wanted (b.held ++ b.wanted) (covered_front a.held b.held b.wanted held)
       (covered_back a.wanted b.held b.wanted (covered_same a.wanted b.wanted (wanted_on led_here was tx stays_asked.0 stays_asked.1)))
-  reach_on was tx active held (inr done) =
+  reach_on was tx active held (inr (inr backs)) =
+      let a = part_here old.marks was in
+      let b = part_here old.marks tx in
+      covered_parts a.held a.wanted (b.held ++ b.wanted) (covered_front a.held b.held b.wanted held)
+      (subst (λ (cs : List Claim). AreCovered cs (b.held ++ b.wanted)) (sym (back_wants was active backs))
+      (record { each = λ c at. absurd (omega (arith, at.1)) }))
+  reach_on was tx active held (inr (inl done)) =
       let a = part_here old.marks was in
       let b = part_here old.marks tx in
       let claims = claims_at old was done.call in

@@ -1,5 +1,5 @@
 -- A turn in which a transaction waits and marks another keeps each conflict and each revocation grounded.
-use Rattle.std.proofs.Common.{◌≡◌, ◌≢◌, ◌⊎◌, inl, inr, ℕ, ◌+◌, ◌-◌, Bool, List, length, get_or, refl, ap, sym, ◌∙◌, subst}
+use Rattle.std.proofs.Common.{◌≡◌, ◌≢◌, ◌⊎◌, inl, inr, ℕ, ◌+◌, Bool, List, length, get_or, refl, ap, sym, ◌∙◌, subst}
 use Rattle.std.proofs.Common.{arith}
 use Rattle.std.specs.Prelude.{Contains, Option, slice_get, slice_set, if◌then◌else◌}
 use Rattle.std.specs.declared.option.Option.TheVariants.{None, Some}
@@ -10,7 +10,7 @@ use native.Mathlib.Decide.{ℕ_discrete}
 use Rattle.xc_data.specs.declared.claim.Claim.{Claim}
 use Rattle.xc_data.specs.declared.entry.Mark.{Mark}
 use Rattle.xc_model.specs.declared.phase.Phase.{Phase}
-use Rattle.xc_model.specs.declared.phase.Phase.TheVariants.{Running, Committing, Undoing}
+use Rattle.xc_model.specs.declared.phase.Phase.TheVariants.{Running, Committing, Undoing, Backing}
 use Rattle.xc_model.specs.Setting.{Setting}
 use Rattle.xc_model.specs.Moment.{TxView, JobView, Moment, revoked}
 use Rattle.xc_model.specs.Movers.{IsActiveAt}
@@ -39,11 +39,13 @@ marked_itself marks tx new n e = ap (λ (b : Bool). if b then mark_behind tx.pha
 
 -- a mark stays, or a running transaction takes the new one
 mark_cases : (p : Phase) (kept : Option Mark) (new : Mark)
-    → (mark_behind p kept new ≡ kept) ⊎ ((p ≡ Running) × (mark_behind p kept new ≡ Some new))
+    → (mark_behind p kept new ≡ kept) ⊎ ((cause_of_phase (Some new) p ≡ Some (revoked new)) × (mark_behind p kept new ≡ Some new))
 mark_cases Running None new = inr (refl, refl)
 mark_cases Running (Some m) new = inl refl
 mark_cases Committing kept new = inl refl
 mark_cases (Undoing c) kept new = inl refl
+mark_cases Backing None new = inr (refl, refl)
+mark_cases Backing (Some m) new = inl refl
 
 -- ---- one waits, and another is marked
 module _ (s : Setting) (at : ℕ) (old new : Moment) (job : JobView) (stands : slice_get old.jobs at ≡ Some job)
@@ -183,9 +185,8 @@ module _ (s : Setting) (at : ℕ) (old new : Moment) (job : JobView) (stands : s
                   let r = k.waits.met.rival in
                   let one : j ≡ r.place = given_once s words old.marks old.journal old.jobs told j r.place tx rival active r.active here in
                   let its : tx ≡ rival = active_same old.jobs r.place tx rival (subst (λ n. IsActiveAt old.jobs n tx) one active) r.active in
-                  let runs : tx.phase ≡ Running = ap (λ (x : TxView). x.phase) its ∙ new_mark.0 in
                   let why : cause_of_phase (marks_behind tx.number) tx.phase ≡ Some (revoked its_mark) =
-                  ap (λ m. cause_of_phase m tx.phase) (is ∙ new_mark.1) ∙ ap (cause_of_phase (Some its_mark)) runs in
+                  ap (λ m. cause_of_phase m tx.phase) (is ∙ new_mark.1) ∙ ap (λ (x : TxView). cause_of_phase (Some its_mark) x.phase) its ∙ new_mark.0 in
                   subst (IsGrounded (scene_of s.tells log before) (length log) (part_at marks_behind j tx)) (sym why) (marked_grounded j tx one its)
             ])
             (λ (away : tx.number ≢ rival.number). unmarked_grounded j tx active (marked_other old.marks rival its_mark tx.number away))

@@ -1,9 +1,7 @@
 -- A turn keeps each conflict and each revocation grounded: it names a holder, or an older transaction.
-use Rattle.std.proofs.Common.{◌≡◌, ℕ, ◌-◌, List, length, ap, sym, subst}
+use Rattle.std.proofs.Common.{◌≡◌, ℕ, List, length, ap, sym, subst}
 use Rattle.std.specs.Prelude.{IsTrue, Option, slice_get}
 use Rattle.std.specs.declared.option.Option.TheVariants.{Some}
-use borrow.Author.Tests.{eq-eqb, ne_eqb}
-use native.Mathlib.Decide.{ℕ_discrete}
 use Rattle.xc_data.specs.declared.entry.Entry.{Entry}
 use Rattle.xc_data.specs.declared.entry.Turn.{Turn}
 use Rattle.xc_data.specs.declared.entry.Mark.{Mark}

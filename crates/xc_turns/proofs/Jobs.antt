@@ -73,6 +73,7 @@ opened_rests script (name ∷ names) (suc j) tx (job, there, has) = opened_rests
 
 -- and none has one after an abort
 pub behind_abort_none : (job : JobView) (tx : TxView) (c : Cause) → active_of (behind_abort job tx c) ≡ None
+behind_abort_none job tx (cause.Stuck failed) = refl
 behind_abort_none job tx cause.Asked = refl
 behind_abort_none job tx cause.NoMemory = refl
 behind_abort_none job tx (cause.Conflict object holder at) = refl

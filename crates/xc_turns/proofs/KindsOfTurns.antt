@@ -10,7 +10,7 @@ use Rattle.xc_data.specs.declared.entry.Cause.{Cause}
 use Rattle.xc_data.specs.declared.entry.Cause.TheVariants as cause
 use Rattle.xc_data.specs.declared.entry.Outcome.{Outcome}
 use Rattle.xc_script.specs.declared.ask.Ask.TheVariants as ask
-use Rattle.xc_model.specs.declared.phase.Phase.TheVariants.{Running, Undoing}
+use Rattle.xc_model.specs.declared.phase.Phase.TheVariants.{Running, Undoing, Backing}
 use Rattle.xc_model.specs.Setting.{Setting}
 use Rattle.xc_model.specs.Moment.{TxView, JobView, Moment, active_of, begun_count}
 use Rattle.xc_model.specs.Moment.{unmarked}
@@ -63,9 +63,9 @@ pub record HoldsAsked (s : Setting) (old : Moment) (job : JobView) (was tx : TxV
   pub running : was.phase ≡ Running
   pub held : tx.held ≡ holding was.held (claims_at old was call)
 
--- what it is asked stays, or the asked call is done
+-- what it is asked stays, or the asked call is done; a block's way back claims nothing
 abbrev pub AsksOn : Setting → Moment → JobView → TxView → TxView → Type 0
-AsksOn s old job was tx = ((tx.me ≡ was.me) × (tx.replies ≡ was.replies)) ⊎ HoldsAsked s old job was tx
+AsksOn s old job was tx = ((tx.me ≡ was.me) × (tx.replies ≡ was.replies)) ⊎ (HoldsAsked s old job was tx ⊎ (was.phase ≡ Backing))
 
 -- no conflict and no revocation
 abbrev pub IsNoConflict : Option Cause → Type 0

@@ -1,10 +1,11 @@
 -- Calls that are kept for the commit: one late call for each.
-use Rattle.std.proofs.Common.{◌≡◌, ℕ, ◌+◌, ◌<◌, ◌≤◌, Bool, true, false, List, [], ◌∷◌, ◌++◌, length, refl, ap, ap₂, sym, ◌∙◌, arith, length-append}
+use Rattle.std.proofs.Common.{◌≡◌, ℕ, ◌+◌, ◌<◌, ◌≤◌, Bool, true, false, List, [], ◌∷◌, ◌++◌, length, refl, ap, ap₂, sym, ◌∙◌, subst, arith, length-append}
 use Rattle.std.proofs.Common.{length-drop, map}
 use Rattle.std.specs.Prelude.{◌||◌, not, drop, take, if◌then◌else◌}
-use Rattle.std.specs.declared.option.Option.TheVariants.{None}
+use Rattle.std.specs.declared.option.Option.TheVariants.{None, Some}
+use Rattle.std.specs.Prelude.{Option, unwrap_or}
 use Rattle.std.proofs.Math.Seq.{take-length}
-use Rattle.std.proofs.lemmas.List.{length-map, map-append}
+use Rattle.std.proofs.lemmas.List.{append-nil, length-map, map-append}
 use Rattle.xc_data.specs.declared.call.Call.{Call}
 use Rattle.xc_data.specs.declared.call.Call.TheVariants as call
 use Rattle.xc_data.specs.declared.call.LateCall.{LateCall}
@@ -20,8 +21,11 @@ use Rattle.xc_world.specs.Checks.{is_bad_handle, is_file, is_pipe, is_pair}
 use Rattle.xc_world.specs.Act.Step.{Stepped, step_to}
 use Rattle.xc_world.specs.Late.{kept_call}
 use Rattle.xc_data.specs.Calls.{is_late, late_call, sync_of, write_pipe_of, shutdown_of, send_of, is_kept, thread_asked, thread_in}
-use Rattle.xc_script.specs.Slots.{kept_of}
-use Rattle.xc_model.specs.PlainSteps.{IsReplyInTime}
+use Rattle.xc_script.specs.Blocks.{KeptCalls, none_kept, kept_with, all_kept}
+use Rattle.xc_model.specs.PlainSteps.{IsReplyInTime, saved_by}
+use Rattle.xc_model.specs.Moment.{SavedView}
+use Rattle.xc_model.specs.Stories.{AreKeptSo, AreKeptAtSave}
+use Rattle.xc_world.specs.Fits.{is_back}
 
 -- ---- one late call for each, which starts the same block
 sync_one : (p : Place) → not (is_file p) ≡ false → map thread_in (sync_of p) ≡ None ∷ []
@@ -80,28 +84,70 @@ pub kept_few : (w : World) (me : Private) (number : ℕ) (c : Call) (r : Reply) 
 kept_few w me number c r in_time =
     omega (arith, as_many (kept_call c me r) (if is_late r then c ∷ [] else []) (kept_one me c r (late_one w me number c r in_time)), at_most_one (is_late r) c)
 
-kept_front : (b : Bool) (c : Call) (kept last more : List Call) → more ≡ kept ++ last
-    → (if b then c ∷ more else more) ≡ (if b then c ∷ kept else kept) ++ last
-kept_front true c kept last more e = ap (λ cs. c ∷ cs) e
-kept_front false c kept last more e = e
+-- one more call is kept where its reply says so, and a back drops those of its block
+pub kept-more : (k : KeptCalls) (calls : List Call) (replies : List Reply) (c : Call) (r : Reply) → length calls ≡ length replies
+    → all_kept k (calls ++ c ∷ []) (replies ++ r ∷ []) ≡ kept_with (all_kept k calls replies) c r
+kept-more k [] [] c r e = refl
+kept-more k [] (q ∷ replies) c r e = absurd (omega arith)
+kept-more k (d ∷ calls) [] c r e = absurd (omega arith)
+kept-more k (d ∷ calls) (q ∷ replies) c r e = kept-more (kept_with k d q) calls replies c r (omega arith)
 
--- one more call is kept where its reply says so
-kept-more : (calls : List Call) (replies : List Reply) (c : Call) (r : Reply) → length calls ≡ length replies
-    → kept_of (calls ++ c ∷ []) (replies ++ r ∷ []) ≡ kept_of calls replies ++ (if is_late r then c ∷ [] else [])
-kept-more [] [] c r e = refl
-kept-more [] (q ∷ replies) c r e = absurd (omega arith)
-kept-more (d ∷ calls) [] c r e = absurd (omega arith)
-kept-more (d ∷ calls) (q ∷ replies) c r e =
-    kept_front (is_late q) d (kept_of calls replies) (if is_late r then c ∷ [] else []) (kept_of (calls ++ c ∷ []) (replies ++ r ∷ []))
-    (kept-more calls replies c r (omega arith))
+pushed : (b : Bool) (kept : List Call) (c : Call) → (if b then kept ++ c ∷ [] else kept) ≡ kept ++ (if b then c ∷ [] else [])
+pushed true kept c = refl
+pushed false kept c = sym (append-nil kept)
+
+no_call : (c : Call) (me : Private) (r : Reply) → late_call c me ≡ [] → kept_call c me r ≡ []
+no_call c me reply.Late none = none
+no_call c me _ none = refl
+
+-- a call more starts what it would, where it makes no block
+pub plain_more : (late more : List LateCall) (k : KeptCalls) (c : Call) (r : Reply) → map thread_in more ≡ map thread_asked (if is_late r then c ∷ [] else [])
+    → map thread_in late ≡ map thread_asked k.kept
+    → map thread_in (late ++ more) ≡ map thread_asked (if is_late r then k.kept ++ c ∷ [] else k.kept)
+plain_more late more k c r one same =
+    map-append thread_in late more ∙ ap₂ (λ m n. m ++ n) same one ∙ sym (map-append thread_asked k.kept (if is_late r then c ∷ [] else []))
+    ∙ ap (map thread_asked) (sym (pushed (is_late r) k.kept c))
+
+same_late : (late : List LateCall) (c : Call) (me : Private) (r : Reply) (kept : List Call) → late_call c me ≡ [] → map thread_in late ≡ map thread_asked kept
+    → map thread_in (late ++ kept_call c me r) ≡ map thread_asked kept
+same_late late c me r kept none same =
+    ap (map thread_in) (ap (λ l. late ++ l) (no_call c me r none) ∙ append-nil late) ∙ same
+
+-- by the call: one that doesn't go back
+with_call : (w : World) (me : Private) (number : ℕ) (late : List LateCall) (saved : Option SavedView) (copy : SavedView) (k : KeptCalls) (c : Call) (r : Reply)
+    → is_back c ≡ false → IsReplyInTime me number c r → copy.late ≡ late ++ kept_call c me r → AreKeptSo late saved k
+    → AreKeptSo (late ++ kept_call c me r) (saved_by c saved copy) (kept_with k c r)
+with_call w me number late saved copy k call.Save r ahead in_time is same =
+    let now = same_late late call.Save me r k.kept refl same.0 in (now, ap (map thread_in) is ∙ now)
+with_call w me number late saved copy k call.Keep r ahead in_time is same = (same_late late call.Keep me r k.kept refl same.0, tt)
+with_call w me number late saved copy k call.Back r ahead in_time is same = cc ahead
+with_call w me number late saved copy k c r ahead in_time is same =
+    (plain_more late (kept_call c me r) k c r (kept_one me c r (late_one w me number c r in_time)) same.0, same.1)
 
 -- late calls start what kept calls would, with one call more too
-pub late-more : (w : World) (me : Private) (number : ℕ) (late : List LateCall) (calls : List Call) (replies : List Reply) (c : Call) (r : Reply)
-    → IsReplyInTime me number c r → length calls ≡ length replies → map thread_in late ≡ map thread_asked (kept_of calls replies)
-    → map thread_in (late ++ kept_call c me r) ≡ map thread_asked (kept_of (calls ++ c ∷ []) (replies ++ r ∷ []))
-late-more w me number late calls replies c r in_time each same =
-    map-append thread_in late (kept_call c me r) ∙ ap₂ (λ m n. m ++ n) same (kept_one me c r (late_one w me number c r in_time))
-    ∙ sym (map-append thread_asked (kept_of calls replies) (if is_late r then c ∷ [] else [])) ∙ ap (map thread_asked) (sym (kept-more calls replies c r each))
+pub late-more : (w : World) (me : Private) (number : ℕ) (late : List LateCall) (saved : Option SavedView) (copy : SavedView) (calls : List Call)
+    (replies : List Reply) (c : Call) (r : Reply)
+    → is_back c ≡ false → IsReplyInTime me number c r → copy.late ≡ late ++ kept_call c me r → length calls ≡ length replies
+    → AreKeptSo late saved (all_kept none_kept calls replies)
+    → AreKeptSo (late ++ kept_call c me r) (saved_by c saved copy) (all_kept none_kept (calls ++ c ∷ []) (replies ++ r ∷ []))
+late-more w me number late saved copy calls replies c r ahead in_time is each same =
+    subst (AreKeptSo (late ++ kept_call c me r) (saved_by c saved copy)) (sym (kept-more none_kept calls replies c r each))
+    (with_call w me number late saved copy (all_kept none_kept calls replies) c r ahead in_time is same)
+
+-- after a back they are those of the save
+pub back-more : (late : List LateCall) (kept : SavedView) (calls : List Call) (replies : List Reply) (r : Reply) → length calls ≡ length replies
+    → AreKeptSo late (Some kept) (all_kept none_kept calls replies)
+    → AreKeptSo kept.late None (all_kept none_kept (calls ++ call.Back ∷ []) (replies ++ r ∷ []))
+back-more late kept calls replies r each same =
+    subst (AreKeptSo kept.late None) (sym (kept-more none_kept calls replies call.Back r each))
+    (by_saved (all_kept none_kept calls replies).saved refl same.1, tt)
+  where
+    by_saved : (o : Option (List Call)) → (all_kept none_kept calls replies).saved ≡ o → AreKeptAtSave (Some kept) (all_kept none_kept calls replies).saved
+        → map thread_in kept.late ≡ map thread_asked (unwrap_or (all_kept none_kept calls replies).saved (all_kept none_kept calls replies).kept)
+    by_saved None e so = absurd (subst (AreKeptAtSave (Some kept)) e so)
+    by_saved (Some calls') e so =
+        subst (AreKeptAtSave (Some kept)) e so
+        ∙ ap (map thread_asked) (sym (ap (λ o. unwrap_or o (all_kept none_kept calls replies).kept) e))
 
 -- ---- ends
 -- where one is left there are fewer ends

@@ -9,8 +9,11 @@ use Rattle.xc_data.specs.declared.private.Private.{Private}
 use Rattle.xc_data.specs.declared.undo.Undo.{Undo}
 use Rattle.xc_text.specs.Stated.{Statement}
 use Rattle.xc_model.specs.declared.phase.Phase.{Phase}
-use Rattle.xc_model.specs.declared.phase.Phase.TheVariants.{Running, Committing, Undoing}
+use Rattle.xc_model.specs.declared.phase.Phase.TheVariants.{Running, Committing, Undoing, Backing}
 use Rattle.xc_model.specs.Setting.{Setting}
+use Rattle.xc_model.specs.BackingRows.{phase_after}
+use Rattle.xc_data.specs.declared.undo.UndoEnd.{UndoEnd}
+use Rattle.xc_data.specs.declared.undo.UndoEnd.TheVariants.{Undone, Failed, Blocked}
 use Rattle.xc_model.specs.Moment.{TxView, Idle, Active, Starved, Ended, late_left}
 use Rattle.xc_model.specs.IdleRows.{new_tx}
 use Rattle.xc_model.specs.Measure.{attempt_turns, phase_turns, bodies_turns, doing_turns}
@@ -54,6 +57,7 @@ two_left : (n at : ℕ) (tx : TxView) (p : Phase) → 2 ≤ phase_turns n at tx 
 two_left n at tx Running = omega arith
 two_left n at tx Committing = omega arith
 two_left n at tx (Undoing c) = omega arith
+two_left n at tx Backing = omega arith
 
 none_failed : (a t r : ℕ) → (a - 0) * t + r + 1 ≡ a * t + r + 1
 none_failed a t r = ap (λ x. x * t + r + 1) (let h : a - 0 ≡ a = omega arith in h)
@@ -114,6 +118,7 @@ stays_below : (n at later : ℕ) (tx : TxView) (p : Phase) → p ≡ Running →
 stays_below n at later tx Running runs after = omega arith
 stays_below n at later tx Committing runs after = cc
 stays_below n at later tx (Undoing c) runs after = cc
+stays_below n at later tx Backing runs after = cc
 
 -- it goes on
 pub on_falls : (s : Setting) (failed at later : ℕ) (bodies : List (List Statement)) (tx next : TxView)
@@ -139,13 +144,15 @@ called_less n at later tx next runs same nearer within records kept =
     (subst (λ q. phase_turns n later next Running < phase_turns n at tx q) (sym runs) (omega arith))
 
 -- it leaves its running
-pub turned_less : (n at later : ℕ) (tx next : TxView) (p q : Phase) → p ≡ Running → (q ≡ Running → ⊥)
+pub turned_less : (n at later : ℕ) (tx next : TxView) (p q : Phase) → at ≤ later → p ≡ Running → (q ≡ Running → ⊥)
     → length next.undo.pending ≡ length tx.undo.pending → length (late_left next) ≡ length (late_left tx)
     → phase_turns n later next q < phase_turns n at tx p
-turned_less n at later tx next p Running runs other records kept = absurd (other refl)
-turned_less n at later tx next p Committing runs other records kept =
+turned_less n at later tx next p Running after runs other records kept = absurd (other refl)
+turned_less n at later tx next p Committing after runs other records kept =
     subst (λ r. length (late_left next) + 2 < phase_turns n at tx r) (sym runs) (omega arith)
-turned_less n at later tx next p (Undoing c) runs other records kept =
+turned_less n at later tx next p Backing after runs other records kept =
+    subst (λ r. 3 * (n - later) + length next.undo.pending + length (late_left next) + 3 < phase_turns n at tx r) (sym runs) (omega arith)
+turned_less n at later tx next p (Undoing c) after runs other records kept =
     subst (λ r. length next.undo.pending + 2 < phase_turns n at tx r) (sym runs) (omega arith)
 
 -- it does for lack of memory, with so many records more
@@ -156,6 +163,30 @@ wanting_less n at left tx p runs before = subst (λ q. length tx.undo.pending + 
 pub late_less : (n at : ℕ) (tx next : TxView) (p : Phase) → p ≡ Committing → length (late_left next) < length (late_left tx)
     → phase_turns n at next p < phase_turns n at tx p
 late_less n at tx next p commits less = subst (λ q. phase_turns n at next q < phase_turns n at tx q) (sym commits) (omega arith)
+
+-- a marked one leaves its way back
+pub cut_less : (n at : ℕ) (c : Cause) (tx next : TxView) (p : Phase) → p ≡ Backing → length next.undo.pending ≡ length tx.undo.pending
+    → phase_turns n at next (Undoing c) < phase_turns n at tx p
+cut_less n at c tx next p backs records = subst (λ q. length next.undo.pending + 2 < phase_turns n at tx q) (sym backs) (omega arith)
+
+-- one of the block's records is tried
+pub backs_less : (n at number : ℕ) (tx next : TxView) (u : Undo) (e : UndoEnd) (p : Phase) → p ≡ Backing → tx.undo.pending ≡ next.undo.pending ++ u ∷ []
+    → length (late_left next) ≡ length (late_left tx) → phase_turns n at next (phase_after number e) < phase_turns n at tx p
+backs_less n at number tx next u e p backs same kept = subst (λ q. phase_turns n at next (phase_after number e) < phase_turns n at tx q) (sym backs) (by_end e)
+  where
+    count : length tx.undo.pending ≡ length next.undo.pending + 1
+    count = ap length same ∙ length-append next.undo.pending (u ∷ [])
+
+    by_end : (e : UndoEnd) → phase_turns n at next (phase_after number e) < phase_turns n at tx Backing
+    by_end (Undone faults) = omega (arith, count, kept)
+    by_end (Failed done faults) = omega (arith, count)
+    by_end (Blocked by) = omega (arith, count)
+
+-- its way back ends
+pub gone_less : (n at later : ℕ) (tx next : TxView) (p : Phase) → p ≡ Backing → at < later → at < n → length next.undo.pending ≡ length tx.undo.pending
+    → length (late_left next) ≤ length (late_left tx) → phase_turns n later next Running < phase_turns n at tx p
+gone_less n at later tx next p backs nearer within records kept =
+    subst (λ q. phase_turns n later next Running < phase_turns n at tx q) (sym backs) (omega arith)
 
 -- one of its records is tried
 pub tried_less : (n at : ℕ) (c : Cause) (tx next : TxView) (u : Undo) (p : Phase) → p ≡ Undoing c → tx.undo.pending ≡ next.undo.pending ++ u ∷ []

@@ -26,13 +26,18 @@ use Rattle.xc_world.specs.Late.{kept_call}
 use Rattle.xc_host.specs.Contents.{Contents}
 use Rattle.xc_data.specs.declared.entry.Mark.{Mark}
 use Rattle.xc_model.specs.declared.phase.Phase.{Phase}
-use Rattle.xc_model.specs.declared.phase.Phase.TheVariants.{Running, Committing, Undoing}
+use Rattle.xc_model.specs.declared.phase.Phase.TheVariants.{Running, Committing, Undoing, Backing}
 use Rattle.xc_model.specs.Setting.{Setting}
 use Rattle.xc_model.specs.Moment.{TxView, JobView, Doing, Idle, Active, Starved, Ended, Moment, failures, begun_count, late_left, rank_of, entering}
 use Rattle.xc_model.specs.Moment.{revoked, waiting}
 use Rattle.xc_model.specs.Rows.{IsTurn, TurnOf, ActiveTurn, StarvedTurn}
 use Rattle.xc_model.specs.IdleRows.{IdleTurn}
-use Rattle.xc_model.specs.RunningRows.{MarkedTurn, RunningTurn, AskedTurn}
+use Rattle.xc_model.specs.RunningRows.{MarkedTurn, RunningTurn, CalledTurn, AskedTurn}
+use Rattle.xc_model.specs.BackingRows.{BackingRow, OpenRow, MarkedBack, phase_after, backed}
+use Rattle.xc_data.specs.declared.call.Call.TheVariants as call
+use Rattle.xc_model.specs.Moment.{SavedView}
+use Rattle.std.proofs.Common.{length-drop, length-append}
+use Rattle.std.specs.Prelude.{nat_lt, Bool, true, false}
 use Rattle.xc_model.specs.CommittingRows.{CommittingTurn}
 use Rattle.xc_model.specs.UndoingRows.{UndoingTurn, BackTurn}
 use Rattle.xc_model.specs.RunningRows.{Calls, HoldsWanting}
@@ -56,7 +61,8 @@ use Rattle.xc_model.specs.LateCalls.{started_late}
 use Rattle.xc_model.specs.Entering.{started_job, started_jobs}
 use Rattle.xc_model.specs.Movers.{Mover, mover}
 use Rattle.xc_turns.proofs.LateEnds.{next_ends}
-use Rattle.xc_turns.proofs.LeftParts.{again_falls, begun_falls, called_less, late_less, on_falls, on_stays, passed_falls, tried_less, turned_less, wanting_less}
+use Rattle.xc_turns.proofs.LeftParts.{again_falls, begun_falls, called_less, late_less, on_falls, on_stays, passed_falls, tried_less, turned_less}
+use Rattle.xc_turns.proofs.LeftParts.{wanting_less, cut_less, backs_less, gone_less}
 
 -- ---- one job of all
 one_falls : (f : JobView → ℕ) (jobs : List JobView) (at : ℕ) (was is : JobView) → slice_get jobs at ≡ Some was → f is < f was
@@ -208,14 +214,53 @@ turn_falls : (s : Setting) (at : ℕ) (old new : Moment) (job : JobView) (place 
     → turns_left s new < turns_left s old
 turn_falls s at old new job place tx next stands is runs jobs same other records kept =
     goes_on s at old new job place tx next stands is jobs same.begin
-    (λ n e. turned_less n job.place.at place.at tx next tx.phase next.phase runs other records kept)
+    (λ n e. turned_less n job.place.at place.at tx next tx.phase next.phase same.at runs other records kept)
+
+called_falls : (s : Setting) (at : ℕ) (old new : Moment) (job : JobView) (tx : TxView) (c : Call) → slice_get old.jobs at ≡ Some job → job.doing ≡ Active tx
+    → tx.phase ≡ Running → asked_at s job.place ≡ ask.Call c → CalledTurn (mover s at old job) tx c new → turns_left s new < turns_left s old
+called_falls s at old new job tx call.Back stands is runs asked row =
+    turn_falls s at old new job row.place tx (record tx { phase = Backing }) stands is runs (ap (λ (n : Moment). n.jobs) row.behind) row.same
+    (λ e. cc) refl refl
+called_falls s at old new job tx c stands is runs asked (inl row) = call_falls s at old new job tx c stands is runs asked row
+called_falls s at old new job tx c stands is runs asked (inr row) =
+    turn_falls s at old new job row.place tx (record tx { phase = Undoing (cause.Conflict row.object row.holder (length old.journal)) }) stands is runs
+    (ap (λ (n : Moment). n.jobs) row.behind) row.same (λ e. cc) refl refl
+
+-- ---- one whose block goes back
+record_falls : (s : Setting) (at : ℕ) (old new : Moment) (job : JobView) (tx : TxView) (kept : SavedView) (b : Bool) → slice_get old.jobs at ≡ Some job
+    → job.doing ≡ Active tx → tx.phase ≡ Backing → BackingRow (mover s at old job) tx kept b new → turns_left s new < turns_left s old
+record_falls s at old new job tx kept true stands is backs t =
+    let next : TxView = record tx {
+      phase = phase_after (length t.older + 1) t.end;
+      undo = record { pending = t.older; ended = (t.tried, t.end) ∷ tx.undo.ended };
+    } in
+    goes_on s at old new job job.place tx next stands is (ap (λ (n : Moment). n.jobs) t.behind) (record { block = refl; next = refl; begun = refl })
+    (λ n e. backs_less n job.place.at (length t.older + 1) tx next t.tried t.end tx.phase backs t.newest refl)
+record_falls s at old new job tx kept false stands is backs t =
+    let ends = length tx.ends in
+    goes_on s at old new job t.place tx (backed tx kept) stands is (ap (λ (n : Moment). n.jobs) t.behind) t.begin
+    (λ n e. gone_less n job.place.at t.place.at tx (backed tx kept) tx.phase backs t.nearer (omega (arith, e, asked_before s job.place call.Back t.asked)) refl
+    (omega (arith, length-drop ends kept.late, length-drop ends tx.late, ap length t.cut, length-append kept.late t.more)))
+
+open_falls : (s : Setting) (at : ℕ) (old new : Moment) (job : JobView) (tx : TxView) (k : Option SavedView) → slice_get old.jobs at ≡ Some job
+    → job.doing ≡ Active tx → tx.phase ≡ Backing → OpenRow (mover s at old job) tx k new → turns_left s new < turns_left s old
+open_falls s at old new job tx None stands is backs row = absurd row
+open_falls s at old new job tx (Some kept) stands is backs row =
+    record_falls s at old new job tx kept (nat_lt (length kept.trail) (length tx.undo.pending)) stands is backs row
+
+back_marked_falls : (s : Setting) (at : ℕ) (old new : Moment) (job : JobView) (tx : TxView) (m : Option Mark) (answer : Turn) → slice_get old.jobs at ≡ Some job
+    → job.doing ≡ Active tx → tx.phase ≡ Backing → MarkedBack (mover s at old job) tx m answer new → turns_left s new < turns_left s old
+back_marked_falls s at old new job tx None turn.Went stands is backs row = open_falls s at old new job tx tx.saved stands is backs row
+back_marked_falls s at old new job tx None _ stands is backs row = absurd row
+back_marked_falls s at old new job tx (Some m) turn.Went stands is backs row =
+    let next : TxView = record tx { phase = Undoing (revoked m) } in
+    goes_on s at old new job job.place tx next stands is (ap (λ (n : Moment). n.jobs) row) (record { block = refl; next = refl; begun = refl })
+    (λ n e. cut_less n job.place.at (revoked m) tx next tx.phase backs refl)
+back_marked_falls s at old new job tx (Some m) _ stands is backs row = absurd row
 
 ask_falls : (s : Setting) (at : ℕ) (old new : Moment) (job : JobView) (tx : TxView) (a : Ask) → slice_get old.jobs at ≡ Some job → job.doing ≡ Active tx
     → tx.phase ≡ Running → asked_at s job.place ≡ a → AskedTurn (mover s at old job) tx a new → turns_left s new < turns_left s old
-ask_falls s at old new job tx (ask.Call call) stands is runs asked (inl c) = call_falls s at old new job tx call stands is runs asked c
-ask_falls s at old new job tx (ask.Call call) stands is runs asked (inr c) =
-    turn_falls s at old new job c.place tx (record tx { phase = Undoing (cause.Conflict c.object c.holder (length old.journal)) }) stands is runs
-    (ap (λ (n : Moment). n.jobs) c.behind) c.same (λ e. cc) refl refl
+ask_falls s at old new job tx (ask.Call c) stands is runs asked row = called_falls s at old new job tx c stands is runs asked row
 ask_falls s at old new job tx ask.Commit stands is runs asked c =
     turn_falls s at old new job c.place tx (record tx { phase = Committing }) stands is runs (ap (λ (n : Moment). n.jobs) c.behind) c.same (λ e. cc) refl refl
 ask_falls s at old new job tx ask.Abort stands is runs asked c =
@@ -255,7 +300,7 @@ marked_falls : (s : Setting) (at : ℕ) (old new : Moment) (job : JobView) (tx :
 marked_falls s at old new job tx None answer stands is runs h = running_falls s at old new job tx answer stands is runs h
 marked_falls s at old new job tx (Some m) turn.Went stands is runs same =
     turn_falls s at old new job job.place tx (record tx { phase = Undoing (revoked m) }) stands is runs (ap (λ (n : Moment). n.jobs) same)
-    (record { begin = record { block = refl; next = refl; begun = refl }; walk = refl; at = omega arith }) (λ e. cc) refl refl
+    (record { begin = record { block = refl; next = refl; begun = refl }; walk = refl; saved = refl; at = omega arith }) (λ e. cc) refl refl
 marked_falls s at old new job tx (Some m) turn.NoMemory stands is runs h = absurd h
 marked_falls s at old new job tx (Some m) (turn.Busy object holder) stands is runs h = absurd h
 marked_falls s at old new job tx (Some m) (turn.Ended end) stands is runs h = absurd h
@@ -296,6 +341,7 @@ commit_falls s at old new job tx (turn.Ended end) stands is commits h = absurd h
 
 abort_less : (s : Setting) (job : JobView) (tx : TxView) (c : Cause)
     → job_turns s (behind_abort job tx c) < doing_turns s (failures job.attempts) job.place.at (bodies_at s job.place) (Active tx)
+abort_less s job tx (cause.Stuck failed) = passes s job tx
 abort_less s job tx cause.Asked = passes s job tx
 abort_less s job tx cause.NoMemory =
     let bodies = bodies_at s job.place in
@@ -330,6 +376,8 @@ active_falls : (s : Setting) (at : ℕ) (old new : Moment) (job : JobView) (tx :
 active_falls s at old new job tx Running answer stands is phase h =
     marked_falls s at old new job tx (old.marks tx.number) answer stands is phase h
 active_falls s at old new job tx Committing answer stands is phase h = commit_falls s at old new job tx answer stands is phase h
+active_falls s at old new job tx Backing answer stands is phase h =
+    back_marked_falls s at old new job tx (old.marks tx.number) answer stands is phase h
 active_falls s at old new job tx (Undoing c) answer stands is phase h = undoing_falls s at old new job tx c answer stands is phase h
 
 starved_falls : (s : Setting) (at : ℕ) (old new : Moment) (job : JobView) (answer : Turn) → slice_get old.jobs at ≡ Some job → job.doing ≡ Starved

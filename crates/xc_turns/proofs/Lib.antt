@@ -1,6 +1,8 @@
 pub mod Accounts
 pub mod Apart
 pub mod Attempts
+pub mod BlockRecords
+pub mod CallRecords
 pub mod Closings
 pub mod Completions
 pub mod CountedSums
@@ -43,5 +45,6 @@ pub mod Waits
 pub mod WordClaims
 pub mod WordLists
 pub mod WordRows
+pub mod WordStates
 pub mod WordTurns
 pub mod WordTx

@@ -4,7 +4,6 @@ use Rattle.std.proofs.Common.{refl, ap, sym, ◌∙◌, subst, arith, false, not
 use Rattle.std.proofs.lemmas.List.Elements.{All-nil, All-weaker}
 use Rattle.std.specs.Prelude.{slice_get, Option, All}
 use Rattle.std.specs.declared.option.Option.TheVariants.{None, Some}
-use native.Mathlib.Decide.{ℕ_discrete}
 use Rattle.xc_data.specs.declared.entry.Cause.{Cause}
 use Rattle.xc_data.specs.declared.entry.Cause.TheVariants as cause
 use Rattle.xc_data.specs.declared.entry.Entry.{Entry}
@@ -21,15 +20,22 @@ use Rattle.xc_script.specs.declared.ask.Ask.{Ask}
 use Rattle.xc_script.specs.declared.ask.Ask.TheVariants as ask
 use Rattle.xc_data.specs.declared.entry.Mark.{Mark}
 use Rattle.xc_model.specs.declared.phase.Phase.{Phase}
-use Rattle.xc_model.specs.declared.phase.Phase.TheVariants.{Running, Committing, Undoing}
+use Rattle.xc_model.specs.declared.phase.Phase.TheVariants.{Running, Committing, Undoing, Backing}
 use Rattle.xc_model.specs.Setting.{Setting}
 use Rattle.xc_model.specs.Serial.{IsSerial}
 use Rattle.xc_model.specs.Truth.{is_tried_again}
 use Rattle.xc_model.specs.Moment.{TxView, JobView, Doing, Idle, Active, Starved, Ended, Moment, active_in, active_of, actives, begun_count, late_left}
-use Rattle.xc_model.specs.Moment.{rank_of, entering, unmarked, waiting}
+use Rattle.xc_model.specs.Moment.{rank_of, entering, waiting}
 use Rattle.xc_model.specs.Rows.{IsTurn, TurnOf, ActiveTurn, StarvedTurn}
 use Rattle.xc_model.specs.IdleRows.{IdleTurn}
-use Rattle.xc_model.specs.RunningRows.{MarkedTurn, RunningTurn, AskedTurn}
+use Rattle.xc_model.specs.RunningRows.{MarkedTurn, RunningTurn, CalledTurn, AskedTurn}
+use Rattle.xc_model.specs.BackingRows.{BackingRow, OpenRow, MarkedBack, phase_after, backed}
+use Rattle.xc_data.specs.declared.call.Call.{Call}
+use Rattle.xc_data.specs.declared.call.Call.TheVariants as call
+use Rattle.xc_data.specs.declared.undo.UndoEnd.{UndoEnd}
+use Rattle.xc_data.specs.declared.undo.UndoEnd.TheVariants.{Undone, Failed, Blocked}
+use Rattle.xc_model.specs.Moment.{SavedView}
+use Rattle.std.specs.Prelude.{Bool, true, nat_lt}
 use Rattle.xc_model.specs.CommittingRows.{CommittingTurn}
 use Rattle.xc_model.specs.UndoingRows.{UndoingTurn, BackTurn}
 use Rattle.xc_model.specs.CommittingRows.{LateTurn}
@@ -91,15 +97,58 @@ idle_row s at old new job (turn.Busy object number) stands is (waits, same) alon
     (goes_unfull old.journal at (waiting job) Idle is (λ e. cc)) alone
 idle_row s at old new job turn.NoMemory stands is h alone = absurd h
 
-ask_row : (s : Setting) (at : ℕ) (old new : Moment) (job : JobView) (tx : TxView) (a : Ask) → slice_get old.jobs at ≡ Some job → job.doing ≡ Active tx
-    → AskedTurn (mover s at old job) tx a new → AreAlone old at → AreAlone new at
-ask_row s at old new job tx (ask.Call call) stands is (inl c) alone =
+call_row : (s : Setting) (at : ℕ) (old new : Moment) (job : JobView) (tx : TxView) (c : Call) → slice_get old.jobs at ≡ Some job → job.doing ≡ Active tx
+    → CalledTurn (mover s at old job) tx c new → AreAlone old at → AreAlone new at
+call_row s at old new job tx call.Back stands is c alone =
     let next = next_of at old job tx stands is alone in
-    let noted : TxView = noting tx call c.reply (claims_at old tx call) c.parts in
+    let tx' : TxView = record tx { phase = Backing } in
+    goes_on at old new job (with_tx job c.place tx') tx' stands (ap (λ (n : Moment). n.jobs) c.behind) (ap (λ (n : Moment). n.journal) c.behind)
+    (none_marked old new (ap (λ (n : Moment). n.marks) c.behind) alone.unmarked) refl (next.0, next.1, tt, next.3) alone
+call_row s at old new job tx asked stands is (inl c) alone =
+    let next = next_of at old job tx stands is alone in
+    let noted : TxView = noting tx asked c.reply (claims_at old tx asked) c.parts in
     goes_on at old new job (with_tx job c.place noted) noted stands (ap (λ (n : Moment). n.jobs) c.behind) (ap (λ (n : Moment). n.journal) c.behind)
     (none_marked old new (ap (λ (n : Moment). n.marks) c.behind) alone.unmarked) refl next alone
-ask_row s at old new job tx (ask.Call call) stands is (inr c) alone =
+call_row s at old new job tx asked stands is (inr c) alone =
     let r = c.met.rival in absurd (r.other (alone.others r.place r.rival r.active))
+
+meets_nobody : (n : ℕ) (e : UndoEnd) → MeetsNobody (phase_after n e)
+meets_nobody n (Undone faults) = tt
+meets_nobody n (Failed done faults) = refl
+meets_nobody n (Blocked by) = refl
+
+one_back_row : (s : Setting) (at : ℕ) (old new : Moment) (job : JobView) (tx : TxView) (kept : SavedView) (b : Bool) → slice_get old.jobs at ≡ Some job
+    → job.doing ≡ Active tx → BackingRow (mover s at old job) tx kept b new → AreAlone old at → AreAlone new at
+one_back_row s at old new job tx kept true stands is t alone =
+    let next = next_of at old job tx stands is alone in
+    let tx' : TxView = record tx {
+      phase = phase_after (length t.older + 1) t.end;
+      undo = record { pending = t.older; ended = (t.tried, t.end) ∷ tx.undo.ended };
+    } in
+    goes_on at old new job (with_tx job job.place tx') tx' stands (ap (λ (n : Moment). n.jobs) t.behind) (ap (λ (n : Moment). n.journal) t.behind)
+    (none_marked old new (ap (λ (n : Moment). n.marks) t.behind) alone.unmarked) refl (next.0, next.1, meets_nobody (length t.older + 1) t.end, next.3) alone
+one_back_row s at old new job tx kept false stands is t alone =
+    let next = next_of at old job tx stands is alone in
+    goes_on at old new job (with_tx job t.place (backed tx kept)) (backed tx kept) stands (ap (λ (n : Moment). n.jobs) t.behind)
+    (ap (λ (n : Moment). n.journal) t.behind)
+    (none_marked old new (ap (λ (n : Moment). n.marks) t.behind) alone.unmarked) refl (next.0, next.1, tt, next.3) alone
+
+open_row : (s : Setting) (at : ℕ) (old new : Moment) (job : JobView) (tx : TxView) (k : Option SavedView) → slice_get old.jobs at ≡ Some job
+    → job.doing ≡ Active tx → OpenRow (mover s at old job) tx k new → AreAlone old at → AreAlone new at
+open_row s at old new job tx None stands is h alone = absurd h
+open_row s at old new job tx (Some kept) stands is h alone =
+    one_back_row s at old new job tx kept (nat_lt (length kept.trail) (length tx.undo.pending)) stands is h alone
+
+back_marked_row : (s : Setting) (at : ℕ) (old new : Moment) (job : JobView) (tx : TxView) (m : Option Mark) (answer : Turn) → slice_get old.jobs at ≡ Some job
+    → job.doing ≡ Active tx → old.marks tx.number ≡ m → MarkedBack (mover s at old job) tx m answer new → AreAlone old at → AreAlone new at
+back_marked_row s at old new job tx None turn.Went stands is has h alone = open_row s at old new job tx tx.saved stands is h alone
+back_marked_row s at old new job tx None _ stands is has h alone = absurd h
+back_marked_row s at old new job tx (Some m) answer stands is has h alone =
+    absurd (let e : ◌≡◌ {A = Option Mark} None (Some m) = sym (alone.unmarked tx.number) ∙ has in cc)
+
+ask_row : (s : Setting) (at : ℕ) (old new : Moment) (job : JobView) (tx : TxView) (a : Ask) → slice_get old.jobs at ≡ Some job → job.doing ≡ Active tx
+    → AskedTurn (mover s at old job) tx a new → AreAlone old at → AreAlone new at
+ask_row s at old new job tx (ask.Call c) stands is h alone = call_row s at old new job tx c stands is h alone
 ask_row s at old new job tx ask.Commit stands is c alone =
     let next = next_of at old job tx stands is alone in
     let tx' : TxView = record tx { phase = Committing } in
@@ -159,6 +208,7 @@ commit_row s at old new job tx (turn.Ended end) stands is h alone = absurd h
 
 -- a job goes on after an abort, or starves
 back_goes : (job : JobView) (tx : TxView) (c : Cause) → (behind_abort job tx c).doing ≡ Ended job_end.JournalFull → ⊥
+back_goes job tx (cause.Stuck failed) e = cc
 back_goes job tx cause.Asked e = cc
 back_goes job tx cause.NoMemory e = cc
 back_goes job tx (cause.Conflict object holder at) e = cc
@@ -189,6 +239,8 @@ active_row : (s : Setting) (at : ℕ) (old new : Moment) (job : JobView) (tx : T
 active_row s at old new job tx Running answer stands is phase h alone =
     marked_row s at old new job tx (old.marks tx.number) answer stands is refl h alone
 active_row s at old new job tx Committing answer stands is phase h alone = commit_row s at old new job tx answer stands is h alone
+active_row s at old new job tx Backing answer stands is phase h alone =
+    back_marked_row s at old new job tx (old.marks tx.number) answer stands is refl h alone
 active_row s at old new job tx (Undoing c) answer stands is phase h alone = undoing_row s at old new job tx c answer stands is phase h alone
 
 starved_row : (s : Setting) (at : ℕ) (old new : Moment) (job : JobView) (answer : Turn) → slice_get old.jobs at ≡ Some job

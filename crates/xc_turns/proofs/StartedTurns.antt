@@ -3,6 +3,8 @@ use Rattle.std.proofs.Common.{◌≡◌, ◌≢◌, ℕ, ◌+◌, ◌≤◌, Boo
 use Rattle.std.proofs.Common.{subst, arith, append-nil, inl, inr, append_assoc, length-append}
 use Rattle.std.specs.Prelude.{Contains, flat_map, slice_get, slice_set, sum_by}
 use Rattle.std.specs.List.{list_any}
+use Rattle.std.specs.Prelude.{nat_lt, ◌||◌}
+use Rattle.std.proofs.lemmas.List.Folds.{list_any-append}
 use Rattle.std.proofs.lemmas.List.{length-map, map-append}
 use Rattle.std.proofs.lemmas.List.Concat.{length-flat_map}
 use mathlib.Core.Logic.{dite}
@@ -27,7 +29,7 @@ use Rattle.xc_script.specs.declared.ask.Ask.TheVariants as ask
 use Rattle.xc_script.specs.Position.{Position}
 use Rattle.xc_data.specs.declared.entry.Mark.{Mark}
 use Rattle.xc_model.specs.declared.phase.Phase.{Phase}
-use Rattle.xc_model.specs.declared.phase.Phase.TheVariants.{Running, Committing, Undoing}
+use Rattle.xc_model.specs.declared.phase.Phase.TheVariants.{Running, Committing, Undoing, Backing}
 use Rattle.xc_model.specs.Setting.{Setting}
 use Rattle.xc_model.specs.LateCalls.{started_late, started_with}
 use Rattle.xc_model.specs.Stories.{StoriesHold, IsInPhase, IsRunning}
@@ -35,7 +37,11 @@ use Rattle.xc_model.specs.Holding.{AreApart}
 use Rattle.xc_model.specs.Moment.{TxView, JobView, Doing, Idle, Active, Starved, Ended, Moment, active_in, active_of, actives, late_left, waiting}
 use Rattle.xc_model.specs.Started.{AreStarted, blocks, is_start, keeps_start, started_by, starting}
 use Rattle.xc_model.specs.Movers.{IsActiveAt, with_tx}
-use Rattle.xc_model.specs.RunningRows.{Calls, HoldsWanting}
+use Rattle.xc_model.specs.RunningRows.{Calls, CalledTurn, HoldsWanting}
+use Rattle.xc_model.specs.BackingRows.{BackingRow, OpenRow, MarkedBack, backed}
+use Rattle.xc_model.specs.Moment.{SavedView}
+use Rattle.xc_model.specs.Stories.{IsBacking}
+use Rattle.xc_data.specs.declared.call.Call.TheVariants as call
 use Rattle.xc_model.specs.CommittingRows.{EndsLate, IsStart, LateTurn, NextLate}
 use Rattle.xc_model.specs.PlainSteps.{noting, claims_at}
 use Rattle.xc_model.specs.IdleRows.{beginning_job}
@@ -75,6 +81,7 @@ one_more (d ∷ late) (x ∷ ends) c rest e left =
 -- ---- a turn
 -- a job after an abort has its block
 abort_block : (job : JobView) (tx : TxView) (c : Cause) → (behind_abort job tx c).block ≡ job.block
+abort_block job tx (cause.Stuck failed) = refl
 abort_block job tx cause.Asked = refl
 abort_block job tx cause.NoMemory = refl
 abort_block job tx (cause.Conflict object holder at) = refl
@@ -194,10 +201,16 @@ module _ (s : Setting) (at : ℕ) (old : Moment) (job : JobView) (new : Moment) 
         still_started (with_tx job row.place tx') (ap (λ (n : Moment). n.jobs) row.behind) (ap (λ (n : Moment). n.started) row.behind) refl
         (no_ends tx' none ∙ sym (no_ends tx none) ∙ mine) (λ t has. one_holds tx' t has (noted_holds tx call row.reply (length old.words) holds_here))
 
-    by_ask : tx.phase ≡ Running → (a : Ask) → AskedTurn (mover s at old job) tx a new → AreStarted new
-    by_ask runs (ask.Call call) (inl row) = call_started call runs row
-    by_ask runs (ask.Call call) (inr row) =
+    by_call : tx.phase ≡ Running → (c : Call) → CalledTurn (mover s at old job) tx c new → AreStarted new
+    by_call runs call.Back row =
+        goes row.place (record tx { phase = Backing }) refl refl (λ o. o) (ap (λ (n : Moment). n.jobs) row.behind)
+        (ap (λ (n : Moment). n.started) row.behind)
+    by_call runs c (inl row) = call_started c runs row
+    by_call runs c (inr row) =
         goes row.place _ refl refl (λ o. o) (ap (λ (n : Moment). n.jobs) row.behind) (ap (λ (n : Moment). n.started) row.behind)
+
+    by_ask : tx.phase ≡ Running → (a : Ask) → AskedTurn (mover s at old job) tx a new → AreStarted new
+    by_ask runs (ask.Call c) row = by_call runs c row
     by_ask runs ask.Commit row =
         goes row.place (record tx { phase = Committing }) refl refl (λ o. o) (ap (λ (n : Moment). n.jobs) row.behind)
         (ap (λ (n : Moment). n.started) row.behind)
@@ -337,9 +350,39 @@ module _ (s : Setting) (at : ℕ) (old : Moment) (job : JobView) (new : Moment) 
     by_undoing c undoes (turn.Busy object holder) row = absurd row
     by_undoing c undoes (turn.Ended end) row = absurd row
 
+    -- ---- one whose block goes back
+    backs_none : tx.phase ≡ Backing → tx.ends ≡ []
+    backs_none backs =
+        let phase = in_phase s at old job tx stands is told in
+        let backing : IsBacking s phase.0 job.place tx = subst (IsInPhase s phase.0 job.place tx) backs phase.1 in
+        backing.no_ends
+
+    by_one : tx.phase ≡ Backing → (kept : SavedView) (b : Bool) → BackingRow (mover s at old job) tx kept b new → AreStarted new
+    by_one backs kept true row =
+        goes job.place _ refl refl (λ o. o) (ap (λ (n : Moment). n.jobs) row.behind) (ap (λ (n : Moment). n.started) row.behind)
+    by_one backs kept false row =
+        let tx' = backed tx kept in
+        let none = backs_none backs in
+        still_started (with_tx job row.place tx') (ap (λ (n : Moment). n.jobs) row.behind) (ap (λ (n : Moment). n.started) row.behind) refl
+        (no_ends tx' none ∙ sym (no_ends tx none) ∙ mine)
+        (λ t has. one_holds tx' t has (λ keeps. holds_here (ap (list_any is_start) row.cut ∙ list_any-append is_start kept.late row.more
+        ∙ ap (λ b. b || list_any is_start row.more) keeps)))
+
+    by_open : tx.phase ≡ Backing → (k : Option SavedView) → OpenRow (mover s at old job) tx k new → AreStarted new
+    by_open backs None row = absurd row
+    by_open backs (Some kept) row = by_one backs kept (nat_lt (length kept.trail) (length tx.undo.pending)) row
+
+    by_back_mark : tx.phase ≡ Backing → (m : Option Mark) (answer : Turn) → MarkedBack (mover s at old job) tx m answer new → AreStarted new
+    by_back_mark backs None turn.Went row = by_open backs tx.saved row
+    by_back_mark backs None _ row = absurd row
+    by_back_mark backs (Some m) turn.Went row =
+        goes job.place _ refl refl (λ o. o) (ap (λ (n : Moment). n.jobs) row) (ap (λ (n : Moment). n.started) row)
+    by_back_mark backs (Some m) _ row = absurd row
+
     by_phase : (p : Phase) → tx.phase ≡ p → (answer : Turn) → ActiveTurn (mover s at old job) tx p answer new → AreStarted new
     by_phase Running e answer row = by_mark e (old.marks tx.number) answer row
     by_phase Committing e answer row = by_committing answer row
+    by_phase Backing e answer row = by_back_mark e (old.marks tx.number) answer row
     by_phase (Undoing c) e answer row = by_undoing c e answer row
 
   by_doing : (d : Doing) → job.doing ≡ d → (answer : Turn) → TurnOf (mover s at old job) d answer new → AreStarted new

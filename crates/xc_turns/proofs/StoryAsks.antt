@@ -3,30 +3,29 @@ use Rattle.std.proofs.Common.{◌≡◌, List, [], ◌∷◌, ◌++◌, length, 
 use Rattle.xc_data.specs.declared.call.Call.{Call}
 use Rattle.xc_data.specs.declared.call.Reply.{Reply}
 use Rattle.xc_script.specs.declared.ask.Ask.TheVariants as ask
-use Rattle.xc_script.specs.Walks.{Walk}
+use Rattle.xc_script.specs.Blocks.{BlockWalk, replied, all_replied}
 use Rattle.xc_script.specs.Asking.{asks}
-use Rattle.xc_script.specs.Answers.{answered, all_answered}
 use Rattle.xc_model.specs.InTime.{AreInTime, RepliesInTime}
 use Rattle.xc_model.specs.Truth.{AsksEach}
 
 -- one more reply is answered last
-pub answered-more : (walk : Walk) (replies : List Reply) (r : Reply) → all_answered walk (replies ++ r ∷ []) ≡ answered (all_answered walk replies) r
+pub answered-more : (walk : BlockWalk) (replies : List Reply) (r : Reply) → all_replied walk (replies ++ r ∷ []) ≡ replied (all_replied walk replies) r
 answered-more walk [] r = refl
-answered-more walk (q ∷ replies) r = answered-more (answered walk q) replies r
+answered-more walk (q ∷ replies) r = answered-more (replied walk q) replies r
 
 -- the calls are the script's with one more, where the script asks it
-pub asks-more : (walk : Walk) (calls : List Call) (replies : List Reply) (c : Call) (r : Reply) → AsksEach walk calls replies
-    → asks (all_answered walk replies) ≡ ask.Call c → AsksEach walk (calls ++ c ∷ []) (replies ++ r ∷ [])
+pub asks-more : (walk : BlockWalk) (calls : List Call) (replies : List Reply) (c : Call) (r : Reply) → AsksEach walk calls replies
+    → asks (all_replied walk replies).walk ≡ ask.Call c → AsksEach walk (calls ++ c ∷ []) (replies ++ r ∷ [])
 asks-more walk [] [] c r h e = (e, refl)
 asks-more walk [] (q ∷ replies) c r h e = cc
 asks-more walk (d ∷ calls) [] c r h e = absurd h
-asks-more walk (d ∷ calls) (q ∷ replies) c r h e = (h.0, asks-more (answered walk q) calls replies c r h.1 e)
+asks-more walk (d ∷ calls) (q ∷ replies) c r h e = (h.0, asks-more (replied walk q) calls replies c r h.1 e)
 
 -- each call has its reply
-pub asks-count : (walk : Walk) (calls : List Call) (replies : List Reply) → AsksEach walk calls replies → length calls ≡ length replies
+pub asks-count : (walk : BlockWalk) (calls : List Call) (replies : List Reply) → AsksEach walk calls replies → length calls ≡ length replies
 asks-count walk [] replies h = ap length (sym h)
 asks-count walk (d ∷ calls) [] h = absurd h
-asks-count walk (d ∷ calls) (q ∷ replies) h = ap suc (asks-count (answered walk q) calls replies h.1)
+asks-count walk (d ∷ calls) (q ∷ replies) h = ap suc (asks-count (replied walk q) calls replies h.1)
 
 -- one call more replies in time too
 pub in_time-more : (calls : List Call) (replies : List Reply) (c : Call) (r : Reply) → RepliesInTime c r → AreInTime calls replies

@@ -10,9 +10,9 @@ use Rattle.xc_data.specs.Private.{IsSided}
 use Rattle.xc_world.specs.World.{beginning}
 use Rattle.xc_script.specs.Ask.{Job}
 use Rattle.xc_script.specs.Values.{Variables}
-use Rattle.xc_script.specs.Walks.{Walk}
 use Rattle.xc_script.specs.Position.{at_begin}
-use Rattle.xc_script.specs.Slots.{kept_of, with_ends}
+use Rattle.xc_script.specs.Slots.{with_ends}
+use Rattle.xc_script.specs.Blocks.{BlockWalk, kept_calls}
 use Rattle.xc_model.specs.declared.phase.Attempts.{Attempts}
 use Rattle.xc_model.specs.declared.phase.Phase.TheVariants.{Committing}
 use Rattle.xc_model.specs.Setting.{Setting}
@@ -82,10 +82,10 @@ committed_told s begun entered led f job tx active commits count told =
     let under : IsUnderway s f job.place tx = subst (IsDoing s begun f job) active told.doing in
     let committing : IsCommitting s f job.place tx = subst (IsInPhase s f job.place tx) commits under.phase in
     let g = gone_on s.script led f tx in
-    let ended : Variables → Variables = λ v. with_ends v (kept_of tx.calls tx.replies) tx.ends in
+    let ended : Variables → Variables = λ v. with_ends v (kept_calls tx.calls tx.replies) tx.ends in
     let passed_job : Job = record { block = job.place.block; next = job.place.next + 1; variables = ended job.place.variables } in
     let same : passed_job ≡ g.job = same_job passed_job g.job under.standing.block (ap (λ n. n + 1) under.standing.next)
-    (ap ended (committing.settled.variables ∙ ap (λ (w : Walk). w.variables) committing.ahead)) in
+    (ap ended (committing.settled.variables ∙ ap (λ (b : BlockWalk). b.walk.variables) committing.ahead)) in
     record {
       block = told.block;
       fresh = refl;
@@ -191,6 +191,8 @@ tried_told s begun entered led f job tx c count under told =
 aborted_under : (s : Setting) (begun entered led at : ℕ) (f : Following) (job : JobView) (tx : TxView) (c : Cause) → led ≡ entered
     → IsUnderway s f job.place tx → StoryHolds s begun entered f job
     → StoryHolds s begun (entered + 1) (following_abort led f (entry_of tx at (aborted_by c tx)) c) (behind_abort job tx c)
+aborted_under s begun entered led at f job tx (cause.Stuck failed) count under told =
+    asked_told s begun entered led f job tx (entry_of tx at (aborted_by (cause.Stuck failed) tx)) count under told
 aborted_under s begun entered led at f job tx cause.Asked count under told =
     asked_told s begun entered led f job tx (entry_of tx at (aborted_by cause.Asked tx)) count under told
 aborted_under s begun entered led at f job tx cause.NoMemory count under told =

@@ -14,7 +14,7 @@ use Rattle.xc_text.specs.declared.script.Script.{Script}
 use Rattle.xc_script.specs.declared.ask.Ask.{Ask}
 use Rattle.xc_script.specs.Asking.{asks}
 use Rattle.xc_script.specs.Position.{Position}
-use Rattle.xc_script.specs.Slots.{kept_of}
+use Rattle.xc_script.specs.Blocks.{BlockWalk, kept_calls}
 use Rattle.xc_world.specs.Ends.{AreLegal, Ending}
 use Rattle.xc_world.specs.Run.{BodyResult, late_asked_of, lates, lates_fit}
 use Rattle.xc_model.specs.declared.phase.Phase.{Phase}
@@ -23,12 +23,13 @@ use Rattle.xc_model.specs.Setting.{Setting}
 use Rattle.xc_model.specs.WordCalls.{AreWordReplies}
 use Rattle.xc_model.specs.Progress.{Following, Progress, after_entry, after_following, following_abort, following_of}
 use Rattle.xc_model.specs.Progress.{committed_job, started_job, untried}
-use Rattle.xc_model.specs.Truth.{AreRecords, IsHeldAt, IsPlayed, IsTrueEntry, is_tried_again, next_of}
+use Rattle.xc_model.specs.RecordCounts.{HasRecords, IsStuckIn, all_records, no_records}
+use Rattle.xc_model.specs.Truth.{AreRecords, IsHeldAt, IsPlayed, IsReport, IsTrueEntry, is_tried_again, next_of}
 use Rattle.xc_model.specs.Moment.{TxView, late_left}
 use Rattle.xc_model.specs.LateCalls.{started_late}
 use Rattle.xc_data.specs.Calls.{thread_asked, thread_in}
 use Rattle.xc_model.specs.Entering.{entry_of}
-use Rattle.xc_model.specs.Stories.{IsCommitting, IsInPhase, IsUndoing, IsUnderway, asked_of_tx}
+use Rattle.xc_model.specs.Stories.{HasRecordsIn, IsCommitting, IsInPhase, IsUndoing, IsUnderway, asked_of_tx}
 use Rattle.xc_model.specs.Played.{HoldsFor, IsPlayedSoFar, RecordsFor, ran_behind}
 use Rattle.xc_model.proofs.StartedCalls.{started_same}
 use Rattle.xc_turns.proofs.LateCounts.{as_many, left_none, take_all}
@@ -79,7 +80,11 @@ commit_true s words p f at place tx got commits none under began said played =
           rank = under.rank;
           failures = let lt = under.attempts in omega arith;
           calls = under.asked;
-          asked = (ap asks (sym committing.ahead) ∙ committing.asked, all ∙ as_many tx.late (kept_of tx.calls tx.replies) under.kept);
+          asked = (
+            ap (λ (b : BlockWalk). asks b.walk) (sym committing.ahead) ∙ committing.asked,
+            all ∙ as_many tx.late (kept_calls tx.calls tx.replies) under.kept.0,
+          );
+          faults = under.faults;
         };
         words = said;
         in_time = under.in_time;
@@ -98,7 +103,7 @@ started_on script entered f tx =
 
 -- it goes on in its place after a commit, and those that it started stand after
 pub commit_leads : (script : Script) (p : Progress) (f : Following) (at : ℕ) (tx : TxView) → slice_get p.jobs at ≡ Some f
-    → map thread_in tx.late ≡ map thread_asked (kept_of tx.calls tx.replies)
+    → map thread_in tx.late ≡ map thread_asked (kept_calls tx.calls tx.replies)
     → (after_entry script p (entry_of tx at (Committed tx.ends))).jobs
     ≡ slice_set p.jobs at (gone_on script p.entered f tx) ++ started_on script p.entered f tx
 commit_leads script p f at tx got kept =
@@ -106,7 +111,7 @@ commit_leads script p f at tx got kept =
     let g = gone_on script p.entered f tx in
     let more = started_job script (committed_job script f.job tx.calls tx.replies tx.ends) (p.entered + 1) in
     ap (λ o. (after_following script p e o).jobs) (entry_following p at tx (Committed tx.ends) f got)
-    ∙ ap (λ bs. slice_set p.jobs (at + 1 - 1) g ++ map more bs) (sym (started_same tx.late (kept_of tx.calls tx.replies) tx.ends kept))
+    ∙ ap (λ bs. slice_set p.jobs (at + 1 - 1) g ++ map more bs) (sym (started_same tx.late (kept_calls tx.calls tx.replies) tx.ends kept))
     ∙ ap (λ i. slice_set p.jobs i g ++ started_on script p.entered f tx) (place_of_number at)
 
 -- ---- an abort
@@ -115,6 +120,7 @@ abbrev pub aborted_by : Cause → TxView → Outcome
 aborted_by c tx = Aborted (record { cause = c; records = tx.undo.ended })
 
 held_back : (ran : BodyResult) (next : Ask) (c : Cause) (held : List Claim) → HoldsFor ran next (Undoing c) held → IsHeldAt ran next c held
+held_back ran next (cause.Stuck failed) held h = h
 held_back ran next cause.Asked held h = h
 held_back ran next (cause.Conflict object holder at) held h = h
 held_back ran next (cause.Revoked object by at) held h = h
@@ -122,6 +128,7 @@ held_back ran next cause.NoMemory held h = h
 
 records_back : (ran : BodyResult) (tx : ℕ) (next : Ask) (c : Cause) (records : List Undo) → RecordsFor ran tx next (Undoing c) records
     → AreRecords ran tx next c records
+records_back ran tx next (cause.Stuck failed) records h = h
 records_back ran tx next cause.Asked records h = h
 records_back ran tx next (cause.Conflict object holder at) records h = h
 records_back ran tx next (cause.Revoked object by at) records h = h
@@ -149,6 +156,20 @@ few_tried : (b : Bool) (n m : ℕ) → n < m → (if b then n + 1 else n) ≤ m
 few_tried true n m lt = omega arith
 few_tried false n m lt = omega arith
 
+-- its report has the records of its calls, with their ends
+report_so : (s : Setting) (f : Following) (place : Position) (tx : TxView) (c : Cause) → tx.phase ≡ Undoing c → tx.undo.pending ≡ []
+    → IsUnderway s f place tx → IsUndoing s f tx c
+    → IsReport s.rules.undo_tries (all_records no_records tx.calls tx.replies) (record { cause = c; records = tx.undo.ended })
+report_so s f place tx c undoes none under undoing =
+    let k = all_records no_records tx.calls tx.replies in
+    let count = subst (λ (ph : Phase). HasRecordsIn k ph (length tx.undo.pending + length tx.undo.ended)) undoes under.counted.now in
+    let all : length tx.undo.pending + length tx.undo.ended ≡ length tx.undo.ended = omega (arith, ap length none) in
+    record {
+      count = subst (HasRecords k c) all count;
+      legal = subst (λ (us : List Undo). AreLegal s.rules.undo_tries (length us + 1) tx.undo.ended) none undoing.legal;
+      stuck = subst (λ (us : List Undo). IsStuckIn k (length us + 1) tx.undo.ended c) none undoing.stuck;
+    }
+
 -- the entry of an abort is true after a true journal
 pub abort_true : (s : Setting) (words : ℕ) (p : Progress) (f : Following) (at : ℕ) (place : Position) (tx : TxView) (c : Cause) → slice_get p.jobs at ≡ Some f
     → tx.phase ≡ Undoing c → tx.undo.pending ≡ [] → IsUnderway s f place tx → tx.began ≤ p.entered → AreWordReplies p.words tx.calls tx.replies
@@ -168,7 +189,8 @@ abort_true s words p f at place tx c got undoes none under began said played =
           rank = under.rank;
           failures = few_tried (is_tried_again c) (length f.failed) s.rules.attempts under.attempts;
           calls = under.asked;
-          asked = (undoing.caused, subst (λ (us : List Undo). AreLegal s.rules.undo_tries (length us + 1) tx.undo.ended) none undoing.legal);
+          asked = (undoing.caused, report_so s f place tx c undoes none under undoing);
+          faults = under.faults;
         };
         words = said;
         in_time = under.in_time;

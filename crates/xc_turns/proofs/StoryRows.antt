@@ -1,12 +1,13 @@
 -- Each row of the table that enters nothing goes on with its job's story.
 use Rattle.std.proofs.Common.{◌≡◌, ℕ, ◌+◌, ◌<◌, ◌≤◌, false, List, [], ◌∷◌, ◌++◌, length, refl, ap, sym, ◌∙◌, subst, arith, length-append}
-use Rattle.std.specs.Prelude.{All, IsSome, Option, unwrap_or}
+use Rattle.std.specs.Prelude.{All, IsSome, Option, is_some, unwrap_or}
 use Rattle.std.specs.declared.option.Option.TheVariants.{None, Some}
 use Rattle.xc_data.specs.declared.call.Call.{Call}
 use Rattle.xc_data.specs.declared.call.LateEnd.{LateEnd}
 use Rattle.xc_data.specs.declared.call.Reply.{Reply}
 use Rattle.xc_data.specs.declared.claim.Claim.{Claim}
 use Rattle.xc_data.specs.declared.entry.Cause.{Cause}
+use Rattle.xc_data.specs.declared.entry.Cause.TheVariants as cause
 use Rattle.xc_data.specs.declared.entry.JobEnd.{JobEnd}
 use Rattle.xc_data.specs.declared.entry.JobEnd.TheVariants as job_end
 use Rattle.xc_data.specs.Private.{IsSided}
@@ -15,30 +16,44 @@ use Rattle.xc_data.specs.declared.undo.Undo.{Undo}
 use Rattle.xc_data.specs.declared.undo.UndoEnd.{UndoEnd}
 use Rattle.xc_compensate.specs.Records.{Records, way_of}
 use Rattle.xc_script.specs.declared.ask.Ask.TheVariants as ask
-use Rattle.xc_script.specs.Walks.{Walk}
-use Rattle.xc_script.specs.Answers.{answered, all_answered}
+use Rattle.xc_script.specs.Answers.{answered}
+use Rattle.xc_script.specs.Blocks.{BlockWalk, replied, all_replied, after_ask, after_call, block_from, none_kept, all_kept}
 use Rattle.xc_script.specs.Asking.{asks}
-use Rattle.xc_script.specs.Ask.{walk_from}
 use Rattle.xc_script.specs.Position.{Position, at_begin, walk_of, IsPastSilent}
-use Rattle.xc_world.specs.After.{IsMeAfter}
-use Rattle.xc_world.specs.World.{World, beginning}
-use Rattle.xc_world.specs.Ends.{AreLegal, IsLegalEnd}
+use Rattle.xc_world.specs.World.{beginning}
+use Rattle.xc_world.specs.Ends.{Ending, AreLegal, IsLegalEnd, is_undone}
+use Rattle.xc_world.specs.Fits.{is_back}
+use Rattle.xc_data.specs.declared.call.Call.TheVariants as call
+use Rattle.xc_data.specs.declared.call.Reply.TheVariants as reply
+use Rattle.xc_data.specs.declared.undo.UndoEnd.TheVariants.{Undone, Failed, Blocked}
+use Rattle.xc_data.specs.Faults.{undo_faults}
+use Rattle.std.specs.Prelude.{sum_by, true}
+use Rattle.std.proofs.lemmas.List.Elements.{All-nil, All-cons}
+use Rattle.xc_model.specs.BackingRows.{phase_after, backed, EndsBack}
+use Rattle.xc_model.specs.RunningRows.{Calls, values_at}
+use Rattle.xc_model.specs.RecordCounts.{RecordCount, no_records, all_records, records_with, record_count, HasRecords, IsStuckIn}
+use Rattle.xc_turns.proofs.BlockRecords.{records-more, faults-more, no_faults, records_now, records_saved, open_alike}
+use Rattle.xc_turns.proofs.BlockRecords.{counted_block, of_block, few_in_block, none_blocks}
+use Rattle.xc_turns.proofs.CallRecords.{recorded_count}
+use Rattle.xc_host.specs.Contents.{world_of}
+use Rattle.xc_data.specs.declared.entry.Mark.{Mark}
 use Rattle.xc_model.specs.declared.phase.Attempts.{Attempts}
-use Rattle.xc_model.specs.declared.phase.Phase.TheVariants.{Running, Committing, Undoing}
+use Rattle.xc_model.specs.declared.phase.Phase.{Phase}
+use Rattle.xc_model.specs.declared.phase.Phase.TheVariants.{Running, Committing, Undoing, Backing}
 use Rattle.xc_model.specs.Setting.{Setting}
 use Rattle.xc_model.specs.Progress.{Following}
 use Rattle.xc_model.specs.Truth.{IsCauseOf, next_of}
 use Rattle.xc_model.specs.Ending.{IsEnd}
-use Rattle.xc_model.specs.Moment.{TxView, JobView, Doing, Idle, Active, Starved, Ended, Moment, begun_count, failures, rank_of, waiting}
+use Rattle.xc_model.specs.Moment.{TxView, SavedView, JobView, Doing, Idle, Active, Starved, Ended, Moment, begun_count, failures, rank_of, revoked, waiting}
 use Rattle.xc_model.specs.IdleRows.{IsEnding, IsReady, IsSpent, beginning_job}
-use Rattle.xc_model.specs.PlainSteps.{IsReplyInTime, Parts}
-use Rattle.xc_model.specs.Movers.{IsSameBegin, IsSamePosition, asked_at, body_at}
+use Rattle.xc_model.specs.Movers.{IsSameBegin, IsSamePosition, Mover, asked_at, body_at}
 use Rattle.xc_model.specs.IdleRows.{new_tx}
-use Rattle.xc_model.specs.PlainSteps.{noting}
+use Rattle.xc_model.specs.PlainSteps.{claims_at, noting, noting_plain, copied, saved_by}
 use Rattle.xc_model.specs.Movers.{with_tx}
+use Rattle.xc_model.specs.Stories.{AreKeptSo, HasRecordsIn, IsCounted, IsCountedSave, IsAboveSave, IsWithinSave, IsSidedSave, IsBacking}
 use Rattle.xc_model.specs.Stories.{AreAttempts, IsDoing, IsInPhase, IsCommitting, StoryHolds, IsRunning, IsInNextTx, IsUndoing, IsUnderway}
 use Rattle.xc_turns.proofs.StoryAsks.{answered-more, asks-more, asks-count, in_time-more}
-use Rattle.xc_turns.proofs.LateCounts.{late-more}
+use Rattle.xc_turns.proofs.LateCounts.{late-more, back-more}
 use Rattle.xc_turns.proofs.Sided.{sided_after}
 
 -- ---- an idle job
@@ -105,6 +120,18 @@ waiting_told s begun entered f job told =
     waiting_doing Starved h = h
     waiting_doing (Ended end) h = h
 
+-- where a job stands on its way, and what its open block keeps
+abbrev stands_at : Setting → Position → BlockWalk
+stands_at s place = record { walk = walk_of s.script place; saved = place.saved }
+
+-- how many records a transaction has by its calls and replies
+abbrev count_of : TxView → RecordCount
+count_of tx = all_records no_records tx.calls tx.replies
+
+-- how many it has
+abbrev all_of : TxView → ℕ
+all_of tx = length tx.undo.pending + length tx.undo.ended
+
 -- a transaction that begins
 begun_underway : (s : Setting) (now : Moment) (f : Following) (job : JobView) → IsReady s now job → AreAttempts f job.attempts
     → f.starved ≡ false → job.place ≡ at_begin f.job → f.since ≤ length now.journal → job.me ≡ beginning job.me.places → All IsSided job.me.places
@@ -124,11 +151,20 @@ begun_underway s now f job ready are goes place since fresh sided =
         begun = ap (λ (p : Position). p.variables) place;
       };
       asked = refl;
-      kept = refl;
+      kept = (refl, tt);
       in_time = refl;
       stored = omega arith;
       sided = sided;
-      phase = record { ahead = ap (λ (p : Position). walk_of s.script (record p { begun = p.variables })) place; none = refl; no_ends = refl };
+      saved_sided = tt;
+      together = ap (λ (p : Position). is_some p.saved) place;
+      counted = record { now = refl; saved = tt };
+      faults = tt;
+      phase = record {
+        ahead = ap (λ (p : Position). stands_at s (record p { begun = p.variables })) place;
+        none = refl;
+        no_ends = refl;
+        within = tt;
+      };
     }
 
 -- an idle job whose next transaction begins
@@ -171,21 +207,81 @@ same_next_tx f old new same stands =
 pub running_phase : (s : Setting) (f : Following) (place : Position) (tx : TxView) → tx.phase ≡ Running → IsUnderway s f place tx → IsRunning s f place tx
 running_phase s f place tx runs under = subst (IsInPhase s f place tx) runs under.phase
 
+-- its records, by its phase
+records_in : (s : Setting) (f : Following) (place : Position) (tx : TxView) (ph : Phase) → tx.phase ≡ ph → IsUnderway s f place tx
+    → HasRecordsIn (count_of tx) ph (all_of tx)
+records_in s f place tx ph is under = subst (λ p. HasRecordsIn (count_of tx) p (all_of tx)) is under.counted.now
+
+-- past silent statements it stands on the same way
+same_way : (s : Setting) (old new : Position) → IsSamePosition s old new → stands_at s new ≡ stands_at s old
+same_way s old new same = λ i. record { walk = same.walk i; saved = same.saved i }
+
+-- ---- after a call
+-- where it doesn't go back, the walk is answered, and the block is opened or closed
+after_noted : (c : Call) (b : BlockWalk) (reply : Reply) → is_back c ≡ false
+    → record { walk = answered b.walk reply; saved = saved_by c b.saved b.walk.variables.values } ≡ after_call b c reply
+after_noted call.Save b reply ahead = refl
+after_noted call.Keep b reply ahead = refl
+after_noted call.Back b reply ahead = cc ahead
+after_noted _ b reply ahead = refl
+
+-- what it leaves of the handles at the save
+noted_sided : (c : Call) (saved : Option SavedView) (copy : SavedView) → All IsSided copy.places → IsSidedSave saved → IsSidedSave (saved_by c saved copy)
+noted_sided call.Save saved copy sided was = sided
+noted_sided call.Keep saved copy sided was = tt
+noted_sided call.Back saved copy sided was = tt
+noted_sided _ saved copy sided was = was
+
+grown : (saved : Option SavedView) (pending made : List Undo) → IsWithinSave saved pending → IsWithinSave saved (pending ++ made)
+grown None pending made was = tt
+grown (Some kept) pending made was = omega (arith, was, length-append pending made)
+
+-- and of the records
+noted_within : (c : Call) (saved : Option SavedView) (copy : SavedView) (pending made : List Undo) → copy.trail ≡ pending ++ made → IsWithinSave saved pending
+    → IsWithinSave (saved_by c saved copy) (pending ++ made)
+noted_within call.Save saved copy pending made is was = omega (arith, ap length is)
+noted_within call.Keep saved copy pending made is was = tt
+noted_within call.Back saved copy pending made is was = tt
+noted_within _ saved copy pending made is was = grown saved pending made was
+
 -- after a call
-pub called_underway : (w : World) (s : Setting) (f : Following) (old new : Position) (tx : TxView) (call : Call) (reply : Reply) (claims : List Claim)
-    (parts : Parts) (made : List Undo)
-    → tx.phase ≡ Running → asks (walk_of s.script old) ≡ ask.Call call → IsSameBegin old new → walk_of s.script new ≡ answered (walk_of s.script old) reply
-    → IsReplyInTime tx.me tx.number call reply → parts.undo ≡ record tx.undo { pending = tx.undo.pending ++ made }
-    → parts.me.stored ≤ 16384 → IsMeAfter tx.number call reply tx.me parts.me → IsUnderway s f old tx
-    → IsUnderway s f new (noting tx call reply claims parts)
-called_underway w s f old new tx call reply claims parts made runs asked same behind in_time undo stored after under =
-    let running = running_phase s f old tx runs under in
-    let begin = walk_from s.script f.job in
-    let is : asks (all_answered begin tx.replies) ≡ ask.Call call = ap asks (sym running.ahead) ∙ asked in
-    let phase : IsRunning s f new (noting tx call reply claims parts) = record {
-      ahead = behind ∙ ap (λ (w : Walk). answered w reply) running.ahead ∙ sym (answered-more begin tx.replies reply);
-      none = ap (λ u. u.ended) undo ∙ running.none;
+pub called_underway : (m : Mover) (f : Following) (tx : TxView) (call : Call) (now : Moment) → is_back call ≡ false → tx.phase ≡ Running
+    → asked_at m.setting m.job.place ≡ ask.Call call → (row : Calls m tx call now) → IsUnderway m.setting f m.job.place tx
+    → IsUnderway m.setting f row.place (noting tx call row.reply (claims_at m.old tx call) row.parts)
+called_underway m f tx call now ahead runs asked row under =
+    let s = m.setting in
+    let running = running_phase s f m.job.place tx runs under in
+    let begin = block_from s.script f.job in
+    let claims = claims_at m.old tx call in
+    let next = noting tx call row.reply claims row.parts in
+    let copy = copied (noting_plain tx call row.reply claims row.parts) in
+    let was = stands_at s m.job.place in
+    let is : asks (all_replied begin tx.replies).walk ≡ ask.Call call = ap (λ (b : BlockWalk). asks b.walk) (sym running.ahead) ∙ asked in
+    let count = asks-count begin tx.calls tx.replies under.asked in
+    let pending : row.parts.undo.pending ≡ tx.undo.pending ++ row.made = ap (λ (u : Records). u.pending) row.undo in
+    let answers : after_call was call row.reply ≡ replied was row.reply = ap (λ a. after_ask was a row.reply) (sym asked) in
+    let stepped : stands_at s row.place ≡ after_call was call row.reply =
+    (λ i. record { walk = row.walk i; saved = row.saved i }) ∙ after_noted call was row.reply ahead in
+    let w = world_of m.old.contents in
+    let phase : IsRunning s f row.place next = record {
+      ahead = stepped ∙ answers ∙ ap (λ (b : BlockWalk). replied b row.reply) running.ahead ∙ sym (answered-more begin tx.replies row.reply);
+      none = ap (λ u. u.ended) row.undo ∙ running.none;
       no_ends = running.no_ends;
+      within = subst (IsWithinSave next.saved) (sym pending) (noted_within call tx.saved copy tx.undo.pending row.made pending running.within);
+    } in
+    let sided = sided_after tx.number call tx.me row.reply row.parts.me.places row.after.places under.sided in
+    let k = count_of tx in
+    let more = records-more no_records tx.calls tx.replies call row.reply count in
+    let made : length row.made ≡ record_count call row.reply = row.count w ∙ recorded_count w tx.me tx.number call row.reply row.checked in
+    let had : all_of tx ≡ k.now = records_in s f m.job.place tx Running runs under in
+    let none : length tx.undo.ended ≡ 0 = ap length running.none in
+    let longer : length row.parts.undo.pending ≡ k.now + record_count call row.reply =
+    ap length pending ∙ length-append tx.undo.pending row.made ∙ (omega (arith, made, had, none)) in
+    let ended : length row.parts.undo.ended ≡ 0 = ap (λ (u : Records). length u.ended) row.undo ∙ none in
+    let now_count : all_of next ≡ (records_with k call row.reply).now = omega (arith, longer, ended, records_now k call row.reply ahead) in
+    let counted : IsCounted next (records_with k call row.reply) = record {
+      now = subst (λ ph. HasRecordsIn (records_with k call row.reply) ph (all_of next)) (sym runs) now_count;
+      saved = records_saved k call row.reply tx.saved copy ahead longer under.counted.saved;
     } in
     record {
       goes_on = under.goes_on;
@@ -193,22 +289,27 @@ called_underway w s f old new tx call reply claims parts made runs asked same be
       attempts = under.attempts;
       rank = under.rank;
       since = under.since;
-      standing = same_next_tx f old new same under.standing;
-      asked = asks-more begin tx.calls tx.replies call reply under.asked is;
-      kept = late-more w tx.me tx.number tx.late tx.calls tx.replies call reply in_time (asks-count begin tx.calls tx.replies under.asked) under.kept;
-      in_time = in_time-more tx.calls tx.replies call reply
-          (record { kept = λ waiting. (tx.me, tx.number, in_time.kept waiting); now = in_time.now }) under.in_time;
-      stored = stored;
-      sided = sided_after tx.number call tx.me reply parts.me.places after.places under.sided;
-      phase = subst (IsInPhase s f new (noting tx call reply claims parts)) (sym runs) phase;
+      standing = same_next_tx f m.job.place row.place row.begin under.standing;
+      asked = asks-more begin tx.calls tx.replies call row.reply under.asked is;
+      kept = late-more w tx.me tx.number tx.late tx.saved copy tx.calls tx.replies call row.reply ahead row.in_time refl count under.kept;
+      in_time = in_time-more tx.calls tx.replies call row.reply
+          (record { kept = λ waiting. (tx.me, tx.number, row.in_time.kept waiting); now = row.in_time.now }) under.in_time;
+      stored = row.stored;
+      sided = sided;
+      saved_sided = noted_sided call tx.saved copy sided under.saved_sided;
+      together = ap is_some row.saved ∙ open_alike call m.job.place.saved tx.saved (values_at m) copy under.together;
+      counted = subst (IsCounted next) (sym more) counted;
+      faults = faults-more s.rules.undo_tries no_records tx.calls tx.replies call row.reply count (no_faults s.rules.undo_tries k row.reply row.no_way_back)
+          under.faults;
+      phase = subst (IsInPhase s f row.place next) (sym runs) phase;
     }
 
--- rolling back
-pub back_underway : (s : Setting) (f : Following) (old new : Position) (tx : TxView) (c : Cause) (undo : Records) (held : List Claim)
-    → undo.ended ≡ tx.undo.ended → tx.phase ≡ Running → IsSamePosition s old new
-    → (next_of s.script f tx.replies ≡ asked_at s old → IsCauseOf c (next_of s.script f tx.replies))
-    → IsUnderway s f old tx → IsUnderway s f new (record tx { phase = Undoing c; undo = undo; held = held })
-back_underway s f old new tx c undo held ended runs same caused under =
+-- ---- a block goes back
+-- its way back begins
+pub begins_back_underway : (s : Setting) (f : Following) (old new : Position) (tx : TxView) → tx.phase ≡ Running → IsSamePosition s old new
+    → IsPastSilent s.script new → asked_at s old ≡ ask.Call call.Back → IsSome tx.saved
+    → IsUnderway s f old tx → IsUnderway s f new (record tx { phase = Backing })
+begins_back_underway s f old new tx runs same settled asked opened under =
     let running = running_phase s f old tx runs under in
     record {
       goes_on = under.goes_on;
@@ -222,9 +323,210 @@ back_underway s f old new tx c undo held ended runs same caused under =
       in_time = under.in_time;
       stored = under.stored;
       sided = under.sided;
+      saved_sided = under.saved_sided;
+      together = ap is_some same.saved ∙ under.together;
+      counted = record { now = records_in s f old tx Running runs under; saved = under.counted.saved };
+      faults = under.faults;
       phase = record {
-        caused = caused (ap asks (sym running.ahead));
+        ahead = same_way s old new same ∙ running.ahead;
+        asked = ap asks same.walk ∙ asked;
+        settled = settled;
+        legal = subst (λ ends. AreLegal s.rules.undo_tries (length tx.undo.pending + 1) ends) (sym running.none) tt;
+        undone = subst (All (λ e. is_undone e.1 ≡ true)) (sym running.none) (All-nil (λ (e : Ending). is_undone e.1 ≡ true));
+        no_ends = running.no_ends;
+        within = by_save tx.saved opened running.within;
+      };
+    }
+  where
+    by_save : (o : Option SavedView) → IsSome o → IsWithinSave o tx.undo.pending → IsAboveSave o tx.undo.pending
+    by_save None some was = cc some
+    by_save (Some kept) some was = was
+
+-- the phase of one whose block goes back
+pub backing_phase : (s : Setting) (f : Following) (place : Position) (tx : TxView) → tx.phase ≡ Backing → IsUnderway s f place tx → IsBacking s f place tx
+backing_phase s f place tx backing under = subst (IsInPhase s f place tx) backing under.phase
+
+-- a record of the block is tried
+pub backs_one_underway : (s : Setting) (f : Following) (place : Position) (tx : TxView) (kept : SavedView) (older : List Undo) (u : Undo) (end : UndoEnd)
+    → tx.phase ≡ Backing → tx.saved ≡ Some kept → length kept.trail < length tx.undo.pending
+    → tx.undo.pending ≡ older ++ u ∷ [] → IsLegalEnd s.rules.undo_tries u end (way_of older u tx.undo)
+    → IsUnderway s f place tx
+    → IsUnderway s f place (record tx { phase = phase_after (length older + 1) end; undo = record { pending = older; ended = (u, end) ∷ tx.undo.ended } })
+backs_one_underway s f place tx kept older u end backs is above newest legal under =
+    let backing = backing_phase s f place tx backs under in
+    let next : TxView = record tx { phase = phase_after (length older + 1) end; undo = record { pending = older; ended = (u, end) ∷ tx.undo.ended } } in
+    let count : length tx.undo.pending ≡ length older + 1 = ap length newest ∙ length-append older (u ∷ []) in
+    let all_legal : AreLegal s.rules.undo_tries (length older + 1) ((u, end) ∷ tx.undo.ended) =
+    (legal, subst (λ n. AreLegal s.rules.undo_tries (n + 1) tx.undo.ended) count backing.legal) in
+    let asked : next_of s.script f tx.replies ≡ ask.Call call.Back = ap (λ (b : BlockWalk). asks b.walk) (sym backing.ahead) ∙ backing.asked in
+    record {
+      goes_on = under.goes_on;
+      left = under.left;
+      attempts = under.attempts;
+      rank = under.rank;
+      since = under.since;
+      standing = under.standing;
+      asked = under.asked;
+      kept = under.kept;
+      in_time = under.in_time;
+      stored = under.stored;
+      sided = under.sided;
+      saved_sided = under.saved_sided;
+      together = under.together;
+      counted = record { now = counted_so end (omega (arith, count, records_in s f place tx Backing backs under)); saved = under.counted.saved };
+      faults = under.faults;
+      phase = by_end end all_legal asked backing count;
+    }
+  where
+    counted_so : (e : UndoEnd) → length older + length ((u, e) ∷ tx.undo.ended) ≡ (count_of tx).now
+        → HasRecordsIn (count_of tx) (phase_after (length older + 1) e) (length older + length ((u, e) ∷ tx.undo.ended))
+    counted_so (Undone faults) so = so
+    counted_so (Failed done faults) so = so
+    counted_so (Blocked by) so = so
+
+    saved_count : IsCountedSave (Some kept) (count_of tx).saved
+    saved_count = subst (λ o. IsCountedSave o (count_of tx).saved) is under.counted.saved
+
+    by_end : (e : UndoEnd) → AreLegal s.rules.undo_tries (length older + 1) ((u, e) ∷ tx.undo.ended) → next_of s.script f tx.replies ≡ ask.Call call.Back
+        → IsBacking s f place tx → length tx.undo.pending ≡ length older + 1
+        → IsInPhase s f place (record tx { phase = phase_after (length older + 1) e; undo = record { pending = older; ended = (u, e) ∷ tx.undo.ended } })
+        (phase_after (length older + 1) e)
+    by_end (Undone faults) all_legal asked backing count =
+        record {
+          ahead = backing.ahead;
+          asked = backing.asked;
+          settled = backing.settled;
+          legal = all_legal;
+          undone = All-cons (λ (e : Ending). is_undone e.1 ≡ true) (u, Undone faults) tx.undo.ended refl backing.undone;
+          no_ends = backing.no_ends;
+          within = subst (λ o. IsAboveSave o older) (sym is) (omega (arith, above, count));
+        }
+    -- it is the newest that failed, and of the block
+    by_end (Failed done faults) all_legal asked backing count =
+        record {
+          caused = asked;
+          legal = all_legal;
+          stuck = (
+            of_block kept (count_of tx) (length older + 1) saved_count (omega (arith, above, count)),
+            record {
+              older = [];
+              stuck = u;
+              done = done;
+              faults = faults;
+              newer = tx.undo.ended;
+              at = omega arith;
+              parts = refl;
+              undone = backing.undone;
+            },
+          );
+          no_ends = backing.no_ends;
+        }
+    -- all newer ones are undone, so none stands in its way
+    by_end (Blocked by) all_legal asked backing count =
+        let none = none_blocks (length older + 1 + 1) u tx.undo.ended backing.undone in
+        let some : None ≡ Some by = sym none ∙ all_legal.0 in
+        cc some
+
+-- its block has gone back
+pub ends_back_underway : (m : Mover) (f : Following) (tx : TxView) (kept : SavedView) (now : Moment) → tx.phase ≡ Backing → tx.saved ≡ Some kept
+    → length tx.undo.pending ≤ length kept.trail → (row : EndsBack m tx kept now) → IsUnderway m.setting f m.job.place tx
+    → IsUnderway m.setting f row.place (backed tx kept)
+ends_back_underway m f tx kept now backs is few row under =
+    let s = m.setting in
+    let tries = s.rules.undo_tries in
+    let backing = backing_phase s f m.job.place tx backs under in
+    let begin = block_from s.script f.job in
+    let reply = reply.Undone (sum_by undo_faults tx.undo.ended) in
+    let was = stands_at s m.job.place in
+    let next_is : asks (all_replied begin tx.replies).walk ≡ ask.Call call.Back = ap (λ (b : BlockWalk). asks b.walk) (sym backing.ahead) ∙ backing.asked in
+    let count = asks-count begin tx.calls tx.replies under.asked in
+    let answers : after_call was call.Back reply ≡ replied was reply = ap (λ a. after_ask was a reply) (sym backing.asked) in
+    let stepped : stands_at s row.place ≡ after_call was call.Back reply = λ i. record { walk = row.walk i; saved = row.closed i } in
+    let k = count_of tx in
+    let saved_count : IsCountedSave (Some kept) k.saved = subst (λ o. IsCountedSave o k.saved) is under.counted.saved in
+    let above : length kept.trail ≤ length tx.undo.pending = subst (λ o. IsAboveSave o tx.undo.pending) is backing.within in
+    let left : length tx.undo.pending ≡ length kept.trail = omega (arith, above, few) in
+    let all : all_of tx ≡ k.now = records_in s f m.job.place tx Backing backs under in
+    let before : unwrap_or k.saved k.now ≡ length kept.trail = ap (λ o. unwrap_or o k.now) (counted_block kept k saved_count) in
+    let counted : IsCounted (backed tx kept) (records_with k call.Back reply) = record { now = omega (arith, left, before); saved = tt } in
+    record {
+      goes_on = under.goes_on;
+      left = under.left;
+      attempts = under.attempts;
+      rank = under.rank;
+      since = under.since;
+      standing = same_next_tx f m.job.place row.place row.begin under.standing;
+      asked = asks-more begin tx.calls tx.replies call.Back reply under.asked next_is;
+      kept = back-more tx.late kept tx.calls tx.replies reply count (subst (λ o. AreKeptSo tx.late o (all_kept none_kept tx.calls tx.replies)) is under.kept);
+      in_time = in_time-more tx.calls tx.replies call.Back reply (record { kept = λ waiting. cc waiting; now = λ _. refl }) under.in_time;
+      stored = under.stored;
+      sided = subst IsSidedSave is under.saved_sided;
+      saved_sided = tt;
+      together = ap is_some row.closed;
+      counted = subst (IsCounted (backed tx kept)) (sym (records-more no_records tx.calls tx.replies call.Back reply count)) counted;
+      faults = faults-more tries no_records tx.calls tx.replies call.Back reply count
+          (few_in_block tries kept k tx.undo.pending tx.undo.ended saved_count left all backing.legal backing.undone) under.faults;
+      phase = record {
+        ahead = stepped ∙ answers ∙ ap (λ (b : BlockWalk). replied b reply) backing.ahead ∙ sym (answered-more begin tx.replies reply);
+        none = refl;
+        no_ends = backing.no_ends;
+        within = tt;
+      };
+    }
+
+-- a mark cuts its way back short
+pub cut_underway : (s : Setting) (f : Following) (place : Position) (tx : TxView) (m : Mark)
+    → tx.phase ≡ Backing → IsUnderway s f place tx → IsUnderway s f place (record tx { phase = Undoing (revoked m) })
+cut_underway s f place tx m backs under =
+    let backing = backing_phase s f place tx backs under in
+    record {
+      goes_on = under.goes_on;
+      left = under.left;
+      attempts = under.attempts;
+      rank = under.rank;
+      since = under.since;
+      standing = under.standing;
+      asked = under.asked;
+      kept = under.kept;
+      in_time = under.in_time;
+      stored = under.stored;
+      sided = under.sided;
+      saved_sided = under.saved_sided;
+      together = under.together;
+      counted = record { now = records_in s f place tx Backing backs under; saved = under.counted.saved };
+      faults = under.faults;
+      phase = record { caused = tt; legal = backing.legal; stuck = tt; no_ends = backing.no_ends };
+    }
+
+-- rolling back
+pub back_underway : (s : Setting) (f : Following) (old new : Position) (tx : TxView) (c : Cause) (undo : Records) (held : List Claim)
+    → undo.ended ≡ tx.undo.ended → tx.phase ≡ Running → IsSamePosition s old new
+    → (next_of s.script f tx.replies ≡ asked_at s old → IsCauseOf c (next_of s.script f tx.replies))
+    → (all_of tx ≡ (count_of tx).now → HasRecords (count_of tx) c (length undo.pending + length undo.ended))
+    → IsStuckIn (count_of tx) (length undo.pending + 1) undo.ended c
+    → IsUnderway s f old tx → IsUnderway s f new (record tx { phase = Undoing c; undo = undo; held = held })
+back_underway s f old new tx c undo held ended runs same caused count stuck under =
+    let running = running_phase s f old tx runs under in
+    record {
+      goes_on = under.goes_on;
+      left = under.left;
+      attempts = under.attempts;
+      rank = under.rank;
+      since = under.since;
+      standing = same_next_tx f old new same.begin under.standing;
+      asked = under.asked;
+      kept = under.kept;
+      in_time = under.in_time;
+      stored = under.stored;
+      sided = under.sided;
+      saved_sided = under.saved_sided;
+      together = ap is_some same.saved ∙ under.together;
+      counted = record { now = count (records_in s f old tx Running runs under); saved = under.counted.saved };
+      faults = under.faults;
+      phase = record {
+        caused = caused (ap (λ (b : BlockWalk). asks b.walk) (sym running.ahead));
         legal = subst (λ ends. AreLegal s.rules.undo_tries (length undo.pending + 1) ends) (sym (ended ∙ running.none)) tt;
+        stuck = stuck;
         no_ends = running.no_ends;
       };
     }
@@ -234,7 +536,12 @@ pub same_underway : (s : Setting) (f : Following) (old new : Position) (tx : TxV
     → IsUnderway s f old tx → IsUnderway s f new tx
 same_underway s f old new tx runs same under =
     let running = running_phase s f old tx runs under in
-    let phase : IsRunning s f new tx = record { ahead = same.walk ∙ running.ahead; none = running.none; no_ends = running.no_ends } in
+    let phase : IsRunning s f new tx = record {
+      ahead = same_way s old new same ∙ running.ahead;
+      none = running.none;
+      no_ends = running.no_ends;
+      within = running.within;
+    } in
     record {
       goes_on = under.goes_on;
       left = under.left;
@@ -247,6 +554,10 @@ same_underway s f old new tx runs same under =
       in_time = under.in_time;
       stored = under.stored;
       sided = under.sided;
+      saved_sided = under.saved_sided;
+      together = ap is_some same.saved ∙ under.together;
+      counted = under.counted;
+      faults = under.faults;
       phase = subst (IsInPhase s f new tx) (sym runs) phase;
     }
 
@@ -268,8 +579,12 @@ commits_underway s f old new tx runs same settled asked under =
       in_time = under.in_time;
       stored = under.stored;
       sided = under.sided;
+      saved_sided = under.saved_sided;
+      together = ap is_some same.saved ∙ under.together;
+      counted = record { now = records_in s f old tx Running runs under; saved = under.counted.saved };
+      faults = under.faults;
       phase = record {
-        ahead = same.walk ∙ running.ahead;
+        ahead = same_way s old new same ∙ running.ahead;
         asked = ap asks same.walk ∙ asked;
         settled = settled;
         none = running.none;
@@ -302,8 +617,34 @@ ended_underway s f place tx end commits some under =
       in_time = under.in_time;
       stored = under.stored;
       sided = under.sided;
+      saved_sided = under.saved_sided;
+      together = under.together;
+      counted = record { now = under.counted.now; saved = under.counted.saved };
+      faults = under.faults;
       phase = subst (IsInPhase s f place next) (sym commits) phase;
     }
+
+-- where a way back got stuck stays with one end more
+stuck_on : (k : RecordCount) (c : Cause) (from next : ℕ) (e : Ending) (ended : List Ending) → from ≡ next + 1 → IsStuckIn k from ended c
+    → IsStuckIn k next (e ∷ ended) c
+stuck_on k (cause.Stuck failed) from next e ended one so =
+    let newest = so.1 in (
+      so.0,
+      record {
+        older = e ∷ newest.older;
+        stuck = newest.stuck;
+        done = newest.done;
+        faults = newest.faults;
+        newer = newest.newer;
+        at = omega (arith, newest.at, one);
+        parts = ap (λ es. e ∷ es) newest.parts;
+        undone = newest.undone;
+      },
+    )
+stuck_on k cause.Asked from next e ended one so = tt
+stuck_on k cause.NoMemory from next e ended one so = tt
+stuck_on k (cause.Conflict object holder at) from next e ended one so = tt
+stuck_on k (cause.Revoked object by at) from next e ended one so = tt
 
 -- after a compensation
 pub tried_underway : (s : Setting) (f : Following) (place : Position) (tx : TxView) (c : Cause) (older : List Undo) (u : Undo) (end : UndoEnd)
@@ -313,9 +654,11 @@ tried_underway s f place tx c older u end undoes newest legal under =
     let undoing : IsUndoing s f tx c = subst (IsInPhase s f place tx) undoes under.phase in
     let next : TxView = record tx { undo = record { pending = older; ended = (u, end) ∷ tx.undo.ended } } in
     let count : length tx.undo.pending ≡ length older + 1 = ap length newest ∙ length-append older (u ∷ []) in
+    let as_many : all_of tx ≡ all_of next = omega (arith, count) in
     let phase : IsUndoing s f next c = record {
       caused = undoing.caused;
       legal = (legal, subst (λ n. AreLegal s.rules.undo_tries (n + 1) tx.undo.ended) count undoing.legal);
+      stuck = stuck_on (count_of tx) c (length tx.undo.pending + 1) (length older + 1) (u, end) tx.undo.ended (omega (arith, count)) undoing.stuck;
       no_ends = undoing.no_ends;
     } in
     record {
@@ -330,6 +673,10 @@ tried_underway s f place tx c older u end undoes newest legal under =
       in_time = under.in_time;
       stored = under.stored;
       sided = under.sided;
+      saved_sided = under.saved_sided;
+      together = under.together;
+      counted = record { now = subst (HasRecordsIn (count_of tx) tx.phase) as_many under.counted.now; saved = under.counted.saved };
+      faults = under.faults;
       phase = subst (IsInPhase s f place next) (sym undoes) phase;
     }
 

@@ -1,5 +1,5 @@
 -- Each turn goes on with the stories of all jobs.
-use Rattle.std.proofs.Common.{◌≡◌, inl, inr, ℕ, ◌+◌, ◌≤◌, IsTrue, List, [], ◌∷◌, ◌++◌, length, refl, ap, sym, ◌∙◌, subst, arith}
+use Rattle.std.proofs.Common.{◌≡◌, inl, inr, ℕ, ◌+◌, ◌≤◌, IsTrue, List, [], ◌∷◌, ◌++◌, length, refl, ap, sym, ◌∙◌, subst, arith, length-append}
 use Rattle.std.specs.Prelude.{Option, slice_get, slice_set}
 use Rattle.std.specs.declared.option.Option.TheVariants.{None, Some}
 use Rattle.std.specs.Option.{option_map}
@@ -15,19 +15,23 @@ use Rattle.xc_data.specs.declared.entry.Turn.{Turn}
 use Rattle.xc_data.specs.declared.entry.Turn.TheVariants as turn
 use Rattle.xc_data.specs.declared.object.Object.{Object}
 use Rattle.xc_data.specs.declared.undo.Undo.{Undo}
-use Rattle.xc_host.specs.Contents.{world_of}
 use Rattle.xc_script.specs.declared.ask.Ask.{Ask}
 use Rattle.xc_script.specs.declared.ask.Ask.TheVariants as ask
 use Rattle.xc_script.specs.Position.{Position, is_call}
 use Rattle.xc_data.specs.declared.entry.Mark.{Mark}
 use Rattle.xc_model.specs.declared.phase.Phase.{Phase}
-use Rattle.xc_model.specs.declared.phase.Phase.TheVariants.{Running, Committing, Undoing}
+use Rattle.xc_model.specs.declared.phase.Phase.TheVariants.{Running, Committing, Undoing, Backing}
 use Rattle.xc_model.specs.Setting.{Setting}
 use Rattle.xc_model.specs.WordCalls.{AreWordReplies}
 use Rattle.xc_model.specs.Progress.{Following, following_abort, progress_of}
 use Rattle.xc_model.specs.Moment.{TxView, JobView, Doing, Idle, Active, Starved, Ended, Moment, active_in, begun_count, late_left, rank_of, revoked, waiting}
 use Rattle.xc_model.specs.Rows.{ActiveTurn, IsTurn}
-use Rattle.xc_model.specs.RunningRows.{AskedTurn, Calls, Commits, Conflicts}
+use Rattle.xc_model.specs.RunningRows.{BeginsBack, CalledTurn, AskedTurn, Calls, Commits, Conflicts}
+use Rattle.xc_model.specs.BackingRows.{phase_after, backed, BacksOne, EndsBack, BackingRow, OpenRow, MarkedBack}
+use Rattle.xc_data.specs.declared.call.Call.TheVariants as call
+use Rattle.xc_world.specs.Fits.{is_back}
+use Rattle.xc_model.specs.Moment.{SavedView}
+use Rattle.std.specs.Prelude.{Bool, true, false, nat_lt}
 use Rattle.xc_model.specs.UndoingRows.{BackTurn, Compensates}
 use Rattle.xc_model.specs.IdleRows.{IdleTurn, IsEnding, IsReady}
 use Rattle.xc_model.specs.Movers.{IsActiveAt}
@@ -53,6 +57,7 @@ use Rattle.xc_turns.proofs.Jobs.{behind_abort_none}
 use Rattle.xc_turns.proofs.Progressing.{entered-all}
 use Rattle.xc_turns.proofs.StoryBegins.{active_begun}
 use Rattle.xc_turns.proofs.StoryJobs.{StoriesHoldBut, begins_in, goes_on, told_but, told_whole}
+use Rattle.xc_turns.proofs.StoryRows.{begins_back_underway, backs_one_underway, ends_back_underway, cut_underway}
 use Rattle.xc_turns.proofs.StoryRows.{active_told, back_underway, begun_told, called_underway, commits_underway, ended_told, ended_underway, starved_told}
 use Rattle.xc_turns.proofs.StoryRows.{same_underway, tried_underway, waiting_told}
 use Rattle.xc_turns.proofs.LateCounts.{left_some}
@@ -132,12 +137,11 @@ module _ (s : Setting) (at : ℕ) (old new : Moment) (job : JobView) (b : Before
       (ap Some same ∙ ap (option_map active_begin) (sym (ap active_in active)))
       (λ f told. active_told s (begun_count old) (length old.journal) f job place tx next active (moves f) told) b.told)
 
-  called_row : (tx : TxView) (call : Call) → job.doing ≡ Active tx → tx.phase ≡ Running → asked_at s job.place ≡ ask.Call call
+  called_row : (tx : TxView) (call : Call) → is_back call ≡ false → job.doing ≡ Active tx → tx.phase ≡ Running → asked_at s job.place ≡ ask.Call call
       → Calls (mover s at old job) tx call new → After
-  called_row tx call active runs asked row =
+  called_row tx call ahead active runs asked row =
       active_row row.place tx (noting tx call row.reply (claims_at old tx call) row.parts) active refl
-      (λ f under. called_underway (world_of old.contents) s f job.place row.place tx call row.reply (claims_at old tx call) row.parts row.made runs asked
-      row.begin row.walk row.in_time row.undo row.stored row.after under)
+      (λ f under. called_underway (mover s at old job) f tx call new ahead runs asked row under)
       (ap (λ (n : Moment). n.journal) row.behind) (ap (λ (n : Moment). n.jobs) row.behind)
 
   conflict_row : (tx : TxView) (call : Call) → job.doing ≡ Active tx → tx.phase ≡ Running → asked_at s job.place ≡ ask.Call call
@@ -145,7 +149,7 @@ module _ (s : Setting) (at : ℕ) (old new : Moment) (job : JobView) (b : Before
   conflict_row tx call active runs asked row =
       let c = cause.Conflict row.object row.holder (length old.journal) in
       active_row row.place tx (record tx { phase = Undoing c }) active refl
-      (λ f under. back_underway s f job.place row.place tx c tx.undo tx.held refl runs row.same (λ next. ap is_call (next ∙ asked)) under)
+      (λ f under. back_underway s f job.place row.place tx c tx.undo tx.held refl runs row.same (λ next. ap is_call (next ∙ asked)) (λ count. count) tt under)
       (ap (λ (n : Moment). n.journal) row.behind) (ap (λ (n : Moment). n.jobs) row.behind)
 
   -- it is told to wait
@@ -164,7 +168,8 @@ module _ (s : Setting) (at : ℕ) (old new : Moment) (job : JobView) (b : Before
   revoked_row tx m active runs row =
       active_row job.place tx (record tx { phase = Undoing (revoked m) }) active refl
       (λ f under. back_underway s f job.place job.place tx (revoked m) tx.undo tx.held refl runs
-      (record { begin = record { block = refl; next = refl; begun = refl }; walk = refl; at = omega arith }) (λ next. tt) under)
+      (record { begin = record { block = refl; next = refl; begun = refl }; walk = refl; saved = refl; at = omega arith })
+      (λ next. tt) (λ count. count) tt under)
       (ap (λ (n : Moment). n.journal) row) (ap (λ (n : Moment). n.jobs) row)
 
   commits_row : (tx : TxView) → job.doing ≡ Active tx → tx.phase ≡ Running → asked_at s job.place ≡ ask.Commit → Commits (mover s at old job) tx new → After
@@ -176,14 +181,15 @@ module _ (s : Setting) (at : ℕ) (old new : Moment) (job : JobView) (b : Before
   turned_row : (tx : TxView) → job.doing ≡ Active tx → tx.phase ≡ Running → asked_at s job.place ≡ ask.Abort → TurnsBack (mover s at old job) tx new → After
   turned_row tx active runs asked row =
       active_row row.place tx (record tx { phase = Undoing cause.Asked }) active refl
-      (λ f under. back_underway s f job.place row.place tx cause.Asked tx.undo tx.held refl runs row.same (λ next. next ∙ asked) under)
+      (λ f under. back_underway s f job.place row.place tx cause.Asked tx.undo tx.held refl runs row.same (λ next. next ∙ asked) (λ count. count) tt under)
       (ap (λ (n : Moment). n.journal) row.behind) (ap (λ (n : Moment). n.jobs) row.behind)
 
   wants_row : (tx : TxView) → job.doing ≡ Active tx → tx.phase ≡ Running → Wants (mover s at old job) tx new → After
   wants_row tx active runs row =
       let next = wanting tx row.left row.held in
       active_row row.place tx next active refl
-      (λ f under. back_underway s f job.place row.place tx cause.NoMemory next.undo row.held refl runs row.same (λ asked. tt) under)
+      (λ f under. back_underway s f job.place row.place tx cause.NoMemory next.undo row.held refl runs row.same (λ asked. tt)
+      (λ count. let longer = length-append tx.undo.pending row.left in (omega (arith, count, longer), omega (arith, count, row.one, longer))) tt under)
       (ap (λ (n : Moment). n.journal) row.behind) (ap (λ (n : Moment). n.jobs) row.behind)
 
   late_row : (tx : TxView) (call : LateCall) (calls : List LateCall) → job.doing ≡ Active tx → tx.phase ≡ Committing → late_left tx ≡ call ∷ calls
@@ -199,9 +205,64 @@ module _ (s : Setting) (at : ℕ) (old new : Moment) (job : JobView) (b : Before
       (λ f under. tried_underway s f job.place tx c row.older row.tried row.end undoes row.newest row.legal under) (ap (λ (n : Moment). n.journal) row.behind)
       (ap (λ (n : Moment). n.jobs) row.behind)
 
+  -- its block goes back
+  begins_back_row : (tx : TxView) → job.doing ≡ Active tx → tx.phase ≡ Running → asked_at s job.place ≡ ask.Call call.Back
+      → BeginsBack (mover s at old job) tx new → After
+  begins_back_row tx active runs asked row =
+      active_row row.place tx (record tx { phase = Backing }) active refl
+      (λ f under. begins_back_underway s f job.place row.place tx runs row.same row.settled asked row.opened under)
+      (ap (λ (n : Moment). n.journal) row.behind) (ap (λ (n : Moment). n.jobs) row.behind)
+
+  backs_one_row : (tx : TxView) (kept : SavedView) → job.doing ≡ Active tx → tx.phase ≡ Backing → tx.saved ≡ Some kept
+      → nat_lt (length kept.trail) (length tx.undo.pending) ≡ true → BacksOne (mover s at old job) tx kept new → After
+  backs_one_row tx kept active backs is above row =
+      active_row job.place tx
+      (record tx { phase = phase_after (length row.older + 1) row.end; undo = record { pending = row.older; ended = (row.tried, row.end) ∷ tx.undo.ended } })
+      active refl
+      (λ f under. backs_one_underway s f job.place tx kept row.older row.tried row.end backs is (grind (arith, above)) row.newest row.legal under)
+      (ap (λ (n : Moment). n.journal) row.behind) (ap (λ (n : Moment). n.jobs) row.behind)
+
+  ends_back_row : (tx : TxView) (kept : SavedView) → job.doing ≡ Active tx → tx.phase ≡ Backing → tx.saved ≡ Some kept
+      → nat_lt (length kept.trail) (length tx.undo.pending) ≡ false → EndsBack (mover s at old job) tx kept new → After
+  ends_back_row tx kept active backs is few row =
+      active_row row.place tx (backed tx kept) active refl
+      (λ f under. ends_back_underway (mover s at old job) f tx kept new backs is (grind (arith, few)) row under)
+      (ap (λ (n : Moment). n.journal) row.behind) (ap (λ (n : Moment). n.jobs) row.behind)
+
+  cut_row : (tx : TxView) (m : Mark) → job.doing ≡ Active tx → tx.phase ≡ Backing → Revokes (mover s at old job) tx m new → After
+  cut_row tx m active backs row =
+      active_row job.place tx (record tx { phase = Undoing (revoked m) }) active refl
+      (λ f under. cut_underway s f job.place tx m backs under)
+      (ap (λ (n : Moment). n.journal) row) (ap (λ (n : Moment). n.jobs) row)
+
+  block_row : (tx : TxView) (kept : SavedView) (b : Bool) → job.doing ≡ Active tx → tx.phase ≡ Backing → tx.saved ≡ Some kept
+      → nat_lt (length kept.trail) (length tx.undo.pending) ≡ b → BackingRow (mover s at old job) tx kept b new → After
+  block_row tx kept true active backs is test row = backs_one_row tx kept active backs is test row
+  block_row tx kept false active backs is test row = ends_back_row tx kept active backs is test row
+
+  open_row : (tx : TxView) (o : Option SavedView) → job.doing ≡ Active tx → tx.phase ≡ Backing → tx.saved ≡ o → OpenRow (mover s at old job) tx o new → After
+  open_row tx None active backs is row = absurd row
+  open_row tx (Some kept) active backs is row = block_row tx kept (nat_lt (length kept.trail) (length tx.undo.pending)) active backs is refl row
+
+  backing_row : (tx : TxView) (m : Option Mark) (answer : Turn) → job.doing ≡ Active tx → tx.phase ≡ Backing → MarkedBack (mover s at old job) tx m answer new
+      → After
+  backing_row tx None turn.Went active backs row = open_row tx tx.saved active backs refl row
+  backing_row tx None turn.NoMemory active backs row = absurd row
+  backing_row tx None (turn.Busy object holder) active backs row = absurd row
+  backing_row tx None (turn.Ended end) active backs row = absurd row
+  backing_row tx (Some m) turn.Went active backs row = cut_row tx m active backs row
+  backing_row tx (Some m) turn.NoMemory active backs row = absurd row
+  backing_row tx (Some m) (turn.Busy object holder) active backs row = absurd row
+  backing_row tx (Some m) (turn.Ended end) active backs row = absurd row
+
+  made_row : (tx : TxView) (c : Call) → job.doing ≡ Active tx → tx.phase ≡ Running → asked_at s job.place ≡ ask.Call c
+      → CalledTurn (mover s at old job) tx c new → After
+  made_row tx call.Back active runs asked row = begins_back_row tx active runs asked row
+  made_row tx c active runs asked (inl row) = called_row tx c refl active runs asked row
+  made_row tx c active runs asked (inr row) = conflict_row tx c active runs asked row
+
   asked_row : (tx : TxView) (a : Ask) → job.doing ≡ Active tx → tx.phase ≡ Running → asked_at s job.place ≡ a → AskedTurn (mover s at old job) tx a new → After
-  asked_row tx (ask.Call call) active runs asked (inl row) = called_row tx call active runs asked row
-  asked_row tx (ask.Call call) active runs asked (inr row) = conflict_row tx call active runs asked row
+  asked_row tx (ask.Call c) active runs asked row = made_row tx c active runs asked row
   asked_row tx ask.Commit active runs asked row = commits_row tx active runs asked row
   asked_row tx ask.Abort active runs asked row = turned_row tx active runs asked row
   asked_row tx ask.End active runs asked row = absurd row
@@ -255,7 +316,7 @@ module _ (s : Setting) (at : ℕ) (old new : Moment) (job : JobView) (b : Before
       told_as s (old.journal ++ e ∷ []) new.journal (slice_set old.jobs at (behind_commit job tx) ++ started_jobs s.script job tx) new.jobs journal jobs
       (enters s old.journal old.jobs (started_jobs s.script job tx) at job (behind_commit job tx) tx e f (gone_on s.script p.entered f tx)
       (started_on s.script p.entered f tx) b.there
-      (ap active_in active) refl refl got (commit_leads s.script p f at tx got under.kept)
+      (ap active_in active) refl refl got (commit_leads s.script p f at tx got under.kept.0)
       (length-map blocks (progress_started s.script starter (p.entered + 1)) ∙ sym (length-map blocks (started_job s.script (behind_commit job tx))))
       (started_idle s.script (behind_commit job tx) blocks)
       (started_told s (begun_count old) (length old.journal) p.entered starter (behind_commit job tx) blocks (entered-all s.script old.journal) refl gone.sided
@@ -305,6 +366,7 @@ module _ (s : Setting) (at : ℕ) (old new : Moment) (job : JobView) (b : Before
   phase_row tx (Undoing c) turn.NoMemory active is row = absurd row
   phase_row tx (Undoing c) (turn.Busy object holder) active is row = absurd row
   phase_row tx (Undoing c) (turn.Ended end) active is row = absurd row
+  phase_row tx Backing answer active is row = backing_row tx (old.marks tx.number) answer active is row
 
   doing_row : (d : Doing) (answer : Turn) → job.doing ≡ d → TurnOf (mover s at old job) d answer new → After
   doing_row Idle answer is row = idle_row answer is row

@@ -20,7 +20,7 @@ use Rattle.xc_txmem.proofs.Overlays.{overlay_count}
 use Rattle.xc_host.specs.Contents.{Contents}
 use Rattle.xc_data.specs.declared.entry.Mark.{Mark}
 use Rattle.xc_model.specs.declared.phase.Phase.{Phase}
-use Rattle.xc_model.specs.declared.phase.Phase.TheVariants.{Running, Committing, Undoing}
+use Rattle.xc_model.specs.declared.phase.Phase.TheVariants.{Running, Committing, Undoing, Backing}
 use Rattle.xc_model.specs.Setting.{Setting}
 use Rattle.xc_model.specs.Moment.{TxView, JobView, Doing, Idle, Active, Starved, Ended, Moment, active_in, active_of, entering, late_left}
 use Rattle.xc_model.specs.Moment.{revoked, waiting}
@@ -28,7 +28,13 @@ use Rattle.xc_model.specs.Stories.{cause_of_phase}
 use Rattle.xc_model.specs.Truth.{cause_in}
 use Rattle.xc_model.specs.Rows.{IsTurn, TurnOf, StarvedTurn, ActiveTurn}
 use Rattle.xc_model.specs.IdleRows.{IdleTurn}
-use Rattle.xc_model.specs.RunningRows.{MarkedTurn, RunningTurn, AskedTurn}
+use Rattle.xc_model.specs.RunningRows.{MarkedTurn, RunningTurn, CalledTurn, AskedTurn, BeginsBack}
+use Rattle.xc_model.specs.BackingRows.{BacksOne, EndsBack, BackingRow, OpenRow, MarkedBack, phase_after, backed}
+use Rattle.xc_data.specs.declared.call.Call.TheVariants as call
+use Rattle.xc_data.specs.declared.undo.UndoEnd.{UndoEnd}
+use Rattle.xc_data.specs.declared.undo.UndoEnd.TheVariants.{Undone, Failed, Blocked}
+use Rattle.xc_model.specs.Moment.{SavedView}
+use Rattle.std.specs.Prelude.{Bool, true, false, nat_lt}
 use Rattle.xc_model.specs.CommittingRows.{CommittingTurn}
 use Rattle.xc_model.specs.UndoingRows.{UndoingTurn, BackTurn}
 use Rattle.xc_model.specs.RunningRows.{Calls, Conflicts, Waits, Revokes, Commits, TurnsBack, Wants, HoldsWanting}
@@ -132,7 +138,7 @@ module _ (s : Setting) (at : ℕ) (old : Moment) (job : JobView) (new : Moment) 
           rank = refl;
           began = refl;
           held = inr (claims_at old tx call, row.free, refl);
-          wants = inr (record { call = call; asked = asked; running = e; held = refl });
+          wants = inr (inl (record { call = call; asked = asked; running = e; held = refl }));
           why = free (no_cause (old.marks tx.number) tx.phase free_of e);
           marks = ap (λ (n : Moment). n.marks) row.behind;
         })
@@ -233,6 +239,116 @@ module _ (s : Setting) (at : ℕ) (old : Moment) (job : JobView) (new : Moment) 
           marks = ap (λ (n : Moment). n.marks) row;
         })
 
+    -- a transaction goes on for no cause of a conflict
+    unclashed : (p : Phase) → old.marks tx.number ≡ None → IsNoConflict (cause_of_phase None p) → IsNoConflict (cause_of_phase (old.marks tx.number) p)
+    unclashed p none so = subst (λ m. IsNoConflict (cause_of_phase m p)) (sym none) so
+
+    begins_kind : BeginsBack (mover s at old job) tx new → old.marks tx.number ≡ None → Kind s at old job new
+    begins_kind row none =
+        let next : TxView = record tx { phase = Backing } in
+        moves (record {
+          behind = with_tx job row.place next;
+          sets = record { jobs = ap (λ (n : Moment). n.jobs) row.behind; words = ap (λ (n : Moment). length n.words) row.behind };
+          journal = ap (λ (n : Moment). n.journal) row.behind;
+          was = tx;
+          tx = next;
+          before = active;
+          after = refl;
+          number = refl;
+          rank = refl;
+          began = refl;
+          held = inl refl;
+          wants = inl (refl, refl);
+          why = free (unclashed Backing none tt);
+          marks = ap (λ (n : Moment). n.marks) row.behind;
+        })
+
+    after_end : (n : ℕ) (e : UndoEnd) → IsNoConflict (cause_of_phase None (phase_after n e))
+    after_end n (Undone faults) = tt
+    after_end n (Failed done faults) = tt
+    after_end n (Blocked by) = tt
+
+    backs_one_kind : (kept : SavedView) → BacksOne (mover s at old job) tx kept new → old.marks tx.number ≡ None → Kind s at old job new
+    backs_one_kind kept row none =
+        let phase = phase_after (length row.older + 1) row.end in
+        let next : TxView = record tx { phase = phase; undo = record { pending = row.older; ended = (row.tried, row.end) ∷ tx.undo.ended } } in
+        moves (record {
+          behind = with_tx job job.place next;
+          sets = record { jobs = ap (λ (n : Moment). n.jobs) row.behind; words = ap (λ (n : Moment). length n.words) row.behind };
+          journal = ap (λ (n : Moment). n.journal) row.behind;
+          was = tx;
+          tx = next;
+          before = active;
+          after = refl;
+          number = refl;
+          rank = refl;
+          began = refl;
+          held = inl refl;
+          wants = inl (refl, refl);
+          why = free (unclashed phase none (after_end (length row.older + 1) row.end));
+          marks = ap (λ (n : Moment). n.marks) row.behind;
+        })
+
+    ends_back_kind : (kept : SavedView) → EndsBack (mover s at old job) tx kept new → old.marks tx.number ≡ None → tx.phase ≡ Backing → Kind s at old job new
+    ends_back_kind kept row none e =
+        moves (record {
+          behind = with_tx job row.place (backed tx kept);
+          sets = record { jobs = ap (λ (n : Moment). n.jobs) row.behind; words = ap (λ (n : Moment). length n.words) row.behind };
+          journal = ap (λ (n : Moment). n.journal) row.behind;
+          was = tx;
+          tx = backed tx kept;
+          before = active;
+          after = refl;
+          number = refl;
+          rank = refl;
+          began = refl;
+          held = inl refl;
+          wants = inr (inr e);
+          why = free (unclashed Running none tt);
+          marks = ap (λ (n : Moment). n.marks) row.behind;
+        })
+
+    one_back_kind : (kept : SavedView) (b : Bool) → BackingRow (mover s at old job) tx kept b new → old.marks tx.number ≡ None → tx.phase ≡ Backing
+        → Kind s at old job new
+    one_back_kind kept true row none e = backs_one_kind kept row none
+    one_back_kind kept false row none e = ends_back_kind kept row none e
+
+    open_kind : (k : Option SavedView) → OpenRow (mover s at old job) tx k new → old.marks tx.number ≡ None → tx.phase ≡ Backing → Kind s at old job new
+    open_kind None row none e = absurd row
+    open_kind (Some kept) row none e = one_back_kind kept (nat_lt (length kept.trail) (length tx.undo.pending)) row none e
+
+    cut_kind : (m : Mark) → Revokes (mover s at old job) tx m new → tx.phase ≡ Backing → old.marks tx.number ≡ Some m → Kind s at old job new
+    cut_kind m row e has =
+        let undoing : TxView = record tx { phase = Undoing (revoked m) } in
+        moves (record {
+          behind = with_tx job job.place undoing;
+          sets = record { jobs = ap (λ (n : Moment). n.jobs) row; words = ap (λ (n : Moment). length n.words) row };
+          journal = ap (λ (n : Moment). n.journal) row;
+          was = tx;
+          tx = undoing;
+          before = active;
+          after = refl;
+          number = refl;
+          rank = refl;
+          began = refl;
+          held = inl refl;
+          wants = inl (refl, refl);
+          why = same (record {
+            cause = undoing_is (old.marks tx.number) (revoked m)
+                ∙ sym (ap (λ n. cause_of_phase n tx.phase) has ∙ ap (cause_of_phase (Some m)) e);
+            me = refl;
+            replies = refl;
+          });
+          marks = ap (λ (n : Moment). n.marks) row;
+        })
+
+    marked_back_kind : (m : Option Mark) → old.marks tx.number ≡ m → (answer : Turn) → MarkedBack (mover s at old job) tx m answer new → tx.phase ≡ Backing
+        → Kind s at old job new
+    marked_back_kind None has turn.Went row e = open_kind tx.saved row has e
+    marked_back_kind None has _ row e = absurd row
+    marked_back_kind (Some m) has turn.Went row e = cut_kind m row e has
+    marked_back_kind (Some m) has _ row e = absurd row
+
     turns_back_kind : TurnsBack (mover s at old job) tx new → Kind s at old job new
     turns_back_kind row =
         moves (record {
@@ -278,10 +394,15 @@ module _ (s : Setting) (at : ℕ) (old : Moment) (job : JobView) (new : Moment) 
           marks = ap (λ (n : Moment). n.marks) row.behind;
         })
 
+    called_kind : (c : Call) → asked_at s job.place ≡ ask.Call c → CalledTurn (mover s at old job) tx c new → tx.phase ≡ Running
+        → old.marks tx.number ≡ None → Kind s at old job new
+    called_kind call.Back asked row e free_of = begins_kind row free_of
+    called_kind c asked (inl row) e free_of = calls_kind c asked row e free_of
+    called_kind c asked (inr row) e free_of = conflict_kind c asked row e
+
     asked_kind : (a : Ask) → asked_at s job.place ≡ a → AskedTurn (mover s at old job) tx a new → tx.phase ≡ Running
         → old.marks tx.number ≡ None → Kind s at old job new
-    asked_kind (ask.Call call) asked (inl row) e free_of = calls_kind call asked row e free_of
-    asked_kind (ask.Call call) asked (inr row) e free_of = conflict_kind call asked row e
+    asked_kind (ask.Call call) asked row e free_of = called_kind call asked row e free_of
     asked_kind ask.Commit asked row e free_of = commits_kind row
     asked_kind ask.Abort asked row e free_of = turns_back_kind row
     asked_kind ask.End asked row e free_of = absurd row
@@ -383,6 +504,7 @@ module _ (s : Setting) (at : ℕ) (old : Moment) (job : JobView) (new : Moment) 
     active_kind : (phase : Phase) → tx.phase ≡ phase → (answer : Turn) → ActiveTurn (mover s at old job) tx phase answer new → Kind s at old job new
     active_kind Running e answer row = marked_kind (old.marks tx.number) refl answer row e
     active_kind Committing e answer row = committing_kind answer row e
+    active_kind Backing e answer row = marked_back_kind (old.marks tx.number) refl answer row e
     active_kind (Undoing c) e answer row = undoing_kind c answer row e
 
   doing_kind : (d : Doing) → job.doing ≡ d → (answer : Turn) → TurnOf (mover s at old job) d answer new → Kind s at old job new

@@ -19,12 +19,17 @@ use Rattle.xc_script.specs.declared.ask.Ask.TheVariants as ask
 use Rattle.xc_host.specs.Contents.{Contents}
 use Rattle.xc_data.specs.declared.entry.Mark.{Mark}
 use Rattle.xc_model.specs.declared.phase.Phase.{Phase}
-use Rattle.xc_model.specs.declared.phase.Phase.TheVariants.{Running, Committing, Undoing}
+use Rattle.xc_model.specs.declared.phase.Phase.TheVariants.{Running, Committing, Undoing, Backing}
 use Rattle.xc_model.specs.Setting.{Setting}
 use Rattle.xc_model.specs.Moment.{TxView, JobView, Doing, Idle, Active, Starved, Ended, Moment, active_in, active_of, begun_count, entering, late_left}
 use Rattle.xc_model.specs.Moment.{revoked, unmarked, waiting}
 use Rattle.xc_model.specs.Rows.{ActiveTurn, IsTurn}
-use Rattle.xc_model.specs.RunningRows.{AskedTurn, MarkedTurn, RunningTurn}
+use Rattle.xc_model.specs.RunningRows.{AskedTurn, CalledTurn, MarkedTurn, RunningTurn}
+use Rattle.xc_model.specs.BackingRows.{BackingRow, OpenRow, MarkedBack}
+use Rattle.xc_data.specs.declared.call.Call.{Call}
+use Rattle.xc_data.specs.declared.call.Call.TheVariants as call
+use Rattle.xc_model.specs.Moment.{SavedView}
+use Rattle.std.specs.Prelude.{nat_lt}
 use Rattle.xc_model.specs.UndoingRows.{BackTurn}
 use Rattle.xc_model.specs.IdleRows.{IsWaiting}
 use Rattle.xc_model.specs.CommittingRows.{LateTurn}
@@ -58,9 +63,14 @@ module _ (s : Setting) (at : ℕ) (old new : Moment) (job : JobView) (stands : s
       by_mark e None row = runs tx is e row
       by_mark e (Some m) row = absurd row
 
+      by_back : (m : Option Mark) → MarkedBack (mover s at old job) tx m (turn.Busy object number) new → BusyRow object number
+      by_back None row = absurd row
+      by_back (Some m) row = absurd row
+
       by_phase : (p : Phase) → tx.phase ≡ p → ActiveTurn (mover s at old job) tx p (turn.Busy object number) new → BusyRow object number
       by_phase Running e row = by_mark e (old.marks tx.number) row
       by_phase Committing e row = absurd row
+      by_phase Backing e row = by_back (old.marks tx.number) row
       by_phase (Undoing c) e row = absurd row
   busy_row object number Starved is row = absurd row
   busy_row object number (Ended end) is row = absurd row
@@ -143,6 +153,8 @@ module _ (s : Setting) (at : ℕ) (old new : Moment) (job : JobView) (stands : s
       by_phase here Running None was e = made here (let both : Some its ≡ Some m = e in cc both)
       by_phase here Running (Some k) was e = inl (was ∙ e)
       by_phase here Committing kept was e = inl (was ∙ e)
+      by_phase here Backing None was e = made here (let both : Some its ≡ Some m = e in cc both)
+      by_phase here Backing (Some k) was e = inl (was ∙ e)
       by_phase here (Undoing c) kept was e = inl (was ∙ e)
 
       by_test : (b : Bool) → nat_eq number rival.number ≡ b → (if b then mark_behind rival.phase (old.marks number) its else old.marks number) ≡ Some m
@@ -154,9 +166,21 @@ module _ (s : Setting) (at : ℕ) (old new : Moment) (job : JobView) (stands : s
     same_now : new.marks ≡ old.marks → Made answer number m
     same_now same = same_marks answer number m same has
 
+    called_made : (tx : TxView) (c : Call) → CalledTurn (mover s at old job) tx c new → Made answer number m
+    called_made tx call.Back row = same_now (ap (λ (n : Moment). n.marks) row.behind)
+    called_made tx c (inl row) = same_now (ap (λ (n : Moment). n.marks) row.behind)
+    called_made tx c (inr row) = same_now (ap (λ (n : Moment). n.marks) row.behind)
+
+    one_made : (tx : TxView) (kept : SavedView) (b : Bool) → BackingRow (mover s at old job) tx kept b new → Made answer number m
+    one_made tx kept true row = same_now (ap (λ (n : Moment). n.marks) row.behind)
+    one_made tx kept false row = same_now (ap (λ (n : Moment). n.marks) row.behind)
+
+    open_made : (tx : TxView) (k : Option SavedView) → OpenRow (mover s at old job) tx k new → Made answer number m
+    open_made tx None row = absurd row
+    open_made tx (Some kept) row = one_made tx kept (nat_lt (length kept.trail) (length tx.undo.pending)) row
+
     asked_made : (tx : TxView) (a : Ask) → AskedTurn (mover s at old job) tx a new → Made answer number m
-    asked_made tx (ask.Call call) (inl row) = same_now (ap (λ (n : Moment). n.marks) row.behind)
-    asked_made tx (ask.Call call) (inr row) = same_now (ap (λ (n : Moment). n.marks) row.behind)
+    asked_made tx (ask.Call c) row = called_made tx c row
     asked_made tx ask.Commit row = same_now (ap (λ (n : Moment). n.marks) row.behind)
     asked_made tx ask.Abort row = same_now (ap (λ (n : Moment). n.marks) row.behind)
     asked_made tx ask.End row = absurd row
@@ -182,11 +206,19 @@ module _ (s : Setting) (at : ℕ) (old new : Moment) (job : JobView) (stands : s
   marked_made number m has tx is e (Some k) turn.Went row = same_marks turn.Went number m (ap (λ (n : Moment). n.marks) row) has
   marked_made number m has tx is e (Some k) _ row = absurd row
 
+  marked_back_made : (number : ℕ) (m : Mark) → new.marks number ≡ Some m → (tx : TxView) (kept : Option Mark) (answer : Turn)
+      → MarkedBack (mover s at old job) tx kept answer new → Made answer number m
+  marked_back_made number m has tx None turn.Went row = open_made turn.Went number m has tx tx.saved row
+  marked_back_made number m has tx None _ row = absurd row
+  marked_back_made number m has tx (Some k) turn.Went row = same_marks turn.Went number m (ap (λ (n : Moment). n.marks) row) has
+  marked_back_made number m has tx (Some k) _ row = absurd row
+
   active_made : (number : ℕ) (m : Mark) → new.marks number ≡ Some m → (tx : TxView) → job.doing ≡ Active tx → (p : Phase) → tx.phase ≡ p → (answer : Turn)
       → ActiveTurn (mover s at old job) tx p answer new → Made answer number m
   active_made number m has tx is Running e answer row = marked_made number m has tx is e (old.marks tx.number) answer row
   active_made number m has tx is Committing e turn.Went row = late_made turn.Went number m has tx (late_left tx) row
   active_made number m has tx is Committing e _ row = absurd row
+  active_made number m has tx is Backing e answer row = marked_back_made number m has tx (old.marks tx.number) answer row
   active_made number m has tx is (Undoing c) e turn.Went row = back_made turn.Went number m has tx c tx.undo.pending row
   active_made number m has tx is (Undoing c) e _ row = absurd row
 
@@ -244,14 +276,27 @@ module _ (s : Setting) (at : ℕ) (old new : Moment) (job : JobView) where
     enters_so behind e contents jobs more row put busy none =
         turns_so answer behind more (ap (λ (n : Moment). n.jobs) row ∙ put) busy (ap is_some none ∙ sym (ap not has))
 
+    called_so : (c : Call) → CalledTurn (mover s at old job) tx c new → Changed answer
+    called_so call.Back row = goes row.place _ (ap (λ (n : Moment). n.jobs) row.behind)
+    called_so c (inl row) = goes row.place _ (ap (λ (n : Moment). n.jobs) row.behind)
+    called_so c (inr row) = goes row.place _ (ap (λ (n : Moment). n.jobs) row.behind)
+
+    one_so : (kept : SavedView) (b : Bool) → BackingRow (mover s at old job) tx kept b new → Changed answer
+    one_so kept true row = goes job.place _ (ap (λ (n : Moment). n.jobs) row.behind)
+    one_so kept false row = goes row.place _ (ap (λ (n : Moment). n.jobs) row.behind)
+
+    open_so : (k : Option SavedView) → OpenRow (mover s at old job) tx k new → Changed answer
+    open_so None row = absurd row
+    open_so (Some kept) row = one_so kept (nat_lt (length kept.trail) (length tx.undo.pending)) row
+
     asked_so : (a : Ask) → AskedTurn (mover s at old job) tx a new → Changed answer
-    asked_so (ask.Call call) (inl row) = goes row.place _ (ap (λ (n : Moment). n.jobs) row.behind)
-    asked_so (ask.Call call) (inr row) = goes row.place _ (ap (λ (n : Moment). n.jobs) row.behind)
+    asked_so (ask.Call c) row = called_so c row
     asked_so ask.Commit row = goes row.place (record tx { phase = Committing }) (ap (λ (n : Moment). n.jobs) row.behind)
     asked_so ask.Abort row = goes row.place _ (ap (λ (n : Moment). n.jobs) row.behind)
     asked_so ask.End row = absurd row
 
     back_busy : (c : Cause) → (behind_abort job tx c).busy ≡ 0
+    back_busy (cause.Stuck failed) = refl
     back_busy cause.Asked = refl
     back_busy cause.NoMemory = refl
     back_busy (cause.Conflict object holder when) = refl
@@ -280,10 +325,18 @@ module _ (s : Setting) (at : ℕ) (old new : Moment) (job : JobView) where
       goes turn.Went tx is job.place (record tx { phase = Undoing (revoked m) }) (ap (λ (n : Moment). n.jobs) row)
   marked_so tx is (Some m) _ row = absurd row
 
+  marked_back_so : (tx : TxView) → job.doing ≡ Active tx → (m : Option Mark) (answer : Turn) → MarkedBack (mover s at old job) tx m answer new → Changed answer
+  marked_back_so tx is None turn.Went row = open_so turn.Went tx is tx.saved row
+  marked_back_so tx is None _ row = absurd row
+  marked_back_so tx is (Some m) turn.Went row =
+      goes turn.Went tx is job.place (record tx { phase = Undoing (revoked m) }) (ap (λ (n : Moment). n.jobs) row)
+  marked_back_so tx is (Some m) _ row = absurd row
+
   active_so : (tx : TxView) → job.doing ≡ Active tx → (p : Phase) (answer : Turn) → ActiveTurn (mover s at old job) tx p answer new → Changed answer
   active_so tx is Running answer row = marked_so tx is (old.marks tx.number) answer row
   active_so tx is Committing turn.Went row = late_so turn.Went tx is (late_left tx) row
   active_so tx is Committing _ row = absurd row
+  active_so tx is Backing answer row = marked_back_so tx is (old.marks tx.number) answer row
   active_so tx is (Undoing c) turn.Went row = back_so turn.Went tx is c tx.undo.pending row
   active_so tx is (Undoing c) _ row = absurd row
 

@@ -1,17 +1,15 @@
--- Words after calls: how many there are, and what is at one place.
-use Rattle.std.proofs.Common.{◌≡◌, ◌≢◌, ℕ, zero, suc, ◌<◌, ◌&&◌, Bool, true, false, List, [], ◌∷◌, ◌++◌, length, refl, ap, ap₂, sym, ◌∙◌, subst, arith}
+-- Words after one call: how many there are, what is at one place, and what is replied; and stores laid over them.
+use Rattle.std.proofs.Common.{◌≡◌, ◌≢◌, ℕ, zero, suc, ◌<◌, ◌&&◌, Bool, true, false, List, [], ◌∷◌, ◌++◌, length, refl, ap, ap₂, sym, ◌∙◌, arith}
 use Rattle.std.specs.Prelude.{nat_eq, nat_le, nat_lt, slice_index, slice_set, if◌then◌else◌}
-use Rattle.std.specs.List.{list_any}
-use Rattle.std.proofs.lemmas.Bool.{eqb-false, ltb-true, leb-true, leb-false, ltb-false, or_left, or_parts, or_right}
+use Rattle.std.proofs.lemmas.Bool.{eqb-false, ltb-true, leb-true, leb-false, ltb-false}
 use Rattle.std.proofs.lemmas.List.{append-nil, get_or-set_other, length-set}
 use Rattle.std.proofs.lemmas.List.Folds.{list_all-append}
 use Rattle.xc_data.specs.declared.call.Call.{Call}
 use Rattle.xc_data.specs.declared.call.Call.TheVariants.{Load, Store}
-use Rattle.xc_data.specs.declared.call.Reply.{Reply}
 use Rattle.xc_data.specs.declared.call.Reply.TheVariants.{Number, Done, BadWord}
 use Rattle.xc_txmem.specs.Overlay.{overlaid, AreWithin}
 use Rattle.xc_txmem.proofs.Overlays.{overlay_adds, overlay_count}
-use Rattle.xc_model.specs.WordCalls.{is_word_call, word_reply, words_after, words_behind, AreWordReplies}
+use Rattle.xc_model.specs.WordCalls.{word_reply, words_after}
 use Rattle.xc_model.specs.PlainSteps.{stored_by}
 use Rattle.xc_model.specs.Words.{speaks_of, stores_to}
 
@@ -31,7 +29,8 @@ stored_count : (xs : List ℕ) (i x : ℕ) (b : Bool) → length (if b then xs e
 stored_count xs i x true = refl
 stored_count xs i x false = length-set xs i x
 
-after_count : (xs : List ℕ) (c : Call) → length (words_after xs c) ≡ length xs
+-- a call changes no count of words
+pub after_count : (xs : List ℕ) (c : Call) → length (words_after xs c) ≡ length xs
 after_count xs (Store i x) = stored_count xs i x (nat_le (length xs) i)
 after_count xs _ = refl
 
@@ -39,7 +38,8 @@ stored_other : (xs : List ℕ) (i at x : ℕ) (b : Bool) → i ≢ at → slice_
 stored_other xs i at x true ne = refl
 stored_other xs i at x false ne = get_or-set_other xs i at x 0 (λ e. ne (sym e))
 
-after_other : (xs : List ℕ) (c : Call) (at : ℕ) → stores_to at c ≡ false → slice_index (words_after xs c) at ≡ slice_index xs at
+-- one that doesn't store to a word leaves it
+pub after_other : (xs : List ℕ) (c : Call) (at : ℕ) → stores_to at c ≡ false → slice_index (words_after xs c) at ≡ slice_index xs at
 after_other xs (Store i x) at away = stored_other xs i at x (nat_le (length xs) i) (eqb-false i at away)
 after_other xs _ at away = refl
 
@@ -50,35 +50,16 @@ stored_alike xs ys i at x false false n same e = set_alike xs ys i at x n e
 stored_alike xs ys i at x true false n same e = cc same
 stored_alike xs ys i at x false true n same e = cc same
 
-after_alike : (xs ys : List ℕ) (c : Call) (at : ℕ) → length xs ≡ length ys → slice_index xs at ≡ slice_index ys at
+-- after the same call words agree at a place where they did before
+pub after_alike : (xs ys : List ℕ) (c : Call) (at : ℕ) → length xs ≡ length ys → slice_index xs at ≡ slice_index ys at
     → slice_index (words_after xs c) at ≡ slice_index (words_after ys c) at
 after_alike xs ys (Store i x) at n e =
     stored_alike xs ys i at x (nat_le (length xs) i) (nat_le (length ys) i) n (ap (λ k. nat_le k i) n) e
 after_alike xs ys _ at n e = e
 
-after_counts : (xs ys : List ℕ) (c : Call) → length xs ≡ length ys → length (words_after xs c) ≡ length (words_after ys c)
+-- and are as many
+pub after_counts : (xs ys : List ℕ) (c : Call) → length xs ≡ length ys → length (words_after xs c) ≡ length (words_after ys c)
 after_counts xs ys c n = after_count xs c ∙ n ∙ sym (after_count ys c)
-
--- ---- after several
--- calls change no count of words
-pub behind_count : (xs : List ℕ) (calls : List Call) → length (words_behind xs calls) ≡ length xs
-behind_count xs [] = refl
-behind_count xs (c ∷ calls) = behind_count (words_after xs c) calls ∙ after_count xs c
-
--- calls that don't store to a word leave it
-pub behind_other : (xs : List ℕ) (calls : List Call) (at : ℕ) → list_any (stores_to at) calls ≡ false
-    → slice_index (words_behind xs calls) at ≡ slice_index xs at
-behind_other xs [] at away = refl
-behind_other xs (c ∷ calls) at away =
-    let parts = or_parts (stores_to at c) (list_any (stores_to at) calls) away in
-    behind_other (words_after xs c) calls at parts.1 ∙ after_other xs c at parts.0
-
--- after the same calls words agree at a place where they did before
-pub behind_alike : (xs ys : List ℕ) (calls : List Call) (at : ℕ) → length xs ≡ length ys → slice_index xs at ≡ slice_index ys at
-    → slice_index (words_behind xs calls) at ≡ slice_index (words_behind ys calls) at
-behind_alike xs ys [] at n e = e
-behind_alike xs ys (c ∷ calls) at n e =
-    behind_alike (words_after xs c) (words_after ys c) calls at (after_counts xs ys c n) (after_alike xs ys c at n e)
 
 -- ---- replies
 loaded_alike : (xs ys : List ℕ) (i : ℕ) (b c : Bool) → nat_le (length xs) i ≡ b → b ≡ c → (i < length xs → slice_index xs i ≡ slice_index ys i)
@@ -98,28 +79,6 @@ reply_alike xs ys (Load i) n e =
     loaded_alike xs ys i (nat_le (length xs) i) (nat_le (length ys) i) refl (ap (λ k. nat_le k i) n) (λ lt. e i lt (itself i))
 reply_alike xs ys (Store i x) n e = ap (λ k. if nat_le k i then BadWord else Done) n
 reply_alike xs ys _ n e = refl
-
--- and so do several, one after another
-pub replies_alike : (xs ys : List ℕ) (calls : List Call) (replies : List Reply) → length xs ≡ length ys
-    → ((at : ℕ) → at < length xs → list_any (speaks_of at) calls ≡ true → slice_index xs at ≡ slice_index ys at)
-    → AreWordReplies xs calls replies → AreWordReplies ys calls replies
-replies_alike xs ys [] replies n agree h = h
-replies_alike xs ys (c ∷ calls) [] n agree h = h
-replies_alike xs ys (c ∷ calls) (r ∷ replies) n agree h =
-    let first = λ (at : ℕ) (lt : at < length xs) (is : speaks_of at c ≡ true). agree at lt (or_left (speaks_of at c) (list_any (speaks_of at) calls) is) in
-    let later = λ (at : ℕ) (lt : at < length (words_after xs c)) (is : list_any (speaks_of at) calls ≡ true).
-    after_alike xs ys c at n (agree at (subst (λ k. at < k) (after_count xs c) lt) (or_right (speaks_of at c) (list_any (speaks_of at) calls) is)) in (
-      λ word. h.0 word ∙ reply_alike xs ys c n first,
-      replies_alike (words_after xs c) (words_after ys c) calls replies (after_counts xs ys c n) later h.1,
-    )
-
--- one call more replies on the words after the others
-pub replies-more : (words : List ℕ) (calls : List Call) (replies : List Reply) (c : Call) (r : Reply) → AreWordReplies words calls replies
-    → (is_word_call c ≡ true → r ≡ word_reply (words_behind words calls) c) → AreWordReplies words (calls ++ c ∷ []) (replies ++ r ∷ [])
-replies-more words [] [] c r h gives = (gives, refl)
-replies-more words [] (q ∷ replies) c r h gives = cc
-replies-more words (d ∷ calls) [] c r h gives = absurd h
-replies-more words (d ∷ calls) (q ∷ replies) c r h gives = (h.0, replies-more (words_after words d) calls replies c r h.1 gives)
 
 -- ---- stores
 laid_store : (xs : List ℕ) (stores : List (ℕ × ℕ)) (i x : ℕ) (b d : Bool) → nat_lt i (length (overlaid xs stores)) ≡ b

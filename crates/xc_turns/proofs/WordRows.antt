@@ -16,10 +16,10 @@ use Rattle.xc_model.specs.Moment.{TxView, JobView, active_of}
 use Rattle.xc_model.specs.Movers.{IsActiveAt}
 use Rattle.xc_model.specs.Holding.{AreApart}
 use Rattle.xc_model.specs.Words.{stores_to, TxWordsAgree, IsWriter, WordsAgree}
-use Rattle.xc_turns.proofs.WordLists.{behind_alike, behind_count, behind_other, replies_alike}
+use Rattle.xc_turns.proofs.WordStates.{behind_alike, behind_count, behind_other, replies_alike}
 use Rattle.xc_turns.proofs.WordClaims.{owner_is_alone, owner_sees}
 use Rattle.xc_turns.proofs.Jobs.{active_was, active_is, active_here, active_before, active_after}
-use Rattle.xc_turns.proofs.WordTx.{no_writer, committing_spoken, ended_spoken}
+use Rattle.xc_turns.proofs.WordTx.{no_writer, running_waits, phased_spoken, ended_spoken}
 
 -- the job has no committing transaction
 abbrev pub IsQuiet : JobView → Type 0
@@ -75,7 +75,7 @@ module _ (before words : List ℕ) (jobs : List JobView) (at : ℕ) (job : JobVi
     module _ (runs : tx.phase ≡ Running) (job' : JobView) (active' : active_of job' ≡ Some (record tx { phase = Committing })) where
       -- the words with its stores are those after its calls
       laid : overlaid words tx.writes ≡ words_behind words tx.calls
-      laid = spoken.stores runs words h.count
+      laid = (spoken.stores (running_waits tx.phase runs) words h.count).0
 
       -- no other writes a word that it owns
       none_writes : (word j : ℕ) (t : TxView) → Owns tx.number tx.held (object.Word word) → IsWriter jobs j t word → ⊥
@@ -115,7 +115,7 @@ module _ (before words : List ℕ) (jobs : List JobView) (at : ℕ) (job : JobVi
         each = λ j. here_or (λ k. (t : TxView) → IsActiveAt (slice_set jobs at job') k t → TxWordsAgree before t) j
             (λ t a. let is = active_is jobs at job stands job' t a in
             let same : record tx { phase = Committing } ≡ t = cc (active', is) in
-            subst (TxWordsAgree before) same (committing_spoken before tx spoken))
+            subst (TxWordsAgree before) same (phased_spoken before tx Committing tx.undo (λ waits. absurd waits) spoken))
             (λ ne t a. h.each j t (active_before jobs at j job' t ne a));
         written = λ word j. here_or (λ k. (t : TxView) → word < length before → IsWriter (slice_set jobs at job') k t word
             → slice_index (words_behind words tx.calls) word ≡ slice_index (words_behind before t.calls) word) j

@@ -1,8 +1,9 @@
 -- Each row of the table of turns keeps the words.
-use Rattle.std.proofs.Common.{◌≡◌, ℕ, ◌+◌, length, inl, inr, Some, None, List, [], ◌∷◌, ◌++◌, refl, ap, sym, ◌∙◌, subst}
-use Rattle.std.specs.Prelude.{Option, slice_get, slice_set}
+use Rattle.std.proofs.Common.{◌≡◌, ℕ, ◌+◌, length, inl, inr, true, false, Some, None, List, [], ◌∷◌, ◌++◌, refl, ap, sym, ◌∙◌, subst}
+use Rattle.std.specs.Prelude.{Bool, Option, nat_lt, slice_get, slice_set}
 use Rattle.xc_compensate.specs.Records.{Records}
 use Rattle.xc_data.specs.declared.call.Call.{Call}
+use Rattle.xc_data.specs.declared.call.Call.TheVariants as call
 use Rattle.xc_data.specs.declared.call.LateCall.{LateCall}
 use Rattle.xc_data.specs.declared.claim.Claim.{Claim}
 use Rattle.xc_data.specs.declared.entry.Cause.{Cause}
@@ -14,38 +15,42 @@ use Rattle.xc_data.specs.declared.entry.Turn.{Turn}
 use Rattle.xc_data.specs.declared.entry.Turn.TheVariants as turn
 use Rattle.xc_data.specs.declared.object.Object.TheVariants as object
 use Rattle.xc_data.specs.declared.undo.Undo.{Undo}
+use Rattle.xc_data.specs.declared.undo.UndoEnd.{UndoEnd}
+use Rattle.xc_data.specs.declared.undo.UndoEnd.TheVariants.{Undone, Failed, Blocked}
 use Rattle.xc_text.specs.declared.script.Script.{Script}
 use Rattle.xc_script.specs.declared.ask.Ask.{Ask}
 use Rattle.xc_script.specs.declared.ask.Ask.TheVariants as ask
 use Rattle.xc_script.specs.Position.{Position}
+use Rattle.xc_world.specs.Fits.{is_back}
 use Rattle.xc_world.specs.Own.{Sees, Owns}
 use Rattle.xc_data.specs.declared.entry.Mark.{Mark}
 use Rattle.xc_model.specs.declared.phase.Phase.{Phase}
-use Rattle.xc_model.specs.declared.phase.Phase.TheVariants.{Running, Committing, Undoing}
+use Rattle.xc_model.specs.declared.phase.Phase.TheVariants.{Running, Committing, Undoing, Backing}
 use Rattle.xc_model.specs.Setting.{Setting}
 use Rattle.xc_model.specs.Progress.{words_left, progress_of}
-use Rattle.xc_model.specs.Moment.{TxView, JobView, Doing, Idle, Active, Starved, Ended, Moment, active_in, active_of, begun_count, late_left, rank_of}
-use Rattle.xc_model.specs.Moment.{revoked, waiting, with_job}
+use Rattle.xc_model.specs.Moment.{TxView, SavedView, JobView, Doing, Idle, Active, Starved, Ended, Moment, active_in, active_of, begun_count, late_left}
+use Rattle.xc_model.specs.Moment.{rank_of, revoked, waiting, with_job}
 use Rattle.xc_model.specs.Movers.{asked_at, with_tx}
 use Rattle.xc_model.specs.IdleRows.{new_tx, beginning_job}
 use Rattle.xc_model.specs.PlainSteps.{claims_at, noting, wanting}
 use Rattle.xc_model.specs.Entering.{entry_of, behind_commit, behind_abort}
-use Rattle.xc_model.specs.RunningRows.{Calls, Conflicts, HoldsWanting, Wants}
+use Rattle.xc_model.specs.RunningRows.{BeginsBack, Calls, Conflicts, HoldsWanting, Wants}
 use Rattle.xc_model.specs.CommittingRows.{LateTurn}
 use Rattle.xc_model.specs.Entering.{started_jobs}
 use Rattle.xc_model.specs.UndoingRows.{Compensates, EntersAborted}
 use Rattle.xc_model.specs.Movers.{mover}
 use Rattle.xc_model.specs.IdleRows.{IdleTurn}
-use Rattle.xc_model.specs.RunningRows.{AskedTurn, MarkedTurn, RunningTurn}
+use Rattle.xc_model.specs.RunningRows.{AskedTurn, CalledTurn, MarkedTurn, RunningTurn}
+use Rattle.xc_model.specs.BackingRows.{phase_after, backed, BacksOne, EndsBack, BackingRow, OpenRow, BackingTurn, MarkedBack}
 use Rattle.xc_model.specs.CommittingRows.{CommittingTurn}
 use Rattle.xc_model.specs.UndoingRows.{BackTurn, UndoingTurn}
 use Rattle.xc_model.specs.Rows.{StarvedTurn, ActiveTurn, TurnOf, IsTurn}
 use Rattle.xc_model.specs.Holding.{AreApart}
-use Rattle.xc_model.specs.Words.{TxWordsAgree, WordsAgree}
+use Rattle.xc_model.specs.Words.{WaitsToStore, TxWordsAgree, WordsAgree}
 use Rattle.xc_turns.proofs.Jobs.{behind_abort_none}
 use Rattle.xc_turns.proofs.Progressing.{progress-more}
 use Rattle.xc_turns.proofs.WordClaims.{sees_still, owns_still}
-use Rattle.xc_turns.proofs.WordTx.{begun_spoken, turned_spoken, tried_spoken, called_spoken}
+use Rattle.xc_turns.proofs.WordTx.{begun_spoken, turned_spoken, phased_spoken, running_waits, backing_waits, backed_spoken, called_spoken}
 use Rattle.xc_model.specs.LateCalls.{started_late}
 use Rattle.xc_turns.proofs.Grown.{spoken_grown, started_idle}
 use Rattle.xc_turns.proofs.LateEnds.{Ends, next_ends}
@@ -86,6 +91,15 @@ running_is_none p is e = cc
 
 undoing_is_none : (p : Phase) (c : Cause) → p ≡ Undoing c → p ≡ Committing → ⊥
 undoing_is_none p c is e = cc
+
+backing_is_none : (p : Phase) → p ≡ Backing → p ≡ Committing → ⊥
+backing_is_none p is e = cc
+
+-- nor does one commit whose block's record was tried
+tried_is_none : (number : ℕ) (end : UndoEnd) → phase_after number end ≡ Committing → ⊥
+tried_is_none number (Undone faults) e = cc
+tried_is_none number (Failed done faults) e = cc
+tried_is_none number (Blocked by) e = cc
 
 module _ (s : Setting) (at : ℕ) (old : Moment) (job : JobView) (new : Moment) (stands : slice_get old.jobs at ≡ Some job) (apart : AreApart old.jobs)
     (h : KeepsWords s old) where
@@ -134,29 +148,43 @@ module _ (s : Setting) (at : ℕ) (old : Moment) (job : JobView) (new : Moment) 
         quiet_turn before old.words old.jobs at job stands h job' (active_quiet job tx active was) (active_quiet job' tx' refl now)
         (active_speaks before job' tx' refl sp)
 
-    -- ---- a running one
-    turns_back : (place : Position) (c : Cause) → tx.phase ≡ Running → KeepsWords s (with_job old at (with_tx job place (record tx { phase = Undoing c })))
-    turns_back place c runs =
-        goes_on place (record tx { phase = Undoing c }) (running_is_none tx.phase runs) (undoing_is_none (Undoing c) c refl)
-        (turned_spoken before tx c tx.held (λ word e. e) (λ word e. e) said)
+    -- it goes over to another phase, or one of its records is tried
+    phased : (place : Position) (phase : Phase) (undo : Records) → (tx.phase ≡ Committing → ⊥) → (phase ≡ Committing → ⊥)
+        → (WaitsToStore phase → WaitsToStore tx.phase) → KeepsWords s (with_job old at (with_tx job place (record tx { phase = phase; undo = undo })))
+    phased place phase undo was now still = goes_on place (record tx { phase = phase; undo = undo }) was now (phased_spoken before tx phase undo still said)
 
-    call_kept : (call : Call) → tx.phase ≡ Running → Calls (mover s at old job) tx call new → KeepsWords s new
-    call_kept call runs row =
+    -- it turns back
+    turns_back : (place : Position) (c : Cause) → (tx.phase ≡ Committing → ⊥)
+        → KeepsWords s (with_job old at (with_tx job place (record tx { phase = Undoing c })))
+    turns_back place c was = phased place (Undoing c) tx.undo was (undoing_is_none (Undoing c) c refl) (λ waits. absurd waits)
+
+    -- ---- a running one
+    call_kept : (call : Call) → is_back call ≡ false → tx.phase ≡ Running → Calls (mover s at old job) tx call new → KeepsWords s new
+    call_kept call ahead runs row =
         let tx' = noting tx call row.reply (claims_at old tx call) row.parts in
         kept_words s old new _ (ap (λ (n : Moment). n.jobs) row.behind) (ap (λ (n : Moment). n.words) row.behind) (ap (λ (n : Moment). n.journal) row.behind)
         (goes_on row.place tx' (running_is_none tx.phase runs) (running_is_none tx'.phase runs)
-        (called_spoken before old.words old.jobs at job tx stands active runs h call row.reply row.parts row.free row.stores row.spoken))
+        (called_spoken before old.words old.jobs at job tx stands active runs h call row.reply row.parts ahead row.free row.stores row.spoken))
 
     conflict_kept : (call : Call) → tx.phase ≡ Running → Conflicts (mover s at old job) tx call new → KeepsWords s new
-    conflict_kept call runs row = subst (KeepsWords s) (sym row.behind) (turns_back row.place _ runs)
+    conflict_kept call runs row = subst (KeepsWords s) (sym row.behind) (turns_back row.place _ (running_is_none tx.phase runs))
+
+    -- its block begins to go back
+    begins_kept : tx.phase ≡ Running → BeginsBack (mover s at old job) tx new → KeepsWords s new
+    begins_kept runs row = subst (KeepsWords s) (sym row.behind)
+        (phased row.place Backing tx.undo (running_is_none tx.phase runs) (backing_is_none Backing refl) (λ waits. running_waits tx.phase runs))
+
+    by_call : tx.phase ≡ Running → (c : Call) → CalledTurn (mover s at old job) tx c new → KeepsWords s new
+    by_call runs call.Back row = begins_kept runs row
+    by_call runs c (inl row) = call_kept c refl runs row
+    by_call runs c (inr row) = conflict_kept c runs row
 
     by_ask : tx.phase ≡ Running → (a : Ask) → AskedTurn (mover s at old job) tx a new → KeepsWords s new
-    by_ask runs (ask.Call call) (inl row) = call_kept call runs row
-    by_ask runs (ask.Call call) (inr row) = conflict_kept call runs row
+    by_ask runs (ask.Call c) row = by_call runs c row
     by_ask runs ask.Commit row =
         subst (KeepsWords s) (sym row.behind) (commits_turn before old.words old.jobs at job stands h tx active apart runs
         (with_tx job row.place (record tx { phase = Committing })) refl)
-    by_ask runs ask.Abort row = subst (KeepsWords s) (sym row.behind) (turns_back row.place cause.Asked runs)
+    by_ask runs ask.Abort row = subst (KeepsWords s) (sym row.behind) (turns_back row.place cause.Asked (running_is_none tx.phase runs))
     by_ask runs ask.End row = absurd row
 
     held_still : (a : Ask) (left : List Undo) (held : List Claim) → HoldsWanting (mover s at old job) tx a left held → (word : ℕ)
@@ -185,7 +213,7 @@ module _ (s : Setting) (at : ℕ) (old : Moment) (job : JobView) (new : Moment) 
         let tx' = wanting tx row.left row.held in
         kept_words s old new _ (ap (λ (n : Moment). n.jobs) row.behind) (ap (λ (n : Moment). n.words) row.behind) (ap (λ (n : Moment). n.journal) row.behind)
         (goes_on row.place tx' (running_is_none tx.phase runs) (undoing_is_none tx'.phase cause.NoMemory refl)
-        (tried_spoken before (record tx { phase = Undoing cause.NoMemory; held = row.held }) tx'.undo
+        (phased_spoken before (record tx { phase = Undoing cause.NoMemory; held = row.held }) (Undoing cause.NoMemory) tx'.undo (λ waits. waits)
         (turned_spoken before tx cause.NoMemory row.held (held_still a row.left row.held holds) (owned_still a row.left row.held holds) said)))
 
     by_running : tx.phase ≡ Running → (answer : Turn) → RunningTurn (mover s at old job) tx answer new → KeepsWords s new
@@ -200,8 +228,41 @@ module _ (s : Setting) (at : ℕ) (old : Moment) (job : JobView) (new : Moment) 
 
     by_mark : tx.phase ≡ Running → (m : Option Mark) (answer : Turn) → MarkedTurn (mover s at old job) tx m answer new → KeepsWords s new
     by_mark runs None answer row = by_running runs answer row
-    by_mark runs (Some m) turn.Went row = subst (KeepsWords s) (sym row) (turns_back job.place (revoked m) runs)
+    by_mark runs (Some m) turn.Went row = subst (KeepsWords s) (sym row) (turns_back job.place (revoked m) (running_is_none tx.phase runs))
     by_mark runs (Some m) _ row = absurd row
+
+    -- ---- one whose block goes back
+    backs_kept : (kept : SavedView) → tx.phase ≡ Backing → BacksOne (mover s at old job) tx kept new → KeepsWords s new
+    backs_kept kept backs row =
+        let undo : Records = record { pending = row.older; ended = (row.tried, row.end) ∷ tx.undo.ended } in
+        kept_words s old new _ (ap (λ (n : Moment). n.jobs) row.behind) (ap (λ (n : Moment). n.words) row.behind) (ap (λ (n : Moment). n.journal) row.behind)
+        (phased job.place (phase_after (length row.older + 1) row.end) undo (backing_is_none tx.phase backs)
+        (tried_is_none (length row.older + 1) row.end) (λ waits. backing_waits tx.phase backs))
+
+    ends_kept : (kept : SavedView) → tx.phase ≡ Backing → tx.saved ≡ Some kept → EndsBack (mover s at old job) tx kept new → KeepsWords s new
+    ends_kept kept backs opened row =
+        kept_words s old new _ (ap (λ (n : Moment). n.jobs) row.behind) (ap (λ (n : Moment). n.words) row.behind) (ap (λ (n : Moment). n.journal) row.behind)
+        (goes_on row.place (backed tx kept) (backing_is_none tx.phase backs) (running_is_none Running refl)
+        (backed_spoken before tx kept (backing_waits tx.phase backs) opened said))
+
+    by_block : (kept : SavedView) → tx.phase ≡ Backing → tx.saved ≡ Some kept → (b : Bool) → BackingRow (mover s at old job) tx kept b new → KeepsWords s new
+    by_block kept backs opened true row = backs_kept kept backs row
+    by_block kept backs opened false row = ends_kept kept backs opened row
+
+    by_save : tx.phase ≡ Backing → (saved : Option SavedView) → tx.saved ≡ saved → OpenRow (mover s at old job) tx saved new → KeepsWords s new
+    by_save backs None opened row = absurd row
+    by_save backs (Some kept) opened row = by_block kept backs opened (nat_lt (length kept.trail) (length tx.undo.pending)) row
+
+    by_backing : tx.phase ≡ Backing → (answer : Turn) → BackingTurn (mover s at old job) tx answer new → KeepsWords s new
+    by_backing backs turn.Went row = by_save backs tx.saved refl row
+    by_backing backs (turn.Busy object holder) row = absurd row
+    by_backing backs turn.NoMemory row = absurd row
+    by_backing backs (turn.Ended end) row = absurd row
+
+    by_mark_back : tx.phase ≡ Backing → (m : Option Mark) (answer : Turn) → MarkedBack (mover s at old job) tx m answer new → KeepsWords s new
+    by_mark_back backs None answer row = by_backing backs answer row
+    by_mark_back backs (Some m) turn.Went row = subst (KeepsWords s) (sym row) (turns_back job.place (revoked m) (backing_is_none tx.phase backs))
+    by_mark_back backs (Some m) _ row = absurd row
 
     -- ---- one that commits
     late_kept : Ends at old job tx new → KeepsWords s new
@@ -241,8 +302,7 @@ module _ (s : Setting) (at : ℕ) (old : Moment) (job : JobView) (new : Moment) 
     tried_kept c undoes row =
         let undo : Records = record { pending = row.older; ended = (row.tried, row.end) ∷ tx.undo.ended } in
         kept_words s old new _ (ap (λ (n : Moment). n.jobs) row.behind) (ap (λ (n : Moment). n.words) row.behind) (ap (λ (n : Moment). n.journal) row.behind)
-        (goes_on job.place (record tx { undo = undo }) (undoing_is_none tx.phase c undoes) (undoing_is_none tx.phase c undoes)
-        (tried_spoken before tx undo said))
+        (phased job.place tx.phase undo (undoing_is_none tx.phase c undoes) (undoing_is_none tx.phase c undoes) (λ waits. waits))
 
     by_records : (c : Cause) → tx.phase ≡ Undoing c → (pending : List Undo) → BackTurn (mover s at old job) tx c pending new → KeepsWords s new
     by_records c undoes [] row = abort_kept c undoes row
@@ -258,6 +318,7 @@ module _ (s : Setting) (at : ℕ) (old : Moment) (job : JobView) (new : Moment) 
     by_phase Running e answer row = by_mark e (old.marks tx.number) answer row
     by_phase Committing e answer row = by_committing e answer row
     by_phase (Undoing c) e answer row = by_undoing c e answer row
+    by_phase Backing e answer row = by_mark_back e (old.marks tx.number) answer row
 
   by_doing : (d : Doing) → job.doing ≡ d → (answer : Turn) → TurnOf (mover s at old job) d answer new → KeepsWords s new
   by_doing Idle is answer row = by_idle is answer row
