@@ -1,10 +1,9 @@
 -- A body and late calls that are run again: one call more, and all of them.
-use Rattle.std.proofs.Common.{◌≡◌, ℕ, ◌<◌, zero, suc, List, [], ◌∷◌, length, get_or, ◌≤◌, take, sym, ap, subst, ◌∙◌, refl, arith}
+use Rattle.std.proofs.Common.{◌≡◌, ℕ, ◌<◌, zero, suc, List, [], ◌∷◌, ◌++◌, length, get_or, ◌≤◌, take, sym, ap, subst, ◌∙◌, refl, arith, append_assoc}
 use Rattle.std.specs.Prelude.{IsTrue, All}
 use Rattle.std.proofs.lemmas.Bool.{and_parts, and_from}
-use Rattle.std.proofs.lemmas.List.{take_all}
+use Rattle.std.proofs.lemmas.List.{append-nil, take_all}
 use Rattle.std.proofs.lemmas.List.Elements.{All-head, All-tail}
-use Rattle.xc_data.specs.declared.call.Answer.TheVariants as answer
 use Rattle.xc_data.specs.declared.call.Call.{Call}
 use Rattle.xc_data.specs.declared.call.CallWithAnswer.{CallWithAnswer}
 use Rattle.xc_data.specs.declared.call.Reply.{Reply}
@@ -16,17 +15,13 @@ use Rattle.xc_world.specs.World.{World}
 use Rattle.xc_world.specs.Act.{act}
 use Rattle.xc_world.specs.Fits.{fits, late_fits, answer_of, late_answer_of}
 use Rattle.xc_world.specs.Late.{late}
-use Rattle.xc_world.specs.Run.{BodyResult, asked_of, body, body_fits, lates, lates_fit, late_asked_of}
+use Rattle.xc_world.specs.Run.{BlockState, step, block_step, runs_on, fits_on, opens, asked_of, body, body_fits, lates, lates_fit, late_asked_of}
 use Rattle.xc_world.specs.Sound.{IsFit, IsReady, IsShortCall, IsSound}
-use Rattle.xc_world.proofs.Joined.{body_first}
+use Rattle.xc_world.proofs.Blocks.{marked_replies}
 use Rattle.xc_world.proofs.Runs.{late_keeps_others}
 use Rattle.xc_world.proofs.SoundReady.{late_keeps_ready}
 use Rattle.xc_world.proofs.SoundLate.{late_fit, late_sound}
-use Rattle.xc_machine.specs.Replay.{IsReplayed, AreReplayed, IsEnded, AreEnded, led_by}
-
--- a call with the answer that its reply tells
-abbrev pub told : Call → Reply → CallWithAnswer
-told call reply = record { call = call; answer = answer_of reply }
+use Rattle.xc_machine.specs.Replay.{IsReplayed, AreReplayed, AreReplayedOn, told, IsEnded, AreEnded, led_by}
 
 -- there are as many answers as calls
 pub asked_length : (calls : List Call) (replies : List Reply) → length (asked_of calls replies) ≡ length calls
@@ -49,37 +44,39 @@ asked_all calls replies i le =
     take_all i (asked_of calls replies) (subst (λ n. n ≤ i) (sym (asked_length calls replies)) le)
 
 -- each call has its reply
-pub as_many : (w : World) (me : Private) (tx : ℕ) (calls : List Call) (replies : List Reply) → AreReplayed w me tx calls replies
+pub as_many : (tx : ℕ) (b : BlockState) (calls : List Call) (replies : List Reply) → AreReplayedOn tx b calls replies
     → length calls ≡ length replies
-as_many w me tx [] replies h = sym (ap length h)
-as_many w me tx (c ∷ calls) [] h = absurd h
-as_many w me tx (c ∷ calls) (reply ∷ replies) h =
-    let s = act w me tx c (answer_of reply) in ap suc (as_many s.world s.me tx calls replies h.1)
+as_many tx b [] replies h = sym (ap length h)
+as_many tx b (c ∷ calls) [] h = absurd h
+as_many tx b (c ∷ calls) (reply ∷ replies) h = ap suc (as_many tx (block_step tx b (told c reply)) calls replies h.1)
 
--- where those that are left are replayed, so are those behind the next one
-pub next : (w v : World) (me m : Private) (tx : ℕ) (c : Call) (reply : Reply) (xs calls : List Call) (ys replies : List Reply)
-    → xs ≡ c ∷ calls → ys ≡ reply ∷ replies → v ≡ (act w me tx c (answer_of reply)).world → m ≡ (act w me tx c (answer_of reply)).me
-    → AreReplayed w me tx xs ys → AreReplayed v m tx calls replies
-next w v me m tx c reply xs calls ys replies p q r s h =
-    let both = subst (λ z. AreReplayed w me tx z (reply ∷ replies)) p (subst (λ z. AreReplayed w me tx xs z) q h) in
-    subst (λ z. AreReplayed z m tx calls replies) (sym r)
-    (subst (λ z. AreReplayed (act w me tx c (answer_of reply)).world z tx calls replies) (sym s) both.1)
+-- where those that are left are replayed, so is the next one, and those behind it
+pub next : (tx : ℕ) (b : BlockState) (c : Call) (reply : Reply) (xs calls : List Call) (ys replies : List Reply) → xs ≡ c ∷ calls → ys ≡ reply ∷ replies
+    → AreReplayedOn tx b xs ys
+    → IsReplayed b.now.world b.now.me tx c reply × AreReplayedOn tx (block_step tx b (told c reply)) calls replies
+next tx b c reply xs calls ys replies p q h = subst (λ z. AreReplayedOn tx b z (reply ∷ replies)) p (subst (λ z. AreReplayedOn tx b xs z) q h)
 
 -- and the other way round
-pub back : (w v : World) (me m : Private) (tx : ℕ) (c : Call) (reply : Reply) (xs calls : List Call) (ys replies : List Reply)
-    → xs ≡ c ∷ calls → ys ≡ reply ∷ replies → v ≡ (act w me tx c (answer_of reply)).world → m ≡ (act w me tx c (answer_of reply)).me
-    → IsReplayed w me tx c reply → AreReplayed v m tx calls replies → AreReplayed w me tx xs ys
-back w v me m tx c reply xs calls ys replies p q r s one h =
-    let rest = subst (λ z. AreReplayed (act w me tx c (answer_of reply)).world z tx calls replies) s
-    (subst (λ z. AreReplayed z m tx calls replies) r h) in
-    subst (λ z. AreReplayed w me tx xs z) (sym q) (subst (λ z. AreReplayed w me tx z (reply ∷ replies)) (sym p) (one, rest))
+pub back : (tx : ℕ) (b : BlockState) (c : Call) (reply : Reply) (xs calls : List Call) (ys replies : List Reply) → xs ≡ c ∷ calls → ys ≡ reply ∷ replies
+    → IsReplayed b.now.world b.now.me tx c reply → AreReplayedOn tx (block_step tx b (told c reply)) calls replies → AreReplayedOn tx b xs ys
+back tx b c reply xs calls ys replies p q one rest =
+    subst (λ z. AreReplayedOn tx b xs z) (sym q) (subst (λ z. AreReplayedOn tx b z (reply ∷ replies)) (sym p) (one, rest))
 
 -- ---- what is replayed
--- the replies of a body with a first call
-replies_first : (w : World) (me : Private) (tx : ℕ) (c : CallWithAnswer) (asked : List CallWithAnswer)
-    → (body w me tx (c ∷ asked)).replies
-    ≡ (act w me tx c.call c.answer).reply ∷ (body (act w me tx c.call c.answer).world (act w me tx c.call c.answer).me tx asked).replies
-replies_first w me tx c asked = ap (λ (r : BodyResult). r.replies) (body_first w me tx c asked)
+-- the replies of calls one after another
+abbrev given : ℕ → BlockState → List CallWithAnswer → List Reply
+given tx b [] = []
+given tx b (c ∷ asked) = (act b.now.world b.now.me tx c.call c.answer).reply ∷ given tx (block_step tx b c) asked
+
+-- they come behind those before
+given_behind : (tx : ℕ) (b : BlockState) (asked : List CallWithAnswer) → (runs_on tx b asked).now.replies ≡ b.now.replies ++ given tx b asked
+given_behind tx b [] = sym (append-nil b.now.replies)
+given_behind tx b (c ∷ asked) =
+    let one = (act b.now.world b.now.me tx c.call c.answer).reply in
+    let rest = given tx (block_step tx b c) asked in
+    given_behind tx (block_step tx b c) asked
+    ∙ ap (λ rs. rs ++ rest) (marked_replies c.call b.saved (step tx b.now c))
+    ∙ append_assoc b.now.replies (one ∷ []) rest
 
 first_is : {A : Type 0} (x y : A) (xs ys : List A) → x ∷ xs ≡ y ∷ ys → x ≡ y
 first_is x y xs ys e = cc
@@ -90,33 +87,44 @@ none_is e = cc
 rest_is : {A : Type 0} (x y : A) (xs ys : List A) → x ∷ xs ≡ y ∷ ys → xs ≡ ys
 rest_is x y xs ys e = cc
 
+to_given : (tx : ℕ) (b : BlockState) (calls : List Call) (replies : List Reply) → AreReplayedOn tx b calls replies
+    → IsTrue (fits_on tx b (asked_of calls replies)) × (given tx b (asked_of calls replies) ≡ replies)
+to_given tx b [] replies h = (refl, sym h)
+to_given tx b (c ∷ calls) [] h = absurd h
+to_given tx b (c ∷ calls) (reply ∷ replies) h =
+    let asked = asked_of calls replies in
+    let after = block_step tx b (told c reply) in
+    let rest = to_given tx after calls replies h.1 in (
+      and_from (fits b.now.world b.now.me tx c (answer_of reply)) (fits_on tx after asked) h.0.fits rest.0,
+      ap (λ r. r ∷ given tx after asked) h.0.gives ∙ ap (λ rs. reply ∷ rs) rest.1,
+    )
+
+from_given : (tx : ℕ) (b : BlockState) (calls : List Call) (replies : List Reply)
+    → IsTrue (fits_on tx b (asked_of calls replies)) × (given tx b (asked_of calls replies) ≡ replies) → AreReplayedOn tx b calls replies
+from_given tx b [] replies h = sym h.1
+from_given tx b (c ∷ calls) [] h = absurd (none_is h.1)
+from_given tx b (c ∷ calls) (reply ∷ replies) h =
+    let asked = asked_of calls replies in
+    let after = block_step tx b (told c reply) in
+    let one = (act b.now.world b.now.me tx c (answer_of reply)).reply in
+    let fit = and_parts (fits b.now.world b.now.me tx c (answer_of reply)) (fits_on tx after asked) h.0 in (
+      record { fits = fit.0; gives = first_is one reply (given tx after asked) replies h.1 },
+      from_given tx after calls replies (fit.1, rest_is one reply (given tx after asked) replies h.1),
+    )
+
 -- what is replayed fits, and gives these replies
 pub to_body : (w : World) (me : Private) (tx : ℕ) (calls : List Call) (replies : List Reply) → AreReplayed w me tx calls replies
     → IsTrue (body_fits w me tx (asked_of calls replies)) × ((body w me tx (asked_of calls replies)).replies ≡ replies)
-to_body w me tx [] replies h = (refl, sym h)
-to_body w me tx (c ∷ calls) [] h = absurd h
-to_body w me tx (c ∷ calls) (reply ∷ replies) h =
-    let asked = asked_of calls replies in
-    let s = act w me tx c (answer_of reply) in
-    let rest = to_body s.world s.me tx calls replies h.1 in (
-      and_from (fits w me tx c (answer_of reply)) (body_fits s.world s.me tx asked) h.0.fits rest.0,
-      replies_first w me tx (told c reply) asked ∙ ap (λ r. r ∷ (body s.world s.me tx asked).replies) h.0.gives ∙ ap (λ rs. reply ∷ rs) rest.1,
-    )
+to_body w me tx calls replies h =
+    let both = to_given tx (opens w me) calls replies h in
+    (both.0, given_behind tx (opens w me) (asked_of calls replies) ∙ both.1)
 
 -- what fits and gives these replies is replayed
 pub from_body : (w : World) (me : Private) (tx : ℕ) (calls : List Call) (replies : List Reply)
     → IsTrue (body_fits w me tx (asked_of calls replies)) × ((body w me tx (asked_of calls replies)).replies ≡ replies)
     → AreReplayed w me tx calls replies
-from_body w me tx [] replies h = sym h.1
-from_body w me tx (c ∷ calls) [] h = absurd (none_is (sym (replies_first w me tx (record { call = c; answer = answer.Fine }) (asked_of calls [])) ∙ h.1))
-from_body w me tx (c ∷ calls) (reply ∷ replies) h =
-    let asked = asked_of calls replies in
-    let s = act w me tx c (answer_of reply) in
-    let fit = and_parts (fits w me tx c (answer_of reply)) (body_fits s.world s.me tx asked) h.0 in
-    let same = sym (replies_first w me tx (told c reply) asked) ∙ h.1 in (
-      record { fits = fit.0; gives = first_is s.reply reply (body s.world s.me tx asked).replies replies same },
-      from_body s.world s.me tx calls replies (fit.1, rest_is s.reply reply (body s.world s.me tx asked).replies replies same),
-    )
+from_body w me tx calls replies h =
+    from_given tx (opens w me) calls replies (h.0, sym (given_behind tx (opens w me) (asked_of calls replies)) ∙ h.1)
 
 -- ---- late calls
 -- each late call has its end

@@ -1,6 +1,7 @@
 //! The plain machine as it runs: an executable copy of what each call does to a world.
 #![tactic(auto)]
 
+mod body;
 mod held;
 mod kept;
 mod lates;

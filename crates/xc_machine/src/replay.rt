@@ -1,13 +1,13 @@
 ghost use Rattle.std.specs.Prelude.{◌≡◌, ◌≢◌, ◌<◌, ◌^◌, ◌∷◌, ◌++◌, [], ℕ, length, All, IfOk, IfSome, MatchOption};
 ghost use Rattle.std.specs.Bool.{Decides, OnTrue};
 ghost use Rattle.xc_data.specs.declared.private.Private.{Private};
-ghost use Rattle.xc_machine.specs.Replay.{IsReplayed, AreReplayed};
+ghost use Rattle.xc_machine.specs.Blocks.{StandsAt};
+ghost use Rattle.xc_machine.specs.Replay.{IsReplayed, AreReplayed, told};
 ghost use Rattle.xc_world.specs.Sound.{IsReady, IsSound};
-ghost use Rattle.xc_world.specs.Act.{act};
 ghost use Rattle.xc_world.specs.Fits.{answer_of};
-ghost use Rattle.xc_world.specs.Late.{kept_call};
-ghost use Rattle.xc_world.specs.Run.{asked_of, body};
+ghost use Rattle.xc_world.specs.Run.{BlockState, asked_of, block_step, body};
 
+use crate::body::Body;
 use crate::{Replied, World};
 use std::alloc::Global;
 use xc_data::{Answer, Call, NoMemory, Private, Reply};
@@ -18,6 +18,7 @@ fn answer_in(reply: &Reply) -> Answer
 {
     match reply {
         Reply::Fault(n) => Answer::Fault(*n),
+        Reply::Undone(n) => Answer::Undone(*n),
         // Any other reply tells of no fault, also one yet to come.
         _ => Answer::Fine,
     }
@@ -39,8 +40,10 @@ impl Replied {
             None => false,
         }
     }
+}
 
-    // Makes a call of the body, where it replies so.
+impl Body {
+    // Makes a call, where it replies so.
     fn replay_call(
         &mut self,
         world: &mut World,
@@ -52,18 +55,15 @@ impl Replied {
         requires sound { IsSound world.old me.old tx }
         requires words { length world.old.words < 2 ^ 32 }
         ensures decides { IfOk result (λ yes. Decides yes (IsReplayed world.old me.old tx call.now reply.now)) }
-        ensures sound { IfOk result (λ yes. OnTrue yes (IsSound world.new me.new tx)) }
-        ensures world { IfOk result (λ yes. OnTrue yes (world.new ≡ (act world.old me.old tx call.now (answer_of reply.now)).world)) }
-        ensures me { IfOk result (λ yes. OnTrue yes (me.new ≡ (act world.old me.old tx call.now (answer_of reply.now)).me)) }
-        ensures late { IfOk result (λ yes. OnTrue yes (self.new.late
-            ≡ self.old.late ++ kept_call call.now me.old (act world.old me.old tx call.now (answer_of reply.now)).reply)) }
+        ensures stands { (b : BlockState) → StandsAt world.old me.old self.old b → IfOk result (λ yes. OnTrue yes
+            (StandsAt world.new me.new self.new (block_step tx b (told call.now reply.now)))) }
     {
         let answer = answer_in(reply);
         if !world.fits(me, tx, call, answer) {
             return Ok(false);
         }
-        self.take_call(world, me, tx, call, answer)?;
-        Ok(self.ends_with(reply))
+        self.make_call(world, me, tx, call, answer)?;
+        Ok(self.replied.ends_with(reply))
     }
 }
 
@@ -92,11 +92,11 @@ pub fn replay_body(
     if calls.len() != replies.len() {
         return Ok(None);
     }
-    let mut replied = Replied::new(alloc);
+    let mut body = Body::new(alloc);
     for (at, call) in calls.iter().enumerate() {
-        if !replied.replay_call(world, me, tx, call, &replies[at])? {
+        if !body.replay_call(world, me, tx, call, &replies[at])? {
             return Ok(None);
         }
     }
-    Ok(Some(replied))
+    Ok(Some(body.replied))
 }

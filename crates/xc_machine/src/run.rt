@@ -8,6 +8,7 @@ ghost use Rattle.xc_data.specs.Calls.{late_call};
 ghost use Rattle.xc_world.specs.Modes.{claims_of};
 ghost use Rattle.xc_world.specs.Run.{body, body_fits, taken_by};
 
+use crate::body::Body;
 use crate::{World, hold, taken_by};
 use arrayvec::ArrayVec;
 use std::alloc::Global;
@@ -125,9 +126,9 @@ pub fn run_body(
     ensures taken { IfOk result (λ r. r.taken ≡ (body world.old me.old tx asked.now).taken) }
     ensures held { IfOk result (λ r. r.held.items ≡ held_of (body world.old me.old tx asked.now).touched) }
 {
-    let mut replied = Replied::new(alloc);
+    let mut body = Body::new(alloc);
     for call in asked {
-        replied.take_call(world, me, tx, &call.call, call.answer)?;
+        body.make_call(world, me, tx, &call.call, call.answer)?;
     }
-    Ok(replied)
+    Ok(body.replied)
 }

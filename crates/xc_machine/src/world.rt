@@ -1,4 +1,4 @@
-ghost use Rattle.std.specs.Prelude.{◌≡◌, length};
+ghost use Rattle.std.specs.Prelude.{◌≡◌, length, IfOk};
 ghost use Rattle.xc_world.specs.World.{file_of, pipe_of, pair_of, waiting};
 
 mod act;
@@ -11,9 +11,10 @@ mod pipes;
 mod remain;
 mod shared;
 
-use std::alloc::Global;
+use opening::{names_of, words_of};
+use std::alloc::{AllocError, Global};
 use std::marker::Model;
-use xc_data::{Chunk, IdentList, Items, Num, WordList};
+use xc_data::{Chunk, IdentList, Items, NoMemory, Num, WordList};
 use xc_maps::{NameMap, NumMap};
 
 /// A pipe's bytes, and whether it is shut.
@@ -33,6 +34,17 @@ impl Model for PipeBody {
     ghost view = { λ a. record { held = a.held; shut = a.shut } };
 }
 
+impl Clone for PipeBody {
+    ghost is_clone = { λ pipe copy. copy ≡ pipe };
+
+    fn clone(&self) -> Result<Self, AllocError> {
+        Ok(PipeBody {
+            held: self.held.clone()?,
+            shut: self.shut,
+        })
+    }
+}
+
 /// A pair's messages that wait for side 0 and for side 1, and whether it is shut.
 #[derive(Drop)]
 pub(crate) struct PairBody {
@@ -49,6 +61,18 @@ impl Model for PairBody {
     ghost coded = { coded_pair };
 
     ghost view = { λ a. record { first = a.first; second = a.second; shut = a.shut } };
+}
+
+impl Clone for PairBody {
+    ghost is_clone = { λ pair copy. copy ≡ pair };
+
+    fn clone(&self) -> Result<Self, AllocError> {
+        Ok(PairBody {
+            first: self.first.clone()?,
+            second: self.second.clone()?,
+            shut: self.shut,
+        })
+    }
 }
 
 /// The world of the plain machine.
@@ -84,6 +108,22 @@ impl Model for World {
 }
 
 impl World {
+    /// An equal world.
+    pub fn copy(&self) -> Result<World, NoMemory>
+        ensures { IfOk result (λ copy. copy ≡ self.now) }
+    {
+        Ok(World {
+            alloc: self.alloc,
+            words: words_of(self.alloc, self.words.as_slice())?,
+            names: self.names.copied()?,
+            files: self.files.copied()?,
+            pipes: self.pipes.copied()?,
+            pairs: self.pairs.copied()?,
+            started: names_of(self.alloc, self.started.as_slice(), &[])?,
+            blocks: names_of(self.alloc, self.blocks.as_slice(), &[])?,
+        })
+    }
+
     pub(crate) fn alloc(&self) -> Global {
         self.alloc
     }

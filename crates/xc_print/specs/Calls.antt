@@ -6,6 +6,7 @@ use Rattle.xc_data.specs.declared.call.Call.{Call}
 use Rattle.xc_data.specs.declared.call.Call.TheVariants.{Load, Store, XOpen, XCreate, XRead, XWriteOvr, XWriteSeq, XSeek}
 use Rattle.xc_data.specs.declared.call.Call.TheVariants.{XLen, XRename, XClose, XPipe, XReadPipe, XPair, XRecvmsg}
 use Rattle.xc_data.specs.declared.call.Call.TheVariants.{XUnlink, XSync, XWritePipe, XShutdown, XSendmsg, XThreadCreate}
+use Rattle.xc_data.specs.declared.call.Call.TheVariants.{Save, Keep, Back}
 use Rattle.xc_print.specs.Bytes.{bytes_text}
 use Rattle.xc_print.specs.Objects.{handle_text}
 
@@ -37,3 +38,6 @@ call_text (XWritePipe h bytes slot) = codes "x_write_pipe " ++ handle_text h ++ 
 call_text (XShutdown h slot) = codes "x_shutdown " ++ handle_text h ++ slot_text slot
 call_text (XSendmsg h bytes slot) = codes "x_sendmsg " ++ handle_text h ++ codes " " ++ bytes_text bytes ++ slot_text slot
 call_text (XThreadCreate body slot) = codes "x_thread_create " ++ body ++ slot_text slot
+call_text Save = codes "save"
+call_text Keep = codes "keep"
+call_text Back = codes "back"

@@ -5,7 +5,7 @@ use Rattle.xc_data.specs.declared.call.Call.{Call}
 use Rattle.xc_data.specs.declared.call.Reply.{Reply}
 use Rattle.xc_data.specs.declared.call.LateEnd.{LateEnd}
 use Rattle.xc_data.specs.declared.entry.Cause.{Cause}
-use Rattle.xc_data.specs.declared.entry.Cause.TheVariants.{Asked, Conflict, Revoked, NoMemory}
+use Rattle.xc_data.specs.declared.entry.Cause.TheVariants.{Asked, Conflict, Revoked, NoMemory, Stuck}
 use Rattle.xc_data.specs.declared.entry.Entry.{Entry}
 use Rattle.xc_data.specs.declared.entry.Outcome.{Outcome}
 use Rattle.xc_data.specs.declared.entry.Outcome.TheVariants.{Committed, Aborted}
@@ -21,6 +21,7 @@ cause_text (Conflict object holder at) = codes "conflict " ++ object_text object
     ++ codes " holder t" ++ decimal holder ++ codes " at " ++ decimal at
 cause_text (Revoked object by at) = codes "revoked " ++ object_text object ++ codes " by t" ++ decimal by ++ codes " at " ++ decimal at
 cause_text NoMemory = codes "no memory"
+cause_text (Stuck failed) = codes "stuck undo " ++ decimal failed
 
 -- the transaction, its job, its rank and its begin
 abbrev pub attempt_text : Entry → List ℕ

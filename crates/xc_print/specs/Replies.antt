@@ -26,6 +26,7 @@ reply_text reply.TooMuch = codes "too much"
 reply_text reply.BadWord = codes "bad word"
 reply_text (reply.Fault n) = codes "fault " ++ decimal n
 reply_text reply.Late = codes "late"
+reply_text (reply.Undone faults) = codes "done faults " ++ decimal faults
 
 -- how a late call ended
 abbrev pub late_end_text : LateEnd → List ℕ

@@ -129,5 +129,8 @@ pub fn push_call(out: &mut Page, call: &Call) -> Result<(), NoMemory>
         Call::XThreadCreate { body, slot } => {
             push_ident_late(out, "  x_thread_create ", body.value(), slot)
         }
+        Call::Save => out.text("  save"),
+        Call::Keep => out.text("  keep"),
+        Call::Back => out.text("  back"),
     }
 }

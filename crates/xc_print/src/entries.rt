@@ -27,6 +27,7 @@ fn push_cause(out: &mut Page, cause: &Cause) -> Result<(), NoMemory>
             out.labelled(" at ", *at as u64)
         }
         Cause::NoMemory => out.text("no memory"),
+        Cause::Stuck { failed } => out.labelled("stuck undo ", *failed as u64),
     }
 }
 

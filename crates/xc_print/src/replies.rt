@@ -33,6 +33,7 @@ pub fn push_reply(out: &mut Page, reply: &Reply) -> Result<(), NoMemory>
         Reply::BadWord => out.text(" = bad word"),
         Reply::Fault(n) => out.labelled(" = fault ", *n as u64),
         Reply::Late => out.text(" = late"),
+        Reply::Undone(faults) => out.labelled(" = done faults ", *faults as u64),
     }
 }
 

@@ -1,5 +1,5 @@
 ghost use Rattle.std.specs.Prelude.{◌≡◌, ◌≤◌, ◌^◌, length, count_by, sum_by};
-ghost use Rattle.xc_data.specs.Faults.{is_fault_reply, is_fault_end, undo_faults, outcome_faults, entry_faults};
+ghost use Rattle.xc_data.specs.Faults.{reply_faults, is_fault_end, undo_faults, outcome_faults, entry_faults};
 ghost use Rattle.xc_failure.specs.Effects.{effect_remains};
 ghost use Rattle.xc_print.specs.Totals.{is_committed, is_aborted, entry_remains, totals_of};
 
@@ -13,7 +13,7 @@ use xc_failure::remaining_from;
 pub struct Totals {
     pub committed: usize,
     pub aborted: usize,
-    /// Fault replies, late calls that ended in a fault, and faults of compensations.
+    /// Fault replies, late calls that ended in a fault, and faults of compensations, also of those on the way back of a block.
     pub faults: u128,
     /// The effects of aborted transactions that stand.
     pub remains: u128,
@@ -31,13 +31,27 @@ fn is_abort(entry: &Entry) -> bool
     matches!(entry.outcome, Outcome::Aborted(_))
 }
 
-fn count_fault_replies(replies: &[Reply]) -> usize
-    ensures { result ≡ count_by is_fault_reply replies.now }
+// The faults that a reply tells of.
+fn told_faults(reply: &Reply) -> u32
+    ensures { result ≡ reply_faults reply.now }
 {
-    replies
-        .iter()
-        .filter(|reply| matches!(reply, Reply::Fault(_)))
-        .count()
+    match reply {
+        Reply::Fault(_) => 1,
+        Reply::Undone(faults) => *faults,
+        // Any other reply tells of none, also one yet to come.
+        _ => 0,
+    }
+}
+
+fn sum_told(replies: &[Reply]) -> u128
+    ensures value { result ≡ sum_by reply_faults replies.now }
+    ensures bound { result ≤ 2 ^ 96 }
+{
+    let mut faults = 0;
+    for reply in replies {
+        faults += told_faults(reply) as u128;
+    }
+    faults
 }
 
 fn count_fault_ends(ends: &[LateEnd]) -> usize
@@ -82,7 +96,7 @@ fn entry_faults_of(entry: &Entry) -> u128
     ensures value { result ≡ entry_faults entry.now }
     ensures bound { result ≤ 2 ^ 97 }
 {
-    count_fault_replies(entry.replies.as_slice()) as u128 + outcome_faults_of(&entry.outcome)
+    sum_told(entry.replies.as_slice()) + outcome_faults_of(&entry.outcome)
 }
 
 fn effect_remains(ended: &(Undo, UndoEnd)) -> bool

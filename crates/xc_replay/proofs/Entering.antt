@@ -12,7 +12,7 @@ use Rattle.xc_data.specs.declared.private.Private.{Private}
 use Rattle.xc_machine.specs.Replay.{AreReplayed}
 use Rattle.xc_machine.proofs.MachineReplay.{to_body}
 use Rattle.xc_model.specs.Progress.{private_of, started_blocks}
-use Rattle.xc_script.specs.Slots.{kept_of}
+use Rattle.xc_script.specs.Blocks.{kept_calls}
 use Rattle.xc_world.specs.World.{World, State, beginning}
 use Rattle.xc_world.specs.Run.{asked_of, body_fits, run, run_fits}
 use Rattle.xc_world.specs.Sound.{IsSound}
@@ -60,10 +60,10 @@ handed_on handles job m count = slice_set handles (job - 1) m.places ++ replicat
 -- a run from an entry's begin, with the jobs that it started, is a committed entry
 pub committed : (s : State) (e : Entry) (late : List LateEnd) (m : Private) (x : World) (handles : List (List Place))
     → Ran s.world (private_of s e.job) e.tx e.calls e.replies late m x
-    → handles ≡ handed_on s.handles e.job m (length (started_blocks (kept_of e.calls e.replies) late))
+    → handles ≡ handed_on s.handles e.job m (length (started_blocks (kept_calls e.calls e.replies) late))
     → IsCommitted s e late (record { world = x; handles = handles })
 committed s e late m x handles ran is =
-    let count = length (started_blocks (kept_of e.calls e.replies) late) in
+    let count = length (started_blocks (kept_calls e.calls e.replies) late) in
     let fits = and_parts (body_fits s.world (private_of s e.job) e.tx (asked_of e.calls e.replies)) _ ran.fits in
     let places = is ∙ ap (λ (q : Private). handed_on s.handles e.job q count) ran.mine in
     record {
@@ -77,7 +77,7 @@ committed s e late m x handles ran is =
 pub committed_at : (s : State) (e : Entry) (late : List LateEnd) (w : World) (hs : List (List Place)) (calls : List Call) (replies : List Reply)
     (me m : Private) (x : World) (handles : List (List Place)) → s ≡ record { world = w; handles = hs } → calls ≡ e.calls → replies ≡ e.replies
     → me ≡ private_of s e.job → Ran w me e.tx calls replies late m x
-    → handles ≡ handed_on hs e.job m (length (started_blocks (kept_of calls replies) late))
+    → handles ≡ handed_on hs e.job m (length (started_blocks (kept_calls calls replies) late))
     → IsCommitted s e late (record { world = x; handles = handles })
 committed_at s e late w hs calls replies me m x handles view same_calls same_replies begins ran is =
     let world : w ≡ s.world = sym (ap (λ (t : State). t.world) view) in
@@ -87,4 +87,4 @@ committed_at s e late w hs calls replies me m x handles view same_calls same_rep
     (subst (λ z. Ran w z e.tx e.calls e.replies late m x) begins
     (subst (λ z. Ran w me e.tx z e.replies late m x) same_calls
     (subst (λ z. Ran w me e.tx calls z late m x) same_replies ran))))
-    (is ∙ (λ i. handed_on (places i) e.job m (length (started_blocks (kept_of (same_calls i) (same_replies i)) late))))
+    (is ∙ (λ i. handed_on (places i) e.job m (length (started_blocks (kept_calls (same_calls i) (same_replies i)) late))))

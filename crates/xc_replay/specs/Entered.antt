@@ -7,7 +7,7 @@ use Rattle.xc_data.specs.declared.entry.Outcome.{Outcome}
 use Rattle.xc_data.specs.declared.entry.Outcome.TheVariants.{Committed, Aborted}
 use Rattle.xc_data.specs.declared.call.LateEnd.{LateEnd}
 use Rattle.xc_model.specs.Progress.{private_of, body_of, run_of, committed_state, started_blocks}
-use Rattle.xc_script.specs.Slots.{kept_of}
+use Rattle.xc_script.specs.Blocks.{kept_calls}
 use Rattle.xc_world.specs.World.{World, State, beginning}
 use Rattle.xc_world.specs.Run.{body_fits, lates_fit, asked_of, late_asked_of}
 use Rattle.xc_world.specs.Ends.{remains, with_remains}
@@ -23,7 +23,7 @@ pub record IsCommitted (s : State) (e : Entry) (late : List LateEnd) (next : Sta
   pub body : RepliesSo s e
   pub late_fits : IsTrue (lates_fit (body_of s e).world (late_asked_of (body_of s e).late late))
   pub ends : (run_of s e late).late.ends ≡ late
-  pub leads : next ≡ committed_state s e.job (run_of s e late) (started_blocks (kept_of e.calls e.replies) late)
+  pub leads : next ≡ committed_state s e.job (run_of s e late) (started_blocks (kept_calls e.calls e.replies) late)
 
 -- what an entry with this outcome leads to: a run whole, or what remains
 abbrev pub IsEntered : State → Entry → Outcome → State → Type 0

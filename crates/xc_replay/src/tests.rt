@@ -83,6 +83,37 @@ commit
 end
 ";
 
+const BLOCKS: &str = "grain 1
+file a \"hello\"
+job main
+tx
+x_open a -> f
+x_thread_create child
+save
+x_write_ovr f \"HE\"
+store 0 7
+x_thread_create child
+x_unlink a
+back
+keep
+x_read f 5 -> d
+commit
+tx
+save
+x_write_ovr f \"XYZ\"
+x_sync f
+keep
+load 0 -> n
+commit
+end
+body child
+tx
+x_open a -> g
+x_read g 9 -> d
+commit
+end
+";
+
 /// What the runs so far had.
 #[derive(Clone, Copy)]
 struct Met {
@@ -228,7 +259,7 @@ fn each_journal_under_a_fault_is_replayed(rt: HostRuntime) -> Result<(), Fail> {
         remains: 0,
         late_faults: 0,
     };
-    for script in [BYTES_GIVEN_BACK, NAME_THAT_STANDS, START, PAY] {
+    for script in [BYTES_GIVEN_BACK, NAME_THAT_STANDS, START, PAY, BLOCKS] {
         for tries in ["1", "3"] {
             assert!(rt; met.replay_each(&rt, script, tries)?);
         }

@@ -1,4 +1,4 @@
--- The texts of a script of two jobs, and of one with a late call, computed.
+-- The texts of a script of two jobs, of one with an inner block, and of one with a late call, computed.
 use Rattle.std.proofs.Common.{◌≡◌, ℕ, suc, List, [], ◌∷◌, ◌++◌, refl, ap, ◌∙◌}
 use Rattle.std.specs.Prelude.{codes}
 use Rattle.std.specs.Fmt.{digits}
@@ -71,6 +71,45 @@ pub text_of_two_jobs :
     ++ codes "total 2 committed, 1 aborted, 0 faults, 0 remains\n"
 unfolding digits
 text_of_two_jobs = refl
+
+-- a job of one transaction, which goes back in an inner block
+abbrev inner_block : Script
+inner_block =
+    record {
+      outline =
+          record {
+            words = 100 ∷ [];
+            prologue = record { objects = []; faults = []; grain = None };
+            bodies = [];
+            jobs = codes "main" ∷ [];
+          };
+      blocks =
+          record {
+            name = codes "main";
+            transactions =
+                (stores 5 ∷ statement.Call form.Save ∷ stores 7 ∷ statement.Call form.Back ∷ stores 9 ∷ statement.Call form.Keep ∷ loads ∷ []) ∷ [];
+          }
+          ∷ [];
+      variables = [];
+      slots = [];
+      handles = [];
+    }
+
+-- its text: the store before the block stands, that of the block doesn't, and what is behind the back isn't asked
+pub text_of_inner_block :
+    plain_text inner_block
+    ≡ codes "commit t1 job 1 rank 1 began 0\n"
+    ++ codes "  store 0 5 = done\n"
+    ++ codes "  save = done\n"
+    ++ codes "  store 0 7 = done\n"
+    ++ codes "  back = done faults 0\n"
+    ++ codes "  load 0 = 5\n"
+    ++ codes "  held word 0\n"
+    ++ codes "job 1 main done\n"
+    ++ codes "word 0 5\n"
+    ++ codes "total 1 committed, 0 aborted, 0 faults, 0 remains\n"
+unfolding digits
+text_of_inner_block = refl
 
 -- a file's name is to be taken away where no file is
 abbrev unlinks : Script

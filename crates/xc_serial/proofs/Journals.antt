@@ -7,21 +7,23 @@ use Rattle.std.specs.List.{position_from, fold}
 use Rattle.std.proofs.lemmas.Bool.{and_parts, or_parts}
 use Rattle.std.proofs.lemmas.Iterator.Adapters.{position_from-zero}
 use Rattle.xc_data.specs.Faults.{entry_faults}
+use Rattle.xc_data.specs.declared.entry.Cause.{Cause}
+use Rattle.xc_data.specs.declared.entry.Cause.TheVariants as cause
 use Rattle.xc_data.specs.declared.entry.Entry.{Entry}
 use Rattle.xc_data.specs.declared.entry.Outcome.{Outcome}
 use Rattle.xc_data.specs.declared.entry.Outcome.TheVariants.{Committed, Aborted}
 use Rattle.xc_script.specs.Ask.{Job, next_body}
-use Rattle.xc_script.specs.Slots.{kept_of}
+use Rattle.xc_script.specs.Blocks.{kept_calls}
 use Rattle.xc_model.specs.Ending.{has_memory_end, some_late_starved}
 use Rattle.xc_model.specs.Progress.{Following, Progress, untried, started_blocks, started_job, committed_job}
 use Rattle.xc_model.specs.Progress.{following_abort, after_following, after_outcome, following_of, after_entry}
 use Rattle.xc_model.specs.Setting.{Setting}
 use Rattle.xc_model.specs.Truth.{AreTrue}
-use Rattle.xc_model.specs.Serial.{AreInOrder, JobsRise, is_final, all_final}
+use Rattle.xc_model.specs.Serial.{AreInOrder, JobsRise, is_asked, is_final, all_final}
 use Rattle.xc_text.specs.declared.script.Script.{Script}
 use Rattle.xc_serial.specs.Plain.{entry_at, entry_in, journal_from, journal_with, next_place, plain_from}
 use Rattle.xc_serial.proofs.Calls.{no_sum}
-use Rattle.xc_serial.proofs.Entries.{asked_is, same_entry}
+use Rattle.xc_serial.proofs.Entries.{same_entry}
 
 -- ---- no job was tried before at its next transaction
 -- no attempt at it is recorded
@@ -51,14 +53,19 @@ untried_get [] k f all e = cc
 untried_get (g ∷ jobs) zero f all e = subst IsUntried (ap (λ (o : Option Following). unwrap_or o f) e) all.0
 untried_get (g ∷ jobs) (suc k) f all e = untried_get jobs k f all.1 e
 
+untried_abort : (n : ℕ) (f : Following) (e : Entry) (c : Cause) → is_asked c ≡ true → IsUntried (following_abort n f e c)
+untried_abort n f e cause.Asked asked = (refl, refl)
+untried_abort n f e (cause.Stuck failed) asked = (refl, refl)
+untried_abort n f e _ asked = cc
+
 untried_outcome : (script : Script) (p : Progress) (f : Following) (e : Entry) (o : Outcome) → is_final o ≡ true → AreUntried p.jobs
     → AreUntried (after_outcome script p f e o).jobs
 untried_outcome script p f e (Committed late) settled all =
     untried_append _ _ (untried_set p.jobs (e.job - 1) _ (refl, refl) all)
-    (untried_started script (committed_job script f.job e.calls e.replies late) (p.entered + 1) (started_blocks (kept_of e.calls e.replies) late))
+    (untried_started script (committed_job script f.job e.calls e.replies late) (p.entered + 1) (started_blocks (kept_calls e.calls e.replies) late))
 untried_outcome script p f e (Aborted report) settled all =
     untried_set p.jobs (e.job - 1) (following_abort p.entered f e report.cause)
-    (subst (λ c. IsUntried (following_abort p.entered f e c)) (sym (asked_is report.cause settled)) (refl, refl)) all
+    (untried_abort p.entered f e report.cause settled) all
 
 untried_after : (script : Script) (p : Progress) (f : Following) (e : Entry) → following_of p e ≡ Some f → is_final e.outcome ≡ true
     → AreUntried p.jobs → AreUntried (after_entry script p e).jobs

@@ -4,6 +4,7 @@ use Rattle.std.specs.declared.option.Option.TheVariants.{None, Some}
 use Rattle.xc_data.specs.Claims.{held_of}
 use Rattle.xc_data.specs.declared.call.Answer.TheVariants as answer
 use Rattle.xc_data.specs.declared.call.Call.{Call}
+use Rattle.xc_data.specs.declared.call.CallWithAnswer.{CallWithAnswer}
 use Rattle.xc_data.specs.declared.call.Reply.{Reply}
 use Rattle.xc_data.specs.declared.entry.Cause.TheVariants as cause
 use Rattle.xc_data.specs.declared.entry.Entry.{Entry}
@@ -12,36 +13,40 @@ use Rattle.xc_data.specs.declared.entry.JobEnd.TheVariants as job_end
 use Rattle.xc_data.specs.declared.entry.JobLine.{JobLine}
 use Rattle.xc_data.specs.declared.entry.Outcome.{Outcome}
 use Rattle.xc_data.specs.declared.entry.Outcome.TheVariants.{Committed, Aborted}
-use Rattle.xc_data.specs.declared.private.Private.{Private}
 use Rattle.xc_data.specs.declared.undo.Undo.{Undo}
 use Rattle.xc_data.specs.declared.undo.UndoEnd.TheVariants.{Undone}
 use Rattle.xc_print.specs.Text.{rendered}
-use Rattle.xc_script.specs.Walks.{Walk}
 use Rattle.xc_script.specs.Asking.{asks}
-use Rattle.xc_script.specs.Answers.{answered, all_answered}
-use Rattle.xc_script.specs.Ask.{walk_from, next_body}
+use Rattle.xc_script.specs.Blocks.{BlockWalk, replied, block_from}
+use Rattle.xc_script.specs.Ask.{next_body}
 use Rattle.xc_script.specs.declared.ask.Ask.{Ask}
 use Rattle.xc_script.specs.declared.ask.Ask.TheVariants as ask
 use Rattle.xc_model.specs.Progress.{Following, Progress, opening_progress, private_of, after_entry, progress_of}
+use Rattle.xc_model.specs.Truth.{next_of}
 use Rattle.xc_text.specs.declared.script.Script.{Script}
 use Rattle.xc_world.specs.Act.{act}
-use Rattle.xc_world.specs.Run.{Run, run, asked_of}
-use Rattle.xc_world.specs.World.{World}
+use Rattle.xc_world.specs.Run.{BlockState, Run, block_step, opens, run, asked_of}
 
 -- a call and its reply
 abbrev pub Replied : Type 0
 Replied = Call × Reply
 
+-- a call without a fault
+abbrev pub without_fault : Call → CallWithAnswer
+without_fault call = record { call = call; answer = answer.Fine }
+
 -- a call that is asked is done, and then what comes after it; a commit and an abort end the body
-abbrev pub replied : World → Private → ℕ → (World → Private → Reply → List Replied) → Ask → List Replied
-replied w me tx more (ask.Call call) = let s = act w me tx call answer.Fine in (call, s.reply) ∷ more s.world s.me s.reply
-replied w me tx more _ = []
+abbrev pub made : ℕ → BlockState → (BlockState → Reply → List Replied) → Ask → List Replied
+made tx s more (ask.Call call) =
+    let reply = (act s.now.world s.now.me tx call answer.Fine).reply in
+    (call, reply) ∷ more (block_step tx s (without_fault call)) reply
+made tx s more _ = []
 
 -- the calls of a body of at most so many statements
-abbrev pub calls_from : ℕ → World → Private → ℕ → Walk → List Replied
-calls_from zero w me tx walk = []
-calls_from (suc n) w me tx walk =
-    replied w me tx (λ (world : World) (now : Private) (reply : Reply). calls_from n world now tx (answered walk reply)) (asks walk)
+abbrev pub calls_from : ℕ → ℕ → BlockState → BlockWalk → List Replied
+calls_from zero tx s b = []
+calls_from (suc n) tx s b =
+    made tx s (λ (after : BlockState) (reply : Reply). calls_from n tx after (replied b reply)) (asks b.walk)
 
 -- how a transaction ends that asks this after its calls; no late call and no compensation meets a fault
 abbrev pub outcome_of : Run → Ask → Outcome
@@ -51,9 +56,9 @@ outcome_of run _ = Aborted (record { cause = cause.Asked; records = map (λ (und
 -- the entry of a job's next transaction, begun at this place of the journal
 abbrev pub entry_at : Script → ℕ → Progress → ℕ → Following → Entry
 entry_at script place p job f =
-    let walk = walk_from script f.job in
+    let begin = block_from script f.job in
     let me = private_of p.state job in
-    let done = calls_from (length walk.left) p.state.world me (place + 1) walk in
+    let done = calls_from (length begin.walk.left) (place + 1) (opens p.state.world me) begin in
     let calls = map (λ (c : Replied). c.0) done in
     let replies = map (λ (c : Replied). c.1) done in
     let whole = run p.state.world me (place + 1) (asked_of calls replies) [] in
@@ -65,7 +70,7 @@ entry_at script place p job f =
       calls = calls;
       replies = replies;
       held = held_of whole.body.touched;
-      outcome = outcome_of whole (asks (all_answered walk replies));
+      outcome = outcome_of whole (next_of script f replies);
     }
 
 -- the place of the first job that has a transaction left

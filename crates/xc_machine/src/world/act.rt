@@ -87,6 +87,8 @@ impl World {
             Call::XUnlink { .. } | Call::XSync { .. } | Call::XWritePipe { .. } => Ok(Reply::Late),
             Call::XShutdown { .. } | Call::XSendmsg { .. } => Ok(Reply::Late),
             Call::XThreadCreate { .. } => Ok(Reply::Late),
+            Call::Save | Call::Keep => Ok(Reply::Done),
+            Call::Back => Ok(Reply::Undone(0)),
         }
     }
 
@@ -124,6 +126,7 @@ impl World {
         match answer {
             Answer::Fine => self.fine(me, tx, call),
             Answer::Fault(n) => self.faulty(me, tx, call, n),
+            Answer::Undone(n) => Ok(Reply::Undone(n)),
         }
     }
 

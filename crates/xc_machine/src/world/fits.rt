@@ -1,6 +1,6 @@
 ghost use Rattle.std.specs.Prelude.{◌≡◌, ℕ};
 ghost use Rattle.xc_data.specs.Private.{place_of};
-ghost use Rattle.xc_world.specs.Fits.{asks_host, is_done, is_thread, may_stop, late_may_stop, fits, late_fits};
+ghost use Rattle.xc_world.specs.Fits.{asks_host, is_back, is_done, is_thread, may_stop, late_may_stop, fits, late_fits};
 ghost use Rattle.xc_world.specs.Act.Files.{overwrite_at, append_at};
 
 use super::World;
@@ -18,7 +18,14 @@ fn asks_host(call: &Call) -> bool
         Call::Load { .. } | Call::Store { .. } | Call::XSeek { .. } | Call::XClose { .. } => false,
         Call::XUnlink { .. } | Call::XSync { .. } | Call::XWritePipe { .. } => false,
         Call::XShutdown { .. } | Call::XSendmsg { .. } | Call::XThreadCreate { .. } => false,
+        Call::Save | Call::Keep | Call::Back => false,
     }
+}
+
+fn is_back(call: &Call) -> bool
+    ensures { result ≡ is_back call.now }
+{
+    matches!(call, Call::Back)
 }
 
 fn is_thread(call: &LateCall) -> bool
@@ -68,8 +75,10 @@ impl World {
     pub fn fits(&self, me: &Private, tx: u32, call: &Call, answer: Answer) -> bool
         ensures { result ≡ fits self.now me.now tx call.now answer }
     {
-        let Answer::Fault(n) = answer else {
-            return true;
+        let n = match answer {
+            Answer::Fine => return true,
+            Answer::Undone(_) => return is_back(call),
+            Answer::Fault(n) => n,
         };
         if is_refused(call, me, self.words.len() as u64) {
             return false;

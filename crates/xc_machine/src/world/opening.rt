@@ -9,7 +9,8 @@ use std::alloc::Global;
 use xc_data::{Ident, IdentList, Items, NoMemory, Num, Opened, Outline, WordList};
 use xc_maps::{NameMap, NumMap};
 
-fn words_of(alloc: Global, words: &[u64]) -> Result<WordList, NoMemory>
+/// Another list of the same words.
+pub(super) fn words_of(alloc: Global, words: &[u64]) -> Result<WordList, NoMemory>
     ensures { IfOk result (λ list. list ≡ words.now) }
 {
     let mut list = Vec::new(alloc);
@@ -17,8 +18,12 @@ fn words_of(alloc: Global, words: &[u64]) -> Result<WordList, NoMemory>
     Ok(Items::from_vec(list))
 }
 
-// These names, and others after them.
-fn names_of(alloc: Global, front: &[Ident], back: &[Ident]) -> Result<IdentList, NoMemory>
+/// These names, and others after them.
+pub(super) fn names_of(
+    alloc: Global,
+    front: &[Ident],
+    back: &[Ident],
+) -> Result<IdentList, NoMemory>
     ensures { IfOk result (λ list. list ≡ front.now ++ back.now) }
 {
     let mut list = Vec::new(alloc);

@@ -1,20 +1,15 @@
-use Rattle.std.proofs.Common.{◌≡◌, ◌<◌, ◌^◌, length, take, drop, IsTrue}
-use Rattle.xc_data.specs.Claims.{held_of}
+use Rattle.std.proofs.Common.{◌<◌, ◌^◌, length, drop, IsTrue}
 use Rattle.xc_world.specs.Sound.{IsSound}
-use Rattle.xc_world.specs.Run.{body, body_fits}
+use Rattle.xc_world.specs.Run.{fits_on}
+use Rattle.xc_machine.proofs.MachineBlocks.{IsMade, so_far}
 use Rattle.xc_machine.proofs.run.run_body.Given as goal
 
--- the body of the calls so far
+-- the body of the calls so far, and the answers that are left fit
 abbrev pub invariant-loop-call : goal.invariant-loop-call
 invariant-loop-call l =
     record {
+      made : IsMade l.fn.world l.fn.me l.tx l.asked l.call-index l.world l.me l.body;
       sound : IsSound l.world l.me l.tx;
-      fits : IsTrue (body_fits l.world l.me l.tx (drop l.call-index l.asked));
-      world : l.world ≡ (body l.fn.world l.fn.me l.tx (take l.call-index l.asked)).world;
-      me : l.me ≡ (body l.fn.world l.fn.me l.tx (take l.call-index l.asked)).me;
-      replies : l.replied.replies ≡ (body l.fn.world l.fn.me l.tx (take l.call-index l.asked)).replies;
       words : length l.world.words < 2 ^ 32;
-      taken : l.replied.taken ≡ (body l.fn.world l.fn.me l.tx (take l.call-index l.asked)).taken;
-      held : l.replied.held.items ≡ held_of (body l.fn.world l.fn.me l.tx (take l.call-index l.asked)).touched;
-      late : l.replied.late ≡ (body l.fn.world l.fn.me l.tx (take l.call-index l.asked)).late;
+      rest : IsTrue (fits_on l.tx (so_far l.fn.world l.fn.me l.tx l.asked l.call-index) (drop l.call-index l.asked));
     }

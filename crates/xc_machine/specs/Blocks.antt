@@ -1,0 +1,43 @@
+-- A body that is made call by call, beside the plain machine's.
+use Rattle.std.specs.Prelude.{◌≡◌, ◌≤◌, ℕ, List, length, take, Option}
+use Rattle.std.specs.declared.option.Option.TheVariants.{None, Some}
+use Rattle.xc_data.specs.Claims.{held_of}
+use Rattle.xc_data.specs.declared.private.Private.{Private}
+use Rattle.xc_world.specs.World.{World}
+use Rattle.xc_world.specs.Run.{BodyResult, BlockState}
+use Rattle.xc_machine.specs.declared.run.Replied.{Replied}
+use Rattle.xc_machine.specs.declared.body.Body.{Body}
+use Rattle.xc_machine.specs.declared.body.Saved.{Saved}
+
+-- so many items from the front of a list are those of the save
+pub record IsFront {T : Type 0} (n : ℕ) (now saved : List T) : Type 0 where
+  pub within : n ≤ length now
+  pub front : take n now ≡ saved
+
+-- the world and the handles of the save, and how much of what the body gave was there
+pub record IsCopy (kept : Saved) (saved now : BodyResult) : Type 0 where
+  pub world : kept.world ≡ saved.world
+  pub places : kept.me.places ≡ saved.me.places
+  pub late : IsFront kept.late now.late saved.late
+  pub taken : IsFront kept.taken now.taken saved.taken
+
+-- there is a copy exactly where a block is open
+abbrev pub IsSaved : Option Saved → Option BodyResult → BodyResult → Type 0
+IsSaved None None now = Unit {0}
+IsSaved (Some kept) (Some saved) now = IsCopy kept saved now
+IsSaved None (Some saved) now = ⊥
+IsSaved (Some kept) None now = ⊥
+
+-- the plain machine's body gave this
+pub record HasReplied (replied : Replied) (now : BodyResult) : Type 0 where
+  pub replies : replied.replies ≡ now.replies
+  pub late : replied.late ≡ now.late
+  pub taken : replied.taken ≡ now.taken
+  pub held : replied.held.items ≡ held_of now.touched
+
+-- in this world and with this private state, a body stands where the plain machine's does
+pub record StandsAt (world : World) (me : Private) (body : Body) (b : BlockState) : Type 0 where
+  pub world_is : world ≡ b.now.world
+  pub me_is : me ≡ b.now.me
+  pub gave : HasReplied body.replied b.now
+  pub saved : IsSaved body.saved b.saved b.now
